@@ -1,0 +1,4 @@
+pub mod Directory
+pub mod Places
+pub mod Refusals
+pub mod Versions
