@@ -12,5 +12,6 @@ pub mod Places
 pub mod Rates
 pub mod Refusals
 pub mod Runs
+pub mod SamePlace
 pub mod Stands
 pub mod Versions

@@ -1,0 +1,11 @@
+pub mod Agrees
+pub mod Bytes
+pub mod Crash
+pub mod Header
+pub mod Holes
+pub mod Laid
+pub mod Needs
+pub mod Runs
+pub mod Selections
+pub mod Shape
+pub mod Steps
