@@ -1,6 +1,7 @@
 pub mod Agrees
 pub mod Bytes
 pub mod Crash
+pub mod FileSteps
 pub mod Header
 pub mod Holes
 pub mod Laid
