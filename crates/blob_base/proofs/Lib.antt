@@ -5,6 +5,7 @@ pub mod FileSteps
 pub mod Header
 pub mod Holes
 pub mod Laid
+pub mod NameSteps
 pub mod Needs
 pub mod Runs
 pub mod Selections
