@@ -10,6 +10,7 @@ pub mod Laid
 pub mod NameSteps
 pub mod Needs
 pub mod Placing
+mod Rows
 pub mod Runs
 pub mod Selections
 pub mod Shape
