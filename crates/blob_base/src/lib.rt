@@ -3,8 +3,10 @@
 
 pub mod error;
 pub mod layout;
+pub mod options;
 pub mod version;
 
 pub use error::Error;
 pub use layout::Layout;
+pub use options::{ReadOptions, WriteOptions};
 pub use version::{BlobVersion, DEFAULT_BLOB_VERSION};
