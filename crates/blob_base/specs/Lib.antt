@@ -1,4 +1,5 @@
 pub mod Directory
+pub mod Handles
 pub mod Options
 pub mod Places
 pub mod Rates

@@ -2,11 +2,13 @@
 #![tactic(auto)]
 
 pub mod error;
+pub mod handle;
 pub mod layout;
 pub mod options;
 pub mod version;
 
 pub use error::Error;
+pub use handle::Handle;
 pub use layout::Layout;
 pub use options::{ReadOptions, WriteOptions};
 pub use version::{BlobVersion, DEFAULT_BLOB_VERSION};
