@@ -1,3 +1,4 @@
+pub mod Buffers
 pub mod Directory
 pub mod Handles
 pub mod Options
