@@ -1,11 +1,14 @@
 pub mod Audit
+pub mod Buffers
 pub mod Bytes
 pub mod Directory
 pub mod Draws
 pub mod Files
+pub mod Handles
 pub mod Holes
 pub mod Log
 pub mod Modes
+pub mod Options
 pub mod Order
 pub mod Pending
 pub mod Places
