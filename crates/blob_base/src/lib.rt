@@ -1,10 +1,14 @@
 //! The base of the crash-fault storage layer: errors, blob headers, buffers, rates, and the storage traits with their laws.
 #![tactic(auto)]
 
+mod block_tables;
+pub mod checksum;
 pub mod error;
 pub mod layout;
 pub mod version;
+mod word_tables;
 
+pub use checksum::Crc32;
 pub use error::Error;
 pub use layout::Layout;
 pub use version::{BlobVersion, DEFAULT_BLOB_VERSION};
