@@ -1,1 +1,4 @@
+pub mod Blocks
+pub mod Linear
 pub mod LowBits
+pub mod TableRules

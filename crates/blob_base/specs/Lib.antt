@@ -1,6 +1,7 @@
 pub mod Audit
 pub mod Buffers
 pub mod Bytes
+pub mod Checksum
 pub mod Directory
 pub mod Draws
 pub mod Files
@@ -14,6 +15,8 @@ pub mod Pending
 pub mod Places
 pub mod Rates
 pub mod Refusals
+pub mod Register
 pub mod Runs
 pub mod Stands
+pub mod Steps
 pub mod Versions

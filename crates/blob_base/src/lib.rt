@@ -1,16 +1,20 @@
 //! The base of the crash-fault storage layer: errors, blob headers, buffers, rates, and the storage traits with their laws.
 #![tactic(auto)]
 
+mod block_tables;
 pub mod buffers;
 pub mod buffers_mut;
+pub mod checksum;
 pub mod error;
 pub mod handle;
 pub mod layout;
 pub mod options;
 pub mod version;
+mod word_tables;
 
 pub use buffers::IoBufs;
 pub use buffers_mut::IoBufsMut;
+pub use checksum::Crc32;
 pub use error::Error;
 pub use handle::Handle;
 pub use layout::Layout;
