@@ -4,11 +4,15 @@ pub mod Bytes
 pub mod Checksum
 pub mod Directory
 pub mod Draws
+pub mod Durable
 pub mod Files
 pub mod Handles
 pub mod Holes
+pub mod Live
 pub mod Log
 pub mod Modes
+pub mod Names
+pub mod Opening
 pub mod Options
 pub mod Order
 pub mod Pending

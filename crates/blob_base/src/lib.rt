@@ -1,6 +1,7 @@
 //! The base of the crash-fault storage layer: errors, blob headers, buffers, rates, and the storage traits with their laws.
 #![tactic(auto)]
 
+pub mod any_store;
 mod block_tables;
 pub mod buffers;
 pub mod buffers_mut;
@@ -9,6 +10,7 @@ pub mod error;
 pub mod handle;
 pub mod layout;
 pub mod options;
+pub mod storage;
 pub mod version;
 mod word_tables;
 
@@ -19,4 +21,5 @@ pub use error::Error;
 pub use handle::Handle;
 pub use layout::Layout;
 pub use options::{ReadOptions, WriteOptions};
+pub use storage::{Blob, Durable, Storage};
 pub use version::{BlobVersion, DEFAULT_BLOB_VERSION};
