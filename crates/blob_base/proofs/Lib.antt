@@ -1,4 +1,15 @@
+pub mod Agrees
 pub mod Blocks
+pub mod Bytes
+pub mod Crash
+pub mod Header
+pub mod Holes
+pub mod Laid
 pub mod Linear
 pub mod LowBits
+pub mod Needs
+pub mod Runs
+pub mod Selections
+pub mod Shape
+pub mod Steps
 pub mod TableRules

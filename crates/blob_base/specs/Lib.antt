@@ -21,6 +21,7 @@ pub mod Rates
 pub mod Refusals
 pub mod Register
 pub mod Runs
+pub mod SamePlace
 pub mod Stands
 pub mod Steps
 pub mod Versions

@@ -8,6 +8,7 @@ pub mod buffers_mut;
 pub mod checksum;
 pub mod error;
 pub mod handle;
+pub mod laws;
 pub mod layout;
 pub mod options;
 pub mod storage;
