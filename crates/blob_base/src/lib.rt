@@ -7,6 +7,8 @@ pub mod error;
 pub mod handle;
 pub mod layout;
 pub mod options;
+pub mod probability;
+pub mod sector_size;
 pub mod version;
 
 pub use buffers::IoBufs;
@@ -15,4 +17,6 @@ pub use error::Error;
 pub use handle::Handle;
 pub use layout::Layout;
 pub use options::{ReadOptions, WriteOptions};
+pub use probability::Probability;
+pub use sector_size::SectorSize;
 pub use version::{BlobVersion, DEFAULT_BLOB_VERSION};
