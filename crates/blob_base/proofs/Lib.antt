@@ -1,3 +1,4 @@
 pub mod Blocks
+pub mod Fronts
 pub mod Linear
 pub mod TableRules

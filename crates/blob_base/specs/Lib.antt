@@ -1,5 +1,7 @@
 pub mod Checksum
 pub mod Directory
+pub mod Header
+pub mod Parse
 pub mod Places
 pub mod Rates
 pub mod Refusals

@@ -4,11 +4,16 @@
 mod block_tables;
 pub mod checksum;
 pub mod error;
+pub mod header;
+pub mod header_error;
 pub mod layout;
+mod region;
 pub mod version;
 mod word_tables;
 
 pub use checksum::Crc32;
 pub use error::Error;
+pub use header::Header;
+pub use header_error::HeaderError;
 pub use layout::Layout;
 pub use version::{BlobVersion, DEFAULT_BLOB_VERSION};
