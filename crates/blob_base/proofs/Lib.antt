@@ -2,6 +2,7 @@ pub mod Agrees
 pub mod Blocks
 pub mod Bytes
 pub mod Crash
+pub mod Fronts
 pub mod Header
 pub mod Holes
 pub mod Laid

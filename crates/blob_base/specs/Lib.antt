@@ -7,6 +7,7 @@ pub mod Draws
 pub mod Durable
 pub mod Files
 pub mod Handles
+pub mod Header
 pub mod Holes
 pub mod Live
 pub mod Log
@@ -15,6 +16,7 @@ pub mod Names
 pub mod Opening
 pub mod Options
 pub mod Order
+pub mod Parse
 pub mod Pending
 pub mod Places
 pub mod Rates
