@@ -1,9 +1,9 @@
 pub mod Agrees
+pub mod BehindHeader
 pub mod Blocks
 pub mod Bytes
 pub mod Crash
 pub mod Fronts
-pub mod Header
 pub mod Holes
 pub mod Laid
 pub mod Linear
