@@ -91,7 +91,7 @@ laid_runs o (b ∷ bs) (false ∷ c) x = laid_runs (o + 1) bs c x
     only (suc i) h = absurd (omega arith)
 
 -- no run is empty
-abbrev AreSome : List Run → Type 0
+abbrev pub AreSome : List Run → Type 0
 AreSome [] = Unit {0}
 AreSome (r ∷ rs) = (0 < length r.1) × AreSome rs
 
@@ -99,7 +99,7 @@ with_some : (o b : ℕ) (rs : List Run) → AreSome rs → AreSome (with_byte o 
 with_some o b [] s = (omega arith, tt)
 with_some o b (r ∷ rs) s = cond_both (eqb r.0 (o + 1)) _ _ (λ l. AreSome l) (λ _. (omega arith, s.1)) (λ _. (omega arith, s))
 
-runs_some : (o : ℕ) (b : List ℕ) (c : List Bool) → AreSome (runs o b c)
+pub runs_some : (o : ℕ) (b : List ℕ) (c : List Bool) → AreSome (runs o b c)
 runs_some o [] c = tt
 runs_some o (b ∷ bs) [] = tt
 runs_some o (b ∷ bs) (true ∷ c) = with_some o b _ (runs_some (o + 1) bs c)

@@ -4,7 +4,7 @@ use Rattle.blob_base.specs.Places.{Place, same_place}
 use Rattle.blob_base.specs.Directory.{Directory}
 use Rattle.blob_base.specs.Log.{Entry, Choices, durable, crashed, needs}
 use Rattle.blob_base.specs.Pending.{Pending, replay, waiting}
-use Rattle.blob_base.specs.Files.{Files, Rising, log_of}
+use Rattle.blob_base.specs.Files.{Files, Rising, log_of, with_at}
 
 -- of one incarnation
 pub record StandsForFile (bytes : List ℕ) (pending : List Pending) (base : List ℕ) (log : List Entry) : Type 0 where
@@ -30,6 +30,11 @@ pub record StandsFor (names : Directory) (bytes : Place → Option (List ℕ)) (
 -- the durable bytes of one incarnation changed, where it is current
 abbrev pub changed : (Place → Option (List ℕ)) → Place → (List ℕ → List ℕ) → Place → Option (List ℕ)
 changed f o g a = cond (same_place o a) (option_map g (f a)) (f a)
+
+-- the pending lists, where that of an incarnation is retired, if there is one
+abbrev pub retired : (Place → List Pending) → Option Place → Place → List Pending
+retired lists None a = lists a
+retired lists (Some o) a = with_at lists o [] a
 
 -- what a crash leaves of durable bytes
 abbrev pub replayed_at : Choices → List Pending → Option (List ℕ) → Option (List ℕ)
