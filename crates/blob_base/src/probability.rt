@@ -91,3 +91,6 @@ impl Probability {
         u128::from(word) * u128::from(self.denominator) < u128::from(self.numerator) << 64
     }
 }
+
+#[cfg(test)]
+mod tests;
