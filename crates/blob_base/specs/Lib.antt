@@ -6,5 +6,6 @@ pub mod Places
 pub mod Rates
 pub mod Refusals
 pub mod Register
+pub mod Resolve
 pub mod Steps
 pub mod Versions
