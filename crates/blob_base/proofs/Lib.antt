@@ -1,4 +1,5 @@
 pub mod Blocks
 pub mod Fronts
 pub mod Linear
+pub mod NoneSide
 pub mod TableRules

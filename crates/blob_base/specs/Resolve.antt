@@ -74,3 +74,15 @@ refusing partition name (Err failure) = Err (refusal_for partition name failure)
 abbrev pub Answers : {T : Type 0} → Result T Error → Result T Refusal → Type 0
 Answers (Ok x) expected = expected ≡ Ok x
 Answers (Err e) expected = (expected ≡ Err (refusal_of e)) ⊎ (IsErr expected × (refusal_of e ≡ Memory))
+
+-- the blob is to be created
+abbrev pub IsNoneSide : {A : Type 0} → Result (Option A) Failure → Type 0
+IsNoneSide (Ok None) = Unit {0}
+IsNoneSide (Ok (Some found)) = ⊥
+IsNoneSide (Err failure) = ⊥
+
+-- where it is not None, the answer is what the header says
+abbrev pub AnswersParsed : {A : Type 0} → Result (Option A) Failure → Result A Failure → Type 0
+AnswersParsed (Ok None) parse = Unit {0}
+AnswersParsed (Ok (Some found)) parse = parse ≡ Ok found
+AnswersParsed (Err failure) parse = parse ≡ Err failure

@@ -8,6 +8,7 @@ pub mod header;
 pub mod header_error;
 pub mod layout;
 mod region;
+pub mod resolution;
 pub mod version;
 mod word_tables;
 
