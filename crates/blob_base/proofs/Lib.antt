@@ -14,6 +14,7 @@ pub mod Linear
 pub mod LowBits
 pub mod NameSteps
 pub mod Needs
+pub mod NoneSide
 pub mod Openings
 pub mod Placing
 pub mod Runs

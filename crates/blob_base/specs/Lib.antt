@@ -22,6 +22,7 @@ pub mod Places
 pub mod Rates
 pub mod Refusals
 pub mod Register
+pub mod Resolve
 pub mod Runs
 pub mod SamePlace
 pub mod Stands

@@ -15,6 +15,7 @@ pub mod layout;
 pub mod options;
 pub mod probability;
 mod region;
+pub mod resolution;
 pub mod sector_size;
 pub mod storage;
 pub mod version;
