@@ -1,17 +1,24 @@
 pub mod Agrees
+pub mod BehindHeader
+pub mod Blocks
 pub mod Bytes
 pub mod Crash
 pub mod CrashOrder
 pub mod CrashSteps
 pub mod FileSteps
-pub mod Header
+pub mod Fronts
 pub mod Holes
 pub mod Laid
+pub mod Linear
+pub mod LowBits
 pub mod NameSteps
 pub mod Needs
+pub mod NoneSide
+pub mod Openings
 pub mod Placing
 mod Rows
 pub mod Runs
 pub mod Selections
 pub mod Shape
 pub mod Steps
+pub mod TableRules

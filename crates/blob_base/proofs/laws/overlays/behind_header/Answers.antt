@@ -1,4 +1,4 @@
-use Rattle.blob_base.proofs.Header.{overlay_behind, resized_behind}
+use Rattle.blob_base.proofs.BehindHeader.{overlay_behind, resized_behind}
 use Rattle.blob_base.proofs.laws.overlays.behind_header.Goals as goal
 
 pub returns-clause-write : goal.returns-clause-write
