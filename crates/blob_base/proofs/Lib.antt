@@ -1,4 +1,5 @@
 pub mod Agrees
+pub mod AnyOrder
 pub mod BehindHeader
 pub mod Blocks
 pub mod Bytes

@@ -6,11 +6,11 @@ ghost use Rattle.rand_core.specs.Stream.{Stream};
 ghost use Rattle.blob_base.specs.Bytes.{overlay};
 ghost use Rattle.blob_base.specs.Directory.{Directory, current, is_current};
 ghost use Rattle.blob_base.specs.Draws.{drawn};
-ghost use Rattle.blob_base.specs.Files.{Files, logged, all_logged, synced, started, admitted, all_needs, after_crash, after_open, ends_by, after_remove, durable_at, directory_again, reopened, wrapped};
+ghost use Rattle.blob_base.specs.Files.{Files, Logged, Rising, logged, all_logged, synced, started, admitted, all_needs, after_crash, after_open, ends_by, after_remove, durable_at, directory_again, reopened, wrapped};
 ghost use Rattle.blob_base.specs.Durable.{Durable, with_at, changed, durable_without};
 ghost use Rattle.blob_base.specs.Opening.{IsOpened, removed};
-ghost use Rattle.blob_base.specs.Log.{Kept, Loose, Resized, Write, Choices, need_of};
-ghost use Rattle.blob_base.specs.Order.{Held, held_at, ArePlacesApart, waiting_of_all, all_placed, number_of};
+ghost use Rattle.blob_base.specs.Log.{Kept, Loose, Resized, Write, Need, Choices, need_of};
+ghost use Rattle.blob_base.specs.Order.{Held, held_at, ArePlacesApart, waiting_of_all, all_placed, number_of, Rise, In};
 ghost use Rattle.blob_base.specs.Pending.{Pending, Waiting, Cut, Marker, laid, finished};
 ghost use Rattle.blob_base.specs.Places.{Place};
 ghost use Rattle.blob_base.specs.Runs.{runs, kept_runs, all_laid, all_behind};
@@ -92,15 +92,23 @@ pub fn removals()
 {
 }
 
-/// A crash draws for exactly the writes that the files need, in issue order over all incarnations, in whatever order their lists are gathered;
-/// and what it replays is what the files say it leaves.
-pub fn crashes()
-    ensures needs { (names : Directory) (bytes : Durable) (lists : List Held) (write marker : ℕ) (files : Files) →
+/// A crash draws for exactly the writes that the files need, in issue order over all incarnations, in whatever order their lists are gathered.
+pub fn crash_needs()
+    ensures placed { (names : Directory) (bytes : Durable) (lists : List Held) (write marker : ℕ) (files : Files) →
         ArePlacesApart lists → StandsFor names bytes (held_at lists) write marker files → all_placed number_of [] (waiting_of_all lists) ≡ all_needs files.log }
+    ensures sorted { (names : Directory) (bytes : Durable) (lists : List Held) (write marker : ℕ) (files : Files) (needs : List Need) →
+        Rise 0 needs → ((n : Need) → In n needs → In n (waiting_of_all lists)) → ((n : Need) → In n (waiting_of_all lists) → In n needs) →
+        ArePlacesApart lists → StandsFor names bytes (held_at lists) write marker files → needs ≡ all_needs files.log }
     ensures rows { (names : Directory) (bytes : Durable) (lists : List Held) (write marker : ℕ) (files : Files) (stream : Stream) →
         ArePlacesApart lists → StandsFor names bytes (held_at lists) write marker files →
         drawn stream (all_placed number_of [] (waiting_of_all lists)) ≡ drawn stream (all_needs files.log) }
-    ensures left { (names : Directory) (bytes bytes_after : Durable) (lists lists_after : Place → List Pending) (write marker : ℕ) (files : Files) (t : Choices) →
+    ensures rising { (log : List Logged) (next : ℕ) → Rising 0 log next → Rise 0 (all_needs log) }
+{
+}
+
+/// What a crash replays is what the files say it leaves, whatever choices it keeps.
+pub fn crashes()
+    ensures { (names : Directory) (bytes bytes_after : Durable) (lists lists_after : Place → List Pending) (write marker : ℕ) (files : Files) (t : Choices) →
         ((a : Place) → bytes_after a ≡ replayed_at t (lists a) (bytes a)) →
         ((a : Place) → lists_after a ≡ []) →
         StandsFor names bytes lists write marker files → StandsFor names bytes_after lists_after write marker (after_crash files t) }
