@@ -1,6 +1,6 @@
 -- Rising lists of the same needs are one, so the pending writes may be gathered and sorted in any way.
-use Rattle.std.proofs.Common.{◌≡◌, ◌⊎◌, inl, inr, ⊎_elim, ℕ, suc, ◌≤◌, Bool, true, false, cond, List, [], ◌∷◌, sym, ◌∙◌, subst, arith, nat_lt}
-use Rattle.std.proofs.lemmas.Bool.{cond_both, cases_Bool, cond-true, cond-false}
+use Rattle.std.proofs.Common.{◌≡◌, ◌⊎◌, inl, inr, ⊎_elim, ℕ, suc, ◌≤◌, Bool, true, false, cond, List, [], ◌∷◌, sym, subst, arith, nat_lt}
+use Rattle.std.proofs.lemmas.Bool.{cond_both}
 use Rattle.blob_base.specs.Directory.{Directory}
 use Rattle.blob_base.specs.Durable.{Durable}
 use Rattle.blob_base.specs.Log.{Entry, Kept, Loose, Resized, Need, has_bare, need_of}

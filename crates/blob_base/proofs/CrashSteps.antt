@@ -1,5 +1,5 @@
 -- A crash: for which writes it draws, and what it leaves.
-use Rattle.std.proofs.Common.{◌≡◌, ⊎_elim, ℕ, Bool, true, false, cond, List, [], ◌∷◌, ◌++◌, Option, Some, None, refl, sym, ◌∙◌, ap, ap₂, subst, arith, true≢false}
+use Rattle.std.proofs.Common.{◌≡◌, ⊎_elim, ℕ, true, false, List, [], ◌∷◌, ◌++◌, Option, Some, None, refl, sym, ◌∙◌, ap, ap₂, subst, arith, true≢false}
 use Rattle.std.specs.Prelude.{flat_map}
 use Rattle.std.proofs.lemmas.Bool.{cases_Bool, cond-true, cond-false}
 use Rattle.rand_core.specs.Stream.{Stream}
@@ -7,7 +7,7 @@ use Rattle.blob_base.specs.Places.{Place, same_place}
 use Rattle.blob_base.specs.SamePlace.{same_place_exact, same_self}
 use Rattle.blob_base.specs.Directory.{Directory}
 use Rattle.blob_base.specs.Durable.{Durable}
-use Rattle.blob_base.specs.Draws.{Row, drawn, chosen_by}
+use Rattle.blob_base.specs.Draws.{drawn}
 use Rattle.blob_base.specs.Log.{Need, Entry, Choices, needs, crashed}
 use Rattle.blob_base.specs.Pending.{Pending, waiting}
 use Rattle.blob_base.specs.Order.{all_placed, number_of, Held, held_at, has_list, ArePlacesApart, waiting_of_all}

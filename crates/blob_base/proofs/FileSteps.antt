@@ -1,17 +1,17 @@
 -- What each call on one blob leaves stands for the files' step.
-use Rattle.std.proofs.Common.{◌≡◌, ⊎_elim, ℕ, zero, suc, ◌+◌, ◌<◌, ◌≤◌, Bool, true, false, cond, not, List, [], ◌∷◌, ◌++◌, length, Option, Some, None, refl, sym, ◌∙◌, ap, ap₂, subst, arith, true≢false, append-nil}
+use Rattle.std.proofs.Common.{◌≡◌, ⊎_elim, ℕ, suc, ◌+◌, ◌<◌, ◌≤◌, Bool, true, false, cond, List, [], ◌∷◌, ◌++◌, length, Option, Some, None, refl, sym, ◌∙◌, ap, ap₂, subst, arith}
 use Rattle.std.specs.Prelude.{option_map}
 use Rattle.std.proofs.lemmas.Bool.{cond_both, cases_Bool, cond-true, cond-false}
 use Rattle.std.proofs.lemmas.Option.{same_Some}
 use Rattle.blob_base.specs.Places.{Place, same_place}
 use Rattle.blob_base.specs.Durable.{Durable, with_at, changed}
-use Rattle.blob_base.specs.SamePlace.{same_place_exact, same_self, same_back, apart_at, same_at}
+use Rattle.blob_base.specs.SamePlace.{same_place_exact, same_self, same_at}
 use Rattle.blob_base.specs.Directory.{Directory, current}
 use Rattle.blob_base.specs.Bytes.{overlay}
-use Rattle.blob_base.specs.Log.{Entry, Kept, Loose, Resized, Write, Need, Choices, need_of, durable, crashed, needs}
-use Rattle.blob_base.specs.Pending.{Pending, Waiting, Cut, Marker, waiting, laid, finished, replay}
+use Rattle.blob_base.specs.Log.{Entry, Kept, Loose, Resized, Write, need_of}
+use Rattle.blob_base.specs.Pending.{Pending, Waiting, Cut, Marker, laid, finished}
 use Rattle.blob_base.specs.Runs.{Run, runs, kept_runs, all_laid, all_behind}
-use Rattle.blob_base.specs.Files.{Files, Logged, log_of, without, Rising, Above, from_after, counted, logged, all_logged, published, synced, started, durable_at, admitted_at, admitted, wrapped}
+use Rattle.blob_base.specs.Files.{Files, Logged, log_of, without, Rising, Above, from_after, logged, all_logged, published, synced, started, durable_at, admitted_at, admitted, wrapped}
 use Rattle.blob_base.specs.Durable.{with_at}
 use Rattle.blob_base.specs.Stands.{StandsForFile, StandsAt, StandsFor, retired}
 use Rattle.blob_base.specs.Durable.{changed}

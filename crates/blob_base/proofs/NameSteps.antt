@@ -1,8 +1,8 @@
 -- What an open, a removal and a snapshot leave stands for the files' step.
-use Rattle.std.proofs.Common.{◌≡◌, ⊎_elim, ℕ, ◌+◌, ◌<◌, ◌≤◌, Bool, true, false, cond, ◌&&◌, ◌==◌, List, [], ◌∷◌, ◌++◌, Option, Some, None, refl, sym, ◌∙◌, ap, ap₂, subst, arith, true≢false}
+use Rattle.std.proofs.Common.{◌≡◌, ℕ, Bool, true, false, cond, ◌&&◌, ◌==◌, List, [], ◌++◌, Option, Some, None, refl, sym, ◌∙◌, ap, subst, arith, true≢false}
 use Rattle.std.specs.Prelude.{is_some}
 use mathlib.Core.Path.{fun_ext}
-use Rattle.std.proofs.lemmas.Bool.{eq-eqb, and_from, cond-true, cond-false, cases_Bool}
+use Rattle.std.proofs.lemmas.Bool.{eq-eqb, and_from, cond-true}
 use Rattle.blob_base.specs.declared.layout.Layout.{Layout}
 use Rattle.blob_base.specs.Places.{Place, same_place}
 use Rattle.blob_base.specs.SamePlace.{same_at, same_self}
@@ -10,7 +10,7 @@ use Rattle.blob_base.specs.Directory.{Directory, File, Raw, Incarnation, data_st
 use Rattle.blob_base.specs.Durable.{Durable, with_at, is_under, durable_without}
 use Rattle.blob_base.specs.Header.{region}
 use Rattle.blob_base.specs.Log.{Entry}
-use Rattle.blob_base.specs.Opening.{Opening, Continues, Begins, Declines, opening, place_of, IsOpened, Continued, Begun, removed}
+use Rattle.blob_base.specs.Opening.{opening, place_of, IsOpened, Continued, Begun, removed}
 use Rattle.blob_base.specs.Pending.{Pending}
 use Rattle.blob_base.specs.Files.{Files, log_of, without, made, opened, after_open, ends_by, after_remove, raw_again, directory_again, durable_at, reopened}
 use Rattle.blob_base.specs.Stands.{StandsFor, StandsAt}
@@ -69,8 +69,10 @@ stands_ended names names' bytes bytes' lists lists' write marker f gone next ove
   next_write = s.next_write;
   next_marker = s.next_marker;
   rising = rising_without 0 f.log f.next_write gone s.rising;
-  fresh = λ a h. (still_none (gone a) _ _ (new a) (s.fresh a (omega (arith, next, ap (λ (d : Directory). d.next) s.directory))).0,
-      still_none (gone a) _ _ (log_without f.log gone a) (s.fresh a (omega (arith, next, ap (λ (d : Directory). d.next) s.directory))).1);
+  fresh = λ a h. (
+    still_none (gone a) _ _ (new a) (s.fresh a (omega (arith, next, ap (λ (d : Directory). d.next) s.directory))).0,
+    still_none (gone a) _ _ (log_without f.log gone a) (s.fresh a (omega (arith, next, ap (λ (d : Directory). d.next) s.directory))).1,
+  );
 }
   where
     same : (t : Bool) (x : List ℕ) → x ≡ cond t x x

@@ -1,6 +1,5 @@
 -- Worked cases, computed.
-use Rattle.std.proofs.Common.{◌≡◌, ℕ, zero, suc, ◌^◌, ◌-◌, Bool, true, false, List, [], ◌∷◌, length, get_or, refl}
-use Rattle.std.specs.List.{range_with_len}
+use Rattle.std.proofs.Common.{◌≡◌, ℕ, zero, suc, ◌^◌, ◌-◌, true, false, List, [], ◌∷◌, length, get_or, refl}
 use Rattle.std.specs.Prelude.{codes}
 use Rattle.rand_core.specs.Stream.{Stream, next_u64}
 use Rattle.blob_base.specs.Bytes.{overlay, overlay_by, resized, written}

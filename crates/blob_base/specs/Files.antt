@@ -1,5 +1,5 @@
 -- What the code doesn't store: the base of each incarnation, and one log of all mutations since, never cut. Each step is a function.
-use Rattle.std.specs.Prelude.{ℕ, suc, ◌+◌, ◌≤◌, List, [], ◌∷◌, ◌++◌, Bool, true, false, cond, ◌&&◌, Option, Some, None, if◌then◌else◌}
+use Rattle.std.specs.Prelude.{ℕ, suc, ◌+◌, ◌≤◌, List, [], ◌∷◌, ◌++◌, Bool, ◌&&◌, Option, Some, None, if◌then◌else◌}
 use Rattle.blob_base.specs.declared.layout.Layout.{Layout}
 use Rattle.blob_base.specs.Places.{Place, same_place}
 use Rattle.blob_base.specs.Directory.{File, Raw, Incarnation, Directory, current, is_current, place_made, directory_made}

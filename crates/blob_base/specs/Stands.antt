@@ -1,6 +1,6 @@
 -- What it is for durable bytes and pending lists to stand for a base and its log, and for those of a whole store to stand for its files.
-use Rattle.std.specs.Prelude.{◌≡◌, ℕ, ◌≤◌, List, [], cond, Option, Some, None, option_map}
-use Rattle.blob_base.specs.Places.{Place, same_place}
+use Rattle.std.specs.Prelude.{◌≡◌, ℕ, ◌≤◌, List, [], Option, Some, None}
+use Rattle.blob_base.specs.Places.{Place}
 use Rattle.blob_base.specs.Directory.{Directory}
 use Rattle.blob_base.specs.Log.{Entry, Choices, durable, crashed, needs}
 use Rattle.blob_base.specs.Pending.{Pending, replay, waiting}

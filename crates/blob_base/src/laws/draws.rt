@@ -22,8 +22,7 @@ pub fn selections()
     ensures each { (mode : Mode) (rate : Rate) (o n : ℕ) (stream : Stream) → length (positions mode rate o n stream).0 ≡ n }
     ensures front { (rate : Rate) (o n : ℕ) (stream : Stream) (i j : ℕ) → i ≤ j →
         slice_index_or (positions Prefix rate o n stream).0 j false ≡ true → slice_index_or (positions Prefix rate o n stream).0 i false ≡ true }
-{
-}
+{}
 
 /// Bytes of one sector of the blob are kept or lost together, one draw is made for each sector that the write touches,
 /// and sectors of one byte are drawn as a subset is.
@@ -33,5 +32,4 @@ pub fn sectors()
     ensures draws { (rate : Rate) (size o n : ℕ) (stream : Stream) → 0 < size →
         (positions (Sectors size) rate o n stream).1 ≡ (positions Subset rate o (touched size o n) stream).1 }
     ensures single { (rate : Rate) (o n : ℕ) (stream : Stream) → positions (Sectors 1) rate o n stream ≡ positions Subset rate o n stream }
-{
-}
+{}

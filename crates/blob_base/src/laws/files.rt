@@ -26,8 +26,7 @@ pub fn pending_mutations()
         o.number < names.next →
         ((a : Place) → lists_after a ≡ with_at lists o (lists o ++ Cut n ∷ []) a) →
         StandsFor names bytes lists write marker files → StandsFor names bytes lists_after write marker (logged files o (Resized n)) }
-{
-}
+{}
 
 /// A durable range, and each kept run of a failed write, is laid over the durable bytes, cut out of the pending writes and queued where it has to be.
 pub fn durable_mutations()
@@ -41,8 +40,7 @@ pub fn durable_mutations()
         ((a : Place) → bytes_after a ≡ changed bytes o (λ x. all_laid x (runs p b chosen)) a) →
         ((a : Place) → lists_after a ≡ with_at lists o (all_behind (lists o) (runs p b chosen)) a) →
         StandsFor names bytes lists write marker files → StandsFor names bytes_after lists_after write marker (all_logged files o (kept_runs (runs p b chosen))) }
-{
-}
+{}
 
 /// A sync publishes the live bytes; a started one does so too and leaves a marker; a finished one changes nothing of the files.
 pub fn syncs()
@@ -58,16 +56,14 @@ pub fn syncs()
     ensures finished { (names : Directory) (bytes : Durable) (lists lists_after : Place → List Pending) (write marker k : ℕ) (files : Files) →
         ((a : Place) → lists_after a ≡ finished k (lists a)) →
         StandsFor names bytes lists write marker files → StandsFor names bytes lists_after write marker files }
-{
-}
+{}
 
 /// What is pending of a name's current incarnation is retired, where it has one: its base is what is durable.
 pub fn admits()
     ensures { (names : Directory) (bytes : Durable) (lists lists_after : Place → List Pending) (write marker : ℕ) (files : Files) (p n : List ℕ) →
         ((a : Place) → lists_after a ≡ retired lists (current names p n) a) →
         StandsFor names bytes lists write marker files → StandsFor names bytes lists_after write marker (admitted files p n) }
-{
-}
+{}
 
 /// An accepted open makes of the files what it finds, and answers a handle that reads what is durable.
 pub fn opens()
@@ -77,8 +73,7 @@ pub fn opens()
     ensures live { (names names_after : Directory) (bytes bytes_after : Durable) (lists : Place → List Pending) (write marker : ℕ) (files : Files) (p n : List ℕ) (first last : ℕ) (o : Place) (live : List ℕ) (version : ℕ) →
         IsOpened names bytes names_after bytes_after p n first last o live version →
         StandsFor names bytes lists write marker files → live ≡ durable_at (after_open files p n first last) o }
-{
-}
+{}
 
 /// A removal ends the current incarnation of the name, or with no name those of the whole partition: nothing is pending of them any more.
 /// What is pending of incarnations that ended earlier stays.
@@ -89,8 +84,7 @@ pub fn removals()
         ((a : Place) → bytes_after a ≡ durable_without bytes p n a) →
         ((a : Place) → lists_after a ≡ cond (ends_by names p n a) [] (lists a)) →
         StandsFor names bytes lists write marker files → StandsFor names_after bytes_after lists_after write marker (after_remove files p n) }
-{
-}
+{}
 
 /// A crash draws for exactly the writes that the files need, in issue order over all incarnations, in whatever order their lists are gathered.
 pub fn crash_needs()
@@ -103,8 +97,7 @@ pub fn crash_needs()
         ArePlacesApart lists → StandsFor names bytes (held_at lists) write marker files →
         drawn stream (all_placed number_of [] (waiting_of_all lists)) ≡ drawn stream (all_needs files.log) }
     ensures rising { (log : List Logged) (next : ℕ) → Rising 0 log next → Rise 0 (all_needs log) }
-{
-}
+{}
 
 /// What a crash replays is what the files say it leaves, whatever choices it keeps.
 pub fn crashes()
@@ -112,8 +105,7 @@ pub fn crashes()
         ((a : Place) → bytes_after a ≡ replayed_at t (lists a) (bytes a)) →
         ((a : Place) → lists_after a ≡ []) →
         StandsFor names bytes lists write marker files → StandsFor names bytes_after lists_after write marker (after_crash files t) }
-{
-}
+{}
 
 /// A store that is rebuilt from a snapshot has each current incarnation as a raw file of its header and its durable bytes. Nothing is current, nothing is pending,
 /// and the numbers of writes and markers start at 0 again.
@@ -124,8 +116,7 @@ pub fn snapshots()
         ((a : Place) → bytes_after a ≡ None) →
         ((a : Place) → lists_after a ≡ []) →
         StandsFor names bytes lists write marker files → StandsFor names_after bytes_after lists_after 0 0 (reopened files) }
-{
-}
+{}
 
 /// A store that is wrapped stands for files of which nothing is recorded yet.
 pub fn wraps()
@@ -133,8 +124,7 @@ pub fn wraps()
         ((a : Place) (x : List ℕ) → bytes a ≡ Some x → kept a ≡ x) →
         ((a : Place) → lists a ≡ []) →
         StandsFor names bytes lists 0 0 (wrapped names kept) }
-{
-}
+{}
 
 /// What a store has of a current incarnation is what the files say is durable; and a call that changes nothing stands for the same files.
 pub fn reads()
@@ -143,5 +133,4 @@ pub fn reads()
     ensures same { (names names_after : Directory) (bytes bytes_after : Durable) (lists lists_after : Place → List Pending) (write marker : ℕ) (files : Files) →
         names_after ≡ names → ((a : Place) → bytes_after a ≡ bytes a) → ((a : Place) → lists_after a ≡ lists a) →
         StandsFor names bytes lists write marker files → StandsFor names_after bytes_after lists_after write marker files }
-{
-}
+{}

@@ -14,5 +14,4 @@ pub fn behind_header()
 pub fn runs_are_choices()
     ensures bytes { (o : ℕ) (b : List ℕ) (chosen : List Bool) (x : List ℕ) → all_laid x (runs o b chosen) ≡ overlay_by x o b (picked chosen) }
     ensures apart { (o : ℕ) (b : List ℕ) (chosen : List Bool) → AreRunsApart o (runs o b chosen) }
-{
-}
+{}
