@@ -3,6 +3,8 @@
 
 pub mod config;
 pub mod mode;
+pub mod selections;
 
 pub use config::{Config, ResizeConfig, WriteConfig, write_config_from_cell};
 pub use mode::PartialWriteMode;
+pub use selections::Selections;
