@@ -4,6 +4,7 @@
 pub mod config;
 pub mod mode;
 pub mod selections;
+pub mod storage;
 
 pub use config::{Config, ResizeConfig, WriteConfig, write_config_from_cell};
 pub use mode::PartialWriteMode;
