@@ -1,2 +1,4 @@
 pub mod Cells
 pub mod Modes
+pub mod Ranges
+pub mod Views
