@@ -6,6 +6,7 @@ pub mod Bytes
 pub mod Crash
 pub mod CrashOrder
 pub mod CrashSteps
+pub mod Durables
 pub mod FileSteps
 pub mod Fronts
 pub mod Holes

@@ -1,18 +1,18 @@
 //! A store stands for its files, whatever call comes. The store is seen as functions: its directory, the durable bytes of each
 //! current incarnation, the pending list of each incarnation, ended ones too, and the next numbers of writes and of markers.
 
-ghost use Rattle.std.specs.Prelude.{◌≡◌, ◌<◌, ◌+◌, ℕ, Bool, true, cond, Option, Some, None, is_some, List, [], ◌∷◌, ◌++◌, length};
+ghost use Rattle.std.specs.Prelude.{◌≡◌, ◌<◌, ◌+◌, ℕ, Bool, true, false, cond, Option, Some, None, is_some, List, [], ◌∷◌, ◌++◌, length};
 ghost use Rattle.rand_core.specs.Stream.{Stream};
 ghost use Rattle.blob_base.specs.Bytes.{overlay};
 ghost use Rattle.blob_base.specs.Directory.{Directory, current, is_current};
 ghost use Rattle.blob_base.specs.Draws.{drawn};
-ghost use Rattle.blob_base.specs.Files.{Files, Logged, Rising, logged, all_logged, synced, started, admitted, all_needs, after_crash, after_open, ends_by, after_remove, durable_at, directory_again, reopened, wrapped};
+ghost use Rattle.blob_base.specs.Files.{Files, Logged, Rising, logged, all_logged, published, crashed_at, synced, started, admitted, all_needs, after_crash, after_open, ends_by, after_remove, durable_at, directory_again, reopened, wrapped};
 ghost use Rattle.blob_base.specs.Durable.{Durable, with_at, changed, durable_without};
 ghost use Rattle.blob_base.specs.Opening.{IsOpened, removed};
-ghost use Rattle.blob_base.specs.Log.{Kept, Loose, Resized, Write, Need, Choices, need_of};
+ghost use Rattle.blob_base.specs.Log.{Entry, Kept, Loose, Resized, Write, Need, Choices, need_of};
 ghost use Rattle.blob_base.specs.Order.{Held, held_at, ArePlacesApart, waiting_of_all, all_placed, number_of, Rise, In};
 ghost use Rattle.blob_base.specs.Pending.{Pending, Waiting, Cut, Marker, laid, finished};
-ghost use Rattle.blob_base.specs.Places.{Place};
+ghost use Rattle.blob_base.specs.Places.{Place, same_place};
 ghost use Rattle.blob_base.specs.Runs.{runs, kept_runs, all_laid, all_behind};
 ghost use Rattle.blob_base.specs.Stands.{StandsFor, retired, replayed_at};
 
@@ -134,3 +134,14 @@ pub fn reads()
         names_after ≡ names → ((a : Place) → bytes_after a ≡ bytes a) → ((a : Place) → lists_after a ≡ lists a) →
         StandsFor names bytes lists write marker files → StandsFor names_after bytes_after lists_after write marker files }
 {}
+
+/// What a call does to one incarnation leaves each other one as it was: what is durable of it, and what a crash would leave of it.
+pub fn others()
+    ensures mutations { (files : Files) (o : Place) (e : Entry) (a : Place) → same_place o a ≡ false →
+        (durable_at (logged files o e) a ≡ durable_at files a) × ((t : Choices) → crashed_at (logged files o e) t a ≡ crashed_at files t a) }
+    ensures syncs { (files : Files) (o : Place) (x : List ℕ) (a : Place) → same_place o a ≡ false →
+        (durable_at (published files o x) a ≡ durable_at files a) × ((t : Choices) → crashed_at (published files o x) t a ≡ crashed_at files t a) }
+    ensures removals { (files : Files) (p : List ℕ) (n : Option (List ℕ)) (a : Place) → ends_by files.directory p n a ≡ false →
+        (durable_at (after_remove files p n) a ≡ durable_at files a) × ((t : Choices) → crashed_at (after_remove files p n) t a ≡ crashed_at files t a) }
+{
+}
