@@ -1,11 +1,11 @@
 -- What is durable of each incarnation, and what a crash would leave of it, after each step of the files.
-use Rattle.std.proofs.Common.{◌≡◌, ⊎_elim, ℕ, Bool, true, false, cond, List, [], ◌∷◌, ◌++◌, Option, Some, None, refl, sym, ◌∙◌, ap, ap₂}
-use Rattle.std.proofs.lemmas.Bool.{cases_Bool, cond-true, cond-false}
+use Rattle.std.proofs.Common.{◌≡◌, ℕ, Bool, true, false, cond, List, [], ◌∷◌, ◌++◌, Option, refl, ◌∙◌, ap, ap₂}
+use Rattle.std.proofs.lemmas.Bool.{cond-false}
 use Rattle.blob_base.specs.declared.layout.Layout.{Layout}
 use Rattle.blob_base.specs.Directory.{place_made}
 use Rattle.blob_base.specs.Log.{Entry, Choices, lasting, durable, left_by, crashed}
 use Rattle.blob_base.specs.Places.{Place, same_place}
-use Rattle.blob_base.specs.Files.{Files, Logged, log_of, without, logged, published, durable_at, crashed_at, made, ends_by, after_remove}
+use Rattle.blob_base.specs.Files.{Files, log_of, logged, published, durable_at, crashed_at, made, ends_by, after_remove}
 use Rattle.blob_base.specs.SamePlace.{same_at}
 use Rattle.blob_base.proofs.Steps.{durable_push, crashed_push}
 use Rattle.blob_base.proofs.FileSteps.{log_push_at, log_without}

@@ -143,5 +143,4 @@ pub fn others()
         (durable_at (published files o x) a ≡ durable_at files a) × ((t : Choices) → crashed_at (published files o x) t a ≡ crashed_at files t a) }
     ensures removals { (files : Files) (p : List ℕ) (n : Option (List ℕ)) (a : Place) → ends_by files.directory p n a ≡ false →
         (durable_at (after_remove files p n) a ≡ durable_at files a) × ((t : Choices) → crashed_at (after_remove files p n) t a ≡ crashed_at files t a) }
-{
-}
+{}
