@@ -3,3 +3,4 @@ pub mod Fronts
 pub mod Linear
 pub mod NoneSide
 pub mod TableRules
+pub mod TornTest
