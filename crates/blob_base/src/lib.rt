@@ -17,4 +17,5 @@ pub use error::Error;
 pub use header::Header;
 pub use header_error::HeaderError;
 pub use layout::Layout;
+pub use resolution::resolve;
 pub use version::{BlobVersion, DEFAULT_BLOB_VERSION};
