@@ -12,7 +12,7 @@ use Rattle.blob_base.specs.declared.error.Error.{Error}
 use Rattle.blob_base.specs.Refusals.{Refusal, Memory, refusal_of}
 use Rattle.blob_base.specs.Resolve.{Answers, AnswersParsed, IsNoneSide, found_in, is_torn, refusal_for, refusing, resolution}
 use Rattle.blob_base.specs.Versions.{is_in_range}
-use Rattle.blob_base.proofs.NoneSide.{Found, over_blob}
+use Rattle.blob_base.proofs.NoneSide.{Found, not_true, over_blob}
 use Rattle.blob_base.proofs.TornTest.{is_torn-IsTorn}
 
 same_whole : (f : Option Failure) (layout : Layout) (raw blob : List ℕ) (n : ℕ) (a : Accepted) → number_at raw 6 ≡ number_at blob 6
@@ -26,10 +26,6 @@ same_in (Err failure) raw blob n a e page = refl
 same_in (Ok V0) raw blob n a e page = same_whole None V0 raw blob n a e
 same_in (Ok V1) raw blob n a e page =
     same_whole (page_failure raw n) V1 raw blob n a e ∙ ap (λ f. parsed_whole f V1 blob n a) page
-
-not_true : (b : Bool) → (b ≡ true → ⊥) → b ≡ false
-not_true true h = absurd (h refl)
-not_true false h = refl
 
 -- past its first 4096 bytes a blob tells a header nothing
 pub parsed-append : (raw rest : List ℕ) (n : ℕ) (a : Accepted) → 4096 ≤ length raw → parsed (raw ++ rest) n a ≡ parsed raw n a
@@ -65,7 +61,7 @@ torn_none : (b c : Bool) (p : Result (Option Found) Failure) → c ≡ true → 
 torn_none true c p h = refl
 torn_none false c p h = rw h refl
 
-past_none : (b c : Bool) (p q : Result (Option Found) Failure) → b ≡ false → c ≡ false → q ≡ p → q ≡ cond b (Ok None) (cond c (Ok None) p)
+pub past_none : (b c : Bool) (p q : Result (Option Found) Failure) → b ≡ false → c ≡ false → q ≡ p → q ≡ cond b (Ok None) (cond c (Ok None) p)
 past_none b c p q short torn h = rw (short, torn) h
 
 -- an answer that is not None

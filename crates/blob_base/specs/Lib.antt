@@ -1,7 +1,9 @@
 pub mod Checksum
 pub mod Directory
 pub mod Header
+pub mod HeaderLaws
 pub mod Parse
+pub mod PartitionName
 pub mod Places
 pub mod Rates
 pub mod Refusals
