@@ -8,6 +8,7 @@ pub mod Durable
 pub mod Files
 pub mod Handles
 pub mod Header
+pub mod HeaderLaws
 pub mod Holes
 pub mod Live
 pub mod Log
@@ -17,6 +18,7 @@ pub mod Opening
 pub mod Options
 pub mod Order
 pub mod Parse
+pub mod PartitionName
 pub mod Pending
 pub mod Places
 pub mod Rates
