@@ -9,8 +9,10 @@ use Rattle.blob_base.specs.Bytes.{overlay}
 use Rattle.blob_base.specs.Log.{Entry, Kept, Loose, Resized, Write, Need, Choices, need_of, durable, crashed, needs}
 use Rattle.blob_base.specs.Pending.{Pending, Waiting, Cut, Marker, waiting, laid, finished, replay}
 use Rattle.blob_base.specs.Runs.{Run, runs, kept_runs, all_laid, all_behind}
-use Rattle.blob_base.specs.Files.{Files, Logged, log_of, without, Rising, Above, from_after, with_at, counted, logged, all_logged, published, synced, started, durable_at, admitted_at, admitted}
-use Rattle.blob_base.specs.Stands.{StandsForFile, StandsAt, StandsFor, changed, retired}
+use Rattle.blob_base.specs.Files.{Files, Logged, log_of, without, Rising, Above, from_after, counted, logged, all_logged, published, synced, started, durable_at, admitted_at, admitted}
+use Rattle.blob_base.specs.Durable.{with_at}
+use Rattle.blob_base.specs.Stands.{StandsForFile, StandsAt, StandsFor, retired}
+use Rattle.blob_base.specs.Durable.{changed}
 use Rattle.blob_base.proofs.Needs.{pared, needs_kept, waiting_laid, waiting_plain}
 use Rattle.blob_base.proofs.Steps.{stands_kept, stands_loose, stands_resized, stands_empty, stands_started, stands_finished, stands_retired, needs_loose, needs_resized, waiting_push, waiting_marked, waiting_finished}
 use Rattle.blob_base.proofs.Runs.{AreSome, runs_some}

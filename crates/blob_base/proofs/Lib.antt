@@ -7,7 +7,6 @@ pub mod CrashOrder
 pub mod CrashSteps
 pub mod FileSteps
 pub mod Fronts
-pub mod Header
 pub mod Holes
 pub mod Laid
 pub mod Linear

@@ -9,7 +9,9 @@ use Rattle.blob_base.specs.SamePlace.{same_at}
 use Rattle.blob_base.specs.Directory.{Directory, File, Raw, Incarnation, data_start, is_that, is_current}
 use Rattle.blob_base.specs.Log.{Entry, durable}
 use Rattle.blob_base.specs.Pending.{Pending}
-use Rattle.blob_base.specs.Files.{Files, log_of, without, with_at, place_made, directory_made, made, directory_without, ends_with_name, name_removed, directory_less, ends_with_partition, partition_removed, raw_again, directory_again, durable_at, reopened}
+use Rattle.blob_base.specs.Files.{Files, log_of, without, made, ends_with_name, name_removed, ends_with_partition, partition_removed, raw_again, directory_again, durable_at, reopened}
+use Rattle.blob_base.specs.Directory.{place_made, directory_made, directory_without, directory_less}
+use Rattle.blob_base.specs.Durable.{with_at}
 use Rattle.blob_base.specs.Stands.{StandsFor, StandsAt, StandsForFile}
 use Rattle.blob_base.proofs.Steps.{stands_empty}
 use Rattle.blob_base.proofs.FileSteps.{log_without, changed_at, four, rising_without, still_none}

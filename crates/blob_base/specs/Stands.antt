@@ -4,7 +4,8 @@ use Rattle.blob_base.specs.Places.{Place, same_place}
 use Rattle.blob_base.specs.Directory.{Directory}
 use Rattle.blob_base.specs.Log.{Entry, Choices, durable, crashed, needs}
 use Rattle.blob_base.specs.Pending.{Pending, replay, waiting}
-use Rattle.blob_base.specs.Files.{Files, Rising, log_of, with_at}
+use Rattle.blob_base.specs.Files.{Files, Rising, log_of}
+use Rattle.blob_base.specs.Durable.{with_at}
 
 -- of one incarnation
 pub record StandsForFile (bytes : List ℕ) (pending : List Pending) (base : List ℕ) (log : List Entry) : Type 0 where
@@ -27,9 +28,6 @@ pub record StandsFor (names : Directory) (bytes : Place → Option (List ℕ)) (
   -- nothing is of an incarnation that is still to come
   pub fresh : (o : Place) → files.directory.next ≤ o.number → (lists o ≡ []) × (log_of files.log o ≡ [])
 
--- the durable bytes of one incarnation changed, where it is current
-abbrev pub changed : (Place → Option (List ℕ)) → Place → (List ℕ → List ℕ) → Place → Option (List ℕ)
-changed f o g a = cond (same_place o a) (option_map g (f a)) (f a)
 
 -- the pending lists, where that of an incarnation is retired, if there is one
 abbrev pub retired : (Place → List Pending) → Option Place → Place → List Pending
