@@ -3,8 +3,10 @@
 
 pub mod error;
 pub mod layout;
+pub mod refusal_line;
 pub mod version;
 
 pub use error::Error;
 pub use layout::Layout;
+pub use refusal_line::RefusalLine;
 pub use version::{BlobVersion, DEFAULT_BLOB_VERSION};
