@@ -1,6 +1,11 @@
+pub mod Checksum
 pub mod Directory
+pub mod Header
+pub mod Parse
 pub mod Places
 pub mod Rates
 pub mod Refusals
 pub mod ReplyLines
+pub mod Register
+pub mod Steps
 pub mod Versions

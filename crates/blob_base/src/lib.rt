@@ -1,12 +1,21 @@
 //! The base of the crash-fault storage layer: errors, blob headers, buffers, rates, and the storage traits with their laws.
 #![tactic(auto)]
 
+mod block_tables;
+pub mod checksum;
 pub mod error;
+pub mod header;
+pub mod header_error;
 pub mod layout;
 pub mod refusal_line;
+mod region;
 pub mod version;
+mod word_tables;
 
+pub use checksum::Crc32;
 pub use error::Error;
+pub use header::Header;
+pub use header_error::HeaderError;
 pub use layout::Layout;
 pub use refusal_line::RefusalLine;
 pub use version::{BlobVersion, DEFAULT_BLOB_VERSION};

@@ -1,0 +1,4 @@
+pub mod Blocks
+pub mod Fronts
+pub mod Linear
+pub mod TableRules
