@@ -108,6 +108,10 @@ expect 'a full device as output' 1 '' 'output failed'
 "$top/blobcrash" resolve <"$work/in" >&- 2>"$work/err"
 status=$?
 expect 'closed output' 1 '' 'output failed'
+{ { sleep 0.2; echo; } | { "$top/blobcrash" resolve 2>"$work/err"; echo $? >"$work/status"; }; } | true
+until [ -s "$work/status" ]; do sleep 0.1; done
+status=$(cat "$work/status")
+expect 'a pipe that nobody reads' 1 '' 'output failed'
 echo 435 >"$work/in"
 "$top/blobcrash" resolve <"$work/in" >/dev/full 2>"$work/err"
 status=$?
