@@ -7,5 +7,6 @@ pub mod Rates
 pub mod Refusals
 pub mod ReplyLines
 pub mod Register
+pub mod Resolve
 pub mod Steps
 pub mod Versions

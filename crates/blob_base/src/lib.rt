@@ -9,6 +9,7 @@ pub mod header_error;
 pub mod layout;
 pub mod refusal_line;
 mod region;
+pub mod resolution;
 pub mod version;
 mod word_tables;
 
