@@ -1,5 +1,5 @@
 -- A blob's resolution by a front of it.
-use Rattle.std.proofs.Common.{◌↔◌, ◌≡◌, ℕ, ◌+◌, ◌*◌, ◌<◌, ◌≤◌, ◌⊎◌, inl, inr, ⊎_elim, Bool, true, false, cond, List, ◌++◌, length, take, drop, get_or, refl, sym, ap, ap₂, ◌∙◌, arith, Option, Some, None, Result, Ok, Err, nat_lt, min, subst, true≢false}
+use Rattle.std.proofs.Common.{◌↔◌, ◌≡◌, ℕ, ◌+◌, ◌*◌, ◌<◌, ◌≤◌, ◌⊎◌, inl, inr, ⊎_elim, Bool, true, false, cond, List, ◌++◌, length, take, drop, get_or, refl, sym, ap, ap₂, ◌∙◌, arith, Option, Some, None, Result, Ok, Err, IsErr, nat_lt, min, subst, true≢false}
 use Rattle.std.proofs.lemmas.List.{take_all, take-append-drop, take-append-le, drop-append-le, get_or_append_left, length-drop, length-append}
 use Rattle.std.proofs.lemmas.Bool.{cases_lt, lt-ltb, ltb-false, ltb-true}
 use Rattle.blob_base.specs.declared.layout.Layout.{Layout}
@@ -8,9 +8,11 @@ use Rattle.blob_base.specs.declared.version.BlobVersion.{BlobVersion}
 use Rattle.blob_base.specs.Directory.{data_start}
 use Rattle.blob_base.specs.Header.{IsTorn}
 use Rattle.blob_base.specs.Parse.{Accepted, Failure, VersionMismatch, LayoutMismatch, number_at, page_failure, region_failure, is_accepted, layout_of, parsed_whole, parsed_in, parsed}
-use Rattle.blob_base.specs.Resolve.{AnswersParsed, IsNoneSide, found_in, is_torn, resolution}
+use Rattle.blob_base.specs.declared.error.Error.{Error}
+use Rattle.blob_base.specs.Refusals.{Refusal, Memory, refusal_of}
+use Rattle.blob_base.specs.Resolve.{Answers, AnswersParsed, IsNoneSide, found_in, is_torn, refusal_for, refusing, resolution}
 use Rattle.blob_base.specs.Versions.{is_in_range}
-use Rattle.blob_base.proofs.NoneSide.{Found}
+use Rattle.blob_base.proofs.NoneSide.{Found, over_blob}
 use Rattle.blob_base.proofs.TornTest.{is_torn-IsTorn}
 
 same_whole : (f : Option Failure) (layout : Layout) (raw blob : List ℕ) (n : ℕ) (a : Accepted) → number_at raw 6 ≡ number_at blob 6
@@ -88,3 +90,32 @@ to_resolution (Ok None) blob a says none =
     (none.0 tt)
 to_resolution (Ok (Some found)) blob a says none = answered (Ok (Some found)) blob a (ap found_in (sym says)) (λ n. n) none
 to_resolution (Err failure) blob a says none = answered (Err failure) blob a (ap found_in (sym says)) (λ n. n) none
+
+-- the same by a front of the blob
+pub by_front : (r : Result (Option Found) Failure) (raw blob : List ℕ) (n : ℕ) (a : Accepted) → min n 4096 ≤ length raw → length blob ≡ n
+    → raw ≡ take (length raw) blob → AnswersParsed r (parsed raw n a) → IsNoneSide r ↔ ((n < 8) ⊎ ((n ≤ 4096) × IsTorn raw)) → r ≡ resolution blob a
+by_front r raw blob n a front len part says none =
+    to_resolution r blob a
+    (subst (λ (p : Result Found Failure). AnswersParsed r p) (parsed_front raw blob n a front len part ∙ ap (λ m. parsed blob m a) (sym len)) says)
+    (subst (λ (m : ℕ). IsNoneSide r ↔ ((m < 8) ⊎ IsTorn blob)) (sym len) (over_blob (IsNoneSide r) raw blob n front len part none))
+
+abbrev pub Answer : Type 0
+Answer = Result (Option Found) Error
+
+abbrev pub creates : Answer
+creates = Ok None
+
+pub none_found : (found : Option Found) (P : Type 0) → IsNoneSide (Ok found) ↔ P → (let r : Answer = Ok found in r ≡ creates) ↔ P
+none_found None P h = (λ _. h.0 tt, λ _. refl)
+none_found (Some found) P h = (λ e. absurd (cc), λ p. absurd (h.1 p))
+
+pub none_refused : (failure : Failure) (error : Error) (P : Type 0) → IsNoneSide {A = Found} (Err failure) ↔ P → (let r : Answer = Err error in r ≡ creates) ↔ P
+none_refused failure error P h = (λ e. absurd (cc), λ p. absurd (h.1 p))
+
+pub answers_refused : {T : Type 0} (partition name : List ℕ) (resolved : Result T Failure) (failure : Failure) (error : Error) → Err failure ≡ resolved
+    → (refusal_of error ≡ refusal_for partition name failure) ⊎ (refusal_of error ≡ Memory) → Answers (Err error) (refusing partition name resolved)
+answers_refused partition name resolved failure error e says =
+    ⊎_elim
+    (λ (exact : refusal_of error ≡ refusal_for partition name failure). inl (ap (refusing partition name) (sym e) ∙ ap (λ r. Err r) (sym exact)))
+    (λ (memory : refusal_of error ≡ Memory). inr (subst (λ (x : Result _ Failure). IsErr (refusing partition name x)) e refl, memory))
+    says

@@ -1,12 +1,14 @@
 pub mod Checksum
 pub mod Directory
+pub mod Endings
 pub mod Header
 pub mod Parse
 pub mod Places
 pub mod Rates
 pub mod Refusals
-pub mod ReplyLines
 pub mod Register
+pub mod ReplyLines
 pub mod Resolve
+pub mod ResolveReplies
 pub mod Steps
 pub mod Versions

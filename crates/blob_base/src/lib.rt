@@ -3,6 +3,7 @@
 
 mod block_tables;
 pub mod checksum;
+pub mod ending;
 pub mod error;
 pub mod header;
 pub mod header_error;
@@ -10,13 +11,18 @@ pub mod layout;
 pub mod refusal_line;
 mod region;
 pub mod resolution;
+pub mod resolution_line;
+pub mod run_resolve;
 pub mod version;
 mod word_tables;
 
 pub use checksum::Crc32;
+pub use ending::Ending;
 pub use error::Error;
 pub use header::Header;
 pub use header_error::HeaderError;
 pub use layout::Layout;
 pub use refusal_line::RefusalLine;
+pub use resolution::resolve;
+pub use resolution_line::ResolutionLine;
 pub use version::{BlobVersion, DEFAULT_BLOB_VERSION};

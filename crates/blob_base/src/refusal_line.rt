@@ -85,3 +85,6 @@ impl fmt::Display for RefusalLine<'_> {
         }
     }
 }
+
+#[cfg(test)]
+mod tests;
