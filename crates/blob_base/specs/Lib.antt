@@ -5,6 +5,7 @@ pub mod Checksum
 pub mod Directory
 pub mod Draws
 pub mod Durable
+pub mod Endings
 pub mod Files
 pub mod Handles
 pub mod Header
@@ -24,7 +25,9 @@ pub mod Places
 pub mod Rates
 pub mod Refusals
 pub mod Register
+pub mod ReplyLines
 pub mod Resolve
+pub mod ResolveReplies
 pub mod Runs
 pub mod SamePlace
 pub mod Stands
