@@ -9,6 +9,7 @@ pub mod CrashSteps
 pub mod Durables
 pub mod FileSteps
 pub mod Fronts
+pub mod Headers
 pub mod Holes
 pub mod Laid
 pub mod Linear
@@ -18,9 +19,12 @@ pub mod Needs
 pub mod NoneSide
 pub mod Openings
 pub mod Placing
+pub mod Reopening
+pub mod Resolutions
 mod Rows
 pub mod Runs
 pub mod Selections
 pub mod Shape
 pub mod Steps
 pub mod TableRules
+pub mod TornTest
