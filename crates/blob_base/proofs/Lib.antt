@@ -7,6 +7,7 @@ pub mod CrashOrder
 pub mod CrashSteps
 pub mod FileSteps
 pub mod Fronts
+pub mod Headers
 pub mod Holes
 pub mod Laid
 pub mod Linear
@@ -16,8 +17,11 @@ pub mod Needs
 pub mod NoneSide
 pub mod Openings
 pub mod Placing
+pub mod Reopening
+pub mod Resolutions
 pub mod Runs
 pub mod Selections
 pub mod Shape
 pub mod Steps
 pub mod TableRules
+pub mod TornTest
