@@ -13,9 +13,9 @@ use Rattle.blob_base.specs.declared.layout.Layout.TheVariants.{V0, V1}
 use Rattle.blob_base.specs.declared.version.BlobVersion.{BlobVersion}
 use Rattle.blob_base.specs.Checksum.{crc32c}
 use Rattle.blob_base.specs.Directory.{data_start}
-use Rattle.blob_base.specs.Header.{head, prelude, region, magic_of, layout_number}
+use Rattle.blob_base.specs.Header.{head, prelude, region, magic_of, layout_number, number_at}
 use Rattle.blob_base.specs.HeaderLaws.{HasHeader}
-use Rattle.blob_base.specs.Parse.{Accepted, Failure, UnsupportedLayoutVersion, LayoutMismatch, VersionMismatch, Truncated, InvalidPadding, InvalidChecksum, number_at, is_sealed, page_failure, region_failure, is_accepted, layout_numbered, parsed_whole, parsed_in, parsed}
+use Rattle.blob_base.specs.Parse.{Accepted, Failure, UnsupportedLayoutVersion, LayoutMismatch, VersionMismatch, Truncated, InvalidPadding, InvalidChecksum, is_sealed, page_failure, region_failure, is_accepted, layout_numbered, parsed_whole, parsed_in, parsed}
 use Rattle.blob_base.specs.Resolve.{found_in, is_torn, resolution}
 use Rattle.blob_base.specs.Versions.{is_in_range}
 use Rattle.blob_base.proofs.NoneSide.{Found, filled}

@@ -6,8 +6,8 @@ use Rattle.blob_base.specs.declared.layout.Layout.{Layout}
 use Rattle.blob_base.specs.declared.layout.Layout.TheVariants.{V0, V1}
 use Rattle.blob_base.specs.declared.version.BlobVersion.{BlobVersion}
 use Rattle.blob_base.specs.Directory.{data_start}
-use Rattle.blob_base.specs.Header.{IsTorn}
-use Rattle.blob_base.specs.Parse.{Accepted, Failure, VersionMismatch, LayoutMismatch, number_at, page_failure, region_failure, is_accepted, layout_of, parsed_whole, parsed_in, parsed}
+use Rattle.blob_base.specs.Header.{IsTorn, number_at}
+use Rattle.blob_base.specs.Parse.{Accepted, Failure, VersionMismatch, LayoutMismatch, page_failure, region_failure, is_accepted, layout_of, parsed_whole, parsed_in, parsed}
 use Rattle.blob_base.specs.declared.error.Error.{Error}
 use Rattle.blob_base.specs.Refusals.{Refusal, Memory, refusal_of}
 use Rattle.blob_base.specs.Resolve.{Answers, AnswersParsed, IsNoneSide, found_in, is_torn, refusal_for, refusing, resolution}
