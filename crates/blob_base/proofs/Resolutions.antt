@@ -37,11 +37,14 @@ parsed-append raw rest n a long =
     number : (i : ℕ) → i + 1 < 4096 → number_at (raw ++ rest) i ≡ number_at raw i
     number i below =
         ap₂ (λ (h l : ℕ). h * 256 + l) (get_or_append_left raw rest 0 i (omega arith)) (get_or_append_left raw rest 0 (i + 1) (omega arith))
+
     long_enough : (xs : List ℕ) → 4096 ≤ length xs → nat_lt (length xs) 12 ≡ false
     long_enough xs h = not_true (nat_lt (length xs) 12) (λ t. omega (arith, ltb-true (length xs) 12 t))
+
     window : (i k : ℕ) → i + k ≤ 4096 → take k (drop i (raw ++ rest)) ≡ take k (drop i raw)
     window i k h =
         ap (take k) (drop-append-le i raw rest (omega arith)) ∙ take-append-le k (drop i raw) rest (omega (arith, length-drop i raw))
+
     page : page_failure (raw ++ rest) n ≡ page_failure raw n
     page =
         rw (long_enough (raw ++ rest) (omega (arith, length-append raw rest)), long_enough raw long, window 8 4 (omega arith), take-append-le 8 raw rest (omega arith), window 12 4084 (omega arith))

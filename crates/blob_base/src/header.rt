@@ -72,7 +72,10 @@ impl Header {
         ensures err { IfErr result IsMemoryError }
     {
         let version = *versions.end();
-        Ok((create_region(alloc, *layouts.end(), version.get())?, version))
+        Ok((
+            create_region(alloc, *layouts.end(), version.get())?,
+            version,
+        ))
     }
 
     /// The logical size, the version and the data offset that a blob's header says; `raw` is a

@@ -7,6 +7,10 @@ pub mod error;
 pub mod header;
 pub mod header_error;
 pub mod header_laws;
+#[cfg(test)]
+mod header_tests;
+#[cfg(test)]
+mod hostile_tests;
 pub mod layout;
 pub mod partition_name;
 mod region;
