@@ -13,9 +13,9 @@ use Rattle.blob_base.specs.declared.layout.Layout.TheVariants.{V0, V1}
 use Rattle.blob_base.specs.declared.version.BlobVersion.{BlobVersion}
 use Rattle.blob_base.specs.Checksum.{crc32c}
 use Rattle.blob_base.specs.Directory.{data_start}
-use Rattle.blob_base.specs.Header.{head, prelude, region, magic_of, layout_number}
+use Rattle.blob_base.specs.Header.{head, prelude, region, magic_of, layout_number, number_at}
 use Rattle.blob_base.specs.HeaderLaws.{HasHeader}
-use Rattle.blob_base.specs.Parse.{Accepted, Failure, UnsupportedLayoutVersion, LayoutMismatch, VersionMismatch, Truncated, InvalidPadding, InvalidChecksum, number_at, is_sealed, page_failure, region_failure, is_accepted, layout_numbered, parsed_whole, parsed_in, parsed}
+use Rattle.blob_base.specs.Parse.{Accepted, Failure, UnsupportedLayoutVersion, LayoutMismatch, VersionMismatch, Truncated, InvalidPadding, InvalidChecksum, is_sealed, page_failure, region_failure, is_accepted, layout_numbered, parsed_whole, parsed_in, parsed}
 use Rattle.blob_base.specs.Resolve.{found_in, is_torn, resolution}
 use Rattle.blob_base.specs.Versions.{is_in_range}
 use Rattle.blob_base.proofs.NoneSide.{Found, filled}
@@ -38,8 +38,8 @@ says : (f : Option Failure) (layout : Layout) (raw : List ℕ) (n : ℕ) (a : Ac
 says (Some failure) layout raw n a found e h = absurd (cc)
 says None layout raw n a found e h =
     let t = both_true (is_accepted a layout) (is_in_range a.least a.greatest (number_at raw 6)) found
-        (n - data_start layout, record { 0 = number_at raw 6 }, data_start layout)
-        (VersionMismatch a.least a.greatest (number_at raw 6)) (LayoutMismatch a.oldest a.newest layout) h in
+    (n - data_start layout, record { 0 = number_at raw 6 }, data_start layout)
+    (VersionMismatch a.least a.greatest (number_at raw 6)) (LayoutMismatch a.oldest a.newest layout) h in
     record { whole = e; accepts_layout = t.0; accepts_version = t.1; is = t.2 }
 
 in_layout : (b : Bool) (layout : Layout) (raw : List ℕ) (n : ℕ) (a : Accepted) (expected number : ℕ) (found : Found)
@@ -124,8 +124,8 @@ to_header layout raw a found small long magic number s =
       layout = layout;
       starts = refl;
       whole =
-        sym (take-append-drop (data_start layout) raw)
-        ∙ ap (λ x. x ++ drop (data_start layout) raw) (begins layout raw small long magic number s.whole);
+          sym (take-append-drop (data_start layout) raw)
+          ∙ ap (λ x. x ++ drop (data_start layout) raw) (begins layout raw small long magic number s.whole);
       rest = sym (length-drop (data_start layout) raw);
       fits = omega (arith, small 6, small 7);
       accepts_layout = s.accepts_layout;

@@ -13,8 +13,8 @@ use Rattle.blob_base.specs.declared.layout.Layout.TheVariants.{V0, V1}
 use Rattle.blob_base.specs.declared.version.BlobVersion.{BlobVersion}
 use Rattle.blob_base.specs.Checksum.{crc32c}
 use Rattle.blob_base.specs.Directory.{data_start}
-use Rattle.blob_base.specs.Header.{head, prelude, region, magic_of, layout_number, IsFront, IsTorn}
-use Rattle.blob_base.specs.Parse.{Accepted, Failure, UnsupportedLayoutVersion, InvalidChecksum, InvalidPadding, Truncated, may_be_torn, number_at, is_sealed, page_failure, region_failure, is_accepted, layout_numbered, parsed_whole, parsed_in, parsed}
+use Rattle.blob_base.specs.Header.{head, prelude, region, magic_of, layout_number, IsFront, IsTorn, number_at}
+use Rattle.blob_base.specs.Parse.{Accepted, Failure, UnsupportedLayoutVersion, InvalidChecksum, InvalidPadding, Truncated, may_be_torn, is_sealed, page_failure, region_failure, is_accepted, layout_numbered, parsed_whole, parsed_in, parsed}
 use Rattle.blob_base.specs.Versions.{is_in_range}
 use Rattle.blob_base.proofs.Fronts.{front_at, all_zeros, version_of}
 

@@ -12,9 +12,9 @@ use Rattle.blob_base.specs.declared.layout.Layout.TheVariants.{V0, V1}
 use Rattle.blob_base.specs.declared.version.BlobVersion.{BlobVersion}
 use Rattle.blob_base.specs.Checksum.{crc32c}
 use Rattle.blob_base.specs.Directory.{data_start}
-use Rattle.blob_base.specs.Header.{head, prelude, region, magic_of, layout_number, IsFront, IsTorn}
+use Rattle.blob_base.specs.Header.{head, prelude, region, magic_of, layout_number, IsFront, IsTorn, number_at}
 use Rattle.blob_base.specs.HeaderLaws.{reopened, HasHeader}
-use Rattle.blob_base.specs.Parse.{Accepted, Failure, LayoutMismatch, VersionMismatch, number_at, is_sealed, page_failure, region_failure, is_accepted, layout_numbered, parsed_whole, parsed_in, parsed}
+use Rattle.blob_base.specs.Parse.{Accepted, Failure, LayoutMismatch, VersionMismatch, is_sealed, page_failure, region_failure, is_accepted, layout_numbered, parsed_whole, parsed_in, parsed}
 use Rattle.blob_base.specs.Resolve.{found_in, is_torn, resolution}
 use Rattle.blob_base.specs.Versions.{is_in_range}
 use Rattle.blob_base.proofs.NoneSide.{Found, whole_page, length_region, not_true, not_v0, filled}
@@ -36,7 +36,7 @@ read_whole : (layout : Layout) (v n size : ℕ) (raw : List ℕ) (a : Accepted) 
 read_whole layout v n size raw a e len =
     let s : n - data_start layout ≡ size = omega arith in
     rw (e, s) (by_bools (is_accepted a layout) (is_in_range a.least a.greatest v) (size, record { 0 = v }, data_start layout)
-        (VersionMismatch a.least a.greatest v) (LayoutMismatch a.oldest a.newest layout))
+    (VersionMismatch a.least a.greatest v) (LayoutMismatch a.oldest a.newest layout))
   where
     by_bools : (b c : Bool) (found : Found) (old other : Failure)
         → found_in (cond b (cond c (Ok found) (Err old)) (Err other)) ≡ cond b (cond c (Ok (Some found)) (Err old)) (Err other)
@@ -70,6 +70,7 @@ new_reopens v rest a fits =
   where
     long : length (region V1 v ++ rest) ≡ 4096 + length rest
     long = omega (arith, length-append (region V1 v) rest, length_region V1 v)
+
     whole : IsTorn (region V1 v ++ rest) → ⊥
     whole d =
         d.not_whole v fits (ap (λ x. region V1 v ++ x) (nothing rest (omega (arith, long, d.front.short))) ∙ append-nil (region V1 v))

@@ -6,8 +6,8 @@ use Rattle.blob_base.specs.declared.layout.Layout.{Layout}
 use Rattle.blob_base.specs.declared.layout.Layout.TheVariants.{V0, V1}
 use Rattle.blob_base.specs.declared.version.BlobVersion.{BlobVersion}
 use Rattle.blob_base.specs.Directory.{data_start}
-use Rattle.blob_base.specs.Header.{IsTorn}
-use Rattle.blob_base.specs.Parse.{Accepted, Failure, VersionMismatch, LayoutMismatch, number_at, page_failure, region_failure, is_accepted, layout_of, parsed_whole, parsed_in, parsed}
+use Rattle.blob_base.specs.Header.{IsTorn, number_at}
+use Rattle.blob_base.specs.Parse.{Accepted, Failure, VersionMismatch, LayoutMismatch, page_failure, region_failure, is_accepted, layout_of, parsed_whole, parsed_in, parsed}
 use Rattle.blob_base.specs.declared.error.Error.{Error}
 use Rattle.blob_base.specs.Refusals.{Refusal, Memory, refusal_of}
 use Rattle.blob_base.specs.Resolve.{Answers, AnswersParsed, IsNoneSide, found_in, is_torn, refusal_for, refusing, resolution}
@@ -37,11 +37,14 @@ parsed-append raw rest n a long =
     number : (i : ℕ) → i + 1 < 4096 → number_at (raw ++ rest) i ≡ number_at raw i
     number i below =
         ap₂ (λ (h l : ℕ). h * 256 + l) (get_or_append_left raw rest 0 i (omega arith)) (get_or_append_left raw rest 0 (i + 1) (omega arith))
+
     long_enough : (xs : List ℕ) → 4096 ≤ length xs → nat_lt (length xs) 12 ≡ false
     long_enough xs h = not_true (nat_lt (length xs) 12) (λ t. omega (arith, ltb-true (length xs) 12 t))
+
     window : (i k : ℕ) → i + k ≤ 4096 → take k (drop i (raw ++ rest)) ≡ take k (drop i raw)
     window i k h =
         ap (take k) (drop-append-le i raw rest (omega arith)) ∙ take-append-le k (drop i raw) rest (omega (arith, length-drop i raw))
+
     page : page_failure (raw ++ rest) n ≡ page_failure raw n
     page =
         rw (long_enough (raw ++ rest) (omega (arith, length-append raw rest)), long_enough raw long, window 8 4 (omega arith), take-append-le 8 raw rest (omega arith), window 12 4084 (omega arith))

@@ -73,8 +73,13 @@ is_front_from versions keeps blob all whole d =
     zeros : d.front.zeros ≡ length blob - d.front.kept
     zeros =
         let long = ap length d.front.is in
-        omega (arith, long, length-append (take d.front.kept (region V1 d.version)) (replicate d.front.zeros 0),
-            length-take-le d.front.kept (region V1 d.version) (omega (arith, d.front.within, length_region V1 d.version)), length-replicate {A = ℕ} d.front.zeros 0)
+        omega (
+          arith,
+          long,
+          length-append (take d.front.kept (region V1 d.version)) (replicate d.front.zeros 0),
+          length-take-le d.front.kept (region V1 d.version) (omega (arith, d.front.within, length_region V1 d.version)),
+          length-replicate {A = ℕ} d.front.zeros 0,
+        )
 
 no_region_from : (versions : ℕ) (blob : List ℕ) → versions ≤ 2 ^ 16 → ((v : ℕ) → v < 2 ^ 16 → blob ≢ region V1 v) → is_some_region versions blob ≡ false
 unfolding is_some_region

@@ -11,21 +11,18 @@ use crate::header::Header;
 /// and its data offset, or to the mismatch where its layout or its version isn't accepted.
 pub fn regions_reopen()
     ensures { RegionsReopen }
-{
-}
+{}
 
 /// What resolves begins with the region that a creation writes for its version, and the logical
 /// bytes are all those behind it.
 pub fn resolved_has_header()
     ensures { ResolvedHasHeader }
-{
-}
+{}
 
 /// The test that a resolution makes of a torn creation is true exactly for a torn creation.
 pub fn torn_is_tested()
     ensures { TornIsTested }
-{
-}
+{}
 
 /// A header is what its bytes are read as.
 pub fn decodes_what_encodes(header: Header) -> Header

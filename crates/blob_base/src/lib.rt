@@ -1,6 +1,9 @@
 //! The base of the crash-fault storage layer: errors, blob headers, buffers, rates, and the storage traits with their laws.
 #![tactic(auto)]
 
+#[cfg(test)]
+#[cfg(test)]
+
 pub mod any_store;
 mod block_tables;
 pub mod buffers;
@@ -12,6 +15,8 @@ pub mod handle;
 pub mod header;
 pub mod header_error;
 pub mod header_laws;
+mod header_tests;
+mod hostile_tests;
 pub mod laws;
 pub mod layout;
 pub mod options;

@@ -26,7 +26,5 @@ pub fn validate_partition_name(alloc: Global, partition: &str) -> Result<(), Err
 fn has_only_name_bytes(bytes: &[u8]) -> bool
     ensures { result ≡ list_all is_name_byte bytes.now }
 {
-    bytes
-        .iter()
-        .all(|byte| byte.is_ascii_alphanumeric() || *byte == b'-' || *byte == b'_')
+    bytes.iter().all(|byte| byte.is_ascii_alphanumeric() || *byte == b'-' || *byte == b'_')
 }
