@@ -142,7 +142,7 @@ chmod +x out/blobcrash
 echo "what a build prints"
 TOOL
 chmod +x "$tools/rt"
-notice='blobcrash: building, which proves the program first (a minute or more)'
+notice='blobcrash: building, which proves the program first (some minutes on first use)'
 
 launch() { PATH=$tools:$PATH "$copy/blobcrash" "$@"; }
 launch one 'two words' </dev/null >"$work/first" 2>"$work/first.err" &
