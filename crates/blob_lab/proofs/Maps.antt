@@ -9,7 +9,7 @@ use Rattle.std.specs.Result.{OnErr, OnOk}
 use Rattle.std.specs.Str.{bytes_eq}
 use Rattle.std.proofs.lemmas.Bool.{cases_Bool, cond-true, cond-false}
 use Rattle.std.proofs.lemmas.Map.Text.{is_eq-slice_cmp}
-use Rattle.blob_lab.specs.Names.{found, below, with_at, without_partition}
+use Rattle.blob_lab.specs.Names.{found, below, with_at, with_partition}
 
 apart : (bs cs ks : List ℕ) → bytes_eq bs cs ≡ false → is_eq (slice_cmp nat_cmp bs ks) ≡ true → is_eq (slice_cmp nat_cmp cs ks) ≡ false
 apart bs cs ks n y =
@@ -113,7 +113,7 @@ module _ {M X : Type 0} (v : M → List ℕ → Option X) (f g : List ℕ → Op
       (cases_Bool (bytes_eq p q))
 
   -- a partition that went
-  pub gone_below : ((cs : List ℕ) → g cs ≡ update bytes_eq f p None cs) → (q m : List ℕ) → below v (g q) m ≡ without_partition (λ r l. below v (f r) l) p q m
+  pub gone_below : ((cs : List ℕ) → g cs ≡ update bytes_eq f p None cs) → (q m : List ℕ) → below v (g q) m ≡ with_partition (λ r l. below v (f r) l) None p q m
   gone_below outer q m =
       ⊎_elim
       (λ y. ap (λ o. below v o m) (outer q ∙ cond-true (bytes_eq p q) None (f q) y) ∙ sym (cond-true (bytes_eq p q) None (below v (f q) m) y))

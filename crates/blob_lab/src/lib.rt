@@ -3,4 +3,4 @@
 
 mod copies;
 mod names;
-
+pub mod pending;

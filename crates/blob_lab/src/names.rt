@@ -1,7 +1,7 @@
 // A map from the names of blobs, looked up by borrowed texts, so that only a new name takes memory.
 ghost use Rattle.std.specs.Prelude.{◌≡◌, OnOk, OnErr, option_copied, None, Some, is_some};
 ghost use Rattle.std.specs.Bool.{OnTrue, OnFalse};
-ghost use Rattle.blob_lab.specs.Names.{at, with_at, without_partition};
+ghost use Rattle.blob_lab.specs.Names.{at, with_at, with_partition};
 
 use std::alloc::{AllocError, Global};
 use std::collections::BTreeMap;
@@ -97,7 +97,7 @@ impl<V: Drop> Names<V> {
 
     /// Takes out all names of a partition.
     pub(crate) fn remove_partition(&mut self, partition: &str)
-        ensures { at self.new ≡ without_partition (at self.old) partition.now }
+        ensures { at self.new ≡ with_partition (at self.old) None partition.now }
     {
         self.partitions.remove(partition);
     }
