@@ -1,9 +1,10 @@
 //! The durability debt that closed handles leave behind them.
-ghost use Rattle.std.specs.Prelude.{◌≡◌, List, ℕ, ◌∷◌, [], OnErr, OnOk, IfOk, not, option_map, option_copied, Some};
+ghost use Rattle.std.specs.Prelude.{◌≡◌, List, ℕ, ◌∷◌, [], OnErr, OnOk, IfOk, not, option_map, option_copied, Some, None, if◌then◌else◌, false, ◌⊎◌, ◌<◌, ◌^◌, ◌-◌};
+ghost use Rattle.hex.specs.Hex.{encode_lower};
 ghost use Rattle.std.specs.String.{string_bytes};
-ghost use Rattle.blob_base.specs.Refusals.{refusal_of, refused};
-ghost use Rattle.blob_lab.specs.History.{History, Deed, To, Admit, Release, Settle, Clear, Fail, Close, Forget, admission, released, owed, found_by, events, is_outstanding};
-ghost use Rattle.blob_lab.specs.Debts.{StandsFor, IsUnchanged, Keeps, Answers, after_admit, after_release, deed_of};
+ghost use Rattle.blob_base.specs.Refusals.{refusal_of, refused, Memory, BlobAlreadyOpen};
+ghost use Rattle.blob_lab.specs.History.{History, Deed, To, Admit, Release, Settle, Clear, Fail, Close, Forget, admission, released, owed, found_by, events, is_outstanding, Admitted};
+ghost use Rattle.blob_lab.specs.Debts.{StandsFor, IsUnchanged, Keeps, Answers, after_admit, after_release, deed_of, kept, standing, told};
 
 pub(crate) mod entry;
 pub(crate) mod generation;
@@ -38,6 +39,71 @@ impl Pending {
             next_token: 0,
             alloc,
         }
+    }
+
+    /// Admits an open. `existing` tells whether the blob was there; where it wasn't, the name is forgotten first.
+    ///
+    /// Answers the open's generation, the token of a predecessor that is still settling, and whether the name owes: that
+    /// token, or debt. A name whose open isn't closed answers `BlobAlreadyOpen`, and a failure that was retained answers
+    /// itself. `GenerationsExhausted` where no number is left, `Memory` where none was found. After each of these all is as before.
+    pub fn admit(
+        &mut self,
+        partition: &str,
+        name: &[u8],
+        existing: bool,
+    ) -> Result<(Generation, Option<Receiver>, bool), Error>
+        ensures answer { (h : History) → StandsFor self.old h → Answers result (admission h partition.now name.now (found_by h partition.now name.now existing)) }
+        ensures stands { (h : History) → StandsFor self.old h → StandsFor self.new (after_admit h existing result) }
+        ensures refused { OnErr result (IsUnchanged self.old self.new) }
+    {
+        let entry = self.admitted(partition, name, existing)?;
+        let key = (
+            String::from_str(self.alloc, partition)?,
+            Vec::from_slice(self.alloc, name)?,
+        );
+        let number = entry.generation;
+        let predecessor = entry.settling;
+        let owes = predecessor.is_some() || entry.is_dirty;
+        self.names.insert(partition, name, entry)?;
+        self.next_generation = number + 1;
+        let receiver = predecessor.map(|token| Receiver { token });
+        Ok((Generation { key, number }, receiver, owes))
+    }
+
+    /// The entry that an open leaves, or why it is refused.
+    fn admitted(&self, partition: &str, name: &[u8], existing: bool) -> Result<Entry, Error>
+        ensures answer { (h : History) → StandsFor self.now h → Answers (told partition.now name.now result) (admission h partition.now name.now (found_by h partition.now name.now existing)) }
+        ensures entry { (h : History) → StandsFor self.now h → IfOk result (λ entry. kept (Some entry) ≡ standing (Admitted entry.generation ∷ found_by h partition.now name.now existing)) }
+        ensures number { IfOk result (λ entry. (entry.generation ≡ self.now.next_generation) × (entry.generation < 2 ^ 64 - 1)) }
+    {
+        let mut entry = Entry::opened(self.next_generation);
+        if existing {
+            if let Some(known) = self.names.get(partition, name) {
+                self.check_closed(partition, name, known)?;
+                entry.settling = known.settling;
+                entry.is_dirty = known.is_dirty;
+            }
+        }
+        if self.next_generation == u64::MAX {
+            return Err(Error::GenerationsExhausted);
+        }
+        Ok(entry)
+    }
+
+    /// Refuses a name whose open isn't closed, or whose failure was retained.
+    fn check_closed(&self, partition: &str, name: &[u8], entry: &Entry) -> Result<(), Error>
+        ensures ok { OnOk result ((entry.now.is_live ≡ false) × (entry.now.failure ≡ None)) }
+        ensures err { OnErr result ((refused result ≡ Some Memory) ⊎ (refused result ≡ (if entry.now.is_live then Some (BlobAlreadyOpen partition.now (encode_lower name.now)) else option_map refusal_of entry.now.failure))) }
+    {
+        if entry.is_live {
+            let partition = String::from_str(self.alloc, partition)?;
+            let name = hex::encode(self.alloc, name)?;
+            return Err(Error::BlobAlreadyOpen(partition, name));
+        }
+        if let Some(failure) = &entry.failure {
+            return Err(copied(self.alloc, failure)?);
+        }
+        Ok(())
     }
 
     /// Whether a token was settled, under whichever name.
