@@ -1,8 +1,8 @@
 -- The kept names against the history, as one name changes.
-use Rattle.std.proofs.Common.{◌≡◌, ℕ, List, [], ◌∷◌, Bool, true, false, ◌&&◌, is_none, Option, Some, None, if◌then◌else◌, refl, sym, ap, ◌∙◌, ⊎_elim, cond, option_map}
+use Rattle.std.proofs.Common.{◌≡◌, ℕ, List, [], ◌∷◌, Bool, true, false, ◌&&◌, is_none, Option, Some, None, if◌then◌else◌, refl, sym, ap, ◌∙◌, ⊎_elim, cond, option_map, Result, Ok, Err}
 use Rattle.std.specs.Str.{bytes_eq}
 use Rattle.std.specs.Cmp.Lexicographic.{bytes_decides}
-use Rattle.std.proofs.lemmas.Bool.{cases_Bool, cond-true, cond-false}
+use Rattle.std.proofs.lemmas.Bool.{cases_Bool, cond-true, cond-false, false≢true}
 use Rattle.blob_base.specs.Refusals.{Refusal, refusal_of, refused}
 use Rattle.blob_lab.specs.declared.names.Names.{Names}
 use Rattle.blob_lab.specs.declared.pending.Pending.{Pending}
@@ -10,8 +10,12 @@ use Rattle.blob_lab.specs.declared.pending.entry.Entry.{Entry}
 use Rattle.blob_lab.specs.declared.pending.entry.Change.{Change}
 use Rattle.blob_lab.specs.declared.pending.entry.Change.TheVariants as change
 use Rattle.blob_lab.specs.Names.{at, with_at, with_partition}
-use Rattle.blob_lab.specs.History.{History, Event, Deed, To, Forget, with_deed, events, latest, settling, is_number, cleared, Released, Settled, Closed}
-use Rattle.blob_lab.specs.Debts.{Standing, standing, kept, deed_of, Keeps, StandsFor}
+use Rattle.blob_lab.specs.History.{History, Event, Deed, To, Forget, with_deed, events, latest, settling, is_number, cleared, Released, Settled, Closed, Opening}
+use Rattle.blob_lab.specs.Debts.{Standing, standing, kept, deed_of, Keeps, StandsFor, IsUnchanged, after_admit}
+use Rattle.blob_base.specs.declared.error.Error.{Error}
+use Rattle.std.specs.Result.{IsErr}
+use Rattle.std.specs.Ordering.{nat_cmp, is_eq}
+use Rattle.std.specs.List.{list_any}
 
 pub with_at_here : {X : Type 0} (f : List ℕ → List ℕ → X) (p n : List ℕ) (x : X) → with_at f p n x p n ≡ x
 with_at_here f p n x = cond-true (bytes_eq p p) (cond (bytes_eq n n) x (f p n)) (f p n) ((bytes_decides p p).1 refl) ∙ cond-true (bytes_eq n n) x (f p n) ((bytes_decides n n).1 refl)
@@ -76,3 +80,18 @@ pub keeps_nothing : (old new : Names Entry) (p n : List ℕ) (c : Change) (h : H
 keeps_nothing old new p n c h is none k =
     let e : kept None ≡ standing (events h p n) = ap kept (sym none) ∙ k.standing p n in
     keeps_done old new p n None (deed_of c) h (is ∙ sym (with_at_same (at old) p n) ∙ ap (with_at (at old) p n) none) (e ∙ ap standing (sym (no_name c (events h p n) e))) k
+
+-- a registry in which nothing changed stands for what it stood for
+pub unchanged_stands : (r s : Pending) (h : History) → IsUnchanged r s → StandsFor r h → StandsFor s h
+unchanged_stands r s h u k = record {
+  names = record { standing = λ p n. ap (λ f. kept (f p n)) u.names ∙ k.names.standing p n };
+  outstanding = λ t. ap (list_any (λ q. is_eq (nat_cmp t q))) u.outstanding ∙ k.outstanding t;
+  generations = u.generations ∙ k.generations;
+  tokens = u.tokens ∙ k.tokens;
+  numbered = k.numbered;
+}
+
+-- a refused open adds nothing to the history
+pub after_refused : (h : History) (existing : Bool) (r : Result (Opening × Option ℕ × Bool) Error) → IsErr r → after_admit h existing r ≡ h
+after_refused h existing (Ok x) e = absurd (false≢true e)
+after_refused h existing (Err x) e = refl

@@ -106,6 +106,53 @@ impl Pending {
         Ok(())
     }
 
+    /// Releases a name for its next open, and answers what settles this one once its work is done.
+    ///
+    /// None where the generation isn't the name's latest, or where a predecessor is still settling.
+    /// `GenerationsExhausted` where no number is left for a token, `Memory` where none was found. After these all is as before.
+    pub fn release(&mut self, generation: &Generation) -> Result<Option<Sender>, Error>
+        ensures answer { (h : History) → StandsFor self.old h → Answers result (released h generation.now) }
+        ensures stands { (h : History) → StandsFor self.old h → StandsFor self.new (after_release h generation.now result) }
+        ensures refused { OnErr result (IsUnchanged self.old self.new) }
+        ensures nothing { result ≡ Ok None → IsUnchanged self.old self.new }
+    {
+        let key = &generation.key;
+        let number = generation.number;
+        let Some(entry) = self.names.get(key.0.as_str(), key.1.as_slice()) else {
+            return Ok(None);
+        };
+        if entry.generation != number || entry.settling.is_some() {
+            return Ok(None);
+        }
+        let token = self.next_token;
+        if token == u64::MAX {
+            return Err(Error::GenerationsExhausted);
+        }
+        self.outstanding.insert(token)?;
+        change(&mut self.names, key, Change::Release { generation: number, token });
+        self.next_token = token + 1;
+        Ok(Some(Sender { token }))
+    }
+
+    /// Whether the name owes what its predecessors left, asked by an open once its predecessor has settled.
+    ///
+    /// Answers the failure that was retained, or whether debt is there, and `Ok(false)` where `id` isn't the name's latest
+    /// generation. `Memory` where none was found for the failure's texts.
+    pub fn debt(&self, key: &(String, Vec<u8>), id: GenerationId) -> Result<bool, Error>
+        ensures { (h : History) → StandsFor self.now h → Answers result (owed (events h (string_bytes key.now.0) key.now.1.items) id) }
+    {
+        let Some(entry) = self.names.get(key.0.as_str(), key.1.as_slice()) else {
+            return Ok(false);
+        };
+        if entry.generation != id.number {
+            return Ok(false);
+        }
+        if let Some(failure) = &entry.failure {
+            return Err(copied(self.alloc, failure)?);
+        }
+        Ok(entry.is_dirty)
+    }
+
     /// Whether a token was settled, under whichever name.
     pub fn is_settled(&self, receiver: &Receiver) -> bool
         ensures { (h : History) → StandsFor self.now h → result ≡ not (is_outstanding h receiver.now) }
