@@ -4,3 +4,5 @@
 mod copies;
 mod names;
 pub mod pending;
+
+pub use pending::{Generation, GenerationId, Pending, Receiver, Sender};

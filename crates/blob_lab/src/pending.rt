@@ -8,6 +8,7 @@ ghost use Rattle.blob_lab.specs.Debts.{StandsFor, IsUnchanged, Keeps, Answers, a
 
 pub(crate) mod entry;
 pub(crate) mod generation;
+pub mod recreated;
 
 use crate::names::Names;
 use crate::copies::copied;
