@@ -215,3 +215,6 @@ fn change(names: &mut Names<Entry>, key: &(String, Vec<u8>), change: Change)
         names.exchange(partition, name, &mut entry);
     }
 }
+
+#[cfg(test)]
+mod tests;
