@@ -212,12 +212,12 @@ fn numbers_that_run_out_change_nothing(rt: HostRuntime) -> Result<(), Fail> {
     let refused = refusal(&mut pending, false);
     assert_eq!(rt; refused, Some(Error::GenerationsExhausted));
     let none_left = match pending.release(&last) {
-        Err(Error::GenerationsExhausted) => true,
+        Err(error) => error == Error::GenerationsExhausted,
         Ok(Some(sender)) => {
             pending.settle(last.key(), sender, false, None);
             false
         }
-        _ => false,
+        Ok(None) => false,
     };
     assert!(rt; none_left);
     pending.close(last);
