@@ -1,5 +1,5 @@
 -- What a store has besides the durable logical bytes: partitions, names, and what each name's file is.
-use Rattle.std.specs.Prelude.{ℕ, List, Bool, true, false, ◌&&◌, cond, Option, Some, None, ◌==◌}
+use Rattle.std.specs.Prelude.{ℕ, List, Bool, false, ◌&&◌, cond, Option, Some, None, ◌==◌}
 use Rattle.std.specs.Str.{bytes_eq}
 use Rattle.blob_base.specs.declared.layout.Layout.{Layout}
 use Rattle.blob_base.specs.declared.layout.Layout.TheVariants.{V0, V1}

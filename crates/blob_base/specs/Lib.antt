@@ -1,5 +1,16 @@
+pub mod Audit
+pub mod Bytes
 pub mod Directory
+pub mod Draws
+pub mod Files
+pub mod Holes
+pub mod Log
+pub mod Modes
+pub mod Order
+pub mod Pending
 pub mod Places
 pub mod Rates
 pub mod Refusals
+pub mod Runs
+pub mod Stands
 pub mod Versions
