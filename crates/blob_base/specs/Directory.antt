@@ -1,5 +1,5 @@
 -- What a store has besides the durable logical bytes: partitions, names, and what each name's file is.
-use Rattle.std.specs.Prelude.{ℕ, List, Bool, false, ◌&&◌, cond, Option, Some, None, ◌==◌}
+use Rattle.std.specs.Prelude.{ℕ, ◌+◌, List, Bool, true, false, ◌&&◌, cond, Option, Some, None, ◌==◌}
 use Rattle.std.specs.Str.{bytes_eq}
 use Rattle.blob_base.specs.declared.layout.Layout.{Layout}
 use Rattle.blob_base.specs.declared.layout.Layout.TheVariants.{V0, V1}
@@ -50,3 +50,21 @@ with_file f p n file q m = cond (bytes_eq p q) (cond (bytes_eq n m) file (f q m)
 -- one partition that is there now, or no more
 abbrev pub with_partition : (List ℕ → Bool) → List ℕ → Bool → List ℕ → Bool
 with_partition f p there q = cond (bytes_eq p q) there (f q)
+
+-- the one that a name gets next
+abbrev pub place_made : Directory → List ℕ → List ℕ → Layout → Place
+place_made d p n layout = record { partition = p; name = n; number = d.next; start = data_start layout }
+
+abbrev pub directory_made : Directory → List ℕ → List ℕ → Layout → ℕ → Directory
+directory_made d p n layout version = record { has_partition = with_partition d.has_partition p true; file = with_file d.file p n (Some (Incarnation d.next layout version)); next = d.next + 1 }
+
+-- by the removal of a name
+abbrev pub directory_without : Directory → List ℕ → List ℕ → Directory
+directory_without d p n = record { has_partition = d.has_partition; file = with_file d.file p n None; next = d.next }
+
+-- by the removal of a partition
+abbrev pub without_files : (List ℕ → List ℕ → Option File) → List ℕ → List ℕ → List ℕ → Option File
+without_files f p q n = cond (bytes_eq p q) None (f q n)
+
+abbrev pub directory_less : Directory → List ℕ → Directory
+directory_less d p = record { has_partition = with_partition d.has_partition p false; file = without_files d.file p; next = d.next }

@@ -3,7 +3,8 @@ use Rattle.std.specs.Prelude.{ℕ, suc, ◌+◌, ◌≤◌, List, [], ◌∷◌,
 use Rattle.std.specs.Str.{bytes_eq}
 use Rattle.blob_base.specs.declared.layout.Layout.{Layout}
 use Rattle.blob_base.specs.Places.{Place, same_place}
-use Rattle.blob_base.specs.Directory.{File, Raw, Incarnation, Directory, data_start, current, is_current, with_file, with_partition}
+use Rattle.blob_base.specs.Directory.{File, Raw, Incarnation, Directory, data_start, current, is_current, place_made, directory_made, directory_without, directory_less}
+use Rattle.blob_base.specs.Durable.{with_at}
 use Rattle.blob_base.specs.Log.{Entry, Kept, Loose, Resized, Need, Choices, need_of, with_need, durable, crashed}
 
 -- a mutation, and the incarnation that it is of
@@ -58,10 +59,6 @@ abbrev pub Rising : ℕ → List Logged → ℕ → Type 0
 Rising from [] end = from ≤ end
 Rising from (e ∷ log) end = Above from e.entry × Rising (from_after from e.entry) log end
 
--- what is kept of one incarnation made new
-abbrev pub with_at : {X : Type 0} → (Place → X) → Place → X → Place → X
-with_at f o x a = cond (same_place o a) x (f a)
-
 -- A mutation that is recorded. A loose write takes the next number.
 
 abbrev pub counted : ℕ → Entry → ℕ
@@ -110,13 +107,6 @@ after_crash f t = record { directory = f.directory; base = crashed_at f t; log =
 
 -- Incarnations that begin.
 
--- the one that a name gets next
-abbrev pub place_made : Directory → List ℕ → List ℕ → Layout → Place
-place_made d p n layout = record { partition = p; name = n; number = d.next; start = data_start layout }
-
-abbrev pub directory_made : Directory → List ℕ → List ℕ → Layout → ℕ → Directory
-directory_made d p n layout version = record { has_partition = with_partition d.has_partition p true; file = with_file d.file p n (Some (Incarnation d.next layout version)); next = d.next + 1 }
-
 -- an accepted open of a name that had no current incarnation: with the logical bytes of its raw file, or with none
 abbrev pub made : Files → List ℕ → List ℕ → Layout → ℕ → List ℕ → Files
 made f p n layout version bytes = record { directory = directory_made f.directory p n layout version; base = with_at f.base (place_made f.directory p n layout) bytes; log = f.log; next_write = f.next_write; next_marker = f.next_marker }
@@ -129,22 +119,11 @@ is_named p n o = bytes_eq p o.partition && bytes_eq n o.name
 abbrev pub is_in : List ℕ → Place → Bool
 is_in p o = bytes_eq p o.partition
 
--- by the removal of a name
-abbrev pub directory_without : Directory → List ℕ → List ℕ → Directory
-directory_without d p n = record { has_partition = d.has_partition; file = with_file d.file p n None; next = d.next }
-
 abbrev pub ends_with_name : Directory → List ℕ → List ℕ → Place → Bool
 ends_with_name d p n o = is_named p n o && is_current d o
 
 abbrev pub name_removed : Files → List ℕ → List ℕ → Files
 name_removed f p n = record { directory = directory_without f.directory p n; base = f.base; log = without (ends_with_name f.directory p n) f.log; next_write = f.next_write; next_marker = f.next_marker }
-
--- by the removal of a partition
-abbrev pub without_files : (List ℕ → List ℕ → Option File) → List ℕ → List ℕ → List ℕ → Option File
-without_files f p q n = cond (bytes_eq p q) None (f q n)
-
-abbrev pub directory_less : Directory → List ℕ → Directory
-directory_less d p = record { has_partition = with_partition d.has_partition p false; file = without_files d.file p; next = d.next }
 
 abbrev pub ends_with_partition : Directory → List ℕ → Place → Bool
 ends_with_partition d p o = is_in p o && is_current d o

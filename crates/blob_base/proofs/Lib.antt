@@ -1,0 +1,16 @@
+pub mod Agrees
+pub mod BehindHeader
+pub mod Blocks
+pub mod Bytes
+pub mod Crash
+pub mod Fronts
+pub mod Holes
+pub mod Laid
+pub mod Linear
+pub mod LowBits
+pub mod Needs
+pub mod Runs
+pub mod Selections
+pub mod Shape
+pub mod Steps
+pub mod TableRules

@@ -1,0 +1,54 @@
+-- What an open makes of a name's file.
+use Rattle.std.specs.Prelude.{◌≡◌, ℕ, ◌+◌, List, [], Option, Some, None, if◌then◌else◌}
+use Rattle.blob_base.specs.declared.layout.Layout.{Layout}
+use Rattle.blob_base.specs.declared.layout.Layout.TheVariants.{V0, V1}
+use Rattle.blob_base.specs.Directory.{Directory, File, Raw, Incarnation, data_start, directory_made, directory_without, directory_less, place_made}
+use Rattle.blob_base.specs.Durable.{Durable, with_at}
+use Rattle.blob_base.specs.Places.{Place}
+use Rattle.blob_base.specs.Refusals.{Refusal}
+use Rattle.blob_base.specs.Versions.{is_in_range}
+
+-- stand-in
+pub data Resolution : Type 0 where
+  Missing : Resolution
+  Valid : Layout → ℕ → List ℕ → Resolution
+  Invalid : Refusal → Resolution
+
+abbrev pub resolution : List ℕ → List ℕ → List ℕ → ℕ → ℕ → Resolution
+resolution p n raw first last = Missing
+
+pub data Opening : Type 0 where
+  -- the current incarnation goes on: its number, layout and version
+  Continues : ℕ → Layout → ℕ → Opening
+  -- a new incarnation begins under a header of this layout and version, with these bytes
+  Begins : Layout → ℕ → List ℕ → Opening
+  -- the header isn't accepted
+  Declines : Refusal → Opening
+
+abbrev pub opening_raw : ℕ → Resolution → Opening
+opening_raw last Missing = Begins V1 last []
+opening_raw last (Valid layout version bytes) = Begins layout version bytes
+opening_raw last (Invalid refusal) = Declines refusal
+
+-- what an open for the versions from first to last finds; a file that is missing, or torn at its creation, begins anew
+abbrev pub opening : List ℕ → List ℕ → Option File → ℕ → ℕ → Opening
+opening p n None first last = Begins V1 last []
+opening p n (Some (Raw raw)) first last = opening_raw last (resolution p n raw first last)
+opening p n (Some (Incarnation number layout version)) first last =
+    if is_in_range first last version then Continues number layout version
+    else Declines (Refusal.BlobVersionMismatch first last version)
+
+abbrev pub place_of : List ℕ → List ℕ → ℕ → Layout → Place
+place_of p n number layout = record { partition = p; name = n; number = number; start = data_start layout }
+
+-- an accepted open: directory and durable bytes before and after it, and the handle's place, live bytes and version
+pub data IsOpened (d : Directory) (durable : Durable) (d' : Directory) (durable' : Durable) (p n : List ℕ) (first last : ℕ) (place : Place) (live : List ℕ) (version : ℕ) : Type 0 where
+  Continued : (number : ℕ) (layout : Layout) → opening p n (d.file p n) first last ≡ Continues number layout version → place ≡ place_of p n number layout
+      → durable place ≡ Some live → d' ≡ d → durable' ≡ durable → IsOpened d durable d' durable' p n first last place live version
+  Begun : (layout : Layout) → opening p n (d.file p n) first last ≡ Begins layout version live → place ≡ place_made d p n layout
+      → d' ≡ directory_made d p n layout version → durable' ≡ with_at durable place (Some live) → IsOpened d durable d' durable' p n first last place live version
+
+-- a removal of a name, or of a whole partition
+abbrev pub removed : Directory → List ℕ → Option (List ℕ) → Directory
+removed d p (Some n) = directory_without d p n
+removed d p None = directory_less d p

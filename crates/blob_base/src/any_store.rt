@@ -1,0 +1,79 @@
+// What the laws say of any store: callers that know nothing else of it.
+ghost use Rattle.std.specs.Prelude.{◌≡◌, ◌≢◌, ◌+◌, ◌≤◌, ℕ, List, [], true, false, Some, None, OnOk, OnErr, IfOk, length, option_copied};
+ghost use Rattle.blob_base.specs.Bytes.{overlay, resized, written};
+ghost use Rattle.blob_base.specs.Directory.{is_current};
+ghost use Rattle.blob_base.specs.Durable.{changed, durable_without};
+ghost use Rattle.blob_base.specs.Live.{live_written};
+ghost use Rattle.blob_base.specs.Options.{is_sync};
+ghost use Rattle.blob_base.specs.Opening.{removed};
+ghost use Rattle.blob_base.specs.Refusals.{refused, Memory, IsMemory};
+
+use crate::{Blob, Durable, Error, IoBufs, Storage, WriteOptions};
+
+/// A plain write and a sync: the written bytes are durable, and of other incarnations nothing changed.
+pub fn write_and_sync<S: Durable, B: Blob<S>>(
+    store: &mut S,
+    blob: &mut B,
+    offset: u64,
+    bytes: IoBufs,
+    plain: WriteOptions,
+) -> Result<(), Error>
+    requires { is_sync plain ≡ false }
+    ensures live { OnOk result (B.live blob.new ≡ written (B.live blob.old) offset bytes) }
+    ensures durable { OnOk result (S.durable store.new ≡ changed (S.durable store.old) (B.place blob.old) (λ _. written (B.live blob.old) offset bytes)) }
+    ensures directory { S.directory store.new ≡ S.directory store.old }
+{
+    blob.write_at(store, offset, bytes, plain)?;
+    blob.sync(store)
+}
+
+/// A resize and a started sync, which is finished.
+pub fn resize_and_start_sync<S: Storage, B: Blob<S>>(
+    store: &mut S,
+    blob: &mut B,
+    len: u64,
+) -> Result<(), Error>
+    ensures durable { OnOk result (S.durable store.new ≡ changed (S.durable store.old) (B.place blob.old) (λ _. resized (B.live blob.old) len)) }
+    ensures directory { S.directory store.new ≡ S.directory store.old }
+{
+    blob.resize(store, len)?;
+    let handle = blob.start_sync(store);
+    store.finish(handle)
+}
+
+/// A SYNC write and the removal of the blob's name.
+pub fn write_and_remove<S: Storage, B: Blob<S>>(
+    store: &mut S,
+    blob: &mut B,
+    offset: u64,
+    bytes: IoBufs,
+    synced: WriteOptions,
+    partition: &str,
+    name: &[u8],
+) -> Result<(), Error>
+    requires { is_sync synced ≡ true }
+    ensures durable { OnOk result (S.durable store.new ≡ durable_without (changed (S.durable store.old) (B.place blob.old) (λ x. overlay x offset bytes)) partition.now (Some name.now)) }
+    ensures directory { OnOk result (S.directory store.new ≡ removed (S.directory store.old) partition.now (Some name.now)) }
+{
+    blob.write_at(store, offset, bytes, synced)?;
+    store.remove(partition, Some(name))
+}
+
+/// A SYNC write within reserved room by a current handle of a store that injects nothing wants no memory.
+pub fn write_within_room<S: Durable, B: Blob<S>>(
+    store: &mut S,
+    blob: &mut B,
+    end: u64,
+    offset: u64,
+    bytes: IoBufs,
+    synced: WriteOptions,
+) -> Result<Result<(), Error>, Error>
+    requires synced { is_sync synced ≡ true }
+    requires direct { B.is_direct ≡ true }
+    requires current { is_current (S.directory store.old) (B.place blob.old) ≡ true }
+    requires inside { offset + length bytes ≤ end }
+    ensures { IfOk result (λ written. refused written ≢ Some Memory) }
+{
+    blob.reserve(store, end)?;
+    Ok(blob.write_at(store, offset, bytes, synced))
+}

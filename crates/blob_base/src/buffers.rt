@@ -1,0 +1,106 @@
+ghost use Rattle.std.specs.Prelude.{◌≡◌, ◌<◌, ◌≤◌, ◌+◌, ◌↔◌, IsTrue, List, ℕ, [], ◌++◌, length, OnOk, OnErr, IfOk};
+ghost use Rattle.std.specs.List.{flat_map};
+ghost use Rattle.blob_base.specs.Refusals.{refused, OffsetOverflow, IsMemory};
+
+use crate::error::Error;
+use std::alloc::Global;
+use std::marker::Model;
+
+/// The bytes of a write in pieces, seen by contracts as one list. The pieces are kept as they came.
+#[derive(Debug, Drop)]
+pub struct IoBufs {
+    pieces: Vec<Vec<u8>>,
+    len: usize,
+}
+
+impl Model for IoBufs {
+    ghost use Rattle.std.specs.Prelude.{◌≡◌, List, ℕ, length};
+    ghost use Rattle.std.specs.List.{flat_map};
+
+    ghost Value = { List ℕ };
+
+    ghost view = { λ b. flat_map (λ p. p.items) b.pieces.items };
+
+    ghost invariant = { λ b. b.len ≡ length (flat_map (λ p. p.items) b.pieces.items) };
+}
+
+impl IoBufs {
+    /// No bytes.
+    pub fn new(alloc: Global) -> IoBufs
+        ensures { result ≡ [] }
+    {
+        IoBufs {
+            pieces: Vec::new(alloc),
+            len: 0,
+        }
+    }
+
+    /// These bytes, as one piece. The only error is `Memory`.
+    pub fn from_vec(bytes: Vec<u8>) -> Result<IoBufs, Error>
+        ensures ok { IfOk result (λ bufs. bufs ≡ bytes.items) }
+        ensures memory { OnErr result (IsMemory result) }
+    {
+        let mut bufs = IoBufs::new(*bytes.allocator());
+        let len = bytes.len();
+        bufs.pieces.push(bytes)?;
+        bufs.len = len;
+        Ok(bufs)
+    }
+
+    /// Adds a piece at the end.
+    ///
+    /// `OffsetOverflow` where the bytes would be more than `usize::MAX`, else the only error is
+    /// `Memory`. After a refusal the bytes are as before, and the piece is dropped.
+    pub fn push(&mut self, piece: Vec<u8>) -> Result<(), Error>
+        ensures ok { OnOk result (self.new ≡ self.old ++ piece.items) }
+        ensures err { OnErr result (self.new ≡ self.old) }
+        ensures overflow { (refused result ≡ Some OffsetOverflow) ↔ (usize.MAX < length self.old + length piece.items) }
+        ensures memory { OnErr result (length self.old + length piece.items ≤ usize.MAX → IsMemory result) }
+    {
+        let Some(total) = self.len.checked_add(piece.len()) else {
+            return Err(Error::OffsetOverflow);
+        };
+        self.pieces.push(piece)?;
+        self.len = total;
+        Ok(())
+    }
+
+    /// How many bytes there are.
+    pub fn remaining(&self) -> usize
+        ensures { result ≡ length self.now }
+    {
+        self.len
+    }
+
+    /// Whether there is no byte; a piece may be there that is empty.
+    pub fn is_empty(&self) -> bool
+        ensures { IsTrue result ↔ (self.now ≡ []) }
+    {
+        self.len == 0
+    }
+
+    /// The pieces, which joined are the bytes.
+    pub fn pieces(&self) -> &[Vec<u8>]
+        ensures { flat_map (λ p. p.items) result.now ≡ self.now }
+    {
+        &self.pieces
+    }
+
+    /// The bytes as one piece. One alone is moved; the only error of others is `Memory`.
+    pub fn coalesce(self) -> Result<Vec<u8>, Error>
+        ensures ok { IfOk result (λ bytes. bytes.items ≡ self) }
+        ensures memory { OnErr result (IsMemory result) }
+    {
+        let mut pieces = self.pieces;
+        if pieces.len() == 1
+            && let Some(piece) = pieces.pop()
+        {
+            return Ok(piece);
+        }
+        let mut bytes = Vec::with_capacity(*pieces.allocator(), self.len)?;
+        for piece in &pieces {
+            bytes.extend_from_slice(piece)?;
+        }
+        Ok(bytes)
+    }
+}

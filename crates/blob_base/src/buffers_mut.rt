@@ -1,0 +1,74 @@
+ghost use Rattle.std.specs.Prelude.{◌≡◌, ◌≤◌, [], length, IsTrue, ◌↔◌, IfOk, OnErr, vec_capacity};
+ghost use Rattle.blob_base.specs.Refusals.{IsMemory};
+
+use crate::error::Error;
+use std::alloc::Global;
+use std::marker::Model;
+
+/// A buffer that a read fills: bytes, and room for more.
+#[derive(Debug, Drop)]
+pub struct IoBufsMut {
+    bytes: Vec<u8>,
+}
+
+impl Model for IoBufsMut {
+    ghost use Rattle.std.specs.Prelude.{vec_capacity};
+    ghost use Rattle.blob_base.specs.Buffers.{Buffer};
+
+    ghost Value = { Buffer };
+
+    ghost view = { λ b. record { bytes = b.bytes.items; capacity = vec_capacity b.bytes } };
+}
+
+impl IoBufsMut {
+    /// No bytes, and room for at least so many. The only error is `Memory`.
+    pub fn with_capacity(alloc: Global, capacity: usize) -> Result<IoBufsMut, Error>
+        ensures empty { IfOk result (λ buf. buf.bytes ≡ []) }
+        ensures room { IfOk result (λ buf. capacity ≤ buf.capacity) }
+        ensures memory { OnErr result (IsMemory result) }
+    {
+        Ok(IoBufsMut {
+            bytes: Vec::with_capacity(alloc, capacity)?,
+        })
+    }
+
+    /// How many bytes there are.
+    pub fn len(&self) -> usize
+        ensures { result ≡ length self.now.bytes }
+    {
+        self.bytes.len()
+    }
+
+    /// Whether there is no byte.
+    pub fn is_empty(&self) -> bool
+        ensures { IsTrue result ↔ (self.now.bytes ≡ []) }
+    {
+        self.bytes.is_empty()
+    }
+
+    /// How many bytes fit without memory.
+    pub fn capacity(&self) -> usize
+        ensures capacity { result ≡ self.now.capacity }
+        ensures within { length self.now.bytes ≤ self.now.capacity }
+    {
+        self.bytes.capacity()
+    }
+
+    /// Replaces the bytes, and takes no memory.
+    pub fn set(&mut self, bytes: &[u8])
+        requires { length bytes.now ≤ self.old.capacity }
+        ensures bytes { self.new.bytes ≡ bytes.now }
+        ensures room { self.old.capacity ≤ self.new.capacity }
+    {
+        self.bytes.clear();
+        self.bytes.extend_from_slice(bytes).unwrap();
+    }
+
+    /// The bytes, with their room.
+    pub fn coalesce(self) -> Vec<u8>
+        ensures bytes { result.items ≡ self.bytes }
+        ensures room { vec_capacity result ≡ self.capacity }
+    {
+        self.bytes
+    }
+}

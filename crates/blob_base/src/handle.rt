@@ -1,0 +1,58 @@
+ghost use Rattle.std.specs.Prelude.{◌≡◌};
+ghost use Rattle.blob_base.specs.Handles.{outcome_of, marker_of};
+
+use crate::error::Error;
+
+/// A sync that was started: its outcome, and the number of a wrapper's marker where it carries one.
+///
+/// It may be dropped unfinished.
+#[derive(Debug, Drop)]
+pub struct Handle {
+    outcome: Result<(), Error>,
+    marker: Option<u64>,
+}
+
+impl Handle {
+    /// A finished handle of this outcome, with no marker.
+    pub fn ready(outcome: Result<(), Error>) -> Handle
+        ensures outcome { outcome_of result ≡ outcome }
+        ensures marker { marker_of result ≡ None }
+    {
+        Handle {
+            outcome,
+            marker: None,
+        }
+    }
+
+    /// A successful handle with a wrapper's marker.
+    pub fn marked(marker: u64) -> Handle
+        ensures outcome { outcome_of result ≡ Ok tt }
+        ensures marker { marker_of result ≡ Some marker }
+    {
+        Handle {
+            outcome: Ok(()),
+            marker: Some(marker),
+        }
+    }
+
+    /// What the sync answers.
+    pub fn outcome(&self) -> &Result<(), Error>
+        ensures { result.now ≡ outcome_of self.now }
+    {
+        &self.outcome
+    }
+
+    /// What the sync answers, the handle spent.
+    pub fn into_outcome(self) -> Result<(), Error>
+        ensures { result ≡ outcome_of self }
+    {
+        self.outcome
+    }
+
+    /// The number of the marker, where there is one.
+    pub fn marker(&self) -> Option<u64>
+        ensures { result ≡ marker_of self.now }
+    {
+        self.marker
+    }
+}

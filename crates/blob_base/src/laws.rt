@@ -1,0 +1,5 @@
+//! Laws of the crash model. Each is carried by a function that does nothing: its contract is the law.
+
+pub mod draws;
+pub mod overlays;
+pub mod pending;

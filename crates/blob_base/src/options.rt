@@ -1,0 +1,77 @@
+ghost use Rattle.std.specs.Prelude.{⊤, ◌≡◌, [], ◌∷◌, ◌&&◌, ◌||◌, not, codes};
+ghost use Rattle.blob_base.specs.Options.{contains, union, without, is_sync};
+
+use bitflags::{Flag, Flags};
+
+/// How a read is done. There is one way so far, the default.
+#[derive(Clone, Copy, Debug, Default, PartialEq, Eq)]
+pub struct ReadOptions {}
+
+/// How a write is done: a set of flags. The default is empty.
+#[derive(Clone, Copy, Debug, PartialEq, Eq)]
+pub struct WriteOptions {
+    bits: u8,
+}
+
+static FLAGS: [Flag<WriteOptions>; 1] = [Flag {
+    name: "SYNC",
+    value: WriteOptions { bits: 1 },
+}];
+
+impl WriteOptions {
+    /// The written bytes are durable when the write is answered.
+    pub const SYNC: WriteOptions = WriteOptions { bits: 1 };
+
+    /// Whether these options have all of the others.
+    pub fn contains(self, other: WriteOptions) -> bool
+        ensures { result ≡ contains self other }
+    {
+        Flags::contains(&self, other)
+    }
+
+    /// The options of both.
+    pub fn union(self, other: WriteOptions) -> WriteOptions
+        ensures bits { result ≡ union self other }
+        ensures sync { is_sync result ≡ (is_sync self || is_sync other) }
+    {
+        Flags::union(self, other)
+    }
+
+    /// These options but for the others.
+    pub fn without(self, other: WriteOptions) -> WriteOptions
+        ensures bits { result ≡ without self other }
+        ensures sync { is_sync result ≡ (is_sync self && not (is_sync other)) }
+    {
+        Flags::difference(self, other)
+    }
+}
+
+impl Default for WriteOptions {
+    ghost is_default = { λ o. o ≡ record { bits = 0 } };
+
+    fn default() -> WriteOptions {
+        WriteOptions { bits: 0 }
+    }
+}
+
+impl Flags for WriteOptions {
+    type Bits = u8;
+
+    ghost exact = { ⊤ };
+
+    ghost table = { (codes "SYNC", 1) ∷ [] };
+
+    ghost set_of = { λ o. o.bits };
+
+    fn flags<'a>() -> &'a [Flag<WriteOptions>] {
+        &FLAGS
+    }
+
+    fn bits(&self) -> u8 {
+        self.bits
+    }
+
+    fn from_bits_retain(bits: u8) -> WriteOptions {
+        WriteOptions { bits }
+    }
+}

@@ -1,0 +1,93 @@
+ghost use Rattle.std.specs.Prelude.{◌≡◌, ◌<◌, ◌≤◌, ◌↔◌, IsTrue, IsSome, IfSome};
+ghost use Rattle.blob_base.specs.Rates.{sampled};
+
+use rand_core::Rng;
+use std::marker::Model;
+
+/// A rate: a fraction of whole numbers that is at most one. Rates are equal exactly where both
+/// numbers are, so 1/2 isn't equal to 2/4.
+#[derive(Clone, Copy, Debug, PartialEq, Eq)]
+pub struct Probability {
+    numerator: u64,
+    denominator: u64,
+}
+
+impl Model for Probability {
+    ghost use Rattle.std.specs.Prelude.{◌<◌, ◌≤◌};
+    ghost use Rattle.blob_base.specs.Rates.{Rate};
+
+    ghost Value = { Rate };
+
+    ghost view = { λ p. record { numerator = p.numerator; denominator = p.denominator } };
+
+    ghost invariant = { λ p. (0 < p.denominator) × (p.numerator ≤ p.denominator) };
+
+    ghost inverse = { λ r. record { numerator = r.numerator; denominator = r.denominator } };
+}
+
+impl Probability {
+    /// Never.
+    pub const ZERO: Probability = Probability {
+        numerator: 0,
+        denominator: 1,
+    };
+
+    /// Always.
+    pub const ONE: Probability = Probability {
+        numerator: 1,
+        denominator: 1,
+    };
+
+    /// The fraction; `None` exactly where the denominator is 0 or the numerator is greater.
+    pub fn new(numerator: u64, denominator: u64) -> Option<Probability>
+        ensures some { IsSome result ↔ ((0 < denominator) × (numerator ≤ denominator)) }
+        ensures value { IfSome result (λ p. p ≡ record { numerator = numerator; denominator = denominator }) }
+    {
+        if denominator == 0 || denominator < numerator {
+            return None;
+        }
+        Some(Probability {
+            numerator,
+            denominator,
+        })
+    }
+
+    /// The number above.
+    pub fn numerator(&self) -> u64
+        ensures value { result ≡ self.now.numerator }
+        ensures proper { self.now.numerator ≤ self.now.denominator }
+    {
+        self.numerator
+    }
+
+    /// The number below.
+    pub fn denominator(&self) -> u64
+        ensures value { result ≡ self.now.denominator }
+        ensures positive { 0 < self.now.denominator }
+    {
+        self.denominator
+    }
+
+    /// Whether it is never true.
+    pub fn is_zero(&self) -> bool
+        ensures { IsTrue result ↔ (self.now.numerator ≡ 0) }
+    {
+        self.numerator == 0
+    }
+
+    /// One draw. A rate of zero is never true and a rate of one always, and neither takes a word;
+    /// another takes one word `w` of 64 bits and is true where `w * denominator < numerator * 2^64`.
+    #[tactic(auto, unfolding(crate::specs::Rates::sampled))]
+    pub fn sample<R: Rng>(&self, rng: &mut R) -> bool
+        ensures { (result, R.stream rng.new) ≡ sampled self.now (R.stream rng.old) }
+    {
+        if self.numerator == 0 {
+            return false;
+        }
+        if self.numerator == self.denominator {
+            return true;
+        }
+        let word = rng.next_u64();
+        u128::from(word) * u128::from(self.denominator) < u128::from(self.numerator) << 64
+    }
+}
