@@ -5,7 +5,9 @@ use Rattle.std.specs.Str.{bytes_eq}
 use Rattle.blob_base.specs.Directory.{File, Directory, with_file}
 use Rattle.blob_memory.specs.declared.item.Item.{Item}
 use Rattle.blob_memory.specs.Partitions.{with_item, without_partition}
-use Rattle.blob_memory.specs.Contents.{file_of, vec_in}
+use Rattle.blob_base.specs.Durable.{with_at}
+use Rattle.blob_base.specs.Places.{Place, same_place}
+use Rattle.blob_memory.specs.Contents.{file_of, items_of, without}
 
 -- directories are equal where their parts are, name by name
 pub same_directory : (d e : Directory) → ((q : List ℕ) → d.has_partition q ≡ e.has_partition q) → ((q m : List ℕ) → d.file q m ≡ e.file q m) → d.next ≡ e.next → d ≡ e
@@ -28,3 +30,17 @@ module _ (first : ℕ) (f g : List ℕ → List ℕ → Option Item) where
     push : (b : Bool) → file_of first (cond b None (f q m)) ≡ cond b None (file_of first (f q m))
     push true = refl
     push false = refl
+
+-- the bytes of the places that are left
+pub durable_after : (f g : Place → Option (Vec ℕ Global)) (gone : Place → Bool) → ((o : Place) → g o ≡ without f gone o) → (o : Place) → items_of (g o) ≡ cond (gone o) None (items_of (f o))
+durable_after f g gone h o = ap items_of (h o) ∙ push (gone o) where
+  push : (b : Bool) → items_of (cond b None (f o)) ≡ cond b None (items_of (f o))
+  push true = refl
+  push false = refl
+
+-- the bytes with those of one place made new
+pub durable_made : (f g : Place → Option (Vec ℕ Global)) (a : Place) (v : Vec ℕ Global) → ((o : Place) → g o ≡ with_at f a (Some v) o) → (o : Place) → items_of (g o) ≡ cond (same_place a o) (Some v.items) (items_of (f o))
+durable_made f g a v h o = ap items_of (h o) ∙ push (same_place a o) where
+  push : (b : Bool) → items_of (cond b (Some v) (f o)) ≡ cond b (Some v.items) (items_of (f o))
+  push true = refl
+  push false = refl

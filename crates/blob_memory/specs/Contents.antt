@@ -1,15 +1,16 @@
 -- What a memory store holds, by names and by places.
-use Rattle.std.specs.Prelude.{ℕ, ◌≤◌, List, ◌++◌, drop, length, Bool, true, false, cond, not, ◌&&◌, ◌==◌, nat_lt, Option, None, Some, option_map, Vec, vec_capacity}
+use Rattle.std.specs.Prelude.{ℕ, ◌≤◌, List, ◌++◌, drop, length, Bool, true, false, cond, not, ◌&&◌, ◌==◌, nat_lt, Option, None, Some, Vec, vec_capacity}
 use Rattle.std.specs.Global.{Global}
 use Rattle.blob_base.specs.Places.{Place, same_place}
 use Rattle.blob_base.specs.Directory as directory
 use Rattle.blob_base.specs.Directory.{File, Directory, data_start, with_file, with_partition}
+use Rattle.blob_base.specs.Durable.{Durable}
+use Rattle.blob_base.specs.Header.{region}
 use Rattle.blob_memory.specs.declared.item.Item.{Item}
 use Rattle.blob_memory.specs.declared.item.Item.TheVariants.{Raw, Held}
 use Rattle.blob_memory.specs.declared.item.Held as held
 use Rattle.blob_memory.specs.declared.contents.Contents.{Contents}
 use Rattle.blob_memory.specs.Partitions.{item_at, is_there}
-use Rattle.blob_memory.specs.Region.{region}
 
 -- an incarnation that ended is a raw file again
 abbrev pub file_when : Bool → held.Held → File
@@ -31,7 +32,7 @@ vec_in first None k start = None
 vec_in first (Some (Raw bytes)) k start = None
 vec_in first (Some (Held h)) k start = cond (not (nat_lt h.number first) && ((h.number == k) && (data_start h.layout == start))) (Some h.bytes) None
 
--- the durable logical bytes of an incarnation, where it is current
+-- the vector of an incarnation's durable logical bytes, where it is current
 abbrev pub vec_at : Contents → Place → Option (Vec ℕ Global)
 vec_at s o = vec_in s.first (item_at s.partitions o.partition o.name) o.number o.start
 
@@ -39,33 +40,17 @@ abbrev pub items_of : Option (Vec ℕ Global) → Option (List ℕ)
 items_of None = None
 items_of (Some v) = Some v.items
 
-abbrev pub bytes_at : Contents → Place → Option (List ℕ)
-bytes_at s o = items_of (vec_at s o)
+abbrev pub durable_of : Contents → Durable
+durable_of s o = items_of (vec_at s o)
 
--- the durable bytes of one incarnation changed, where it is current
-abbrev pub changed : (Place → Option (List ℕ)) → Place → (List ℕ → List ℕ) → Place → Option (List ℕ)
-changed f o g a = cond (same_place o a) (option_map g (f a)) (f a)
-
--- what is kept of the incarnations of some places taken away
-abbrev pub ended : {X : Type 0} → (Place → Option X) → (Place → Bool) → Place → Option X
-ended f gone a = cond (gone a) None (f a)
+-- what there is of some places taken away
+abbrev pub without : {X : Type 0} → (Place → Option X) → (Place → Bool) → Place → Option X
+without f gone o = cond (gone o) None (f o)
 
 -- an incarnation that isn't current, or whose durable bytes can grow so far without memory
 abbrev pub Fits : Option (Vec ℕ Global) → ℕ → Type 0
 Fits None n = Unit {0}
 Fits (Some v) n = n ≤ vec_capacity v
-
--- a raw file that no open accepted and that has so many bytes
-abbrev pub IsRawFrom : ℕ → Option Item → Type 0
-IsRawFrom start None = ⊥
-IsRawFrom start (Some (Raw bytes)) = start ≤ length bytes.items
-IsRawFrom start (Some (Held h)) = ⊥
-
--- the logical bytes of a raw file whose data begins here
-abbrev pub logical_from : ℕ → Option Item → List ℕ → List ℕ
-logical_from start None other = other
-logical_from start (Some (Raw bytes)) other = drop start bytes.items
-logical_from start (Some (Held h)) other = other
 
 -- one name's file made raw
 abbrev pub directory_raw : Directory → List ℕ → List ℕ → List ℕ → Directory

@@ -2,5 +2,3 @@ pub mod Contents
 pub mod Maps
 pub mod Numbers
 pub mod Partitions
-pub mod Region
-pub mod SamePlace

@@ -24,7 +24,7 @@ impl Model for Origin {
 
 impl PartialEq for Origin {
     ghost use Rattle.blob_base.specs.Places.{same_place};
-    ghost use Rattle.blob_memory.specs.SamePlace.{same_place_laws};
+    ghost use Rattle.blob_base.specs.SamePlace.{same_place_laws};
 
     ghost eq = { same_place };
 
@@ -40,7 +40,7 @@ impl PartialEq for Origin {
 }
 
 impl Eq for Origin {
-    ghost use Rattle.blob_memory.specs.SamePlace.{same_place_equiv};
+    ghost use Rattle.blob_base.specs.SamePlace.{same_place_equiv};
 
     ghost laws = { same_place_equiv };
 }
