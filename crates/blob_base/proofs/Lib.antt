@@ -9,6 +9,7 @@ pub mod Laid
 pub mod Linear
 pub mod LowBits
 pub mod Needs
+pub mod Openings
 pub mod Runs
 pub mod Selections
 pub mod Shape

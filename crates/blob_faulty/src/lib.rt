@@ -1,0 +1,8 @@
+//! The fault wrapper: a store that fails by drawn choices, remembers what a crash could still lose, and crashes by them.
+#![tactic(auto)]
+
+pub mod config;
+pub mod mode;
+
+pub use config::{Config, ResizeConfig, WriteConfig, write_config_from_cell};
+pub use mode::PartialWriteMode;
