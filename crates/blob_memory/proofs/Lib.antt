@@ -1,2 +1,3 @@
 pub mod ByBytes
 pub mod Directories
+pub mod Exchanges

@@ -5,6 +5,7 @@ ghost use Rattle.blob_memory.specs.Numbers.{AreBelow};
 use crate::partitions::Partitions;
 use std::alloc::Global;
 
+mod bytes;
 mod names;
 
 /// The files of a store, and the number of its next incarnation.
