@@ -6,13 +6,13 @@ use Rattle.blob_base.specs.declared.layout.Layout.{Layout}
 use Rattle.blob_base.specs.declared.layout.Layout.TheVariants.{V0, V1}
 use Rattle.blob_base.specs.declared.version.BlobVersion.{BlobVersion}
 use Rattle.blob_base.specs.Directory.{data_start}
-use Rattle.blob_base.specs.Header.{IsTorn}
-use Rattle.blob_base.specs.Parse.{Accepted, Failure, VersionMismatch, LayoutMismatch, number_at, page_failure, region_failure, is_accepted, layout_of, parsed_whole, parsed_in, parsed}
+use Rattle.blob_base.specs.Header.{IsTorn, number_at}
+use Rattle.blob_base.specs.Parse.{Accepted, Failure, VersionMismatch, LayoutMismatch, page_failure, region_failure, is_accepted, layout_of, parsed_whole, parsed_in, parsed}
 use Rattle.blob_base.specs.declared.error.Error.{Error}
 use Rattle.blob_base.specs.Refusals.{Refusal, Memory, refusal_of}
 use Rattle.blob_base.specs.Resolve.{Answers, AnswersParsed, IsNoneSide, found_in, is_torn, refusal_for, refusing, resolution}
 use Rattle.blob_base.specs.Versions.{is_in_range}
-use Rattle.blob_base.proofs.NoneSide.{Found, over_blob}
+use Rattle.blob_base.proofs.NoneSide.{Found, not_true, over_blob}
 use Rattle.blob_base.proofs.TornTest.{is_torn-IsTorn}
 
 same_whole : (f : Option Failure) (layout : Layout) (raw blob : List ℕ) (n : ℕ) (a : Accepted) → number_at raw 6 ≡ number_at blob 6
@@ -27,10 +27,6 @@ same_in (Ok V0) raw blob n a e page = same_whole None V0 raw blob n a e
 same_in (Ok V1) raw blob n a e page =
     same_whole (page_failure raw n) V1 raw blob n a e ∙ ap (λ f. parsed_whole f V1 blob n a) page
 
-not_true : (b : Bool) → (b ≡ true → ⊥) → b ≡ false
-not_true true h = absurd (h refl)
-not_true false h = refl
-
 -- past its first 4096 bytes a blob tells a header nothing
 pub parsed-append : (raw rest : List ℕ) (n : ℕ) (a : Accepted) → 4096 ≤ length raw → parsed (raw ++ rest) n a ≡ parsed raw n a
 unfolding page_failure
@@ -41,11 +37,14 @@ parsed-append raw rest n a long =
     number : (i : ℕ) → i + 1 < 4096 → number_at (raw ++ rest) i ≡ number_at raw i
     number i below =
         ap₂ (λ (h l : ℕ). h * 256 + l) (get_or_append_left raw rest 0 i (omega arith)) (get_or_append_left raw rest 0 (i + 1) (omega arith))
+
     long_enough : (xs : List ℕ) → 4096 ≤ length xs → nat_lt (length xs) 12 ≡ false
     long_enough xs h = not_true (nat_lt (length xs) 12) (λ t. omega (arith, ltb-true (length xs) 12 t))
+
     window : (i k : ℕ) → i + k ≤ 4096 → take k (drop i (raw ++ rest)) ≡ take k (drop i raw)
     window i k h =
         ap (take k) (drop-append-le i raw rest (omega arith)) ∙ take-append-le k (drop i raw) rest (omega (arith, length-drop i raw))
+
     page : page_failure (raw ++ rest) n ≡ page_failure raw n
     page =
         rw (long_enough (raw ++ rest) (omega (arith, length-append raw rest)), long_enough raw long, window 8 4 (omega arith), take-append-le 8 raw rest (omega arith), window 12 4084 (omega arith))
@@ -65,7 +64,7 @@ torn_none : (b c : Bool) (p : Result (Option Found) Failure) → c ≡ true → 
 torn_none true c p h = refl
 torn_none false c p h = rw h refl
 
-past_none : (b c : Bool) (p q : Result (Option Found) Failure) → b ≡ false → c ≡ false → q ≡ p → q ≡ cond b (Ok None) (cond c (Ok None) p)
+pub past_none : (b c : Bool) (p q : Result (Option Found) Failure) → b ≡ false → c ≡ false → q ≡ p → q ≡ cond b (Ok None) (cond c (Ok None) p)
 past_none b c p q short torn h = rw (short, torn) h
 
 -- an answer that is not None

@@ -7,7 +7,7 @@ use Rattle.std.specs.Str.{bytes_eq}
 use Rattle.blob_base.specs.declared.layout.Layout.TheVariants.{V1}
 use Rattle.blob_base.specs.Header.{region, IsFront, IsFrontOf, IsTorn}
 use Rattle.blob_base.specs.Resolve.{any_below, padded_front, is_some_front, is_some_region, is_torn}
-use Rattle.blob_base.proofs.NoneSide.{length_region}
+use Rattle.blob_base.proofs.NoneSide.{length_region, not_true}
 
 -- a number below n that passes
 record Passes (n : ℕ) (p : ℕ → Bool) : Type 0 where
@@ -73,12 +73,13 @@ is_front_from versions keeps blob all whole d =
     zeros : d.front.zeros ≡ length blob - d.front.kept
     zeros =
         let long = ap length d.front.is in
-        omega (arith, long, length-append (take d.front.kept (region V1 d.version)) (replicate d.front.zeros 0),
-            length-take-le d.front.kept (region V1 d.version) (omega (arith, d.front.within, length_region V1 d.version)), length-replicate {A = ℕ} d.front.zeros 0)
-
-not_true : (b : Bool) → (b ≡ true → ⊥) → b ≡ false
-not_true true h = absurd (h refl)
-not_true false h = refl
+        omega (
+          arith,
+          long,
+          length-append (take d.front.kept (region V1 d.version)) (replicate d.front.zeros 0),
+          length-take-le d.front.kept (region V1 d.version) (omega (arith, d.front.within, length_region V1 d.version)),
+          length-replicate {A = ℕ} d.front.zeros 0,
+        )
 
 no_region_from : (versions : ℕ) (blob : List ℕ) → versions ≤ 2 ^ 16 → ((v : ℕ) → v < 2 ^ 16 → blob ≢ region V1 v) → is_some_region versions blob ≡ false
 unfolding is_some_region

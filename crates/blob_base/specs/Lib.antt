@@ -2,7 +2,9 @@ pub mod Checksum
 pub mod Directory
 pub mod Endings
 pub mod Header
+pub mod HeaderLaws
 pub mod Parse
+pub mod PartitionName
 pub mod Places
 pub mod Rates
 pub mod Refusals

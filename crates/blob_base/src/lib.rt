@@ -7,7 +7,13 @@ pub mod ending;
 pub mod error;
 pub mod header;
 pub mod header_error;
+pub mod header_laws;
+#[cfg(test)]
+mod header_tests;
+#[cfg(test)]
+mod hostile_tests;
 pub mod layout;
+pub mod partition_name;
 pub mod refusal_line;
 mod region;
 pub mod resolution;
@@ -22,6 +28,7 @@ pub use error::Error;
 pub use header::Header;
 pub use header_error::HeaderError;
 pub use layout::Layout;
+pub use partition_name::validate_partition_name;
 pub use refusal_line::RefusalLine;
 pub use resolution::resolve;
 pub use resolution_line::ResolutionLine;
