@@ -1,3 +1,4 @@
 pub mod Debts
 pub mod History
 pub mod Names
+pub mod Scripted

@@ -4,3 +4,6 @@
 mod copies;
 mod names;
 pub mod pending;
+pub mod scripted_rng;
+
+pub use scripted_rng::ScriptedRng;

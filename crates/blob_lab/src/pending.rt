@@ -8,8 +8,8 @@ ghost use Rattle.blob_lab.specs.Debts.{StandsFor, IsUnchanged, Keeps, Answers, a
 pub(crate) mod entry;
 pub(crate) mod generation;
 
-use crate::names::Names;
 use crate::copies::copied;
+use crate::names::Names;
 use blob_base::Error;
 use entry::{Change, Entry};
 pub use generation::{Generation, GenerationId, Receiver, Sender};
@@ -47,25 +47,49 @@ impl Pending {
         !self.outstanding.contains(&receiver.token)
     }
 
-    pub fn settle(&mut self, key: &(String, Vec<u8>), sender: Sender, dirty: bool, failure: Option<Error>)
+    pub fn settle(
+        &mut self,
+        key: &(String, Vec<u8>),
+        sender: Sender,
+        dirty: bool,
+        failure: Option<Error>,
+    )
         ensures { (h : History) → StandsFor self.old h → StandsFor self.new (To (string_bytes key.now.0) key.now.1.items (Settle sender dirty (option_map refusal_of failure)) ∷ h) }
     {
         let Sender { token } = sender;
         self.outstanding.remove(&token);
-        change(&mut self.names, key, Change::Settle { token, dirty, failure });
+        change(
+            &mut self.names,
+            key,
+            Change::Settle {
+                token,
+                dirty,
+                failure,
+            },
+        );
     }
 
     pub fn clear(&mut self, key: &(String, Vec<u8>), id: GenerationId, outcome: Result<(), Error>)
         ensures { (h : History) → StandsFor self.old h → StandsFor self.new (To (string_bytes key.now.0) key.now.1.items (Clear id (refused outcome)) ∷ h) }
     {
         let generation = id.number;
-        change(&mut self.names, key, Change::Clear { generation, outcome });
+        change(
+            &mut self.names,
+            key,
+            Change::Clear {
+                generation,
+                outcome,
+            },
+        );
     }
 
     pub fn fail(&mut self, generation: &Generation, error: Error)
         ensures { (h : History) → StandsFor self.old h → StandsFor self.new (To generation.now.partition generation.now.name (Fail generation.now.number (refusal_of error)) ∷ h) }
     {
-        let change_ = Change::Clear { generation: generation.number, outcome: Err(error) };
+        let change_ = Change::Clear {
+            generation: generation.number,
+            outcome: Err(error),
+        };
         change(&mut self.names, &generation.key, change_);
     }
 

@@ -8,7 +8,7 @@ use Rattle.blob_lab.proofs.Maps.{found_after, found_none, set_below, emptied_bel
 use Rattle.blob_lab.proofs.names.Names.remove.Goals as goal
 
 pub returns-then-is_empty : goal.returns-then-is_empty
-returns-then-is_empty g c = 
+returns-then-is_empty g c =
     let w = c.get_mut.follows.lender c.remove.new.self in
     λ i q m. emptied_below (found (λ k. k.items)) (found string_bytes c.args.self.now.partitions) (found string_bytes c.remove-then-is_empty.new.self) c.args.partition.now c.args.name.now c.in-Some.names.now c.remove.new.self
     (search rules)
