@@ -1,5 +1,5 @@
 -- What a registry of durability debt keeps, and the histories that it stands for.
-use Rattle.std.specs.Prelude.{◌≡◌, ℕ, List, [], ◌∷◌, Bool, true, false, not, ◌&&◌, is_none, Option, Some, None, Result, Ok, Err, option_map, if◌then◌else◌, ◌⊎◌}
+use Rattle.std.specs.Prelude.{◌≡◌, ℕ, List, [], ◌∷◌, Bool, true, false, not, ◌&&◌, is_none, is_some, ◌||◌, Option, Some, None, Result, Ok, Err, option_map, if◌then◌else◌, ◌⊎◌}
 use Rattle.std.specs.BTreeSet.{contains}
 use Rattle.std.specs.Ordering.{nat_cmp}
 use Rattle.blob_base.specs.declared.error.Error.{Error}
@@ -68,6 +68,11 @@ pub record IsUnchanged (r s : Pending) : Type 0 where
 abbrev pub Answers : {T : Type 0} → Result T Error → Result T Refusal → Type 0
 Answers (Ok x) answer = Ok x ≡ answer
 Answers (Err e) answer = (refusal_of e ≡ Memory) ⊎ (Err (refusal_of e) ≡ answer)
+
+-- what an entry tells its open
+abbrev pub told : List ℕ → List ℕ → Result Entry Error → Result (Opening × Option ℕ × Bool) Error
+told p n (Ok e) = Ok (record { partition = p; name = n; number = e.generation }, e.settling, is_some e.settling || e.is_dirty)
+told p n (Err e) = Err e
 
 -- the history after an open
 abbrev pub after_admit : History → Bool → Result (Opening × Option ℕ × Bool) Error → History
