@@ -57,7 +57,7 @@ impl Opens {
         ensures opened { IfOk result (λ opened. IsOpened (S.directory store.old) (S.durable store.old) (S.directory store.new) (S.durable store.new) partition.now name.now (range_inclusive_start versions).0 (range_inclusive_end versions).0 (S.Blob.place (inner_of opened.0)) (S.Blob.live (inner_of opened.0)) opened.2.0) }
         ensures size { IfOk result (λ opened. opened.1 ≡ length (S.Blob.live (inner_of opened.0))) }
     {
-        if self.is_open(partition, name) {
+        if self.held_by(partition, name).is_some() {
             let refusal = self.already_open(partition, name)?;
             store.open_versioned(partition, name, versions)?;
             return Err(refusal);
@@ -124,8 +124,7 @@ impl Opens {
             inner: _,
             registration,
         } = blob;
-        let held = self.names.get(&registration.partition, &registration.name);
-        if held == Some(&registration.number) {
+        if self.held_by(&registration.partition, &registration.name) == Some(registration.number) {
             self.withdraw(&registration);
         }
     }
@@ -147,10 +146,11 @@ impl Opens {
         Ok(Error::BlobAlreadyOpen(partition, name))
     }
 
-    fn is_open(&self, partition: &str, name: &[u8]) -> bool
-        ensures { result ≡ is_some ((names_of self.now).registered partition.now name.now) }
+    /// The number of the open that a name is held by.
+    fn held_by(&self, partition: &str, name: &[u8]) -> Option<u64>
+        ensures { result ≡ (names_of self.now).registered partition.now name.now }
     {
-        self.names.get(partition, name).is_some()
+        self.names.get(partition, name).copied()
     }
 
     /// Registers a name that isn't open under the next number, which isn't counted yet.
