@@ -9,6 +9,8 @@ ghost use Rattle.blob_lab.specs.OpenNames.{opened, closed, ended, none_open, IsE
 ghost use Rattle.blob_lab.specs.Names.{with_at};
 ghost use Rattle.blob_lab.specs.Opens.{names_of, registration_of, inner_of, IsMade};
 
+pub mod history;
+
 use crate::names::Names;
 use crate::open::{Blob, Registration};
 use blob_base::{BlobVersion, Error, Storage};
