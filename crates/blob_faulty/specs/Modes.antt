@@ -1,5 +1,5 @@
 -- The modes of partial writes as the model has them.
-use Rattle.std.specs.Prelude.{ℕ}
+
 use Rattle.blob_base.specs.Modes as model
 use Rattle.blob_base.specs.Modes.{Mode}
 use Rattle.blob_faulty.specs.declared.mode.PartialWriteMode.{PartialWriteMode}

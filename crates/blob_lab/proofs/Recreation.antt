@@ -115,8 +115,8 @@ all_grow (c ∷ later) h =
     let r = all_grow later h in
     let s = counts_grow c (later ++ h) in
     (le_trans _ _ _ r.0 s.0, le_trans _ _ _ r.1 s.1) where
-  le_trans : (a b c : ℕ) → a ≤ b → b ≤ c → a ≤ c
-  le_trans a b c x y = omega arith
+      le_trans : (a b c : ℕ) → a ≤ b → b ≤ c → a ≤ c
+      le_trans a b c x y = omega arith
 
 numbered_rest : (c : Call) (h : History) → IsNumbered (c ∷ h) → IsNumbered h
 numbered_rest (To p n (Admit e g)) h n' = n'.1

@@ -1,5 +1,8 @@
 -- What a registry of durability debt keeps, and the histories that it stands for.
 use Rattle.std.specs.Prelude.{◌≡◌, ℕ, List, [], ◌∷◌, Bool, true, false, not, ◌&&◌, is_none, is_some, ◌||◌, Option, Some, None, Result, Ok, Err, option_map, if◌then◌else◌, ◌⊎◌}
+use Rattle.std.specs.Prelude.{Vec, String}
+use Rattle.std.specs.Global.{Global}
+use Rattle.std.specs.String.{string_bytes}
 use Rattle.std.specs.BTreeSet.{contains}
 use Rattle.std.specs.Ordering.{nat_cmp}
 use Rattle.blob_base.specs.declared.error.Error.{Error}
@@ -39,6 +42,14 @@ deed_of (change.Release g token) = Release g token
 deed_of (change.Settle token dirty failed) = Settle token dirty (option_map refusal_of failed)
 deed_of (change.Clear g outcome) = Clear g (refused outcome)
 deed_of (change.Close g) = Close g
+
+-- a deed to the name of a key
+abbrev pub to_key : String Global × Vec ℕ Global → Deed → Call
+to_key key deed = To (string_bytes key.0) key.1.items deed
+
+-- a deed to the name of an open
+abbrev pub by_open : Opening → Deed → Call
+by_open o deed = To o.partition o.name deed
 
 -- the kept names are those of the history
 pub record Keeps (names : Names Entry) (h : History) : Type 0 where

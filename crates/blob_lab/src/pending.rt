@@ -1,23 +1,30 @@
 //! The durability debt that closed handles leave behind them.
+//!
+//! A backend whose handles are closed with work outstanding admits each open here. The open learns whether a predecessor
+//! is still at work, whether mutations are left to flush, and whether a failure was retained. A contract speaks of the
+//! history of accepted calls: whatever history the registry stood for, it answers by it and stands for it with the call added.
 ghost use Rattle.std.specs.Prelude.{◌≡◌, List, ℕ, ◌∷◌, [], OnErr, OnOk, IfOk, not, option_map, option_copied, Some, None, if◌then◌else◌, false, ◌⊎◌, ◌<◌, ◌^◌, ◌-◌};
 ghost use Rattle.hex.specs.Hex.{encode_lower};
 ghost use Rattle.std.specs.String.{string_bytes};
 ghost use Rattle.blob_base.specs.Refusals.{refusal_of, refused, Memory, BlobAlreadyOpen};
 ghost use Rattle.blob_lab.specs.History.{History, Deed, To, Admit, Release, Settle, Clear, Fail, Close, Forget, admission, released, owed, found_by, events, is_outstanding, Admitted};
-ghost use Rattle.blob_lab.specs.Debts.{StandsFor, IsUnchanged, Keeps, Answers, after_admit, after_release, deed_of, kept, standing, told};
+ghost use Rattle.blob_lab.specs.Debts.{StandsFor, IsUnchanged, Keeps, Answers, after_admit, after_release, deed_of, kept, standing, told, to_key, by_open};
 
 pub(crate) mod entry;
 pub(crate) mod generation;
 pub mod recreated;
 
-use crate::names::Names;
 use crate::copies::copied;
+use crate::names::Names;
 use blob_base::Error;
 use entry::{Change, Entry};
 pub use generation::{Generation, GenerationId, Receiver, Sender};
 use std::alloc::Global;
 use std::collections::BTreeSet;
 
+/// The latest open of each name, and what the closed ones left.
+///
+/// A name has at most one live open. It is live until its generation is closed.
 #[derive(Drop)]
 pub struct Pending {
     pub(crate) names: Names<Entry>,
@@ -130,7 +137,14 @@ impl Pending {
             return Err(Error::GenerationsExhausted);
         }
         self.outstanding.insert(token)?;
-        change(&mut self.names, key, Change::Release { generation: number, token });
+        change(
+            &mut self.names,
+            key,
+            Change::Release {
+                generation: number,
+                token,
+            },
+        );
         self.next_token = token + 1;
         Ok(Some(Sender { token }))
     }
@@ -154,42 +168,75 @@ impl Pending {
         Ok(entry.is_dirty)
     }
 
-    /// Whether a token was settled, under whichever name.
+    /// Whether a token was settled, under whichever name, also once the name was forgotten. Takes no memory.
     pub fn is_settled(&self, receiver: &Receiver) -> bool
         ensures { (h : History) → StandsFor self.now h → result ≡ not (is_outstanding h receiver.now) }
     {
         !self.outstanding.contains(&receiver.token)
     }
 
-    pub fn settle(&mut self, key: &(String, Vec<u8>), sender: Sender, dirty: bool, failure: Option<Error>)
-        ensures { (h : History) → StandsFor self.old h → StandsFor self.new (To (string_bytes key.now.0) key.now.1.items (Settle sender dirty (option_map refusal_of failure)) ∷ h) }
+    /// Settles a token once all work of its open is done. Takes no memory.
+    ///
+    /// Where the token is the one that the name has settling, debt is added if `dirty`, and a given failure is retained.
+    pub fn settle(
+        &mut self,
+        key: &(String, Vec<u8>),
+        sender: Sender,
+        dirty: bool,
+        failure: Option<Error>,
+    )
+        ensures { (h : History) → StandsFor self.old h → StandsFor self.new (to_key key.now (Settle sender dirty (option_map refusal_of failure)) ∷ h) }
     {
         let Sender { token } = sender;
         self.outstanding.remove(&token);
-        change(&mut self.names, key, Change::Settle { token, dirty, failure });
+        change(
+            &mut self.names,
+            key,
+            Change::Settle {
+                token,
+                dirty,
+                failure,
+            },
+        );
     }
 
+    /// Records the outcome of establishing what `debt` told: success ends the debt, a failure is retained.
+    /// Ignored unless the generation is the name's latest. Success never ends a failure. Takes no memory.
     pub fn clear(&mut self, key: &(String, Vec<u8>), id: GenerationId, outcome: Result<(), Error>)
-        ensures { (h : History) → StandsFor self.old h → StandsFor self.new (To (string_bytes key.now.0) key.now.1.items (Clear id (refused outcome)) ∷ h) }
+        ensures { (h : History) → StandsFor self.old h → StandsFor self.new (to_key key.now (Clear id (refused outcome)) ∷ h) }
     {
         let generation = id.number;
-        change(&mut self.names, key, Change::Clear { generation, outcome });
+        change(
+            &mut self.names,
+            key,
+            Change::Clear {
+                generation,
+                outcome,
+            },
+        );
     }
 
+    /// Retains a failure, unless the generation isn't the name's latest. Takes no memory.
     pub fn fail(&mut self, generation: &Generation, error: Error)
-        ensures { (h : History) → StandsFor self.old h → StandsFor self.new (To generation.now.partition generation.now.name (Fail generation.now.number (refusal_of error)) ∷ h) }
+        ensures { (h : History) → StandsFor self.old h → StandsFor self.new (by_open generation.now (Fail generation.now.number (refusal_of error)) ∷ h) }
     {
-        let change_ = Change::Clear { generation: generation.number, outcome: Err(error) };
-        change(&mut self.names, &generation.key, change_);
+        let failed = Change::Clear {
+            generation: generation.number,
+            outcome: Err(error),
+        };
+        change(&mut self.names, &generation.key, failed);
     }
 
+    /// Closes an open. A later open of the name is told what was left. Takes no memory.
     pub fn close(&mut self, generation: Generation)
-        ensures { (h : History) → StandsFor self.old h → StandsFor self.new (To generation.partition generation.name (Close generation.number) ∷ h) }
+        ensures { (h : History) → StandsFor self.old h → StandsFor self.new (by_open generation (Close generation.number) ∷ h) }
     {
         let Generation { key, number } = generation;
         change(&mut self.names, &key, Change::Close { generation: number });
     }
 
+    /// Forgets a name that is removed, or all names of a partition: nothing is owed any more, no failure is retained,
+    /// and tokens and generations from before no longer count. Takes no memory.
     pub fn forget(&mut self, partition: &str, name: Option<&[u8]>)
         ensures { (h : History) → StandsFor self.old h → StandsFor self.new (Forget partition.now (option_copied name.entry) ∷ h) }
     {
@@ -200,11 +247,12 @@ impl Pending {
     }
 }
 
-/// Makes a change to a name's entry, and drops the entry where that ends it.
+/// Makes a change to a name's entry, and drops the entry where that ends it. Without an entry nothing counts.
 fn change(names: &mut Names<Entry>, key: &(String, Vec<u8>), change: Change)
-    ensures { (h : History) → Keeps names.old h → Keeps names.new (To (string_bytes key.now.0) key.now.1.items (deed_of change) ∷ h) }
+    ensures { (h : History) → Keeps names.old h → Keeps names.new (to_key key.now (deed_of change) ∷ h) }
 {
     let (partition, name) = (key.0.as_str(), key.1.as_slice());
+    // Stands in the map while the name's own entry is changed.
     let mut entry = Entry::opened(0);
     if !names.exchange(partition, name, &mut entry) {
         return;
@@ -215,3 +263,6 @@ fn change(names: &mut Names<Entry>, key: &(String, Vec<u8>), change: Change)
         names.exchange(partition, name, &mut entry);
     }
 }
+
+#[cfg(test)]
+mod tests;

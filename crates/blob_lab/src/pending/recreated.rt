@@ -15,5 +15,4 @@ pub fn old_numbers_leave_recreated_names()
     ensures close { (h earlier : History) (p n : List ℕ) → IsForgottenAfter h earlier p n → (g : ℕ) → g < generations earlier → events (To p n (Close g) ∷ h) ≡ events h }
     ensures release { (h earlier : History) (p n : List ℕ) → IsForgottenAfter h earlier p n → (g : ℕ) → g < generations earlier → released h (record { partition = p; name = n; number = g }) ≡ Ok None }
     ensures debt { (h earlier : History) (p n : List ℕ) → IsForgottenAfter h earlier p n → (g : ℕ) → g < generations earlier → owed (events h p n) g ≡ Ok false }
-{
-}
+{}
