@@ -89,3 +89,17 @@ pub reopened_all : (least greatest : ℕ) (layout : Layout) (v size : ℕ) → r
     ≡ cond (is_in_range least greatest v) (Ok (Some (size, record { 0 = v }, data_start layout))) (Err (VersionMismatch least greatest v))
 reopened_all least greatest V0 v size = refl
 reopened_all least greatest V1 v size = refl
+
+said : (layout : Layout) (v n : ℕ) (raw : List ℕ) (a : Accepted) → number_at raw 6 ≡ v → n ≡ data_start layout → is_accepted a layout ≡ true
+    → is_in_range a.least a.greatest v ≡ true → parsed_whole None layout raw n a ≡ Ok (0, record { 0 = v }, data_start layout)
+said layout v n raw a e len accepts_layout accepts_version =
+    let nothing_left : n - data_start layout ≡ 0 = omega arith in
+    rw (accepts_layout, e, accepts_version, nothing_left) refl
+
+-- a region is read as it was written
+pub parses_back : (layout : Layout) (v : ℕ) (a : Accepted) → v < 2 ^ 16 → is_accepted a layout ≡ true → is_in_range a.least a.greatest v ≡ true
+    → parsed (region layout v) (data_start layout) a ≡ Ok (0, record { 0 = v }, data_start layout)
+unfolding region
+parses_back V0 v a fits accepts_layout accepts_version = said V0 v 8 (region V0 v) a (version_back v fits) refl accepts_layout accepts_version
+parses_back V1 v a fits accepts_layout accepts_version =
+    rw (whole_page v 4096 (omega arith)) (said V1 v 4096 (region V1 v) a (version_back v fits) refl accepts_layout accepts_version)
