@@ -1,13 +1,16 @@
 -- An open answers a version that was asked for.
-use Rattle.std.proofs.Common.{◌≡◌, ℕ, ◌≤◌, Bool, true, false, List, Option, Some, None, refl, sym, ◌∙◌, ap, subst, ◌&&◌, if◌then◌else◌, nat_le, arith}
+use Rattle.std.proofs.Common.{◌≡◌, ℕ, ◌-◌, ◌≤◌, Bool, true, false, List, length, take, Option, Some, None, Result, Ok, Err, refl, sym, ◌∙◌, ap, subst, ◌&&◌, if◌then◌else◌, nat_le, nat_lt, arith}
 use Rattle.std.proofs.lemmas.Bool.Decides.{nat_tests}
 use Rattle.blob_base.specs.declared.layout.Layout.{Layout}
-use Rattle.blob_base.specs.Directory.{Directory, File, Raw, Incarnation}
+use Rattle.blob_base.specs.declared.version.BlobVersion.{BlobVersion}
+use Rattle.blob_base.specs.Directory.{Directory, File, Raw, Incarnation, data_start}
 use Rattle.blob_base.specs.Durable.{Durable}
+use Rattle.blob_base.specs.Parse.{Accepted, Failure, VersionMismatch, LayoutMismatch, parsed, parsed_in, parsed_whole, region_failure, layout_of, number_at, is_accepted}
 use Rattle.blob_base.specs.Places.{Place}
+use Rattle.blob_base.specs.Resolve.{resolution, found_in, is_torn}
 use Rattle.blob_base.specs.Refusals.{Refusal}
 use Rattle.blob_base.specs.Versions.{is_in_range}
-use Rattle.blob_base.specs.Opening.{Opening, Continues, Begins, Declines, opening, opening_raw, resolution, Resolution, Missing, Valid, Invalid, IsOpened, Continued, Begun}
+use Rattle.blob_base.specs.Opening.{Opening, Continues, Begins, Declines, opening, opening_raw, any_layout, IsOpened, Continued, Begun}
 
 abbrev version_in : ℕ → Opening → ℕ
 version_in other (Continues number layout version) = version
@@ -17,9 +20,47 @@ version_in other (Declines refusal) = other
 range_of : (first last version : ℕ) → is_in_range first last version ≡ true → (first ≤ version) × (version ≤ last)
 range_of first last version e = (grind (arith, nat_tests), grind (arith, nat_tests))
 
+-- a header that is accepted has an accepted version
+abbrev Within : Accepted → Result (Option (ℕ × BlobVersion × ℕ)) Failure → Type 0
+Within a (Ok None) = Unit {0}
+Within a (Ok (Some (size, version, offset))) = is_in_range a.least a.greatest version.0 ≡ true
+Within a (Err failure) = Unit {0}
+
+whole_within : (failure : Option Failure) (layout : Layout) (raw : List ℕ) (len : ℕ) (a : Accepted) → Within a (found_in (parsed_whole failure layout raw len a))
+whole_within (Some failure) layout raw len a = tt
+whole_within None layout raw len a = go (is_accepted a layout) (is_in_range a.least a.greatest (number_at raw 6)) refl
+  where
+    go : (b c : Bool) → is_in_range a.least a.greatest (number_at raw 6) ≡ c → Within a (found_in (if b then (if c then Ok (len - data_start layout, record { 0 = number_at raw 6 }, data_start layout) else Err (VersionMismatch a.least a.greatest (number_at raw 6))) else Err (LayoutMismatch a.oldest a.newest layout)))
+    go true true h = h
+    go true false h = tt
+    go false c h = tt
+
+in_within : (layout : Result Layout Failure) (raw : List ℕ) (len : ℕ) (a : Accepted) → Within a (found_in (parsed_in layout raw len a))
+in_within (Ok layout) raw len a = whole_within (region_failure layout raw len) layout raw len a
+in_within (Err failure) raw len a = tt
+
+resolution_within : (blob : List ℕ) (a : Accepted) → Within a (resolution blob a)
+unfolding resolution
+resolution_within blob a = go (nat_lt (length blob) 8) (is_torn blob)
+  where
+    go : (b c : Bool) → Within a (if b then Ok None else if c then Ok None else found_in (parsed blob (length blob) a))
+    go true c = tt
+    go false true = tt
+    go false false = in_within (layout_of (take 4 blob) (number_at blob 4)) blob (length blob) a
+
+raw_within : (p n raw : List ℕ) (first last : ℕ) (r : Result (Option (ℕ × BlobVersion × ℕ)) Failure) (layout : Layout) (version : ℕ) (live : List ℕ) → first ≤ last → Within (any_layout first last) r → opening_raw p n raw last r ≡ Begins layout version live → (first ≤ version) × (version ≤ last)
+raw_within p n raw first last (Ok None) layout version live some w e = subst (λ (v : ℕ). (first ≤ v) × (v ≤ last)) (ap (version_in 0) e) (some, omega arith)
+raw_within p n raw first last (Ok (Some (size, found, offset))) layout version live some w e = subst (λ (v : ℕ). (first ≤ v) × (v ≤ last)) (ap (version_in 0) e) (range_of first last found.0 w)
+raw_within p n raw first last (Err failure) layout version live some w e = cc
+
+raw_begins : (p n raw : List ℕ) (last : ℕ) (r : Result (Option (ℕ × BlobVersion × ℕ)) Failure) (number : ℕ) (layout : Layout) (version : ℕ) → opening_raw p n raw last r ≡ Continues number layout version → ⊥
+raw_begins p n raw last (Ok None) number layout version e = cc
+raw_begins p n raw last (Ok (Some (size, found, offset))) number layout version e = cc
+raw_begins p n raw last (Err failure) number layout version e = cc
+
 continues_within : (p n : List ℕ) (f : Option File) (first last number : ℕ) (layout : Layout) (version : ℕ) → opening p n f first last ≡ Continues number layout version → (first ≤ version) × (version ≤ last)
 continues_within p n None first last number layout version e = cc
-continues_within p n (Some (Raw raw)) first last number layout version e = cc
+continues_within p n (Some (Raw raw)) first last number layout version e = absurd (raw_begins p n raw last (resolution raw (any_layout first last)) number layout version e)
 continues_within p n (Some (Incarnation k l v)) first last number layout version e = go (is_in_range first last v) refl e
   where
     go : (b : Bool) → is_in_range first last v ≡ b → (if b then Continues k l v else Declines (Refusal.BlobVersionMismatch first last v)) ≡ Continues number layout version → (first ≤ version) × (version ≤ last)
@@ -28,7 +69,7 @@ continues_within p n (Some (Incarnation k l v)) first last number layout version
 
 begins_within : (p n : List ℕ) (f : Option File) (first last : ℕ) (layout : Layout) (version : ℕ) (live : List ℕ) → first ≤ last → opening p n f first last ≡ Begins layout version live → (first ≤ version) × (version ≤ last)
 begins_within p n None first last layout version live some e = subst (λ (w : ℕ). (first ≤ w) × (w ≤ last)) (ap (version_in 0) e) (some, omega arith)
-begins_within p n (Some (Raw raw)) first last layout version live some e = subst (λ (w : ℕ). (first ≤ w) × (w ≤ last)) (ap (version_in 0) e) (some, omega arith)
+begins_within p n (Some (Raw raw)) first last layout version live some e = raw_within p n raw first last (resolution raw (any_layout first last)) layout version live some (resolution_within raw (any_layout first last)) e
 begins_within p n (Some (Incarnation k l v)) first last layout version live some e = go (is_in_range first last v) e
   where
     go : (b : Bool) → (if b then Continues k l v else Declines (Refusal.BlobVersionMismatch first last v)) ≡ Begins layout version live → (first ≤ version) × (version ≤ last)

@@ -104,7 +104,7 @@ replay_marked : (q : List Pending) (k : ℕ) (t : Choices) (x : List ℕ) → re
 replay_marked [] k t x = refl
 replay_marked (e ∷ q) k t x = ap (λ m. replay (q ++ Marker k ∷ []) t (cond m x (replayed x e t))) (has_marker_push q k) ∙ replay_marked q k t x
 
-waiting_marked : (q : List Pending) (k : ℕ) → waiting (q ++ Marker k ∷ []) ≡ []
+pub waiting_marked : (q : List Pending) (k : ℕ) → waiting (q ++ Marker k ∷ []) ≡ []
 waiting_marked [] k = refl
 waiting_marked (Waiting m ∷ q) k = ap (λ b. cond b (waiting (q ++ Marker k ∷ [])) (m ∷ waiting (q ++ Marker k ∷ []))) (has_marker_push q k) ∙ waiting_marked q k
 waiting_marked (Cut m ∷ q) k = waiting_marked q k

@@ -1,21 +1,15 @@
 -- What an open makes of a name's file.
-use Rattle.std.specs.Prelude.{◌≡◌, ℕ, ◌+◌, List, [], Option, Some, None, if◌then◌else◌}
+use Rattle.std.specs.Prelude.{◌≡◌, ℕ, ◌+◌, List, [], Option, Some, None, Result, Ok, Err, drop, if◌then◌else◌, ◌==◌}
 use Rattle.blob_base.specs.declared.layout.Layout.{Layout}
 use Rattle.blob_base.specs.declared.layout.Layout.TheVariants.{V0, V1}
+use Rattle.blob_base.specs.declared.version.BlobVersion.{BlobVersion}
 use Rattle.blob_base.specs.Directory.{Directory, File, Raw, Incarnation, data_start, directory_made, directory_without, directory_less, place_made}
 use Rattle.blob_base.specs.Durable.{Durable, with_at}
+use Rattle.blob_base.specs.Parse.{Accepted, Failure}
 use Rattle.blob_base.specs.Places.{Place}
 use Rattle.blob_base.specs.Refusals.{Refusal}
+use Rattle.blob_base.specs.Resolve.{resolution, refusal_for}
 use Rattle.blob_base.specs.Versions.{is_in_range}
-
--- stand-in
-pub data Resolution : Type 0 where
-  Missing : Resolution
-  Valid : Layout → ℕ → List ℕ → Resolution
-  Invalid : Refusal → Resolution
-
-abbrev pub resolution : List ℕ → List ℕ → List ℕ → ℕ → ℕ → Resolution
-resolution p n raw first last = Missing
 
 pub data Opening : Type 0 where
   -- the current incarnation goes on: its number, layout and version
@@ -25,15 +19,24 @@ pub data Opening : Type 0 where
   -- the header isn't accepted
   Declines : Refusal → Opening
 
-abbrev pub opening_raw : ℕ → Resolution → Opening
-opening_raw last Missing = Begins V1 last []
-opening_raw last (Valid layout version bytes) = Begins layout version bytes
-opening_raw last (Invalid refusal) = Declines refusal
+-- the layout whose data begins there
+abbrev pub layout_from : ℕ → Layout
+layout_from offset = if offset == 8 then V0 else V1
+
+-- every layout, and the versions from first to last
+abbrev pub any_layout : ℕ → ℕ → Accepted
+any_layout first last = record { oldest = V0; newest = V1; least = first; greatest = last }
+
+-- a raw file, by what it resolves to
+abbrev pub opening_raw : List ℕ → List ℕ → List ℕ → ℕ → Result (Option (ℕ × BlobVersion × ℕ)) Failure → Opening
+opening_raw p n raw last (Ok None) = Begins V1 last []
+opening_raw p n raw last (Ok (Some (size, version, offset))) = Begins (layout_from offset) version.0 (drop offset raw)
+opening_raw p n raw last (Err failure) = Declines (refusal_for p n failure)
 
 -- what an open for the versions from first to last finds; a file that is missing, or torn at its creation, begins anew
 abbrev pub opening : List ℕ → List ℕ → Option File → ℕ → ℕ → Opening
 opening p n None first last = Begins V1 last []
-opening p n (Some (Raw raw)) first last = opening_raw last (resolution p n raw first last)
+opening p n (Some (Raw raw)) first last = opening_raw p n raw last (resolution raw (any_layout first last))
 opening p n (Some (Incarnation number layout version)) first last =
     if is_in_range first last version then Continues number layout version
     else Declines (Refusal.BlobVersionMismatch first last version)

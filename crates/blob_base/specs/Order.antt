@@ -4,15 +4,18 @@ use Rattle.blob_base.specs.Places.{Place, same_place}
 use Rattle.blob_base.specs.Log.{Need}
 use Rattle.blob_base.specs.Pending.{Pending, waiting}
 
--- at its place by number
-abbrev pub placed : Need → List Need → List Need
-placed n [] = n ∷ []
-placed n (m ∷ ms) = if nat_lt m.write.number n.write.number then m ∷ placed n ms else n ∷ m ∷ ms
+-- x at its place by key
+abbrev pub placed : {X : Type 0} → (X → ℕ) → X → List X → List X
+placed key x [] = x ∷ []
+placed key x (y ∷ ys) = if nat_lt (key y) (key x) then y ∷ placed key x ys else x ∷ y ∷ ys
 
 -- one after another
-abbrev pub all_placed : List Need → List Need → List Need
-all_placed done [] = done
-all_placed done (n ∷ ns) = all_placed (placed n done) ns
+abbrev pub all_placed : {X : Type 0} → (X → ℕ) → List X → List X → List X
+all_placed key done [] = done
+all_placed key done (x ∷ xs) = all_placed key (placed key x done) xs
+
+abbrev pub number_of : Need → ℕ
+number_of n = n.write.number
 
 -- an incarnation and what is pending of it
 abbrev pub Held : Type 0

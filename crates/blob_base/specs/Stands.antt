@@ -1,10 +1,11 @@
 -- What it is for durable bytes and pending lists to stand for a base and its log, and for those of a whole store to stand for its files.
-use Rattle.std.specs.Prelude.{◌≡◌, ℕ, ◌≤◌, List, [], cond, Option, Some, None, option_map}
-use Rattle.blob_base.specs.Places.{Place, same_place}
+use Rattle.std.specs.Prelude.{◌≡◌, ℕ, ◌≤◌, List, [], Option, Some, None}
+use Rattle.blob_base.specs.Places.{Place}
 use Rattle.blob_base.specs.Directory.{Directory}
 use Rattle.blob_base.specs.Log.{Entry, Choices, durable, crashed, needs}
 use Rattle.blob_base.specs.Pending.{Pending, replay, waiting}
 use Rattle.blob_base.specs.Files.{Files, Rising, log_of}
+use Rattle.blob_base.specs.Durable.{Durable, with_at}
 
 -- of one incarnation
 pub record StandsForFile (bytes : List ℕ) (pending : List Pending) (base : List ℕ) (log : List Entry) : Type 0 where
@@ -18,7 +19,7 @@ StandsAt None pending base log = waiting pending ≡ needs log
 StandsAt (Some bytes) pending base log = StandsForFile bytes pending base log
 
 -- of a store: its directory, the durable bytes of each current incarnation, the pending list of each, ended ones too, and the next numbers
-pub record StandsFor (names : Directory) (bytes : Place → Option (List ℕ)) (lists : Place → List Pending) (write marker : ℕ) (files : Files) : Type 0 where
+pub record StandsFor (names : Directory) (bytes : Durable) (lists : Place → List Pending) (write marker : ℕ) (files : Files) : Type 0 where
   pub directory : names ≡ files.directory
   pub at : (o : Place) → StandsAt (bytes o) (lists o) (files.base o) (log_of files.log o)
   pub next_write : write ≡ files.next_write
@@ -27,9 +28,10 @@ pub record StandsFor (names : Directory) (bytes : Place → Option (List ℕ)) (
   -- nothing is of an incarnation that is still to come
   pub fresh : (o : Place) → files.directory.next ≤ o.number → (lists o ≡ []) × (log_of files.log o ≡ [])
 
--- the durable bytes of one incarnation changed, where it is current
-abbrev pub changed : (Place → Option (List ℕ)) → Place → (List ℕ → List ℕ) → Place → Option (List ℕ)
-changed f o g a = cond (same_place o a) (option_map g (f a)) (f a)
+-- the pending lists, where that of an incarnation is retired, if there is one
+abbrev pub retired : (Place → List Pending) → Option Place → Place → List Pending
+retired lists None a = lists a
+retired lists (Some o) a = with_at lists o [] a
 
 -- what a crash leaves of durable bytes
 abbrev pub replayed_at : Choices → List Pending → Option (List ℕ) → Option (List ℕ)

@@ -1,5 +1,5 @@
 ghost use Rattle.std.specs.Prelude.{⊤, ◌≡◌, [], ◌∷◌, ◌&&◌, ◌||◌, not, codes};
-ghost use Rattle.blob_base.specs.Options.{contains, union, without, is_sync};
+ghost use Rattle.blob_base.specs.Options.{bits_of, plain, contains, union, without, is_sync};
 
 use bitflags::{Flag, Flags};
 
@@ -47,7 +47,7 @@ impl WriteOptions {
 }
 
 impl Default for WriteOptions {
-    ghost is_default = { λ o. o ≡ record { bits = 0 } };
+    ghost is_default = { λ o. o ≡ plain };
 
     fn default() -> WriteOptions {
         WriteOptions { bits: 0 }
@@ -61,7 +61,7 @@ impl Flags for WriteOptions {
 
     ghost table = { (codes "SYNC", 1) ∷ [] };
 
-    ghost set_of = { λ o. o.bits };
+    ghost set_of = { bits_of };
 
     fn flags<'a>() -> &'a [Flag<WriteOptions>] {
         &FLAGS
@@ -73,5 +73,21 @@ impl Flags for WriteOptions {
 
     fn from_bits_retain(bits: u8) -> WriteOptions {
         WriteOptions { bits }
+    }
+}
+
+#[cfg(test)]
+mod tests {
+    use super::*;
+
+    #[test]
+    fn options_are_sets(rt: HostRuntime) {
+        let none = WriteOptions::default();
+        let sync = none.union(WriteOptions::SYNC);
+        assert_eq!(rt; sync, WriteOptions::SYNC);
+        assert!(rt; sync.contains(WriteOptions::SYNC));
+        assert!(rt; !none.contains(WriteOptions::SYNC));
+        assert_eq!(rt; sync.without(WriteOptions::SYNC), none);
+        assert_eq!(rt; ReadOptions::default(), ReadOptions {});
     }
 }

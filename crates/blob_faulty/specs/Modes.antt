@@ -1,5 +1,5 @@
 -- The modes of partial writes as the model has them.
-use Rattle.std.specs.Prelude.{ℕ}
+
 use Rattle.blob_base.specs.Modes as model
 use Rattle.blob_base.specs.Modes.{Mode}
 use Rattle.blob_faulty.specs.declared.mode.PartialWriteMode.{PartialWriteMode}
@@ -8,4 +8,4 @@ use Rattle.blob_faulty.specs.declared.mode.PartialWriteMode.TheVariants.{Prefix,
 abbrev pub mode_of : PartialWriteMode → Mode
 mode_of Prefix = model.Prefix
 mode_of Subset = model.Subset
-mode_of (Sectors size) = model.Sectors size.size
+mode_of (Sectors size) = model.Sectors size

@@ -1,0 +1,25 @@
+use Rattle.std.proofs.Common.{◌≡◌, ◌<◌, ◌∙◌, ◌+◌, ℕ, length, get_or, sym, ap, subst, arith}
+use Rattle.std.proofs.lemmas.List.{get_or_default}
+use Rattle.blob_faulty.specs.Views.{view, pared_by, HasRoom}
+use Rattle.blob_faulty.specs.declared.entry.Entry.{Entry}
+use Rattle.blob_faulty.proofs.CutSteps.{written, below_set, later_set}
+use Rattle.blob_faulty.proofs.entries.cover_each.Goals as goal
+
+pub cover-requires-clause-room : goal.cover-requires-clause-room
+cover-requires-clause-room c =
+    let i = c.loop-entry.entry-index in
+    subst (λ (e : Entry). HasRoom 1 e) (sym (c.loop-entry.invariant.later i c.entry-item.result (omega arith))) (c.requires.room i c.entry-item.result (omega arith))
+
+pub loop-entry-preserved : goal.loop-entry-preserved
+loop-entry-preserved c =
+    let i = c.loop-entry.entry-index in
+    let h : i < length c.loop-entry.entries = omega arith in
+    let here : (d : Entry) → get_or c.args.entries.now i d ≡ get_or c.loop-entry.entries i c.entry-item.result = λ d. sym (c.loop-entry.invariant.later i d (omega arith)) ∙ get_or_default c.loop-entry.entries i d c.entry-item.result h in
+    record {
+      so_far = written (pared_by c.args.start c.args.len) c.loop-entry.entries i c.entry-item.result _ h c.cover.ensures.view ∙ c.loop-entry.invariant.so_far;
+      room = below_set (λ k d e. (n : ℕ) → HasRoom (n + 1) (get_or c.args.entries.now k d) → HasRoom n e) c.loop-entry.entries i _ h c.loop-entry.invariant.room (λ d n r. c.cover.ensures.room n (subst (λ (e : Entry). HasRoom (n + 1) e) (here d) r));
+      later = later_set c.loop-entry.entries c.args.entries.now i _ c.loop-entry.invariant.later;
+    }
+
+pub returns-clause-room : goal.returns-clause-room
+returns-clause-room c n all k d h = c.loop-entry.invariant.room k d (omega arith) n (all k d (omega arith))

@@ -1,0 +1,70 @@
+-- What a wrapper's calls may answer, from what their draws come to and what the inner store's calls may answer.
+use Rattle.std.specs.Prelude.{◌≡◌, ◌≢◌, ◌⊎◌, ℕ, ◌+◌, ◌-◌, ◌^◌, Bool, true, false, ◌&&◌, List, [], ◌∷◌, length, Option, Some, None, is_some, IsSome, MatchBool, ◌==◌}
+use Rattle.rand_core.specs.Stream.{Stream}
+use Rattle.blob_base.specs.Refusals.{Refusal, Memory, Injected, OffsetOverflow, WriteFailed, GenerationsExhausted}
+use Rattle.blob_base.specs.Runs.{Run, runs}
+use Rattle.blob_faulty.specs.declared.config.Config.{Config}
+use Rattle.blob_faulty.specs.Faults.{WriteFate, Done, Unsynced, Failed, ResizeFate, Resizes, Stays, Reaches, write_fate, retention, is_nothing, is_uncounted}
+
+-- which answers a call may have: a refusal, or none for Ok
+abbrev pub Allowed : Type 1
+Allowed = Option Refusal → Type 0
+
+-- injected where the draw is true, else what the inner store allows
+abbrev pub injected_or : Bool → Allowed → Allowed
+injected_or true inner answer = answer ≡ Some Injected
+injected_or false inner answer = inner answer
+
+-- injected in place of Ok; a refusal of the inner store stays
+abbrev pub injected_for : Allowed → Allowed
+injected_for inner answer = ((answer ≡ Some Injected) × inner None) ⊎ (IsSome answer × inner answer)
+
+-- the call takes memory of its own
+abbrev pub or_memory : Allowed → Allowed
+or_memory inner answer = (answer ≡ Some Memory) ⊎ inner answer
+
+-- no number is left for a write that is recorded
+abbrev pub lacks_number : Bool → ℕ → List ℕ → Bool
+lacks_number retained next [] = false
+lacks_number retained next (b ∷ bytes) = retained && (next == 2 ^ 64 - 1)
+
+abbrev pub numbered : Bool → Allowed → Allowed
+numbered true inner answer = answer ≡ Some GenerationsExhausted
+numbered false inner answer = inner answer
+
+-- the end of the last run
+abbrev pub last_end : Run → List Run → ℕ
+last_end r [] = r.0 + length r.1
+last_end r (s ∷ rs) = last_end s rs
+
+-- a failed write lays each run as a SYNC write of the inner blob. Room is asked for up to the last run's end; where the
+-- inner store refuses the first run, that is the answer, where a later one, it is WriteFailed
+abbrev pub allows_runs : (ℕ → List ℕ → Bool → Allowed) → (ℕ → Allowed) → Bool → List Run → Allowed
+allows_runs writes reserves direct [] answer = answer ≡ Some Injected
+allows_runs writes reserves direct (r ∷ rs) answer =
+    injected_for (writes r.0 r.1 true) answer ⊎ ((IsSome answer × reserves (last_end r rs) answer) ⊎ ((answer ≡ Some WriteFailed) × (direct ≡ false) × (rs ≢ [])))
+
+abbrev pub allows_done : (ℕ → List ℕ → Bool → Allowed) → Bool → ℕ → Bool → ℕ → List ℕ → Allowed
+allows_done writes retained next true offset bytes answer = writes offset bytes true answer
+allows_done writes retained next false offset bytes answer = numbered (lacks_number retained next bytes) (writes offset bytes false) answer
+
+abbrev pub allows_fate : WriteFate → (ℕ → List ℕ → Bool → Allowed) → (ℕ → Allowed) → Bool → Bool → ℕ → Bool → ℕ → List ℕ → Allowed
+allows_fate Done writes reserves direct retained next sync offset bytes answer = allows_done writes retained next sync offset bytes answer
+allows_fate Unsynced writes reserves direct retained next sync offset bytes answer = numbered (lacks_number retained next bytes) (injected_for (writes offset bytes false)) answer
+allows_fate (Failed kept) writes reserves direct retained next sync offset bytes answer = allows_runs writes reserves direct (runs offset bytes kept) answer
+
+-- `writes` and `reserves` are what the inner blob allows, `direct` whether it injects nothing
+abbrev pub allows_write : (ℕ → List ℕ → Bool → Allowed) → (ℕ → Allowed) → Bool → Config → ℕ → Stream → ℕ → List ℕ → Bool → Allowed
+allows_write writes reserves direct config next stream offset bytes sync answer =
+    MatchBool (is_nothing sync bytes) (answer ≡ None) (MatchBool (is_uncounted offset bytes) (answer ≡ Some OffsetOverflow)
+    (or_memory (allows_fate (write_fate config sync offset (length bytes) stream).0 writes reserves direct (is_some (retention config.write_rate)) next sync offset bytes) answer))
+
+abbrev pub allows_resize : (ℕ → Allowed) → ResizeFate → ℕ → Allowed
+allows_resize resizes (Resizes survives) len answer = or_memory (resizes len) answer
+allows_resize resizes Stays len answer = answer ≡ Some Injected
+allows_resize resizes (Reaches size) len answer = or_memory (injected_for (resizes size)) answer
+
+-- a started sync takes a number for its marker
+abbrev pub allows_start : Bool → ℕ → Allowed → Allowed
+allows_start true next inner answer = answer ≡ Some Injected
+allows_start false next inner answer = numbered (next == 2 ^ 64 - 1) (or_memory inner) answer

@@ -1,0 +1,122 @@
+//! What is pending of one incarnation, in issue order.
+ghost use Rattle.std.specs.Prelude.{◌≡◌, ◌<◌, ◌≤◌, ◌+◌, ◌^◌, ℕ, List, ◌++◌, ◌∷◌, [], All, OnOk, map, drop, length, vec_len, vec_capacity};
+ghost use Rattle.blob_base.specs.Pending.{cut_by, laid, has_barrier, finished};
+ghost use Rattle.blob_faulty.specs.Views.{view, views, pared_by, HasRooms, HasRoom};
+
+use crate::entry::{DurableRange, Entry};
+use blob_base::IoBufs;
+use std::alloc::AllocError;
+
+/// Room for so many more holes in each write.
+fn reserve_holes(entries: &mut [Entry], count: usize) -> Result<(), AllocError>
+    ensures views { views entries.new ≡ views entries.old }
+    ensures ok { OnOk result (All (HasRoom count) entries.new) }
+{
+    for entry in entries.iter_mut() {
+        entry.reserve(count)?;
+    }
+    Ok(())
+}
+
+/// Room for so many more durable ranges. A refusal leaves the list as it was.
+pub fn reserve_ranges(entries: &mut Vec<Entry>, count: usize) -> Result<(), AllocError>
+    ensures views { views entries.new.items ≡ views entries.old.items }
+    ensures ok { OnOk result (HasRooms count entries.new) }
+{
+    entries.reserve(count)?;
+    reserve_holes(entries.as_mut_slice(), count)
+}
+
+/// Each write gives up what a durable range covers.
+fn cover_each(entries: &mut [Entry], start: u64, len: u64)
+    requires fits { start + len < 2 ^ 64 }
+    requires room { All (HasRoom 1) entries.old }
+    ensures views { views entries.new ≡ map (pared_by start len) (views entries.old) }
+    ensures room { (n : ℕ) → All (HasRoom (n + 1)) entries.old → All (HasRoom n) entries.new }
+{
+    for entry in entries.iter_mut() {
+        entry.cover(start, len);
+    }
+}
+
+/// The same of a list that can grow.
+fn cover_writes(entries: &mut Vec<Entry>, start: u64, len: u64)
+    requires fits { start + len < 2 ^ 64 }
+    requires room { All (HasRoom 1) entries.old.items }
+    ensures views { views entries.new.items ≡ map (pared_by start len) (views entries.old.items) }
+    ensures room { (n : ℕ) → All (HasRoom (n + 1)) entries.old.items → All (HasRoom n) entries.new.items }
+    ensures capacity { vec_capacity entries.new ≡ vec_capacity entries.old }
+    ensures len { vec_len entries.new ≡ vec_len entries.old }
+{
+    cover_each(entries.as_mut_slice(), start, len);
+}
+
+/// The same, and one that is covered wholly goes.
+fn cover_all(entries: &mut Vec<Entry>, start: u64, len: u64)
+    requires fits { start + len < 2 ^ 64 }
+    requires room { HasRooms 1 entries.old }
+    ensures views { views entries.new.items ≡ cut_by start len (views entries.old.items) }
+    ensures room { (n : ℕ) → HasRooms (n + 1) entries.old → HasRooms n entries.new }
+    ensures capacity { vec_capacity entries.old ≤ vec_capacity entries.new }
+    ensures len { vec_len entries.new ≤ vec_len entries.old }
+{
+    cover_writes(entries, start, len);
+    entries.retain(|entry| entry.is_left());
+}
+
+/// Whether a resize or a queued range is pending.
+fn has_barrier(entries: &[Entry]) -> bool
+    ensures { result ≡ has_barrier (views entries.now) }
+{
+    for entry in entries {
+        if entry.is_barrier() {
+            return true;
+        }
+    }
+    false
+}
+
+/// One more entry, where there is room for it.
+pub fn push(entries: &mut Vec<Entry>, entry: Entry)
+    requires { vec_len entries.old < vec_capacity entries.old }
+    ensures views { views entries.new.items ≡ views entries.old.items ++ view entry ∷ [] }
+    ensures holes { (n : ℕ) → All (HasRoom n) entries.old.items → HasRoom n entry → All (HasRoom n) entries.new.items }
+    ensures len { vec_len entries.new ≡ vec_len entries.old + 1 }
+    ensures capacity { vec_capacity entries.old ≤ vec_capacity entries.new }
+{
+    entries.push(entry).unwrap();
+}
+
+/// A durable range: the writes give up what it covers, and it is queued where a crash would undo it.
+pub fn lay(entries: &mut Vec<Entry>, offset: u64, bytes: IoBufs)
+    requires fits { offset + length bytes < 2 ^ 64 }
+    requires room { HasRooms 1 entries.old }
+    ensures views { views entries.new.items ≡ laid offset bytes (views entries.old.items) }
+    ensures room { (n : ℕ) → HasRooms (n + 1) entries.old → HasRooms n entries.new }
+{
+    let queued = has_barrier(entries.as_slice());
+    cover_all(entries, offset, bytes.remaining() as u64);
+    if queued {
+        push(entries, Entry::Range(DurableRange { offset, bytes }));
+    }
+}
+
+/// The first entries go.
+fn drop_front(entries: &mut Vec<Entry>, count: usize)
+    requires { count ≤ vec_len entries.old }
+    ensures { entries.new.items ≡ drop count entries.old.items }
+{
+    entries.drain(..count);
+}
+
+/// A started sync is finished: its marker and what stands before it go, where it is there.
+pub fn finish(entries: &mut Vec<Entry>, marker: u64)
+    ensures { views entries.new.items ≡ finished marker (views entries.old.items) }
+{
+    for i in 0..entries.len() {
+        if entries[i].is_mark(marker) {
+            drop_front(entries, i + 1);
+            return;
+        }
+    }
+}

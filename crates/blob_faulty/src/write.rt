@@ -1,0 +1,74 @@
+//! A write that a crash may lose in part.
+ghost use Rattle.std.specs.Prelude.{◌<◌, ◌+◌, ◌^◌, length};
+ghost use Rattle.blob_base.specs.Holes.{AreApart};
+ghost use Rattle.blob_faulty.specs.Ranges.{ranges, AreApart-prop};
+
+use crate::holes::{Hole, dig};
+use crate::mode::PartialWriteMode;
+use blob_base::{IoBufs, Probability};
+use std::alloc::AllocError;
+
+/// A whole write that a crash may lose in part, and the ranges of it that later durable ranges cover.
+#[derive(Drop)]
+pub struct PendingWrite {
+    /// Its place among all recorded writes.
+    pub number: u64,
+    pub offset: u64,
+    pub bytes: IoBufs,
+    /// The mode and the retention rate of its issue.
+    pub mode: PartialWriteMode,
+    pub rate: Probability,
+    /// In rising order, apart from each other, and within the write.
+    pub holes: Vec<Hole>,
+    ghost some: { 0 < length bytes },
+    ghost fits: { offset + length bytes < 2 ^ 64 },
+    ghost apart: { AreApart offset (ranges holes.items) (offset + length bytes) } by { AreApart-prop offset (ranges holes.items) (offset + length bytes) },
+}
+
+impl PendingWrite {
+    ghost use Rattle.std.specs.Prelude.{◌≡◌, ◌≤◌, ℕ, not, OnOk};
+    ghost use Rattle.blob_base.specs.Log.{has_bare};
+    ghost use Rattle.blob_base.specs.Holes.{dug_by, need_in};
+    ghost use Rattle.blob_faulty.specs.Views.{write_of, HasHoles};
+
+    /// The position after its last byte.
+    pub fn end(&self) -> u64
+        ensures { result ≡ self.now.offset + length self.now.bytes }
+    {
+        self.offset + self.bytes.remaining() as u64
+    }
+
+    /// The overlap with a durable range joins the holes.
+    pub fn cover(&mut self, start: u64, len: u64)
+        requires fits { start + len < 2 ^ 64 }
+        requires room { HasHoles 1 self.old }
+        ensures holes { ranges self.new.holes.items ≡ dug_by start len (write_of self.old) (ranges self.old.holes.items) }
+        ensures write { write_of self.new ≡ write_of self.old }
+        ensures room { (n : ℕ) → HasHoles (n + 1) self.old → HasHoles n self.new }
+    {
+        let first = start.max(self.offset);
+        let end = (start + len).min(self.end());
+        if first < end {
+            dig(&mut self.holes, first, end);
+        }
+    }
+
+    /// Room for so many more holes. A refusal leaves the write as it was.
+    pub fn reserve(&mut self, holes: usize) -> Result<(), AllocError>
+        ensures write { write_of self.new ≡ write_of self.old }
+        ensures holes { ranges self.new.holes.items ≡ ranges self.old.holes.items }
+        ensures ok { OnOk result (HasHoles holes self.new) }
+    {
+        self.holes.reserve(holes)
+    }
+
+    /// Whether no byte is left that a crash could lose or keep.
+    pub fn is_covered(&self) -> bool
+        ensures { result ≡ not (has_bare (need_in (write_of self.now) (ranges self.now.holes.items))) }
+    {
+        match self.holes.as_slice() {
+            [hole] => hole.start == self.offset && hole.end == self.end(),
+            _ => false,
+        }
+    }
+}
