@@ -3,7 +3,6 @@ ghost use Rattle.std.specs.Prelude.{◌≡◌, ◌≤◌, ◌<◌, ◌-◌, ◌^
 ghost use Rattle.blob_base.specs.Directory.{data_start, directory_made, place_made};
 ghost use Rattle.blob_base.specs.Durable.{with_at};
 ghost use Rattle.blob_base.specs.Files.{directory_again};
-ghost use Rattle.blob_base.specs.Header.{region};
 ghost use Rattle.blob_memory.specs.Contents.{directory_of, durable_of, item_of, IsUnder, logical_from, logical_of, IsFrom};
 
 use super::Contents;
@@ -50,7 +49,7 @@ impl Contents {
 
     /// Ends all incarnations: each is a raw file now, its header and its durable bytes. Takes no memory.
     pub fn end_all(&mut self)
-        ensures directory { directory_of self.new ≡ directory_again region (λ o. unwrap_or (durable_of self.old o) []) (directory_of self.old) }
+        ensures directory { directory_of self.new ≡ directory_again (λ o. unwrap_or (durable_of self.old o) []) (directory_of self.old) }
         ensures durable { durable_of self.new ≡ (λ _. None) }
     {
         self.first = self.next;
