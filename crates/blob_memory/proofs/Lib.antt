@@ -1,3 +1,9 @@
 pub mod ByBytes
+pub mod Copies
 pub mod Directories
 pub mod Exchanges
+pub mod Fed
+pub mod ListingOf
+pub mod Listings
+pub mod Overlays
+pub mod Pieces

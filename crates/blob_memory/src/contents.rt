@@ -5,7 +5,9 @@ ghost use Rattle.blob_memory.specs.Numbers.{AreBelow};
 use crate::partitions::Partitions;
 use std::alloc::Global;
 
+mod adopt;
 mod bytes;
+mod copies;
 mod names;
 
 /// The files of a store, and the number of its next incarnation.

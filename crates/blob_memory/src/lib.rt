@@ -1,9 +1,11 @@
 //! The memory store of the crash-fault storage layer: partitions, incarnations and their durable bytes.
 #![tactic(auto)]
 
+mod audit;
 pub mod contents;
 pub mod item;
 pub mod origin;
+pub mod overlay;
 pub mod partitions;
 
 pub use origin::Origin;
