@@ -119,7 +119,12 @@ impl Contents {
 
     /// Makes a run durable in a current incarnation. The only error is want of memory, where its durable bytes have no room;
     /// it leaves them as they were.
-    pub fn write_durable(&mut self, origin: &Origin, offset: usize, run: &IoBufs) -> Result<(), AllocError>
+    pub fn write_durable(
+        &mut self,
+        origin: &Origin,
+        offset: usize,
+        run: &IoBufs,
+    ) -> Result<(), AllocError>
         requires current { IsSome (vec_at self.old origin.now) }
         requires fits { offset + length run.now < 2 ^ 64 }
         ensures ok { OnOk result (durable_of self.new ≡ changed (durable_of self.old) origin.now (λ x. overlay x offset run.now)) }

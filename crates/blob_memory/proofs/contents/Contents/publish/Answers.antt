@@ -1,4 +1,3 @@
-use Rattle.std.proofs.Common.{◌∙◌, sym}
 use Rattle.blob_memory.specs.Contents.{vec_at}
 use Rattle.blob_memory.proofs.Exchanges.{changed_by}
 use Rattle.blob_memory.proofs.contents.Contents.publish.Goals as goal
