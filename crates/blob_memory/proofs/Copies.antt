@@ -1,16 +1,14 @@
 -- The raw and the logical bytes of a name's file.
-use Rattle.std.proofs.Common.{◌≡◌, ℕ, ◌+◌, ◌<◌, ◌≤◌, ◌^◌, ◌∙◌, ◌⊎◌, ⊎_elim, Bool, true, false, cond, List, [], ◌++◌, length, take, drop, get_or, Option, Some, None, Result, Ok, Err, refl, sym, ap, arith, length-append, nat_lt, subst}
-use Rattle.std.specs.Prelude.{option_map, unwrap_or, IsErr}
-use Rattle.std.proofs.lemmas.Bool.{cases_lt, lt-ltb, le-leb, and_from, false≢true}
-use Rattle.std.proofs.lemmas.List.{get_or_past}
+use Rattle.std.proofs.Common.{◌≡◌, ℕ, ◌<◌, ◌≤◌, ◌^◌, ◌∙◌, ⊎_elim, true, cond, List, ◌++◌, length, drop, get_or, Option, Some, None, Result, Ok, Err, refl, sym, ap, arith, length-append}
+use Rattle.std.specs.Prelude.{option_map}
+use Rattle.std.proofs.lemmas.Bool.{lt-ltb, le-leb, and_from, false≢true}
 use Rattle.std.proofs.Math.Seq.{drop-append_seam}
 use Rattle.blob_base.specs.declared.error.Error.{Error}
 use Rattle.blob_base.specs.declared.version.BlobVersion.{BlobVersion}
 use Rattle.blob_base.specs.declared.layout.Layout.{Layout}
 use Rattle.blob_base.specs.Directory.{data_start}
-use Rattle.blob_base.specs.Files.{raw_again}
 use Rattle.blob_base.specs.Header.{region}
-use Rattle.blob_base.specs.HeaderLaws.{HasHeader, reopened}
+use Rattle.blob_base.specs.HeaderLaws.{HasHeader}
 use Rattle.blob_base.specs.Parse.{Accepted, Failure, VersionMismatch, every_layout}
 use Rattle.blob_base.specs.Versions.{is_in_range}
 use Rattle.blob_base.specs.Resolve.{resolution, refusing, Answers}
@@ -21,9 +19,8 @@ use Rattle.blob_base.proofs.Reopening.{reopens, reopened_all}
 use Rattle.blob_memory.specs.declared.contents.Contents.{Contents}
 use Rattle.blob_memory.specs.declared.item.Item.{Item}
 use Rattle.blob_memory.specs.declared.item.Item.TheVariants.{Raw, Held}
-use Rattle.blob_memory.specs.declared.item.Held as held
 use Rattle.blob_memory.specs.Contents.{directory_of, durable_of, file_of, file_when}
-use Rattle.blob_memory.specs.Listing.{raw_bytes, raw_only, raw_blob_of, behind, logical_found, logical_blob_of}
+use Rattle.blob_memory.specs.Listing.{raw_bytes, raw_only, raw_blob_of, behind, logical_found}
 use Rattle.blob_memory.specs.Numbers.{number_of}
 use Rattle.blob_memory.specs.Partitions.{item_at}
 use Rattle.blob_memory.proofs.Directories.{file_again}

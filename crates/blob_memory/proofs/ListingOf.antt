@@ -1,11 +1,11 @@
 -- The listing of a store has each blob once, in order.
 use Rattle.std.proofs.Common.{◌≡◌, ℕ, List, [], ◌∷◌, ◌++◌, Bool, true, false, cond, Option, Some, None, ◌⊎◌, inl, inr, ⊎_elim, refl, sym, ap, ◌∙◌, subst, arith, Vec, Global}
 use Rattle.std.specs.Prelude.{map, option_map}
-use Rattle.std.specs.BTreeMap.{BTreeMap, keys, is_at, IsOrdered}
+use Rattle.std.specs.BTreeMap.{BTreeMap, keys, is_at}
 use Rattle.std.specs.List.{AllByRecursion, Contains, IsDistinct}
 use Rattle.std.specs.List.Sorted.{IsStrictlySortedBy}
 use Rattle.std.specs.Map.{lookup, keys_of}
-use Rattle.std.specs.Ordering.{nat_cmp, ordering_then, eq_by_cmp}
+use Rattle.std.specs.Ordering.{nat_cmp, ordering_then}
 use Rattle.std.specs.String.{string_bytes}
 use Rattle.std.specs.declared.string.String.{String}
 use Rattle.std.specs.declared.cmp.Ordering.{Ordering}
@@ -40,7 +40,6 @@ first_or_later x xs y h = ⊎_elim (λ l. ⊎_elim (λ e. absurd (empty y e)) (�
 -- the raw bytes by name
 abbrev raws : List (Vec ℕ Global × Item) → List (List ℕ × List ℕ)
 raws es = map (λ e. (e.0.items, raw_bytes e.1)) es
-
 
 in_contains : (p : List ℕ) (es : List (Vec ℕ Global × Item)) (b : Listed) → Contains (listing_in p es) b → (p ≡ b.partition) × Contains (raws es) (b.name, b.bytes)
 in_contains p [] b h = absurd (empty b h)

@@ -21,10 +21,7 @@ pub struct Partitions {
 }
 
 /// The names of a partition, in order.
-fn copied_names(
-    alloc: Global,
-    names: &BTreeMap<Vec<u8>, Item>,
-) -> Result<Vec<Vec<u8>>, AllocError>
+fn copied_names(alloc: Global, names: &BTreeMap<Vec<u8>, Item>) -> Result<Vec<Vec<u8>>, AllocError>
     ensures { IfOk result (λ all. AreNames (map (λ n. n.items) all.items) (λ n. is_some (found (λ k. k.items) names.now n))) }
 {
     let mut all = Vec::with_capacity(alloc, names.len())?;

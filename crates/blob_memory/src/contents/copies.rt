@@ -34,12 +34,7 @@ fn only_memory(error: Error) -> Result<Option<usize>, Error>
 }
 
 /// Where the data of a raw file begins, where it has a header.
-fn data_in(
-    alloc: Global,
-    raw: &[u8],
-    partition: &str,
-    name: &[u8],
-) -> Result<Option<usize>, Error>
+fn data_in(alloc: Global, raw: &[u8], partition: &str, name: &[u8]) -> Result<Option<usize>, Error>
     ensures ok { IfOk result (λ offset. option_map (λ n. drop n raw.now) offset ≡ logical_found raw.now) }
     ensures within { IfOk result (λ offset. ForSome offset (λ n. n ≤ length raw.now)) }
     ensures memory { OnErr result (IsMemory result) }
