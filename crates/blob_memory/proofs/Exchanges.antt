@@ -1,16 +1,18 @@
 -- What is left where the bytes of a current incarnation are exchanged.
-use Rattle.std.proofs.Common.{◌≡◌, ℕ, List, Bool, true, false, cond, ◌&&◌, ◌==◌, nat_eq, nat_lt, not, Option, Some, None, IsSome, refl, sym, ap, ◌∙◌, Vec, Global, subst, ⊎_elim, arith}
+use Rattle.std.proofs.Common.{◌≡◌, ◌≤◌, ℕ, List, Bool, true, false, cond, ◌&&◌, ◌==◌, nat_eq, nat_lt, not, Option, Some, None, IsSome, refl, sym, ap, ◌∙◌, Vec, Global, subst, ⊎_elim, arith}
 use Rattle.std.proofs.lemmas.Bool.{cases_Bool, false≢true, and_parts}
 use Rattle.std.proofs.lemmas.Bool.Decides.{nat_tests}
 use Rattle.std.specs.Cmp.Lexicographic.{bytes_decides}
 use Rattle.std.specs.Str.{bytes_eq}
 use Rattle.blob_base.specs.Directory.{data_start}
-use Rattle.blob_base.specs.Durable.{with_at}
+use Rattle.blob_base.specs.Durable.{Durable, with_at, changed}
+use Rattle.blob_base.specs.SamePlace.{same_place_exact}
+use Rattle.std.specs.Prelude.{option_map, vec_capacity}
 use Rattle.blob_base.specs.Places.{Place, same_place}
 use Rattle.blob_memory.specs.declared.item.Item.{Item}
 use Rattle.blob_memory.specs.declared.item.Item.TheVariants.{Raw, Held}
 use Rattle.blob_memory.specs.declared.item.Held as held
-use Rattle.blob_memory.specs.Contents.{file_of, vec_in, items_of}
+use Rattle.blob_memory.specs.Contents.{file_of, vec_in, items_of, Fits}
 use Rattle.blob_memory.specs.Numbers.{number_of}
 use Rattle.blob_memory.specs.Partitions.{with_item, with_bytes, held_bytes}
 
@@ -101,3 +103,34 @@ vecs_after f g v first o after h a =
         ∙ ap (λ x. cond (nat_eq o.number a.number && nat_eq o.start a.start) (Some v) (vec_in first x a.number a.start)) (sym c.is ∙ e refl refl)
     push true false e = refl
     push false d e = refl
+
+-- Two exchanges at one place: the bytes are taken out, changed, and put back.
+module _ (f h : Place → Option (Vec ℕ Global)) (o : Place) (v w : Vec ℕ Global) (here : f o ≡ Some v) (after : (a : Place) → h a ≡ with_at f o (Some w) a) where
+  at_same : (a : Place) → same_place o a ≡ true → f a ≡ Some v
+  at_same a y = ap f (sym (same_place_exact o a y)) ∙ here
+
+  pub changed_by : (k : List ℕ → List ℕ) → w.items ≡ k v.items → ◌≡◌ {A = Durable} (λ (a : Place). items_of (h a)) (changed (λ (a : Place). items_of (f a)) o k)
+  changed_by k e = λ i a. (ap items_of (after a) ∙ push a (same_place o a) (at_same a)) i where
+    push : (a : Place) (b : Bool) → (b ≡ true → f a ≡ Some v) → items_of (cond b (Some w) (f a)) ≡ cond b (option_map k (items_of (f a))) (items_of (f a))
+    push a true is = ap (λ x. Some x) e ∙ sym (ap (λ r. option_map k (items_of r)) (is refl))
+    push a false is = refl
+
+  pub unchanged_by : w.items ≡ v.items → ◌≡◌ {A = Durable} (λ (a : Place). items_of (h a)) (λ (a : Place). items_of (f a))
+  unchanged_by e = λ i a. (ap items_of (after a) ∙ push a (same_place o a) (at_same a)) i where
+    push : (a : Place) (b : Bool) → (b ≡ true → f a ≡ Some v) → items_of (cond b (Some w) (f a)) ≡ items_of (f a)
+    push a true is = ap (λ x. Some x) e ∙ sym (ap items_of (is refl))
+    push a false is = refl
+
+  pub room_by : vec_capacity v ≤ vec_capacity w → (a : Place) (n : ℕ) → Fits (f a) n → Fits (h a) n
+  room_by le a n fits = subst (λ r. Fits r n) (sym (after a)) (push (same_place o a) (at_same a)) where
+    push : (b : Bool) → (b ≡ true → f a ≡ Some v) → Fits (cond b (Some w) (f a)) n
+    push true is = let k : n ≤ vec_capacity v = subst (λ r. Fits r n) (is refl) fits in omega arith
+    push false is = fits
+
+-- what is put in and then something else
+pub put_twice : (f g h : Place → Option (Vec ℕ Global)) (o : Place) (u w : Vec ℕ Global) → ((a : Place) → g a ≡ with_at f o (Some u) a) → ((a : Place) → h a ≡ with_at g o (Some w) a)
+    → (a : Place) → h a ≡ with_at f o (Some w) a
+put_twice f g h o u w first second a = second a ∙ ap (λ r. cond (same_place o a) (Some w) r) (first a) ∙ again (same_place o a) where
+  again : (b : Bool) → cond b (Some w) (cond b (Some u) (f a)) ≡ cond b (Some w) (f a)
+  again true = refl
+  again false = refl

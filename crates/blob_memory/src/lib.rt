@@ -4,6 +4,7 @@
 pub mod contents;
 pub mod item;
 pub mod origin;
+pub mod overlay;
 pub mod partitions;
 
 pub use origin::Origin;

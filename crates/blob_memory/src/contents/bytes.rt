@@ -11,6 +11,9 @@ ghost use Rattle.blob_memory.specs.Contents.{directory_of, durable_of, vec_at, F
 use super::Contents;
 use crate::item::Item;
 use crate::origin::Origin;
+use crate::overlay;
+use blob_base::IoBufs;
+use std::alloc::AllocError;
 
 impl Contents {
     /// The durable logical bytes of an incarnation, where it is current.
@@ -48,5 +51,99 @@ impl Contents {
     {
         self.partitions
             .exchange_bytes(origin.partition(), origin.name(), bytes);
+    }
+
+    /// Lays the chosen bytes of a run over the durable ones of an incarnation that is current. The only error is want of
+    /// memory, where they have no room; it leaves them as they were.
+    pub fn retain_write(
+        &mut self,
+        origin: &Origin,
+        offset: usize,
+        run: &IoBufs,
+        keep: &[bool],
+    ) -> Result<(), AllocError>
+        requires same { length keep.now ≡ length run.now }
+        requires fits { offset + length run.now < 2 ^ 64 }
+        ensures ok { OnOk result (durable_of self.new ≡ changed (durable_of self.old) origin.now (λ x. overlay_by x offset run.now (picked keep.now))) }
+        ensures err { OnErr result (durable_of self.new ≡ durable_of self.old) }
+        ensures directory { directory_of self.new ≡ directory_of self.old }
+        ensures room { (o : Place) (n : ℕ) → Fits (vec_at self.old o) n → Fits (vec_at self.new o) n }
+        ensures succeeds { Fits (vec_at self.old origin.now) (reach offset (length run.now) (picked keep.now)) → IsOk result }
+    {
+        if self.bytes(origin).is_none() {
+            return Ok(());
+        }
+        let mut bytes = Vec::new(self.alloc);
+        self.exchange(origin, &mut bytes);
+        let done = overlay::write_chosen(&mut bytes, offset, run, keep);
+        self.exchange(origin, &mut bytes);
+        done
+    }
+
+    /// Cuts the durable bytes of an incarnation that is current, or lengthens them by zeros. The only error is want of memory,
+    /// where they have no room; it leaves them as they were.
+    pub fn retain_resize(&mut self, origin: &Origin, len: usize) -> Result<(), AllocError>
+        ensures ok { OnOk result (durable_of self.new ≡ changed (durable_of self.old) origin.now (λ x. resized x len)) }
+        ensures err { OnErr result (durable_of self.new ≡ durable_of self.old) }
+        ensures directory { directory_of self.new ≡ directory_of self.old }
+        ensures room { (o : Place) (n : ℕ) → Fits (vec_at self.old o) n → Fits (vec_at self.new o) n }
+        ensures succeeds { Fits (vec_at self.old origin.now) len → IsOk result }
+    {
+        if self.bytes(origin).is_none() {
+            return Ok(());
+        }
+        let mut bytes = Vec::new(self.alloc);
+        self.exchange(origin, &mut bytes);
+        let done = overlay::resize(&mut bytes, len);
+        self.exchange(origin, &mut bytes);
+        done
+    }
+
+    /// Takes room for so many durable bytes of an incarnation that is current. The only error is want of memory.
+    pub fn reserve_crash(&mut self, origin: &Origin, len: usize) -> Result<(), AllocError>
+        ensures durable { durable_of self.new ≡ durable_of self.old }
+        ensures ok { OnOk result (Fits (vec_at self.new origin.now) len) }
+        ensures directory { directory_of self.new ≡ directory_of self.old }
+        ensures room { (o : Place) (n : ℕ) → Fits (vec_at self.old o) n → Fits (vec_at self.new o) n }
+        ensures succeeds { Fits (vec_at self.old origin.now) len → IsOk result }
+    {
+        if self.bytes(origin).is_none() {
+            return Ok(());
+        }
+        let mut bytes = Vec::new(self.alloc);
+        self.exchange(origin, &mut bytes);
+        let done = overlay::make_room(&mut bytes, len);
+        self.exchange(origin, &mut bytes);
+        done
+    }
+
+    /// Makes a run durable in a current incarnation. The only error is want of memory, where its durable bytes have no room;
+    /// it leaves them as they were.
+    pub fn write_durable(&mut self, origin: &Origin, offset: usize, run: &IoBufs) -> Result<(), AllocError>
+        requires current { IsSome (vec_at self.old origin.now) }
+        requires fits { offset + length run.now < 2 ^ 64 }
+        ensures ok { OnOk result (durable_of self.new ≡ changed (durable_of self.old) origin.now (λ x. overlay x offset run.now)) }
+        ensures err { OnErr result (durable_of self.new ≡ durable_of self.old) }
+        ensures directory { directory_of self.new ≡ directory_of self.old }
+        ensures room { (o : Place) (n : ℕ) → Fits (vec_at self.old o) n → Fits (vec_at self.new o) n }
+        ensures succeeds { Fits (vec_at self.old origin.now) (offset + length run.now) → IsOk result }
+    {
+        let mut bytes = Vec::new(self.alloc);
+        self.exchange(origin, &mut bytes);
+        let done = overlay::write(&mut bytes, offset, run);
+        self.exchange(origin, &mut bytes);
+        done
+    }
+
+    /// Makes bytes the durable ones of a current incarnation. The only error is want of memory, and leaves them as they were.
+    pub fn publish(&mut self, origin: &Origin, live: &[u8]) -> Result<(), AllocError>
+        requires { IsSome (vec_at self.old origin.now) }
+        ensures ok { OnOk result (durable_of self.new ≡ changed (durable_of self.old) origin.now (λ _. live.now)) }
+        ensures err { OnErr result (durable_of self.new ≡ durable_of self.old) }
+        ensures directory { directory_of self.new ≡ directory_of self.old }
+    {
+        let mut bytes = Vec::from_slice(self.alloc, live)?;
+        self.exchange(origin, &mut bytes);
+        Ok(())
     }
 }

@@ -1,0 +1,171 @@
+-- Overlays and resizes as loops and vectors make them.
+use Rattle.std.proofs.Common.{append_assoc, ◌∷◌, [], ◌≡◌, ◌⊎◌, inl, inr, ⊎_elim, ℕ, ◌+◌, ◌-◌, ◌<◌, ◌≤◌, max, Bool, true, false, List, ◌++◌, length, get_or, take, drop, set, replicate, refl, sym, ◌∙◌, ap, arith, ◌≢◌, true≢false, ◌&&◌, ltb, length-append, length-take, length-drop, length-set, get_or-set_same, get_or-set_other}
+use Rattle.std.proofs.lemmas.Bool.{cases_Bool, cases_lt, cases_eq, le-ltb, lt-ltb, and_parts, and_from, and_left, and_right}
+use Rattle.std.proofs.lemmas.List.{get_or_past, get_or_append_left, get_or-append_right, get_or-take, get_or-drop, get_or-replicate, length-replicate}
+use Rattle.blob_base.proofs.Agrees.{alike, overlay_same}
+use Rattle.blob_base.specs.Bytes.{reach, overlay_by, overlay, resized}
+use Rattle.blob_base.proofs.Bytes.{above_chosen, reach_below, length-overlay_by, at_chosen, at_other, length-resized, at_resized, past_resized, same_bytes, none_chosen, picks, reach_all}
+
+-- the choices of the first n bytes
+abbrev pub first : ℕ → (ℕ → Bool) → ℕ → Bool
+first n c i = ltb i n && c i
+
+-- what `resize` of a vector leaves
+pub resized_is : (x : List ℕ) (n : ℕ) → take n x ++ replicate (n - length x) 0 ≡ resized x n
+resized_is x n = same_bytes _ _ len (λ p. ⊎_elim (λ h. ⊎_elim (λ k. kept p h k) (λ k. new p h k) (cases_lt p (length x))) (λ h. past p h) (cases_lt p n))
+  where
+    len : length (take n x ++ replicate (n - length x) 0) ≡ length (resized x n)
+    len = omega (arith, length-append (take n x) (replicate (n - length x) 0), length-take n x, length-replicate {A = ℕ} (n - length x) 0, length-resized x n)
+
+    kept : (p : ℕ) → p < n → p < length x → get_or (take n x ++ replicate (n - length x) 0) p 0 ≡ get_or (resized x n) p 0
+    kept p h k = get_or_append_left (take n x) _ 0 p (omega (arith, length-take n x)) ∙ get_or-take n x p 0 h ∙ sym (at_resized x n p h)
+
+    new : (p : ℕ) → p < n → length x ≤ p → get_or (take n x ++ replicate (n - length x) 0) p 0 ≡ get_or (resized x n) p 0
+    new p h k = get_or-append_right (take n x) _ (length x) p 0 (omega (arith, length-take n x)) k
+        ∙ get_or-replicate (n - length x) (p - length x) 0 0 (omega arith) ∙ sym (get_or_past x p 0 k) ∙ sym (at_resized x n p h)
+
+    past : (p : ℕ) → n ≤ p → get_or (take n x ++ replicate (n - length x) 0) p 0 ≡ get_or (resized x n) p 0
+    past p h = get_or_past _ p 0 (omega (arith, len, length-resized x n)) ∙ sym (past_resized x n p h)
+
+-- the clause of a vector's `resize`
+pub resized_to : (x y : List ℕ) (n len : ℕ) → len ≡ length x → y ≡ take n x ++ replicate (n - len) 0 → y ≡ resized x n
+resized_to x y n len e h = h ∙ ap (λ k. take n x ++ replicate (n - k) 0) e ∙ resized_is x n
+
+-- zeros that aren't wanted
+pub grown_none : (x : List ℕ) (n : ℕ) → n ≤ length x → x ≡ resized x (max (length x) n)
+grown_none x n h = same_bytes _ _ (omega (arith, length-resized x (max (length x) n))) (λ p. ⊎_elim (λ l. sym (at_resized x _ p (omega arith))) (λ l. get_or_past x p 0 l ∙ sym (past_resized x (max (length x) n) p (omega arith))) (cases_lt p (length x)))
+
+-- zeros that an overlay covers or would add change nothing
+pub overlay_padded : (x : List ℕ) (n o : ℕ) (b : List ℕ) (c : ℕ → Bool) → length x ≤ n → n ≤ max (length x) (reach o (length b) c) → overlay_by (resized x n) o b c ≡ overlay_by x o b c
+overlay_padded x n o b c low high = same_bytes _ _
+    (omega (arith, length-overlay_by (resized x n) o b c, length-overlay_by x o b c, length-resized x n))
+    (λ p. ⊎_elim (λ h. at p h) (λ h. outside p h) (picks o (length b) c p))
+  where
+    same : (p : ℕ) → get_or (resized x n) p 0 ≡ get_or x p 0
+    same p = ⊎_elim (λ h. at_resized x n p h) (λ h. past_resized x n p h ∙ sym (get_or_past x p 0 (omega arith))) (cases_lt p n)
+
+    at : (p : ℕ) → (o ≤ p) × (p < o + length b) × (c (p - o) ≡ true) → get_or (overlay_by (resized x n) o b c) p 0 ≡ get_or (overlay_by x o b c) p 0
+    at p h = at_chosen (resized x n) o b c p h.0 h.1 h.2 ∙ sym (at_chosen x o b c p h.0 h.1 h.2)
+
+    outside : (p : ℕ) → (o ≤ p → p < o + length b → c (p - o) ≡ false) → get_or (overlay_by (resized x n) o b c) p 0 ≡ get_or (overlay_by x o b c) p 0
+    outside p h = at_other (resized x n) o b c p h ∙ same p ∙ sym (at_other x o b c p h)
+
+pub lay_padded : (x y z : List ℕ) (o : ℕ) (b : List ℕ) (c : ℕ → Bool) (r : ℕ) → r ≡ reach o (length b) c → y ≡ resized x (max (length x) r) → z ≡ overlay_by y o b c → z ≡ overlay_by x o b c
+lay_padded x y z o b c r is e f = f ∙ ap (λ l. overlay_by l o b c) (e ∙ ap (λ n. resized x (max (length x) n)) is) ∙ overlay_padded x _ o b c (omega arith) (omega arith)
+
+pub overlay_none : (x : List ℕ) (o : ℕ) (c : ℕ → Bool) → overlay_by x o [] c ≡ x
+overlay_none x o c = same_bytes _ _ (omega (arith, length-overlay_by x o [] c)) (λ p. at_other x o [] c p (λ l u. absurd (omega arith)))
+
+pub overlay_empty : (x : List ℕ) (o : ℕ) (b : List ℕ) (c : ℕ → Bool) → length b ≡ 0 → overlay_by x o b c ≡ x
+overlay_empty x o b c e = same_bytes _ _ (omega (arith, length-overlay_by x o b c, ap (λ n. reach o n c) e)) (λ p. at_other x o b c p (λ l u. absurd (omega arith)))
+
+-- a run copied over bytes that are there, with k bytes of it
+pub pasted : (x : List ℕ) (o k : ℕ) (b : List ℕ) → k ≡ length b → o + length b ≤ length x → take o x ++ (b ++ drop k (drop o x)) ≡ overlay x o b
+pasted x o k b is h = same_bytes _ _
+    (omega (arith, is, length-append (take o x) (b ++ drop k (drop o x)), length-append b (drop k (drop o x)), length-take o x, length-drop k (drop o x), length-drop o x, length-overlay_by x o b (λ _. true),
+    reach_below o (length b) (λ _. true) (length x) (λ i l _. omega arith)))
+    (λ p. ⊎_elim (λ l. before p l) (λ l. ⊎_elim (λ m. within p l m) (λ m. behind p m) (cases_lt p (o + length b))) (cases_lt p o))
+  where
+    before : (p : ℕ) → p < o → get_or (take o x ++ (b ++ drop k (drop o x))) p 0 ≡ get_or (overlay x o b) p 0
+    before p l = get_or_append_left (take o x) _ 0 p (omega (arith, length-take o x)) ∙ get_or-take o x p 0 l ∙ sym (at_other x o b (λ _. true) p (λ m _. absurd (omega arith)))
+
+    within : (p : ℕ) → o ≤ p → p < o + length b → get_or (take o x ++ (b ++ drop k (drop o x))) p 0 ≡ get_or (overlay x o b) p 0
+    within p l m = get_or-append_right (take o x) _ o p 0 (omega (arith, length-take o x)) l ∙ get_or_append_left b _ 0 (p - o) (omega arith) ∙ sym (at_chosen x o b (λ _. true) p l m refl)
+
+    behind : (p : ℕ) → o + length b ≤ p → get_or (take o x ++ (b ++ drop k (drop o x))) p 0 ≡ get_or (overlay x o b) p 0
+    behind p m = get_or-append_right (take o x) _ o p 0 (omega (arith, length-take o x)) (omega arith)
+        ∙ get_or-append_right b _ (length b) (p - o) 0 refl (omega arith)
+        ∙ get_or-drop k (drop o x) (p - o - length b) 0 ∙ get_or-drop o x _ 0 ∙ ap (λ q. get_or x q 0) (omega (arith, is))
+        ∙ sym (at_other x o b (λ _. true) p (λ _ u. absurd (omega arith)))
+
+-- two runs laid one behind the other over bytes that are there
+pub overlay_more : (x : List ℕ) (o : ℕ) (a b : List ℕ) (c : ℕ → Bool) → reach o (length (a ++ b)) c ≤ length x
+    → overlay_by (overlay_by x o a c) (o + length a) b (λ i. c (length a + i)) ≡ overlay_by x o (a ++ b) c
+overlay_more x o a b c h = same_bytes _ _
+    (omega (arith, len, length-overlay_by (overlay_by x o a c) (o + length a) b (λ i. c (length a + i)), length-overlay_by x o (a ++ b) c, h, small))
+    (λ p. ⊎_elim (λ h. at p h) (λ out. ⊎_elim (λ h. first_at p out h) (λ out'. neither p out out') (picks o (length a) c p)) (picks (o + length a) (length b) (λ i. c (length a + i)) p))
+  where
+    all : length (a ++ b) ≡ length a + length b
+    all = length-append a b
+
+    len : length (overlay_by x o a c) ≡ length x
+    len = omega (arith, length-overlay_by x o a c, h, reach_below o (length a) c (length x) (λ i l e. omega (arith, h, above_chosen o (length (a ++ b)) c i (omega (arith, all)) e)))
+
+    small : reach (o + length a) (length b) (λ i. c (length a + i)) ≤ length x
+    small = reach_below (o + length a) (length b) (λ i. c (length a + i)) (length x) (λ i l e. omega (arith, h, above_chosen o (length (a ++ b)) c (length a + i) (omega (arith, all)) e))
+
+    at : (p : ℕ) → (o + length a ≤ p) × (p < o + length a + length b) × (c (length a + (p - (o + length a))) ≡ true)
+        → get_or (overlay_by (overlay_by x o a c) (o + length a) b (λ i. c (length a + i))) p 0 ≡ get_or (overlay_by x o (a ++ b) c) p 0
+    at p s =
+        let e : length a + (p - (o + length a)) ≡ p - o = omega (arith, s.0) in
+        at_chosen (overlay_by x o a c) (o + length a) b (λ i. c (length a + i)) p s.0 s.1 s.2
+        ∙ sym (get_or-append_right a b (length a) (p - o) 0 refl (omega (arith, s.0)) ∙ ap (λ q. get_or b q 0) (omega (arith, s.0)))
+        ∙ sym (at_chosen x o (a ++ b) c p (omega (arith, s.0)) (omega (arith, s.1, all)) (sym (ap c e) ∙ s.2))
+
+    first_at : (p : ℕ) → (o + length a ≤ p → p < o + length a + length b → c (length a + (p - (o + length a))) ≡ false) → (o ≤ p) × (p < o + length a) × (c (p - o) ≡ true)
+        → get_or (overlay_by (overlay_by x o a c) (o + length a) b (λ i. c (length a + i))) p 0 ≡ get_or (overlay_by x o (a ++ b) c) p 0
+    first_at p out s = at_other (overlay_by x o a c) (o + length a) b (λ i. c (length a + i)) p out ∙ at_chosen x o a c p s.0 s.1 s.2
+        ∙ sym (get_or_append_left a b 0 (p - o) (omega (arith, s.0, s.1)))
+        ∙ sym (at_chosen x o (a ++ b) c p s.0 (omega (arith, s.1, all)) s.2)
+
+    neither : (p : ℕ) → (o + length a ≤ p → p < o + length a + length b → c (length a + (p - (o + length a))) ≡ false) → (o ≤ p → p < o + length a → c (p - o) ≡ false)
+        → get_or (overlay_by (overlay_by x o a c) (o + length a) b (λ i. c (length a + i))) p 0 ≡ get_or (overlay_by x o (a ++ b) c) p 0
+    neither p out out' = at_other (overlay_by x o a c) (o + length a) b (λ i. c (length a + i)) p out ∙ at_other x o a c p out'
+        ∙ sym (at_other x o (a ++ b) c p (λ l u. ⊎_elim (λ k. out' l k) (λ k. ap c (back p k) ∙ out k (omega (arith, u, all))) (cases_lt p (o + length a))))
+      where
+        back : (p : ℕ) → o + length a ≤ p → p - o ≡ length a + (p - (o + length a))
+        back p k = omega arith
+
+-- one more chosen byte, within the list
+pub overlay_one : (x : List ℕ) (o : ℕ) (b : List ℕ) (c d : ℕ → Bool) (i : ℕ) → i < length b → reach o (length b) c ≤ length x → c i ≡ true → ((j : ℕ) → j ≢ i → d j ≡ c j) → d i ≡ false →
+    overlay_by x o b c ≡ set (overlay_by x o b d) (o + i) (get_or b i 0)
+overlay_one x o b c d i h r e same no_i = same_bytes _ _
+    (omega (arith, length-overlay_by x o b c, length-set (overlay_by x o b d) (o + i) (get_or b i 0), len))
+    (λ p. ⊎_elim (λ is. at p is) (λ ne. other p ne) (cases_eq p (o + i)))
+  where
+    small : reach o (length b) d ≤ length x
+    small = reach_below o (length b) d (length x) (λ j l t. ⊎_elim
+        (λ is. absurd (true≢false (sym t ∙ ap d is ∙ no_i)))
+        (λ ne. let up = above_chosen o (length b) c j l (sym (same j ne) ∙ t) in omega arith) (cases_eq j i))
+
+    len : length (overlay_by x o b d) ≡ length x
+    len = omega (arith, length-overlay_by x o b d, small)
+
+    inside : o + i < length x
+    inside = omega (arith, above_chosen o (length b) c i h e)
+
+    at : (p : ℕ) → p ≡ o + i → get_or (overlay_by x o b c) p 0 ≡ get_or (set (overlay_by x o b d) (o + i) (get_or b i 0)) p 0
+    at p is = ap (λ q. get_or (overlay_by x o b c) q 0) is
+        ∙ at_chosen x o b c (o + i) (omega arith) (omega arith) (ap c (back (o + i) refl) ∙ e)
+        ∙ ap (λ q. get_or b q 0) (back (o + i) refl)
+        ∙ sym (get_or-set_same (overlay_by x o b d) (o + i) (get_or b i 0) 0 (omega (arith, len, inside)))
+        ∙ ap (λ q. get_or (set (overlay_by x o b d) (o + i) (get_or b i 0)) q 0) (sym is)
+      where
+        back : (q : ℕ) → q ≡ o + i → q - o ≡ i
+        back q e = omega arith
+
+    other : (p : ℕ) → (p ≡ o + i → ⊥) → get_or (overlay_by x o b c) p 0 ≡ get_or (set (overlay_by x o b d) (o + i) (get_or b i 0)) p 0
+    other p ne = alike x x o b c d p (λ l u. sym (same (p - o) (λ z. ne (omega arith)))) refl
+        ∙ sym (get_or-set_other (overlay_by x o b d) (o + i) p (get_or b i 0) 0 ne)
+
+-- a loop over the choices: its start, its two steps and its end
+pub lay_none : (x : List ℕ) (o : ℕ) (b : List ℕ) (c : ℕ → Bool) → x ≡ overlay_by x o b (first 0 c)
+lay_none x o b c = sym (none_chosen x o b) ∙ overlay_same x o b _ _ (λ i h. ap (λ t. t && c i) (sym (le-ltb i 0 (omega arith))))
+
+first_one : (i j : ℕ) (c : ℕ → Bool) → j ≢ i → first i c j ≡ first (i + 1) c j
+first_one i j c ne = ap (λ t. t && c j) (⊎_elim (λ lt. lt-ltb j i lt ∙ sym (lt-ltb j (i + 1) (omega arith))) (λ ge. le-ltb j i ge ∙ sym (le-ltb j (i + 1) (omega arith))) (cases_lt j i))
+
+pub lay_more : (x : List ℕ) (o : ℕ) (b : List ℕ) (c : ℕ → Bool) (i : ℕ) → i < length b → reach o (length b) c ≤ length x → c i ≡ true → set (overlay_by x o b (first i c)) (o + i) (get_or b i 0) ≡ overlay_by x o b (first (i + 1) c)
+lay_more x o b c i h r e = sym (overlay_one x o b (first (i + 1) c) (first i c) i h
+    (reach_below o (length b) _ (length x) (λ j l t. let up = above_chosen o (length b) c j l (and_parts (ltb j (i + 1)) (c j) t).1 in omega arith))
+    (and_from (ltb i (i + 1)) (c i) (lt-ltb i (i + 1) (omega arith)) e)
+    (λ j ne. first_one i j c ne)
+    (and_left (ltb i i) (c i) (le-ltb i i (omega arith))))
+
+pub lay_less : (x : List ℕ) (o : ℕ) (b : List ℕ) (c : ℕ → Bool) (i : ℕ) → c i ≡ false → overlay_by x o b (first i c) ≡ overlay_by x o b (first (i + 1) c)
+lay_less x o b c i e = overlay_same x o b _ _ (λ j h. ⊎_elim
+    (λ is. and_right (ltb j i) (c j) (ap c is ∙ e) ∙ sym (and_right (ltb j (i + 1)) (c j) (ap c is ∙ e)))
+    (λ ne. first_one i j c ne) (cases_eq j i))
+
+pub lay_end : (x : List ℕ) (o : ℕ) (b : List ℕ) (c : ℕ → Bool) (i : ℕ) → length b ≤ i → overlay_by x o b (first i c) ≡ overlay_by x o b c
+lay_end x o b c i h = overlay_same x o b (first i c) c (λ j l. ap (λ t. t && c j) (lt-ltb j i (omega arith)))
