@@ -3,3 +3,5 @@ pub mod Contents
 pub mod Maps
 pub mod Numbers
 pub mod Partitions
+pub mod Store
+pub mod StoreLaws
