@@ -1,3 +1,4 @@
+pub mod AnswerLaws
 pub mod Answers
 pub mod Contents
 pub mod Maps
