@@ -1,10 +1,18 @@
 -- What a store's directory and bytes are after a change of its items.
-use Rattle.std.proofs.Common.{◌≡◌, ℕ, ◌≤◌, List, Bool, true, false, cond, ◌&&◌, ◌==◌, nat_eq, nat_lt, not, Option, Some, None, refl, sym, ap, ◌∙◌, Vec, Global, IsSome, subst, ⊎_elim, arith}
-use Rattle.std.proofs.lemmas.Bool.{le-ltb}
+use Rattle.std.proofs.Common.{◌≡◌, ℕ, ◌≤◌, ◌<◌, List, [], ◌++◌, Bool, true, false, cond, ◌&&◌, ◌==◌, nat_eq, nat_lt, not, Option, Some, None, refl, sym, ap, ◌∙◌, Vec, Global, IsSome, subst, ⊎_elim, arith}
+use Rattle.std.proofs.lemmas.Bool.{le-ltb, lt-ltb, eq-eqb}
 use Rattle.std.proofs.lemmas.Option.{none-some}
 use Rattle.std.specs.Cmp.Lexicographic.{bytes_decides}
 use Rattle.std.specs.Str.{bytes_eq}
+use Rattle.blob_base.specs.Directory as directory
+use Rattle.blob_base.specs.Header.{region}
 use Rattle.blob_base.specs.Directory.{File, Directory, with_file}
+use Rattle.blob_base.specs.declared.layout.Layout.{Layout}
+use Rattle.blob_base.specs.declared.version.BlobVersion.{BlobVersion}
+use Rattle.blob_base.specs.Files.{raw_again}
+use Rattle.std.specs.Prelude.{unwrap_or}
+use Rattle.blob_memory.specs.declared.contents.Contents.{Contents}
+use Rattle.blob_memory.specs.Numbers.{number_of}
 use Rattle.blob_memory.specs.declared.item.Item.{Item}
 use Rattle.blob_memory.specs.Partitions.{with_item, without_partition}
 use Rattle.blob_base.specs.Directory.{place_in, data_start}
@@ -12,7 +20,7 @@ use Rattle.blob_base.specs.Durable.{Durable, with_at, durable_without}
 use Rattle.blob_base.specs.Places.{Place, same_place}
 use Rattle.blob_memory.specs.declared.item.Item.TheVariants.{Raw, Held}
 use Rattle.blob_memory.specs.declared.item.Held as held
-use Rattle.blob_memory.specs.Contents.{file_of, file_when, vec_in, items_of}
+use Rattle.blob_memory.specs.Contents.{file_of, file_when, vec_in, items_of, IsUnder}
 
 -- directories are equal where their parts are, name by name
 pub same_directory : (d e : Directory) → ((q : List ℕ) → d.has_partition q ≡ e.has_partition q) → ((q m : List ℕ) → d.file q m ≡ e.file q m) → d.next ≡ e.next → d ≡ e
@@ -88,3 +96,39 @@ module _ (first : ℕ) (f g : List ℕ → List ℕ → Option Item) where
           ∙ ap (λ r. cond (nat_eq h.number o.number && nat_eq (data_start h.layout) o.start) (Some h.bytes.items) (items_of r)) (sym (gone refl refl))
       push o true false gone = refl
       push o false d gone = refl
+
+-- one item made new twice
+pub with_twice : (f g h : List ℕ → List ℕ → Option Item) (p n : List ℕ) (x y : Option Item) → ((q m : List ℕ) → g q m ≡ with_item f p n x q m) → ((q m : List ℕ) → h q m ≡ with_item g p n y q m)
+    → (q m : List ℕ) → h q m ≡ with_item f p n y q m
+with_twice f g h p n x y first second q m = second q m ∙ ap (λ r. cond (bytes_eq p q) (cond (bytes_eq n m) y r) r) (first q m) ∙ again (bytes_eq p q) (bytes_eq n m) where
+  again : (b d : Bool) → cond b (cond d y (cond b (cond d x (f q m)) (f q m))) (cond b (cond d x (f q m)) (f q m)) ≡ cond b (cond d y (f q m)) (f q m)
+  again true true = refl
+  again true false = refl
+  again false d = refl
+
+-- a file under a header is no current incarnation
+pub under_none : (s : Contents) (layout : Layout) (version : BlobVersion) (x : Option Item) (p n : List ℕ) → IsUnder s layout version x → place_in p n (file_of s.first x) ≡ None
+under_none s layout version None p n h = absurd h
+under_none s layout version (Some (Raw bytes)) p n h = refl
+under_none s layout version (Some (Held i)) p n h = rw h.0 refl
+
+-- all incarnations ended
+pub file_again : (first next : ℕ) (f : List ℕ → List ℕ → Option Item) → ((p n : List ℕ) (k : ℕ) → number_of (f p n) ≡ Some k → k < next)
+    → (p n : List ℕ) → file_of next (f p n) ≡ raw_again (λ o. unwrap_or (durable_in first f o) []) p n (file_of first (f p n))
+file_again first next f below p n = at (f p n) (below p n) refl where
+  at : (x : Option Item) → ((k : ℕ) → number_of x ≡ Some k → k < next) → f p n ≡ x → file_of next x ≡ raw_again (λ o. unwrap_or (durable_in first f o) []) p n (file_of first x)
+  at None b e = refl
+  at (Some (Raw bytes)) b e = refl
+  at (Some (Held h)) b e = ap (λ t. Some (file_when t h)) (lt-ltb h.number next (b h.number refl)) ∙ by_end (nat_lt h.number first) refl where
+    by_end : (t : Bool) → nat_lt h.number first ≡ t → Some (file_when true h) ≡ raw_again (λ o. unwrap_or (durable_in first f o) []) p n (Some (file_when t h))
+    by_end true z = refl
+    by_end false z = sym (ap (λ v. Some (directory.Raw (region h.layout h.version.0 ++ unwrap_or (items_of v) []))) is) where
+      is : vec_in first (f p n) h.number (data_start h.layout) ≡ Some h.bytes
+      is = ap (λ x. vec_in first x h.number (data_start h.layout)) e ∙ (λ i. cond (not (z i) && (eq-eqb h.number h.number refl i && eq-eqb (data_start h.layout) (data_start h.layout) refl i)) (Some h.bytes) None)
+
+pub none_again : (next : ℕ) (f : List ℕ → List ℕ → Option Item) → ((p n : List ℕ) (k : ℕ) → number_of (f p n) ≡ Some k → k < next) → ◌≡◌ {A = Durable} (durable_in next f) (λ _. None)
+none_again next f below = λ i o. at o (f o.partition o.name) (below o.partition o.name) i where
+  at : (o : Place) (x : Option Item) → ((k : ℕ) → number_of x ≡ Some k → k < next) → items_of (vec_in next x o.number o.start) ≡ None
+  at o None b = refl
+  at o (Some (Raw bytes)) b = refl
+  at o (Some (Held h)) b = rw (lt-ltb h.number next (b h.number refl)) refl

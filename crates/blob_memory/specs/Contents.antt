@@ -1,7 +1,9 @@
 -- What a memory store holds, by names and by places.
-use Rattle.std.specs.Prelude.{ℕ, ◌≤◌, List, ◌++◌, drop, length, Bool, true, false, cond, not, ◌&&◌, ◌==◌, nat_lt, Option, None, Some, Vec, vec_capacity}
+use Rattle.std.specs.Prelude.{◌≡◌, ℕ, ◌≤◌, List, [], ◌++◌, drop, length, Bool, true, false, cond, not, ◌&&◌, ◌==◌, nat_lt, Option, None, Some, Vec, vec_capacity}
 use Rattle.std.specs.Global.{Global}
-use Rattle.blob_base.specs.Places.{Place, same_place}
+use Rattle.blob_base.specs.declared.layout.Layout.{Layout}
+use Rattle.blob_base.specs.declared.version.BlobVersion.{BlobVersion}
+use Rattle.blob_base.specs.Places.{Place}
 use Rattle.blob_base.specs.Directory as directory
 use Rattle.blob_base.specs.Directory.{File, Directory, data_start, with_file, with_partition}
 use Rattle.blob_base.specs.Durable.{Durable}
@@ -55,3 +57,32 @@ Fits (Some v) n = n ≤ vec_capacity v
 -- one name's file made raw
 abbrev pub directory_raw : Directory → List ℕ → List ℕ → List ℕ → Directory
 directory_raw d p n bytes = record { has_partition = with_partition d.has_partition p true; file = with_file d.file p n (Some (directory.Raw bytes)); next = d.next }
+
+-- what a name has, in the store
+abbrev pub item_of : Contents → List ℕ → List ℕ → Option Item
+item_of s p n = item_at s.partitions p n
+
+-- whether an incarnation of this number ended, where its item is still there
+abbrev pub is_ended : Contents → ℕ → Bool
+is_ended s k = nat_lt k s.first
+
+-- a file that no incarnation is of and that begins with a header of this layout and version: a raw one that is long enough, or
+-- an incarnation that ended
+abbrev pub IsUnder : Contents → Layout → BlobVersion → Option Item → Type 0
+IsUnder s layout version None = ⊥
+IsUnder s layout version (Some (Raw bytes)) = data_start layout ≤ length bytes.items
+IsUnder s layout version (Some (Held h)) = (is_ended s h.number ≡ true) × (h.layout ≡ layout) × (h.version ≡ version)
+
+-- the logical bytes of an item, where those of a raw file begin here
+abbrev pub logical_from : ℕ → Item → List ℕ
+logical_from start (Raw bytes) = drop start bytes.items
+logical_from start (Held h) = h.bytes.items
+
+abbrev pub logical_of : ℕ → Option Item → List ℕ
+logical_of start None = []
+logical_of start (Some item) = logical_from start item
+
+-- a raw file that is so long, or an incarnation
+abbrev pub IsFrom : ℕ → Item → Type 0
+IsFrom start (Raw bytes) = start ≤ length bytes.items
+IsFrom start (Held h) = Unit {0}

@@ -5,6 +5,7 @@ ghost use Rattle.blob_memory.specs.Numbers.{AreBelow};
 use crate::partitions::Partitions;
 use std::alloc::Global;
 
+mod adopt;
 mod bytes;
 mod names;
 

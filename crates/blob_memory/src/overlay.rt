@@ -1,5 +1,5 @@
 // What a write and a resize make of a vector of bytes. Room is taken first; the rest takes no memory.
-ghost use Rattle.std.specs.Prelude.{◌≡◌, ◌≤◌, ◌<◌, ◌+◌, ◌^◌, length, max, true, IsOk, OnOk, OnErr, vec_capacity};
+ghost use Rattle.std.specs.Prelude.{◌≡◌, ◌≤◌, ◌<◌, ◌+◌, ◌^◌, length, max, drop, true, IsOk, OnOk, OnErr, vec_capacity};
 ghost use Rattle.std.specs.List.{flat_map, list_all};
 ghost use Rattle.blob_base.specs.Bytes.{overlay, overlay_by, reach, resized};
 ghost use Rattle.blob_base.specs.Runs.{picked};
@@ -196,4 +196,14 @@ pub fn resize(bytes: &mut Vec<u8>, len: usize) -> Result<(), AllocError>
     make_room(bytes, len)?;
     set_len(bytes, len);
     Ok(())
+}
+
+/// Cuts off the first bytes, and keeps the memory.
+pub fn drop_front(bytes: &mut Vec<u8>, len: usize)
+    requires { len ≤ length bytes.old.items }
+    ensures { bytes.new.items ≡ drop len bytes.old.items }
+{
+    let left = bytes.len() - len;
+    bytes.rotate_left(len);
+    bytes.truncate(left);
 }

@@ -1,6 +1,8 @@
 // A table from partition and name to item.
-ghost use Rattle.std.specs.Prelude.{◌≡◌, List, ℕ, None, Some, true, false, IsSome, IsOk, OnOk, OnErr, option_copied};
+ghost use Rattle.std.specs.Prelude.{◌≡◌, List, ℕ, None, Some, true, false, IsSome, IsOk, OnOk, OnErr, IfOk, is_some, map, option_copied};
 ghost use Rattle.blob_base.specs.Directory.{with_partition};
+ghost use Rattle.blob_base.specs.Names.{AreNames};
+ghost use Rattle.blob_memory.specs.Maps.{found};
 ghost use Rattle.blob_memory.specs.Partitions.{item_at, is_there, with_item, without_partition, held_bytes, with_bytes};
 
 use crate::item::Item;
@@ -12,6 +14,20 @@ use std::collections::BTreeMap;
 pub struct Partitions {
     alloc: Global,
     names: BTreeMap<String, BTreeMap<Vec<u8>, Item>>,
+}
+
+/// The names of a partition, in order.
+fn copied_names(
+    alloc: Global,
+    names: &BTreeMap<Vec<u8>, Item>,
+) -> Result<Vec<Vec<u8>>, AllocError>
+    ensures { IfOk result (λ all. AreNames (map (λ n. n.items) all.items) (λ n. is_some (found (λ k. k.items) names.now n))) }
+{
+    let mut all = Vec::with_capacity(alloc, names.len())?;
+    for name in names.keys() {
+        all.push(Vec::from_slice(alloc, name.as_slice())?)?;
+    }
+    Ok(all)
 }
 
 impl Partitions {
@@ -40,6 +56,16 @@ impl Partitions {
         match self.names.get(partition) {
             None => None,
             Some(names) => names.get(name),
+        }
+    }
+
+    /// The names of a partition, sorted by their bytes; none where it isn't there. The only error is want of memory.
+    pub fn names(&self, partition: &str) -> Result<Vec<Vec<u8>>, AllocError>
+        ensures { IfOk result (λ names. AreNames (map (λ n. n.items) names.items) (λ n. is_some (item_at self.now partition.now n))) }
+    {
+        match self.names.get(partition) {
+            Some(names) => copied_names(self.alloc, names),
+            None => Ok(Vec::new(self.alloc)),
         }
     }
 
