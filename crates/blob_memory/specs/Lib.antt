@@ -1,6 +1,7 @@
 pub mod AnswerLaws
 pub mod Answers
 pub mod Contents
+pub mod Found
 pub mod Maps
 pub mod Numbers
 pub mod Partitions

@@ -8,6 +8,7 @@ use std::alloc::Global;
 mod adopt;
 mod bytes;
 mod names;
+mod opening;
 
 /// The files of a store, and the number of its next incarnation.
 ///

@@ -3,6 +3,7 @@
 
 pub mod blob;
 pub mod contents;
+pub mod found;
 pub mod item;
 pub mod live;
 pub mod origin;
