@@ -2,6 +2,8 @@ pub mod ByBytes
 pub mod Directories
 pub mod Exchanges
 pub mod Exits
+pub mod Fed
+pub mod Listings
 pub mod Openings
 pub mod Overlays
 pub mod Pieces

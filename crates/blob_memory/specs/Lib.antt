@@ -2,6 +2,8 @@ pub mod AnswerLaws
 pub mod Answers
 pub mod Contents
 pub mod Found
+pub mod Laws
+pub mod Listing
 pub mod Maps
 pub mod Numbers
 pub mod Partitions

@@ -2,6 +2,7 @@
 #![tactic(auto)]
 
 pub mod blob;
+mod audit;
 pub mod contents;
 pub mod found;
 pub mod item;

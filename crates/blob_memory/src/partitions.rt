@@ -1,10 +1,14 @@
 // A table from partition and name to item.
 ghost use Rattle.std.specs.Prelude.{◌≡◌, List, ℕ, None, Some, true, false, IsSome, IsOk, OnOk, OnErr, IfOk, is_some, map, option_copied};
 ghost use Rattle.blob_base.specs.Directory.{with_partition};
+ghost use Rattle.blob_base.specs.Audit.{audit};
+ghost use Rattle.blob_base.specs.Checksum.{crc32c};
+ghost use Rattle.blob_memory.specs.Listing.{listing_of};
 ghost use Rattle.blob_base.specs.Names.{AreNames};
 ghost use Rattle.blob_memory.specs.Maps.{found};
 ghost use Rattle.blob_memory.specs.Partitions.{item_at, is_there, with_item, without_partition, held_bytes, with_bytes};
 
+use crate::audit::audit;
 use crate::item::Item;
 use std::alloc::{AllocError, Global};
 use std::collections::BTreeMap;
@@ -67,6 +71,13 @@ impl Partitions {
             Some(names) => copied_names(self.alloc, names),
             None => Ok(Vec::new(self.alloc)),
         }
+    }
+
+    /// The checksum over all blobs.
+    pub fn audit(&self) -> [u8; 4]
+        ensures { result ≡ audit crc32c (listing_of self.now) }
+    {
+        audit(&self.names)
     }
 
     /// Exchanges the item of a name that is there, and takes no memory.

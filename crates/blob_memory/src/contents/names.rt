@@ -1,7 +1,11 @@
 // Contents by partition and name.
-ghost use Rattle.std.specs.Prelude.{◌≡◌, ◌<◌, ◌+◌, ◌-◌, ◌^◌, List, ℕ, None, Some, true, false, IsSome, is_some, is_none, IsTrue, IsOk, OnOk, OnErr, option_copied};
+ghost use Rattle.std.specs.Prelude.{◌≡◌, ◌<◌, ◌+◌, ◌-◌, ◌^◌, List, ℕ, None, Some, true, false, IsSome, is_some, is_none, IsTrue, IsOk, OnOk, OnErr, IfOk, map, option_copied};
 ghost use Rattle.blob_base.specs.Places.{Place};
 ghost use Rattle.blob_base.specs.Directory.{Raw, current, place_made, directory_made, directory_without, directory_less};
+ghost use Rattle.blob_base.specs.Audit.{audit};
+ghost use Rattle.blob_base.specs.Checksum.{crc32c};
+ghost use Rattle.blob_base.specs.Names.{AreNames};
+ghost use Rattle.blob_memory.specs.Listing.{listing_of};
 ghost use Rattle.blob_base.specs.Durable.{with_at, is_under, durable_without};
 ghost use Rattle.blob_memory.specs.Partitions.{item_at, is_there};
 ghost use Rattle.blob_memory.specs.Contents.{directory_raw, directory_of, durable_of, vec_at, without};
@@ -46,6 +50,20 @@ impl Contents {
         ensures { option_copied result ≡ item_at self.now.partitions partition.now name.now }
     {
         self.partitions.get(partition, name)
+    }
+
+    /// The names of a partition, sorted by their bytes; none where it isn't there. The only error is want of memory.
+    pub fn names(&self, partition: &str) -> Result<Vec<Vec<u8>>, AllocError>
+        ensures { IfOk result (λ names. AreNames (map (λ name. name.items) names.items) (λ name. is_some ((directory_of self.now).file partition.now name))) }
+    {
+        self.partitions.names(partition)
+    }
+
+    /// The checksum over all blobs, as four bytes.
+    pub fn audit(&self) -> [u8; 4]
+        ensures { result ≡ audit crc32c (listing_of self.now.partitions) }
+    {
+        self.partitions.audit()
     }
 
     /// Makes a name's file raw. The only error is want of memory, and leaves everything as it was.

@@ -1,0 +1,84 @@
+// The checksum over all blobs, fed piece by piece.
+ghost use Rattle.std.specs.Prelude.{◌≡◌, ◌++◌, List, ℕ, codes};
+ghost use Rattle.blob_base.specs.Audit.{pieces_of, audit};
+ghost use Rattle.blob_base.specs.Checksum.{crc32c};
+ghost use Rattle.blob_base.specs.Header.{region};
+ghost use Rattle.blob_base.specs.Register.{Holds};
+ghost use Rattle.blob_memory.specs.Listing.{raw_bytes, listing_in, listing_all};
+
+use crate::item::Item;
+use blob_base::{BlobVersion, Crc32, Header, Layout};
+use std::collections::BTreeMap;
+
+/// Feeds the region of a header.
+fn feed_header(crc: &mut Crc32, layout: Layout, version: BlobVersion)
+    ensures { (before : List ℕ) → Holds crc.old before → Holds crc.new (before ++ region layout version.0) }
+{
+    let header = Header {
+        magic: layout.magic(),
+        layout_version: layout.layout_version(),
+        blob_version: version,
+    };
+    let prelude = header.encode();
+    crc.update(&prelude);
+    match layout {
+        Layout::V0 => {}
+        Layout::V1 => {
+            crc.update(&Crc32::checksum(&prelude).to_be_bytes());
+            crc.update(&[0; 4084]);
+        }
+    }
+}
+
+/// Feeds the raw bytes of an item.
+fn feed_item(crc: &mut Crc32, item: &Item)
+    ensures { (before : List ℕ) → Holds crc.old before → Holds crc.new (before ++ raw_bytes item.now) }
+{
+    match item {
+        Item::Raw(bytes) => crc.update(bytes),
+        Item::Held(held) => {
+            feed_header(crc, held.layout, held.version);
+            crc.update(&held.bytes);
+        }
+    }
+}
+
+/// Feeds a blob.
+fn feed_blob(crc: &mut Crc32, partition: &str, name: &[u8], item: &Item)
+    ensures { (before : List ℕ) → Holds crc.old before → Holds crc.new (before ++ (codes "partition" ++ partition.now ++ codes "blob" ++ name.now ++ codes "content" ++ raw_bytes item.now)) }
+{
+    crc.update(b"partition");
+    crc.update(partition.as_bytes());
+    crc.update(b"blob");
+    crc.update(name);
+    crc.update(b"content");
+    feed_item(crc, item);
+}
+
+/// Feeds the blobs of a partition.
+fn feed_names(crc: &mut Crc32, partition: &str, names: &BTreeMap<Vec<u8>, Item>)
+    ensures { (before : List ℕ) → Holds crc.old before → Holds crc.new (before ++ pieces_of (listing_in partition.now names.now.entries)) }
+{
+    for (name, item) in names {
+        feed_blob(crc, partition, name, item);
+    }
+}
+
+/// Feeds the blobs of all partitions.
+fn feed_partitions(crc: &mut Crc32, partitions: &BTreeMap<String, BTreeMap<Vec<u8>, Item>>)
+    ensures { (before : List ℕ) → Holds crc.old before → Holds crc.new (before ++ pieces_of (listing_all partitions.now.entries)) }
+{
+    for (partition, names) in partitions {
+        feed_names(crc, partition, names);
+    }
+}
+
+/// The checksum over all blobs.
+pub fn audit(partitions: &BTreeMap<String, BTreeMap<Vec<u8>, Item>>) -> [u8; 4]
+    ensures { result ≡ audit crc32c (listing_all partitions.now.entries) }
+{
+    let mut crc = Crc32::new();
+    crc.update(b"commonware-runtime-storage-audit-v1");
+    feed_partitions(&mut crc, partitions);
+    crc.finalize().to_be_bytes()
+}
