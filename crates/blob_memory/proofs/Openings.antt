@@ -20,8 +20,14 @@ use Rattle.blob_base.specs.Versions.{is_in_range}
 use Rattle.blob_base.proofs.NoneSide.{length_region}
 use Rattle.blob_base.proofs.Reopening.{reopens}
 use Rattle.blob_memory.specs.declared.item.Held.{Held}
-use Rattle.blob_memory.specs.Contents.{file_when}
-use Rattle.blob_memory.specs.Found.{opening_with}
+use Rattle.blob_base.specs.Directory.{directory_made, place_made}
+use Rattle.blob_base.specs.Durable.{with_at}
+use Rattle.blob_base.specs.Opening.{IsOpened, Continued, Begun, place_of}
+use Rattle.blob_base.specs.Places.{Place}
+use Rattle.blob_memory.specs.declared.contents.Contents.{Contents}
+use Rattle.blob_memory.specs.declared.found.Found.{Found}
+use Rattle.blob_memory.specs.Contents.{file_when, directory_of, durable_of}
+use Rattle.blob_memory.specs.Found.{opening_with, opening_of, IsFound, IsFoundBy}
 use Rattle.std.specs.Bool.{then_some}
 use Rattle.std.specs.Prelude.{not}
 
@@ -115,3 +121,25 @@ pub held_accepted : (h : Held) (b : Bool) (first last : ℕ) → is_in_range fir
     → held_opening (is_in_range first last h.version.0) h b first last ≡ opening_with (then_some (not b) h.number) h.layout h.version.0 h.bytes.items
 held_accepted h true first last e = ap (λ t. held_opening t h true first last) e
 held_accepted h false first last e = ap (λ t. held_opening t h false first last) e
+
+module _ (s : Contents) (p n : List ℕ) (first last : ℕ) (f : Found) (opens : opening p n ((directory_of s).file p n) first last ≡ opening_of f) (o : Place) (live : List ℕ) (version : BlobVersion)
+    (lives : live ≡ f.live.items) (versioned : version ≡ f.version) where
+  -- an open by which the current incarnation goes on
+  pub continues : (k : ℕ) → f.number ≡ Some k → IsFound s p n f → o ≡ place_of p n k f.layout
+      → IsOpened (directory_of s) (durable_of s) (directory_of s) (durable_of s) p n first last o live version.0
+  continues k numbered found at =
+      let there : durable_of s (place_of p n k f.layout) ≡ Some f.live.items = subst (λ m. IsFoundBy m f.is_file s p n f.layout f.version f.live.items) numbered found in
+      Continued k f.layout
+      (opens ∙ ap (λ m. opening_with m f.layout f.version.0 f.live.items) numbered ∙ ap (λ (v : BlobVersion). Continues k f.layout v.0) (sym versioned))
+      at (ap (durable_of s) at ∙ there ∙ ap Some (sym lives)) refl refl
+
+  -- an open by which a new one begins
+  pub begins : (t : Contents) → f.number ≡ None → o ≡ place_made (directory_of s) p n f.layout
+      → directory_of t ≡ directory_made (directory_of s) p n f.layout f.version.0
+      → durable_of t ≡ with_at (durable_of s) (place_made (directory_of s) p n f.layout) (Some f.live.items)
+      → IsOpened (directory_of s) (durable_of s) (directory_of t) (durable_of t) p n first last o live version.0
+  begins t numbered at made kept = Begun f.layout
+      (opens ∙ ap (λ m. opening_with m f.layout f.version.0 f.live.items) numbered ∙ ap₂ (λ (v : BlobVersion) (x : List ℕ). Begins f.layout v.0 x) (sym versioned) (sym lives))
+      at
+      (made ∙ ap (λ (v : BlobVersion). directory_made (directory_of s) p n f.layout v.0) (sym versioned))
+      (kept ∙ ap₂ (λ (a : Place) (x : List ℕ). with_at (durable_of s) a (Some x)) (sym at) (sym lives))

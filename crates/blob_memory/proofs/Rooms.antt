@@ -7,9 +7,8 @@ use Rattle.blob_base.specs.Durable.{Durable, changed}
 use Rattle.blob_base.specs.Places.{Place, same_place}
 use Rattle.blob_memory.specs.declared.contents.Contents.{Contents}
 use Rattle.blob_memory.specs.Contents.{directory_of, vec_at, items_of, Fits}
-use Rattle.blob_memory.specs.Partitions.{item_at}
 use Rattle.blob_memory.specs.Store.{room_in}
-use Rattle.blob_memory.specs.StoreLaws.{current_in}
+use Rattle.blob_memory.specs.Laws.{currents}
 
 -- bytes that are changed into themselves
 pub changed_idle : (f : Durable) (o : Place) (g : List ℕ → List ℕ) → ((x : List ℕ) → g x ≡ x) → changed f o g ≡ f
@@ -25,9 +24,7 @@ changed_idle f o g same = λ i a. push (same_place o a) (f a) i
 
 still_current : (s t : Contents) (o : Place) → directory_of t ≡ directory_of s → is_some (items_of (vec_at t o)) ≡ is_some (items_of (vec_at s o))
 still_current s t o same =
-    current_in t.first (item_at t.partitions o.partition o.name) o.number o.start
-    ∙ ap (λ (d : Directory). is_current d o) same
-    ∙ sym (current_in s.first (item_at s.partitions o.partition o.name) o.number o.start)
+    currents t o ∙ ap (λ (d : Directory). is_current d o) same ∙ sym (currents s o)
 
 grows : (m n : ℕ) (a b : Option (Vec ℕ Global)) → m ≤ n → is_some (items_of b) ≡ is_some (items_of a) → ((k : ℕ) → Fits a k → Fits b k) → room_in m a ≤ room_in n b
 grows m n None b more same fits = omega arith
@@ -47,4 +44,4 @@ reached m end (Some v) there live fits = let h : end ≤ vec_capacity v = fits i
 pub room_reached : (s t : Contents) (o : Place) (m end : ℕ) → directory_of t ≡ directory_of s → is_current (directory_of s) o ≡ true → end ≤ m → Fits (vec_at t o) end
     → end ≤ room_in m (vec_at t o)
 room_reached s t o m end same now = reached m end (vec_at t o)
-    (still_current s t o same ∙ current_in s.first (item_at s.partitions o.partition o.name) o.number o.start ∙ now)
+    (still_current s t o same ∙ currents s o ∙ now)

@@ -8,4 +8,3 @@ pub mod Maps
 pub mod Numbers
 pub mod Partitions
 pub mod Store
-pub mod StoreLaws
