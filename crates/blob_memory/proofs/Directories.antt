@@ -1,5 +1,5 @@
 -- What a store's directory and bytes are after a change of its items.
-use Rattle.std.proofs.Common.{◌≡◌, ℕ, ◌≤◌, ◌<◌, List, [], ◌++◌, Bool, true, false, cond, ◌&&◌, ◌==◌, nat_eq, nat_lt, not, Option, Some, None, refl, sym, ap, ◌∙◌, Vec, Global, IsSome, subst, ⊎_elim, arith}
+use Rattle.std.proofs.Common.{◌≡◌, ℕ, ◌≤◌, ◌<◌, List, [], ◌++◌, Bool, true, false, cond, ◌&&◌, ◌==◌, nat_eq, nat_lt, not, Option, Some, None, refl, sym, ap, ◌∙◌}
 use Rattle.std.proofs.lemmas.Bool.{le-ltb, lt-ltb, eq-eqb}
 use Rattle.std.proofs.lemmas.Option.{none-some}
 use Rattle.std.specs.Cmp.Lexicographic.{bytes_decides}
@@ -17,7 +17,7 @@ use Rattle.blob_memory.specs.declared.item.Item.{Item}
 use Rattle.blob_memory.specs.Partitions.{with_item, without_partition}
 use Rattle.blob_base.specs.Directory.{place_in, data_start}
 use Rattle.blob_base.specs.Durable.{Durable, with_at, durable_without}
-use Rattle.blob_base.specs.Places.{Place, same_place}
+use Rattle.blob_base.specs.Places.{Place}
 use Rattle.blob_memory.specs.declared.item.Item.TheVariants.{Raw, Held}
 use Rattle.blob_memory.specs.declared.item.Held as held
 use Rattle.blob_memory.specs.Contents.{file_of, file_when, vec_in, items_of, IsUnder}

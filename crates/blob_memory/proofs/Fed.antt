@@ -1,6 +1,5 @@
 -- What is fed to a checksum, piece by piece.
 use Rattle.std.proofs.Common.{◌≡◌, ℕ, List, [], ◌∷◌, ◌++◌, replicate, refl, sym, ap, ◌∙◌, append_assoc, append-nil}
-use Rattle.std.specs.Prelude.{map}
 use Rattle.std.specs.Int.{to_be_bytes, w32}
 use Rattle.blob_base.specs.declared.layout.Layout.TheVariants.{V0, V1}
 use Rattle.blob_base.specs.Audit.{Listed, piece_of, pieces_of}

@@ -1,8 +1,10 @@
 pub mod ByBytes
+pub mod Copies
 pub mod Directories
 pub mod Exchanges
 pub mod Exits
 pub mod Fed
+pub mod ListingOf
 pub mod Listings
 pub mod Openings
 pub mod Overlays

@@ -1,6 +1,6 @@
 -- The keys of a map by their bytes.
-use Rattle.std.proofs.Common.{◌≡◌, ℕ, List, [], ◌∷◌, Bool, true, false, cond, Option, Some, None, IsSome, refl, sym, ap, ◌∙◌, subst, arith}
-use Rattle.std.specs.Prelude.{map, is_some, IsTrue, ◌↔◌, ⊤}
+use Rattle.std.proofs.Common.{◌≡◌, ℕ, List, [], ◌∷◌, Bool, false, cond, Some, IsSome, refl, sym, ap, ◌∙◌, subst, arith}
+use Rattle.std.specs.Prelude.{map, is_some}
 use Rattle.std.specs.BTreeMap.{BTreeMap, keys, is_at, IsOrdered}
 use Rattle.std.specs.List.{AllByRecursion, Contains}
 use Rattle.std.specs.List.Sorted.{IsStrictlySortedBy}
@@ -45,7 +45,7 @@ module _ {K X : Type 0} (bytes : K → List ℕ) where
     sorted = sorted_by_bytes bytes (slice_cmp nat_cmp) (keys m) ordered;
     complete = λ n. (
       (λ h. subst (λ r. IsSome r) (sym (lookup_by_bytes m.entries n)) (IsSome-lookup_from_Contains nat_list_eq_equiv n (by_bytes m.entries) (subst (λ ks. Contains ks n) (sym (keys_by_bytes m.entries)) h))),
-      (λ h. subst (λ ks. Contains ks n) (keys_by_bytes m.entries) (Contains-keys_from_lookup (λ x y. (bytes_decides x y).0) n (by_bytes m.entries) (subst (λ r. IsSome r) (lookup_by_bytes m.entries n) h)))
+      (λ h. subst (λ ks. Contains ks n) (keys_by_bytes m.entries) (Contains-keys_from_lookup (λ x y. (bytes_decides x y).0) n (by_bytes m.entries) (subst (λ r. IsSome r) (lookup_by_bytes m.entries n) h))),
     );
   }
 

@@ -1,10 +1,10 @@
 -- Overlays and resizes as loops and vectors make them.
-use Rattle.std.proofs.Common.{append_assoc, ◌∷◌, [], ◌≡◌, ◌⊎◌, inl, inr, ⊎_elim, ℕ, ◌+◌, ◌-◌, ◌<◌, ◌≤◌, max, Bool, true, false, List, ◌++◌, length, get_or, take, drop, set, replicate, refl, sym, ◌∙◌, ap, arith, ◌≢◌, true≢false, ◌&&◌, ltb, length-append, length-take, length-drop, length-set, get_or-set_same, get_or-set_other}
-use Rattle.std.proofs.lemmas.Bool.{cases_Bool, cases_lt, cases_eq, le-ltb, lt-ltb, and_parts, and_from, and_left, and_right}
+use Rattle.std.proofs.Common.{[], ◌≡◌, ⊎_elim, ℕ, ◌+◌, ◌-◌, ◌<◌, ◌≤◌, max, Bool, true, false, List, ◌++◌, length, get_or, take, drop, set, replicate, refl, sym, ◌∙◌, ap, arith, ◌≢◌, true≢false, ◌&&◌, ltb, length-append, length-take, length-drop, length-set, get_or-set_same, get_or-set_other}
+use Rattle.std.proofs.lemmas.Bool.{cases_lt, cases_eq, le-ltb, lt-ltb, and_parts, and_from, and_left, and_right}
 use Rattle.std.proofs.lemmas.List.{get_or_past, get_or_append_left, get_or-append_right, get_or-take, get_or-drop, get_or-replicate, length-replicate}
 use Rattle.blob_base.proofs.Agrees.{alike, overlay_same}
 use Rattle.blob_base.specs.Bytes.{reach, overlay_by, overlay, resized}
-use Rattle.blob_base.proofs.Bytes.{above_chosen, reach_below, length-overlay_by, at_chosen, at_other, length-resized, at_resized, past_resized, same_bytes, none_chosen, picks, reach_all}
+use Rattle.blob_base.proofs.Bytes.{above_chosen, reach_below, length-overlay_by, at_chosen, at_other, length-resized, at_resized, past_resized, same_bytes, none_chosen, picks}
 
 -- the choices of the first n bytes
 abbrev pub first : ℕ → (ℕ → Bool) → ℕ → Bool
@@ -62,8 +62,17 @@ overlay_empty x o b c e = same_bytes _ _ (omega (arith, length-overlay_by x o b 
 -- a run copied over bytes that are there, with k bytes of it
 pub pasted : (x : List ℕ) (o k : ℕ) (b : List ℕ) → k ≡ length b → o + length b ≤ length x → take o x ++ (b ++ drop k (drop o x)) ≡ overlay x o b
 pasted x o k b is h = same_bytes _ _
-    (omega (arith, is, length-append (take o x) (b ++ drop k (drop o x)), length-append b (drop k (drop o x)), length-take o x, length-drop k (drop o x), length-drop o x, length-overlay_by x o b (λ _. true),
-    reach_below o (length b) (λ _. true) (length x) (λ i l _. omega arith)))
+    (omega (
+      arith,
+      is,
+      length-append (take o x) (b ++ drop k (drop o x)),
+      length-append b (drop k (drop o x)),
+      length-take o x,
+      length-drop k (drop o x),
+      length-drop o x,
+      length-overlay_by x o b (λ _. true),
+      reach_below o (length b) (λ _. true) (length x) (λ i l _. omega arith),
+    ))
     (λ p. ⊎_elim (λ l. before p l) (λ l. ⊎_elim (λ m. within p l m) (λ m. behind p m) (cases_lt p (o + length b))) (cases_lt p o))
   where
     before : (p : ℕ) → p < o → get_or (take o x ++ (b ++ drop k (drop o x))) p 0 ≡ get_or (overlay x o b) p 0

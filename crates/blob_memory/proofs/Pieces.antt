@@ -1,13 +1,13 @@
 -- A run in pieces, copied piece by piece.
-use Rattle.std.proofs.Common.{◌≡◌, ℕ, ◌+◌, ◌-◌, ◌<◌, ◌≤◌, ◌∙◌, Bool, true, false, List, [], ◌∷◌, ◌++◌, length, take, drop, get_or, Vec, Global, ap, sym, refl, arith, length-append, append-nil, subst, max}
+use Rattle.std.proofs.Common.{◌≡◌, ℕ, ◌+◌, ◌-◌, ◌<◌, ◌≤◌, ◌∙◌, Bool, true, false, List, [], ◌∷◌, ◌++◌, length, take, drop, get_or, Vec, Global, ap, sym, arith, length-append, append-nil}
 use Rattle.std.proofs.lemmas.Grind.{flat_map-append}
 use Rattle.std.proofs.lemmas.List.{take_more, get_or-take, get_or-drop, take-append-drop, drop_all, take_all}
 use Rattle.std.specs.List.{flat_map, slice_range}
-use Rattle.blob_base.specs.Bytes.{overlay, overlay_by, reach, resized}
+use Rattle.blob_base.specs.Bytes.{overlay, overlay_by, reach}
 use Rattle.blob_base.specs.Runs.{picked}
 use Rattle.blob_base.proofs.Agrees.{overlay_same}
-use Rattle.blob_base.proofs.Bytes.{reach_below, above_chosen, length-overlay_by, reach_all}
-use Rattle.blob_memory.proofs.Overlays.{overlay_more, overlay_none, lay_padded}
+use Rattle.blob_base.proofs.Bytes.{reach_below, above_chosen, length-overlay_by}
+use Rattle.blob_memory.proofs.Overlays.{overlay_more}
 
 -- all bytes of the pieces
 abbrev pub flat : List (Vec ℕ Global) → List ℕ

@@ -1,15 +1,26 @@
 -- All blobs of a store, in order.
-use Rattle.std.specs.Prelude.{ℕ, List, ◌++◌, map, Option, option_map, Vec}
+use Rattle.std.specs.Prelude.{ℕ, List, [], ◌++◌, drop, map, Option, Some, None, Result, Ok, Err, option_map, option_and_then, unwrap_or, Vec}
 use Rattle.std.specs.Global.{Global}
-use Rattle.std.specs.BTreeMap.{BTreeMap}
-use Rattle.std.specs.List.{flat_map}
+use Rattle.std.specs.BTreeMap.{BTreeMap, IsOrdered}
+use Rattle.std.specs.List.{flat_map, AllByRecursion}
+use Rattle.std.specs.Cmp.Lexicographic.{slice_cmp}
+use Rattle.std.specs.Ordering.{nat_cmp}
 use Rattle.std.specs.String.{string_bytes}
 use Rattle.std.specs.declared.string.String.{String}
 use Rattle.blob_base.specs.Audit.{Listed}
+use Rattle.blob_base.specs.declared.version.BlobVersion.{BlobVersion}
+use Rattle.blob_base.specs.Directory as directory
+use Rattle.blob_base.specs.Directory.{Directory, File}
+use Rattle.blob_base.specs.Durable.{Durable}
+use Rattle.blob_base.specs.Files.{raw_again}
 use Rattle.blob_base.specs.Header.{region}
+use Rattle.blob_base.specs.Parse.{Failure, every_layout}
+use Rattle.blob_base.specs.Resolve.{resolution}
+use Rattle.blob_memory.specs.declared.contents.Contents.{Contents}
 use Rattle.blob_memory.specs.declared.item.Item.{Item}
 use Rattle.blob_memory.specs.declared.item.Item.TheVariants.{Raw, Held}
 use Rattle.blob_memory.specs.declared.partitions.Partitions.{Partitions}
+use Rattle.blob_memory.specs.Maps.{found, below}
 use Rattle.blob_memory.specs.Partitions.{item_at}
 
 -- the raw bytes of an item, with the header
@@ -35,5 +46,45 @@ listing_in p es = map (listed p) es
 abbrev pub listing_all : List (String Global × Names) → List Listed
 listing_all es = flat_map (λ e. listing_in (string_bytes e.0) e.1.entries) es
 
+-- the names of a map are in order; each map says so of itself
+abbrev pub AreOrderedNames : Names → Type 0
+AreOrderedNames m = IsOrdered (λ x y. slice_cmp nat_cmp x.items y.items) m
+
+-- the partitions of a map, and the names of each
+abbrev pub AreOrdered : BTreeMap (String Global) Names → Type 0
+AreOrdered m = IsOrdered (λ x y. slice_cmp nat_cmp (string_bytes x) (string_bytes y)) m
+
+abbrev pub AreAllOrdered : List (String Global × Names) → Type 0
+AreAllOrdered es = AllByRecursion (λ e. AreOrderedNames e.1) es
+
+-- the raw bytes of each name
+abbrev pub raw_in : BTreeMap (String Global) Names → List ℕ → List ℕ → Option (List ℕ)
+raw_in m p n = option_map raw_bytes (below (found (λ k. k.items)) (found string_bytes m p) n)
+
 abbrev pub listing_of : Partitions → List Listed
 listing_of s = listing_all s.names.entries
+
+abbrev pub raw_only : Option File → Option (List ℕ)
+raw_only None = None
+raw_only (Some (directory.Raw bytes)) = Some bytes
+raw_only (Some (directory.Incarnation number layout version)) = None
+
+-- the raw bytes of a name's file, by the directory and the durable bytes
+abbrev pub raw_blob_of : Directory → Durable → List ℕ → List ℕ → Option (List ℕ)
+raw_blob_of d durable p n = raw_only (raw_again (λ o. unwrap_or (durable o) []) p n (d.file p n))
+
+abbrev pub behind : Result (Option (ℕ × BlobVersion × ℕ)) Failure → List ℕ → Option (List ℕ)
+behind (Ok None) raw = None
+behind (Ok (Some (size, version, offset))) raw = Some (drop offset raw)
+behind (Err failure) raw = None
+
+-- what follows the header of a blob, of any layout and version, where it has one
+abbrev pub logical_found : List ℕ → Option (List ℕ)
+logical_found raw = behind (resolution raw (every_layout 0 65535)) raw
+
+abbrev pub logical_blob_of : Directory → Durable → List ℕ → List ℕ → Option (List ℕ)
+logical_blob_of d durable p n = option_and_then logical_found (raw_blob_of d durable p n)
+
+-- all blobs of a store
+abbrev pub listing_at : Contents → List Listed
+listing_at s = listing_of s.partitions

@@ -1,10 +1,10 @@
 // The checksum over all blobs, fed piece by piece.
 ghost use Rattle.std.specs.Prelude.{◌≡◌, ◌++◌, List, ℕ, codes};
-ghost use Rattle.blob_base.specs.Audit.{pieces_of, audit};
+ghost use Rattle.blob_base.specs.Audit.{pieces_of, audit, IsListing};
 ghost use Rattle.blob_base.specs.Checksum.{crc32c};
 ghost use Rattle.blob_base.specs.Header.{region};
 ghost use Rattle.blob_base.specs.Register.{Holds};
-ghost use Rattle.blob_memory.specs.Listing.{raw_bytes, listing_in, listing_all};
+ghost use Rattle.blob_memory.specs.Listing.{raw_bytes, raw_in, listing_in, listing_all, AreOrdered, AreOrderedNames, AreAllOrdered};
 
 use crate::item::Item;
 use blob_base::{BlobVersion, Crc32, Header, Layout};
@@ -57,25 +57,29 @@ fn feed_blob(crc: &mut Crc32, partition: &str, name: &[u8], item: &Item)
 
 /// Feeds the blobs of a partition.
 fn feed_names(crc: &mut Crc32, partition: &str, names: &BTreeMap<Vec<u8>, Item>)
-    ensures { (before : List ℕ) → Holds crc.old before → Holds crc.new (before ++ pieces_of (listing_in partition.now names.now.entries)) }
+    ensures fed { (before : List ℕ) → Holds crc.old before → Holds crc.new (before ++ pieces_of (listing_in partition.now names.now.entries)) }
+    ensures ordered { AreOrderedNames names.now }
 {
-    for (name, item) in names {
+    for (name, item) in names.iter() {
         feed_blob(crc, partition, name, item);
     }
 }
 
 /// Feeds the blobs of all partitions.
 fn feed_partitions(crc: &mut Crc32, partitions: &BTreeMap<String, BTreeMap<Vec<u8>, Item>>)
-    ensures { (before : List ℕ) → Holds crc.old before → Holds crc.new (before ++ pieces_of (listing_all partitions.now.entries)) }
+    ensures fed { (before : List ℕ) → Holds crc.old before → Holds crc.new (before ++ pieces_of (listing_all partitions.now.entries)) }
+    ensures ordered { AreOrdered partitions.now }
+    ensures all_ordered { AreAllOrdered partitions.now.entries }
 {
-    for (partition, names) in partitions {
+    for (partition, names) in partitions.iter() {
         feed_names(crc, partition, names);
     }
 }
 
 /// The checksum over all blobs.
 pub fn audit(partitions: &BTreeMap<String, BTreeMap<Vec<u8>, Item>>) -> [u8; 4]
-    ensures { result ≡ audit crc32c (listing_all partitions.now.entries) }
+    ensures audit { result ≡ audit crc32c (listing_all partitions.now.entries) }
+    ensures listing { IsListing (raw_in partitions.now) (listing_all partitions.now.entries) }
 {
     let mut crc = Crc32::new();
     crc.update(b"commonware-runtime-storage-audit-v1");

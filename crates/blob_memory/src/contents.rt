@@ -7,6 +7,7 @@ use std::alloc::Global;
 
 mod adopt;
 mod bytes;
+mod copies;
 mod names;
 mod opening;
 

@@ -198,6 +198,19 @@ pub fn resize(bytes: &mut Vec<u8>, len: usize) -> Result<(), AllocError>
     Ok(())
 }
 
+/// Makes the bytes others. The only error is want of memory, where there was no room; it leaves the bytes.
+pub fn replace(bytes: &mut Vec<u8>, new: &[u8]) -> Result<(), AllocError>
+    ensures ok { OnOk result (bytes.new.items ≡ new.now) }
+    ensures err { OnErr result (bytes.new.items ≡ bytes.old.items) }
+    ensures succeeds { length new.now ≤ vec_capacity bytes.old → IsOk result }
+    ensures capacity { vec_capacity bytes.old ≤ vec_capacity bytes.new }
+{
+    make_room(bytes, new.len())?;
+    bytes.clear();
+    bytes.extend_from_slice(new).unwrap();
+    Ok(())
+}
+
 /// Cuts off the first bytes, and keeps the memory.
 pub fn drop_front(bytes: &mut Vec<u8>, len: usize)
     requires { len ≤ length bytes.old.items }

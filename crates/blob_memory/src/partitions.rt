@@ -1,9 +1,9 @@
 // A table from partition and name to item.
 ghost use Rattle.std.specs.Prelude.{◌≡◌, List, ℕ, None, Some, true, false, IsSome, IsOk, OnOk, OnErr, IfOk, is_some, map, option_copied};
 ghost use Rattle.blob_base.specs.Directory.{with_partition};
-ghost use Rattle.blob_base.specs.Audit.{audit};
+ghost use Rattle.blob_base.specs.Audit.{audit, IsListing};
 ghost use Rattle.blob_base.specs.Checksum.{crc32c};
-ghost use Rattle.blob_memory.specs.Listing.{listing_of};
+ghost use Rattle.blob_memory.specs.Listing.{listing_of, raw_at};
 ghost use Rattle.blob_base.specs.Names.{AreNames};
 ghost use Rattle.blob_memory.specs.Maps.{found};
 ghost use Rattle.blob_memory.specs.Partitions.{item_at, is_there, with_item, without_partition, held_bytes, with_bytes};
@@ -21,10 +21,7 @@ pub struct Partitions {
 }
 
 /// The names of a partition, in order.
-fn copied_names(
-    alloc: Global,
-    names: &BTreeMap<Vec<u8>, Item>,
-) -> Result<Vec<Vec<u8>>, AllocError>
+fn copied_names(alloc: Global, names: &BTreeMap<Vec<u8>, Item>) -> Result<Vec<Vec<u8>>, AllocError>
     ensures { IfOk result (λ all. AreNames (map (λ n. n.items) all.items) (λ n. is_some (found (λ k. k.items) names.now n))) }
 {
     let mut all = Vec::with_capacity(alloc, names.len())?;
@@ -75,7 +72,8 @@ impl Partitions {
 
     /// The checksum over all blobs.
     pub fn audit(&self) -> [u8; 4]
-        ensures { result ≡ audit crc32c (listing_of self.now) }
+        ensures audit { result ≡ audit crc32c (listing_of self.now) }
+        ensures listing { IsListing (raw_at self.now) (listing_of self.now) }
     {
         audit(&self.names)
     }

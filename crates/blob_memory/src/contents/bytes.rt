@@ -119,7 +119,12 @@ impl Contents {
 
     /// Makes a run durable in a current incarnation. The only error is want of memory, where its durable bytes have no room;
     /// it leaves them as they were.
-    pub fn write_durable(&mut self, origin: &Origin, offset: usize, run: &IoBufs) -> Result<(), AllocError>
+    pub fn write_durable(
+        &mut self,
+        origin: &Origin,
+        offset: usize,
+        run: &IoBufs,
+    ) -> Result<(), AllocError>
         requires current { IsSome (vec_at self.old origin.now) }
         requires fits { offset + length run.now < 2 ^ 64 }
         ensures ok { OnOk result (durable_of self.new ≡ changed (durable_of self.old) origin.now (λ x. overlay x offset run.now)) }
@@ -135,15 +140,20 @@ impl Contents {
         done
     }
 
-    /// Makes bytes the durable ones of a current incarnation. The only error is want of memory, and leaves them as they were.
+    /// Makes bytes the durable ones of a current incarnation. The only error is want of memory, where they have no room;
+    /// it leaves them as they were.
     pub fn publish(&mut self, origin: &Origin, live: &[u8]) -> Result<(), AllocError>
         requires { IsSome (vec_at self.old origin.now) }
         ensures ok { OnOk result (durable_of self.new ≡ changed (durable_of self.old) origin.now (λ _. live.now)) }
         ensures err { OnErr result (durable_of self.new ≡ durable_of self.old) }
         ensures directory { directory_of self.new ≡ directory_of self.old }
+        ensures room { (o : Place) (n : ℕ) → Fits (vec_at self.old o) n → Fits (vec_at self.new o) n }
+        ensures succeeds { Fits (vec_at self.old origin.now) (length live.now) → IsOk result }
     {
-        let mut bytes = Vec::from_slice(self.alloc, live)?;
+        let mut bytes = Vec::new(self.alloc);
         self.exchange(origin, &mut bytes);
-        Ok(())
+        let done = overlay::replace(&mut bytes, live);
+        self.exchange(origin, &mut bytes);
+        done
     }
 }

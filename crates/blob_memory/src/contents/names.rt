@@ -2,10 +2,10 @@
 ghost use Rattle.std.specs.Prelude.{◌≡◌, ◌<◌, ◌+◌, ◌-◌, ◌^◌, List, ℕ, None, Some, true, false, IsSome, is_some, is_none, IsTrue, IsOk, OnOk, OnErr, IfOk, map, option_copied};
 ghost use Rattle.blob_base.specs.Places.{Place};
 ghost use Rattle.blob_base.specs.Directory.{Raw, current, place_made, directory_made, directory_without, directory_less};
-ghost use Rattle.blob_base.specs.Audit.{audit};
+ghost use Rattle.blob_base.specs.Audit.{audit, IsListing};
 ghost use Rattle.blob_base.specs.Checksum.{crc32c};
 ghost use Rattle.blob_base.specs.Names.{AreNames};
-ghost use Rattle.blob_memory.specs.Listing.{listing_of};
+ghost use Rattle.blob_memory.specs.Listing.{listing_at, raw_blob_of};
 ghost use Rattle.blob_base.specs.Durable.{with_at, is_under, durable_without};
 ghost use Rattle.blob_memory.specs.Partitions.{item_at, is_there};
 ghost use Rattle.blob_memory.specs.Contents.{directory_raw, directory_of, durable_of, vec_at, without};
@@ -61,13 +61,19 @@ impl Contents {
 
     /// The checksum over all blobs, as four bytes.
     pub fn audit(&self) -> [u8; 4]
-        ensures { result ≡ audit crc32c (listing_of self.now.partitions) }
+        ensures audit { result ≡ audit crc32c (listing_at self.now) }
+        ensures listing { IsListing (raw_blob_of (directory_of self.now) (durable_of self.now)) (listing_at self.now) }
     {
         self.partitions.audit()
     }
 
     /// Makes a name's file raw. The only error is want of memory, and leaves everything as it was.
-    pub fn set_raw(&mut self, partition: &str, name: &[u8], bytes: Vec<u8>) -> Result<(), AllocError>
+    pub fn set_raw(
+        &mut self,
+        partition: &str,
+        name: &[u8],
+        bytes: Vec<u8>,
+    ) -> Result<(), AllocError>
         ensures directory { OnOk result (directory_of self.new ≡ directory_raw (directory_of self.old) partition.now name.now bytes.items) }
         ensures durable { OnOk result (durable_of self.new ≡ durable_without (durable_of self.old) partition.now (Some name.now)) }
         ensures vecs { OnOk result ((o : Place) → vec_at self.new o ≡ without (vec_at self.old) (is_under partition.now (Some name.now)) o) }

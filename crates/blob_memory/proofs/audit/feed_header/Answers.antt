@@ -1,6 +1,5 @@
-use Rattle.std.proofs.Common.{rules, ◌≡◌, ◌∙◌, ◌++◌, List, ℕ, subst, sym, ap, refl, replicate}
+use Rattle.std.proofs.Common.{◌≡◌, ◌∙◌, ◌++◌, subst, sym, ap, refl}
 use Rattle.std.specs.Int.{to_be_bytes, w16, w32}
-use Rattle.blob_base.specs.declared.layout.Layout.TheVariants.{V0, V1}
 use Rattle.blob_base.specs.Checksum.{crc32c}
 use Rattle.blob_base.specs.Header.{prelude, region}
 use Rattle.blob_base.specs.Register.{Holds}

@@ -1,4 +1,4 @@
-use Rattle.std.proofs.Common.{rules, ◌≡◌, ◌∙◌, ◌++◌, ◌∷◌, [], List, ℕ, subst, sym, ap, refl, Vec, Global}
+use Rattle.std.proofs.Common.{◌∙◌, ◌++◌, ◌∷◌, [], List, ℕ, subst, ap, Vec, Global}
 use Rattle.blob_memory.specs.declared.item.Item.{Item}
 use Rattle.std.specs.Prelude.{map}
 use Rattle.std.specs.Map.Iter.{deref_pair}

@@ -1,8 +1,8 @@
-use Rattle.std.proofs.Common.{rules, ◌≡◌, ◌+◌, ◌-◌, ◌≤◌, ◌<◌, ◌∙◌, ap, sym, length, arith, take, drop, List, ℕ}
+use Rattle.std.proofs.Common.{◌≡◌, ◌+◌, ◌-◌, ◌∙◌, ap, sym, length, arith, take, drop}
 use Rattle.blob_base.specs.Bytes.{overlay_by}
 use Rattle.blob_base.specs.Runs.{picked}
 use Rattle.blob_memory.proofs.Overlays.{overlay_none}
-use Rattle.blob_memory.proofs.Pieces.{flat, flat_within, length-flat_more, chosen_more, chosen_room}
+use Rattle.blob_memory.proofs.Pieces.{flat_within, length-flat_more, chosen_more, chosen_room}
 use Rattle.blob_memory.proofs.overlay.copy_chosen_pieces.Goals as goal
 
 pub loop-piece-init : goal.loop-piece-init
@@ -30,7 +30,7 @@ pub copy_chosen-requires-clause-inside : goal.copy_chosen-requires-clause-inside
 copy_chosen-requires-clause-inside c =
     let n : c.len.result ≡ length c.piece-item.result.items = omega arith in
     rw c.deref.ensures.value (chosen_room c.args.pieces.now c.loop-piece.piece-index c.piece-item.result (omega arith) c.piece-item.is c.args.bytes.now c.loop-piece.bytes c.args.offset c.loop-piece.done (c.loop-piece.done + c.len.result) c.args.keep.now
-        c.requires.inside c.loop-piece.invariant.done (omega (arith, n)) c.loop-piece.invariant.laid)
+    c.requires.inside c.loop-piece.invariant.done (omega (arith, n)) c.loop-piece.invariant.laid)
 
 pub loop-piece-preserved : goal.loop-piece-preserved
 loop-piece-preserved c =

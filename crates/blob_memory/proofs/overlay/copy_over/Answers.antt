@@ -1,4 +1,4 @@
-use Rattle.std.proofs.Common.{rules, ◌≡◌, ◌+◌, ◌-◌, ◌∙◌, ap, length, arith}
+use Rattle.std.proofs.Common.{rules, ◌≡◌, ◌+◌, ◌-◌, length, arith}
 use Rattle.blob_memory.proofs.Overlays.{pasted}
 use Rattle.blob_memory.proofs.overlay.copy_over.Goals as goal
 

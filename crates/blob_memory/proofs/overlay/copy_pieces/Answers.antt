@@ -1,7 +1,7 @@
-use Rattle.std.proofs.Common.{rules, ◌≡◌, ◌+◌, ◌≤◌, ◌<◌, ◌∙◌, ap, sym, length, arith, take, List, ℕ}
+use Rattle.std.proofs.Common.{◌≡◌, ◌∙◌, ap, sym, length, arith}
 use Rattle.blob_base.specs.Bytes.{overlay}
 use Rattle.blob_memory.proofs.Overlays.{overlay_none}
-use Rattle.blob_memory.proofs.Pieces.{flat, flat_within, length-flat_more, copied_more}
+use Rattle.blob_memory.proofs.Pieces.{flat_within, length-flat_more, copied_more}
 use Rattle.blob_memory.proofs.overlay.copy_pieces.Goals as goal
 
 pub loop-piece-init : goal.loop-piece-init

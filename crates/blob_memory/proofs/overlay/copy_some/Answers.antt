@@ -1,5 +1,4 @@
-use Rattle.std.proofs.Common.{rules, ◌≡◌, ◌∙◌, ◌+◌, length, max, arith, ap, get_or, set, ℕ, List}
-use Rattle.blob_base.specs.Bytes.{reach, overlay_by}
+use Rattle.std.proofs.Common.{◌∙◌, ◌+◌, length, arith, ap, get_or, set}
 use Rattle.blob_base.proofs.Bytes.{length-overlay_by, above_chosen}
 use Rattle.blob_base.specs.Runs.{picked}
 use Rattle.blob_memory.proofs.Overlays.{first, lay_none, lay_more, lay_less, lay_end}

@@ -1,5 +1,5 @@
-use Rattle.std.proofs.Common.{rules, ◌≡◌, ◌+◌, ◌<◌, ◌∙◌, [], ap, sym, length, max, arith, true, vec_len}
-use Rattle.blob_base.specs.Bytes.{overlay, overlay_by, reach, resized}
+use Rattle.std.proofs.Common.{◌≡◌, ◌+◌, ◌<◌, ◌∙◌, ap, sym, length, max, arith, true}
+use Rattle.blob_base.specs.Bytes.{overlay, reach}
 use Rattle.blob_base.proofs.Bytes.{length-resized, reach_all}
 use Rattle.blob_memory.proofs.Overlays.{overlay_empty, lay_padded}
 use Rattle.blob_memory.proofs.Pieces.{flat, written_back}
@@ -16,7 +16,7 @@ returns-clause-bytes c =
     let some : 0 < length c.args.run.now = omega arith in
     let far : c.args.offset + c.remaining-len.result ≡ reach c.args.offset (length c.args.run.now) (λ _. true) = omega (arith, reach_all c.args.offset (length c.args.run.now) some) in
     let copied : c.copy_pieces.new.bytes ≡ overlay c.grow.new.bytes.items c.args.offset c.args.run.now =
-        c.copy_pieces.ensures ∙ ap (λ x. overlay x c.args.offset (flat c.pieces.result.now)) c.as_mut_slice.ensures.value ∙ ap (overlay c.grow.new.bytes.items c.args.offset) c.pieces.ensures in
+    c.copy_pieces.ensures ∙ ap (λ x. overlay x c.args.offset (flat c.pieces.result.now)) c.as_mut_slice.ensures.value ∙ ap (overlay c.grow.new.bytes.items c.args.offset) c.pieces.ensures in
     let len : length c.copy_pieces.new.bytes ≡ length c.grow.new.bytes.items = omega (arith, c.copy_pieces.auto.bytes, ap length c.as_mut_slice.ensures.value) in
     written_back c.grow.new.bytes.items c.copy_pieces.new.bytes _ (omega arith) len
     ∙ lay_padded c.args.bytes.now.items c.grow.new.bytes.items c.copy_pieces.new.bytes c.args.offset c.args.run.now (λ _. true) (c.args.offset + c.remaining-len.result) far c.grow.ensures.bytes copied

@@ -1,4 +1,4 @@
-use Rattle.std.proofs.Common.{rules, ◌≡◌, ◌∙◌, ◌++◌, [], ap, sym, subst, List, ℕ, append-nil}
+use Rattle.std.proofs.Common.{rules, ◌≡◌, sym, subst, append-nil}
 use Rattle.std.specs.Prelude.{map, is_some}
 use Rattle.std.specs.BTreeMap.{keys}
 use Rattle.blob_base.specs.Names.{AreNames}

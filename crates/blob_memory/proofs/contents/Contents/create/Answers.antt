@@ -1,4 +1,3 @@
-use Rattle.std.proofs.Common.{Some}
 use Rattle.blob_memory.specs.Partitions.{item_at}
 use Rattle.blob_memory.proofs.Directories.{durable_begun}
 use Rattle.blob_memory.proofs.contents.Contents.create.Goals as goal

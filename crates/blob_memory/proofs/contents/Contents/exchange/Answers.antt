@@ -1,6 +1,5 @@
-use Rattle.std.proofs.Common.{rules, ◌≡◌, ◌∙◌, ap, sym, refl, List, ℕ, IsSome, subst}
+use Rattle.std.proofs.Common.{◌≡◌, ◌∙◌, sym, refl, List, ℕ}
 use Rattle.blob_memory.specs.Partitions.{item_at, with_item, with_bytes, held_bytes}
-use Rattle.blob_memory.specs.Contents.{vec_in}
 use Rattle.blob_memory.proofs.Directories.{same_directory}
 use Rattle.blob_memory.proofs.Exchanges.{numbers_still, files_still, vecs_after, held_is, after_at}
 use Rattle.blob_memory.proofs.contents.Contents.exchange.Goals as goal

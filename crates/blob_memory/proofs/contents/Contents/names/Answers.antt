@@ -1,5 +1,4 @@
-use Rattle.std.proofs.Common.{◌≡◌, List, ℕ, Option, None, Some, Bool, refl, sym, subst}
-use Rattle.std.proofs.Common.{Vec, Global}
+use Rattle.std.proofs.Common.{◌≡◌, List, ℕ, Option, None, Some, Bool, refl, subst}
 use Rattle.std.specs.Prelude.{is_some, map, IfOk}
 use Rattle.blob_base.specs.Names.{AreNames}
 use Rattle.blob_memory.specs.declared.item.Item.{Item}

@@ -1,6 +1,6 @@
 use Rattle.std.proofs.Common.{refl, None}
 use Rattle.blob_memory.specs.Partitions.{item_at}
-use Rattle.blob_memory.proofs.Directories.{same_directory, file_after, durable_placed, durable_same}
+use Rattle.blob_memory.proofs.Directories.{same_directory, file_after, durable_placed}
 use Rattle.blob_memory.proofs.contents.Contents.remove.Goals as goal
 
 pub returns-clause-directory : goal.returns-clause-directory

@@ -1,4 +1,4 @@
-use Rattle.std.proofs.Common.{refl, None}
+use Rattle.std.proofs.Common.{refl}
 use Rattle.blob_memory.specs.Partitions.{item_at}
 use Rattle.blob_memory.proofs.Directories.{same_directory, file_without, durable_gone}
 use Rattle.blob_memory.proofs.contents.Contents.remove_partition.Goals as goal

@@ -2,8 +2,7 @@ use Rattle.std.proofs.Common.{◌≡◌, Some}
 use Rattle.blob_base.specs.Durable.{with_at}
 use Rattle.blob_base.specs.Places.{Place}
 use Rattle.blob_memory.specs.Contents.{vec_at}
-use Rattle.blob_memory.proofs.ByBytes.{on_ok_map, on_err_map}
-use Rattle.blob_memory.proofs.Exchanges.{put_twice, changed_by, unchanged_by, room_by}
+use Rattle.blob_memory.proofs.Exchanges.{put_twice, unchanged_by, room_by}
 use Rattle.blob_memory.proofs.contents.Contents.reserve_crash.Goals as goal
 
 -- the bytes that were taken out are put back changed

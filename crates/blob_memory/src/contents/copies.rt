@@ -1,0 +1,104 @@
+// Copies of a name's bytes.
+ghost use Rattle.std.specs.Prelude.{◌≡◌, ◌≤◌, ℕ, List, None, Some, OnErr, IfOk, option_map, drop, length};
+ghost use Rattle.std.specs.Option.{ForSome};
+ghost use Rattle.blob_base.specs.Refusals.{IsMemory};
+ghost use Rattle.blob_memory.specs.Contents.{directory_of, durable_of, items_of};
+ghost use Rattle.blob_memory.specs.Listing.{raw_bytes, logical_found, raw_blob_of, logical_blob_of};
+
+use super::Contents;
+use crate::item::{Held, Item};
+use blob_base::{BlobVersion, Error, Header, Layout, resolve};
+use std::alloc::Global;
+
+/// A header and the bytes behind it.
+fn with_header(alloc: Global, held: &Held) -> Result<Vec<u8>, Error>
+    ensures ok { IfOk result (λ raw. raw.items ≡ raw_bytes (Item.Held held.now)) }
+    ensures memory { OnErr result (IsMemory result) }
+{
+    let layouts = held.layout..=held.layout;
+    let versions = held.version..=held.version;
+    let (mut raw, _) = Header::create(alloc, &layouts, &versions)?;
+    raw.extend_from_slice(&held.bytes)?;
+    Ok(raw)
+}
+
+/// What becomes of a header's refusal: want of memory for its texts, or no header.
+fn only_memory(error: Error) -> Result<Option<usize>, Error>
+    ensures ok { IfOk result (λ offset. offset ≡ None) }
+    ensures memory { OnErr result (IsMemory result) }
+{
+    match error {
+        Error::Memory(error) => Err(Error::Memory(error)),
+        _ => Ok(None),
+    }
+}
+
+/// Where the data of a raw file begins, where it has a header.
+fn data_in(alloc: Global, raw: &[u8], partition: &str, name: &[u8]) -> Result<Option<usize>, Error>
+    ensures ok { IfOk result (λ offset. option_map (λ n. drop n raw.now) offset ≡ logical_found raw.now) }
+    ensures within { IfOk result (λ offset. ForSome offset (λ n. n ≤ length raw.now)) }
+    ensures memory { OnErr result (IsMemory result) }
+{
+    let layouts = Layout::all();
+    let versions = BlobVersion::new(0)..=BlobVersion::new(u16::MAX);
+    let len = raw.len() as u64;
+    match resolve(alloc, raw, len, &layouts, &versions, partition, name) {
+        Ok(Some((_, _, offset))) => Ok(Some(offset as usize)),
+        Ok(None) => Ok(None),
+        Err(error) => only_memory(error),
+    }
+}
+
+/// What follows the header of a raw file, where it has one.
+fn behind_header(
+    alloc: Global,
+    raw: &[u8],
+    partition: &str,
+    name: &[u8],
+) -> Result<Option<Vec<u8>>, Error>
+    ensures ok { IfOk result (λ bytes. items_of bytes ≡ logical_found raw.now) }
+    ensures memory { OnErr result (IsMemory result) }
+{
+    let Some(start) = data_in(alloc, raw, partition, name)? else {
+        return Ok(None);
+    };
+    let rest = &raw[start..];
+    Ok(Some(Vec::from_slice(alloc, rest)?))
+}
+
+/// The bytes that follow an incarnation's header.
+fn held_bytes(alloc: Global, held: &Held) -> Result<Vec<u8>, Error>
+    ensures ok { IfOk result (λ bytes. bytes.items ≡ held.now.bytes.items) }
+    ensures found { IfOk result (λ bytes. Some held.now.bytes.items ≡ logical_found (raw_bytes (Item.Held held.now))) }
+    ensures memory { OnErr result (IsMemory result) }
+{
+    let _number = held.version.get();
+    Ok(Vec::from_slice(alloc, &held.bytes)?)
+}
+
+impl Contents {
+    /// The raw bytes of a name's file, header included; none where it has no file. The only error is `Memory`.
+    pub fn raw(&self, partition: &str, name: &[u8]) -> Result<Option<Vec<u8>>, Error>
+        ensures ok { IfOk result (λ raw. items_of raw ≡ raw_blob_of (directory_of self.now) (durable_of self.now) partition.now name.now) }
+        ensures memory { OnErr result (IsMemory result) }
+    {
+        match self.partitions.get(partition, name) {
+            None => Ok(None),
+            Some(Item::Raw(bytes)) => Ok(Some(Vec::from_slice(self.alloc, bytes)?)),
+            Some(Item::Held(held)) => Ok(Some(with_header(self.alloc, held)?)),
+        }
+    }
+
+    /// The bytes that follow the header of a name's file; none where it has no file or doesn't begin with a header of any
+    /// layout and version. The only error is `Memory`.
+    pub fn logical(&self, partition: &str, name: &[u8]) -> Result<Option<Vec<u8>>, Error>
+        ensures ok { IfOk result (λ bytes. items_of bytes ≡ logical_blob_of (directory_of self.now) (durable_of self.now) partition.now name.now) }
+        ensures memory { OnErr result (IsMemory result) }
+    {
+        match self.partitions.get(partition, name) {
+            None => Ok(None),
+            Some(Item::Raw(bytes)) => behind_header(self.alloc, bytes, partition, name),
+            Some(Item::Held(held)) => Ok(Some(held_bytes(self.alloc, held)?)),
+        }
+    }
+}
