@@ -312,9 +312,9 @@ durable_is names bytes lists write marker f o x e s = here (bytes o) e (s.at o)
     here (Some y) q t = sym (same_Some y x q) ∙ t.durable
 
 -- a store that is wrapped
-pub stands_wrapped : (names : Directory) (bytes : Durable) (lists : Place → List Pending) (kept : Place → List ℕ) → ((a : Place) (x : List ℕ) → bytes a ≡ Some x → kept a ≡ x) → ((a : Place) → lists a ≡ []) →
-    StandsFor names bytes lists 0 0 (wrapped names kept)
-stands_wrapped names bytes lists kept read none = record {
+pub stands_wrapped : (names : Directory) (bytes : Durable) (lists : Place → List Pending) (kept : Place → List ℕ) (write marker : ℕ) → ((a : Place) (x : List ℕ) → bytes a ≡ Some x → kept a ≡ x) → ((a : Place) → lists a ≡ []) →
+    StandsFor names bytes lists write marker (wrapped names kept write marker)
+stands_wrapped names bytes lists kept write marker read none = record {
   directory = refl;
   at = λ a. four _ _ _ _ _ _ [] [] refl (none a) refl refl (here (bytes a) (kept a) (λ x e. read a x e));
   next_write = refl;

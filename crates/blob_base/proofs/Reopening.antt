@@ -1,25 +1,19 @@
 -- Regions resolve, and what resolves is a region.
-use Rattle.std.proofs.Common.{◌↔◌, ◌≡◌, ℕ, ◌+◌, ◌-◌, ◌*◌, ◌/◌, ◌%◌, ◌^◌, ◌<◌, ◌≤◌, ◌==◌, ◌⊎◌, inl, inr, ⊎_elim, Bool, true, false, cond, List, [], ◌∷◌, ◌++◌, length, take, drop, replicate, get_or, refl, sym, ap, ap₂, ◌∙◌, arith, Option, Some, None, Result, Ok, Err, nat_lt, min, subst, true≢false}
-use Rattle.std.proofs.lemmas.List.{append-nil, take-append-drop, take-append-le, length-append, drop_all}
+use Rattle.std.proofs.Common.{◌≡◌, ℕ, ◌+◌, ◌-◌, ◌*◌, ◌/◌, ◌%◌, ◌^◌, ◌<◌, ◌≤◌, Bool, true, false, cond, List, [], ◌∷◌, ◌++◌, length, refl, sym, ap, ◌∙◌, arith, Some, None, Ok, Err, nat_lt}
+use Rattle.std.proofs.lemmas.List.{append-nil, length-append}
 use Rattle.std.proofs.lemmas.Bool.{ltb-true}
-use Rattle.std.proofs.lemmas.Slice.Eq.{bytes_eq-Decides}
-use Rattle.std.proofs.lemmas.Bool.Decides.{Decides-eqb}
-use Rattle.std.specs.Int.{to_be_bytes, w32}
-use Rattle.std.specs.Str.{bytes_eq}
-use Rattle.std.specs.List.{list_all}
 use Rattle.std.specs.Range.{range_inclusive_start, range_inclusive_end}
 use Rattle.std.specs.declared.ops.RangeInclusive.{RangeInclusive}
 use Rattle.blob_base.specs.declared.layout.Layout.{Layout}
 use Rattle.blob_base.specs.declared.layout.Layout.TheVariants.{V0, V1}
 use Rattle.blob_base.specs.declared.version.BlobVersion.{BlobVersion}
-use Rattle.blob_base.specs.Checksum.{crc32c}
 use Rattle.blob_base.specs.Directory.{data_start}
-use Rattle.blob_base.specs.Header.{head, prelude, region, magic_of, layout_number, IsFront, IsTorn, number_at}
-use Rattle.blob_base.specs.HeaderLaws.{reopened, HasHeader}
-use Rattle.blob_base.specs.Parse.{Accepted, accepted, every_layout, Failure, LayoutMismatch, VersionMismatch, is_sealed, page_failure, region_failure, is_accepted, layout_numbered, parsed_whole, parsed_in, parsed}
+use Rattle.blob_base.specs.Header.{prelude, region, IsTorn, number_at}
+use Rattle.blob_base.specs.HeaderLaws.{reopened}
+use Rattle.blob_base.specs.Parse.{Accepted, accepted, every_layout, Failure, LayoutMismatch, VersionMismatch, is_accepted, parsed_whole, parsed}
 use Rattle.blob_base.specs.Resolve.{found_in, is_torn, resolution}
 use Rattle.blob_base.specs.Versions.{is_in_range}
-use Rattle.blob_base.proofs.NoneSide.{Found, whole_page, length_region, not_true, not_v0, filled}
+use Rattle.blob_base.proofs.NoneSide.{Found, whole_page, length_region, not_true, not_v0}
 use Rattle.blob_base.proofs.Resolutions.{parsed-append, past_none}
 use Rattle.blob_base.proofs.TornTest.{is_torn-IsTorn}
 
@@ -95,3 +89,17 @@ pub reopened_all : (least greatest : ℕ) (layout : Layout) (v size : ℕ) → r
     ≡ cond (is_in_range least greatest v) (Ok (Some (size, record { 0 = v }, data_start layout))) (Err (VersionMismatch least greatest v))
 reopened_all least greatest V0 v size = refl
 reopened_all least greatest V1 v size = refl
+
+said : (layout : Layout) (v n : ℕ) (raw : List ℕ) (a : Accepted) → number_at raw 6 ≡ v → n ≡ data_start layout → is_accepted a layout ≡ true
+    → is_in_range a.least a.greatest v ≡ true → parsed_whole None layout raw n a ≡ Ok (0, record { 0 = v }, data_start layout)
+said layout v n raw a e len accepts_layout accepts_version =
+    let nothing_left : n - data_start layout ≡ 0 = omega arith in
+    rw (accepts_layout, e, accepts_version, nothing_left) refl
+
+-- a region is read as it was written
+pub parses_back : (layout : Layout) (v : ℕ) (a : Accepted) → v < 2 ^ 16 → is_accepted a layout ≡ true → is_in_range a.least a.greatest v ≡ true
+    → parsed (region layout v) (data_start layout) a ≡ Ok (0, record { 0 = v }, data_start layout)
+unfolding region
+parses_back V0 v a fits accepts_layout accepts_version = said V0 v 8 (region V0 v) a (version_back v fits) refl accepts_layout accepts_version
+parses_back V1 v a fits accepts_layout accepts_version =
+    rw (whole_page v 4096 (omega arith)) (said V1 v 4096 (region V1 v) a (version_back v fits) refl accepts_layout accepts_version)

@@ -142,7 +142,7 @@ directory_again bytes d = record { has_partition = d.has_partition; file = λ p 
 abbrev pub reopened : Files → Files
 reopened f = record { directory = directory_again (durable_at f) f.directory; base = f.base; log = []; next_write = 0; next_marker = 0 }
 
--- A store that is wrapped: nothing is recorded yet.
+-- A store that is wrapped: nothing is recorded yet, and writes and markers are numbered from here on.
 
-abbrev pub wrapped : Directory → (Place → List ℕ) → Files
-wrapped d bytes = record { directory = d; base = bytes; log = []; next_write = 0; next_marker = 0 }
+abbrev pub wrapped : Directory → (Place → List ℕ) → ℕ → ℕ → Files
+wrapped d bytes write marker = record { directory = d; base = bytes; log = []; next_write = write; next_marker = marker }

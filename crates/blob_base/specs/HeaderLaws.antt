@@ -1,11 +1,10 @@
 -- What holds of every header region and of every blob that has a header.
-use Rattle.std.specs.Prelude.{◌≡◌, ◌↔◌, ℕ, ◌^◌, ◌<◌, Bool, true, if◌then◌else◌, List, ◌++◌, length, slice_index, drop, Option, Some, Result, Ok, Err}
-use Rattle.std.specs.declared.ops.RangeInclusive.{RangeInclusive}
+use Rattle.std.specs.Prelude.{◌≡◌, ◌↔◌, ℕ, ◌^◌, ◌<◌, true, if◌then◌else◌, List, ◌++◌, length, slice_index, drop, Option, Some, Result, Ok, Err}
 use Rattle.blob_base.specs.declared.layout.Layout.{Layout}
 use Rattle.blob_base.specs.declared.version.BlobVersion.{BlobVersion}
 use Rattle.blob_base.specs.Directory.{data_start}
 use Rattle.blob_base.specs.Header.{region, IsTorn}
-use Rattle.blob_base.specs.Parse.{Accepted, Failure, LayoutMismatch, VersionMismatch, is_accepted}
+use Rattle.blob_base.specs.Parse.{Accepted, Failure, LayoutMismatch, VersionMismatch, is_accepted, parsed}
 use Rattle.blob_base.specs.Resolve.{is_torn, resolution}
 use Rattle.blob_base.specs.Versions.{is_in_range}
 
@@ -21,6 +20,12 @@ abbrev pub RegionsReopen : Type 0
 RegionsReopen =
     (layout : Layout) (version : ℕ) (data_bytes : List ℕ) (a : Accepted) → version < 2 ^ 16
     → resolution (region layout version ++ data_bytes) a ≡ reopened a layout version (length data_bytes)
+
+-- a region that is accepted is parsed as it was created: no bytes, its version and its data offset
+abbrev pub RegionsParseBack : Type 0
+RegionsParseBack =
+    (layout : Layout) (version : ℕ) (a : Accepted) → version < 2 ^ 16 → is_accepted a layout ≡ true → is_in_range a.least a.greatest version ≡ true
+    → parsed (region layout version) (data_start layout) a ≡ Ok (0, record { 0 = version }, data_start layout)
 
 -- a blob begins with a whole region of an accepted layout and version, and has so many bytes behind it
 pub record HasHeader (blob : List ℕ) (a : Accepted) (size version offset : ℕ) : Type 0 where

@@ -2,10 +2,14 @@
 //! that does nothing; its contract is the law.
 
 ghost use Rattle.std.specs.Prelude.{◌≡◌};
-ghost use Rattle.blob_base.specs.Header.{IsTorn};
-ghost use Rattle.blob_base.specs.HeaderLaws.{RegionsReopen, ResolvedHasHeader, TornIsTested};
+ghost use Rattle.blob_base.specs.HeaderLaws.{RegionsParseBack, RegionsReopen, ResolvedHasHeader, TornIsTested};
 
 use crate::header::Header;
+
+/// A region that is accepted parses back as it was created.
+pub fn regions_parse_back()
+    ensures { RegionsParseBack }
+{}
 
 /// A whole region, with any bytes behind it, resolves to the number of these bytes, its version
 /// and its data offset, or to the mismatch where its layout or its version isn't accepted.

@@ -1,9 +1,6 @@
 //! The base of the crash-fault storage layer: errors, blob headers, buffers, rates, and the storage traits with their laws.
 #![tactic(auto)]
 
-#[cfg(test)]
-#[cfg(test)]
-
 pub mod any_store;
 mod block_tables;
 pub mod buffers;
@@ -15,7 +12,9 @@ pub mod handle;
 pub mod header;
 pub mod header_error;
 pub mod header_laws;
+#[cfg(test)]
 mod header_tests;
+#[cfg(test)]
 mod hostile_tests;
 pub mod laws;
 pub mod layout;

@@ -4,3 +4,4 @@ pub mod OpenHistory
 pub mod OpenNames
 pub mod Recreation
 pub mod Steps
+pub mod Tokens

@@ -4,4 +4,7 @@ pub mod Names
 pub mod OpenNames
 pub mod Opens
 pub mod Recreated
+pub mod Replies
 pub mod Scripted
+pub mod Settings
+pub mod Tokens

@@ -8,6 +8,7 @@ pub mod open;
 pub mod opens;
 pub mod pending;
 pub mod reply;
+pub mod script;
 pub mod scripted_rng;
 
 pub use call::Call;

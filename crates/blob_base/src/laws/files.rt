@@ -120,10 +120,10 @@ pub fn snapshots()
 
 /// A store that is wrapped stands for files of which nothing is recorded yet.
 pub fn wraps()
-    ensures { (names : Directory) (bytes : Durable) (lists : Place → List Pending) (kept : Place → List ℕ) →
+    ensures { (names : Directory) (bytes : Durable) (lists : Place → List Pending) (kept : Place → List ℕ) (write marker : ℕ) →
         ((a : Place) (x : List ℕ) → bytes a ≡ Some x → kept a ≡ x) →
         ((a : Place) → lists a ≡ []) →
-        StandsFor names bytes lists 0 0 (wrapped names kept) }
+        StandsFor names bytes lists write marker (wrapped names kept write marker) }
 {}
 
 /// What a store has of a current incarnation is what the files say is durable; and a call that changes nothing stands for the same files.

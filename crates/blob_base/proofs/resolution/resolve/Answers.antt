@@ -1,5 +1,4 @@
-use Rattle.std.proofs.Common.{◌<◌, ◌⊎◌, sym, ap, ◌∙◌, Ok, Err}
-use Rattle.blob_base.specs.Header.{IsTorn}
+use Rattle.std.proofs.Common.{sym, ap, ◌∙◌}
 use Rattle.blob_base.specs.Parse.{accepted, failure_of, read_of}
 use Rattle.blob_base.specs.Resolve.{IsNoneSide, refusing, resolution}
 use Rattle.blob_base.proofs.NoneSide.{over_blob}

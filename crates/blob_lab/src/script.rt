@@ -1,0 +1,13 @@
+//! Scripts: lines that are read as calls, and replies that are printed as lines.
+
+pub mod call_line;
+pub mod line;
+pub mod refused_line;
+pub mod reply_line;
+pub mod setting;
+pub mod token;
+
+pub use line::{Line, read_line};
+pub use refused_line::RefusedLine;
+pub use reply_line::print_reply;
+pub use setting::Setting;
