@@ -2,8 +2,11 @@ pub mod ByBytes
 pub mod Copies
 pub mod Directories
 pub mod Exchanges
+pub mod Exits
 pub mod Fed
 pub mod ListingOf
 pub mod Listings
+pub mod Openings
 pub mod Overlays
 pub mod Pieces
+pub mod Rooms

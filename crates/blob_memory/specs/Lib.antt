@@ -1,6 +1,10 @@
+pub mod AnswerLaws
+pub mod Answers
 pub mod Contents
+pub mod Found
 pub mod Laws
 pub mod Listing
 pub mod Maps
 pub mod Numbers
 pub mod Partitions
+pub mod Store

@@ -1,0 +1,12 @@
+-- What a result says of a call, by its refusal.
+use Rattle.std.proofs.Common.{◌≡◌, sym, Option, Some, None, Result, Ok, Err}
+use Rattle.std.specs.Prelude.{OnOk}
+use Rattle.std.proofs.lemmas.Option.{none-some}
+use Rattle.blob_base.specs.declared.error.Error.{Error}
+use Rattle.blob_base.specs.Refusals.{refused}
+
+module _ {T : Type 0} where
+  -- what holds of an Ok holds where nothing was refused
+  pub where_ok : (r : Result T Error) (P : Type 0) → OnOk r P → refused r ≡ None → P
+  where_ok (Ok x) P h e = h
+  where_ok (Err x) P h e = absurd (none-some _ (sym e))

@@ -1,0 +1,7 @@
+use Rattle.std.proofs.Common.{◌∙◌, ap, sym}
+use Rattle.blob_base.specs.Refusals.{refused}
+use Rattle.blob_memory.proofs.Exits.{where_ok}
+use Rattle.blob_memory.proofs.blob.BlobBlobStorage.start_sync.Goals as goal
+
+pub returns-clause-synced : goal.returns-clause-synced
+returns-clause-synced c = λ h. where_ok c.sync.result _ c.sync.ensures.synced (sym (ap refused c.ready.ensures.outcome) ∙ h)

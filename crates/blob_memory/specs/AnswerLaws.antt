@@ -1,0 +1,91 @@
+-- What no call of a memory store answers.
+use Rattle.std.specs.Prelude.{◌≡◌, ◌≢◌, ◌⊎◌, ℕ, ◌+◌, ◌≤◌, nat_le, Bool, true, false, not, ◌&&◌, ◌||◌, if◌then◌else◌, List, [], ◌∷◌, length, Option, Some, None, IsTrue}
+use Rattle.std.proofs.Common.{refl, sym, ap, subst, ◌∙◌, inl, inr, arith, true≢false}
+use Rattle.std.proofs.lemmas.Bool.{false≢true}
+use Rattle.std.proofs.lemmas.Bool.Decides.{nat_tests}
+use Rattle.std.proofs.lemmas.Option.{none-some}
+use Rattle.blob_base.specs.Directory.{Directory, is_current}
+use Rattle.blob_base.specs.Places.{Place}
+use Rattle.blob_base.specs.Refusals.{Refusal, OffsetOverflow, Injected, Memory}
+use Rattle.blob_memory.specs.declared.blob.Blob.{Blob}
+use Rattle.blob_memory.specs.declared.storage.Storage.{Storage}
+use Rattle.blob_memory.specs.Answers.{is_uncounted, is_idle, missing, write_refusal, end_refusal, OrMemory, AllowsWrite, may_grow}
+use Rattle.blob_memory.specs.Store.{directory, place, room}
+
+-- the refusals that no state calls for
+abbrev pub is_uncalled : Option Refusal → Bool
+is_uncalled (Some Injected) = true
+is_uncalled (Some Memory) = true
+is_uncalled _ = false
+
+abbrev pub is_memory : Option Refusal → Bool
+is_memory (Some Memory) = true
+is_memory _ = false
+
+write_called : (d : Directory) (o : Place) (offset : ℕ) (bytes : List ℕ) (sync : Bool) → is_uncalled (write_refusal d o offset bytes sync) ≡ false
+write_called d o offset bytes sync = go (is_idle sync bytes) (is_uncounted (offset + o.start + length bytes)) (sync && not (is_current d o)) where
+  go : (i u m : Bool) → is_uncalled (if i then None else if u then Some OffsetOverflow else if m then Some (missing o) else None) ≡ false
+  go true u m = refl
+  go false true m = refl
+  go false false true = refl
+  go false false false = refl
+
+end_called : (o : Place) (end : ℕ) → is_uncalled (end_refusal o end) ≡ false
+end_called o end = go (is_uncounted (end + o.start)) where
+  go : (u : Bool) → is_uncalled (if u then Some OffsetOverflow else None) ≡ false
+  go true = refl
+  go false = refl
+
+-- nothing is injected
+pub uninjected : (b : Blob) (s : Storage) (offset : ℕ) (bytes : List ℕ) (sync : Bool) → true ≡ true
+    → AllowsWrite (directory s) (place b) (room b s) offset bytes sync (Some Injected) → ⊥
+uninjected b s offset bytes sync direct (inl h) = false≢true (ap is_memory h.0)
+uninjected b s offset bytes sync direct (inr h) = true≢false (ap is_uncalled h ∙ write_called (directory s) (place b) offset bytes sync)
+
+pub resize_uninjected : (b : Blob) (s : Storage) (len : ℕ) → true ≡ true → OrMemory (end_refusal (place b) len) (Some Injected) → ⊥
+resize_uninjected b s len direct (inl h) = false≢true (ap is_memory h)
+resize_uninjected b s len direct (inr h) = true≢false (ap is_uncalled h ∙ end_called (place b) len)
+
+stale_at : (d : Directory) (o : Place) (room offset : ℕ) (bytes : List ℕ) → is_current d o ≡ false → bytes ≢ [] → AllowsWrite d o room offset bytes true None → ⊥
+stale_at d o room offset bytes stale some (inl h) = none-some _ h.0
+stale_at d o room offset [] stale some (inr h) = some refl
+stale_at d o room offset (b ∷ bytes) stale some (inr h) = go (is_uncounted (offset + o.start + length (b ∷ bytes))) (is_current d o) stale h where
+  go : (u c : Bool) → c ≡ false → None ≡ (if u then Some OffsetOverflow else if true && not c then Some (missing o) else None) → ⊥
+  go true c e z = none-some _ z
+  go false true e z = true≢false e
+  go false false e z = none-some _ z
+
+-- a stale handle's SYNC write of some bytes isn't answered Ok
+pub stale_refused : (b : Blob) (s : Storage) (offset : ℕ) (bytes : List ℕ) → is_current (directory s) (place b) ≡ false → bytes ≢ []
+    → AllowsWrite (directory s) (place b) (room b s) offset bytes true None → ⊥
+stale_refused b s offset bytes stale some h = stale_at (directory s) (place b) (room b s) offset bytes stale some h
+
+within_at : (d : Directory) (o : Place) (room offset : ℕ) (bytes : List ℕ) → is_current d o ≡ true → offset + length bytes ≤ room → AllowsWrite d o room offset bytes true (Some Memory) → ⊥
+within_at d o room offset bytes now fits (inl h) = go (is_idle true bytes) (is_current d o) (nat_le (offset + length bytes) room) now (grind (arith, nat_tests)) h.1 where
+  go : (i c l : Bool) → c ≡ true → l ≡ true → IsTrue (not (i || (true && c && l))) → ⊥
+  go true c l e f z = false≢true z
+  go false true true e f z = false≢true z
+  go false true false e f z = false≢true f
+  go false false l e f z = false≢true e
+within_at d o room offset bytes now fits (inr h) = true≢false (ap is_uncalled h ∙ write_called d o offset bytes true)
+
+-- a current handle's SYNC write within its room finds memory
+pub within_room : (b : Blob) (s : Storage) (offset : ℕ) (bytes : List ℕ) → is_current (directory s) (place b) ≡ true → offset + length bytes ≤ room b s
+    → AllowsWrite (directory s) (place b) (room b s) offset bytes true (Some Memory) → ⊥
+within_room b s offset bytes now fits h = within_at (directory s) (place b) (room b s) offset bytes now fits h
+
+less_room : (i s : Bool) (k m n : ℕ) → m ≤ n → IsTrue (not (i || (s && nat_le k n))) → IsTrue (not (i || (s && nat_le k m)))
+less_room true s k m n less h = h
+less_room false false k m n less h = h
+less_room false true k m n less h = grind (arith, nat_tests)
+
+-- what is answered with more room may be answered with less
+pub answers_kept : (d e : Directory) (o : Place) (m n : ℕ) → e ≡ d → m ≤ n → (offset : ℕ) (bytes : List ℕ) (sync : Bool) (answer : Option Refusal)
+    → AllowsWrite e o n offset bytes sync answer → AllowsWrite d o m offset bytes sync answer
+answers_kept d e o m n same less offset bytes sync answer h =
+    let here : AllowsWrite d o n offset bytes sync answer = subst (λ (f : Directory). AllowsWrite f o n offset bytes sync answer) same h in
+    less_at here
+  where
+    less_at : AllowsWrite d o n offset bytes sync answer → AllowsWrite d o m offset bytes sync answer
+    less_at (inl z) = inl (z.0, less_room (is_idle sync bytes) (sync && is_current d o) (offset + length bytes) m n less z.1)
+    less_at (inr z) = inr z

@@ -1,0 +1,33 @@
+-- A memory store and its handles, as the contracts of their calls see them.
+use Rattle.std.specs.Prelude.{ℕ, min, List, Option, None, Some, Vec, vec_capacity}
+use Rattle.std.specs.Global.{Global}
+use Rattle.blob_base.specs.Directory.{Directory}
+use Rattle.blob_base.specs.Durable.{Durable}
+use Rattle.blob_base.specs.Places.{Place}
+use Rattle.blob_memory.specs.declared.storage.Storage.{Storage}
+use Rattle.blob_memory.specs.declared.blob.Blob.{Blob}
+use Rattle.blob_memory.specs.Contents.{directory_of, durable_of, vec_at}
+
+-- the partitions, the names and what each name's file is
+abbrev pub directory : Storage → Directory
+directory s = directory_of s.contents
+
+-- the durable logical bytes of each current incarnation
+abbrev pub durable : Storage → Durable
+durable s = durable_of s.contents
+
+-- the incarnation that a handle was opened on
+abbrev pub place : Blob → Place
+place b = b.origin
+
+-- the bytes that a handle's reads see
+abbrev pub live : Blob → List ℕ
+live b = b.live.items
+
+-- how far both live and durable bytes reach without memory; not at all where there are no durable ones
+abbrev pub room_in : ℕ → Option (Vec ℕ Global) → ℕ
+room_in capacity None = 0
+room_in capacity (Some v) = min capacity (vec_capacity v)
+
+abbrev pub room : Blob → Storage → ℕ
+room b s = room_in (vec_capacity b.live) (vec_at s.contents b.origin)

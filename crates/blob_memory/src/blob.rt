@@ -1,0 +1,213 @@
+//! A handle on a blob of the memory store.
+ghost use Rattle.std.specs.Prelude.{◌≡◌, ℕ, ◌≤◌, ◌+◌, ◌≢◌, [], true, false, None, OnOk, IfOk, OnErr, length, take, drop, vec_capacity};
+ghost use Rattle.blob_base.specs.Bytes.{overlay, resized, written};
+ghost use Rattle.blob_base.specs.Directory.{Directory, is_current};
+ghost use Rattle.blob_base.specs.Durable.{changed};
+ghost use Rattle.blob_base.specs.Live.{live_after};
+ghost use Rattle.blob_base.specs.Refusals.{refused, refusal_of, IsMemory};
+ghost use Rattle.blob_memory.specs.Answers.{missing, read_refusal};
+
+use crate::live;
+use crate::origin::Origin;
+use crate::overlay;
+use crate::storage::Storage;
+use blob_base::{Error, Handle, IoBufs, IoBufsMut, ReadOptions, WriteOptions};
+use std::alloc::AllocError;
+
+/// The live bytes of a blob, and the incarnation that they were opened on.
+#[derive(Drop)]
+pub struct Blob {
+    pub(crate) origin: Origin,
+    pub(crate) live: Vec<u8>,
+}
+
+impl Blob {
+    ghost use Rattle.blob_memory.specs.Store.{place, live};
+
+    /// The live bytes of a range, or why it can't be read.
+    fn readable(&self, offset: u64, len: usize) -> Result<&[u8], Error>
+        ensures bytes { IfOk result (λ bytes. bytes.now ≡ take len (drop offset (live self.now))) }
+        ensures len { IfOk result (λ bytes. length bytes.now ≡ len) }
+        ensures within { OnOk result (offset + len ≤ length (live self.now)) }
+        ensures refusal { refused result ≡ read_refusal (place self.now) (live self.now) offset len }
+    {
+        let end = live::logical_end(self.origin.data_offset(), offset, len)?;
+        if end > self.live.len() {
+            return Err(Error::BlobInsufficientLength);
+        }
+        Ok(&self.live[offset as usize..end])
+    }
+
+    /// The refusal of a call whose incarnation isn't current. The only error is want of memory.
+    fn missing(&self) -> Result<Error, AllocError>
+        ensures { IfOk result (λ error. refusal_of error ≡ missing (place self.now)) }
+    {
+        let alloc = *self.live.allocator();
+        let partition = String::from_str(alloc, self.origin.partition())?;
+        let name = hex::encode(alloc, self.origin.name())?;
+        Ok(Error::BlobMissing(partition, name))
+    }
+}
+
+impl Blob {
+    ghost use Rattle.blob_memory.specs.Answers.{AllowsWrite};
+    ghost use Rattle.blob_memory.specs.Store.{place, live, directory, durable, room};
+
+    /// Writes the live bytes alone.
+    fn write_plain(&mut self, offset: u64, bytes: &IoBufs) -> Result<(), Error>
+        ensures allowed { (d : Directory) (room : ℕ) → AllowsWrite d (place self.old) room offset bytes.now false (refused result) }
+        ensures live { live self.new ≡ live_after false (live self.old) offset bytes.now (refused result) }
+        ensures place { place self.new ≡ place self.old }
+    {
+        let end = live::logical_end(self.origin.data_offset(), offset, bytes.remaining())?;
+        overlay::make_room(&mut self.live, end)?;
+        live::write(&mut self.live, offset as usize, bytes);
+        Ok(())
+    }
+
+    /// Writes the live bytes, and makes the range durable where the incarnation is current.
+    fn write_sync(&mut self, store: &mut Storage, offset: u64, bytes: &IoBufs) -> Result<(), Error>
+        ensures allowed { AllowsWrite (directory store.old) (place self.old) (room self.old store.old) offset bytes.now true (refused result) }
+        ensures live { live self.new ≡ live_after true (live self.old) offset bytes.now (refused result) }
+        ensures durable { OnOk result (durable store.new ≡ changed (durable store.old) (place self.old) (λ x. overlay x offset bytes.now)) }
+        ensures current { OnOk result (bytes.now ≢ [] → is_current (directory store.old) (place self.old) ≡ true) }
+        ensures stale { is_current (directory store.old) (place self.old) ≡ false → durable store.new ≡ durable store.old }
+        ensures err { OnErr result (durable store.new ≡ durable store.old) }
+        ensures room { OnOk result (room self.old store.old ≤ room self.new store.new) }
+        ensures directory { directory store.new ≡ directory store.old }
+        ensures place { place self.new ≡ place self.old }
+    {
+        if bytes.is_empty() {
+            return Ok(());
+        }
+        let end = live::logical_end(self.origin.data_offset(), offset, bytes.remaining())?;
+        if !store.contents.is_current(&self.origin) {
+            let missing = self.missing()?;
+            overlay::make_room(&mut self.live, end)?;
+            live::write(&mut self.live, offset as usize, bytes);
+            return Err(missing);
+        }
+        overlay::make_room(&mut self.live, end)?;
+        store
+            .contents
+            .write_durable(&self.origin, offset as usize, bytes)?;
+        live::write(&mut self.live, offset as usize, bytes);
+        Ok(())
+    }
+}
+
+impl blob_base::Blob<Storage> for Blob {
+    ghost use Rattle.blob_memory.specs.AnswerLaws.{stale_refused, uninjected, resize_uninjected, within_room};
+    ghost use Rattle.blob_memory.specs.Answers.{OrMemory, AllowsWrite, end_refusal, sync_refusal};
+    ghost use Rattle.blob_memory.specs.Store.{place, live, directory, durable, room};
+
+    ghost live = { live };
+
+    ghost place = { place };
+
+    ghost room = { room };
+
+    ghost is_direct = { true };
+
+    ghost allows_read = { λ b s offset len. OrMemory (read_refusal (place b) (live b) offset len) };
+
+    ghost allows_write = { λ b s offset bytes sync. AllowsWrite (directory s) (place b) (room b s) offset bytes sync };
+
+    ghost allows_resize = { λ b s len. OrMemory (end_refusal (place b) len) };
+
+    ghost allows_sync = { λ b s. OrMemory (sync_refusal (directory s) (place b)) };
+
+    ghost allows_start_sync = { λ b s. OrMemory (sync_refusal (directory s) (place b)) };
+
+    ghost allows_reserve = { λ b s end. OrMemory (end_refusal (place b) end) };
+
+    ghost stale_refused = { stale_refused };
+
+    ghost uninjected = { uninjected };
+
+    ghost resize_uninjected = { resize_uninjected };
+
+    ghost within_room = { within_room };
+
+    fn read_at(
+        &self,
+        store: &mut Storage,
+        offset: u64,
+        len: usize,
+        options: ReadOptions,
+    ) -> Result<IoBufsMut, Error> {
+        let _ = store;
+        let _ = options;
+        let bytes = self.readable(offset, len)?;
+        let mut buf = IoBufsMut::with_capacity(*self.live.allocator(), len)?;
+        buf.set(bytes);
+        Ok(buf)
+    }
+
+    fn read_at_buf(
+        &self,
+        store: &mut Storage,
+        offset: u64,
+        len: usize,
+        buf: IoBufsMut,
+        options: ReadOptions,
+    ) -> Result<IoBufsMut, Error>
+        requires { len ≤ buf.capacity }
+        ensures allowed { refused result ≡ read_refusal (place self.now) (live self.now) offset len }
+        ensures within { OnOk result (offset + len ≤ length (live self.now)) }
+        ensures bytes { IfOk result (λ read. read.bytes ≡ take len (drop offset (live self.now))) }
+        ensures directory { directory store.new ≡ directory store.old }
+        ensures durable { durable store.new ≡ durable store.old }
+    {
+        let _ = store;
+        let _ = options;
+        let bytes = self.readable(offset, len)?;
+        let mut buf = buf;
+        buf.set(bytes);
+        Ok(buf)
+    }
+
+    fn write_at(
+        &mut self,
+        store: &mut Storage,
+        offset: u64,
+        bytes: IoBufs,
+        options: WriteOptions,
+    ) -> Result<(), Error> {
+        if options.contains(WriteOptions::SYNC) {
+            self.write_sync(store, offset, &bytes)
+        } else {
+            self.write_plain(offset, &bytes)
+        }
+    }
+
+    fn resize(&mut self, store: &mut Storage, len: u64) -> Result<(), Error> {
+        let _ = store;
+        let len = live::logical_end(self.origin.data_offset(), len, 0)?;
+        overlay::resize(&mut self.live, len)?;
+        Ok(())
+    }
+
+    fn sync(&mut self, store: &mut Storage) -> Result<(), Error> {
+        if !store.contents.is_current(&self.origin) {
+            return Err(self.missing()?);
+        }
+        store.contents.publish(&self.origin, &self.live)?;
+        Ok(())
+    }
+
+    fn start_sync(&mut self, store: &mut Storage) -> Handle {
+        Handle::ready(self.sync(store))
+    }
+
+    fn reserve(&mut self, store: &mut Storage, end: u64) -> Result<(), Error> {
+        let end = live::logical_end(self.origin.data_offset(), end, 0)?;
+        overlay::make_room(&mut self.live, end)?;
+        store.contents.reserve_crash(&self.origin, end)?;
+        Ok(())
+    }
+
+    fn origin(&self) -> Result<Origin, Error> {
+        Ok(self.origin.copied()?)
+    }
+}

@@ -1,0 +1,145 @@
+// What an open finds of a name's file.
+ghost use Rattle.std.specs.Prelude.{◌≡◌, ◌≤◌, ◌<◌, ◌^◌, ◌⊎◌, List, ℕ, [], None, Some, true, false, IfOk, IfErr, OnErr, length, drop};
+ghost use Rattle.std.specs.Range.{range_inclusive_start, range_inclusive_end};
+ghost use Rattle.blob_base.specs.Directory.{Raw, data_start};
+ghost use Rattle.blob_base.specs.Opening.{opening, Begins, Declines, layout_from};
+ghost use Rattle.blob_base.specs.Refusals.{refusal_of, IsMemory, IsMemoryError};
+ghost use Rattle.blob_base.specs.Versions.{is_in_range};
+
+use crate::item::Held;
+use blob_base::header_laws::resolved_has_header;
+use blob_base::{BlobVersion, Error, Layout, resolve};
+use std::alloc::Global;
+use std::ops::RangeInclusive;
+
+/// A header, and a copy of the logical bytes behind it.
+#[derive(Drop)]
+pub struct Found {
+    /// The number of the current incarnation; none where a new one is to begin.
+    pub number: Option<u64>,
+    /// Whether the header and the bytes are those of a file.
+    pub is_file: bool,
+    pub layout: Layout,
+    pub version: BlobVersion,
+    pub live: Vec<u8>,
+}
+
+/// What is found where a blob is to be created.
+pub fn nothing(alloc: Global, versions: &RangeInclusive<BlobVersion>) -> Found
+    ensures number { result.number ≡ None }
+    ensures file { result.is_file ≡ false }
+    ensures layout { result.layout ≡ Layout.V1 }
+    ensures version { result.version ≡ range_inclusive_end versions.now }
+    ensures live { result.live.items ≡ [] }
+{
+    Found {
+        number: None,
+        is_file: false,
+        layout: Layout::V1,
+        version: *versions.end(),
+        live: Vec::new(alloc),
+    }
+}
+
+// A range's ends decide, also where it was iterated to its end.
+fn has_version(versions: &RangeInclusive<BlobVersion>, version: BlobVersion) -> bool
+    ensures fits { version.0 < 2 ^ 16 }
+    ensures within { result ≡ is_in_range (range_inclusive_start versions.now).0 (range_inclusive_end versions.now).0 version.0 }
+{
+    let number = version.get();
+    versions.start().get() <= number && number <= versions.end().get()
+}
+
+/// The layout whose logical bytes begin there.
+fn layout_at(offset: u64) -> Layout
+    ensures { result ≡ layout_from offset }
+{
+    if offset == Layout::V0.data_offset() {
+        Layout::V0
+    } else {
+        Layout::V1
+    }
+}
+
+impl Held {
+    ghost use Rattle.blob_memory.specs.Contents.{file_when};
+    ghost use Rattle.blob_memory.specs.Found.{opening_of};
+
+    /// What an open finds of an incarnation, current or ended. Its header is known, so nothing is resolved.
+    pub fn found(
+        &self,
+        is_ended: bool,
+        versions: &RangeInclusive<BlobVersion>,
+    ) -> Result<Found, Error>
+        ensures opening { IfOk result (λ found. (p n : List ℕ) → opening p n (Some (file_when is_ended self.now)) (range_inclusive_start versions.now).0 (range_inclusive_end versions.now).0 ≡ opening_of found) }
+        ensures ended { IfOk result (λ found. is_ended ≡ true → found.number ≡ None) }
+        ensures current { IfOk result (λ found. is_ended ≡ false → found.number ≡ Some self.now.number) }
+        ensures file { IfOk result (λ found. found.is_file ≡ true) }
+        ensures layout { IfOk result (λ found. found.layout ≡ self.now.layout) }
+        ensures version { IfOk result (λ found. found.version ≡ self.now.version) }
+        ensures live { IfOk result (λ found. found.live.items ≡ self.now.bytes.items) }
+        ensures err { IfErr result (λ error. IsMemoryError error ⊎ ((p n : List ℕ) → opening p n (Some (file_when is_ended self.now)) (range_inclusive_start versions.now).0 (range_inclusive_end versions.now).0 ≡ Declines (refusal_of error))) }
+    {
+        if !has_version(versions, self.version) {
+            return Err(Error::BlobVersionMismatch {
+                expected: *versions.start()..=*versions.end(),
+                found: self.version,
+            });
+        }
+        Ok(Found {
+            number: (!is_ended).then_some(self.number),
+            is_file: true,
+            layout: self.layout,
+            version: self.version,
+            live: Vec::from_slice(*self.bytes.allocator(), &self.bytes)?,
+        })
+    }
+}
+
+ghost use Rattle.blob_memory.specs.Found.{opening_of, IsFoundRaw};
+
+/// What is found behind a header of a raw file.
+fn found_behind(
+    alloc: Global,
+    raw: &[u8],
+    version: BlobVersion,
+    offset: u64,
+) -> Result<Found, Error>
+    requires within { offset ≤ length raw.now }
+    requires start { data_start (layout_from offset) ≡ offset }
+    ensures opening { IfOk result (λ found. opening_of found ≡ Begins (layout_from offset) version.0 (drop offset raw.now)) }
+    ensures found { IfOk result (λ found. IsFoundRaw found.number found.is_file found.layout found.live.items raw.now) }
+    ensures err { OnErr result (IsMemory result) }
+{
+    let bytes = &raw[offset as usize..];
+    let live = Vec::from_slice(alloc, bytes)?;
+    Ok(Found {
+        number: None,
+        is_file: true,
+        layout: layout_at(offset),
+        version,
+        live,
+    })
+}
+
+/// What an open finds of a raw file.
+pub fn found_raw(
+    alloc: Global,
+    raw: &[u8],
+    versions: &RangeInclusive<BlobVersion>,
+    partition: &str,
+    name: &[u8],
+) -> Result<Found, Error>
+    ensures opening { IfOk result (λ found. opening partition.now name.now (Some (Raw raw.now)) (range_inclusive_start versions.now).0 (range_inclusive_end versions.now).0 ≡ opening_of found) }
+    ensures found { IfOk result (λ found. IsFoundRaw found.number found.is_file found.layout found.live.items raw.now) }
+    ensures err { IfErr result (λ error. IsMemoryError error ⊎ (opening partition.now name.now (Some (Raw raw.now)) (range_inclusive_start versions.now).0 (range_inclusive_end versions.now).0 ≡ Declines (refusal_of error))) }
+{
+    resolved_has_header();
+    let len = raw.len() as u64;
+    let layouts = Layout::all();
+    let Some((_, version, offset)) = resolve(alloc, raw, len, &layouts, versions, partition, name)?
+    else {
+        return Ok(nothing(alloc, versions));
+    };
+    found_behind(alloc, raw, version, offset)
+}

@@ -1,0 +1,170 @@
+//! The memory store.
+ghost use Rattle.std.specs.Prelude.{◌≡◌, ◌<◌, ◌≤◌, ℕ, true, false, None, length, OnOk, IfOk};
+ghost use Rattle.hex.specs.Hex.{encode_lower};
+ghost use Rattle.blob_base.specs.PartitionName.{is_partition_name};
+ghost use Rattle.blob_base.specs.Refusals.{refused, refusal_of, BlobMissing};
+ghost use Rattle.blob_memory.specs.Answers.{OrMemory, partition_refusal};
+ghost use Rattle.blob_memory.specs.Store.{place, live};
+
+use crate::blob::Blob;
+use crate::contents::Contents;
+use crate::found::Found;
+use crate::origin::Origin;
+use blob_base::{BlobVersion, Durable, Error, Handle, validate_partition_name};
+use std::alloc::{AllocError, Global};
+use std::ops::RangeInclusive;
+
+/// Blobs in partitions, kept in memory.
+#[derive(Drop)]
+pub struct Storage {
+    pub(crate) alloc: Global,
+    pub(crate) contents: Contents,
+}
+
+impl Durable for Storage {
+    ghost use Rattle.blob_base.specs.Places.{same_place};
+    ghost use Rattle.blob_memory.specs.Store.{directory, durable};
+    ghost use Rattle.blob_memory.specs.Laws.{currents, given};
+
+    type Origin = Origin;
+
+    ghost place = { λ origin. origin };
+
+    ghost directory = { directory };
+
+    ghost durable = { durable };
+
+    ghost same_origins = { λ a b i. same_place a b };
+
+    ghost one_origin = { λ a b same. same };
+
+    ghost currents = { λ s. currents s.contents };
+
+    ghost given = { λ s. given s.contents };
+
+    fn is_current(&self, origin: &Origin) -> bool {
+        self.contents.is_current(origin)
+    }
+}
+
+impl Storage {
+    ghost use Rattle.blob_memory.specs.Store.{directory, durable};
+
+    /// An empty store, whose first incarnation has the number 0.
+    pub fn new(alloc: Global) -> Storage
+        ensures directory { directory result ≡ record { has_partition = λ _. false; file = λ _ _. None; next = 0 } }
+        ensures durable { durable result ≡ (λ _. None) }
+    {
+        Storage::starting_at(alloc, 0)
+    }
+
+    /// An empty store, whose first incarnation has this number.
+    pub fn starting_at(alloc: Global, next: u64) -> Storage
+        ensures directory { directory result ≡ record { has_partition = λ _. false; file = λ _ _. None; next = next } }
+        ensures durable { durable result ≡ (λ _. None) }
+    {
+        Storage {
+            alloc,
+            contents: Contents::new(alloc, next),
+        }
+    }
+}
+
+/// The handle that an open answers, with its size and version.
+fn opened(origin: Origin, found: Found) -> (Blob, u64, BlobVersion)
+    ensures place { place result.0 ≡ origin }
+    ensures live { live result.0 ≡ found.live.items }
+    ensures size { result.1 ≡ length found.live.items }
+    ensures version { result.2 ≡ found.version }
+{
+    let size = found.live.len() as u64;
+    let version = found.version;
+    let live = found.live;
+    (Blob { origin, live }, size, version)
+}
+
+impl Storage {
+    ghost use Rattle.blob_memory.specs.Store.{directory};
+
+    /// Whether a call may go on with a partition: its name is valid, and it is there.
+    fn find_partition(&self, partition: &str) -> Result<(), Error>
+        ensures allowed { OrMemory (partition_refusal (directory self.now) partition.now) (refused result) }
+        ensures valid { OnOk result (is_partition_name partition.now ≡ true) }
+        ensures there { OnOk result ((directory self.now).has_partition partition.now ≡ true) }
+    {
+        validate_partition_name(self.alloc, partition)?;
+        if !self.contents.contains(partition) {
+            let partition = String::from_str(self.alloc, partition)?;
+            return Err(Error::PartitionMissing(partition));
+        }
+        Ok(())
+    }
+
+    /// The refusal of a removal whose name isn't there. The only error is want of memory.
+    fn missing(&self, partition: &str, name: &[u8]) -> Result<Error, AllocError>
+        ensures { IfOk result (λ error. refusal_of error ≡ BlobMissing partition.now (encode_lower name.now)) }
+    {
+        let partition = String::from_str(self.alloc, partition)?;
+        let name = hex::encode(self.alloc, name)?;
+        Ok(Error::BlobMissing(partition, name))
+    }
+}
+
+impl blob_base::Storage for Storage {
+    ghost use Rattle.blob_memory.specs.Answers.{open_refusal, remove_refusal};
+    ghost use Rattle.blob_memory.specs.Store.{directory};
+
+    type Blob = Blob;
+
+    ghost allows_open = { λ s p n first last. OrMemory (open_refusal (directory s) p n first last) };
+
+    ghost allows_remove = { λ s p n. OrMemory (remove_refusal (directory s) p n) };
+
+    ghost allows_scan = { λ s p. OrMemory (partition_refusal (directory s) p) };
+
+    fn open_versioned(
+        &mut self,
+        partition: &str,
+        name: &[u8],
+        versions: RangeInclusive<BlobVersion>,
+    ) -> Result<(Blob, u64, BlobVersion), Error> {
+        validate_partition_name(self.alloc, partition)?;
+        let found = self.contents.find(partition, name, &versions)?;
+        let start = found.layout.data_offset();
+        match found.number {
+            Some(number) => {
+                let origin = Origin::new(self.alloc, partition, name, number, start)?;
+                Ok(opened(origin, found))
+            }
+            None => {
+                let number = self.contents.next();
+                let origin = Origin::new(self.alloc, partition, name, number, start)?;
+                self.contents.begin(partition, name, &found)?;
+                Ok(opened(origin, found))
+            }
+        }
+    }
+
+    fn remove(&mut self, partition: &str, name: Option<&[u8]>) -> Result<(), Error> {
+        self.find_partition(partition)?;
+        match name {
+            None => self.contents.remove_partition(partition),
+            Some(name) => {
+                if self.contents.item(partition, name).is_none() {
+                    return Err(self.missing(partition, name)?);
+                }
+                self.contents.remove(partition, name);
+            }
+        }
+        Ok(())
+    }
+
+    fn scan(&mut self, partition: &str) -> Result<Vec<Vec<u8>>, Error> {
+        self.find_partition(partition)?;
+        Ok(self.contents.names(partition)?)
+    }
+
+    fn finish(&mut self, handle: Handle) -> Result<(), Error> {
+        handle.into_outcome()
+    }
+}
