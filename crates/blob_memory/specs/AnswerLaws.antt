@@ -1,7 +1,7 @@
 -- What no call of a memory store answers.
-use Rattle.std.specs.Prelude.{◌≡◌, ◌≢◌, ◌⊎◌, ℕ, ◌+◌, ◌≤◌, nat_le, Bool, true, false, not, ◌&&◌, ◌||◌, if◌then◌else◌, List, [], ◌∷◌, length, Option, Some, None, IsTrue}
-use Rattle.std.proofs.Common.{refl, sym, ap, subst, ◌∙◌, inl, inr, arith, true≢false}
-use Rattle.std.proofs.lemmas.Bool.{false≢true}
+use Rattle.std.specs.Prelude.{◌≡◌, ◌≢◌, ◌⊎◌, ℕ, ◌+◌, ◌-◌, ◌^◌, ◌≤◌, min, vec_capacity, nat_le, Bool, true, false, not, ◌&&◌, ◌||◌, if◌then◌else◌, List, [], ◌∷◌, length, Option, Some, None, IsTrue}
+use Rattle.std.proofs.Common.{refl, sym, ap, subst, ◌∙◌, inl, inr, arith, true≢false, Vec, Global}
+use Rattle.std.proofs.lemmas.Bool.{false≢true, le-ltb}
 use Rattle.std.proofs.lemmas.Bool.Decides.{nat_tests}
 use Rattle.std.proofs.lemmas.Option.{none-some}
 use Rattle.blob_base.specs.Directory.{Directory, is_current}
@@ -10,7 +10,8 @@ use Rattle.blob_base.specs.Refusals.{Refusal, OffsetOverflow, Injected, Memory}
 use Rattle.blob_memory.specs.declared.blob.Blob.{Blob}
 use Rattle.blob_memory.specs.declared.storage.Storage.{Storage}
 use Rattle.blob_memory.specs.Answers.{is_uncounted, is_idle, missing, write_refusal, end_refusal, OrMemory, AllowsWrite, may_grow}
-use Rattle.blob_memory.specs.Store.{directory, place, room}
+use Rattle.blob_memory.specs.Contents.{vec_at}
+use Rattle.blob_memory.specs.Store.{directory, place, room, room_in}
 
 -- the refusals that no state calls for
 abbrev pub is_uncalled : Option Refusal → Bool
@@ -73,6 +74,30 @@ within_at d o room offset bytes now fits (inr h) = true≢false (ap is_uncalled 
 pub within_room : (b : Blob) (s : Storage) (offset : ℕ) (bytes : List ℕ) → is_current (directory s) (place b) ≡ true → offset + length bytes ≤ room b s
     → AllowsWrite (directory s) (place b) (room b s) offset bytes true (Some Memory) → ⊥
 within_room b s offset bytes now fits h = within_at (directory s) (place b) (room b s) offset bytes now fits h
+
+counted_room : (limit capacity : ℕ) (v : Option (Vec ℕ Global)) → room_in (min limit capacity) v ≤ limit
+counted_room limit capacity None = omega arith
+counted_room limit capacity (Some v) = omega arith
+
+done_at : (d : Directory) (o : Place) (room offset : ℕ) (bytes : List ℕ) (refusal : Refusal) → is_current d o ≡ true → offset + length bytes ≤ room → room ≤ 2 ^ 64 - 1 - o.start
+    → AllowsWrite d o room offset bytes true (Some refusal) → ⊥
+done_at d o room offset bytes refusal now fits least (inl h) =
+    within_at d o room offset bytes now fits (inl (refl, h.1))
+done_at d o room offset [] refusal now fits least (inr h) = none-some _ (sym h)
+done_at d o room offset (b ∷ bytes) refusal now fits least (inr h) = go (is_uncounted (offset + o.start + length (b ∷ bytes))) (is_current d o) counted now h where
+  counted : is_uncounted (offset + o.start + length (b ∷ bytes)) ≡ false
+  counted = le-ltb (2 ^ 64 - 1) (offset + o.start + length (b ∷ bytes)) (omega arith)
+
+  go : (u c : Bool) → u ≡ false → c ≡ true → Some refusal ≡ (if u then Some OffsetOverflow else if true && not c then Some (missing o) else None) → ⊥
+  go true c e f z = true≢false e
+  go false false e f z = false≢true f
+  go false true e f z = none-some _ (sym z)
+
+-- a current handle's SYNC write within its room is done
+pub done_within : (b : Blob) (s : Storage) (offset : ℕ) (bytes : List ℕ) (refusal : Refusal) → true ≡ true → is_current (directory s) (place b) ≡ true → offset + length bytes ≤ room b s
+    → AllowsWrite (directory s) (place b) (room b s) offset bytes true (Some refusal) → ⊥
+done_within b s offset bytes refusal direct now fits h = done_at (directory s) (place b) (room b s) offset bytes refusal now fits
+    (counted_room (2 ^ 64 - 1 - b.origin.start) (vec_capacity b.live) (vec_at s.contents b.origin)) h
 
 less_room : (i s : Bool) (k m n : ℕ) → m ≤ n → IsTrue (not (i || (s && nat_le k n))) → IsTrue (not (i || (s && nat_le k m)))
 less_room true s k m n less h = h

@@ -34,6 +34,10 @@ write_refusal d o offset bytes sync =
     else if sync && not (is_current d o) then Some (missing o)
     else None
 
+-- of a range that is kept
+abbrev pub range_refusal : Place → ℕ → ℕ → Option Refusal
+range_refusal o offset len = if is_uncounted (offset + o.start + len) then Some OffsetOverflow else None
+
 -- of a resize to a logical length, and of room up to a logical end
 abbrev pub end_refusal : Place → ℕ → Option Refusal
 end_refusal o end = if is_uncounted (end + o.start) then Some OffsetOverflow else None

@@ -1,12 +1,15 @@
 -- A memory store and its handles, as the contracts of their calls see them.
-use Rattle.std.specs.Prelude.{ℕ, min, List, Option, None, Some, Vec, vec_capacity}
+use Rattle.std.specs.Prelude.{ℕ, ◌-◌, ◌^◌, min, List, Option, None, Some, Vec, vec_capacity}
 use Rattle.std.specs.Global.{Global}
+use Rattle.blob_base.specs.Audit.{Listed}
 use Rattle.blob_base.specs.Directory.{Directory}
 use Rattle.blob_base.specs.Durable.{Durable}
 use Rattle.blob_base.specs.Places.{Place}
 use Rattle.blob_memory.specs.declared.storage.Storage.{Storage}
 use Rattle.blob_memory.specs.declared.blob.Blob.{Blob}
-use Rattle.blob_memory.specs.Contents.{directory_of, durable_of, vec_at}
+use Rattle.blob_memory.specs.declared.snapshot.Snapshot.{Snapshot}
+use Rattle.blob_memory.specs.Contents.{directory_of, durable_of, vec_at, Fits}
+use Rattle.blob_memory.specs.Listing.{listing_at}
 
 -- the partitions, the names and what each name's file is
 abbrev pub directory : Storage → Directory
@@ -29,5 +32,24 @@ abbrev pub room_in : ℕ → Option (Vec ℕ Global) → ℕ
 room_in capacity None = 0
 room_in capacity (Some v) = min capacity (vec_capacity v)
 
+-- no further than can be counted behind the header
 abbrev pub room : Blob → Storage → ℕ
-room b s = room_in (vec_capacity b.live) (vec_at s.contents b.origin)
+room b s = room_in (min (2 ^ 64 - 1 - b.origin.start) (vec_capacity b.live)) (vec_at s.contents b.origin)
+
+-- an incarnation isn't current, or its durable bytes can be so many without memory
+abbrev pub HasCrashRoom : Storage → Place → ℕ → Type 0
+HasCrashRoom s o n = Fits (vec_at s.contents o) n
+
+-- all blobs, in order
+abbrev pub listing : Storage → List Listed
+listing s = listing_at s.contents
+
+-- what a snapshot has
+abbrev pub kept_directory : Snapshot → Directory
+kept_directory k = directory_of k.contents
+
+abbrev pub kept_durable : Snapshot → Durable
+kept_durable k = durable_of k.contents
+
+abbrev pub kept_listing : Snapshot → List Listed
+kept_listing k = listing_at k.contents

@@ -7,10 +7,9 @@ ghost use Rattle.blob_base.specs.Live.{live_after};
 ghost use Rattle.blob_base.specs.Refusals.{refused, refusal_of, IsMemory};
 ghost use Rattle.blob_memory.specs.Answers.{missing, read_refusal};
 
-use crate::live;
 use crate::origin::Origin;
-use crate::overlay;
 use crate::storage::Storage;
+use crate::{live, overlay};
 use blob_base::{Error, Handle, IoBufs, IoBufsMut, ReadOptions, WriteOptions};
 use std::alloc::AllocError;
 

@@ -10,6 +10,7 @@ use blob_base::{Error, IoBufs};
 /// The logical end of a range, where the raw one, behind a header of `start` bytes, can be counted; else `OffsetOverflow`.
 pub fn logical_end(start: u64, offset: u64, len: usize) -> Result<usize, Error>
     ensures end { IfOk result (λ end. end ≡ offset + len) }
+    ensures counted { OnOk result (offset + start + len < 2 ^ 64) }
     ensures refusal { refused result ≡ (if is_uncounted (offset + start + len) then Some OffsetOverflow else None) }
 {
     let Some(raw) = offset.checked_add(start) else {

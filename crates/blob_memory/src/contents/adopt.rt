@@ -4,6 +4,7 @@ ghost use Rattle.blob_base.specs.Directory.{data_start, directory_made, place_ma
 ghost use Rattle.blob_base.specs.Durable.{with_at};
 ghost use Rattle.blob_base.specs.Files.{directory_again};
 ghost use Rattle.blob_memory.specs.Contents.{directory_of, durable_of, item_of, IsUnder, logical_from, logical_of, IsFrom};
+ghost use Rattle.blob_memory.specs.Listing.{listing_at};
 
 use super::Contents;
 use crate::item::{Held, Item};
@@ -51,6 +52,7 @@ impl Contents {
     pub fn end_all(&mut self)
         ensures directory { directory_of self.new ≡ directory_again (λ o. unwrap_or (durable_of self.old o) []) (directory_of self.old) }
         ensures durable { durable_of self.new ≡ (λ _. None) }
+        ensures listing { listing_at self.new ≡ listing_at self.old }
     {
         self.first = self.next;
     }
@@ -59,6 +61,7 @@ impl Contents {
     pub fn take(&mut self) -> Contents
         ensures directory { directory_of result ≡ directory_of self.old }
         ensures durable { durable_of result ≡ durable_of self.old }
+        ensures listing { listing_at result ≡ listing_at self.old }
         ensures left { directory_of self.new ≡ record { has_partition = λ _. false; file = λ _ _. None; next = (directory_of self.old).next } }
         ensures none { durable_of self.new ≡ (λ _. None) }
     {

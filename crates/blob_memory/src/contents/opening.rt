@@ -37,7 +37,13 @@ impl Contents {
     {
         match self.item(partition, name) {
             None => Ok(nothing(self.alloc, versions)),
-            Some(Item::Raw(raw)) => found_raw(self.alloc, raw.as_slice(), versions, partition, name),
+            Some(Item::Raw(raw)) => found_raw(
+                self.alloc,
+                raw.as_slice(),
+                versions,
+                partition,
+                name,
+            ),
             Some(Item::Held(held)) => held.found(self.is_ended(held.number), versions),
         }
     }
