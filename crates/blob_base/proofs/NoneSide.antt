@@ -1,5 +1,5 @@
 -- Which headers may be torn: all fronts of a created region but the whole region.
-use Rattle.std.proofs.Common.{◌↔◌, ◌≡◌, ℕ, ◌+◌, ◌-◌, ◌*◌, ◌/◌, ◌%◌, ◌^◌, ◌<◌, ◌≤◌, ◌==◌, ◌⊎◌, inl, inr, ⊎_elim, Bool, true, false, cond, List, ◌∷◌, ◌++◌, length, take, drop, replicate, get_or, refl, sym, ap, ap₂, ◌∙◌, arith, Option, Some, None, Result, Ok, Err, nat_lt, min, subst, true≢false}
+use Rattle.std.proofs.Common.{◌↔◌, ◌≡◌, ℕ, ◌+◌, ◌-◌, ◌*◌, ◌/◌, ◌%◌, ◌<◌, ◌≤◌, ◌==◌, ◌⊎◌, inl, inr, ⊎_elim, Bool, true, false, cond, List, ◌∷◌, ◌++◌, length, take, drop, replicate, get_or, refl, sym, ap, ap₂, ◌∙◌, arith, Option, Some, None, Result, Ok, Err, nat_lt, min, subst, true≢false}
 use Rattle.std.proofs.lemmas.List.{take_all, get_or_past, get_or-take}
 use Rattle.std.proofs.lemmas.Slice.Eq.{bytes_eq-Decides}
 use Rattle.std.proofs.lemmas.Bool.Decides.{Decides-eqb}
@@ -13,7 +13,7 @@ use Rattle.blob_base.specs.declared.layout.Layout.TheVariants.{V0, V1}
 use Rattle.blob_base.specs.declared.version.BlobVersion.{BlobVersion}
 use Rattle.blob_base.specs.Checksum.{crc32c}
 use Rattle.blob_base.specs.Directory.{data_start}
-use Rattle.blob_base.specs.Header.{head, prelude, region, magic_of, layout_number, IsFront, IsTorn, number_at}
+use Rattle.blob_base.specs.Header.{head, prelude, region, magic_of, IsFront, IsTorn, number_at}
 use Rattle.blob_base.specs.Parse.{Accepted, Failure, UnsupportedLayoutVersion, InvalidChecksum, InvalidPadding, Truncated, may_be_torn, is_sealed, page_failure, region_failure, is_accepted, layout_numbered, parsed_whole, parsed_in, parsed}
 use Rattle.blob_base.specs.Versions.{is_in_range}
 use Rattle.blob_base.proofs.Fronts.{front_at, all_zeros, version_of}

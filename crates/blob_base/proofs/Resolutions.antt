@@ -1,17 +1,14 @@
 -- A blob's resolution by a front of it.
-use Rattle.std.proofs.Common.{◌↔◌, ◌≡◌, ℕ, ◌+◌, ◌*◌, ◌<◌, ◌≤◌, ◌⊎◌, inl, inr, ⊎_elim, Bool, true, false, cond, List, ◌++◌, length, take, drop, get_or, refl, sym, ap, ap₂, ◌∙◌, arith, Option, Some, None, Result, Ok, Err, IsErr, nat_lt, min, subst, true≢false}
+use Rattle.std.proofs.Common.{◌↔◌, ◌≡◌, ℕ, ◌+◌, ◌*◌, ◌<◌, ◌≤◌, ◌⊎◌, inl, inr, ⊎_elim, Bool, true, false, cond, List, ◌++◌, length, take, drop, refl, sym, ap, ap₂, ◌∙◌, arith, Option, Some, None, Result, Ok, Err, IsErr, nat_lt, min, subst}
 use Rattle.std.proofs.lemmas.List.{take_all, take-append-drop, take-append-le, drop-append-le, get_or_append_left, length-drop, length-append}
-use Rattle.std.proofs.lemmas.Bool.{cases_lt, lt-ltb, ltb-false, ltb-true}
+use Rattle.std.proofs.lemmas.Bool.{cases_lt, lt-ltb, ltb-true}
 use Rattle.blob_base.specs.declared.layout.Layout.{Layout}
 use Rattle.blob_base.specs.declared.layout.Layout.TheVariants.{V0, V1}
-use Rattle.blob_base.specs.declared.version.BlobVersion.{BlobVersion}
-use Rattle.blob_base.specs.Directory.{data_start}
 use Rattle.blob_base.specs.Header.{IsTorn, number_at}
-use Rattle.blob_base.specs.Parse.{Accepted, Failure, VersionMismatch, LayoutMismatch, page_failure, region_failure, is_accepted, layout_of, parsed_whole, parsed_in, parsed}
+use Rattle.blob_base.specs.Parse.{Accepted, Failure, page_failure, layout_of, parsed_whole, parsed_in, parsed}
 use Rattle.blob_base.specs.declared.error.Error.{Error}
-use Rattle.blob_base.specs.Refusals.{Refusal, Memory, refusal_of}
+use Rattle.blob_base.specs.Refusals.{Memory, refusal_of}
 use Rattle.blob_base.specs.Resolve.{Answers, AnswersParsed, IsNoneSide, found_in, is_torn, refusal_for, refusing, resolution}
-use Rattle.blob_base.specs.Versions.{is_in_range}
 use Rattle.blob_base.proofs.NoneSide.{Found, not_true, over_blob}
 use Rattle.blob_base.proofs.TornTest.{is_torn-IsTorn}
 

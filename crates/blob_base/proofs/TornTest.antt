@@ -1,11 +1,11 @@
 -- The test of a torn creation decides `IsTorn`.
-use Rattle.std.proofs.Common.{◌≡◌, ◌≢◌, ◌↔◌, ℕ, zero, suc, ◌+◌, ◌-◌, ◌^◌, ◌<◌, ◌≤◌, ◌⊎◌, inl, inr, ⊎_elim, leb, Bool, true, false, not, ◌&&◌, ◌||◌, List, ◌++◌, length, take, replicate, refl, sym, ap, ap₂, ◌∙◌, arith, true≢false}
+use Rattle.std.proofs.Common.{◌≡◌, ◌≢◌, ◌↔◌, ℕ, zero, suc, ◌-◌, ◌^◌, ◌<◌, ◌≤◌, ◌⊎◌, inl, inr, ⊎_elim, leb, Bool, true, false, not, ◌&&◌, ◌||◌, List, ◌++◌, length, take, replicate, refl, sym, ap, ◌∙◌, arith, true≢false}
 use Rattle.std.proofs.lemmas.Bool.{leb-true, le-leb, cases_lt}
 use Rattle.std.proofs.lemmas.List.{length-append, length-take-le, length-replicate}
 use Rattle.std.proofs.lemmas.Slice.Eq.{bytes_eq-Decides}
 use Rattle.std.specs.Str.{bytes_eq}
 use Rattle.blob_base.specs.declared.layout.Layout.TheVariants.{V1}
-use Rattle.blob_base.specs.Header.{region, IsFront, IsFrontOf, IsTorn}
+use Rattle.blob_base.specs.Header.{region, IsFront, IsTorn}
 use Rattle.blob_base.specs.Resolve.{any_below, padded_front, is_some_front, is_some_region, is_torn}
 use Rattle.blob_base.proofs.NoneSide.{length_region, not_true}
 

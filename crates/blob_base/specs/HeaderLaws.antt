@@ -1,6 +1,5 @@
 -- What holds of every header region and of every blob that has a header.
-use Rattle.std.specs.Prelude.{◌≡◌, ◌↔◌, ℕ, ◌^◌, ◌<◌, Bool, true, if◌then◌else◌, List, ◌++◌, length, slice_index, drop, Option, Some, Result, Ok, Err}
-use Rattle.std.specs.declared.ops.RangeInclusive.{RangeInclusive}
+use Rattle.std.specs.Prelude.{◌≡◌, ◌↔◌, ℕ, ◌^◌, ◌<◌, true, if◌then◌else◌, List, ◌++◌, length, slice_index, drop, Option, Some, Result, Ok, Err}
 use Rattle.blob_base.specs.declared.layout.Layout.{Layout}
 use Rattle.blob_base.specs.declared.version.BlobVersion.{BlobVersion}
 use Rattle.blob_base.specs.Directory.{data_start}

@@ -1,5 +1,5 @@
 -- What a header says, by the first test that fails.
-use Rattle.std.specs.Prelude.{ℕ, ◌+◌, ◌-◌, ◌*◌, ◌==◌, nat_lt, Bool, true, false, if◌then◌else◌, List, length, take, slice_index, slice_range, Option, Some, None, Result, Ok, Err}
+use Rattle.std.specs.Prelude.{ℕ, ◌-◌, ◌==◌, nat_lt, Bool, true, false, if◌then◌else◌, List, length, take, slice_range, Option, Some, None, Result, Ok, Err}
 use Rattle.std.specs.Int.{to_be_bytes, w32}
 use Rattle.std.specs.Str.{bytes_eq}
 use Rattle.std.specs.List.{list_all}
@@ -31,14 +31,9 @@ accepted layouts versions = record {
   greatest = (range_inclusive_end versions).0;
 }
 
--- every layout, and the versions of a range
-abbrev pub of_any_layout : RangeInclusive BlobVersion → Accepted
-of_any_layout versions = record {
-  oldest = V0;
-  newest = V1;
-  least = (range_inclusive_start versions).0;
-  greatest = (range_inclusive_end versions).0;
-}
+-- every layout, and the versions from one to another
+abbrev pub every_layout : ℕ → ℕ → Accepted
+every_layout least greatest = record { oldest = V0; newest = V1; least = least; greatest = greatest }
 
 -- a header's error, its ranges by their ends
 pub data Failure : Type 0 where

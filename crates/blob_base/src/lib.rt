@@ -3,7 +3,6 @@
 
 #[cfg(test)]
 #[cfg(test)]
-
 pub mod any_store;
 mod block_tables;
 pub mod buffers;

@@ -1,3 +1,4 @@
+pub mod CellLaws
 pub mod Covered
 pub mod CutSteps
 pub mod Finishing

@@ -1,6 +1,7 @@
 //! The fault wrapper: a store that fails by drawn choices, remembers what a crash could still lose, and crashes by them.
 #![tactic(auto)]
 
+pub mod cells;
 pub mod config;
 pub mod entries;
 pub mod entry;

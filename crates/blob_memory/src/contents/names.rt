@@ -49,7 +49,12 @@ impl Contents {
     }
 
     /// Makes a name's file raw. The only error is want of memory, and leaves everything as it was.
-    pub fn set_raw(&mut self, partition: &str, name: &[u8], bytes: Vec<u8>) -> Result<(), AllocError>
+    pub fn set_raw(
+        &mut self,
+        partition: &str,
+        name: &[u8],
+        bytes: Vec<u8>,
+    ) -> Result<(), AllocError>
         ensures directory { OnOk result (directory_of self.new ≡ directory_raw (directory_of self.old) partition.now name.now bytes.items) }
         ensures durable { OnOk result (durable_of self.new ≡ durable_without (durable_of self.old) partition.now (Some name.now)) }
         ensures vecs { OnOk result ((o : Place) → vec_at self.new o ≡ without (vec_at self.old) (is_under partition.now (Some name.now)) o) }
