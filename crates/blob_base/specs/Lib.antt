@@ -5,7 +5,6 @@ pub mod Checksum
 pub mod Directory
 pub mod Draws
 pub mod Durable
-pub mod Endings
 pub mod Files
 pub mod Handles
 pub mod Header
@@ -27,7 +26,6 @@ pub mod Refusals
 pub mod Register
 pub mod ReplyLines
 pub mod Resolve
-pub mod ResolveReplies
 pub mod Runs
 pub mod SamePlace
 pub mod Stands

@@ -1,10 +1,13 @@
 pub mod Debts
+pub mod Endings
 pub mod History
 pub mod Names
 pub mod OpenNames
 pub mod Opens
+pub mod Reading
 pub mod Recreated
 pub mod Replies
+pub mod ResolveReplies
 pub mod Scripted
 pub mod Settings
 pub mod Tokens

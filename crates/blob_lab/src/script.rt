@@ -11,3 +11,6 @@ pub use line::{Line, read_line};
 pub use refused_line::RefusedLine;
 pub use reply_line::print_reply;
 pub use setting::Setting;
+
+#[cfg(test)]
+mod tests;

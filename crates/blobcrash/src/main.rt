@@ -1,8 +1,8 @@
 // The program: arguments, buffered streams and the exit status. All else is the library's.
 #![tactic(auto)]
 
-use blob_base::Ending;
-use blob_base::run_resolve::run_resolve;
+use blob_lab::Ending;
+use blob_lab::run_resolve::run_resolve;
 use std::env;
 use std::io::{self, BufReader, BufWriter, ErrorKind};
 use std::process::ExitCode;
@@ -15,9 +15,8 @@ fn main(rt: HostRuntime) -> ExitCode {
         Err(_) => Ending::Usage,
     };
     if ending != Ending::Done {
-        let line = ending.line();
         // Where standard error fails too, the exit status is all that is left to tell.
-        let _ = eprintln!(rt; "{line}");
+        let _ = eprintln!(rt; "{ending}");
     }
     ExitCode::from(ending.status())
 }

@@ -38,6 +38,21 @@ impl Setting {
     }
 }
 
+/// The same configuration once more.
+pub(crate) fn copy_of(config: &Config) -> Config
+    ensures { result ≡ config.now }
+{
+    Config {
+        open_rate: config.open_rate,
+        read_rate: config.read_rate,
+        write_rate: config.write_rate,
+        sync_rate: config.sync_rate,
+        resize_rate: config.resize_rate,
+        remove_rate: config.remove_rate,
+        scan_rate: config.scan_rate,
+    }
+}
+
 /// Reads what follows `config`; none where it isn't a setting. Tokens after it are left.
 pub(crate) fn read_setting(tokens: &mut Tokens) -> Option<Setting> {
     Some(match tokens.next()? {

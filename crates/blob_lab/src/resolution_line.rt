@@ -1,9 +1,7 @@
 ghost use Rattle.std.specs.Prelude.{Some};
-ghost use Rattle.blob_base.specs.ResolveReplies.{by_refusal, resolution_line};
+ghost use Rattle.blob_lab.specs.ResolveReplies.{by_refusal, resolution_line};
 
-use crate::error::Error;
-use crate::refusal_line::RefusalLine;
-use crate::version::BlobVersion;
+use blob_base::{BlobVersion, Error, RefusalLine};
 use std::fmt;
 
 /// Prints what `resolve` answered as a reply's line, without its end: `valid SIZE VERSION OFFSET`, `create`, or the

@@ -3,14 +3,11 @@ ghost use Rattle.std.specs.Io.KnownBytes.{Appends, Keeps};
 ghost use Rattle.std.specs.Io.BufRead.{DropsThrough, first_piece};
 ghost use Rattle.hex.specs.Hex.{decode_of};
 ghost use Rattle.blob_base.specs.Resolve.{Answers};
-ghost use Rattle.blob_base.specs.ResolveReplies.{AnswersLine, by_refusal, resolution_line, resolved_image};
+ghost use Rattle.blob_lab.specs.ResolveReplies.{AnswersLine, by_refusal, resolution_line, resolved_image};
 
 use crate::ending::Ending;
-use crate::error::Error;
-use crate::layout::Layout;
-use crate::resolution::resolve;
 use crate::resolution_line::ResolutionLine;
-use crate::version::BlobVersion;
+use blob_base::{BlobVersion, Error, Layout, resolve};
 use hex::FromHexError;
 use std::alloc::Global;
 use std::io::{self, BufRead, ErrorKind, Write};

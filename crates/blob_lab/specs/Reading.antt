@@ -1,0 +1,10 @@
+-- What reading leaves of a reader's bytes, where those are known.
+use Rattle.std.specs.Prelude.{◌≡◌, ℕ, List, [], Option, Some, None, IfSome, IsSome}
+
+-- they are still known
+abbrev pub StaysKnown : Option (List ℕ) → Option (List ℕ) → Type 0
+StaysKnown old new = IfSome old (λ _. IsSome new)
+
+-- none is left
+abbrev pub IsReadOut : Option (List ℕ) → Option (List ℕ) → Type 0
+IsReadOut old new = IfSome old (λ _. new ≡ Some [])

@@ -1,0 +1,135 @@
+// The lines of a script as they come in.
+ghost use Rattle.std.specs.Prelude.{◌≡◌, true, IfNone, IfOk, IfErr, OnOk};
+ghost use Rattle.blob_lab.specs.Endings.{is_cut};
+ghost use Rattle.blob_lab.specs.Reading.{StaysKnown, IsReadOut};
+ghost use Rattle.blob_lab.specs.Settings.{configured};
+
+use crate::script::setting::copy_of;
+use crate::script::{Line, RefusedLine, Setting, read_line};
+use crate::{Call, Ending};
+use blob_faulty::Config;
+use std::alloc::Global;
+use std::io::{BufRead, ErrorKind};
+
+/// What the lines before the first call say.
+#[derive(Drop)]
+pub(crate) struct Preamble {
+    pub(crate) images: Vec<(String, Vec<u8>, Vec<u8>)>,
+    pub(crate) words: Vec<u64>,
+}
+
+impl Preamble {
+    pub(crate) fn new(alloc: Global) -> Preamble {
+        Preamble {
+            images: Vec::new(alloc),
+            words: Vec::new(alloc),
+        }
+    }
+}
+
+/// The line that was read last, its number from 1, and the configuration so far.
+#[derive(Drop)]
+pub(crate) struct Lines {
+    line: Vec<u8>,
+    number: u64,
+    config: Config,
+}
+
+impl Lines {
+    pub(crate) fn new(alloc: Global) -> Lines {
+        Lines {
+            line: Vec::new(alloc),
+            number: 0,
+            config: Config::default(),
+        }
+    }
+
+    /// Reads up to the first call, and keeps what comes before it.
+    pub(crate) fn first_call<R: BufRead>(
+        &mut self,
+        reader: &mut R,
+        preamble: &mut Preamble,
+    ) -> Result<Option<Call>, Ending>
+        ensures cut { IfErr result (λ ending. is_cut ending ≡ true) }
+        ensures known { OnOk result (StaysKnown (R.remaining reader.old) (R.remaining reader.new)) }
+        ensures end { IfOk result (λ call. IfNone call (IsReadOut (R.remaining reader.old) (R.remaining reader.new))) }
+    {
+        'lines: for _ in 0..u64::MAX {
+            let Some(line) = self.next_line(reader)? else {
+                return Ok(None);
+            };
+            match line {
+                Line::Blank => {}
+                Line::Image {
+                    partition,
+                    name,
+                    bytes,
+                } => {
+                    let pushed = preamble.images.push((partition, name, bytes));
+                    pushed.map_err(|_| Ending::NoMemory)?;
+                }
+                Line::Words(words) => {
+                    let added = preamble.words.extend_from_slice(&words);
+                    added.map_err(|_| Ending::NoMemory)?;
+                }
+                Line::Configure(setting) => return Ok(Some(self.configure(setting))),
+                Line::Call(call) => return Ok(Some(call)),
+            }
+        }
+        Err(Ending::InputFailed)
+    }
+
+    /// Reads up to the next call. A line of the preamble can't come any more.
+    pub(crate) fn next_call<R: BufRead>(&mut self, reader: &mut R) -> Result<Option<Call>, Ending>
+        ensures cut { IfErr result (λ ending. is_cut ending ≡ true) }
+        ensures known { OnOk result (StaysKnown (R.remaining reader.old) (R.remaining reader.new)) }
+        ensures end { IfOk result (λ call. IfNone call (IsReadOut (R.remaining reader.old) (R.remaining reader.new))) }
+    {
+        'lines: for _ in 0..u64::MAX {
+            let Some(line) = self.next_line(reader)? else {
+                return Ok(None);
+            };
+            match line {
+                Line::Blank => {}
+                Line::Image { .. } | Line::Words(_) => return Err(Ending::BadCall(self.number)),
+                Line::Configure(setting) => return Ok(Some(self.configure(setting))),
+                Line::Call(call) => return Ok(Some(call)),
+            }
+        }
+        Err(Ending::InputFailed)
+    }
+
+    /// Reads one line; none where the input is at its end.
+    fn next_line<R: BufRead>(&mut self, reader: &mut R) -> Result<Option<Line>, Ending>
+        ensures cut { IfErr result (λ ending. is_cut ending ≡ true) }
+        ensures known { OnOk result (StaysKnown (R.remaining reader.old) (R.remaining reader.new)) }
+        ensures end { IfOk result (λ line. IfNone line (IsReadOut (R.remaining reader.old) (R.remaining reader.new))) }
+    {
+        self.line.clear();
+        match reader.read_until(b'\n', &mut self.line) {
+            Ok(0) => return Ok(None),
+            Ok(_) => {}
+            Err(e) if e.kind() == ErrorKind::OutOfMemory => return Err(Ending::NoMemory),
+            Err(_) => return Err(Ending::InputFailed),
+        }
+        if self.line.last() == Some(&b'\n') {
+            let _ = self.line.pop();
+        }
+        self.number = self.number.saturating_add(1);
+        let alloc = *self.line.allocator();
+        match read_line(alloc, self.line.as_slice()) {
+            Ok(line) => Ok(Some(line)),
+            Err(RefusedLine::BadCall) => Err(Ending::BadCall(self.number)),
+            Err(RefusedLine::NoMemory) => Err(Ending::NoMemory),
+        }
+    }
+
+    /// The call that hands the whole configuration so far on.
+    fn configure(&mut self, setting: Setting) -> Call
+        ensures whole { result ≡ Call.Configure (configured self.old.config setting) }
+        ensures kept { self.new ≡ record self.old { config = configured self.old.config setting } }
+    {
+        self.config = setting.apply(copy_of(&self.config));
+        Call::Configure(copy_of(&self.config))
+    }
+}
