@@ -1,8 +1,11 @@
+pub mod AnswerLaws
 pub mod Answers
 pub mod Cells
 pub mod Faults
+pub mod Lists
 pub mod Modes
 pub mod Ranges
+pub mod Recorded
 pub mod Rows
 pub mod Views
 pub mod Wrapper

@@ -1,9 +1,49 @@
-use Rattle.std.specs.Prelude.{ℕ}
+-- A wrapper, seen as its inner store, its configuration, and what it has recorded.
+use Rattle.std.specs.Prelude.{◌≡◌, ℕ, List}
+use Rattle.blob_base.specs.Directory.{Directory}
+use Rattle.blob_base.specs.Durable.{Durable}
+use Rattle.blob_base.specs.Files.{Files}
+use Rattle.blob_base.specs.Pending.{Pending}
+use Rattle.blob_base.specs.Places.{Place}
+use Rattle.blob_base.specs.Stands.{StandsFor}
 use Rattle.blob_faulty.specs.declared.config.Config.{Config}
 use Rattle.blob_faulty.specs.declared.storage.Storage.{Storage}
+use Rattle.blob_faulty.specs.declared.blob.Blob.{Blob}
+use Rattle.blob_faulty.specs.Lists.{list_of}
 
 abbrev pub inner_of : {S R O : Type 0} → Storage S R O → S
-inner_of s = s.inner
+inner_of w = w.inner
+
+abbrev pub rng_of : {S R O : Type 0} → Storage S R O → R
+rng_of w = w.rng
 
 abbrev pub config_of : {S R O : Type 0} → Storage S R O → Config
-config_of s = s.config
+config_of w = w.config
+
+abbrev pub next_write_of : {S R O : Type 0} → Storage S R O → ℕ
+next_write_of w = w.next_write
+
+abbrev pub next_marker_of : {S R O : Type 0} → Storage S R O → ℕ
+next_marker_of w = w.next_marker
+
+-- what is pending of each incarnation, where `place` says which one an origin names
+abbrev pub pending_of : {S R O : Type 0} → (O → Place) → Storage S R O → Place → List Pending
+pending_of place w = list_of place w.lists.all.items
+
+-- nothing was recorded and nothing retired
+pub record KeepsRecords {S R O : Type 0} (place : O → Place) (old new : Storage S R O) : Type 0 where
+  pub pending : pending_of place new ≡ pending_of place old
+  pub next_write : next_write_of new ≡ next_write_of old
+  pub next_marker : next_marker_of new ≡ next_marker_of old
+  pub config : config_of new ≡ config_of old
+
+-- whether the wrapper, over a store with this directory and these durable bytes, stands for files
+abbrev pub Stands : {S R O : Type 0} → (O → Place) → Directory → Durable → Storage S R O → Files → Type 0
+Stands place directory durable w files = StandsFor directory durable (pending_of place w) (next_write_of w) (next_marker_of w) files
+
+-- a handle's inner handle, and the size that it tracks
+abbrev pub inside : {B : Type 0} → Blob B → B
+inside blob = blob.inner
+
+abbrev pub size_of : {B : Type 0} → Blob B → ℕ
+size_of blob = blob.size

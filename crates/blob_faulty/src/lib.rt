@@ -2,14 +2,18 @@
 #![tactic(auto)]
 
 pub mod config;
+pub mod blob;
 pub mod entries;
 pub mod entry;
 pub mod holes;
+pub mod lists;
 pub mod mode;
 pub mod selections;
 pub mod storage;
 pub mod write;
 
+pub use blob::Blob;
 pub use config::{Config, ResizeConfig, WriteConfig, write_config_from_cell};
 pub use mode::PartialWriteMode;
 pub use selections::Selections;
+pub use storage::Storage;
