@@ -2,3 +2,4 @@ pub mod Cells
 pub mod Modes
 pub mod Ranges
 pub mod Views
+pub mod Lists

@@ -5,6 +5,7 @@ pub mod config;
 pub mod entries;
 pub mod entry;
 pub mod holes;
+pub mod lists;
 pub mod mode;
 pub mod write;
 

@@ -1,0 +1,78 @@
+//! The pending lists, one for each incarnation that has one.
+ghost use Rattle.std.specs.Prelude.{◌≡◌, ◌<◌, ◌≤◌, ◌+◌, ◌^◌, ℕ, List, [], ◌∷◌, ◌++◌, length, not, false, OnOk, IfOk, IfSome, IfNone, cond, vec_len};
+ghost use Rattle.blob_base.specs.Places.{Place, same_place};
+ghost use Rattle.blob_base.specs.Durable.{with_at};
+ghost use Rattle.blob_base.specs.Order.{ArePlacesApart, has_list};
+ghost use Rattle.blob_base.specs.Pending.{laid, finished};
+ghost use Rattle.blob_faulty.specs.Views.{view};
+ghost use Rattle.blob_faulty.specs.Lists.{held, list_of, IsAt, HasEntryAt, HasRangesAt};
+
+use crate::entries;
+use crate::entry::Entry;
+use blob_base::{Durable, IoBufs};
+use std::alloc::{AllocError, Global};
+
+/// What is pending of one incarnation.
+#[derive(Drop)]
+pub struct Incarnation<O> {
+    pub origin: O,
+    pub entries: Vec<Entry>,
+}
+
+/// What is pending of all incarnations. A list that is emptied stays until it is retired.
+#[derive(Drop)]
+pub struct Lists<S: Durable> {
+    pub all: Vec<Incarnation<S::Origin>>,
+}
+
+impl<S: Durable> Lists<S> {
+    /// No list.
+    pub fn new(alloc: Global) -> Lists<S>
+        ensures { result.all.items ≡ [] }
+    {
+        Lists {
+            all: Vec::new(alloc),
+        }
+    }
+
+    /// The index of an incarnation's list.
+    fn find(&self, origin: &S::Origin) -> Option<usize>
+        ensures some { IfSome result (λ i. IsAt (held S.place self.now.all.items) i (S.place origin.now)) }
+        ensures none { IfNone result (has_list (held S.place self.now.all.items) (S.place origin.now) ≡ false) }
+    {
+        for (i, list) in self.all.iter().enumerate() {
+            if list.origin == *origin {
+                return Some(i);
+            }
+        }
+        None
+    }
+
+    /// A list for an incarnation that has none. A refusal leaves the lists as they were.
+    fn add(&mut self, origin: S::Origin) -> Result<(), AllocError>
+        requires { has_list (held S.place self.old.all.items) (S.place origin) ≡ false }
+        ensures lists { (o : Place) → list_of S.place self.new.all.items o ≡ list_of S.place self.old.all.items o }
+        ensures apart { ArePlacesApart (held S.place self.old.all.items) → ArePlacesApart (held S.place self.new.all.items) }
+        ensures ok { OnOk result (IsAt (held S.place self.new.all.items) (vec_len self.old.all) (S.place origin)) }
+        ensures len { OnOk result (vec_len self.new.all ≡ vec_len self.old.all + 1) }
+    {
+        let entries = Vec::new(*self.all.allocator());
+        self.all.push(Incarnation { origin, entries })?;
+        Ok(())
+    }
+
+    /// Where the list of an incarnation is, which is added where there is none. A refusal leaves the lists as they were.
+    fn place_for(&mut self, origin: S::Origin) -> Result<usize, AllocError>
+        ensures lists { (o : Place) → list_of S.place self.new.all.items o ≡ list_of S.place self.old.all.items o }
+        ensures apart { ArePlacesApart (held S.place self.old.all.items) → ArePlacesApart (held S.place self.new.all.items) }
+        ensures at { IfOk result (λ i. IsAt (held S.place self.new.all.items) i (S.place origin)) }
+        ensures inside { IfOk result (λ i. i < vec_len self.new.all) }
+    {
+        if let Some(i) = self.find(&origin) {
+            return Ok(i);
+        }
+        let i = self.all.len();
+        self.add(origin)?;
+        Ok(i)
+    }
+}
