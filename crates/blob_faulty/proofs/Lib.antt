@@ -1,3 +1,4 @@
 pub mod Covered
 pub mod CutSteps
 pub mod Finishing
+pub mod ListSteps

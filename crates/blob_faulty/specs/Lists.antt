@@ -1,6 +1,5 @@
 -- The pending lists of the incarnations, each by its place.
-use Rattle.std.specs.Prelude.{◌≡◌, ℕ, ◌<◌, ◌+◌, List, Bool, length, map, vec_len, vec_capacity}
-use Rattle.std.specs.List.{position_or_len}
+use Rattle.std.specs.Prelude.{◌≡◌, ℕ, ◌<◌, ◌+◌, List, Bool, true, false, length, map, vec_len, vec_capacity}
 use Rattle.std.proofs.Common.{get_or}
 use Rattle.blob_base.specs.Places.{Place, same_place}
 use Rattle.blob_base.specs.Pending.{Pending}
@@ -21,10 +20,11 @@ list_of place is = held_at (held place is)
 abbrev pub is_of : Place → Held → Bool
 is_of o h = same_place h.0 o
 
--- the list at i is the incarnation's
+-- the list at i is the first of an incarnation
 pub record IsAt (hs : List Held) (i : ℕ) (o : Place) : Type 0 where
-  pub first : position_or_len (is_of o) hs ≡ i
   pub inside : i < length hs
+  pub here : (d : Held) → is_of o (get_or hs i d) ≡ true
+  pub before : (k : ℕ) (d : Held) → k < i → is_of o (get_or hs k d) ≡ false
 
 -- the list at i can take one more entry
 abbrev pub HasEntryAt : {O : Type 0} → List (Incarnation O) → ℕ → Type 0

@@ -1,14 +1,13 @@
 //! The pending lists, one for each incarnation that has one.
-ghost use Rattle.std.specs.Prelude.{◌≡◌, ◌<◌, ◌≤◌, ◌+◌, ◌^◌, ℕ, List, [], ◌∷◌, ◌++◌, length, not, OnOk, IfOk, cond, vec_len};
-ghost use Rattle.std.specs.List.{position_or_len};
+ghost use Rattle.std.specs.Prelude.{◌≡◌, ◌<◌, ◌≤◌, ◌+◌, ◌^◌, ℕ, List, [], ◌∷◌, ◌++◌, length, not, false, OnOk, IfOk, IfSome, IfNone, cond, vec_len};
 ghost use Rattle.blob_base.specs.Places.{Place, same_place};
 ghost use Rattle.blob_base.specs.Durable.{with_at};
-ghost use Rattle.blob_base.specs.Order.{ArePlacesApart};
+ghost use Rattle.blob_base.specs.Order.{ArePlacesApart, has_list};
 ghost use Rattle.blob_base.specs.Pending.{laid, finished};
 ghost use Rattle.blob_faulty.specs.Views.{view};
-ghost use Rattle.blob_faulty.specs.Lists.{held, list_of, is_of, IsAt, HasEntryAt, HasRangesAt};
+ghost use Rattle.blob_faulty.specs.Lists.{held, list_of, IsAt, HasEntryAt, HasRangesAt};
 
-use crate::entries;
+use crate::entries::{self, reserve_ranges};
 use crate::entry::Entry;
 use blob_base::{Durable, IoBufs};
 use std::alloc::{AllocError, Global};
@@ -36,16 +35,102 @@ impl<S: Durable> Lists<S> {
         }
     }
 
-    /// The index of an incarnation's list, or how many lists there are.
-    fn find(&self, origin: &S::Origin) -> usize
-        ensures first { position_or_len (is_of (S.place origin.now)) (held S.place self.now.all.items) ≡ result }
-        ensures inside { result ≤ vec_len self.now.all }
+    /// The index of an incarnation's list.
+    fn find(&self, origin: &S::Origin) -> Option<usize>
+        ensures some { IfSome result (λ i. IsAt (held S.place self.now.all.items) i (S.place origin.now)) }
+        ensures none { IfNone result (has_list (held S.place self.now.all.items) (S.place origin.now) ≡ false) }
     {
         for (i, list) in self.all.iter().enumerate() {
             if list.origin == *origin {
-                return i;
+                return Some(i);
             }
         }
-        self.all.len()
+        None
+    }
+
+    /// A list for an incarnation that has none. A refusal leaves the lists as they were.
+    fn add(&mut self, origin: S::Origin) -> Result<(), AllocError>
+        requires { has_list (held S.place self.old.all.items) (S.place origin) ≡ false }
+        ensures lists { (o : Place) → list_of S.place self.new.all.items o ≡ list_of S.place self.old.all.items o }
+        ensures apart { ArePlacesApart (held S.place self.old.all.items) → ArePlacesApart (held S.place self.new.all.items) }
+        ensures ok { OnOk result (IsAt (held S.place self.new.all.items) (vec_len self.old.all) (S.place origin)) }
+        ensures len { OnOk result (vec_len self.new.all ≡ vec_len self.old.all + 1) }
+    {
+        let entries = Vec::new(*self.all.allocator());
+        self.all.push(Incarnation { origin, entries })?;
+        Ok(())
+    }
+
+    /// Where the list of an incarnation is, which is added where there is none. A refusal leaves the lists as they were.
+    fn place_for(&mut self, origin: S::Origin) -> Result<usize, AllocError>
+        ensures lists { (o : Place) → list_of S.place self.new.all.items o ≡ list_of S.place self.old.all.items o }
+        ensures apart { ArePlacesApart (held S.place self.old.all.items) → ArePlacesApart (held S.place self.new.all.items) }
+        ensures at { IfOk result (λ i. IsAt (held S.place self.new.all.items) i (S.place origin)) }
+        ensures inside { IfOk result (λ i. i < vec_len self.new.all) }
+    {
+        if let Some(i) = self.find(&origin) {
+            return Ok(i);
+        }
+        let i = self.all.len();
+        self.add(origin)?;
+        Ok(i)
+    }
+
+    /// The list of an incarnation, with room for one more entry. A refusal leaves the lists as they were.
+    pub fn room_for_entry(&mut self, origin: S::Origin) -> Result<usize, AllocError>
+        ensures lists { (o : Place) → list_of S.place self.new.all.items o ≡ list_of S.place self.old.all.items o }
+        ensures apart { ArePlacesApart (held S.place self.old.all.items) → ArePlacesApart (held S.place self.new.all.items) }
+        ensures at { IfOk result (λ i. IsAt (held S.place self.new.all.items) i (S.place origin)) }
+        ensures inside { IfOk result (λ i. i < vec_len self.new.all) }
+        ensures room { IfOk result (λ i. HasEntryAt self.new.all.items i) }
+    {
+        let i = self.place_for(origin)?;
+        self.all[i].entries.reserve(1)?;
+        Ok(i)
+    }
+
+    /// The list of an incarnation, with room for so many more durable ranges. A refusal leaves the lists as they were.
+    pub fn room_for_ranges(&mut self, origin: S::Origin, count: usize) -> Result<usize, AllocError>
+        ensures lists { (o : Place) → list_of S.place self.new.all.items o ≡ list_of S.place self.old.all.items o }
+        ensures apart { ArePlacesApart (held S.place self.old.all.items) → ArePlacesApart (held S.place self.new.all.items) }
+        ensures at { IfOk result (λ i. IsAt (held S.place self.new.all.items) i (S.place origin)) }
+        ensures inside { IfOk result (λ i. i < vec_len self.new.all) }
+        ensures room { IfOk result (λ i. HasRangesAt self.new.all.items i count) }
+    {
+        let i = self.place_for(origin)?;
+        reserve_ranges(&mut self.all[i].entries, count)?;
+        Ok(i)
+    }
+
+    /// One more entry in the list at `i`, where there is room for it.
+    pub fn push(&mut self, i: usize, entry: Entry)
+        requires inside { i < vec_len self.old.all }
+        requires room { HasEntryAt self.old.all.items i }
+        ensures lists { (o : Place) → IsAt (held S.place self.old.all.items) i o → (a : Place) → list_of S.place self.new.all.items a ≡ with_at (list_of S.place self.old.all.items) o (list_of S.place self.old.all.items o ++ view entry ∷ []) a }
+        ensures apart { ArePlacesApart (held S.place self.old.all.items) → ArePlacesApart (held S.place self.new.all.items) }
+    {
+        entries::push(&mut self.all[i].entries, entry);
+    }
+
+    /// A durable range in the list at `i`, where there is room for it.
+    pub fn lay(&mut self, i: usize, offset: u64, bytes: IoBufs)
+        requires inside { i < vec_len self.old.all }
+        requires fits { offset + length bytes < 2 ^ 64 }
+        requires room { HasRangesAt self.old.all.items i 1 }
+        ensures lists { (o : Place) → IsAt (held S.place self.old.all.items) i o → (a : Place) → list_of S.place self.new.all.items a ≡ with_at (list_of S.place self.old.all.items) o (laid offset bytes (list_of S.place self.old.all.items o)) a }
+        ensures at { (o : Place) → IsAt (held S.place self.old.all.items) i o → IsAt (held S.place self.new.all.items) i o }
+        ensures room { (n : ℕ) → HasRangesAt self.old.all.items i (n + 1) → HasRangesAt self.new.all.items i n }
+        ensures len { vec_len self.new.all ≡ vec_len self.old.all }
+        ensures apart { ArePlacesApart (held S.place self.old.all.items) → ArePlacesApart (held S.place self.new.all.items) }
+    {
+        entries::lay(&mut self.all[i].entries, offset, bytes);
+    }
+
+    /// The list of an incarnation goes.
+    pub fn retire(&mut self, origin: &S::Origin)
+        ensures lists { (a : Place) → list_of S.place self.new.all.items a ≡ with_at (list_of S.place self.old.all.items) (S.place origin.now) [] a }
+        ensures apart { ArePlacesApart (held S.place self.old.all.items) → ArePlacesApart (held S.place self.new.all.items) }
+    {
+        self.all.retain(|list| list.origin != *origin);
     }
 }
