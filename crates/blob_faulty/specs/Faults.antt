@@ -24,6 +24,10 @@ abbrev pub retention : Option WriteConfig → Option (Mode × Rate)
 retention None = None
 retention (Some c) = if c.retention_rate.numerator == 0 then None else Some (mode_of c.mode, c.retention_rate)
 
+abbrev pub kept_by : Option WriteConfig → Option (Mode × Rate)
+kept_by None = None
+kept_by (Some c) = Some (mode_of c.mode, c.retention_rate)
+
 -- What the draws of a write come to.
 
 pub data WriteFate : Type 0 where

@@ -9,7 +9,8 @@ use Rattle.blob_base.specs.Stands.{StandsFor}
 use Rattle.blob_faulty.specs.declared.config.Config.{Config}
 use Rattle.blob_faulty.specs.declared.storage.Storage.{Storage}
 use Rattle.blob_faulty.specs.declared.blob.Blob.{Blob}
-use Rattle.blob_faulty.specs.Lists.{list_of}
+use Rattle.blob_base.specs.Order.{ArePlacesApart}
+use Rattle.blob_faulty.specs.Lists.{held, list_of}
 
 abbrev pub inner_of : {S R O : Type 0} → Storage S R O → S
 inner_of w = w.inner
@@ -37,9 +38,11 @@ pub record KeepsRecords {S R O : Type 0} (place : O → Place) (old new : Storag
   pub next_marker : next_marker_of new ≡ next_marker_of old
   pub config : config_of new ≡ config_of old
 
--- whether the wrapper, over a store with this directory and these durable bytes, stands for files
-abbrev pub Stands : {S R O : Type 0} → (O → Place) → Directory → Durable → Storage S R O → Files → Type 0
-Stands place directory durable w files = StandsFor directory durable (pending_of place w) (next_write_of w) (next_marker_of w) files
+-- a wrapper, over a store with this directory and these durable bytes, stands for files
+pub record Stands {S R O : Type 0} (place : O → Place) (directory : Directory) (durable : Durable) (w : Storage S R O) (files : Files) : Type 0 where
+  pub stands : StandsFor directory durable (pending_of place w) (next_write_of w) (next_marker_of w) files
+  -- no two lists are of one incarnation
+  pub apart : ArePlacesApart (held place w.lists.all.items)
 
 -- a handle's inner handle, and the size that it tracks
 abbrev pub inside : {B : Type 0} → Blob B → B

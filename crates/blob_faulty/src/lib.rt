@@ -11,6 +11,7 @@ pub mod mode;
 pub mod selections;
 pub mod storage;
 pub mod write;
+mod writes;
 
 pub use blob::Blob;
 pub use config::{Config, ResizeConfig, WriteConfig, write_config_from_cell};
