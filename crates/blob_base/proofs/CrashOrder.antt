@@ -1,13 +1,13 @@
 -- The pending writes of all lists by their numbers are the needs of the log.
-use Rattle.std.proofs.Common.{◌≡◌, ⊎_elim, ℕ, suc, ◌<◌, ◌≤◌, Bool, true, false, cond, List, [], ◌∷◌, ◌++◌, refl, sym, ◌∙◌, ap, ap₂, subst, arith, true≢false, append_assoc}
+use Rattle.std.proofs.Common.{◌≡◌, ⊎_elim, ℕ, suc, true, false, cond, List, [], ◌∷◌, ◌++◌, refl, sym, ◌∙◌, ap, ap₂, subst, arith, true≢false, append_assoc}
 use Rattle.std.specs.Prelude.{flat_map}
 use Rattle.std.proofs.lemmas.Bool.{cond_both, cases_Bool, cond-true, cond-false}
 use Rattle.blob_base.specs.Places.{Place, same_place}
 use Rattle.blob_base.specs.SamePlace.{same_place_exact, same_back, same_self}
-use Rattle.blob_base.specs.Log.{Entry, Kept, Loose, Resized, Write, Need, need_of, has_bare, with_need, needs}
-use Rattle.blob_base.specs.Files.{Logged, log_of, all_needs, need_at, Rising, Above, from_after}
-use Rattle.blob_base.specs.Order.{placed, all_placed, number_of, Held, has_list, ArePlacesApart}
-use Rattle.blob_base.proofs.Placing.{AllFrom, from_append, from_weak, placed_append, first_of_all}
+use Rattle.blob_base.specs.Log.{Entry, Kept, Loose, Resized, Write, Need, need_of, has_bare, needs}
+use Rattle.blob_base.specs.Files.{Logged, log_of, all_needs, Rising, Above, from_after}
+use Rattle.blob_base.specs.Order.{all_placed, number_of, Held, has_list, ArePlacesApart}
+use Rattle.blob_base.proofs.Placing.{AllFrom, from_append, from_weak, first_of_all}
 
 -- what a function gives at the places of the lists
 over : (Place → List Need) → List Held → List Need
@@ -41,10 +41,16 @@ over_more f g p n (x ∷ hs) e h d y k all = ⊎_elim
     let rest : over f hs ≡ over g hs = over_other f g p hs h (ap (λ (o : Place). has_list hs o) (sym same) ∙ d.0) in
     ([], (g p ++ over g hs, (ap₂ (λ (a b : List Need). a ++ b) (ap f same ∙ e) rest, (ap (λ (o : Place). g o ++ over g hs) same, (tt, from_append number_of k (g p) (over g hs) (all p) (over_from k g hs all)))))))
     (λ isnt.
-    let r = over_more f g p n hs e h d.1 (sym (cond-false (same_place x.0 p) true (has_list hs p) isnt) ∙ y) k all in
-    (g x.0 ++ r.0, (r.1.0,
-    (ap₂ (λ (a b : List Need). a ++ b) (h x.0 (same_back p x.0 ∙ isnt)) r.1.1.0 ∙ sym (append_assoc (g x.0) r.0 (n ∷ r.1.0)),
-    (ap (λ (b : List Need). g x.0 ++ b) r.1.1.1.0 ∙ sym (append_assoc (g x.0) r.0 r.1.0), (from_append number_of k (g x.0) r.0 (all x.0) r.1.1.1.1.0, r.1.1.1.1.1))))))
+    let r = over_more f g p n hs e h d.1 (sym (cond-false (same_place x.0 p) true (has_list hs p) isnt) ∙ y) k all in (
+      g x.0 ++ r.0,
+      (
+        r.1.0,
+        (
+          ap₂ (λ (a b : List Need). a ++ b) (h x.0 (same_back p x.0 ∙ isnt)) r.1.1.0 ∙ sym (append_assoc (g x.0) r.0 (n ∷ r.1.0)),
+          (ap (λ (b : List Need). g x.0 ++ b) r.1.1.1.0 ∙ sym (append_assoc (g x.0) r.0 r.1.0), (from_append number_of k (g x.0) r.0 (all x.0) r.1.1.1.1.0, r.1.1.1.1.1)),
+        ),
+      ),
+    ))
     (cases_Bool (same_place x.0 p))
 
 -- the needs of one log

@@ -1,12 +1,13 @@
 -- A crash: for which writes it draws, and what it leaves.
-use Rattle.std.proofs.Common.{◌≡◌, ⊎_elim, ℕ, Bool, true, false, cond, List, [], ◌∷◌, ◌++◌, Option, Some, None, refl, sym, ◌∙◌, ap, ap₂, subst, arith, true≢false}
+use Rattle.std.proofs.Common.{◌≡◌, ⊎_elim, ℕ, true, false, List, [], ◌∷◌, ◌++◌, Option, Some, None, refl, sym, ◌∙◌, ap, ap₂, subst, arith, true≢false}
 use Rattle.std.specs.Prelude.{flat_map}
 use Rattle.std.proofs.lemmas.Bool.{cases_Bool, cond-true, cond-false}
 use Rattle.rand_core.specs.Stream.{Stream}
 use Rattle.blob_base.specs.Places.{Place, same_place}
 use Rattle.blob_base.specs.SamePlace.{same_place_exact, same_self}
 use Rattle.blob_base.specs.Directory.{Directory}
-use Rattle.blob_base.specs.Draws.{Row, drawn, chosen_by}
+use Rattle.blob_base.specs.Durable.{Durable}
+use Rattle.blob_base.specs.Draws.{drawn}
 use Rattle.blob_base.specs.Log.{Need, Entry, Choices, needs, crashed}
 use Rattle.blob_base.specs.Pending.{Pending, waiting}
 use Rattle.blob_base.specs.Order.{all_placed, number_of, Held, held_at, has_list, ArePlacesApart, waiting_of_all}
@@ -44,18 +45,18 @@ over_needs [] f g e = refl
 over_needs (h ∷ hs) f g e = ap₂ (λ (x y : List Need). x ++ y) (e h.0) (over_needs hs f g e)
 
 -- what all lists wait for is what all logs need, in issue order
-pub gathered : (names : Directory) (bytes : Place → Option (List ℕ)) (hs : List Held) (write marker : ℕ) (f : Files) → ArePlacesApart hs → StandsFor names bytes (held_at hs) write marker f → all_placed number_of [] (waiting_of_all hs) ≡ all_needs f.log
+pub gathered : (names : Directory) (bytes : Durable) (hs : List Held) (write marker : ℕ) (f : Files) → ArePlacesApart hs → StandsFor names bytes (held_at hs) write marker f → all_placed number_of [] (waiting_of_all hs) ≡ all_needs f.log
 gathered names bytes hs write marker f d s =
     ap (λ (l : List Need). all_placed number_of [] l) (by_place hs (held_at hs) d (λ _ _. refl) ∙ over_needs hs (λ o. waiting (held_at hs o)) (λ o. needs (log_of f.log o)) (λ o. needs_here (bytes o) (held_at hs o) (f.base o) (log_of f.log o) (s.at o)))
     ∙ in_issue_order 0 f.log f.next_write hs s.rising d (λ o n. sym (needs_here (bytes o) (held_at hs o) (f.base o) (log_of f.log o) (s.at o)) ∙ ap waiting (none_held hs o n))
 
 -- so the rows are those of the files
-pub gathered_rows : (names : Directory) (bytes : Place → Option (List ℕ)) (hs : List Held) (write marker : ℕ) (f : Files) (stream : Stream) → ArePlacesApart hs → StandsFor names bytes (held_at hs) write marker f →
+pub gathered_rows : (names : Directory) (bytes : Durable) (hs : List Held) (write marker : ℕ) (f : Files) (stream : Stream) → ArePlacesApart hs → StandsFor names bytes (held_at hs) write marker f →
     drawn stream (all_placed number_of [] (waiting_of_all hs)) ≡ drawn stream (all_needs f.log)
 gathered_rows names bytes hs write marker f stream d s = ap (drawn stream) (gathered names bytes hs write marker f d s)
 
 -- what a crash leaves
-pub stands_crash : (names : Directory) (bytes bytes' : Place → Option (List ℕ)) (lists lists' : Place → List Pending) (write marker : ℕ) (f : Files) (t : Choices) →
+pub stands_crash : (names : Directory) (bytes bytes' : Durable) (lists lists' : Place → List Pending) (write marker : ℕ) (f : Files) (t : Choices) →
     ((a : Place) → bytes' a ≡ replayed_at t (lists a) (bytes a)) → ((a : Place) → lists' a ≡ []) →
     StandsFor names bytes lists write marker f → StandsFor names bytes' lists' write marker (after_crash f t)
 stands_crash names bytes bytes' lists lists' write marker f t left emptied s = record {

@@ -1,15 +1,17 @@
 -- What each call on one blob leaves stands for the files' step.
-use Rattle.std.proofs.Common.{◌≡◌, ⊎_elim, ℕ, zero, suc, ◌+◌, ◌<◌, ◌≤◌, Bool, true, false, cond, not, List, [], ◌∷◌, ◌++◌, length, Option, Some, None, refl, sym, ◌∙◌, ap, ap₂, subst, arith, true≢false, append-nil}
+use Rattle.std.proofs.Common.{◌≡◌, ⊎_elim, ℕ, suc, ◌+◌, ◌<◌, ◌≤◌, Bool, true, false, cond, List, [], ◌∷◌, ◌++◌, length, Option, Some, None, refl, sym, ◌∙◌, ap, ap₂, subst, arith}
 use Rattle.std.specs.Prelude.{option_map}
 use Rattle.std.proofs.lemmas.Bool.{cond_both, cases_Bool, cond-true, cond-false}
+use Rattle.std.proofs.lemmas.Option.{same_Some}
 use Rattle.blob_base.specs.Places.{Place, same_place}
-use Rattle.blob_base.specs.SamePlace.{same_place_exact, same_self, same_back, apart_at, same_at}
+use Rattle.blob_base.specs.Durable.{Durable, with_at, changed}
+use Rattle.blob_base.specs.SamePlace.{same_place_exact, same_self, same_at}
 use Rattle.blob_base.specs.Directory.{Directory, current}
 use Rattle.blob_base.specs.Bytes.{overlay}
-use Rattle.blob_base.specs.Log.{Entry, Kept, Loose, Resized, Write, Need, Choices, need_of, durable, crashed, needs}
-use Rattle.blob_base.specs.Pending.{Pending, Waiting, Cut, Marker, waiting, laid, finished, replay}
+use Rattle.blob_base.specs.Log.{Entry, Kept, Loose, Resized, Write, need_of}
+use Rattle.blob_base.specs.Pending.{Pending, Waiting, Cut, Marker, laid, finished}
 use Rattle.blob_base.specs.Runs.{Run, runs, kept_runs, all_laid, all_behind}
-use Rattle.blob_base.specs.Files.{Files, Logged, log_of, without, Rising, Above, from_after, counted, logged, all_logged, published, synced, started, durable_at, admitted_at, admitted}
+use Rattle.blob_base.specs.Files.{Files, Logged, log_of, without, Rising, Above, from_after, logged, all_logged, published, synced, started, durable_at, admitted_at, admitted, wrapped}
 use Rattle.blob_base.specs.Durable.{with_at}
 use Rattle.blob_base.specs.Stands.{StandsForFile, StandsAt, StandsFor, retired}
 use Rattle.blob_base.specs.Durable.{changed}
@@ -60,7 +62,7 @@ four x y q r b c k l e f g h s =
     (subst (λ (z : List Entry). StandsAt y r c z) (sym h) s)))
 
 -- bytes changed at o, by what was at o
-pub changed_is : (bytes : Place → Option (List ℕ)) (o : Place) (g : List ℕ → List ℕ) (a : Place) → changed bytes o g a ≡ cond (same_place o a) (option_map g (bytes o)) (bytes a)
+pub changed_is : (bytes : Durable) (o : Place) (g : List ℕ → List ℕ) (a : Place) → changed bytes o g a ≡ cond (same_place o a) (option_map g (bytes o)) (bytes a)
 changed_is bytes o g a = ⊎_elim
     (λ y. cond-true (same_place o a) _ _ y ∙ ap (λ (p : Place). option_map g (bytes p)) (sym (same_place_exact o a y)) ∙ sym (cond-true (same_place o a) _ _ y))
     (λ n. cond-false (same_place o a) _ _ n ∙ sym (cond-false (same_place o a) _ _ n))
@@ -107,11 +109,11 @@ still_none t x y e none = e ∙ go t
     go true = refl
     go false = none
 
-next_of : {names : Directory} {bytes : Place → Option (List ℕ)} {lists : Place → List Pending} {write marker : ℕ} {f : Files} → StandsFor names bytes lists write marker f → names.next ≡ f.directory.next
+next_of : {names : Directory} {bytes : Durable} {lists : Place → List Pending} {write marker : ℕ} {f : Files} → StandsFor names bytes lists write marker f → names.next ≡ f.directory.next
 next_of s = ap (λ (d : Directory). d.next) s.directory
 
 -- the same store, seen through functions that are equal place by place
-pub stands_same : (names names' : Directory) (bytes bytes' : Place → Option (List ℕ)) (lists lists' : Place → List Pending) (write marker : ℕ) (f : Files) →
+pub stands_same : (names names' : Directory) (bytes bytes' : Durable) (lists lists' : Place → List Pending) (write marker : ℕ) (f : Files) →
     names' ≡ names → ((a : Place) → bytes' a ≡ bytes a) → ((a : Place) → lists' a ≡ lists a) → StandsFor names bytes lists write marker f → StandsFor names' bytes' lists' write marker f
 stands_same names names' bytes bytes' lists lists' write marker f named over new s = record {
   directory = named ∙ s.directory;
@@ -123,7 +125,7 @@ stands_same names names' bytes bytes' lists lists' write marker f named over new
 }
 
 -- a write that a crash may lose, by a stale handle too
-pub stands_plain : (names : Directory) (bytes : Place → Option (List ℕ)) (lists lists' : Place → List Pending) (write marker : ℕ) (f : Files) (o : Place) (w : Write) →
+pub stands_plain : (names : Directory) (bytes : Durable) (lists lists' : Place → List Pending) (write marker : ℕ) (f : Files) (o : Place) (w : Write) →
     0 < length w.bytes → w.number ≡ write → o.number < names.next → ((a : Place) → lists' a ≡ with_at lists o (lists o ++ Waiting (need_of w []) ∷ []) a) →
     StandsFor names bytes lists write marker f → StandsFor names bytes lists' (write + 1) marker (logged f o (Loose w))
 stands_plain names bytes lists lists' write marker f o w some is old new s = record {
@@ -140,7 +142,7 @@ stands_plain names bytes lists lists' write marker f o w some is old new s = rec
     here (Some x) t = stands_loose x (lists o) (f.base o) (log_of f.log o) w some t
 
 -- a resize that survives a crash, by a stale handle too
-pub stands_cut : (names : Directory) (bytes : Place → Option (List ℕ)) (lists lists' : Place → List Pending) (write marker : ℕ) (f : Files) (o : Place) (n : ℕ) →
+pub stands_cut : (names : Directory) (bytes : Durable) (lists lists' : Place → List Pending) (write marker : ℕ) (f : Files) (o : Place) (n : ℕ) →
     o.number < names.next → ((a : Place) → lists' a ≡ with_at lists o (lists o ++ Cut n ∷ []) a) →
     StandsFor names bytes lists write marker f → StandsFor names bytes lists' write marker (logged f o (Resized n))
 stands_cut names bytes lists lists' write marker f o n old new s = record {
@@ -157,7 +159,7 @@ stands_cut names bytes lists lists' write marker f o n old new s = record {
     here (Some x) t = stands_resized x (lists o) (f.base o) (log_of f.log o) n t
 
 -- a durable range
-pub stands_range : (names : Directory) (bytes bytes' : Place → Option (List ℕ)) (lists lists' : Place → List Pending) (write marker : ℕ) (f : Files) (o : Place) (p : ℕ) (b : List ℕ) →
+pub stands_range : (names : Directory) (bytes bytes' : Durable) (lists lists' : Place → List Pending) (write marker : ℕ) (f : Files) (o : Place) (p : ℕ) (b : List ℕ) →
     0 < length b → o.number < names.next → ((a : Place) → bytes' a ≡ changed bytes o (λ x. overlay x p b) a) → ((a : Place) → lists' a ≡ with_at lists o (laid p b (lists o)) a) →
     StandsFor names bytes lists write marker f → StandsFor names bytes' lists' write marker (logged f o (Kept p b))
 stands_range names bytes bytes' lists lists' write marker f o p b some old over new s = record {
@@ -174,7 +176,7 @@ stands_range names bytes bytes' lists lists' write marker f o p b some old over 
     here (Some x) t = stands_kept x (lists o) (f.base o) (log_of f.log o) p b some t
 
 -- durable ranges, one after another
-pub stands_ranges : (rs : List Run) (names : Directory) (bytes bytes' : Place → Option (List ℕ)) (lists lists' : Place → List Pending) (write marker : ℕ) (f : Files) (o : Place) →
+pub stands_ranges : (rs : List Run) (names : Directory) (bytes bytes' : Durable) (lists lists' : Place → List Pending) (write marker : ℕ) (f : Files) (o : Place) →
     AreSome rs → o.number < names.next → ((a : Place) → bytes' a ≡ changed bytes o (λ x. all_laid x rs) a) → ((a : Place) → lists' a ≡ with_at lists o (all_behind (lists o) rs) a) →
     StandsFor names bytes lists write marker f → StandsFor names bytes' lists' write marker (all_logged f o (kept_runs rs))
 stands_ranges [] names bytes bytes' lists lists' write marker f o some old over new s = stands_same names names bytes bytes' lists lists' write marker f refl
@@ -189,7 +191,7 @@ stands_ranges (r ∷ rs) names bytes bytes' lists lists' write marker f o some o
     (λ a. over a ∙ twice a) (λ a. new a ∙ again a)
     (stands_range names bytes mid lists next write marker f o r.0 r.1 some.0 old (λ _. refl) (λ _. refl) s)
   where
-    mid : Place → Option (List ℕ)
+    mid : Durable
     mid = changed bytes o (λ x. overlay x r.0 r.1)
 
     next : Place → List Pending
@@ -214,13 +216,13 @@ stands_ranges (r ∷ rs) names bytes bytes' lists lists' write marker f o some o
         go false x y z = refl
 
 -- a failed write that keeps some of its bytes
-pub stands_partly : (names : Directory) (bytes bytes' : Place → Option (List ℕ)) (lists lists' : Place → List Pending) (write marker : ℕ) (f : Files) (o : Place) (p : ℕ) (b : List ℕ) (chosen : List Bool) →
+pub stands_partly : (names : Directory) (bytes bytes' : Durable) (lists lists' : Place → List Pending) (write marker : ℕ) (f : Files) (o : Place) (p : ℕ) (b : List ℕ) (chosen : List Bool) →
     o.number < names.next → ((a : Place) → bytes' a ≡ changed bytes o (λ x. all_laid x (runs p b chosen)) a) → ((a : Place) → lists' a ≡ with_at lists o (all_behind (lists o) (runs p b chosen)) a) →
     StandsFor names bytes lists write marker f → StandsFor names bytes' lists' write marker (all_logged f o (kept_runs (runs p b chosen)))
 stands_partly names bytes bytes' lists lists' write marker f o p b chosen old over new s = stands_ranges (runs p b chosen) names bytes bytes' lists lists' write marker f o (runs_some p b chosen) old over new s
 
 -- a sync
-pub stands_synced : (names : Directory) (bytes bytes' : Place → Option (List ℕ)) (lists lists' : Place → List Pending) (write marker : ℕ) (f : Files) (o : Place) (live : List ℕ) →
+pub stands_synced : (names : Directory) (bytes bytes' : Durable) (lists lists' : Place → List Pending) (write marker : ℕ) (f : Files) (o : Place) (live : List ℕ) →
     ((a : Place) → bytes' a ≡ changed bytes o (λ _. live) a) → ((a : Place) → lists' a ≡ with_at lists o [] a) →
     StandsFor names bytes lists write marker f → StandsFor names bytes' lists' write marker (synced f o live)
 stands_synced names bytes bytes' lists lists' write marker f o live over new s = record {
@@ -237,7 +239,7 @@ stands_synced names bytes bytes' lists lists' write marker f o live over new s =
     here (Some x) = stands_empty live
 
 -- a started sync that succeeded
-pub stands_begun : (names : Directory) (bytes bytes' : Place → Option (List ℕ)) (lists lists' : Place → List Pending) (write marker : ℕ) (f : Files) (o : Place) (live : List ℕ) →
+pub stands_begun : (names : Directory) (bytes bytes' : Durable) (lists lists' : Place → List Pending) (write marker : ℕ) (f : Files) (o : Place) (live : List ℕ) →
     o.number < names.next → ((a : Place) → bytes' a ≡ changed bytes o (λ _. live) a) → ((a : Place) → lists' a ≡ with_at lists o (lists o ++ Marker marker ∷ []) a) →
     StandsFor names bytes lists write marker f → StandsFor names bytes' lists' write (marker + 1) (started f o live)
 stands_begun names bytes bytes' lists lists' write marker f o live old over new s = record {
@@ -254,7 +256,7 @@ stands_begun names bytes bytes' lists lists' write marker f o live old over new 
     here (Some x) = stands_started live (lists o) marker
 
 -- what is pending of an incarnation is retired
-pub stands_retired_at : (names : Directory) (bytes : Place → Option (List ℕ)) (lists lists' : Place → List Pending) (write marker : ℕ) (f : Files) (o : Place) →
+pub stands_retired_at : (names : Directory) (bytes : Durable) (lists lists' : Place → List Pending) (write marker : ℕ) (f : Files) (o : Place) →
     ((a : Place) → lists' a ≡ with_at lists o [] a) →
     StandsFor names bytes lists write marker f → StandsFor names bytes lists' write marker (published f o (durable_at f o))
 stands_retired_at names bytes lists lists' write marker f o new s = record {
@@ -271,7 +273,7 @@ stands_retired_at names bytes lists lists' write marker f o new s = record {
     here (Some x) t = stands_retired x (lists o) (f.base o) (log_of f.log o) t
 
 -- of a name's current incarnation, where it has one
-pub stands_admitted : (names : Directory) (bytes : Place → Option (List ℕ)) (lists lists' : Place → List Pending) (write marker : ℕ) (f : Files) (p n : List ℕ) →
+pub stands_admitted : (names : Directory) (bytes : Durable) (lists lists' : Place → List Pending) (write marker : ℕ) (f : Files) (p n : List ℕ) →
     ((a : Place) → lists' a ≡ retired lists (current names p n) a) →
     StandsFor names bytes lists write marker f → StandsFor names bytes lists' write marker (admitted f p n)
 stands_admitted names bytes lists lists' write marker f p n new s =
@@ -282,7 +284,7 @@ stands_admitted names bytes lists lists' write marker f p n new s =
     go (Some o) new = stands_retired_at names bytes lists lists' write marker f o new s
 
 -- a started sync that is finished
-pub stands_done : (names : Directory) (bytes : Place → Option (List ℕ)) (lists lists' : Place → List Pending) (write marker k : ℕ) (f : Files) → ((a : Place) → lists' a ≡ finished k (lists a)) →
+pub stands_done : (names : Directory) (bytes : Durable) (lists lists' : Place → List Pending) (write marker k : ℕ) (f : Files) → ((a : Place) → lists' a ≡ finished k (lists a)) →
     StandsFor names bytes lists write marker f → StandsFor names bytes lists' write marker f
 stands_done names bytes lists lists' write marker k f new s = record {
   directory = s.directory;
@@ -296,3 +298,31 @@ stands_done names bytes lists lists' write marker k f new s = record {
     here : (x : Option (List ℕ)) (a : Place) → StandsAt x (lists a) (f.base a) (log_of f.log a) → StandsAt x (finished k (lists a)) (f.base a) (log_of f.log a)
     here None a t = waiting_finished k (lists a) ∙ t
     here (Some x) a t = stands_finished x (lists a) (f.base a) (log_of f.log a) k t
+
+-- the durable bytes of a current incarnation are those of the files
+pub durable_is : (names : Directory) (bytes : Durable) (lists : Place → List Pending) (write marker : ℕ) (f : Files) (o : Place) (x : List ℕ) → bytes o ≡ Some x →
+    StandsFor names bytes lists write marker f → x ≡ durable_at f o
+durable_is names bytes lists write marker f o x e s = here (bytes o) e (s.at o)
+  where
+    none : None ≡ Some x → ⊥
+    none q = cc
+
+    here : (v : Option (List ℕ)) → v ≡ Some x → StandsAt v (lists o) (f.base o) (log_of f.log o) → x ≡ durable_at f o
+    here None q t = absurd (none q)
+    here (Some y) q t = sym (same_Some y x q) ∙ t.durable
+
+-- a store that is wrapped
+pub stands_wrapped : (names : Directory) (bytes : Durable) (lists : Place → List Pending) (kept : Place → List ℕ) → ((a : Place) (x : List ℕ) → bytes a ≡ Some x → kept a ≡ x) → ((a : Place) → lists a ≡ []) →
+    StandsFor names bytes lists 0 0 (wrapped names kept)
+stands_wrapped names bytes lists kept read none = record {
+  directory = refl;
+  at = λ a. four _ _ _ _ _ _ [] [] refl (none a) refl refl (here (bytes a) (kept a) (λ x e. read a x e));
+  next_write = refl;
+  next_marker = refl;
+  rising = omega arith;
+  fresh = λ a h. (none a, refl);
+}
+  where
+    here : (v : Option (List ℕ)) (b : List ℕ) → ((x : List ℕ) → v ≡ Some x → b ≡ x) → StandsAt v [] b []
+    here None b r = refl
+    here (Some x) b r = subst (λ (z : List ℕ). StandsForFile x [] z []) (sym (r x refl)) (stands_empty x)

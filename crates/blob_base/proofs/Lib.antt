@@ -1,12 +1,15 @@
 pub mod Agrees
+pub mod AnyOrder
 pub mod BehindHeader
 pub mod Blocks
 pub mod Bytes
 pub mod Crash
 pub mod CrashOrder
 pub mod CrashSteps
+pub mod Durables
 pub mod FileSteps
 pub mod Fronts
+pub mod Headers
 pub mod Holes
 pub mod Laid
 pub mod Linear
@@ -16,8 +19,12 @@ pub mod Needs
 pub mod NoneSide
 pub mod Openings
 pub mod Placing
+pub mod Reopening
+pub mod Resolutions
+mod Rows
 pub mod Runs
 pub mod Selections
 pub mod Shape
 pub mod Steps
 pub mod TableRules
+pub mod TornTest

@@ -4,7 +4,7 @@ use Rattle.std.proofs.lemmas.List.{take_all, get_or_past, get_or-take}
 use Rattle.std.proofs.lemmas.Slice.Eq.{bytes_eq-Decides}
 use Rattle.std.proofs.lemmas.Bool.Decides.{Decides-eqb}
 use Rattle.std.proofs.Math.Seq.{take-add}
-use Rattle.std.proofs.lemmas.Bool.{cond_both, ltb-false}
+use Rattle.std.proofs.lemmas.Bool.{cond_both, ltb-false, ltb-true}
 use Rattle.std.specs.Int.{to_be_bytes, w32}
 use Rattle.std.specs.Str.{bytes_eq}
 use Rattle.std.specs.List.{list_all}
@@ -13,8 +13,8 @@ use Rattle.blob_base.specs.declared.layout.Layout.TheVariants.{V0, V1}
 use Rattle.blob_base.specs.declared.version.BlobVersion.{BlobVersion}
 use Rattle.blob_base.specs.Checksum.{crc32c}
 use Rattle.blob_base.specs.Directory.{data_start}
-use Rattle.blob_base.specs.Header.{head, prelude, region, magic_of, layout_number, IsFront, IsTorn}
-use Rattle.blob_base.specs.Parse.{Accepted, Failure, UnsupportedLayoutVersion, InvalidChecksum, InvalidPadding, Truncated, may_be_torn, number_at, is_sealed, page_failure, region_failure, is_accepted, layout_numbered, parsed_whole, parsed_in, parsed}
+use Rattle.blob_base.specs.Header.{head, prelude, region, magic_of, layout_number, IsFront, IsTorn, number_at}
+use Rattle.blob_base.specs.Parse.{Accepted, Failure, UnsupportedLayoutVersion, InvalidChecksum, InvalidPadding, Truncated, may_be_torn, is_sealed, page_failure, region_failure, is_accepted, layout_numbered, parsed_whole, parsed_in, parsed}
 use Rattle.blob_base.specs.Versions.{is_in_range}
 use Rattle.blob_base.proofs.Fronts.{front_at, all_zeros, version_of}
 
@@ -32,11 +32,15 @@ NoTear (Some failure) = may_be_torn failure ≡ false
 same_true : (xs : List ℕ) → bytes_eq xs xs ≡ true
 same_true xs = (bytes_eq-Decides xs xs).1 refl
 
-pub whole_page : (v : ℕ) → page_failure (region V1 v) 4096 ≡ None
+pub not_true : (b : Bool) → (b ≡ true → ⊥) → b ≡ false
+not_true true h = absurd (h refl)
+not_true false h = refl
+
+pub whole_page : (v n : ℕ) → 4096 ≤ n → page_failure (region V1 v) n ≡ None
 unfolding region page_failure
-whole_page v =
-    let P : Bool → Option Failure = λ b. cond b None (Some InvalidChecksum) in
-    ap P (same_true (to_be_bytes w32 (crc32c (prelude V1 v))))
+whole_page v n long =
+    let P : Bool → Bool → Option Failure = λ b c. cond b (cond c (Some (Truncated 4096 n)) None) (Some InvalidChecksum) in
+    ap₂ P (same_true (to_be_bytes w32 (crc32c (prelude V1 v)))) (not_true (nat_lt n 4096) (λ t. omega (arith, ltb-true n 4096 t)))
 
 not_torn_whole : (raw : List ℕ) (n : ℕ) (a : Accepted) (layout : Layout) → NotTorn (parsed_whole None layout raw n a)
 not_torn_whole raw n a layout =
@@ -48,7 +52,7 @@ not_torn_whole raw n a layout =
 pub whole : (v n : ℕ) (a : Accepted) → n ≡ 4096 → NotTorn (parsed (region V1 v) n a)
 unfolding region
 whole v n a e =
-    rw (e, whole_page v) (not_torn_whole (region V1 v) 4096 a V1)
+    rw (e, whole_page v 4096 (omega arith)) (not_torn_whole (region V1 v) 4096 a V1)
 
 in_layout : (b : Bool) (layout : Layout) (raw : List ℕ) (n : ℕ) (a : Accepted) (expected found : ℕ)
     → NotTorn (parsed_in (cond b (Ok layout) (Err (UnsupportedLayoutVersion expected found))) raw n a) → (b ≡ true) × NotTorn (parsed_whole (region_failure layout raw n) layout raw n a)

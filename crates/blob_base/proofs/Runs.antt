@@ -1,11 +1,11 @@
 -- Runs laid one after another are the chosen bytes, and each is a durable range.
 use Rattle.std.proofs.Common.{◌≡◌, ⊎_elim, ℕ, zero, suc, ◌+◌, ◌-◌, ◌<◌, ◌≤◌, max, Bool, true, false, List, [], ◌∷◌, ◌++◌, length, get_or, append-nil, append_assoc, eqb, refl, sym, ◌∙◌, ap, subst, arith}
-use Rattle.std.proofs.lemmas.Bool.{cond_both, cases_Bool, cases_eq, cases_lt, eqb-true}
+use Rattle.std.proofs.lemmas.Bool.{cond_both, cases_Bool, cases_eq, cases_lt, eqb-true, eqb-false}
 use Rattle.blob_base.specs.Bytes.{reach, overlay_by, overlay}
 use Rattle.blob_base.specs.Log.{Entry, Kept}
 use Rattle.blob_base.specs.Pending.{Pending, laid}
 use Rattle.blob_base.specs.Stands.{StandsForFile}
-use Rattle.blob_base.specs.Runs.{Run, with_byte, runs, kept_runs, all_laid, picked, all_behind}
+use Rattle.blob_base.specs.Runs.{Run, AreRunsApart, with_byte, runs, kept_runs, all_laid, picked, all_behind}
 use Rattle.blob_base.proofs.Bytes.{above_chosen, reach_below, length-overlay_by, at_chosen, at_other, same_bytes, none_chosen}
 use Rattle.blob_base.proofs.Agrees.{overlay_same}
 use Rattle.blob_base.proofs.Steps.{stands_kept}
@@ -115,3 +115,23 @@ stands_all (r ∷ rs) x q base log some s = subst (λ (l : List Entry). StandsFo
 pub stands_failed : (x : List ℕ) (q : List Pending) (base : List ℕ) (log : List Entry) (o : ℕ) (b : List ℕ) (c : List Bool) → StandsForFile x q base log →
     StandsForFile (all_laid x (runs o b c)) (all_behind q (runs o b c)) base (log ++ kept_runs (runs o b c))
 stands_failed x q base log o b c s = stands_all (runs o b c) x q base log (runs_some o b c) s
+
+-- the runs are maximal
+with_byte_apart : (o b : ℕ) (rs : List Run) → AreRunsApart (o + 1) rs → AreRunsApart o (with_byte o b rs)
+with_byte_apart o b [] a = (omega arith, omega arith, tt)
+with_byte_apart o b (r ∷ rs) a = cond_both (eqb r.0 (o + 1)) ((o, b ∷ r.1) ∷ rs) ((o, b ∷ []) ∷ r ∷ rs) (λ l. AreRunsApart o l)
+    (λ e. (omega arith, omega arith, subst (λ (n : ℕ). AreRunsApart n rs) (omega (arith, eqb-true r.0 (o + 1) e)) a.2))
+    (λ ne. (omega arith, omega arith, (after (eqb-false r.0 (o + 1) ne), a.1, a.2)))
+  where
+    after : (r.0 ≡ o + 1 → ⊥) → suc (o + 1) ≤ r.0
+    after ne = ⊎_elim (λ e. absurd (ne e)) (λ n. omega (arith, a.0, n)) (cases_eq r.0 (o + 1))
+
+runs_sooner : (o o' : ℕ) (rs : List Run) → o' ≤ o → AreRunsApart o rs → AreRunsApart o' rs
+runs_sooner o o' [] h a = tt
+runs_sooner o o' (r ∷ rs) h a = (omega (arith, a.0), a.1, a.2)
+
+pub runs_apart : (o : ℕ) (b : List ℕ) (c : List Bool) → AreRunsApart o (runs o b c)
+runs_apart o [] c = tt
+runs_apart o (b ∷ bs) [] = tt
+runs_apart o (b ∷ bs) (true ∷ c) = with_byte_apart o b _ (runs_apart (o + 1) bs c)
+runs_apart o (b ∷ bs) (false ∷ c) = runs_sooner (o + 1) o _ (omega arith) (runs_apart (o + 1) bs c)

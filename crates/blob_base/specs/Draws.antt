@@ -1,5 +1,5 @@
 -- What a generator's words choose.
-use Rattle.std.specs.Prelude.{ℕ, zero, suc, ◌+◌, ◌%◌, Bool, true, false, ◌||◌, List, [], ◌∷◌, length, slice_index_or, replicate, if◌then◌else◌, ◌==◌}
+use Rattle.std.specs.Prelude.{ℕ, zero, suc, ◌+◌, ◌-◌, ◌/◌, ◌%◌, Bool, true, false, ◌||◌, List, [], ◌∷◌, length, slice_index_or, replicate, if◌then◌else◌, ◌==◌}
 use Rattle.rand_core.specs.Stream.{Stream}
 use Rattle.blob_base.specs.Modes.{Mode, Prefix, Subset, Sectors}
 use Rattle.blob_base.specs.Rates.{Rate, sampled}
@@ -54,3 +54,8 @@ row_of (row ∷ rows) number = if row.0 == number then row.1 else row_of rows nu
 
 abbrev pub chosen_by : List Row → Choices
 chosen_by rows number i = slice_index_or (row_of rows number) i false
+
+-- how many sectors n bytes at o touch
+abbrev pub touched : ℕ → ℕ → ℕ → ℕ
+touched size o zero = 0
+touched size o (suc n) = suc ((o + n) / size - o / size)

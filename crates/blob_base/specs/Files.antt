@@ -1,11 +1,12 @@
 -- What the code doesn't store: the base of each incarnation, and one log of all mutations since, never cut. Each step is a function.
-use Rattle.std.specs.Prelude.{ℕ, suc, ◌+◌, ◌≤◌, List, [], ◌∷◌, ◌++◌, Bool, true, false, cond, ◌&&◌, Option, Some, None, if◌then◌else◌}
-use Rattle.std.specs.Str.{bytes_eq}
+use Rattle.std.specs.Prelude.{ℕ, suc, ◌+◌, ◌≤◌, List, [], ◌∷◌, ◌++◌, Bool, ◌&&◌, Option, Some, None, if◌then◌else◌}
 use Rattle.blob_base.specs.declared.layout.Layout.{Layout}
 use Rattle.blob_base.specs.Places.{Place, same_place}
-use Rattle.blob_base.specs.Directory.{File, Raw, Incarnation, Directory, data_start, current, is_current, place_made, directory_made, directory_without, directory_less}
-use Rattle.blob_base.specs.Durable.{with_at}
+use Rattle.blob_base.specs.Directory.{File, Raw, Incarnation, Directory, current, is_current, place_made, directory_made}
+use Rattle.blob_base.specs.Durable.{with_at, is_under}
+use Rattle.blob_base.specs.Header.{region}
 use Rattle.blob_base.specs.Log.{Entry, Kept, Loose, Resized, Need, Choices, need_of, with_need, durable, crashed}
+use Rattle.blob_base.specs.Opening.{Opening, Continues, Begins, Declines, opening, place_of, removed}
 
 -- a mutation, and the incarnation that it is of
 pub record Logged : Type 0 where
@@ -105,41 +106,43 @@ crashed_at f t o = crashed (f.base o) (log_of f.log o) t
 abbrev pub after_crash : Files → Choices → Files
 after_crash f t = record { directory = f.directory; base = crashed_at f t; log = []; next_write = f.next_write; next_marker = f.next_marker }
 
--- Incarnations that begin.
+-- An open.
 
--- an accepted open of a name that had no current incarnation: with the logical bytes of its raw file, or with none
+-- a name that had no current incarnation gets one, with the logical bytes of its raw file or with none
 abbrev pub made : Files → List ℕ → List ℕ → Layout → ℕ → List ℕ → Files
 made f p n layout version bytes = record { directory = directory_made f.directory p n layout version; base = with_at f.base (place_made f.directory p n layout) bytes; log = f.log; next_write = f.next_write; next_marker = f.next_marker }
 
--- Incarnations that end: the log of each is emptied. Those of incarnations of the name that ended earlier stay.
+abbrev pub opened : Files → List ℕ → List ℕ → Opening → Files
+opened f p n (Continues number layout version) = f
+opened f p n (Begins layout version live) = made f p n layout version live
+opened f p n (Declines refusal) = f
 
-abbrev pub is_named : List ℕ → List ℕ → Place → Bool
-is_named p n o = bytes_eq p o.partition && bytes_eq n o.name
+-- for the versions from first to last, by what it finds
+abbrev pub after_open : Files → List ℕ → List ℕ → ℕ → ℕ → Files
+after_open f p n first last = opened f p n (opening p n (f.directory.file p n) first last)
 
-abbrev pub is_in : List ℕ → Place → Bool
-is_in p o = bytes_eq p o.partition
+-- A removal of a name, or with none of the whole partition: the log of each incarnation that ends is emptied. Those of incarnations that ended earlier stay.
 
-abbrev pub ends_with_name : Directory → List ℕ → List ℕ → Place → Bool
-ends_with_name d p n o = is_named p n o && is_current d o
+abbrev pub ends_by : Directory → List ℕ → Option (List ℕ) → Place → Bool
+ends_by d p n o = is_under p n o && is_current d o
 
-abbrev pub name_removed : Files → List ℕ → List ℕ → Files
-name_removed f p n = record { directory = directory_without f.directory p n; base = f.base; log = without (ends_with_name f.directory p n) f.log; next_write = f.next_write; next_marker = f.next_marker }
+abbrev pub after_remove : Files → List ℕ → Option (List ℕ) → Files
+after_remove f p n = record { directory = removed f.directory p n; base = f.base; log = without (ends_by f.directory p n) f.log; next_write = f.next_write; next_marker = f.next_marker }
 
-abbrev pub ends_with_partition : Directory → List ℕ → Place → Bool
-ends_with_partition d p o = is_in p o && is_current d o
+-- A store that is rebuilt from a snapshot: each current incarnation ends and is a raw file, its header and its durable bytes.
 
-abbrev pub partition_removed : Files → List ℕ → Files
-partition_removed f p = record { directory = directory_less f.directory p; base = f.base; log = without (ends_with_partition f.directory p) f.log; next_write = f.next_write; next_marker = f.next_marker }
+abbrev pub raw_again : (Place → List ℕ) → List ℕ → List ℕ → Option File → Option File
+raw_again bytes p n None = None
+raw_again bytes p n (Some (Raw x)) = Some (Raw x)
+raw_again bytes p n (Some (Incarnation number layout version)) = Some (Raw (region layout version ++ bytes (place_of p n number layout)))
 
--- A store that is rebuilt from a snapshot: each incarnation ends and is a raw file, its header and its durable bytes.
+abbrev pub directory_again : (Place → List ℕ) → Directory → Directory
+directory_again bytes d = record { has_partition = d.has_partition; file = λ p n. raw_again bytes p n (d.file p n); next = d.next }
 
-abbrev pub raw_again : (Layout → ℕ → List ℕ) → (Place → List ℕ) → List ℕ → List ℕ → Option File → Option File
-raw_again header bytes p n None = None
-raw_again header bytes p n (Some (Raw x)) = Some (Raw x)
-raw_again header bytes p n (Some (Incarnation k layout version)) = Some (Raw (header layout version ++ bytes (record { partition = p; name = n; number = k; start = data_start layout })))
+abbrev pub reopened : Files → Files
+reopened f = record { directory = directory_again (durable_at f) f.directory; base = f.base; log = []; next_write = 0; next_marker = 0 }
 
-abbrev pub directory_again : (Layout → ℕ → List ℕ) → (Place → List ℕ) → Directory → Directory
-directory_again header bytes d = record { has_partition = d.has_partition; file = λ p n. raw_again header bytes p n (d.file p n); next = d.next }
+-- A store that is wrapped: nothing is recorded yet.
 
-abbrev pub reopened : (Layout → ℕ → List ℕ) → Files → Files
-reopened header f = record { directory = directory_again header (durable_at f) f.directory; base = f.base; log = []; next_write = 0; next_marker = 0 }
+abbrev pub wrapped : Directory → (Place → List ℕ) → Files
+wrapped d bytes = record { directory = d; base = bytes; log = []; next_write = 0; next_marker = 0 }

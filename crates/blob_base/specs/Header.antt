@@ -1,5 +1,5 @@
 -- The header region of a created blob, and what an interrupted creation leaves of it.
-use Rattle.std.specs.Prelude.{◌≡◌, ◌≢◌, ℕ, ◌^◌, ◌<◌, ◌≤◌, List, [], ◌∷◌, ◌++◌, length, take, replicate}
+use Rattle.std.specs.Prelude.{◌≡◌, ◌≢◌, ℕ, ◌+◌, ◌*◌, ◌^◌, ◌<◌, ◌≤◌, List, [], ◌∷◌, ◌++◌, length, take, replicate, slice_index}
 use Rattle.std.specs.Int.{to_be_bytes, w16, w32}
 use Rattle.blob_base.specs.declared.header.Header.{Header}
 use Rattle.blob_base.specs.declared.layout.Layout.{Layout}
@@ -17,6 +17,18 @@ layout_number V1 = 1
 -- a header's eight bytes
 abbrev pub encoded : Header → List ℕ
 encoded h = h.magic ++ to_be_bytes w16 h.layout_version ++ to_be_bytes w16 h.blob_version.0
+
+-- a number of two bytes
+abbrev pub number_at : List ℕ → ℕ → ℕ
+number_at bytes i = slice_index bytes i * 256 + slice_index bytes (i + 1)
+
+-- the header that the first eight bytes are
+abbrev pub decoded : List ℕ → Header
+decoded bytes = record {
+  magic = take 4 bytes;
+  layout_version = number_at bytes 4;
+  blob_version = record { 0 = number_at bytes 6 };
+}
 
 -- magic, layout version and blob version
 abbrev pub prelude : Layout → ℕ → List ℕ

@@ -5,9 +5,11 @@ pub mod Checksum
 pub mod Directory
 pub mod Draws
 pub mod Durable
+pub mod Endings
 pub mod Files
 pub mod Handles
 pub mod Header
+pub mod HeaderLaws
 pub mod Holes
 pub mod Live
 pub mod Log
@@ -17,12 +19,15 @@ pub mod Opening
 pub mod Options
 pub mod Order
 pub mod Parse
+pub mod PartitionName
 pub mod Pending
 pub mod Places
 pub mod Rates
 pub mod Refusals
 pub mod Register
+pub mod ReplyLines
 pub mod Resolve
+pub mod ResolveReplies
 pub mod Runs
 pub mod SamePlace
 pub mod Stands

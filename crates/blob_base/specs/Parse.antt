@@ -12,7 +12,7 @@ use Rattle.blob_base.specs.declared.header_error.HeaderError.{HeaderError}
 use Rattle.blob_base.specs.declared.header_error.HeaderError.TheVariants as error
 use Rattle.blob_base.specs.Checksum.{crc32c}
 use Rattle.blob_base.specs.Directory.{data_start}
-use Rattle.blob_base.specs.Header.{magic_of, layout_number}
+use Rattle.blob_base.specs.Header.{magic_of, layout_number, number_at}
 use Rattle.blob_base.specs.Versions.{is_in_range}
 
 -- which layouts and versions are accepted
@@ -93,10 +93,6 @@ layout_numbered (Some layout) magic number =
 -- the layout that a magic and a layout version agree on
 abbrev pub layout_of : List ℕ → ℕ → Result Layout Failure
 layout_of magic number = layout_numbered (layout_with magic) magic number
-
--- a number of two bytes
-abbrev pub number_at : List ℕ → ℕ → ℕ
-number_at raw i = slice_index raw i * 256 + slice_index raw (i + 1)
 
 abbrev pub is_sealed : List ℕ → Bool
 is_sealed raw = bytes_eq (slice_range raw 8 12) (to_be_bytes w32 (crc32c (take 8 raw)))

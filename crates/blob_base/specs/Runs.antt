@@ -1,5 +1,5 @@
 -- The maximal runs of the chosen bytes of a write.
-use Rattle.std.specs.Prelude.{ℕ, ◌+◌, Bool, true, false, List, [], ◌∷◌, slice_index_or, if◌then◌else◌, ◌==◌}
+use Rattle.std.specs.Prelude.{ℕ, suc, ◌+◌, ◌<◌, ◌≤◌, length, Bool, true, false, List, [], ◌∷◌, slice_index_or, if◌then◌else◌, ◌==◌}
 use Rattle.blob_base.specs.Bytes.{overlay}
 use Rattle.blob_base.specs.Pending.{Pending, laid}
 use Rattle.blob_base.specs.Log.{Entry, Kept}
@@ -37,3 +37,8 @@ picked chosen i = slice_index_or chosen i false
 abbrev pub all_behind : List Pending → List Run → List Pending
 all_behind q [] = q
 all_behind q (r ∷ rs) = all_behind (laid r.0 r.1 q) rs
+
+-- each run has a byte, and an unchosen one stands before the next: they are maximal
+abbrev pub AreRunsApart : ℕ → List Run → Type 0
+AreRunsApart from [] = Unit {0}
+AreRunsApart from (r ∷ rs) = (from ≤ r.0) × (0 < length r.1) × AreRunsApart (suc (r.0 + length r.1)) rs

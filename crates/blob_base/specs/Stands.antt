@@ -1,11 +1,11 @@
 -- What it is for durable bytes and pending lists to stand for a base and its log, and for those of a whole store to stand for its files.
-use Rattle.std.specs.Prelude.{◌≡◌, ℕ, ◌≤◌, List, [], cond, Option, Some, None, option_map}
-use Rattle.blob_base.specs.Places.{Place, same_place}
+use Rattle.std.specs.Prelude.{◌≡◌, ℕ, ◌≤◌, List, [], Option, Some, None}
+use Rattle.blob_base.specs.Places.{Place}
 use Rattle.blob_base.specs.Directory.{Directory}
 use Rattle.blob_base.specs.Log.{Entry, Choices, durable, crashed, needs}
 use Rattle.blob_base.specs.Pending.{Pending, replay, waiting}
 use Rattle.blob_base.specs.Files.{Files, Rising, log_of}
-use Rattle.blob_base.specs.Durable.{with_at}
+use Rattle.blob_base.specs.Durable.{Durable, with_at}
 
 -- of one incarnation
 pub record StandsForFile (bytes : List ℕ) (pending : List Pending) (base : List ℕ) (log : List Entry) : Type 0 where
@@ -19,7 +19,7 @@ StandsAt None pending base log = waiting pending ≡ needs log
 StandsAt (Some bytes) pending base log = StandsForFile bytes pending base log
 
 -- of a store: its directory, the durable bytes of each current incarnation, the pending list of each, ended ones too, and the next numbers
-pub record StandsFor (names : Directory) (bytes : Place → Option (List ℕ)) (lists : Place → List Pending) (write marker : ℕ) (files : Files) : Type 0 where
+pub record StandsFor (names : Directory) (bytes : Durable) (lists : Place → List Pending) (write marker : ℕ) (files : Files) : Type 0 where
   pub directory : names ≡ files.directory
   pub at : (o : Place) → StandsAt (bytes o) (lists o) (files.base o) (log_of files.log o)
   pub next_write : write ≡ files.next_write
@@ -27,7 +27,6 @@ pub record StandsFor (names : Directory) (bytes : Place → Option (List ℕ)) (
   pub rising : Rising 0 files.log files.next_write
   -- nothing is of an incarnation that is still to come
   pub fresh : (o : Place) → files.directory.next ≤ o.number → (lists o ≡ []) × (log_of files.log o ≡ [])
-
 
 -- the pending lists, where that of an incarnation is retired, if there is one
 abbrev pub retired : (Place → List Pending) → Option Place → Place → List Pending

@@ -92,10 +92,8 @@ impl IoBufs {
         ensures memory { OnErr result (IsMemory result) }
     {
         let mut pieces = self.pieces;
-        if pieces.len() == 1
-            && let Some(piece) = pieces.pop()
-        {
-            return Ok(piece);
+        if pieces.len() == 1 {
+            return Ok(pieces.remove(0));
         }
         joined(*pieces.allocator(), &pieces, self.len)
     }

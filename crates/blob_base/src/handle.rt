@@ -3,7 +3,7 @@ ghost use Rattle.blob_base.specs.Handles.{outcome_of, marker_of};
 
 use crate::error::Error;
 
-/// A sync that was started: its outcome, and the number of a wrapper's marker where it carries one.
+/// A started sync: what it answers, and the number of a wrapper's marker where it carries one.
 ///
 /// It may be dropped unfinished.
 #[derive(Debug, Drop)]
@@ -13,7 +13,7 @@ pub struct Handle {
 }
 
 impl Handle {
-    /// A finished handle of this outcome, with no marker.
+    /// A finished handle with this outcome and no marker.
     pub fn ready(outcome: Result<(), Error>) -> Handle
         ensures outcome { outcome_of result ≡ outcome }
         ensures marker { marker_of result ≡ None }

@@ -1,7 +1,7 @@
-ghost use Rattle.std.specs.Prelude.{◌≡◌, ◌<◌, ◌≤◌, ◌↔◌, IsTrue, IfOk, IfErr, length, min, take};
+ghost use Rattle.std.specs.Prelude.{◌≡◌, ◌<◌, ◌≤◌, ◌↔◌, IsTrue, IfOk, IfErr, length, min};
 ghost use Rattle.std.specs.Range.{range_inclusive_start, range_inclusive_end};
-ghost use Rattle.blob_base.specs.Header.{encoded, layout_number, region};
-ghost use Rattle.blob_base.specs.Parse.{accepted, layout_of, number_at, parsed, read_of};
+ghost use Rattle.blob_base.specs.Header.{decoded, encoded, layout_number, region};
+ghost use Rattle.blob_base.specs.Parse.{accepted, layout_of, parsed, read_of};
 ghost use Rattle.blob_base.specs.Refusals.{IsMemoryError};
 ghost use Rattle.blob_base.specs.Versions.{is_in_range};
 
@@ -72,7 +72,10 @@ impl Header {
         ensures err { IfErr result IsMemoryError }
     {
         let version = *versions.end();
-        Ok((create_region(alloc, *layouts.end(), version.get())?, version))
+        Ok((
+            create_region(alloc, *layouts.end(), version.get())?,
+            version,
+        ))
     }
 
     /// The logical size, the version and the data offset that a blob's header says; `raw` is a
@@ -139,7 +142,8 @@ impl Header {
 
     /// The header's eight bytes.
     pub fn encode(&self) -> [u8; 8]
-        ensures { result ≡ encoded self.now }
+        ensures bytes { result ≡ encoded self.now }
+        ensures decodes { decoded result ≡ self.now }
     {
         let [a, b, c, d] = self.magic;
         let [e, f] = self.layout_version.to_be_bytes();
@@ -149,9 +153,7 @@ impl Header {
 
     /// The header that these eight bytes are.
     pub fn decode(bytes: &[u8; 8]) -> Header
-        ensures magic { result.magic ≡ take 4 bytes.now }
-        ensures layout_version { result.layout_version ≡ number_at bytes.now 4 }
-        ensures blob_version { result.blob_version.0 ≡ number_at bytes.now 6 }
+        ensures { result ≡ decoded bytes.now }
     {
         Header {
             magic: [bytes[0], bytes[1], bytes[2], bytes[3]],
@@ -163,9 +165,7 @@ impl Header {
 
 fn header_of(raw: &[u8]) -> Header
     requires { 8 ≤ length raw.now }
-    ensures magic { result.magic ≡ take 4 raw.now }
-    ensures layout_version { result.layout_version ≡ number_at raw.now 4 }
-    ensures blob_version { result.blob_version ≡ record { 0 = number_at raw.now 6 } }
+    ensures { result ≡ decoded raw.now }
 {
     Header::decode(&[
         raw[0], raw[1], raw[2], raw[3], raw[4], raw[5], raw[6], raw[7],

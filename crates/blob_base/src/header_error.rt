@@ -15,9 +15,14 @@ use std::ops::RangeInclusive;
 #[derive(Debug, Drop, PartialEq, Eq)]
 pub enum HeaderError {
     /// The first four bytes are no layout's magic.
-    InvalidMagic { found: [u8; 4] },
+    InvalidMagic {
+        found: [u8; 4],
+    },
     /// The layout version isn't the one that goes with the magic.
-    UnsupportedLayoutVersion { expected: u16, found: u16 },
+    UnsupportedLayoutVersion {
+        expected: u16,
+        found: u16,
+    },
     /// The layout isn't among those that are accepted.
     LayoutMismatch {
         expected: RangeInclusive<Layout>,
@@ -33,7 +38,10 @@ pub enum HeaderError {
     /// A byte between the checksum and the data offset isn't zero.
     InvalidPadding,
     /// The blob ends before its header does; lengths are in raw bytes.
-    Truncated { required_len: u64, raw_len: u64 },
+    Truncated {
+        required_len: u64,
+        raw_len: u64,
+    },
 }
 
 impl HeaderError {
@@ -75,7 +83,12 @@ impl HeaderError {
                 corrupt(alloc, partition, name, magic_reason(alloc, found)?)
             }
             HeaderError::UnsupportedLayoutVersion { expected, found } => {
-                corrupt(alloc, partition, name, number_reason(alloc, expected, found)?)
+                corrupt(
+                    alloc,
+                    partition,
+                    name,
+                    number_reason(alloc, expected, found)?,
+                )
             }
             HeaderError::LayoutMismatch { expected, found } => {
                 Ok(Error::BlobLayoutMismatch { expected, found })

@@ -1,5 +1,6 @@
 //! Laws of the crash model. Each is carried by a function that does nothing: its contract is the law.
 
 pub mod draws;
+pub mod files;
 pub mod overlays;
 pub mod pending;

@@ -1,21 +1,32 @@
 //! The base of the crash-fault storage layer: errors, blob headers, buffers, rates, and the storage traits with their laws.
 #![tactic(auto)]
 
+#[cfg(test)]
+#[cfg(test)]
+
 pub mod any_store;
 mod block_tables;
 pub mod buffers;
 pub mod buffers_mut;
 pub mod checksum;
+pub mod ending;
 pub mod error;
 pub mod handle;
 pub mod header;
 pub mod header_error;
+pub mod header_laws;
+mod header_tests;
+mod hostile_tests;
 pub mod laws;
 pub mod layout;
 pub mod options;
+pub mod partition_name;
 pub mod probability;
+pub mod refusal_line;
 mod region;
 pub mod resolution;
+pub mod resolution_line;
+pub mod run_resolve;
 pub mod sector_size;
 pub mod storage;
 pub mod version;
@@ -24,13 +35,18 @@ mod word_tables;
 pub use buffers::IoBufs;
 pub use buffers_mut::IoBufsMut;
 pub use checksum::Crc32;
+pub use ending::Ending;
 pub use error::Error;
 pub use handle::Handle;
 pub use header::Header;
 pub use header_error::HeaderError;
 pub use layout::Layout;
 pub use options::{ReadOptions, WriteOptions};
+pub use partition_name::validate_partition_name;
 pub use probability::Probability;
+pub use refusal_line::RefusalLine;
+pub use resolution::resolve;
+pub use resolution_line::ResolutionLine;
 pub use sector_size::SectorSize;
 pub use storage::{Blob, Durable, Storage};
 pub use version::{BlobVersion, DEFAULT_BLOB_VERSION};

@@ -1,5 +1,5 @@
 ghost use Rattle.std.specs.Prelude.{⊤, ◌≡◌, [], ◌∷◌, ◌&&◌, ◌||◌, not, codes};
-ghost use Rattle.blob_base.specs.Options.{contains, union, without, is_sync};
+ghost use Rattle.blob_base.specs.Options.{bits_of, plain, contains, union, without, is_sync};
 
 use bitflags::{Flag, Flags};
 
@@ -47,7 +47,7 @@ impl WriteOptions {
 }
 
 impl Default for WriteOptions {
-    ghost is_default = { λ o. o ≡ record { bits = 0 } };
+    ghost is_default = { λ o. o ≡ plain };
 
     fn default() -> WriteOptions {
         WriteOptions { bits: 0 }
@@ -61,7 +61,7 @@ impl Flags for WriteOptions {
 
     ghost table = { (codes "SYNC", 1) ∷ [] };
 
-    ghost set_of = { λ o. o.bits };
+    ghost set_of = { bits_of };
 
     fn flags<'a>() -> &'a [Flag<WriteOptions>] {
         &FLAGS

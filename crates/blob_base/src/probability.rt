@@ -1,12 +1,14 @@
 ghost use Rattle.std.specs.Prelude.{◌≡◌, ◌<◌, ◌≤◌, ◌↔◌, IsTrue, IsSome, IfSome};
-ghost use Rattle.blob_base.specs.Rates.{sampled};
+ghost use Rattle.std.proofs.Common.{rules};
+ghost use Rattle.std.specs.Cmp.Rules.{comparing};
+ghost use Rattle.blob_base.specs.Rates.{sampled, same_rate};
 
 use rand_core::Rng;
 use std::marker::Model;
 
 /// A rate: a fraction of whole numbers that is at most one. Rates are equal exactly where both
 /// numbers are, so 1/2 isn't equal to 2/4.
-#[derive(Clone, Copy, Debug, PartialEq, Eq)]
+#[derive(Clone, Copy, Debug)]
 pub struct Probability {
     numerator: u64,
     denominator: u64,
@@ -90,6 +92,20 @@ impl Probability {
         let word = rng.next_u64();
         u128::from(word) * u128::from(self.denominator) < u128::from(self.numerator) << 64
     }
+}
+
+impl PartialEq for Probability {
+    ghost eq = { same_rate };
+
+    ghost laws = { Prim.search (comparing, rules) };
+
+    fn eq(&self, other: &Probability) -> bool {
+        self.numerator == other.numerator && self.denominator == other.denominator
+    }
+}
+
+impl Eq for Probability {
+    ghost laws = { Prim.search (comparing, rules) };
 }
 
 #[cfg(test)]

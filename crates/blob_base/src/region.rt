@@ -13,7 +13,11 @@ use std::alloc::{AllocError, Global};
 
 /// The header region of a new blob.
 #[tactic(auto, unfolding(crate::specs::Header::region))]
-pub(crate) fn create_region(alloc: Global, layout: Layout, version: u16) -> Result<Vec<u8>, AllocError>
+pub(crate) fn create_region(
+    alloc: Global,
+    layout: Layout,
+    version: u16,
+) -> Result<Vec<u8>, AllocError>
     ensures { IfOk result (λ bytes. bytes.items ≡ region layout version) }
 {
     match layout {

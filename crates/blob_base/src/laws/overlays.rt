@@ -2,7 +2,7 @@
 
 ghost use Rattle.std.specs.Prelude.{◌≡◌, ◌+◌, ℕ, Bool, List, ◌++◌, length};
 ghost use Rattle.blob_base.specs.Bytes.{overlay_by, resized};
-ghost use Rattle.blob_base.specs.Runs.{runs, all_laid, picked};
+ghost use Rattle.blob_base.specs.Runs.{runs, all_laid, picked, AreRunsApart};
 
 /// What is laid or resized behind a header leaves the header, and makes of the bytes behind it what it would make of these alone.
 pub fn behind_header()
@@ -10,7 +10,8 @@ pub fn behind_header()
     ensures resize { (h x : List ℕ) (n : ℕ) → resized (h ++ x) (length h + n) ≡ h ++ resized x n }
 {}
 
-/// The maximal runs of the chosen bytes of a write, laid one after another, are the chosen bytes laid at once.
+/// The runs of the chosen bytes of a write are maximal, and laid one after another are the chosen bytes laid at once.
 pub fn runs_are_choices()
-    ensures { (o : ℕ) (b : List ℕ) (chosen : List Bool) (x : List ℕ) → all_laid x (runs o b chosen) ≡ overlay_by x o b (picked chosen) }
+    ensures bytes { (o : ℕ) (b : List ℕ) (chosen : List Bool) (x : List ℕ) → all_laid x (runs o b chosen) ≡ overlay_by x o b (picked chosen) }
+    ensures apart { (o : ℕ) (b : List ℕ) (chosen : List Bool) → AreRunsApart o (runs o b chosen) }
 {}

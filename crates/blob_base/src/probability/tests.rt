@@ -1,4 +1,4 @@
-ghost use Rattle.std.specs.Prelude.{ℕ, ◌+◌, ◌%◌, ◌^◌};
+ghost use Rattle.std.specs.Prelude.{◌≡◌, ◌↔◌, IsTrue, ℕ, ◌+◌, ◌%◌, ◌^◌};
 ghost use Rattle.rand_core.specs.Steps.{stream_of, steps_u64_low};
 
 use super::*;
@@ -67,6 +67,19 @@ fn rates_draw_by_one_word(rt: HostRuntime) {
             "{numerator}/{denominator}"
         );
     }
+}
+
+fn is_same<T: Eq>(a: &T, b: &T) -> bool
+    ensures { result ≡ T.eq a.now b.now }
+{
+    a == b
+}
+
+/// Generic code tells rates apart by both numbers.
+fn is_same_rate(a: &Probability, b: &Probability) -> bool
+    ensures { IsTrue result ↔ (a.now ≡ b.now) }
+{
+    is_same(a, b)
 }
 
 #[test]

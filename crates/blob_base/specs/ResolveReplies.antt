@@ -1,0 +1,44 @@
+-- What is printed of an image's resolution, and the reply to a line of hex.
+use Rattle.std.specs.Prelude.{ℕ, List, [], ◌∷◌, ◌++◌, ◌≡◌, ◌⊎◌, codes, Option, Some, None, Result, Ok, Err, IsErr}
+use Rattle.std.specs.Fmt.{decimal}
+use Rattle.std.specs.Io.KnownBytes.{Appends}
+use Rattle.hex.specs.declared.error.FromHexError.{FromHexError}
+use Rattle.hex.specs.Hex.{decode_of}
+use Rattle.blob_base.specs.declared.layout.Layout.TheVariants.{V0, V1}
+use Rattle.blob_base.specs.declared.version.BlobVersion.{BlobVersion}
+use Rattle.blob_base.specs.declared.error.Error.{Error}
+use Rattle.blob_base.specs.Parse.{Accepted}
+use Rattle.blob_base.specs.Refusals.{Refusal, Memory, refusal_of}
+use Rattle.blob_base.specs.ReplyLines.{refusal_line}
+use Rattle.blob_base.specs.Resolve.{refusing, resolution}
+
+-- size, version and data offset; `create` for a blob that is still to be created; or why it is refused
+abbrev pub resolution_line : Result (Option (ℕ × BlobVersion × ℕ)) Refusal → List ℕ
+resolution_line (Ok (Some found)) = codes "valid " ++ decimal found.0 ++ codes " " ++ decimal found.1.0 ++ codes " " ++ decimal found.2
+resolution_line (Ok None) = codes "create"
+resolution_line (Err refusal) = refusal_line refusal
+
+-- an answer, its error by what it says
+abbrev pub by_refusal : {T : Type 0} → Result T Error → Result T Refusal
+by_refusal (Ok x) = Ok x
+by_refusal (Err e) = Err (refusal_of e)
+
+-- every layout and every version
+abbrev pub anything : Accepted
+anything = record { oldest = V0; newest = V1; least = 0; greatest = 65535 }
+
+-- what the bytes resolve to as a whole blob, by the names that the program gives it
+abbrev pub resolved_image : List ℕ → Result (Option (ℕ × BlobVersion × ℕ)) Refusal
+resolved_image image = refusing (codes "image") (codes "blob") (resolution image anything)
+
+-- the reply to an image; where it is a refusal, the refusal may be the one for want of memory
+abbrev pub IsReplyTo : List ℕ → List ℕ → Type 0
+IsReplyTo image reply = (reply ≡ resolution_line (resolved_image image)) ⊎ (IsErr (resolved_image image) × (reply ≡ refusal_line Memory))
+
+abbrev pub RepliesTo : Result (List ℕ) FromHexError → Option (List ℕ) → Option (List ℕ) → Type 0
+RepliesTo (Ok image) old new = (reply : List ℕ) × IsReplyTo image reply × Appends old new (reply ++ 10 ∷ [])
+RepliesTo (Err e) old new = ⊥
+
+-- a line of hex was answered, by one line
+abbrev pub AnswersLine : List ℕ → Option (List ℕ) → Option (List ℕ) → Type 0
+AnswersLine line old new = RepliesTo (decode_of line) old new

@@ -1,0 +1,227 @@
+//! Values of the format that come from outside: checksums, regions, what blobs resolve to, names.
+
+ghost use Rattle.std.specs.Prelude.{◌≡◌, IfOk, length};
+
+use crate::checksum::Crc32;
+use crate::error::Error;
+use crate::header::Header;
+use crate::header_error::HeaderError;
+use crate::header_laws::decodes_what_encodes;
+use crate::layout::Layout;
+use crate::partition_name::validate_partition_name;
+use crate::resolution::resolve;
+use crate::version::BlobVersion;
+use std::alloc::Global;
+use std::ops::RangeInclusive;
+use std::test::Fail;
+
+fn versions(first: u16, last: u16) -> RangeInclusive<BlobVersion> {
+    BlobVersion::new(first)..=BlobVersion::new(last)
+}
+
+/// What a whole blob resolves to, in words: the reason where it is corrupt.
+pub(crate) fn told(alloc: Global, blob: &[u8]) -> Result<String, Error> {
+    let raw_len = blob.len() as u64;
+    let found = resolve(
+        alloc,
+        blob,
+        raw_len,
+        &Layout::all(),
+        &versions(0, u16::MAX),
+        "image",
+        b"blob",
+    );
+    match found {
+        Ok(None) => Ok(String::from_str(alloc, "create")?),
+        Ok(Some((size, version, offset))) => {
+            let number = version.get();
+            Ok(format!(in alloc; "valid {size} {number} {offset}")?)
+        }
+        Err(Error::BlobCorrupt(_, _, reason)) => Ok(reason),
+        Err(error) => Err(error),
+    }
+}
+
+/// The V1 region of this version.
+pub(crate) fn region_of(alloc: Global, version: u16) -> Result<Vec<u8>, Error>
+    ensures { IfOk result (λ bytes. length bytes.items ≡ 4096) }
+{
+    let only = Layout::V1..=Layout::V1;
+    let (bytes, _) = Header::create(alloc, &only, &versions(version, version))?;
+    Ok(bytes)
+}
+
+#[test]
+fn checksums_are_the_published_ones(rt: HostRuntime) {
+    let rows: [(&[u8], u32); 8] = [
+        (b"", 0),
+        (b"123456789", 0xe3069283),
+        (&[0; 32], 0x8a9136aa),
+        (&[0xff; 32], 0x62a8ab43),
+        (b"CWIK\x00\x01\x00\x00", 0x2813d8dc),
+        (b"CWIK\x00\x01\x00\x03", 0x3b432b28),
+        (b"CWIK\x00\x01\x00\x05", 0x1de2ccc0),
+        (b"CWIK\x00\x01\x00\x07", 0xfcd9bc37),
+    ];
+    for (bytes, checksum) in rows {
+        assert_eq!(rt; Crc32::checksum(bytes), checksum);
+    }
+}
+
+#[test]
+fn pieces_give_the_checksum_of_the_whole(rt: HostRuntime) -> Result<(), Fail> {
+    let bytes = Vec::from_elem(rt.alloc(), 0xa5u8, 10_000)?;
+    for cut in [0, 1, 8, 3071, 3072, 9216, 10_000] {
+        let (first, rest) = bytes.split_at(cut);
+        let mut pieces = Crc32::new();
+        pieces.update(first);
+        pieces.update(rest);
+        assert_eq!(rt; pieces.finalize(), Crc32::checksum(bytes.as_slice()));
+    }
+    Ok(())
+}
+
+#[test]
+fn creations_have_the_greatest_layout_and_version(rt: HostRuntime) -> Result<(), Fail> {
+    let only = Layout::V0..=Layout::V0;
+    let (old, version) = Header::create(rt.alloc(), &only, &versions(0, 7))?;
+    assert_eq!(rt; old.as_slice(), b"CWIC\x00\x00\x00\x07".as_slice());
+    assert_eq!(rt; version.get(), 7);
+    let parsed = Header::parse(old.as_slice(), 8, &only, &versions(0, 7));
+    assert_eq!(rt; parsed, Ok((0, BlobVersion::new(7), 8)));
+    let new = region_of(rt.alloc(), 3)?;
+    assert_eq!(rt; new.len(), 4096);
+    assert_eq!(rt;
+        &new[..12],
+        b"CWIK\x00\x01\x00\x03\x3b\x43\x2b\x28".as_slice()
+    );
+    assert!(rt; new[12..].iter().all(|byte| *byte == 0));
+    Ok(())
+}
+
+#[test]
+fn headers_are_read_by_their_layout(rt: HostRuntime) -> Result<(), Fail> {
+    let header = Header {
+        magic: *b"CWIK",
+        layout_version: 0,
+        blob_version: BlobVersion::new(5),
+    };
+    let unsupported = HeaderError::UnsupportedLayoutVersion {
+        expected: 1,
+        found: 0,
+    };
+    assert_eq!(rt; header.validate(), Err(unsupported));
+    assert_eq!(rt; header.encode(), *b"CWIK\x00\x00\x00\x05");
+    assert_eq!(rt; decodes_what_encodes(header), header);
+    assert!(rt; Header::missing(7) && !Header::missing(8));
+    assert_eq!(rt; Header::resolve_len(4095), 4095);
+    assert_eq!(rt; Header::resolve_len(4097), 4096);
+    let only = Layout::V1..=Layout::V1;
+    let old = b"CWIC\x00\x00\x00\x05payload".as_slice();
+    let mismatch = HeaderError::LayoutMismatch {
+        expected: Layout::V1..=Layout::V1,
+        found: Layout::V0,
+    };
+    assert_eq!(rt;
+        Header::parse(old, 15, &only, &versions(0, 0)),
+        Err(mismatch)
+    );
+    Ok(())
+}
+
+#[test]
+fn a_damaged_region_is_parsed_and_resolved(rt: HostRuntime) -> Result<(), Fail> {
+    let mut region = region_of(rt.alloc(), 0)?;
+    let any = versions(0, 0);
+    let sealed = region[11];
+    region[11] = 0xdd;
+    let parsed = Header::parse(region.as_slice(), 4096, &Layout::all(), &any);
+    assert_eq!(rt; parsed, Err(HeaderError::InvalidChecksum));
+    assert_eq!(rt;
+        told(rt.alloc(), region.as_slice())?.as_str(),
+        "invalid header checksum"
+    );
+    region[11] = sealed;
+    let truncated = HeaderError::Truncated {
+        required_len: 4096,
+        raw_len: 4095,
+    };
+    let parsed = Header::parse(&region[..4095], 4095, &Layout::all(), &any);
+    assert_eq!(rt; parsed, Err(truncated));
+    assert_eq!(rt; told(rt.alloc(), &region[..4095])?.as_str(), "create");
+    region[12] = 1;
+    let parsed = Header::parse(region.as_slice(), 4096, &Layout::all(), &any);
+    assert_eq!(rt; parsed, Err(HeaderError::InvalidPadding));
+    assert_eq!(rt;
+        told(rt.alloc(), region.as_slice())?.as_str(),
+        "invalid header padding"
+    );
+    Ok(())
+}
+
+#[test]
+fn short_blobs_resolve_by_their_bytes(rt: HostRuntime) -> Result<(), Fail> {
+    let rows: [(&[u8], &str); 11] = [
+        (b"", "create"),
+        (b"payload", "create"),
+        (&[0; 4095], "create"),
+        (&[0; 4096], "create"),
+        (&[0; 4097], "invalid magic: found [0, 0, 0, 0]"),
+        (b"CWIC\x00\x00\x00\x05", "valid 0 5 8"),
+        (b"CWIC\x00\x00\x00", "create"),
+        (
+            b"CWIC\x00\x01\x00\x07",
+            "unsupported layout version: expected 0, found 1",
+        ),
+        (b"CWIK\x00\x01\x00\x05\x1d\xe2", "create"),
+        (
+            b"CWIK\x00\x01\x00\x05\x1d\xe3",
+            "truncated header: required length 12, raw length 10",
+        ),
+        (
+            b"CWI\x00\x00\x00\x00\x05",
+            "invalid magic: found [67, 87, 73, 0]",
+        ),
+    ];
+    for (blob, answer) in rows {
+        assert_eq!(rt; told(rt.alloc(), blob)?.as_str(), answer);
+    }
+    let mut blob = Vec::from_elem(rt.alloc(), 0u8, 108)?;
+    blob[..3].copy_from_slice(b"CWI");
+    assert_eq!(rt; told(rt.alloc(), blob.as_slice())?.as_str(), "create");
+    blob[7] = 5;
+    let corrupt = "invalid magic: found [67, 87, 73, 0]";
+    assert_eq!(rt; told(rt.alloc(), blob.as_slice())?.as_str(), corrupt);
+    Ok(())
+}
+
+#[test]
+fn refusals_name_partition_and_blob(rt: HostRuntime) -> Result<(), Fail> {
+    let alloc = rt.alloc();
+    let blob = b"CWIC\x00\x01\x00\x07".as_slice();
+    let found = resolve(alloc, blob, 8, &Layout::all(), &versions(0, 9), "p", b"b");
+    let corrupt = Error::BlobCorrupt(
+        "p".to_string(alloc)?,
+        "62".to_string(alloc)?,
+        "unsupported layout version: expected 0, found 1".to_string(alloc)?,
+    );
+    assert_eq!(rt; found, Err(corrupt));
+    let blob = b"CWIC\x00\x00\x00\x0aabc".as_slice();
+    let found = resolve(alloc, blob, 11, &Layout::all(), &versions(3, 7), "p", b"b");
+    let mismatch = Error::BlobVersionMismatch {
+        expected: versions(3, 7),
+        found: BlobVersion::new(10),
+    };
+    assert_eq!(rt; found, Err(mismatch));
+    Ok(())
+}
+
+#[test]
+fn partition_names_are_plain(rt: HostRuntime) -> Result<(), Fail> {
+    assert_eq!(rt; validate_partition_name(rt.alloc(), "a-b_1"), Ok(()));
+    for name in ["", "a/b", "a.b", "a b", "\u{e9}"] {
+        let invalid = Error::PartitionNameInvalid(name.to_string(rt.alloc())?);
+        assert_eq!(rt; validate_partition_name(rt.alloc(), name), Err(invalid));
+    }
+    Ok(())
+}

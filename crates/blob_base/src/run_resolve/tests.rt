@@ -1,0 +1,137 @@
+use super::run_resolve;
+use crate::ending::Ending;
+use std::io::{self, BufReader, Error, ErrorKind, Read, Write};
+use std::test::Fail;
+
+// Gives its bytes three at a time, and fails once `reads` are done.
+#[derive(Drop)]
+struct Halting<'a> {
+    bytes: &'a [u8],
+    reads: u32,
+    kind: ErrorKind,
+}
+
+impl Read for Halting<'_> {
+    fn read(&mut self, buf: &mut [u8]) -> io::Result<usize> {
+        if self.reads == 0 {
+            return Err(Error::from(self.kind));
+        }
+        self.reads -= 1;
+        let count = buf.len().min(self.bytes.len()).min(3);
+        let (now, later) = self.bytes.split_at(count);
+        buf[..count].copy_from_slice(now);
+        self.bytes = later;
+        Ok(count)
+    }
+}
+
+// Holds what was written, and fails once `room` bytes are there, or when it is flushed.
+#[derive(Drop)]
+struct Full {
+    bytes: Vec<u8>,
+    room: usize,
+    flushes: bool,
+}
+
+impl Write for Full {
+    fn write(&mut self, buf: &[u8]) -> io::Result<usize> {
+        let left = self.room.saturating_sub(self.bytes.len());
+        if left == 0 {
+            return Err(Error::from(ErrorKind::StorageFull));
+        }
+        let count = buf.len().min(left);
+        self.bytes.extend_from_slice(&buf[..count])?;
+        Ok(count)
+    }
+
+    fn flush(&mut self) -> io::Result<()> {
+        if self.flushes {
+            Ok(())
+        } else {
+            Err(Error::from(ErrorKind::Other))
+        }
+    }
+}
+
+#[test]
+fn each_line_has_its_reply(rt: HostRuntime) -> Result<(), Fail> {
+    let rows: [(&[u8], Ending, &[u8]); 14] = [
+        (b"4357494300000007\n", Ending::Done, b"valid 0 7 8\n"),
+        (b"4357494300000007", Ending::Done, b"valid 0 7 8\n"),
+        (b"4357494300000007\nxyz\n", Ending::Done, b"valid 0 7 8\n"),
+        (b"4357494300000005616263\n", Ending::Done, b"valid 3 5 8\n"),
+        (b"\n", Ending::Done, b"create\n"),
+        (b"", Ending::Done, b"create\n"),
+        (b"4357494b000100051de2\n", Ending::Done, b"create\n"),
+        (b"4357494B000100051DE2\n", Ending::Done, b"create\n"),
+        (
+            b"4357494300010007\n",
+            Ending::Done,
+            b"error BlobCorrupt image 626c6f62 unsupported layout version: expected 0, found 1\n",
+        ),
+        (
+            b"4357494b000100051de3\n",
+            Ending::Done,
+            b"error BlobCorrupt image 626c6f62 truncated header: required length 12, raw length 10\n",
+        ),
+        (b"435\n", Ending::BadImage, b""),
+        (b"-\n", Ending::BadImage, b""),
+        (b"4357494300000007 \n", Ending::BadImage, b""),
+        (b"4357494300000007\r\n", Ending::BadImage, b""),
+    ];
+    for (input, ending, output) in rows {
+        let mut reader = input;
+        let mut written = Vec::new(rt.alloc());
+        let found = run_resolve(rt.alloc(), &mut reader, &mut written);
+        assert_eq!(rt; found, ending);
+        assert_eq!(rt; written.as_slice(), output);
+    }
+    Ok(())
+}
+
+// The line of 17 bytes comes in six reads.
+#[test]
+fn a_failing_read_is_told(rt: HostRuntime) -> Result<(), Fail> {
+    let rows = [
+        (0, ErrorKind::Other, Ending::InputFailed),
+        (3, ErrorKind::Other, Ending::InputFailed),
+        (5, ErrorKind::Other, Ending::InputFailed),
+        (5, ErrorKind::OutOfMemory, Ending::NoMemory),
+        (6, ErrorKind::Other, Ending::Done),
+    ];
+    for (reads, kind, ending) in rows {
+        let halting = Halting {
+            bytes: b"4357494300000007\n",
+            reads,
+            kind,
+        };
+        let mut reader = BufReader::new(rt.alloc(), halting)?;
+        let mut written = Vec::new(rt.alloc());
+        let found = run_resolve(rt.alloc(), &mut reader, &mut written);
+        assert_eq!(rt; found, ending, "after {reads} reads");
+        assert_eq!(rt; written.is_empty(), ending != Ending::Done);
+    }
+    Ok(())
+}
+
+#[test]
+fn a_failing_write_is_told(rt: HostRuntime) -> Result<(), Fail> {
+    let rows: [(usize, bool, Ending, &[u8]); 4] = [
+        (0, true, Ending::OutputFailed, b""),
+        (4, true, Ending::OutputFailed, b"vali"),
+        (12, false, Ending::OutputFailed, b"valid 0 7 8\n"),
+        (12, true, Ending::Done, b"valid 0 7 8\n"),
+    ];
+    for (room, flushes, ending, output) in rows {
+        let mut full = Full {
+            bytes: Vec::new(rt.alloc()),
+            room,
+            flushes,
+        };
+        let mut reader: &[u8] = b"4357494300000007\n";
+        let found = run_resolve(rt.alloc(), &mut reader, &mut full);
+        assert_eq!(rt; found, ending, "with room for {room}");
+        assert_eq!(rt; full.bytes.as_slice(), output);
+    }
+    Ok(())
+}

@@ -1,0 +1,4 @@
+pub mod Debts
+pub mod History
+pub mod Names
+pub mod Recreated

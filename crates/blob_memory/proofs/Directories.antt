@@ -1,0 +1,90 @@
+-- What a store's directory and bytes are after a change of its items.
+use Rattle.std.proofs.Common.{◌≡◌, ℕ, ◌≤◌, List, Bool, true, false, cond, ◌&&◌, ◌==◌, nat_eq, nat_lt, not, Option, Some, None, refl, sym, ap, ◌∙◌, Vec, Global, IsSome, subst, ⊎_elim, arith}
+use Rattle.std.proofs.lemmas.Bool.{le-ltb}
+use Rattle.std.proofs.lemmas.Option.{none-some}
+use Rattle.std.specs.Cmp.Lexicographic.{bytes_decides}
+use Rattle.std.specs.Str.{bytes_eq}
+use Rattle.blob_base.specs.Directory.{File, Directory, with_file}
+use Rattle.blob_memory.specs.declared.item.Item.{Item}
+use Rattle.blob_memory.specs.Partitions.{with_item, without_partition}
+use Rattle.blob_base.specs.Directory.{place_in, data_start}
+use Rattle.blob_base.specs.Durable.{Durable, with_at, durable_without}
+use Rattle.blob_base.specs.Places.{Place, same_place}
+use Rattle.blob_memory.specs.declared.item.Item.TheVariants.{Raw, Held}
+use Rattle.blob_memory.specs.declared.item.Held as held
+use Rattle.blob_memory.specs.Contents.{file_of, file_when, vec_in, items_of}
+
+-- directories are equal where their parts are, name by name
+pub same_directory : (d e : Directory) → ((q : List ℕ) → d.has_partition q ≡ e.has_partition q) → ((q m : List ℕ) → d.file q m ≡ e.file q m) → d.next ≡ e.next → d ≡ e
+same_directory d e there files next = λ i. record { has_partition = λ q. there q i; file = λ q m. files q m i; next = next i }
+
+module _ (first : ℕ) (f g : List ℕ → List ℕ → Option Item) where
+  -- one item made new
+  pub file_after : (p n : List ℕ) (x : Option Item) → ((q m : List ℕ) → g q m ≡ with_item f p n x q m)
+      → (q m : List ℕ) → file_of first (g q m) ≡ with_file (λ r s. file_of first (f r s)) p n (file_of first x) q m
+  file_after p n x h q m = ap (file_of first) (h q m) ∙ push (bytes_eq p q) (bytes_eq n m) where
+    push : (b d : Bool) → file_of first (cond b (cond d x (f q m)) (f q m)) ≡ cond b (cond d (file_of first x) (file_of first (f q m))) (file_of first (f q m))
+    push true true = refl
+    push true false = refl
+    push false d = refl
+
+  -- a partition's items taken away
+  pub file_without : (p : List ℕ) → ((q m : List ℕ) → g q m ≡ without_partition f p q m)
+      → (q m : List ℕ) → file_of first (g q m) ≡ cond (bytes_eq p q) None (file_of first (f q m))
+  file_without p h q m = ap (file_of first) (h q m) ∙ push (bytes_eq p q) where
+    push : (b : Bool) → file_of first (cond b None (f q m)) ≡ cond b None (file_of first (f q m))
+    push true = refl
+    push false = refl
+
+-- the durable bytes that items have
+abbrev pub durable_in : ℕ → (List ℕ → List ℕ → Option Item) → Durable
+durable_in first f o = items_of (vec_in first (f o.partition o.name) o.number o.start)
+
+module _ (first : ℕ) (f g : List ℕ → List ℕ → Option Item) where
+  -- one item made new that isn't a current incarnation
+  pub durable_placed : (p n : List ℕ) (x : Option Item) → ((q m : List ℕ) → g q m ≡ with_item f p n x q m) → ((k start : ℕ) → vec_in first x k start ≡ None)
+      → durable_in first g ≡ durable_without (durable_in first f) p (Some n)
+  durable_placed p n x h none = λ i o. (ap (λ y. items_of (vec_in first y o.number o.start)) (h o.partition o.name) ∙ push o (bytes_eq p o.partition) (bytes_eq n o.name)) i where
+    push : (o : Place) (b d : Bool) → items_of (vec_in first (cond b (cond d x (f o.partition o.name)) (f o.partition o.name)) o.number o.start) ≡ cond (b && d) None (durable_in first f o)
+    push o true true = ap items_of (none o.number o.start)
+    push o true false = refl
+    push o false d = refl
+
+  -- a partition's items taken away
+  pub durable_gone : (p : List ℕ) → ((q m : List ℕ) → g q m ≡ without_partition f p q m) → durable_in first g ≡ durable_without (durable_in first f) p None
+  durable_gone p h = λ i o. (ap (λ y. items_of (vec_in first y o.number o.start)) (h o.partition o.name) ∙ push o (bytes_eq p o.partition)) i where
+    push : (o : Place) (b : Bool) → items_of (vec_in first (cond b None (f o.partition o.name)) o.number o.start) ≡ cond b None (durable_in first f o)
+    push o true = refl
+    push o false = refl
+
+  pub durable_same : ((q m : List ℕ) → g q m ≡ f q m) → durable_in first g ≡ durable_in first f
+  durable_same h = λ i o. items_of (vec_in first (h o.partition o.name i) o.number o.start)
+
+-- an item that isn't a current incarnation has no current bytes
+pub not_current : (first : ℕ) (x : Option Item) (p n : List ℕ) → place_in p n (file_of first x) ≡ None → (k start : ℕ) → vec_in first x k start ≡ None
+not_current first None p n e k start = refl
+not_current first (Some (Raw bytes)) p n e k start = refl
+not_current first (Some (Held h)) p n e k start = by_end (nat_lt h.number first) e where
+  by_end : (b : Bool) → place_in p n (Some (file_when b h)) ≡ None → cond (not b && ((h.number == k) && (data_start h.layout == start))) (Some h.bytes) None ≡ None
+  by_end true z = refl
+  by_end false z = absurd (none-some _ (sym z))
+
+module _ (first : ℕ) (f g : List ℕ → List ℕ → Option Item) where
+  -- an incarnation that begins where there was none
+  pub durable_begun : (p n : List ℕ) (h : held.Held) → first ≤ h.number → place_in p n (file_of first (f p n)) ≡ None → ((q m : List ℕ) → g q m ≡ with_item f p n (Some (Held h)) q m)
+      → durable_in first g ≡ with_at (durable_in first f) (record { partition = p; name = n; number = h.number; start = data_start h.layout }) (Some h.bytes.items)
+  durable_begun p n h begun none new = λ i o. (ap (λ y. items_of (vec_in first y o.number o.start)) (new o.partition o.name)
+      ∙ push o (bytes_eq p o.partition) (bytes_eq n o.name) (λ y z. not_current first (f o.partition o.name) p n (ap (λ q. place_in p n (file_of first (f q o.name))) (sym ((bytes_decides p o.partition).0 y)) ∙ ap (λ m. place_in p n (file_of first (f p m))) (sym ((bytes_decides n o.name).0 z)) ∙ none) o.number o.start)) i
+    where
+      mine : (o : Place) (b : Bool) → items_of (cond b (Some h.bytes) None) ≡ cond b (Some h.bytes.items) None
+      mine o true = refl
+      mine o false = refl
+
+      push : (o : Place) (b d : Bool) → (b ≡ true → d ≡ true → vec_in first (f o.partition o.name) o.number o.start ≡ None)
+          → items_of (vec_in first (cond b (cond d (Some (Held h)) (f o.partition o.name)) (f o.partition o.name)) o.number o.start)
+          ≡ cond (b && (d && (nat_eq h.number o.number && nat_eq (data_start h.layout) o.start))) (Some h.bytes.items) (durable_in first f o)
+      push o true true gone = ap (λ e. items_of (cond (not e && ((h.number == o.number) && (data_start h.layout == o.start))) (Some h.bytes) None)) (le-ltb h.number first begun)
+          ∙ mine o (nat_eq h.number o.number && nat_eq (data_start h.layout) o.start)
+          ∙ ap (λ r. cond (nat_eq h.number o.number && nat_eq (data_start h.layout) o.start) (Some h.bytes.items) (items_of r)) (sym (gone refl refl))
+      push o true false gone = refl
+      push o false d gone = refl

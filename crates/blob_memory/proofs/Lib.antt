@@ -1,0 +1,3 @@
+pub mod ByBytes
+pub mod Directories
+pub mod Exchanges

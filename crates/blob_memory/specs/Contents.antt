@@ -1,0 +1,57 @@
+-- What a memory store holds, by names and by places.
+use Rattle.std.specs.Prelude.{ℕ, ◌≤◌, List, ◌++◌, drop, length, Bool, true, false, cond, not, ◌&&◌, ◌==◌, nat_lt, Option, None, Some, Vec, vec_capacity}
+use Rattle.std.specs.Global.{Global}
+use Rattle.blob_base.specs.Places.{Place, same_place}
+use Rattle.blob_base.specs.Directory as directory
+use Rattle.blob_base.specs.Directory.{File, Directory, data_start, with_file, with_partition}
+use Rattle.blob_base.specs.Durable.{Durable}
+use Rattle.blob_base.specs.Header.{region}
+use Rattle.blob_memory.specs.declared.item.Item.{Item}
+use Rattle.blob_memory.specs.declared.item.Item.TheVariants.{Raw, Held}
+use Rattle.blob_memory.specs.declared.item.Held as held
+use Rattle.blob_memory.specs.declared.contents.Contents.{Contents}
+use Rattle.blob_memory.specs.Partitions.{item_at, is_there}
+
+-- an incarnation that ended is a raw file again
+abbrev pub file_when : Bool → held.Held → File
+file_when true h = directory.Raw (region h.layout h.version.0 ++ h.bytes.items)
+file_when false h = directory.Incarnation h.number h.layout h.version.0
+
+-- the file that an item is, where incarnations with numbers below `first` ended
+abbrev pub file_of : ℕ → Option Item → Option File
+file_of first None = None
+file_of first (Some (Raw bytes)) = Some (directory.Raw bytes.items)
+file_of first (Some (Held h)) = Some (file_when (nat_lt h.number first) h)
+
+abbrev pub directory_of : Contents → Directory
+directory_of s = record { has_partition = is_there s.partitions; file = λ p n. file_of s.first (item_at s.partitions p n); next = s.next }
+
+-- an item's logical bytes, where it is the current incarnation of this number and data offset
+abbrev pub vec_in : ℕ → Option Item → ℕ → ℕ → Option (Vec ℕ Global)
+vec_in first None k start = None
+vec_in first (Some (Raw bytes)) k start = None
+vec_in first (Some (Held h)) k start = cond (not (nat_lt h.number first) && ((h.number == k) && (data_start h.layout == start))) (Some h.bytes) None
+
+-- the vector of an incarnation's durable logical bytes, where it is current
+abbrev pub vec_at : Contents → Place → Option (Vec ℕ Global)
+vec_at s o = vec_in s.first (item_at s.partitions o.partition o.name) o.number o.start
+
+abbrev pub items_of : Option (Vec ℕ Global) → Option (List ℕ)
+items_of None = None
+items_of (Some v) = Some v.items
+
+abbrev pub durable_of : Contents → Durable
+durable_of s o = items_of (vec_at s o)
+
+-- what there is of some places taken away
+abbrev pub without : {X : Type 0} → (Place → Option X) → (Place → Bool) → Place → Option X
+without f gone o = cond (gone o) None (f o)
+
+-- an incarnation that isn't current, or whose durable bytes can grow so far without memory
+abbrev pub Fits : Option (Vec ℕ Global) → ℕ → Type 0
+Fits None n = Unit {0}
+Fits (Some v) n = n ≤ vec_capacity v
+
+-- one name's file made raw
+abbrev pub directory_raw : Directory → List ℕ → List ℕ → List ℕ → Directory
+directory_raw d p n bytes = record { has_partition = with_partition d.has_partition p true; file = with_file d.file p n (Some (directory.Raw bytes)); next = d.next }

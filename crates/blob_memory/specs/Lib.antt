@@ -1,0 +1,4 @@
+pub mod Contents
+pub mod Maps
+pub mod Numbers
+pub mod Partitions

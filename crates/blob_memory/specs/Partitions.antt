@@ -1,0 +1,37 @@
+-- What the partitions of a store have.
+use Rattle.std.specs.Prelude.{ℕ, List, Bool, cond, Option, None, Some, is_some, Vec}
+use Rattle.std.specs.Global.{Global}
+use Rattle.std.specs.Str.{bytes_eq}
+use Rattle.std.specs.String.{string_bytes}
+use Rattle.blob_memory.specs.declared.item.Item.{Item}
+use Rattle.blob_memory.specs.declared.item.Item.TheVariants.{Raw, Held}
+use Rattle.blob_memory.specs.declared.partitions.Partitions.{Partitions}
+use Rattle.blob_memory.specs.Maps.{found, below}
+
+-- the item of a name in a partition
+abbrev pub item_at : Partitions → List ℕ → List ℕ → Option Item
+item_at s p n = below (found (λ k. k.items)) (found string_bytes s.names p) n
+
+-- whether a partition is there
+abbrev pub is_there : Partitions → List ℕ → Bool
+is_there s p = is_some (found string_bytes s.names p)
+
+-- one name's item made new, or taken away
+abbrev pub with_item : (List ℕ → List ℕ → Option Item) → List ℕ → List ℕ → Option Item → List ℕ → List ℕ → Option Item
+with_item f p n item q m = cond (bytes_eq p q) (cond (bytes_eq n m) item (f q m)) (f q m)
+
+-- a partition's items taken away
+abbrev pub without_partition : (List ℕ → List ℕ → Option Item) → List ℕ → List ℕ → List ℕ → Option Item
+without_partition f p q m = cond (bytes_eq p q) None (f q m)
+
+-- the logical bytes of an incarnation
+abbrev pub held_bytes : Option Item → Option (Vec ℕ Global)
+held_bytes None = None
+held_bytes (Some (Raw bytes)) = None
+held_bytes (Some (Held h)) = Some h.bytes
+
+-- an incarnation with other logical bytes
+abbrev pub with_bytes : Option Item → Vec ℕ Global → Option Item
+with_bytes None new = None
+with_bytes (Some (Raw bytes)) new = Some (Raw bytes)
+with_bytes (Some (Held h)) new = Some (Held (record { number = h.number; layout = h.layout; version = h.version; bytes = new }))

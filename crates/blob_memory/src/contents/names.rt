@@ -1,0 +1,114 @@
+// Contents by partition and name.
+ghost use Rattle.std.specs.Prelude.{◌≡◌, ◌<◌, ◌+◌, ◌-◌, ◌^◌, List, ℕ, None, Some, true, false, IsSome, is_some, is_none, IsTrue, IsOk, OnOk, OnErr, option_copied};
+ghost use Rattle.blob_base.specs.Places.{Place};
+ghost use Rattle.blob_base.specs.Directory.{Raw, current, place_made, directory_made, directory_without, directory_less};
+ghost use Rattle.blob_base.specs.Durable.{with_at, is_under, durable_without};
+ghost use Rattle.blob_memory.specs.Partitions.{item_at, is_there};
+ghost use Rattle.blob_memory.specs.Contents.{directory_raw, directory_of, durable_of, vec_at, without};
+
+use super::Contents;
+use crate::item::{Held, Item};
+use crate::origin::Origin;
+use crate::partitions::Partitions;
+use blob_base::{BlobVersion, Layout};
+use std::alloc::{AllocError, Global};
+
+impl Contents {
+    /// No file, and this number for the first incarnation.
+    pub fn new(alloc: Global, next: u64) -> Contents
+        ensures directory { directory_of result ≡ record { has_partition = λ _. false; file = λ _ _. None; next = next } }
+        ensures durable { durable_of result ≡ (λ _. None) }
+    {
+        Contents {
+            alloc,
+            partitions: Partitions::new(alloc),
+            next,
+            first: next,
+        }
+    }
+
+    /// The next incarnation's number.
+    pub fn next(&self) -> u64
+        ensures { result ≡ (directory_of self.now).next }
+    {
+        self.next
+    }
+
+    /// Whether a partition is there.
+    pub fn contains(&self, partition: &str) -> bool
+        ensures { result ≡ (directory_of self.now).has_partition partition.now }
+    {
+        self.partitions.contains(partition)
+    }
+
+    /// What a name has.
+    pub fn item(&self, partition: &str, name: &[u8]) -> Option<&Item>
+        ensures { option_copied result ≡ item_at self.now.partitions partition.now name.now }
+    {
+        self.partitions.get(partition, name)
+    }
+
+    /// Makes a name's file raw. The only error is want of memory, and leaves everything as it was.
+    pub fn set_raw(&mut self, partition: &str, name: &[u8], bytes: Vec<u8>) -> Result<(), AllocError>
+        ensures directory { OnOk result (directory_of self.new ≡ directory_raw (directory_of self.old) partition.now name.now bytes.items) }
+        ensures durable { OnOk result (durable_of self.new ≡ durable_without (durable_of self.old) partition.now (Some name.now)) }
+        ensures vecs { OnOk result ((o : Place) → vec_at self.new o ≡ without (vec_at self.old) (is_under partition.now (Some name.now)) o) }
+        ensures err { OnErr result (directory_of self.new ≡ directory_of self.old) }
+        ensures succeeds { IsSome ((directory_of self.old).file partition.now name.now) → IsOk result }
+        ensures err_durable { OnErr result (durable_of self.new ≡ durable_of self.old) }
+        ensures err_vecs { OnErr result ((o : Place) → vec_at self.new o ≡ vec_at self.old o) }
+    {
+        self.partitions.put(partition, name, Item::Raw(bytes))?;
+        Ok(())
+    }
+
+    /// Gives a name that has no current incarnation a new one, with these logical bytes. The only error is want of memory,
+    /// where the name has no file; it leaves everything as it was.
+    pub fn create(
+        &mut self,
+        partition: &str,
+        name: &[u8],
+        layout: Layout,
+        version: BlobVersion,
+        bytes: Vec<u8>,
+    ) -> Result<(), AllocError>
+        requires left { (directory_of self.old).next < 2 ^ 64 - 1 }
+        requires free { current (directory_of self.old) partition.now name.now ≡ None }
+        ensures directory { OnOk result (directory_of self.new ≡ directory_made (directory_of self.old) partition.now name.now layout version.0) }
+        ensures durable { OnOk result (durable_of self.new ≡ with_at (durable_of self.old) (place_made (directory_of self.old) partition.now name.now layout) (Some bytes.items)) }
+        ensures vecs { OnOk result ((o : Place) → vec_at self.new o ≡ with_at (vec_at self.old) (place_made (directory_of self.old) partition.now name.now layout) (Some bytes) o) }
+        ensures err { OnErr result (directory_of self.new ≡ directory_of self.old) }
+        ensures err_durable { OnErr result (durable_of self.new ≡ durable_of self.old) }
+        ensures err_vecs { OnErr result ((o : Place) → vec_at self.new o ≡ vec_at self.old o) }
+        ensures succeeds { IsSome ((directory_of self.old).file partition.now name.now) → IsOk result }
+    {
+        let number = self.next;
+        let item = Item::Held(Held {
+            number,
+            layout,
+            version,
+            bytes,
+        });
+        self.partitions.put(partition, name, item)?;
+        self.next = number + 1;
+        Ok(())
+    }
+
+    /// Takes a name away, and ends its incarnation. Its partition stays.
+    pub fn remove(&mut self, partition: &str, name: &[u8])
+        ensures directory { directory_of self.new ≡ directory_without (directory_of self.old) partition.now name.now }
+        ensures durable { durable_of self.new ≡ durable_without (durable_of self.old) partition.now (Some name.now) }
+        ensures vecs { (o : Place) → vec_at self.new o ≡ without (vec_at self.old) (is_under partition.now (Some name.now)) o }
+    {
+        self.partitions.remove(partition, name);
+    }
+
+    /// Takes a partition away, and ends the incarnations in it.
+    pub fn remove_partition(&mut self, partition: &str)
+        ensures directory { directory_of self.new ≡ directory_less (directory_of self.old) partition.now }
+        ensures durable { durable_of self.new ≡ durable_without (durable_of self.old) partition.now None }
+        ensures vecs { (o : Place) → vec_at self.new o ≡ without (vec_at self.old) (is_under partition.now None) o }
+    {
+        self.partitions.remove_partition(partition);
+    }
+}

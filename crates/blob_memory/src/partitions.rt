@@ -1,0 +1,137 @@
+// A table from partition and name to item.
+ghost use Rattle.std.specs.Prelude.{◌≡◌, List, ℕ, None, Some, true, false, IsSome, IsOk, OnOk, OnErr, option_copied};
+ghost use Rattle.blob_base.specs.Directory.{with_partition};
+ghost use Rattle.blob_memory.specs.Partitions.{item_at, is_there, with_item, without_partition, held_bytes, with_bytes};
+
+use crate::item::Item;
+use std::alloc::{AllocError, Global};
+use std::collections::BTreeMap;
+
+/// Partitions with their names. A partition whose last name went stays.
+#[derive(Drop)]
+pub struct Partitions {
+    alloc: Global,
+    names: BTreeMap<String, BTreeMap<Vec<u8>, Item>>,
+}
+
+impl Partitions {
+    /// No partition at all.
+    pub fn new(alloc: Global) -> Partitions
+        ensures items { (p n : List ℕ) → item_at result p n ≡ None }
+        ensures partitions { (p : List ℕ) → is_there result p ≡ false }
+    {
+        Partitions {
+            alloc,
+            names: BTreeMap::new(alloc),
+        }
+    }
+
+    /// Whether a partition is there.
+    pub fn contains(&self, partition: &str) -> bool
+        ensures { result ≡ is_there self.now partition.now }
+    {
+        self.names.contains_key(partition)
+    }
+
+    /// The item of a name.
+    pub fn get(&self, partition: &str, name: &[u8]) -> Option<&Item>
+        ensures { option_copied result ≡ item_at self.now partition.now name.now }
+    {
+        match self.names.get(partition) {
+            None => None,
+            Some(names) => names.get(name),
+        }
+    }
+
+    /// Exchanges the item of a name that is there, and takes no memory.
+    pub fn exchange(&mut self, partition: &str, name: &[u8], item: &mut Item)
+        requires { IsSome (item_at self.old partition.now name.now) }
+        ensures old { item_at self.old partition.now name.now ≡ Some item.new }
+        ensures new { (q m : List ℕ) → item_at self.new q m ≡ with_item (item_at self.old) partition.now name.now (Some item.old) q m }
+        ensures partitions { (q : List ℕ) → is_there self.new q ≡ is_there self.old q }
+    {
+        let Some(names) = self.names.get_mut(partition) else {
+            return;
+        };
+        let Some(here) = names.get_mut(name) else {
+            return;
+        };
+        std::mem::swap(here, item);
+    }
+
+    /// Exchanges the logical bytes of a name's incarnation, and takes no memory.
+    pub fn exchange_bytes(&mut self, partition: &str, name: &[u8], bytes: &mut Vec<u8>)
+        requires { IsSome (held_bytes (item_at self.old partition.now name.now)) }
+        ensures old { held_bytes (item_at self.old partition.now name.now) ≡ Some bytes.new }
+        ensures new { (q m : List ℕ) → item_at self.new q m ≡ with_item (item_at self.old) partition.now name.now (with_bytes (item_at self.old partition.now name.now) bytes.old) q m }
+        ensures partitions { (q : List ℕ) → is_there self.new q ≡ is_there self.old q }
+    {
+        let Some(names) = self.names.get_mut(partition) else {
+            return;
+        };
+        let Some(item) = names.get_mut(name) else {
+            return;
+        };
+        if let Item::Held(held) = item {
+            std::mem::swap(&mut held.bytes, bytes);
+        }
+    }
+
+    /// Gives a name an item, and makes its partition where that is missing. The only error is want of memory, and
+    /// leaves everything as it was.
+    pub fn insert(&mut self, partition: &str, name: &[u8], item: Item) -> Result<(), AllocError>
+        ensures ok { OnOk result ((q m : List ℕ) → item_at self.new q m ≡ with_item (item_at self.old) partition.now name.now (Some item) q m) }
+        ensures made { OnOk result ((q : List ℕ) → is_there self.new q ≡ with_partition (is_there self.old) partition.now true q) }
+        ensures err { OnErr result ((q m : List ℕ) → item_at self.new q m ≡ item_at self.old q m) }
+        ensures unmade { OnErr result ((q : List ℕ) → is_there self.new q ≡ is_there self.old q) }
+    {
+        let key = Vec::from_slice(self.alloc, name)?;
+        match self.names.get_mut(partition) {
+            Some(names) => {
+                names.insert(key, item)?;
+            }
+            None => {
+                let text = String::from_str(self.alloc, partition)?;
+                let mut names = BTreeMap::new(self.alloc);
+                names.insert(key, item)?;
+                self.names.insert(text, names)?;
+            }
+        }
+        Ok(())
+    }
+
+    /// Gives a name an item, in the place of the one that it has. The only error is want of memory, where the name has none;
+    /// it leaves everything as it was.
+    pub fn put(&mut self, partition: &str, name: &[u8], item: Item) -> Result<(), AllocError>
+        ensures ok { OnOk result ((q m : List ℕ) → item_at self.new q m ≡ with_item (item_at self.old) partition.now name.now (Some item) q m) }
+        ensures made { OnOk result ((q : List ℕ) → is_there self.new q ≡ with_partition (is_there self.old) partition.now true q) }
+        ensures err { OnErr result ((q m : List ℕ) → item_at self.new q m ≡ item_at self.old q m) }
+        ensures unmade { OnErr result ((q : List ℕ) → is_there self.new q ≡ is_there self.old q) }
+        ensures succeeds { IsSome (item_at self.old partition.now name.now) → IsOk result }
+    {
+        if self.get(partition, name).is_some() {
+            let mut item = item;
+            self.exchange(partition, name, &mut item);
+            return Ok(());
+        }
+        self.insert(partition, name, item)
+    }
+
+    /// Takes a name's item away. Its partition stays.
+    pub fn remove(&mut self, partition: &str, name: &[u8])
+        ensures items { (q m : List ℕ) → item_at self.new q m ≡ with_item (item_at self.old) partition.now name.now None q m }
+        ensures partitions { (q : List ℕ) → is_there self.new q ≡ is_there self.old q }
+    {
+        if let Some(names) = self.names.get_mut(partition) {
+            names.remove(name);
+        }
+    }
+
+    /// Takes a partition with all its names away.
+    pub fn remove_partition(&mut self, partition: &str)
+        ensures items { (q m : List ℕ) → item_at self.new q m ≡ without_partition (item_at self.old) partition.now q m }
+        ensures partitions { (q : List ℕ) → is_there self.new q ≡ with_partition (is_there self.old) partition.now false q }
+    {
+        self.names.remove(partition);
+    }
+}
