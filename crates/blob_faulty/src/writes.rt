@@ -1,5 +1,5 @@
 //! How a write goes to the inner blob, and what it records.
-ghost use Rattle.std.specs.Prelude.{◌≡◌, ◌≢◌, ◌≤◌, ◌<◌, ◌+◌, ◌^◌, ℕ, List, [], Bool, true, false, max, Option, Some, None, is_some, OnOk, OnErr, length};
+ghost use Rattle.std.specs.Prelude.{◌≡◌, ◌≢◌, ◌≤◌, ◌<◌, ◌+◌, ◌-◌, ◌^◌, ◌++◌, ◌∷◌, ℕ, List, [], Bool, true, false, max, Option, Some, None, is_some, OnOk, OnErr, length};
 ghost use Rattle.blob_base.specs.Bytes.{overlay, written};
 ghost use Rattle.blob_base.specs.Directory.{is_current};
 ghost use Rattle.blob_base.specs.Durable.{changed};
@@ -8,9 +8,15 @@ ghost use Rattle.blob_base.specs.Live.{live_written, live_after};
 ghost use Rattle.blob_base.specs.Options.{is_sync};
 ghost use Rattle.blob_base.specs.Refusals.{refused, Refusal, Memory, IsMemory};
 ghost use Rattle.blob_faulty.specs.Answers.{or_memory, numbered, lacks_number};
-ghost use Rattle.blob_faulty.specs.Faults.{retention, kept_by};
+ghost use Rattle.blob_base.specs.Durable.{with_at};
+ghost use Rattle.blob_base.specs.Log.{need_of};
+ghost use Rattle.blob_base.specs.Order.{ArePlacesApart};
+ghost use Rattle.blob_base.specs.Pending.{Waiting};
+ghost use Rattle.blob_base.specs.Places.{Place};
+ghost use Rattle.blob_faulty.specs.Faults.{retention, kept_by, issued};
+ghost use Rattle.blob_faulty.specs.Lists.{held};
 ghost use Rattle.blob_faulty.specs.Recorded.{loose, kept};
-ghost use Rattle.blob_faulty.specs.Wrapper.{Stands, KeepsRecords};
+ghost use Rattle.blob_faulty.specs.Wrapper.{pending_of, Stands, KeepsRecords};
 
 use crate::blob::Blob;
 use crate::config::WriteConfig;
@@ -59,6 +65,62 @@ impl<B> Blob<B> {
         self.inner
             .write_at(&mut store.inner, offset, bytes, options)?;
         self.size = self.size.max(end);
+        Ok(())
+    }
+}
+
+impl<B> Blob<B> {
+    /// A write that is pending until it is retired.
+    fn write_pending<S: blob_base::Storage, R>(
+        &mut self,
+        store: &mut Storage<S, R>,
+        offset: u64,
+        bytes: IoBufs,
+        options: WriteOptions,
+        config: WriteConfig,
+    ) -> Result<(), Error>
+    where
+        B: blob_base::Blob<S>,
+        requires plain { is_sync options ≡ false }
+        requires some { 0 < length bytes }
+        requires fits { offset + length bytes < 2 ^ 64 }
+        requires left { store.old.next_write < 2 ^ 64 - 1 }
+        ensures allowed { or_memory (B.allows_write self.old.inner store.old.inner offset bytes false) (refused result) }
+        ensures live { OnOk result (B.live self.new.inner ≡ written (B.live self.old.inner) offset bytes) }
+        ensures direct_live { B.is_direct ≡ true → B.live self.new.inner ≡ live_after false (B.live self.old.inner) offset bytes (refused result) }
+        ensures plain { OnOk result (S.durable store.new.inner ≡ S.durable store.old.inner) }
+        ensures direct_durable { B.is_direct ≡ true → OnErr result (S.durable store.new.inner ≡ S.durable store.old.inner) }
+        ensures stale { is_current (S.directory store.old.inner) (B.place self.old.inner) ≡ false → S.durable store.new.inner ≡ S.durable store.old.inner }
+        ensures memory { IsMemory result → (B.live self.new.inner ≡ B.live self.old.inner) × (S.durable store.new.inner ≡ S.durable store.old.inner) }
+        ensures directory { S.directory store.new.inner ≡ S.directory store.old.inner }
+        ensures place { B.place self.new.inner ≡ B.place self.old.inner }
+        ensures size { OnOk result (self.new.size ≡ max self.old.size (offset + length bytes)) }
+        ensures same_size { OnErr result (self.new.size ≡ self.old.size) }
+        ensures rest { (store.new.rng ≡ store.old.rng) × (store.new.config ≡ store.old.config) × (store.new.next_marker ≡ store.old.next_marker) }
+        ensures next { OnOk result (store.new.next_write ≡ store.old.next_write + 1) }
+        ensures err { OnErr result (store.new.next_write ≡ store.old.next_write) }
+        ensures lists { OnOk result ((o : Place) → pending_of S.place store.new o ≡ with_at (pending_of S.place store.old) (B.place self.old.inner) (pending_of S.place store.old (B.place self.old.inner) ++ Waiting (need_of (issued store.old.next_write offset bytes config) []) ∷ []) o) }
+        ensures same_lists { OnErr result ((o : Place) → pending_of S.place store.new o ≡ pending_of S.place store.old o) }
+        ensures apart { ArePlacesApart (held S.place store.old.lists.all.items) → ArePlacesApart (held S.place store.new.lists.all.items) }
+    {
+        let copy = bytes.copied()?;
+        let origin = self.inner.origin()?;
+        let list = store.lists.room_for_entry(origin)?;
+        self.write_unrecorded(store, offset, bytes, options)?;
+        let holes = Vec::new(*store.lists.all.allocator());
+        let number = store.next_write;
+        store.next_write = number + 1;
+        store.lists.push(
+            list,
+            Entry::Write(PendingWrite {
+                number,
+                offset,
+                bytes: copy,
+                mode: config.mode,
+                rate: config.retention_rate,
+                holes,
+            }),
+        );
         Ok(())
     }
 }
