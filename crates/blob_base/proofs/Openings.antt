@@ -5,7 +5,8 @@ use Rattle.blob_base.specs.declared.layout.Layout.{Layout}
 use Rattle.blob_base.specs.declared.version.BlobVersion.{BlobVersion}
 use Rattle.blob_base.specs.Directory.{Directory, File, Raw, Incarnation, data_start}
 use Rattle.blob_base.specs.Durable.{Durable}
-use Rattle.blob_base.specs.Parse.{Accepted, Failure, VersionMismatch, LayoutMismatch, parsed, parsed_in, parsed_whole, region_failure, layout_of, number_at, is_accepted}
+use Rattle.blob_base.specs.Header.{number_at}
+use Rattle.blob_base.specs.Parse.{Accepted, Failure, VersionMismatch, LayoutMismatch, parsed, parsed_in, parsed_whole, region_failure, layout_of, is_accepted}
 use Rattle.blob_base.specs.Places.{Place}
 use Rattle.blob_base.specs.Resolve.{resolution, found_in, is_torn}
 use Rattle.blob_base.specs.Refusals.{Refusal}

@@ -1,6 +1,6 @@
-ghost use Rattle.std.specs.Prelude.{◌≡◌, ℕ, ◌<◌, ◌≤◌, ◌↔◌, ◌⊎◌, List, length, min, take};
-ghost use Rattle.blob_base.specs.Header.{IsTorn};
-ghost use Rattle.blob_base.specs.Parse.{accepted, parsed, read_of};
+ghost use Rattle.std.specs.Prelude.{◌≡◌, ℕ, ◌<◌, ◌≤◌, ◌↔◌, ◌⊎◌, IsTrue, List, length, min, take};
+ghost use Rattle.blob_base.specs.Header.{IsFront, IsTorn};
+ghost use Rattle.blob_base.specs.Parse.{accepted, failure_of, may_be_torn, parsed, read_of};
 ghost use Rattle.blob_base.specs.Resolve.{Answers, AnswersParsed, IsNoneSide, refusing, resolution};
 
 use crate::error::Error;
@@ -60,13 +60,17 @@ fn resolve_front(
     match Header::parse(raw, raw_len, layouts, versions) {
         Ok(found) => Ok(Some(found)),
         Err(error) => {
-            if raw_len <= 4096
-                && error.may_be_torn_creation()
-                && Layout::V1.interrupted_creation(raw)
-            {
+            if is_torn_creation(&error, raw, raw_len) {
                 return Ok(None);
             }
             Err(error)
         }
     }
+}
+
+// A file that is longer than the region was created to its end.
+fn is_torn_creation(error: &HeaderError, raw: &[u8], raw_len: u64) -> bool
+    ensures { IsTrue result ↔ ((raw_len ≤ 4096) × IsTrue (may_be_torn (failure_of error.now)) × IsFront raw.now) }
+{
+    raw_len <= 4096 && error.may_be_torn_creation() && Layout::V1.interrupted_creation(raw)
 }
