@@ -2,14 +2,14 @@
 use Rattle.std.proofs.Common.{◌≡◌, ⊎_elim, ℕ, zero, suc, ◌+◌, ◌-◌, ◌<◌, ◌≤◌, Bool, true, false, cond, not, List, [], ◌∷◌, ◌++◌, length, get_or, set, map, refl, sym, ◌∙◌, ap, ap₂, subst, arith, true≢false}
 use Rattle.std.specs.List.{filter}
 use Rattle.std.proofs.lemmas.Bool.{cond_both, cases_Bool, cases_eq, cond-true, cond-false}
-use Rattle.std.proofs.lemmas.List.{length-map, length-set, get_or-set_same, get_or-set_other, length-append, get_or_append_left, get_or-append_right}
+use Rattle.std.proofs.lemmas.List.{set-get_or, length-map, length-set, get_or-set_same, get_or-set_other, length-append, get_or_append_left, get_or-append_right}
 use Rattle.blob_base.specs.Places.{Place, same_place}
 use Rattle.blob_base.specs.SamePlace.{same_place_exact, same_back, same_self, apart_at}
 use Rattle.blob_base.specs.Durable.{with_at}
 use Rattle.blob_base.specs.Order.{Held, held_at, has_list, ArePlacesApart}
 use Rattle.blob_base.specs.Pending.{Pending}
-use Rattle.blob_faulty.specs.Views.{views}
-use Rattle.blob_faulty.specs.Lists.{is_of, IsAt, held_by, held}
+use Rattle.blob_faulty.specs.Views.{views, HasRooms}
+use Rattle.blob_faulty.specs.Lists.{is_of, IsAt, held_by, held, list_of, HasRangesAt}
 use Rattle.blob_faulty.specs.declared.lists.Incarnation.{Incarnation}
 
 -- equal places are apart from the same ones
@@ -169,3 +169,36 @@ at_set hs k h o e i = record {
 -- a list that is added, as the code has it
 pub added : {O : Type 0} (place : O → Place) (new old : List (Incarnation O)) (j : Incarnation O) → new ≡ old ++ j ∷ [] → j.entries.items ≡ [] → held place new ≡ held place old ++ (place j.origin, []) ∷ []
 added {O} place new old j e none = ap (held place) e ∙ held_push place old j ∙ ap (λ (q : List Pending). held place old ++ (place j.origin, q) ∷ []) (ap views none)
+
+-- a list that is changed in place, as the code has it
+place_at : {O : Type 0} (place : O → Place) (is : List (Incarnation O)) (k : ℕ) (e j : Incarnation O) → k < length is → e ≡ get_or is k e → j.origin ≡ e.origin → place j.origin ≡ (get_or (held place is) k (held_by place j)).0
+place_at {O} place is k e j h at same = ap place (same ∙ ap (λ (x : Incarnation O). x.origin) at) ∙ sym (ap (λ (x : Held). x.0) (held_get place is k (held_by place j) e h))
+
+pub found : {O : Type 0} (place : O → Place) (is : List (Incarnation O)) (k : ℕ) (e : Incarnation O) (o : Place) → k < length is → e ≡ get_or is k e → IsAt (held place is) k o → views e.entries.items ≡ list_of place is o
+found {O} place is k e o h at i = ap (λ (x : Incarnation O). views x.entries.items) at ∙ sym (ap (λ (x : Held). x.1) (held_get place is k (held_by place e) e h)) ∙ held_here (held place is) k (held_by place e) o i
+
+pub changed_list : {O : Type 0} (place : O → Place) (is : List (Incarnation O)) (k : ℕ) (e j : Incarnation O) (o : Place) (q : List Pending) (a : Place) → k < length is → e ≡ get_or is k e → j.origin ≡ e.origin → IsAt (held place is) k o → views j.entries.items ≡ q →
+    list_of place (set is k j) a ≡ with_at (list_of place is) o q a
+changed_list place is k e j o q a h at same i is_q = ap (λ (hs : List Held). held_at hs a) (held_set place is k j) ∙ held_at_set (held place is) k (held_by place j) o a i (place_at place is k e j h at same)
+    ∙ ap (λ (r : List Pending). with_at (list_of place is) o r a) is_q
+
+pub changed_apart : {O : Type 0} (place : O → Place) (is : List (Incarnation O)) (k : ℕ) (e j : Incarnation O) → k < length is → e ≡ get_or is k e → j.origin ≡ e.origin → ArePlacesApart (held place is) → ArePlacesApart (held place (set is k j))
+changed_apart place is k e j h at same a = subst (λ (hs : List Held). ArePlacesApart hs) (sym (held_set place is k j)) (apart_set (held place is) k (held_by place j) (place_at place is k e j h at same) a)
+
+pub changed_at : {O : Type 0} (place : O → Place) (is : List (Incarnation O)) (k : ℕ) (e j : Incarnation O) (o : Place) → k < length is → e ≡ get_or is k e → j.origin ≡ e.origin → IsAt (held place is) k o → IsAt (held place (set is k j)) k o
+changed_at place is k e j o h at same i = subst (λ (hs : List Held). IsAt hs k o) (sym (held_set place is k j)) (at_set (held place is) k (held_by place j) o (place_at place is k e j h at same) i)
+
+-- one that only got room
+pub held_same : {O : Type 0} (place : O → Place) (is : List (Incarnation O)) (k : ℕ) (e j : Incarnation O) → k < length is → e ≡ get_or is k e → j.origin ≡ e.origin → views j.entries.items ≡ views e.entries.items → held place (set is k j) ≡ held place is
+held_same {O} place is k e j h at same v = held_set place is k j
+    ∙ ap (λ (x : Held). set (held place is) k x) (ap₂ (λ (p : Place) (q : List Pending). pair p q) (ap place same) v ∙ ap (held_by place) at ∙ sym (held_get place is k (held_by place e) e h))
+    ∙ set-get_or (held place is) k (held_by place e)
+  where
+    pair : Place → List Pending → Held
+    pair p q = (p, q)
+
+pub ranges_at : {O : Type 0} (is : List (Incarnation O)) (k n : ℕ) (j : Incarnation O) → k < length is → HasRooms n j.entries → HasRangesAt (set is k j) k n
+ranges_at {O} is k n j h room d = subst (λ (x : Incarnation O). HasRooms n x.entries) (sym (get_or-set_same is k j d h)) room
+
+pub rooms_of : {O : Type 0} (is : List (Incarnation O)) (k n : ℕ) (e : Incarnation O) → e ≡ get_or is k e → HasRangesAt is k n → HasRooms n e.entries
+rooms_of {O} is k n e at h = subst (λ (x : Incarnation O). HasRooms n x.entries) (sym at) (h e)

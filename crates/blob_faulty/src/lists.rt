@@ -75,4 +75,82 @@ impl<S: Durable> Lists<S> {
         self.add(origin)?;
         Ok(i)
     }
+
+    /// Room for one more entry in the list at `i`.
+    fn reserve_entry(&mut self, i: usize) -> Result<(), AllocError>
+        requires { i < vec_len self.old.all }
+        ensures held { held S.place self.new.all.items ≡ held S.place self.old.all.items }
+        ensures len { vec_len self.new.all ≡ vec_len self.old.all }
+        ensures ok { OnOk result (HasEntryAt self.new.all.items i) }
+    {
+        self.all[i].entries.reserve(1)
+    }
+
+    /// Room for so many more durable ranges in the list at `i`.
+    fn reserve_ranges(&mut self, i: usize, count: usize) -> Result<(), AllocError>
+        requires { i < vec_len self.old.all }
+        ensures held { held S.place self.new.all.items ≡ held S.place self.old.all.items }
+        ensures len { vec_len self.new.all ≡ vec_len self.old.all }
+        ensures ok { OnOk result (HasRangesAt self.new.all.items i count) }
+    {
+        entries::reserve_ranges(&mut self.all[i].entries, count)
+    }
+
+    /// The list of an incarnation, with room for one more entry. A refusal leaves the lists as they were.
+    pub fn room_for_entry(&mut self, origin: S::Origin) -> Result<usize, AllocError>
+        ensures lists { (o : Place) → list_of S.place self.new.all.items o ≡ list_of S.place self.old.all.items o }
+        ensures apart { ArePlacesApart (held S.place self.old.all.items) → ArePlacesApart (held S.place self.new.all.items) }
+        ensures at { IfOk result (λ i. IsAt (held S.place self.new.all.items) i (S.place origin)) }
+        ensures inside { IfOk result (λ i. i < vec_len self.new.all) }
+        ensures room { IfOk result (λ i. HasEntryAt self.new.all.items i) }
+    {
+        let i = self.place_for(origin)?;
+        self.reserve_entry(i)?;
+        Ok(i)
+    }
+
+    /// The list of an incarnation, with room for so many more durable ranges. A refusal leaves the lists as they were.
+    pub fn room_for_ranges(&mut self, origin: S::Origin, count: usize) -> Result<usize, AllocError>
+        ensures lists { (o : Place) → list_of S.place self.new.all.items o ≡ list_of S.place self.old.all.items o }
+        ensures apart { ArePlacesApart (held S.place self.old.all.items) → ArePlacesApart (held S.place self.new.all.items) }
+        ensures at { IfOk result (λ i. IsAt (held S.place self.new.all.items) i (S.place origin)) }
+        ensures inside { IfOk result (λ i. i < vec_len self.new.all) }
+        ensures room { IfOk result (λ i. HasRangesAt self.new.all.items i count) }
+    {
+        let i = self.place_for(origin)?;
+        self.reserve_ranges(i, count)?;
+        Ok(i)
+    }
+
+    /// One more entry in the list at `i`, where there is room for it.
+    pub fn push(&mut self, i: usize, entry: Entry)
+        requires inside { i < vec_len self.old.all }
+        requires room { HasEntryAt self.old.all.items i }
+        ensures lists { (o : Place) → IsAt (held S.place self.old.all.items) i o → (a : Place) → list_of S.place self.new.all.items a ≡ with_at (list_of S.place self.old.all.items) o (list_of S.place self.old.all.items o ++ view entry ∷ []) a }
+        ensures apart { ArePlacesApart (held S.place self.old.all.items) → ArePlacesApart (held S.place self.new.all.items) }
+    {
+        entries::push(&mut self.all[i].entries, entry);
+    }
+
+    /// A durable range in the list at `i`, where there is room for it.
+    pub fn lay(&mut self, i: usize, offset: u64, bytes: IoBufs)
+        requires inside { i < vec_len self.old.all }
+        requires fits { offset + length bytes < 2 ^ 64 }
+        requires room { HasRangesAt self.old.all.items i 1 }
+        ensures lists { (o : Place) → IsAt (held S.place self.old.all.items) i o → (a : Place) → list_of S.place self.new.all.items a ≡ with_at (list_of S.place self.old.all.items) o (laid offset bytes (list_of S.place self.old.all.items o)) a }
+        ensures at { (o : Place) → IsAt (held S.place self.old.all.items) i o → IsAt (held S.place self.new.all.items) i o }
+        ensures room { (n : ℕ) → HasRangesAt self.old.all.items i (n + 1) → HasRangesAt self.new.all.items i n }
+        ensures len { vec_len self.new.all ≡ vec_len self.old.all }
+        ensures apart { ArePlacesApart (held S.place self.old.all.items) → ArePlacesApart (held S.place self.new.all.items) }
+    {
+        entries::lay(&mut self.all[i].entries, offset, bytes);
+    }
+
+    /// The list of an incarnation goes.
+    pub fn retire(&mut self, origin: &S::Origin)
+        ensures lists { (a : Place) → list_of S.place self.new.all.items a ≡ with_at (list_of S.place self.old.all.items) (S.place origin.now) [] a }
+        ensures apart { ArePlacesApart (held S.place self.old.all.items) → ArePlacesApart (held S.place self.new.all.items) }
+    {
+        self.all.retain(|list| list.origin != *origin);
+    }
 }
