@@ -1,15 +1,15 @@
 -- Lists by their incarnations, after one of them changed.
-use Rattle.std.proofs.Common.{◌≡◌, ⊎_elim, ℕ, zero, suc, ◌+◌, ◌-◌, ◌<◌, ◌≤◌, Bool, true, false, cond, not, List, [], ◌∷◌, ◌++◌, length, get_or, set, map, refl, sym, ◌∙◌, ap, ap₂, subst, arith, true≢false}
-use Rattle.std.specs.List.{filter}
+use Rattle.std.proofs.Common.{◌≡◌, ⊎_elim, ℕ, zero, suc, ◌+◌, ◌-◌, ◌<◌, ◌≤◌, Bool, true, false, cond, not, ◌&&◌, ◌||◌, List, [], ◌∷◌, ◌++◌, length, get_or, set, map, refl, sym, ◌∙◌, ap, ap₂, subst, arith, true≢false}
+use Rattle.std.specs.List.{filter, All}
 use Rattle.std.proofs.lemmas.Bool.{cond_both, cases_Bool, cases_eq, cond-true, cond-false}
 use Rattle.std.proofs.lemmas.List.{set-get_or, length-map, length-set, get_or-set_same, get_or-set_other, length-append, get_or_append_left, get_or-append_right}
 use Rattle.blob_base.specs.Places.{Place, same_place}
 use Rattle.blob_base.specs.SamePlace.{same_place_exact, same_back, same_self, apart_at}
 use Rattle.blob_base.specs.Durable.{with_at}
 use Rattle.blob_base.specs.Order.{Held, held_at, has_list, ArePlacesApart}
-use Rattle.blob_base.specs.Pending.{Pending}
+use Rattle.blob_base.specs.Pending.{Pending, finished}
 use Rattle.blob_faulty.specs.Views.{views, HasRooms}
-use Rattle.blob_faulty.specs.Lists.{is_of, IsAt, held_by, held, list_of, HasRangesAt}
+use Rattle.blob_faulty.specs.Lists.{is_of, IsAt, held_by, held, list_of, HasRangesAt, finished_in}
 use Rattle.blob_faulty.specs.declared.lists.Incarnation.{Incarnation}
 
 -- equal places are apart from the same ones
@@ -202,3 +202,51 @@ ranges_at {O} is k n j h room d = subst (λ (x : Incarnation O). HasRooms n x.en
 
 pub rooms_of : {O : Type 0} (is : List (Incarnation O)) (k n : ℕ) (e : Incarnation O) → e ≡ get_or is k e → HasRangesAt is k n → HasRooms n e.entries
 rooms_of {O} is k n e at h = subst (λ (x : Incarnation O). HasRooms n x.entries) (sym at) (h e)
+
+-- what holds of those before k, and now of the one at k
+pub below_set : {X : Type 0} (P : X → Type 0) (xs : List X) (k : ℕ) (x : X) → k < length xs → ((m : ℕ) (d : X) → m < k → P (get_or xs m d)) → P x → (m : ℕ) (d : X) → m < k + 1 → P (get_or (set xs k x) m d)
+below_set {X} P xs k x h below one m d l = ⊎_elim
+    (λ is. subst P (sym (ap (λ (j : ℕ). get_or (set xs k x) j d) is ∙ get_or-set_same xs k x d h)) one)
+    (λ ne. subst P (sym (get_or-set_other xs k m x d ne)) (below m d (omega arith)))
+    (cases_eq m k)
+
+-- each list changed by its own place
+pub held_at_finished : (marker : ℕ) (hs : List Held) (o : Place) → held_at (map (finished_in marker) hs) o ≡ finished marker (held_at hs o)
+held_at_finished marker [] o = refl
+held_at_finished marker (x ∷ hs) o = cond_both (same_place x.0 o) x.1 (held_at hs o) (λ r. cond (same_place x.0 o) (finished marker x.1) (held_at (map (finished_in marker) hs) o) ≡ finished marker r)
+    (λ y. cond-true (same_place x.0 o) _ _ y) (λ n. cond-false (same_place x.0 o) _ _ n ∙ held_at_finished marker hs o)
+
+has_finished : (marker : ℕ) (hs : List Held) (o : Place) → has_list (map (finished_in marker) hs) o ≡ has_list hs o
+has_finished marker [] o = refl
+has_finished marker (x ∷ hs) o = ap (λ (b : Bool). cond (same_place x.0 o) true b) (has_finished marker hs o)
+
+pub apart_finished : (marker : ℕ) (hs : List Held) → ArePlacesApart hs → ArePlacesApart (map (finished_in marker) hs)
+apart_finished marker [] a = tt
+apart_finished marker (x ∷ hs) a = (has_finished marker hs x.0 ∙ a.0, apart_finished marker hs a.1)
+
+-- tests that agree on the elements
+pub filter_on : {X : Type 0} (p q : X → Bool) (xs : List X) → All (λ x. p x ≡ q x) xs → filter p xs ≡ filter q xs
+filter_on p q [] all = refl
+filter_on {X} p q (x ∷ xs) all = step (q x) (p x) (all 0 x (omega arith)) (filter_on p q xs (λ k d h. all (suc k) d (omega arith)))
+  where
+    step : (b a : Bool) → a ≡ b → filter p xs ≡ filter q xs → cond a (x ∷ filter p xs) (filter p xs) ≡ cond b (x ∷ filter q xs) (filter q xs)
+    step b a e rest = ap₂ (λ (t : Bool) (ys : List X). cond t (x ∷ ys) ys) e rest
+
+-- what stays where those go that have ended
+pub stays_is : (was now : Bool) → (not was || now) ≡ not (was && not now)
+stays_is true true = refl
+stays_is true false = refl
+stays_is false true = refl
+stays_is false false = refl
+
+-- lists taken out by any test
+has_left : {O : Type 0} (place : O → Place) (p : Incarnation O → Bool) (is : List (Incarnation O)) (a : Place) → has_list (held place is) a ≡ false → has_list (held place (filter p is)) a ≡ false
+has_left place p [] a h = refl
+has_left place p (i ∷ is) a h = ⊎_elim (λ y. absurd (true≢false (sym (cond-true (same_place (place i.origin) a) true (has_list (held place is) a) y) ∙ h)))
+    (λ isnt. let rest : has_list (held place is) a ≡ false = sym (cond-false (same_place (place i.origin) a) true (has_list (held place is) a) isnt) ∙ h in
+    cond_both (p i) (i ∷ filter p is) (filter p is) (λ r. has_list (held place r) a ≡ false) (λ _. cond-false (same_place (place i.origin) a) true _ isnt ∙ has_left place p is a rest) (λ _. has_left place p is a rest))
+    (cases_Bool (same_place (place i.origin) a))
+
+pub apart_left : {O : Type 0} (place : O → Place) (p : Incarnation O → Bool) (is : List (Incarnation O)) → ArePlacesApart (held place is) → ArePlacesApart (held place (filter p is))
+apart_left place p [] h = tt
+apart_left place p (i ∷ is) h = cond_both (p i) (i ∷ filter p is) (filter p is) (λ r. ArePlacesApart (held place r)) (λ _. (has_left place p is (place i.origin) h.0, apart_left place p is h.1)) (λ _. apart_left place p is h.1)

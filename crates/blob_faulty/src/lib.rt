@@ -7,6 +7,7 @@ pub mod entry;
 pub mod holes;
 pub mod lists;
 pub mod mode;
+pub mod selection;
 pub mod write;
 
 pub use config::{Config, ResizeConfig, WriteConfig, write_config_from_cell};
