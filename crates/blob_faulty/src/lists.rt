@@ -201,6 +201,7 @@ impl<S: Durable> Lists<S> {
         ensures lists { (d : Directory) → AreNoted S.place d self.old.all.items → (a : Place) → list_of S.place self.new.all.items a ≡ cond (has_ended d (S.directory store.now) a) [] (list_of S.place self.old.all.items a) }
         ensures apart { ArePlacesApart (held S.place self.old.all.items) → ArePlacesApart (held S.place self.new.all.items) }
     {
-        self.all.retain(|list| !list.was_current || store.is_current(&list.origin));
+        self.all
+            .retain(|list| !list.was_current || store.is_current(&list.origin));
     }
 }

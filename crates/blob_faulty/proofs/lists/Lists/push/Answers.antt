@@ -9,7 +9,7 @@ returns-clause-lists g c o i a =
     let is = c.args.self.now.all.items in
     let at : c.index_mut.result.now ≡ get_or is c.args.i c.index_mut.result.now = search rules in
     changed_list g.S.Durable.place is c.args.i c.index_mut.result.now (record { origin = c.index_mut.result.now.origin; was_current = c.index_mut.result.now.was_current; entries = c.push.new.entries }) o _ a (search rules) at refl i
-        (c.push.ensures.views ∙ ap (λ (q : List Pending). q ++ view c.args.entry ∷ []) (found g.S.Durable.place is c.args.i c.index_mut.result.now o (search rules) at i))
+    (c.push.ensures.views ∙ ap (λ (q : List Pending). q ++ view c.args.entry ∷ []) (found g.S.Durable.place is c.args.i c.index_mut.result.now o (search rules) at i))
 
 pub returns-clause-apart : goal.returns-clause-apart
 returns-clause-apart g c a =
