@@ -2,3 +2,4 @@ pub mod Covered
 pub mod CutSteps
 pub mod Finishing
 pub mod ListSteps
+pub mod DrawSteps

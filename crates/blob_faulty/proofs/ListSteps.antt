@@ -1,15 +1,15 @@
 -- Lists by their incarnations, after one of them changed.
-use Rattle.std.proofs.Common.{◌≡◌, ⊎_elim, ℕ, zero, suc, ◌+◌, ◌-◌, ◌<◌, ◌≤◌, Bool, true, false, cond, not, List, [], ◌∷◌, ◌++◌, length, get_or, set, map, refl, sym, ◌∙◌, ap, ap₂, subst, arith, true≢false}
-use Rattle.std.specs.List.{filter}
+use Rattle.std.proofs.Common.{◌≡◌, ⊎_elim, ℕ, zero, suc, ◌+◌, ◌-◌, ◌<◌, ◌≤◌, Bool, true, false, cond, not, ◌&&◌, ◌||◌, List, [], ◌∷◌, ◌++◌, length, get_or, set, map, refl, sym, ◌∙◌, ap, ap₂, subst, arith, true≢false}
+use Rattle.std.specs.List.{filter, All}
 use Rattle.std.proofs.lemmas.Bool.{cond_both, cases_Bool, cases_eq, cond-true, cond-false}
-use Rattle.std.proofs.lemmas.List.{length-map, length-set, get_or-set_same, get_or-set_other, length-append, get_or_append_left, get_or-append_right}
+use Rattle.std.proofs.lemmas.List.{set-get_or, length-map, length-set, get_or-set_same, get_or-set_other, length-append, get_or_append_left, get_or-append_right}
 use Rattle.blob_base.specs.Places.{Place, same_place}
 use Rattle.blob_base.specs.SamePlace.{same_place_exact, same_back, same_self, apart_at}
 use Rattle.blob_base.specs.Durable.{with_at}
 use Rattle.blob_base.specs.Order.{Held, held_at, has_list, ArePlacesApart}
-use Rattle.blob_base.specs.Pending.{Pending}
-use Rattle.blob_faulty.specs.Views.{views}
-use Rattle.blob_faulty.specs.Lists.{is_of, IsAt, held_by, held}
+use Rattle.blob_base.specs.Pending.{Pending, finished}
+use Rattle.blob_faulty.specs.Views.{views, HasRooms}
+use Rattle.blob_faulty.specs.Lists.{is_of, IsAt, held_by, held, list_of, HasRangesAt, finished_in}
 use Rattle.blob_faulty.specs.declared.lists.Incarnation.{Incarnation}
 
 -- equal places are apart from the same ones
@@ -169,3 +169,84 @@ at_set hs k h o e i = record {
 -- a list that is added, as the code has it
 pub added : {O : Type 0} (place : O → Place) (new old : List (Incarnation O)) (j : Incarnation O) → new ≡ old ++ j ∷ [] → j.entries.items ≡ [] → held place new ≡ held place old ++ (place j.origin, []) ∷ []
 added {O} place new old j e none = ap (held place) e ∙ held_push place old j ∙ ap (λ (q : List Pending). held place old ++ (place j.origin, q) ∷ []) (ap views none)
+
+-- a list that is changed in place, as the code has it
+place_at : {O : Type 0} (place : O → Place) (is : List (Incarnation O)) (k : ℕ) (e j : Incarnation O) → k < length is → e ≡ get_or is k e → j.origin ≡ e.origin → place j.origin ≡ (get_or (held place is) k (held_by place j)).0
+place_at {O} place is k e j h at same = ap place (same ∙ ap (λ (x : Incarnation O). x.origin) at) ∙ sym (ap (λ (x : Held). x.0) (held_get place is k (held_by place j) e h))
+
+pub found : {O : Type 0} (place : O → Place) (is : List (Incarnation O)) (k : ℕ) (e : Incarnation O) (o : Place) → k < length is → e ≡ get_or is k e → IsAt (held place is) k o → views e.entries.items ≡ list_of place is o
+found {O} place is k e o h at i = ap (λ (x : Incarnation O). views x.entries.items) at ∙ sym (ap (λ (x : Held). x.1) (held_get place is k (held_by place e) e h)) ∙ held_here (held place is) k (held_by place e) o i
+
+pub changed_list : {O : Type 0} (place : O → Place) (is : List (Incarnation O)) (k : ℕ) (e j : Incarnation O) (o : Place) (q : List Pending) (a : Place) → k < length is → e ≡ get_or is k e → j.origin ≡ e.origin → IsAt (held place is) k o → views j.entries.items ≡ q →
+    list_of place (set is k j) a ≡ with_at (list_of place is) o q a
+changed_list place is k e j o q a h at same i is_q = ap (λ (hs : List Held). held_at hs a) (held_set place is k j) ∙ held_at_set (held place is) k (held_by place j) o a i (place_at place is k e j h at same)
+    ∙ ap (λ (r : List Pending). with_at (list_of place is) o r a) is_q
+
+pub changed_apart : {O : Type 0} (place : O → Place) (is : List (Incarnation O)) (k : ℕ) (e j : Incarnation O) → k < length is → e ≡ get_or is k e → j.origin ≡ e.origin → ArePlacesApart (held place is) → ArePlacesApart (held place (set is k j))
+changed_apart place is k e j h at same a = subst (λ (hs : List Held). ArePlacesApart hs) (sym (held_set place is k j)) (apart_set (held place is) k (held_by place j) (place_at place is k e j h at same) a)
+
+pub changed_at : {O : Type 0} (place : O → Place) (is : List (Incarnation O)) (k : ℕ) (e j : Incarnation O) (o : Place) → k < length is → e ≡ get_or is k e → j.origin ≡ e.origin → IsAt (held place is) k o → IsAt (held place (set is k j)) k o
+changed_at place is k e j o h at same i = subst (λ (hs : List Held). IsAt hs k o) (sym (held_set place is k j)) (at_set (held place is) k (held_by place j) o (place_at place is k e j h at same) i)
+
+-- one that only got room
+pub held_same : {O : Type 0} (place : O → Place) (is : List (Incarnation O)) (k : ℕ) (e j : Incarnation O) → k < length is → e ≡ get_or is k e → j.origin ≡ e.origin → views j.entries.items ≡ views e.entries.items → held place (set is k j) ≡ held place is
+held_same {O} place is k e j h at same v = held_set place is k j
+    ∙ ap (λ (x : Held). set (held place is) k x) (ap₂ (λ (p : Place) (q : List Pending). pair p q) (ap place same) v ∙ ap (held_by place) at ∙ sym (held_get place is k (held_by place e) e h))
+    ∙ set-get_or (held place is) k (held_by place e)
+  where
+    pair : Place → List Pending → Held
+    pair p q = (p, q)
+
+pub ranges_at : {O : Type 0} (is : List (Incarnation O)) (k n : ℕ) (j : Incarnation O) → k < length is → HasRooms n j.entries → HasRangesAt (set is k j) k n
+ranges_at {O} is k n j h room d = subst (λ (x : Incarnation O). HasRooms n x.entries) (sym (get_or-set_same is k j d h)) room
+
+pub rooms_of : {O : Type 0} (is : List (Incarnation O)) (k n : ℕ) (e : Incarnation O) → e ≡ get_or is k e → HasRangesAt is k n → HasRooms n e.entries
+rooms_of {O} is k n e at h = subst (λ (x : Incarnation O). HasRooms n x.entries) (sym at) (h e)
+
+-- what holds of those before k, and now of the one at k
+pub below_set : {X : Type 0} (P : X → Type 0) (xs : List X) (k : ℕ) (x : X) → k < length xs → ((m : ℕ) (d : X) → m < k → P (get_or xs m d)) → P x → (m : ℕ) (d : X) → m < k + 1 → P (get_or (set xs k x) m d)
+below_set {X} P xs k x h below one m d l = ⊎_elim
+    (λ is. subst P (sym (ap (λ (j : ℕ). get_or (set xs k x) j d) is ∙ get_or-set_same xs k x d h)) one)
+    (λ ne. subst P (sym (get_or-set_other xs k m x d ne)) (below m d (omega arith)))
+    (cases_eq m k)
+
+-- each list changed by its own place
+pub held_at_finished : (marker : ℕ) (hs : List Held) (o : Place) → held_at (map (finished_in marker) hs) o ≡ finished marker (held_at hs o)
+held_at_finished marker [] o = refl
+held_at_finished marker (x ∷ hs) o = cond_both (same_place x.0 o) x.1 (held_at hs o) (λ r. cond (same_place x.0 o) (finished marker x.1) (held_at (map (finished_in marker) hs) o) ≡ finished marker r)
+    (λ y. cond-true (same_place x.0 o) _ _ y) (λ n. cond-false (same_place x.0 o) _ _ n ∙ held_at_finished marker hs o)
+
+has_finished : (marker : ℕ) (hs : List Held) (o : Place) → has_list (map (finished_in marker) hs) o ≡ has_list hs o
+has_finished marker [] o = refl
+has_finished marker (x ∷ hs) o = ap (λ (b : Bool). cond (same_place x.0 o) true b) (has_finished marker hs o)
+
+pub apart_finished : (marker : ℕ) (hs : List Held) → ArePlacesApart hs → ArePlacesApart (map (finished_in marker) hs)
+apart_finished marker [] a = tt
+apart_finished marker (x ∷ hs) a = (has_finished marker hs x.0 ∙ a.0, apart_finished marker hs a.1)
+
+-- tests that agree on the elements
+pub filter_on : {X : Type 0} (p q : X → Bool) (xs : List X) → All (λ x. p x ≡ q x) xs → filter p xs ≡ filter q xs
+filter_on p q [] all = refl
+filter_on {X} p q (x ∷ xs) all = step (q x) (p x) (all 0 x (omega arith)) (filter_on p q xs (λ k d h. all (suc k) d (omega arith)))
+  where
+    step : (b a : Bool) → a ≡ b → filter p xs ≡ filter q xs → cond a (x ∷ filter p xs) (filter p xs) ≡ cond b (x ∷ filter q xs) (filter q xs)
+    step b a e rest = ap₂ (λ (t : Bool) (ys : List X). cond t (x ∷ ys) ys) e rest
+
+-- what stays where those go that have ended
+pub stays_is : (was now : Bool) → (not was || now) ≡ not (was && not now)
+stays_is true true = refl
+stays_is true false = refl
+stays_is false true = refl
+stays_is false false = refl
+
+-- lists taken out by any test
+has_left : {O : Type 0} (place : O → Place) (p : Incarnation O → Bool) (is : List (Incarnation O)) (a : Place) → has_list (held place is) a ≡ false → has_list (held place (filter p is)) a ≡ false
+has_left place p [] a h = refl
+has_left place p (i ∷ is) a h = ⊎_elim (λ y. absurd (true≢false (sym (cond-true (same_place (place i.origin) a) true (has_list (held place is) a) y) ∙ h)))
+    (λ isnt. let rest : has_list (held place is) a ≡ false = sym (cond-false (same_place (place i.origin) a) true (has_list (held place is) a) isnt) ∙ h in
+    cond_both (p i) (i ∷ filter p is) (filter p is) (λ r. has_list (held place r) a ≡ false) (λ _. cond-false (same_place (place i.origin) a) true _ isnt ∙ has_left place p is a rest) (λ _. has_left place p is a rest))
+    (cases_Bool (same_place (place i.origin) a))
+
+pub apart_left : {O : Type 0} (place : O → Place) (p : Incarnation O → Bool) (is : List (Incarnation O)) → ArePlacesApart (held place is) → ArePlacesApart (held place (filter p is))
+apart_left place p [] h = tt
+apart_left place p (i ∷ is) h = cond_both (p i) (i ∷ filter p is) (filter p is) (λ r. ArePlacesApart (held place r)) (λ _. (has_left place p is (place i.origin) h.0, apart_left place p is h.1)) (λ _. apart_left place p is h.1)

@@ -1,8 +1,9 @@
 -- The pending lists of the incarnations, each by its place.
-use Rattle.std.specs.Prelude.{◌≡◌, ℕ, ◌<◌, ◌+◌, List, Bool, true, false, length, map, vec_len, vec_capacity}
+use Rattle.std.specs.Prelude.{◌≡◌, ℕ, ◌<◌, ◌+◌, List, Bool, true, false, not, ◌&&◌, All, length, map, vec_len, vec_capacity}
 use Rattle.std.proofs.Common.{get_or}
+use Rattle.blob_base.specs.Directory.{Directory, is_current}
 use Rattle.blob_base.specs.Places.{Place, same_place}
-use Rattle.blob_base.specs.Pending.{Pending}
+use Rattle.blob_base.specs.Pending.{Pending, finished}
 use Rattle.blob_base.specs.Order.{Held, held_at}
 use Rattle.blob_faulty.specs.Views.{views, HasRooms}
 use Rattle.blob_faulty.specs.declared.lists.Incarnation.{Incarnation}
@@ -33,3 +34,15 @@ HasEntryAt {O} is i = (d : Incarnation O) → vec_len (get_or is i d).entries < 
 -- the list at i can take n more durable ranges
 abbrev pub HasRangesAt : {O : Type 0} → List (Incarnation O) → ℕ → ℕ → Type 0
 HasRangesAt {O} is i n = (d : Incarnation O) → HasRooms n (get_or is i d).entries
+
+-- one list after a started sync is finished
+abbrev pub finished_in : ℕ → Held → Held
+finished_in marker h = (h.0, finished marker h.1)
+
+-- of each list it is noted whether its incarnation was current
+abbrev pub AreNoted : {O : Type 0} → (O → Place) → Directory → List (Incarnation O) → Type 0
+AreNoted place d is = All (λ i. i.was_current ≡ is_current d (place i.origin)) is
+
+-- whether an incarnation was current and isn't any more
+abbrev pub has_ended : Directory → Directory → Place → Bool
+has_ended before after o = is_current before o && not (is_current after o)

@@ -1,13 +1,14 @@
 //! The fault wrapper: a store that fails by drawn choices, remembers what a crash could still lose, and crashes by them.
 #![tactic(auto)]
 
-pub mod config;
 pub mod blob;
+pub mod config;
 pub mod entries;
 pub mod entry;
 pub mod holes;
 pub mod lists;
 pub mod mode;
+pub mod selection;
 pub mod selections;
 pub mod storage;
 pub mod write;

@@ -18,5 +18,5 @@ pub returns-clause-ok : goal.returns-clause-ok
 returns-clause-ok g c =
     let len : length (held g.S.Durable.place c.args.self.now.all.items) ≡ vec_len c.args.self.now.all = held_len g.S.Durable.place c.args.self.now.all.items ∙ search rules in
     subst (λ (hs : List Held). IsAt hs (vec_len c.args.self.now.all) (g.S.Durable.place c.args.origin)) (sym (more g c))
-        (subst (λ (n : ℕ). IsAt (held g.S.Durable.place c.args.self.now.all.items ++ (g.S.Durable.place c.args.origin, []) ∷ []) n (g.S.Durable.place c.args.origin)) len
-        (at_add (held g.S.Durable.place c.args.self.now.all.items) (g.S.Durable.place c.args.origin, []) c.requires))
+    (subst (λ (n : ℕ). IsAt (held g.S.Durable.place c.args.self.now.all.items ++ (g.S.Durable.place c.args.origin, []) ∷ []) n (g.S.Durable.place c.args.origin)) len
+    (at_add (held g.S.Durable.place c.args.self.now.all.items) (g.S.Durable.place c.args.origin, []) c.requires))
