@@ -1,6 +1,7 @@
 pub mod AnswerLaws
 pub mod Answers
 pub mod Cells
+pub mod Fates
 pub mod Faults
 pub mod Lists
 pub mod Modes

@@ -5,6 +5,7 @@ pub mod blob;
 pub mod config;
 pub mod entries;
 pub mod entry;
+pub mod faults;
 pub mod holes;
 pub mod lists;
 pub mod mode;

@@ -30,16 +30,6 @@ pub struct Storage<S: Durable, R> {
     pub(crate) next_marker: u64,
 }
 
-/// One draw of a rate that may not be set.
-pub(crate) fn draws<R: Rng>(rate: Option<Probability>, rng: &mut R) -> bool
-    ensures { (result, R.stream rng.new) ≡ draw rate (R.stream rng.old) }
-{
-    match rate {
-        None => false,
-        Some(rate) => rate.sample(rng),
-    }
-}
-
 impl<S: Durable, R> Storage<S, R> {
     /// A wrapper of the store that draws from the generator. Nothing is pending, and writes and markers are
     /// numbered from 0.

@@ -11,7 +11,7 @@ ghost use Rattle.blob_faulty.specs.Answers.{or_memory, numbered, lacks_number};
 ghost use Rattle.blob_base.specs.Durable.{with_at};
 ghost use Rattle.blob_base.specs.Log.{need_of};
 ghost use Rattle.blob_base.specs.Order.{ArePlacesApart};
-ghost use Rattle.blob_base.specs.Pending.{Waiting};
+ghost use Rattle.blob_base.specs.Pending.{Waiting, laid};
 ghost use Rattle.blob_base.specs.Places.{Place};
 ghost use Rattle.blob_faulty.specs.Faults.{retention, kept_by, issued};
 ghost use Rattle.blob_faulty.specs.Lists.{held};
@@ -24,17 +24,6 @@ use crate::entry::Entry;
 use crate::storage::Storage;
 use crate::write::PendingWrite;
 use blob_base::{Error, IoBufs, WriteOptions};
-use std::alloc::Global;
-
-/// The configuration of writes, where its retention rate isn't zero.
-fn retained(config: &Option<WriteConfig>) -> Option<WriteConfig>
-    ensures { kept_by result ≡ retention config.now }
-{
-    match config {
-        Some(config) if !config.retention_rate.is_zero() => Some(*config),
-        _ => None,
-    }
-}
 
 impl<B> Blob<B> {
     /// A write of which nothing is recorded.
@@ -51,7 +40,10 @@ impl<B> Blob<B> {
         ensures allowed { B.allows_write self.old.inner store.old.inner offset bytes (is_sync options) (refused result) }
         ensures live { OnOk result (B.live self.new.inner ≡ live_written (is_sync options) (B.live self.old.inner) offset bytes) }
         ensures direct_live { B.is_direct ≡ true → B.live self.new.inner ≡ live_after (is_sync options) (B.live self.old.inner) offset bytes (refused result) }
+        ensures synced { OnOk result (is_sync options ≡ true → S.durable store.new.inner ≡ changed (S.durable store.old.inner) (B.place self.old.inner) (λ x. overlay x offset bytes)) }
+        ensures current { OnOk result (is_sync options ≡ true → bytes ≢ [] → is_current (S.directory store.old.inner) (B.place self.old.inner) ≡ true) }
         ensures plain { OnOk result (is_sync options ≡ false → S.durable store.new.inner ≡ S.durable store.old.inner) }
+        ensures room { OnOk result (is_sync options ≡ true → B.room self.old.inner store.old.inner ≤ B.room self.new.inner store.new.inner) }
         ensures direct_durable { B.is_direct ≡ true → OnErr result (S.durable store.new.inner ≡ S.durable store.old.inner) }
         ensures stale { is_current (S.directory store.old.inner) (B.place self.old.inner) ≡ false → S.durable store.new.inner ≡ S.durable store.old.inner }
         ensures memory { IsMemory result → (B.live self.new.inner ≡ B.live self.old.inner) × (S.durable store.new.inner ≡ S.durable store.old.inner) }
@@ -121,6 +113,46 @@ impl<B> Blob<B> {
                 holes,
             }),
         );
+        Ok(())
+    }
+}
+
+impl<B> Blob<B> {
+    /// A SYNC write: its range is durable at once, and the pending writes give up what it covers.
+    fn write_synced<S: blob_base::Storage, R>(
+        &mut self,
+        store: &mut Storage<S, R>,
+        offset: u64,
+        bytes: IoBufs,
+        options: WriteOptions,
+    ) -> Result<(), Error>
+    where
+        B: blob_base::Blob<S>,
+        requires sync { is_sync options ≡ true }
+        requires some { 0 < length bytes }
+        requires fits { offset + length bytes < 2 ^ 64 }
+        ensures allowed { or_memory (B.allows_write self.old.inner store.old.inner offset bytes true) (refused result) }
+        ensures live { OnOk result (B.live self.new.inner ≡ written (B.live self.old.inner) offset bytes) }
+        ensures direct_live { B.is_direct ≡ true → B.live self.new.inner ≡ live_after true (B.live self.old.inner) offset bytes (refused result) }
+        ensures synced { OnOk result (S.durable store.new.inner ≡ changed (S.durable store.old.inner) (B.place self.old.inner) (λ x. overlay x offset bytes)) }
+        ensures current { OnOk result (is_current (S.directory store.old.inner) (B.place self.old.inner) ≡ true) }
+        ensures direct_durable { B.is_direct ≡ true → OnErr result (S.durable store.new.inner ≡ S.durable store.old.inner) }
+        ensures stale { is_current (S.directory store.old.inner) (B.place self.old.inner) ≡ false → S.durable store.new.inner ≡ S.durable store.old.inner }
+        ensures memory { IsMemory result → (B.live self.new.inner ≡ B.live self.old.inner) × (S.durable store.new.inner ≡ S.durable store.old.inner) }
+        ensures directory { S.directory store.new.inner ≡ S.directory store.old.inner }
+        ensures place { B.place self.new.inner ≡ B.place self.old.inner }
+        ensures size { OnOk result (self.new.size ≡ max self.old.size (offset + length bytes)) }
+        ensures same_size { OnErr result (self.new.size ≡ self.old.size) }
+        ensures rest { (store.new.rng ≡ store.old.rng) × (store.new.config ≡ store.old.config) × (store.new.next_write ≡ store.old.next_write) × (store.new.next_marker ≡ store.old.next_marker) }
+        ensures lists { OnOk result ((o : Place) → pending_of S.place store.new o ≡ with_at (pending_of S.place store.old) (B.place self.old.inner) (laid offset bytes (pending_of S.place store.old (B.place self.old.inner))) o) }
+        ensures same_lists { OnErr result ((o : Place) → pending_of S.place store.new o ≡ pending_of S.place store.old o) }
+        ensures apart { ArePlacesApart (held S.place store.old.lists.all.items) → ArePlacesApart (held S.place store.new.lists.all.items) }
+    {
+        let copy = bytes.copied()?;
+        let origin = self.inner.origin()?;
+        let list = store.lists.room_for_ranges(origin, 1)?;
+        self.write_unrecorded(store, offset, bytes, options)?;
+        store.lists.lay(list, offset, copy);
         Ok(())
     }
 }
