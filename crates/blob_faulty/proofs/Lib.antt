@@ -1,5 +1,6 @@
 pub mod Covered
 pub mod CutSteps
+pub mod DrawSteps
 pub mod Finishing
 pub mod ListSteps
-pub mod DrawSteps
+pub mod Pushing

@@ -1,5 +1,5 @@
 //! How a write goes to the inner blob, and what it records.
-ghost use Rattle.std.specs.Prelude.{◌≡◌, ◌≢◌, ◌≤◌, ◌<◌, ◌+◌, ◌-◌, ◌^◌, ◌++◌, ◌∷◌, ℕ, List, [], Bool, true, false, max, Option, Some, None, is_some, OnOk, OnErr, length};
+ghost use Rattle.std.specs.Prelude.{◌≡◌, ◌≢◌, ◌≤◌, ◌<◌, ◌+◌, ◌-◌, ◌^◌, ◌++◌, ◌∷◌, ℕ, List, [], Bool, true, false, max, Option, Some, None, is_some, OnOk, OnErr, IfOk, vec_len, length};
 ghost use Rattle.blob_base.specs.Bytes.{overlay, written};
 ghost use Rattle.blob_base.specs.Directory.{is_current};
 ghost use Rattle.blob_base.specs.Durable.{changed};
@@ -13,8 +13,8 @@ ghost use Rattle.blob_base.specs.Log.{need_of};
 ghost use Rattle.blob_base.specs.Order.{ArePlacesApart};
 ghost use Rattle.blob_base.specs.Pending.{Waiting, laid};
 ghost use Rattle.blob_base.specs.Places.{Place};
-ghost use Rattle.blob_faulty.specs.Faults.{retention, kept_by, issued};
-ghost use Rattle.blob_faulty.specs.Lists.{held};
+ghost use Rattle.blob_faulty.specs.Faults.{issued};
+ghost use Rattle.blob_faulty.specs.Lists.{held, IsAt, HasEntryAt, HasRangesAt};
 ghost use Rattle.blob_faulty.specs.Recorded.{loose, kept};
 ghost use Rattle.blob_faulty.specs.Wrapper.{pending_of, Stands, KeepsRecords};
 
@@ -24,6 +24,74 @@ use crate::entry::Entry;
 use crate::storage::Storage;
 use crate::write::PendingWrite;
 use blob_base::{Error, IoBufs, WriteOptions};
+
+impl<S: blob_base::Storage, R> Storage<S, R> {
+    /// Records a write that a crash may lose, where there is room for it, and takes a number for it.
+    fn record_write(&mut self, list: usize, offset: u64, bytes: IoBufs, config: WriteConfig)
+        requires inside { list < vec_len self.old.lists.all }
+        requires room { HasEntryAt self.old.lists.all.items list }
+        requires some { 0 < length bytes }
+        requires fits { offset + length bytes < 2 ^ 64 }
+        requires left { self.old.next_write < 2 ^ 64 - 1 }
+        ensures lists { (o : Place) → IsAt (held S.place self.old.lists.all.items) list o → (a : Place) → pending_of S.place self.new a ≡ with_at (pending_of S.place self.old) o (pending_of S.place self.old o ++ Waiting (need_of (issued self.old.next_write offset bytes config) []) ∷ []) a }
+        ensures apart { ArePlacesApart (held S.place self.old.lists.all.items) → ArePlacesApart (held S.place self.new.lists.all.items) }
+        ensures rest { self.new ≡ record self.old { lists = self.new.lists; next_write = self.old.next_write + 1 } }
+    {
+        let number = self.next_write;
+        self.next_write = number + 1;
+        let holes = Vec::new(*self.lists.all.allocator());
+        let (mode, rate) = (config.mode, config.retention_rate);
+        let write = PendingWrite {
+            number,
+            offset,
+            bytes,
+            mode,
+            rate,
+            holes,
+        };
+        self.lists.push(list, Entry::Write(write));
+    }
+}
+
+impl<B> Blob<B> {
+    /// The list of the handle's incarnation, with room for one more entry. The only error is want of memory.
+    pub(crate) fn room_for_entry<S: blob_base::Storage, R>(&self, store: &mut Storage<S, R>) -> Result<usize, Error>
+    where
+        B: blob_base::Blob<S>,
+        ensures lists { (o : Place) → pending_of S.place store.new o ≡ pending_of S.place store.old o }
+        ensures apart { ArePlacesApart (held S.place store.old.lists.all.items) → ArePlacesApart (held S.place store.new.lists.all.items) }
+        ensures rest { store.new ≡ record store.old { lists = store.new.lists } }
+        ensures at { IfOk result (λ i. IsAt (held S.place store.new.lists.all.items) i (B.place self.now.inner)) }
+        ensures inside { IfOk result (λ i. i < vec_len store.new.lists.all) }
+        ensures room { IfOk result (λ i. HasEntryAt store.new.lists.all.items i) }
+        ensures memory { OnErr result (IsMemory result) }
+    {
+        let origin = self.inner.origin()?;
+        let list = store.lists.room_for_entry(origin)?;
+        Ok(list)
+    }
+
+    /// The same with room for so many durable ranges.
+    pub(crate) fn room_for_ranges<S: blob_base::Storage, R>(
+        &self,
+        store: &mut Storage<S, R>,
+        count: usize,
+    ) -> Result<usize, Error>
+    where
+        B: blob_base::Blob<S>,
+        ensures lists { (o : Place) → pending_of S.place store.new o ≡ pending_of S.place store.old o }
+        ensures apart { ArePlacesApart (held S.place store.old.lists.all.items) → ArePlacesApart (held S.place store.new.lists.all.items) }
+        ensures rest { store.new ≡ record store.old { lists = store.new.lists } }
+        ensures at { IfOk result (λ i. IsAt (held S.place store.new.lists.all.items) i (B.place self.now.inner)) }
+        ensures inside { IfOk result (λ i. i < vec_len store.new.lists.all) }
+        ensures room { IfOk result (λ i. HasRangesAt store.new.lists.all.items i count) }
+        ensures memory { OnErr result (IsMemory result) }
+    {
+        let origin = self.inner.origin()?;
+        let list = store.lists.room_for_ranges(origin, count)?;
+        Ok(list)
+    }
+}
 
 impl<B> Blob<B> {
     /// A write of which nothing is recorded.
@@ -96,23 +164,9 @@ impl<B> Blob<B> {
         ensures apart { ArePlacesApart (held S.place store.old.lists.all.items) → ArePlacesApart (held S.place store.new.lists.all.items) }
     {
         let copy = bytes.copied()?;
-        let origin = self.inner.origin()?;
-        let list = store.lists.room_for_entry(origin)?;
+        let list = self.room_for_entry(store)?;
         self.write_unrecorded(store, offset, bytes, options)?;
-        let holes = Vec::new(*store.lists.all.allocator());
-        let number = store.next_write;
-        store.next_write = number + 1;
-        store.lists.push(
-            list,
-            Entry::Write(PendingWrite {
-                number,
-                offset,
-                bytes: copy,
-                mode: config.mode,
-                rate: config.retention_rate,
-                holes,
-            }),
-        );
+        store.record_write(list, offset, copy, config);
         Ok(())
     }
 }
@@ -149,8 +203,7 @@ impl<B> Blob<B> {
         ensures apart { ArePlacesApart (held S.place store.old.lists.all.items) → ArePlacesApart (held S.place store.new.lists.all.items) }
     {
         let copy = bytes.copied()?;
-        let origin = self.inner.origin()?;
-        let list = store.lists.room_for_ranges(origin, 1)?;
+        let list = self.room_for_ranges(store, 1)?;
         self.write_unrecorded(store, offset, bytes, options)?;
         store.lists.lay(list, offset, copy);
         Ok(())
