@@ -3,3 +3,4 @@ pub mod CutSteps
 pub mod Finishing
 pub mod ListSteps
 pub mod DrawSteps
+pub mod SpanSteps

@@ -3,3 +3,4 @@ pub mod Modes
 pub mod Ranges
 pub mod Views
 pub mod Lists
+pub mod Spans

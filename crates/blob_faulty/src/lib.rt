@@ -7,6 +7,7 @@ pub mod entry;
 pub mod holes;
 pub mod lists;
 pub mod mode;
+pub mod runs;
 pub mod selection;
 pub mod write;
 
