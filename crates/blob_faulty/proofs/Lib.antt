@@ -4,3 +4,4 @@ pub mod DrawSteps
 pub mod Finishing
 pub mod ListSteps
 pub mod Pushing
+pub mod SpanSteps

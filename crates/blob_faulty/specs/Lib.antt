@@ -8,5 +8,6 @@ pub mod Modes
 pub mod Ranges
 pub mod Recorded
 pub mod Rows
+pub mod Spans
 pub mod Views
 pub mod Wrapper

@@ -1,9 +1,9 @@
 -- A wrapper, seen as its inner store, its configuration, and what it has recorded.
-use Rattle.std.specs.Prelude.{◌≡◌, ℕ, List}
+use Rattle.std.specs.Prelude.{◌≡◌, ℕ, List, Option, Some, None}
 use Rattle.blob_base.specs.Directory.{Directory}
 use Rattle.blob_base.specs.Durable.{Durable}
 use Rattle.blob_base.specs.Files.{Files}
-use Rattle.blob_base.specs.Pending.{Pending}
+use Rattle.blob_base.specs.Pending.{Pending, finished}
 use Rattle.blob_base.specs.Places.{Place}
 use Rattle.blob_base.specs.Stands.{StandsFor}
 use Rattle.blob_faulty.specs.declared.config.Config.{Config}
@@ -31,12 +31,26 @@ next_marker_of w = w.next_marker
 abbrev pub pending_of : {S R O : Type 0} → (O → Place) → Storage S R O → Place → List Pending
 pending_of place w = list_of place w.lists.all.items
 
--- nothing was recorded and nothing retired
-pub record KeepsRecords {S R O : Type 0} (place : O → Place) (old new : Storage S R O) : Type 0 where
-  pub pending : pending_of place new ≡ pending_of place old
+-- no two lists are of one incarnation
+abbrev pub AreApart : {S R O : Type 0} → (O → Place) → Storage S R O → Type 0
+AreApart place w = ArePlacesApart (held place w.lists.all.items)
+
+-- what is pending once the started sync with a marker, where there is one, is finished
+abbrev pub finished_by : Option ℕ → List Pending → List Pending
+finished_by None list = list
+finished_by (Some marker) list = finished marker list
+
+-- the numbers still to be given, and the configuration, stay
+pub record KeepsNumbers {S R O : Type 0} (old new : Storage S R O) : Type 0 where
   pub next_write : next_write_of new ≡ next_write_of old
   pub next_marker : next_marker_of new ≡ next_marker_of old
   pub config : config_of new ≡ config_of old
+
+-- nothing was recorded and nothing retired
+pub record KeepsRecords {S R O : Type 0} (place : O → Place) (old new : Storage S R O) : Type 0 where
+  pub pending : (o : Place) → pending_of place new o ≡ pending_of place old o
+  pub apart : AreApart place old → AreApart place new
+  pub numbers : KeepsNumbers old new
 
 -- a wrapper, over a store with this directory and these durable bytes, stands for files
 pub record Stands {S R O : Type 0} (place : O → Place) (directory : Directory) (durable : Durable) (w : Storage S R O) (files : Files) : Type 0 where

@@ -9,6 +9,7 @@ pub mod faults;
 pub mod holes;
 pub mod lists;
 pub mod mode;
+pub mod runs;
 pub mod selection;
 pub mod selections;
 pub mod storage;
