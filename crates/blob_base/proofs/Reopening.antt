@@ -7,6 +7,8 @@ use Rattle.std.proofs.lemmas.Bool.Decides.{Decides-eqb}
 use Rattle.std.specs.Int.{to_be_bytes, w32}
 use Rattle.std.specs.Str.{bytes_eq}
 use Rattle.std.specs.List.{list_all}
+use Rattle.std.specs.Range.{range_inclusive_start, range_inclusive_end}
+use Rattle.std.specs.declared.ops.RangeInclusive.{RangeInclusive}
 use Rattle.blob_base.specs.declared.layout.Layout.{Layout}
 use Rattle.blob_base.specs.declared.layout.Layout.TheVariants.{V0, V1}
 use Rattle.blob_base.specs.declared.version.BlobVersion.{BlobVersion}
@@ -14,7 +16,7 @@ use Rattle.blob_base.specs.Checksum.{crc32c}
 use Rattle.blob_base.specs.Directory.{data_start}
 use Rattle.blob_base.specs.Header.{head, prelude, region, magic_of, layout_number, IsFront, IsTorn, number_at}
 use Rattle.blob_base.specs.HeaderLaws.{reopened, HasHeader}
-use Rattle.blob_base.specs.Parse.{Accepted, Failure, LayoutMismatch, VersionMismatch, is_sealed, page_failure, region_failure, is_accepted, layout_numbered, parsed_whole, parsed_in, parsed}
+use Rattle.blob_base.specs.Parse.{Accepted, accepted, every_layout, Failure, LayoutMismatch, VersionMismatch, is_sealed, page_failure, region_failure, is_accepted, layout_numbered, parsed_whole, parsed_in, parsed}
 use Rattle.blob_base.specs.Resolve.{found_in, is_torn, resolution}
 use Rattle.blob_base.specs.Versions.{is_in_range}
 use Rattle.blob_base.proofs.NoneSide.{Found, whole_page, length_region, not_true, not_v0, filled}
@@ -82,3 +84,14 @@ reopens V0 v rest a fits =
     resolves (prelude V0 v ++ rest) a (omega (arith, length-append (prelude V0 v) rest)) (λ d. not_v0 (prelude V0 v ++ rest) d.front refl)
     ∙ old_reads v rest a fits
 reopens V1 v rest a fits = new_reopens v rest a fits
+
+-- the ranges of a call that accepts every layout
+pub accepted_all : (layouts : RangeInclusive Layout) (versions : RangeInclusive BlobVersion) → range_inclusive_start layouts ≡ V0 → range_inclusive_end layouts ≡ V1
+    → accepted layouts versions ≡ every_layout (range_inclusive_start versions).0 (range_inclusive_end versions).0
+accepted_all layouts versions first last = rw (first, last) refl
+
+-- where every layout is accepted, the version alone decides
+pub reopened_all : (least greatest : ℕ) (layout : Layout) (v size : ℕ) → reopened (every_layout least greatest) layout v size
+    ≡ cond (is_in_range least greatest v) (Ok (Some (size, record { 0 = v }, data_start layout))) (Err (VersionMismatch least greatest v))
+reopened_all least greatest V0 v size = refl
+reopened_all least greatest V1 v size = refl

@@ -31,14 +31,9 @@ accepted layouts versions = record {
   greatest = (range_inclusive_end versions).0;
 }
 
--- every layout, and the versions of a range
-abbrev pub of_any_layout : RangeInclusive BlobVersion → Accepted
-of_any_layout versions = record {
-  oldest = V0;
-  newest = V1;
-  least = (range_inclusive_start versions).0;
-  greatest = (range_inclusive_end versions).0;
-}
+-- every layout, and the versions from one to another
+abbrev pub every_layout : ℕ → ℕ → Accepted
+every_layout least greatest = record { oldest = V0; newest = V1; least = least; greatest = greatest }
 
 -- a header's error, its ranges by their ends
 pub data Failure : Type 0 where

@@ -1,5 +1,5 @@
 -- What a whole blob resolves to, and how a call refuses it.
-use Rattle.std.specs.Prelude.{◌≡◌, ℕ, zero, suc, ◌+◌, ◌-◌, nat_lt, nat_le, Bool, false, not, ◌&&◌, ◌||◌, if◌then◌else◌, List, ◌++◌, length, take, replicate, slice_index, Option, Some, None, Result, Ok, Err, IsErr, ◌⊎◌, codes}
+use Rattle.std.specs.Prelude.{◌≡◌, ℕ, zero, suc, ◌+◌, ◌-◌, nat_lt, nat_le, Bool, true, false, not, ◌&&◌, ◌||◌, if◌then◌else◌, List, ◌++◌, length, take, replicate, slice_index, Option, Some, None, Result, Ok, Err, IsErr, ◌⊎◌, codes}
 use Rattle.std.specs.Fmt.{decimal}
 use Rattle.std.specs.Str.{bytes_eq}
 use Rattle.hex.specs.Hex.{encode_lower}
@@ -64,6 +64,16 @@ refusal_for partition name (VersionMismatch first last found) = BlobVersionMisma
 refusal_for partition name InvalidChecksum = BlobCorrupt partition (encode_lower name) (codes "invalid header checksum")
 refusal_for partition name InvalidPadding = BlobCorrupt partition (encode_lower name) (codes "invalid header padding")
 refusal_for partition name (Truncated required_len raw_len) = BlobCorrupt partition (encode_lower name) (length_text required_len raw_len)
+
+-- whether a failure is told with texts, which take memory
+abbrev pub has_texts : Failure → Bool
+has_texts (InvalidMagic found) = true
+has_texts (UnsupportedLayoutVersion expected found) = true
+has_texts (LayoutMismatch first last found) = false
+has_texts (VersionMismatch first last found) = false
+has_texts InvalidChecksum = true
+has_texts InvalidPadding = true
+has_texts (Truncated required_len raw_len) = true
 
 -- the same of an answer
 abbrev pub refusing : {T : Type 0} → List ℕ → List ℕ → Result T Failure → Result T Refusal

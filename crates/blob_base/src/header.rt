@@ -17,7 +17,7 @@ use std::ops::RangeInclusive;
 #[derive(Clone, Copy, Debug, PartialEq, Eq)]
 pub struct Header {
     /// Which layout the blob has.
-    pub magic: [u8; 4],
+    pub magic: [u8; Header::MAGIC_LENGTH],
     /// The layout's number, which must agree with the magic.
     pub layout_version: u16,
     /// The version of the blob's contents.
@@ -32,7 +32,7 @@ impl Header {
     pub const EXTENSION_SIZE: usize = 4;
 
     /// The first bytes that `parse` needs of any blob that has a prelude: prelude and checksum.
-    pub const PARSE_LEN: usize = 12;
+    pub const PARSE_LEN: usize = Header::PRELUDE_SIZE + Header::EXTENSION_SIZE;
 
     /// The bytes of the magic.
     pub const MAGIC_LENGTH: usize = 4;

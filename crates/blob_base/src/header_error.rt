@@ -1,9 +1,9 @@
-ghost use Rattle.std.specs.Prelude.{◌≡◌, ◌⊎◌, IfOk};
+ghost use Rattle.std.specs.Prelude.{◌≡◌, ◌⊎◌, false, IfOk, IsOk};
 ghost use Rattle.std.specs.String.{string_bytes};
 ghost use Rattle.hex.specs.Hex.{encode_lower};
 ghost use Rattle.blob_base.specs.Parse.{failure_of, may_be_torn};
 ghost use Rattle.blob_base.specs.Refusals.{refusal_of, BlobCorrupt, Memory};
-ghost use Rattle.blob_base.specs.Resolve.{length_text, magic_text, number_text, refusal_for};
+ghost use Rattle.blob_base.specs.Resolve.{has_texts, length_text, magic_text, number_text, refusal_for};
 
 use crate::error::Error;
 use crate::layout::Layout;
@@ -65,9 +65,10 @@ impl HeaderError {
 
     /// The refusal of a call that was given this partition and this name.
     ///
-    /// Where there is no memory for its texts, it is `Memory`.
+    /// Where there is no memory for its texts, it is `Memory`; a mismatch has none.
     pub fn into_error(self, alloc: Global, partition: &str, name: &[u8]) -> Error
-        ensures { (refusal_of result ≡ refusal_for partition.now name.now (failure_of self)) ⊎ (refusal_of result ≡ Memory) }
+        ensures told { (refusal_of result ≡ refusal_for partition.now name.now (failure_of self)) ⊎ (refusal_of result ≡ Memory) }
+        ensures mismatch { has_texts (failure_of self) ≡ false → refusal_of result ≡ refusal_for partition.now name.now (failure_of self) }
     {
         match self.described(alloc, partition, name) {
             Ok(error) => error,
@@ -76,7 +77,8 @@ impl HeaderError {
     }
 
     fn described(self, alloc: Global, partition: &str, name: &[u8]) -> Result<Error, AllocError>
-        ensures { IfOk result (λ error. refusal_of error ≡ refusal_for partition.now name.now (failure_of self)) }
+        ensures told { IfOk result (λ error. refusal_of error ≡ refusal_for partition.now name.now (failure_of self)) }
+        ensures mismatch { has_texts (failure_of self) ≡ false → IsOk result }
     {
         match self {
             HeaderError::InvalidMagic { found } => {

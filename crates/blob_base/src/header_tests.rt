@@ -1,6 +1,6 @@
 //! Values of the format that come from outside: checksums, regions, what blobs resolve to, names.
 
-ghost use Rattle.std.specs.Prelude.{◌≡◌, IfOk, length};
+ghost use Rattle.std.specs.Prelude.{◌≡◌, ◌<◌, IfOk, length};
 ghost use Rattle.std.specs.Range.{range_inclusive_start, range_inclusive_end};
 
 use crate::checksum::Crc32;
@@ -128,31 +128,49 @@ fn headers_are_read_by_their_layout(rt: HostRuntime) -> Result<(), Fail> {
     Ok(())
 }
 
+// The region of version 0 with one byte set, cut to a length.
+fn damaged(alloc: Global, at: usize, byte: u8, len: usize) -> Result<Vec<u8>, Error>
+    requires { at < 4096 }
+{
+    let mut region = region_of(alloc, 0)?;
+    region[at] = byte;
+    region.truncate(len);
+    Ok(region)
+}
+
+fn parse_error(blob: &[u8]) -> Option<HeaderError> {
+    if blob.len() < 8 {
+        return None;
+    }
+    let raw_len = blob.len() as u64;
+    Header::parse(blob, raw_len, &Layout::all(), &versions(0, 0)).err()
+}
+
 #[test]
 fn a_damaged_region_is_parsed_and_resolved(rt: HostRuntime) -> Result<(), Fail> {
-    let mut region = region_of(rt.alloc(), 0)?;
-    let any = versions(0, 0);
-    let sealed = region[11];
-    region[11] = 0xdd;
-    let parsed = Header::parse(region.as_slice(), 4096, &Layout::all(), &any);
-    assert_eq!(rt; parsed, Err(HeaderError::InvalidChecksum));
+    let blob = damaged(rt.alloc(), 11, 0xdd, 4096)?;
     assert_eq!(rt;
-        told(rt.alloc(), region.as_slice())?.as_str(),
+        parse_error(blob.as_slice()),
+        Some(HeaderError::InvalidChecksum)
+    );
+    assert_eq!(rt;
+        told(rt.alloc(), blob.as_slice())?.as_str(),
         "invalid header checksum"
     );
-    region[11] = sealed;
+    let blob = damaged(rt.alloc(), 0, b'C', 4095)?;
     let truncated = HeaderError::Truncated {
         required_len: 4096,
         raw_len: 4095,
     };
-    let parsed = Header::parse(&region[..4095], 4095, &Layout::all(), &any);
-    assert_eq!(rt; parsed, Err(truncated));
-    assert_eq!(rt; told(rt.alloc(), &region[..4095])?.as_str(), "create");
-    region[12] = 1;
-    let parsed = Header::parse(region.as_slice(), 4096, &Layout::all(), &any);
-    assert_eq!(rt; parsed, Err(HeaderError::InvalidPadding));
+    assert_eq!(rt; parse_error(blob.as_slice()), Some(truncated));
+    assert_eq!(rt; told(rt.alloc(), blob.as_slice())?.as_str(), "create");
+    let blob = damaged(rt.alloc(), 12, 1, 4096)?;
     assert_eq!(rt;
-        told(rt.alloc(), region.as_slice())?.as_str(),
+        parse_error(blob.as_slice()),
+        Some(HeaderError::InvalidPadding)
+    );
+    assert_eq!(rt;
+        told(rt.alloc(), blob.as_slice())?.as_str(),
         "invalid header padding"
     );
     Ok(())
@@ -165,13 +183,19 @@ fn short_blobs_resolve_by_their_bytes(rt: HostRuntime) -> Result<(), Fail> {
         (b"payload", "create"),
         (b"CWIC\x00\x00\x00\x05", "valid 0 5 8"),
         (b"CWIC\x00\x00\x00", "create"),
-        (b"CWIC\x00\x01\x00\x07", "unsupported layout version: expected 0, found 1"),
+        (
+            b"CWIC\x00\x01\x00\x07",
+            "unsupported layout version: expected 0, found 1",
+        ),
         (b"CWIK\x00\x01\x00\x05\x1d\xe2", "create"),
         (
             b"CWIK\x00\x01\x00\x05\x1d\xe3",
             "truncated header: required length 12, raw length 10",
         ),
-        (b"CWI\x00\x00\x00\x00\x05", "invalid magic: found [67, 87, 73, 0]"),
+        (
+            b"CWI\x00\x00\x00\x00\x05",
+            "invalid magic: found [67, 87, 73, 0]",
+        ),
     ];
     for (blob, answer) in rows {
         assert_eq!(rt; told(rt.alloc(), blob)?.as_str(), answer);
@@ -186,7 +210,11 @@ fn zeros_count_up_to_the_region_s_end(rt: HostRuntime) -> Result<(), Fail> {
         (b"", 4096, "create"),
         (b"", 4097, "invalid magic: found [0, 0, 0, 0]"),
         (b"CWI", 108, "create"),
-        (b"CWI\x00\x00\x00\x00\x05", 108, "invalid magic: found [67, 87, 73, 0]"),
+        (
+            b"CWI\x00\x00\x00\x00\x05",
+            108,
+            "invalid magic: found [67, 87, 73, 0]",
+        ),
     ];
     for (bytes, len, answer) in rows {
         let blob = padded(rt.alloc(), bytes, len)?;

@@ -3,15 +3,15 @@ use Rattle.std.proofs.Common.{◌≡◌, ℕ, List, [], ◌∷◌, Bool, true, f
 use Rattle.std.specs.Str.{bytes_eq}
 use Rattle.std.specs.Cmp.Lexicographic.{bytes_decides}
 use Rattle.std.proofs.lemmas.Bool.{cases_Bool, cond-true, cond-false, false≢true}
-use Rattle.blob_base.specs.Refusals.{Refusal, refusal_of, refused}
+use Rattle.blob_base.specs.Refusals.{refusal_of, refused}
 use Rattle.blob_lab.specs.declared.names.Names.{Names}
 use Rattle.blob_lab.specs.declared.pending.Pending.{Pending}
 use Rattle.blob_lab.specs.declared.pending.entry.Entry.{Entry}
 use Rattle.blob_lab.specs.declared.pending.entry.Change.{Change}
 use Rattle.blob_lab.specs.declared.pending.entry.Change.TheVariants as change
 use Rattle.blob_lab.specs.Names.{at, with_at, with_partition}
-use Rattle.blob_lab.specs.History.{History, Event, Deed, To, Forget, with_deed, events, latest, settling, is_number, cleared, Released, Settled, Closed, Opening}
-use Rattle.blob_lab.specs.Debts.{Standing, standing, kept, deed_of, Keeps, StandsFor, IsUnchanged, after_admit}
+use Rattle.blob_lab.specs.History.{History, Event, Deed, To, Forget, with_deed, events, is_number, cleared, Released, Settled, Closed, Opening}
+use Rattle.blob_lab.specs.Debts.{standing, kept, deed_of, Keeps, StandsFor, IsUnchanged, after_admit}
 use Rattle.blob_base.specs.declared.error.Error.{Error}
 use Rattle.std.specs.Result.{IsErr}
 use Rattle.std.specs.Ordering.{nat_cmp, is_eq}

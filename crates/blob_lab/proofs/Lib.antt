@@ -1,4 +1,6 @@
 pub mod Keeping
 pub mod Maps
+pub mod OpenHistory
+pub mod OpenNames
 pub mod Recreation
 pub mod Steps

@@ -1,12 +1,12 @@
 -- A name that was forgotten knows only later numbers.
-use Rattle.std.proofs.Common.{◌≡◌, ℕ, ◌+◌, ◌<◌, ◌≤◌, List, [], ◌∷◌, ◌++◌, Bool, true, false, ◌&&◌, is_none, Option, Some, None, Ok, if◌then◌else◌, refl, sym, ap, subst, ◌∙◌, ⊎_elim, cond, arith, ◌==◌}
+use Rattle.std.proofs.Common.{◌≡◌, ℕ, ◌<◌, ◌≤◌, List, [], ◌∷◌, ◌++◌, Bool, true, false, ◌&&◌, is_none, Option, Some, None, if◌then◌else◌, refl, sym, ap, subst, ◌∙◌, cond, arith, ◌==◌}
 use Rattle.std.specs.Str.{bytes_eq}
 use Rattle.std.specs.Cmp.Lexicographic.{bytes_decides}
-use Rattle.std.proofs.lemmas.Bool.{cases_Bool, cond-true, cond-false, false≢true}
+use Rattle.std.proofs.lemmas.Bool.{cond-true, false≢true}
 use Rattle.std.proofs.lemmas.Bool.Decides.{nat_tests}
 use Rattle.blob_base.specs.Refusals.{Refusal}
-use Rattle.blob_lab.specs.Names.{with_at, with_partition}
-use Rattle.blob_lab.specs.History.{History, Call, Event, Deed, To, Forget, Admit, Release, Settle, Clear, Fail, Close, Admitted, Released, Settled, Cleared, Failed, Closed, is_over, cleared, with_deed, events, latest, settling, is_number, generations, tokens, released, owed, unless_failed, debt, failure}
+use Rattle.blob_lab.specs.Names.{with_at}
+use Rattle.blob_lab.specs.History.{History, Call, Event, Deed, To, Forget, Admit, Release, Settle, Clear, Fail, Close, Admitted, Released, Settled, Failed, Closed, is_over, cleared, with_deed, events, latest, settling, is_number, generations, tokens}
 use Rattle.blob_lab.specs.Debts.{IsNumbered}
 use Rattle.blob_lab.specs.Recreated.{forgets, IsForgottenAfter}
 use Rattle.blob_lab.proofs.Keeping.{with_at_same}

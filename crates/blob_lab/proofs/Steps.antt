@@ -1,13 +1,13 @@
 -- What a change of an entry does to the name's standing.
-use Rattle.std.proofs.Common.{◌≡◌, ℕ, List, ◌∷◌, Bool, true, false, not, ◌&&◌, is_none, Option, Some, None, if◌then◌else◌, refl, sym, ap, subst, ◌∙◌, ⊎_elim, cond, ◌||◌, ◌==◌, option_map, arith, nat_eq}
+use Rattle.std.proofs.Common.{◌≡◌, ℕ, List, ◌∷◌, Bool, true, false, not, ◌&&◌, is_none, Option, Some, None, if◌then◌else◌, refl, sym, ap, ◌∙◌, ⊎_elim, ◌||◌, ◌==◌, option_map, arith, nat_eq}
 use Rattle.std.specs.Option.{option_or, option_eq}
 use Rattle.std.proofs.lemmas.Bool.Decides.{nat_tests}
-use Rattle.std.proofs.lemmas.Bool.{cases_Bool, cond-true, cond-false, false≢true}
+use Rattle.std.proofs.lemmas.Bool.{cases_Bool, false≢true}
 use Rattle.blob_base.specs.Refusals.{Refusal, refusal_of}
 use Rattle.blob_base.specs.declared.error.Error.{Error}
 use Rattle.blob_lab.specs.declared.pending.entry.Entry.{Entry}
 use Rattle.blob_lab.specs.History.{Event, settling, debt, failure, is_live, is_over, latest, is_number, with_deed, Settle, Settled, Close, Closed}
-use Rattle.blob_lab.specs.Debts.{Standing, standing, kept, over}
+use Rattle.blob_lab.specs.Debts.{standing, kept, over}
 
 -- a name that is over stands as one that was never there
 over_is_nothing : (l : Bool) (t : Option ℕ) (d : Bool) (f : Option Refusal) → not l && is_none t && not d && is_none f ≡ true

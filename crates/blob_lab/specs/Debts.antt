@@ -1,5 +1,5 @@
 -- What a registry of durability debt keeps, and the histories that it stands for.
-use Rattle.std.specs.Prelude.{◌≡◌, ℕ, List, [], ◌∷◌, Bool, true, false, not, ◌&&◌, is_none, is_some, ◌||◌, Option, Some, None, Result, Ok, Err, option_map, if◌then◌else◌, ◌⊎◌}
+use Rattle.std.specs.Prelude.{◌≡◌, ℕ, List, [], ◌∷◌, Bool, false, not, ◌&&◌, is_none, is_some, ◌||◌, Option, Some, None, Result, Ok, Err, option_map, ◌⊎◌}
 use Rattle.std.specs.Prelude.{Vec, String}
 use Rattle.std.specs.Global.{Global}
 use Rattle.std.specs.String.{string_bytes}

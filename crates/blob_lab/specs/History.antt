@@ -1,5 +1,5 @@
 -- The calls that a registry of durability debt accepted, and what they say of each name. All lists have the newest first.
-use Rattle.std.specs.Prelude.{◌≡◌, ℕ, ◌+◌, ◌-◌, ◌^◌, List, [], ◌∷◌, Bool, true, false, not, ◌&&◌, ◌||◌, ◌==◌, if◌then◌else◌, Option, Some, None, is_some, is_none, Result, Ok, Err}
+use Rattle.std.specs.Prelude.{ℕ, ◌+◌, ◌-◌, ◌^◌, List, [], ◌∷◌, Bool, true, false, not, ◌&&◌, ◌||◌, ◌==◌, if◌then◌else◌, Option, Some, None, is_some, is_none, Result, Ok, Err}
 use Rattle.hex.specs.Hex.{encode_lower}
 use Rattle.blob_base.specs.Refusals.{Refusal, BlobAlreadyOpen, GenerationsExhausted}
 use Rattle.blob_lab.specs.Names.{with_at, with_partition}

@@ -1,5 +1,5 @@
 -- A map of two levels as a function of partition and name.
-use Rattle.std.specs.Prelude.{◌≡◌, ℕ, List, Bool, cond, Option, Some, None}
+use Rattle.std.specs.Prelude.{ℕ, List, cond, Option, Some, None}
 use Rattle.std.specs.BTreeMap.{BTreeMap, get_by}
 use Rattle.std.specs.Ordering.{nat_cmp}
 use Rattle.std.specs.Cmp.Lexicographic.{slice_cmp}

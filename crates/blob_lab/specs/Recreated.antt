@@ -1,7 +1,7 @@
 -- Names that were forgotten, and numbers from before.
-use Rattle.std.specs.Prelude.{◌≡◌, ℕ, List, ◌∷◌, ◌++◌, Bool, true, false, ◌&&◌, Option, Some, None}
+use Rattle.std.specs.Prelude.{◌≡◌, ℕ, List, ◌∷◌, ◌++◌, Bool, true, false, ◌&&◌, Some, None}
 use Rattle.std.specs.Str.{bytes_eq}
-use Rattle.blob_lab.specs.History.{Call, Deed, History, To, Forget, Admit}
+use Rattle.blob_lab.specs.History.{Call, History, To, Forget, Admit}
 use Rattle.blob_lab.specs.Debts.{IsNumbered}
 
 -- whether a call forgets a name

@@ -24,7 +24,7 @@ returns-in-Err-clause-answer c = λ blob len part.
     answers_refused c.args.partition.now c.args.name.now (resolution blob a) (failure_of c.in-Err.error) c.into_error.result
     (ap read_of (sym c.in-Err.is)
     ∙ by_front (read_of c.resolve_front.result) c.args.raw.now blob c.args.raw_len a c.requires.front len part c.resolve_front.ensures.parsed c.resolve_front.ensures.none)
-    c.into_error.ensures
+    c.into_error.ensures.told
 
 pub returns-in-Err-clause-none : goal.returns-in-Err-clause-none
 returns-in-Err-clause-none c = λ blob len part.

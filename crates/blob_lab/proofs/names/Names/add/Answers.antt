@@ -1,7 +1,7 @@
-use Rattle.std.proofs.Common.{rules, refl, Some, ◌≡◌, ◌∙◌, ap, sym, subst, None, ℕ, List}
+use Rattle.std.proofs.Common.{rules, refl, Some, ◌≡◌, ◌∙◌}
 use Rattle.std.specs.String.{string_bytes}
 use Rattle.blob_lab.specs.Names.{at, found}
-use Rattle.blob_lab.proofs.Maps.{found_after, found_none, on_err, same_below, set_below, new_below}
+use Rattle.blob_lab.proofs.Maps.{found_after, on_err, same_below, set_below, new_below}
 use Rattle.blob_lab.proofs.names.Names.add.Goals as goal
 
 pub returns-in_err-insert-clause-err : goal.returns-in_err-insert-clause-err

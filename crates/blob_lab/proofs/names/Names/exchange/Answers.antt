@@ -1,4 +1,4 @@
-use Rattle.std.proofs.Common.{rules, refl, Some, ◌≡◌, ◌∙◌, ap, sym}
+use Rattle.std.proofs.Common.{rules, refl, Some, ◌≡◌}
 use Rattle.std.specs.String.{string_bytes}
 use Rattle.blob_lab.specs.Names.{found}
 use Rattle.blob_lab.proofs.Maps.{found_after, same_below, set_below}

@@ -1,8 +1,6 @@
-use Rattle.std.proofs.Common.{rules, refl, Some, None, ◌≡◌, ◌∙◌, ap, sym, List, ℕ, cond}
+use Rattle.std.proofs.Common.{rules, Some, None}
 use Rattle.std.specs.String.{string_bytes}
 use Rattle.std.proofs.lemmas.List.{nil_from_length}
-use Rattle.std.specs.Str.{bytes_eq}
-use Rattle.std.specs.Map.{update}
 use Rattle.blob_lab.specs.Names.{found}
 use Rattle.blob_lab.proofs.Maps.{found_after, found_none, set_below, emptied_below, twice}
 use Rattle.blob_lab.proofs.names.Names.remove.Goals as goal

@@ -1,4 +1,4 @@
-use Rattle.std.proofs.Common.{rules, ◌≡◌, Some, refl, ap, ◌+◌, ◌∙◌}
+use Rattle.std.proofs.Common.{Some, refl, ap, ◌+◌, ◌∙◌}
 use Rattle.blob_lab.specs.History.{Admit}
 use Rattle.blob_lab.proofs.Keeping.{keeps_done, unchanged_stands, after_refused}
 use Rattle.blob_lab.proofs.pending.Pending.admit.Goals as goal

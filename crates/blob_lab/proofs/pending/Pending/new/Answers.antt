@@ -1,4 +1,4 @@
-use Rattle.std.proofs.Common.{rules, ◌≡◌, refl, ap}
+use Rattle.std.proofs.Common.{refl, ap}
 use Rattle.blob_lab.specs.Debts.{kept}
 use Rattle.blob_lab.proofs.pending.Pending.new.Goals as goal
 

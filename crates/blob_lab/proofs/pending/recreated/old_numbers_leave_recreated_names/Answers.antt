@@ -1,6 +1,5 @@
-use Rattle.std.proofs.Common.{◌≡◌, ◌∷◌, ap, refl, if◌then◌else◌, ◌&&◌, is_none, None, Ok, false, ◌==◌, Some, Result, Bool, Option, ℕ}
-use Rattle.blob_base.specs.Refusals.{Refusal}
-use Rattle.blob_lab.specs.History.{Settle, Settled, Clear, cleared, Fail, Failed, Close, Closed, events, settling, latest, tokens, is_last, is_number, unless_failed, failure, debt}
+use Rattle.std.proofs.Common.{◌∷◌, ap, refl, if◌then◌else◌}
+use Rattle.blob_lab.specs.History.{Settle, Settled, Clear, cleared, Fail, Failed, Close, Closed, events}
 use Rattle.blob_lab.proofs.Recreation.{newer, no_count}
 use Rattle.blob_lab.proofs.pending.recreated.old_numbers_leave_recreated_names.Goals as goal
 

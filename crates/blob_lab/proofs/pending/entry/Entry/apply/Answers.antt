@@ -1,7 +1,5 @@
-use Rattle.std.proofs.Common.{rules, ◌≡◌, List, Some, None, if◌then◌else◌, true, false, ap, ◌∙◌}
+use Rattle.std.proofs.Common.{◌≡◌, ap, ◌∙◌}
 use Rattle.std.specs.Option.{option_or}
-use Rattle.blob_lab.specs.History.{Event, with_deed}
-use Rattle.blob_lab.specs.Debts.{kept, over, standing, deed_of}
 use Rattle.blob_lab.proofs.Steps.{settled, closed}
 use Rattle.blob_lab.proofs.pending.entry.Entry.apply.Goals as goal
 

@@ -1,0 +1,129 @@
+//! Handles of exclusive opens.
+ghost use Rattle.std.specs.Prelude.{◌≡◌, ◌≢◌, ◌+◌, ◌≤◌, ℕ, List, [], Bool, true, false, Option, Some, None, IsSome, OnOk, OnErr, IfOk, length, take, drop};
+ghost use Rattle.blob_base.specs.Bytes.{overlay, resized};
+ghost use Rattle.blob_base.specs.Directory.{is_current};
+ghost use Rattle.blob_base.specs.Durable.{changed};
+ghost use Rattle.blob_base.specs.Handles.{outcome_of};
+ghost use Rattle.blob_base.specs.Live.{live_written, live_after};
+ghost use Rattle.blob_base.specs.Options.{is_sync};
+ghost use Rattle.blob_base.specs.Refusals.{Refusal, refused, IsMemory};
+
+use blob_base::{Durable, Error, Handle, IoBufs, IoBufsMut, ReadOptions, WriteOptions};
+use std::marker::Model;
+
+/// An accepted open, by which its handle is told from all others.
+#[derive(Drop)]
+pub(crate) struct Registration {
+    pub(crate) partition: String,
+    pub(crate) name: Vec<u8>,
+    pub(crate) number: u64,
+}
+
+impl Model for Registration {
+    ghost use Rattle.std.specs.String.{string_bytes};
+    ghost use Rattle.blob_lab.specs.OpenNames.{Registration};
+
+    ghost Value = { Registration };
+
+    ghost view = { λ r. record { partition = string_bytes r.partition; name = r.name.items; number = r.number } };
+}
+
+/// A handle of a store whose name is open by it alone, spent by `Opens::close`.
+///
+/// It passes each call on to the store's own handle.
+pub struct Blob<B> {
+    pub(crate) inner: B,
+    pub(crate) registration: Registration,
+}
+
+impl<B> Blob<B> {
+    ghost use Rattle.blob_lab.specs.Opens.{inner_of};
+
+    /// The store's own handle.
+    pub fn inner(&self) -> &B
+        ensures { result.now ≡ inner_of self.now }
+    {
+        &self.inner
+    }
+}
+
+impl<S: Durable, B: blob_base::Blob<S>> blob_base::Blob<S> for Blob<B> {
+    ghost live = { λ b. B.live b.inner };
+
+    ghost place = { λ b. B.place b.inner };
+
+    ghost room = { λ b. B.room b.inner };
+
+    ghost is_direct = { B.is_direct };
+
+    ghost allows_read = { λ b. B.allows_read b.inner };
+
+    ghost allows_write = { λ b. B.allows_write b.inner };
+
+    ghost allows_resize = { λ b. B.allows_resize b.inner };
+
+    ghost allows_sync = { λ b. B.allows_sync b.inner };
+
+    ghost allows_start_sync = { λ b. B.allows_start_sync b.inner };
+
+    ghost allows_reserve = { λ b. B.allows_reserve b.inner };
+
+    ghost stale_refused = { λ b. B.stale_refused b.inner };
+
+    ghost uninjected = { λ b. B.uninjected b.inner };
+
+    ghost resize_uninjected = { λ b. B.resize_uninjected b.inner };
+
+    ghost within_room = { λ b. B.within_room b.inner };
+
+    fn read_at(
+        &self,
+        store: &mut S,
+        offset: u64,
+        len: usize,
+        options: ReadOptions,
+    ) -> Result<IoBufsMut, Error> {
+        self.inner.read_at(store, offset, len, options)
+    }
+
+    fn read_at_buf(
+        &self,
+        store: &mut S,
+        offset: u64,
+        len: usize,
+        buf: IoBufsMut,
+        options: ReadOptions,
+    ) -> Result<IoBufsMut, Error> {
+        self.inner.read_at_buf(store, offset, len, buf, options)
+    }
+
+    fn write_at(
+        &mut self,
+        store: &mut S,
+        offset: u64,
+        bytes: IoBufs,
+        options: WriteOptions,
+    ) -> Result<(), Error> {
+        self.inner.write_at(store, offset, bytes, options)
+    }
+
+    fn resize(&mut self, store: &mut S, len: u64) -> Result<(), Error> {
+        self.inner.resize(store, len)
+    }
+
+    fn sync(&mut self, store: &mut S) -> Result<(), Error> {
+        self.inner.sync(store)
+    }
+
+    fn start_sync(&mut self, store: &mut S) -> Handle {
+        self.inner.start_sync(store)
+    }
+
+    fn reserve(&mut self, store: &mut S, end: u64) -> Result<(), Error> {
+        self.inner.reserve(store, end)
+    }
+
+    fn origin(&self) -> Result<S::Origin, Error> {
+        self.inner.origin()
+    }
+}
