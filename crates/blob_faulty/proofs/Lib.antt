@@ -1,7 +1,9 @@
+pub mod Adding
 pub mod Covered
 pub mod CutSteps
 pub mod DrawSteps
 pub mod Finishing
 pub mod ListSteps
 pub mod Pushing
+pub mod RunSteps
 pub mod SpanSteps

@@ -5,6 +5,7 @@ pub mod Fates
 pub mod Faults
 pub mod Lists
 pub mod Modes
+pub mod Pieces
 pub mod Ranges
 pub mod Recorded
 pub mod Rows

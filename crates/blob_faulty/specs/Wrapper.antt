@@ -1,8 +1,9 @@
 -- A wrapper, seen as its inner store, its configuration, and what it has recorded.
-use Rattle.std.specs.Prelude.{◌≡◌, ℕ, List, Option, Some, None}
+use Rattle.std.specs.Prelude.{◌≡◌, ℕ, ◌<◌, List, Option, Some, None}
 use Rattle.blob_base.specs.Directory.{Directory}
 use Rattle.blob_base.specs.Durable.{Durable}
-use Rattle.blob_base.specs.Files.{Files}
+use Rattle.blob_base.specs.Files.{Files, all_logged}
+use Rattle.blob_base.specs.Log.{Entry}
 use Rattle.blob_base.specs.Pending.{Pending, finished}
 use Rattle.blob_base.specs.Places.{Place}
 use Rattle.blob_base.specs.Stands.{StandsFor}
@@ -57,6 +58,10 @@ pub record Stands {S R O : Type 0} (place : O → Place) (directory : Directory)
   pub stands : StandsFor directory durable (pending_of place w) (next_write_of w) (next_marker_of w) files
   -- no two lists are of one incarnation
   pub apart : ArePlacesApart (held place w.lists.all.items)
+
+-- whatever files a wrapper stood for, it now stands for them with these entries added to an incarnation's log. The directory stays
+abbrev pub Adds : {S R O : Type 0} → (O → Place) → Directory → Durable → Durable → Storage S R O → Storage S R O → Place → List Entry → Type 0
+Adds place names bytes bytes' old new o entries = (files : Files) → o.number < names.next → Stands place names bytes old files → Stands place names bytes' new (all_logged files o entries)
 
 -- a handle's inner handle, and the size that it tracks
 abbrev pub inside : {B : Type 0} → Blob B → B

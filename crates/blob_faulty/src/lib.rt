@@ -14,6 +14,7 @@ pub mod selection;
 pub mod selections;
 pub mod storage;
 pub mod write;
+mod write_runs;
 mod writes;
 
 pub use blob::Blob;
