@@ -95,12 +95,28 @@ impl IoBufs {
         if pieces.len() == 1 {
             return Ok(pieces.remove(0));
         }
-        let mut bytes = Vec::with_capacity(*pieces.allocator(), self.len)?;
-        for piece in &pieces {
-            bytes.extend_from_slice(piece)?;
-        }
-        Ok(bytes)
+        joined(*pieces.allocator(), &pieces, self.len)
     }
+
+    /// A copy of the bytes, as one piece. The only error is `Memory`.
+    pub fn copied(&self) -> Result<IoBufs, Error>
+        ensures ok { IfOk result (λ bufs. bufs ≡ self.now) }
+        ensures memory { OnErr result (IsMemory result) }
+    {
+        IoBufs::from_vec(joined(*self.pieces.allocator(), &self.pieces, self.len)?)
+    }
+}
+
+/// The pieces' bytes one after another, which are `len`.
+fn joined(alloc: Global, pieces: &[Vec<u8>], len: usize) -> Result<Vec<u8>, Error>
+    ensures ok { IfOk result (λ bytes. bytes.items ≡ flat_map (λ p. p.items) pieces.now) }
+    ensures memory { OnErr result (IsMemory result) }
+{
+    let mut bytes = Vec::with_capacity(alloc, len)?;
+    for piece in pieces {
+        bytes.extend_from_slice(piece)?;
+    }
+    Ok(bytes)
 }
 
 #[cfg(test)]
@@ -117,6 +133,9 @@ mod tests {
         assert_eq!(rt; bufs.remaining(), 5);
         assert!(rt; !bufs.is_empty());
         assert_eq!(rt; bufs.pieces().len(), 2);
+        let copy = bufs.copied()?;
+        assert_eq!(rt; copy.pieces().len(), 1);
+        assert_eq!(rt; copy.remaining(), 5);
         let bytes = bufs.coalesce()?;
         assert_eq!(rt; bytes.as_slice(), b"abcde".as_slice());
         Ok(())

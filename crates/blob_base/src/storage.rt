@@ -1,5 +1,5 @@
 // The storage traits, with what every store keeps.
-ghost use Rattle.std.specs.Prelude.{◌≡◌, ◌≢◌, ◌+◌, ◌≤◌, ◌<◌, ◌^◌, ◌↔◌, ℕ, List, [], Bool, true, false, Option, Some, None, is_some, IsSome, IsTrue, OnOk, OnErr, IfOk, length, take, drop, map, option_copied};
+ghost use Rattle.std.specs.Prelude.{◌≡◌, ◌≢◌, ◌⊎◌, ◌+◌, ◌≤◌, ◌<◌, ◌^◌, ◌↔◌, ℕ, List, [], Bool, true, false, Option, Some, None, is_some, IsSome, IsTrue, OnOk, OnErr, IfOk, length, take, drop, map, option_copied};
 ghost use Rattle.std.specs.Range.{range_inclusive_start, range_inclusive_end, range_inclusive_exhausted};
 ghost use Rattle.blob_base.specs.Bytes.{overlay, resized};
 ghost use Rattle.blob_base.specs.Directory.{Directory, is_current};
@@ -10,7 +10,7 @@ ghost use Rattle.blob_base.specs.Opening.{IsOpened, removed};
 ghost use Rattle.blob_base.specs.Handles.{outcome_of};
 ghost use Rattle.blob_base.specs.Options.{is_sync};
 ghost use Rattle.blob_base.specs.Places.{Place, same_place};
-ghost use Rattle.blob_base.specs.Refusals.{Refusal, refused, Memory, Injected, IsMemory};
+ghost use Rattle.blob_base.specs.Refusals.{Refusal, refused, Memory, Injected, OffsetOverflow, IsMemory};
 
 use crate::{
     BlobVersion, DEFAULT_BLOB_VERSION, Error, Handle, IoBufs, IoBufsMut, ReadOptions, WriteOptions,
@@ -185,6 +185,12 @@ pub trait Blob<S: Durable> {
 
     // within its room a SYNC write by a current handle wants no memory
     ghost within_room: { (b : Self) (s : S) (offset : ℕ) (bytes : List ℕ) → is_current (S.directory s) (place b) ≡ true → offset + length bytes ≤ room b s → allows_write b s offset bytes true (Some Memory) → ⊥ };
+
+    // a store that injects nothing does a SYNC write by a current handle within its room
+    ghost done_within: { (b : Self) (s : S) (offset : ℕ) (bytes : List ℕ) (r : Refusal) → is_direct ≡ true → is_current (S.directory s) (place b) ≡ true → offset + length bytes ≤ room b s → allows_write b s offset bytes true (Some r) → ⊥ };
+
+    // room is refused for an end past what can be counted, and for want of memory
+    ghost reserve_refused: { (b : Self) (s : S) (end : ℕ) (r : Refusal) → allows_reserve b s end (Some r) → (r ≡ OffsetOverflow) ⊎ (r ≡ Memory) };
 }
 
 /// A store of blobs in partitions.

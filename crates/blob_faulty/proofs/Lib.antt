@@ -1,4 +1,10 @@
+pub mod Adding
 pub mod CellLaws
 pub mod Covered
 pub mod CutSteps
+pub mod DrawSteps
 pub mod Finishing
+pub mod ListSteps
+pub mod Pushing
+pub mod RunSteps
+pub mod SpanSteps

@@ -3,6 +3,7 @@ use Rattle.std.specs.Prelude.{ℕ, ◌+◌, ◌-◌, ◌^◌, min, max, Bool, tr
 use Rattle.rand_core.specs.Stream.{Stream, next_u64}
 use Rattle.rand.specs.Uniform.{canon}
 use Rattle.blob_base.specs.Draws.{positions}
+use Rattle.blob_base.specs.Log.{Write}
 use Rattle.blob_base.specs.Modes.{Mode}
 use Rattle.blob_base.specs.Rates.{Rate, sampled}
 use Rattle.blob_faulty.specs.declared.config.Config.{Config}
@@ -23,6 +24,10 @@ write_failure (Some c) = Some c.failure_rate
 abbrev pub retention : Option WriteConfig → Option (Mode × Rate)
 retention None = None
 retention (Some c) = if c.retention_rate.numerator == 0 then None else Some (mode_of c.mode, c.retention_rate)
+
+abbrev pub kept_by : Option WriteConfig → Option (Mode × Rate)
+kept_by None = None
+kept_by (Some c) = Some (mode_of c.mode, c.retention_rate)
 
 -- What the draws of a write come to.
 
@@ -96,3 +101,7 @@ resize_fate None size len stream = (Resizes false, stream)
 resize_fate (Some c) size len stream =
     let d = sampled c.failure_rate stream in
     if d.0 then partly size len (sampled c.partial_rate d.1) else resized_or_not (sampled c.failure_rate d.1)
+
+-- a write as it is recorded
+abbrev pub issued : ℕ → ℕ → List ℕ → WriteConfig → Write
+issued number offset bytes config = record { number = number; offset = offset; bytes = bytes; mode = mode_of config.mode; rate = config.retention_rate }

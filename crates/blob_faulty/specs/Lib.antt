@@ -1,8 +1,14 @@
+pub mod AnswerLaws
 pub mod Answers
 pub mod Cells
+pub mod Fates
 pub mod Faults
+pub mod Lists
 pub mod Modes
+pub mod Pieces
 pub mod Ranges
+pub mod Recorded
 pub mod Rows
+pub mod Spans
 pub mod Views
 pub mod Wrapper

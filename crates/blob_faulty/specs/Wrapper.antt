@@ -1,9 +1,71 @@
-use Rattle.std.specs.Prelude.{ℕ}
+-- A wrapper, seen as its inner store, its configuration, and what it has recorded.
+use Rattle.std.specs.Prelude.{◌≡◌, ℕ, ◌<◌, List, Option, Some, None}
+use Rattle.blob_base.specs.Directory.{Directory}
+use Rattle.blob_base.specs.Durable.{Durable}
+use Rattle.blob_base.specs.Files.{Files, all_logged}
+use Rattle.blob_base.specs.Log.{Entry}
+use Rattle.blob_base.specs.Pending.{Pending, finished}
+use Rattle.blob_base.specs.Places.{Place}
+use Rattle.blob_base.specs.Stands.{StandsFor}
 use Rattle.blob_faulty.specs.declared.config.Config.{Config}
 use Rattle.blob_faulty.specs.declared.storage.Storage.{Storage}
+use Rattle.blob_faulty.specs.declared.blob.Blob.{Blob}
+use Rattle.blob_base.specs.Order.{ArePlacesApart}
+use Rattle.blob_faulty.specs.Lists.{held, list_of}
 
 abbrev pub inner_of : {S R O : Type 0} → Storage S R O → S
-inner_of s = s.inner
+inner_of w = w.inner
+
+abbrev pub rng_of : {S R O : Type 0} → Storage S R O → R
+rng_of w = w.rng
 
 abbrev pub config_of : {S R O : Type 0} → Storage S R O → Config
-config_of s = s.config
+config_of w = w.config
+
+abbrev pub next_write_of : {S R O : Type 0} → Storage S R O → ℕ
+next_write_of w = w.next_write
+
+abbrev pub next_marker_of : {S R O : Type 0} → Storage S R O → ℕ
+next_marker_of w = w.next_marker
+
+-- what is pending of each incarnation, where `place` says which one an origin names
+abbrev pub pending_of : {S R O : Type 0} → (O → Place) → Storage S R O → Place → List Pending
+pending_of place w = list_of place w.lists.all.items
+
+-- no two lists are of one incarnation
+abbrev pub AreApart : {S R O : Type 0} → (O → Place) → Storage S R O → Type 0
+AreApart place w = ArePlacesApart (held place w.lists.all.items)
+
+-- what is pending once the started sync with a marker, where there is one, is finished
+abbrev pub finished_by : Option ℕ → List Pending → List Pending
+finished_by None list = list
+finished_by (Some marker) list = finished marker list
+
+-- the numbers still to be given, and the configuration, stay
+pub record KeepsNumbers {S R O : Type 0} (old new : Storage S R O) : Type 0 where
+  pub next_write : next_write_of new ≡ next_write_of old
+  pub next_marker : next_marker_of new ≡ next_marker_of old
+  pub config : config_of new ≡ config_of old
+
+-- nothing was recorded and nothing retired
+pub record KeepsRecords {S R O : Type 0} (place : O → Place) (old new : Storage S R O) : Type 0 where
+  pub pending : (o : Place) → pending_of place new o ≡ pending_of place old o
+  pub apart : AreApart place old → AreApart place new
+  pub numbers : KeepsNumbers old new
+
+-- a wrapper, over a store with this directory and these durable bytes, stands for files
+pub record Stands {S R O : Type 0} (place : O → Place) (directory : Directory) (durable : Durable) (w : Storage S R O) (files : Files) : Type 0 where
+  pub stands : StandsFor directory durable (pending_of place w) (next_write_of w) (next_marker_of w) files
+  -- no two lists are of one incarnation
+  pub apart : ArePlacesApart (held place w.lists.all.items)
+
+-- whatever files a wrapper stood for, it now stands for them with these entries added to an incarnation's log. The directory stays
+abbrev pub Adds : {S R O : Type 0} → (O → Place) → Directory → Durable → Durable → Storage S R O → Storage S R O → Place → List Entry → Type 0
+Adds place names bytes bytes' old new o entries = (files : Files) → o.number < names.next → Stands place names bytes old files → Stands place names bytes' new (all_logged files o entries)
+
+-- a handle's inner handle, and the size that it tracks
+abbrev pub inside : {B : Type 0} → Blob B → B
+inside blob = blob.inner
+
+abbrev pub size_of : {B : Type 0} → Blob B → ℕ
+size_of blob = blob.size

@@ -76,6 +76,10 @@ impl<S: Durable, B: blob_base::Blob<S>> blob_base::Blob<S> for Blob<B> {
 
     ghost within_room = { λ b. B.within_room b.inner };
 
+    ghost done_within = { λ b. B.done_within b.inner };
+
+    ghost reserve_refused = { λ b. B.reserve_refused b.inner };
+
     fn read_at(
         &self,
         store: &mut S,

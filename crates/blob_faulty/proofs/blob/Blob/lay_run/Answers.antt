@@ -1,0 +1,19 @@
+use Rattle.std.proofs.Common.{◌≡◌, ◌+◌, ℕ, List, refl, sym, subst, ap}
+use Rattle.blob_base.specs.Places.{Place}
+use Rattle.blob_faulty.specs.declared.storage.Storage.{Storage}
+use Rattle.blob_faulty.specs.Lists.{held, IsAt, HasRangesAt}
+use Rattle.blob_faulty.proofs.Adding.{lay_adds}
+use Rattle.blob_faulty.proofs.blob.Blob.lay_run.Goals as goal
+
+pub returns-clause-recorded : goal.returns-clause-recorded
+returns-clause-recorded g c = lay_adds g.S.Durable.place _ _ _ c.args.store.now c.write_unrecorded.new.store _ c.write_unrecorded.new.store.inner c.args.list _ c.args.run.offset c.args.run.bytes c.args.run.copy
+    c.write_unrecorded.ensures.rest c.requires.at c.args.run.some c.args.run.same (c.in_ok-write_unrecorded.ensures.synced refl) c.lay.ensures.lists c.lay.ensures.apart refl refl
+
+pub returns-clause-at : goal.returns-clause-at
+returns-clause-at g c =
+    subst (λ (o : Place). IsAt (held g.S.Durable.place c.lay.new.self.all.items) c.args.list o) (sym c.write_unrecorded.ensures.place)
+    (c.lay.ensures.at _ (subst (λ (m : Storage g.row.S.Denot g.row.R.Denot g.row.S-Origin.Denot). IsAt (held g.S.Durable.place m.lists.all.items) c.args.list (g.B.Blob.place c.args.self.now.inner)) (sym c.write_unrecorded.ensures.rest) c.requires.at))
+
+pub returns-clause-ranges : goal.returns-clause-ranges
+returns-clause-ranges g c n h =
+    c.lay.ensures.room n (subst (λ (m : Storage g.row.S.Denot g.row.R.Denot g.row.S-Origin.Denot). HasRangesAt m.lists.all.items c.args.list (n + 1)) (sym c.write_unrecorded.ensures.rest) h)

@@ -1,0 +1,28 @@
+use Rattle.std.proofs.Common.{rules, refl, ◌≡◌, ◌∙◌, ◌+◌, ap, List, get_or}
+use Rattle.blob_base.specs.Pending.{Pending, laid}
+use Rattle.blob_faulty.proofs.ListSteps.{changed_list, changed_apart, changed_at, found, ranges_at, rooms_of}
+use Rattle.blob_faulty.proofs.lists.Lists.lay.Goals as goal
+
+pub returns-clause-lists : goal.returns-clause-lists
+returns-clause-lists g c o i a =
+    let is = c.args.self.now.all.items in
+    let at : c.index_mut.result.now ≡ get_or is c.args.i c.index_mut.result.now = search rules in
+    changed_list g.S.Durable.place is c.args.i c.index_mut.result.now (record { origin = c.index_mut.result.now.origin; was_current = c.index_mut.result.now.was_current; entries = c.lay.new.entries }) o _ a (search rules) at refl i
+    (c.lay.ensures.views ∙ ap (λ (q : List Pending). laid c.args.offset c.args.bytes q) (found g.S.Durable.place is c.args.i c.index_mut.result.now o (search rules) at i))
+
+pub returns-clause-apart : goal.returns-clause-apart
+returns-clause-apart g c a =
+    let is = c.args.self.now.all.items in
+    let at : c.index_mut.result.now ≡ get_or is c.args.i c.index_mut.result.now = search rules in
+    changed_apart g.S.Durable.place is c.args.i c.index_mut.result.now (record { origin = c.index_mut.result.now.origin; was_current = c.index_mut.result.now.was_current; entries = c.lay.new.entries }) (search rules) at refl a
+
+pub returns-clause-at : goal.returns-clause-at
+returns-clause-at g c o i =
+    let is = c.args.self.now.all.items in
+    let at : c.index_mut.result.now ≡ get_or is c.args.i c.index_mut.result.now = search rules in
+    changed_at g.S.Durable.place is c.args.i c.index_mut.result.now (record { origin = c.index_mut.result.now.origin; was_current = c.index_mut.result.now.was_current; entries = c.lay.new.entries }) o (search rules) at refl i
+
+pub returns-clause-room : goal.returns-clause-room
+returns-clause-room g c n h =
+    let at : c.index_mut.result.now ≡ get_or c.args.self.now.all.items c.args.i c.index_mut.result.now = search rules in
+    ranges_at c.args.self.now.all.items c.args.i n (record { origin = c.index_mut.result.now.origin; was_current = c.index_mut.result.now.was_current; entries = c.lay.new.entries }) (search rules) (c.lay.ensures.room n (rooms_of c.args.self.now.all.items c.args.i (n + 1) c.index_mut.result.now at h))

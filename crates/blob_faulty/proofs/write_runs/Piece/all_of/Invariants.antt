@@ -1,0 +1,7 @@
+use Rattle.std.proofs.Common.{◌≡◌, ℕ, ◌≤◌, map, take, vec_len}
+use Rattle.blob_faulty.specs.Pieces.{run_of}
+use Rattle.blob_faulty.specs.Spans.{pieces}
+use Rattle.blob_faulty.proofs.write_runs.Piece.all_of.Given as goal
+
+abbrev pub invariant-loop-span : goal.invariant-loop-span
+invariant-loop-span l = map run_of l.all.items ≡ pieces l.offset l.bytes.items (take l.span-index l.span-items)
