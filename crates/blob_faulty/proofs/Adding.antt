@@ -29,7 +29,7 @@ pub keeps_adds : {S R O : Type 0} (place : O → Place) (names : Directory) (byt
     bytes' ≡ bytes → KeepsRecords place old new → Adds place names bytes bytes' old new o []
 keeps_adds place names bytes bytes' old new o same k files below s = record {
   stands = numbered_so names bytes' (pending_of place new) _ _ _ _ files k.numbers.next_write k.numbers.next_marker
-    (stands_same names names bytes bytes' (pending_of place old) (pending_of place new) _ _ files refl (at_each same) k.pending s.stands);
+      (stands_same names names bytes bytes' (pending_of place old) (pending_of place new) _ _ files refl (at_each same) k.pending s.stands);
   apart = k.apart s.apart;
 }
 
@@ -53,8 +53,8 @@ pub loose_adds : {S R O : Type 0} (place : O → Place) (names : Directory) (byt
     Adds place names bytes bytes' old new o (Loose w ∷ [])
 loose_adds place names bytes bytes' old new o w some is same lists write marker apart files below s = record {
   stands = numbered_so names bytes' (pending_of place new) _ _ _ _ _ write marker
-    (stands_same names names bytes bytes' (pending_of place new) (pending_of place new) _ _ _ refl (at_each same) (λ _. refl)
-    (stands_plain names bytes (pending_of place old) (pending_of place new) (next_write_of old) (next_marker_of old) files o w some is below lists s.stands));
+      (stands_same names names bytes bytes' (pending_of place new) (pending_of place new) _ _ _ refl (at_each same) (λ _. refl)
+      (stands_plain names bytes (pending_of place old) (pending_of place new) (next_write_of old) (next_marker_of old) files o w some is below lists s.stands));
   apart = apart s.apart;
 }
 
@@ -66,7 +66,7 @@ pub kept_adds : {S R O : Type 0} (place : O → Place) (names : Directory) (byte
     Adds place names bytes bytes' old new o (Kept p b ∷ [])
 kept_adds place names bytes bytes' old new o p b some over lists write marker apart files below s = record {
   stands = numbered_so names bytes' (pending_of place new) _ _ _ _ _ write marker
-    (stands_range names bytes bytes' (pending_of place old) (pending_of place new) (next_write_of old) (next_marker_of old) files o p b some below (at_each over) lists s.stands);
+      (stands_range names bytes bytes' (pending_of place old) (pending_of place new) (next_write_of old) (next_marker_of old) files o p b some below (at_each over) lists s.stands);
   apart = apart s.apart;
 }
 

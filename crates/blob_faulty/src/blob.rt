@@ -18,4 +18,3 @@ impl<B> Blob<B> {
         self.size
     }
 }
-

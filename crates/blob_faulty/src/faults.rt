@@ -127,7 +127,12 @@ fn draw_partial<R: Rng>(config: ResizeConfig, size: u64, len: u64, rng: &mut R) 
 }
 
 /// The draws of a resize from the tracked `size`.
-pub fn draw_resize<R: Rng>(config: Option<ResizeConfig>, size: u64, len: u64, rng: &mut R) -> ResizeFate
+pub fn draw_resize<R: Rng>(
+    config: Option<ResizeConfig>,
+    size: u64,
+    len: u64,
+    rng: &mut R,
+) -> ResizeFate
     ensures { (resize_fate_of result, R.stream rng.new) ≡ resize_fate config size len (R.stream rng.old) }
 {
     let Some(config) = config else {

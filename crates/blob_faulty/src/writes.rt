@@ -56,7 +56,10 @@ impl<S: blob_base::Storage, R> Storage<S, R> {
 
 impl<B> Blob<B> {
     /// The list of the handle's incarnation, with room for one more entry. The only error is want of memory.
-    pub(crate) fn room_for_entry<S: blob_base::Storage, R>(&self, store: &mut Storage<S, R>) -> Result<usize, Error>
+    pub(crate) fn room_for_entry<S: blob_base::Storage, R>(
+        &self,
+        store: &mut Storage<S, R>,
+    ) -> Result<usize, Error>
     where
         B: blob_base::Blob<S>,
         ensures lists { (o : Place) → pending_of S.place store.new o ≡ pending_of S.place store.old o }

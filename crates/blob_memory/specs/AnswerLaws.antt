@@ -114,3 +114,20 @@ answers_kept d e o m n same less offset bytes sync answer h =
     less_at : AllowsWrite d o n offset bytes sync answer → AllowsWrite d o m offset bytes sync answer
     less_at (inl z) = inl (z.0, less_room (is_idle sync bytes) (sync && is_current d o) (offset + length bytes) m n less z.1)
     less_at (inr z) = inr z
+
+refusal_in : Option Refusal → Refusal
+refusal_in None = Memory
+refusal_in (Some r) = r
+
+end_refused : (o : Place) (end : ℕ) (r : Refusal) → Some r ≡ end_refusal o end → r ≡ OffsetOverflow
+unfolding refusal_in
+end_refused o end r = go (is_uncounted (end + o.start)) where
+  go : (u : Bool) → Some r ≡ (if u then Some OffsetOverflow else None) → r ≡ OffsetOverflow
+  go true e = ap refusal_in e
+  go false e = absurd (none-some _ (sym e))
+
+-- room is refused for its end, or for want of memory
+pub reserve_refused : (b : Blob) (s : Storage) (end : ℕ) (r : Refusal) → OrMemory (end_refusal (place b) end) (Some r) → (r ≡ OffsetOverflow) ⊎ (r ≡ Memory)
+unfolding refusal_in
+reserve_refused b s end r (inl h) = inr (ap refusal_in h)
+reserve_refused b s end r (inr h) = inl (end_refused (place b) end r h)

@@ -96,7 +96,7 @@ impl Blob {
 }
 
 impl blob_base::Blob<Storage> for Blob {
-    ghost use Rattle.blob_memory.specs.AnswerLaws.{stale_refused, uninjected, resize_uninjected, within_room};
+    ghost use Rattle.blob_memory.specs.AnswerLaws.{stale_refused, uninjected, resize_uninjected, done_within, reserve_refused, within_room};
     ghost use Rattle.blob_memory.specs.Answers.{OrMemory, AllowsWrite, end_refusal, sync_refusal};
     ghost use Rattle.blob_memory.specs.Store.{place, live, directory, durable, room};
 
@@ -125,6 +125,10 @@ impl blob_base::Blob<Storage> for Blob {
     ghost uninjected = { uninjected };
 
     ghost resize_uninjected = { resize_uninjected };
+
+    ghost done_within = { done_within };
+
+    ghost reserve_refused = { reserve_refused };
 
     ghost within_room = { within_room };
 
