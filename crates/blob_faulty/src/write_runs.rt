@@ -153,40 +153,4 @@ impl<B> Blob<B> {
         }
         Ok(())
     }
-
-    /// The runs in rising order. Where the first is refused, that is the answer, and nothing is recorded.
-    fn lay_all<S: blob_base::Storage, R>(
-        &mut self,
-        store: &mut Storage<S, R>,
-        list: usize,
-        pieces: Vec<Piece>,
-    ) -> Result<(), Error>
-    where
-        B: blob_base::Blob<S>,
-        requires at { IsAt (held S.place store.old.lists.all.items) list (B.place self.old.inner) }
-        requires inside { list < vec_len store.old.lists.all }
-        requires ranges { HasRangesAt store.old.lists.all.items list (vec_len pieces) }
-        requires within { B.is_direct ≡ true → is_current (S.directory store.old.inner) (B.place self.old.inner) ≡ true → All (EndsWithin (B.room self.old.inner store.old.inner)) (runs_in pieces.items) }
-        ensures allowed { allows_laid (B.allows_write self.old.inner store.old.inner) B.is_direct (runs_in pieces.items) (refused result) }
-        ensures live { OnOk result (B.live self.new.inner ≡ all_written (B.live self.old.inner) (runs_in pieces.items)) }
-        ensures size { OnOk result (self.new.size ≡ size_of_runs self.old.size (runs_in pieces.items)) }
-        ensures recorded { OnOk result (Adds S.place (S.directory store.old.inner) (S.durable store.old.inner) (S.durable store.new.inner) store.old store.new (B.place self.old.inner) (kept_runs (runs_in pieces.items))) }
-
-        // a refusal
-        ensures refused { OnErr result (LeavesFirst B.is_direct (B.live self.old.inner) (B.live self.new.inner) self.old.size self.new.size (S.durable store.old.inner) (S.durable store.new.inner) S.place store.old store.new (runs_in pieces.items) (refused result)) }
-        ensures memory { IsMemory result → (B.live self.new.inner ≡ B.live self.old.inner) × (S.durable store.new.inner ≡ S.durable store.old.inner) × (self.new.size ≡ self.old.size) × KeepsRecords S.place store.old store.new }
-        ensures stale { is_current (S.directory store.old.inner) (B.place self.old.inner) ≡ false → S.durable store.new.inner ≡ S.durable store.old.inner }
-
-        ensures directory { S.directory store.new.inner ≡ S.directory store.old.inner }
-        ensures place { B.place self.new.inner ≡ B.place self.old.inner }
-        ensures rng { store.new.rng ≡ store.old.rng }
-        ensures config { store.new.config ≡ store.old.config }
-    {
-        let mut pieces = pieces;
-        let Some(first) = pieces.pop() else {
-            return Ok(());
-        };
-        self.lay_run(store, list, first)?;
-        self.lay_later(store, list, pieces)
-    }
 }

@@ -176,48 +176,6 @@ impl<B> Blob<B> {
 }
 
 impl<B> Blob<B> {
-    /// A plain write, which is pending where the store retains something. An empty one needs no number.
-    pub(crate) fn write_plain<S: blob_base::Storage, R>(
-        &mut self,
-        store: &mut Storage<S, R>,
-        offset: u64,
-        bytes: IoBufs,
-        options: WriteOptions,
-    ) -> Result<(), Error>
-    where
-        B: blob_base::Blob<S>,
-        requires plain { is_sync options ≡ false }
-        requires fits { offset + length bytes < 2 ^ 64 }
-        ensures allowed { or_memory (numbered (lacks_number (is_some (retention store.old.config.write_rate)) store.old.next_write bytes) (B.allows_write self.old.inner store.old.inner offset bytes false)) (refused result) }
-        ensures live { OnOk result (B.live self.new.inner ≡ written (B.live self.old.inner) offset bytes) }
-        ensures direct_live { B.is_direct ≡ true → B.live self.new.inner ≡ live_after false (B.live self.old.inner) offset bytes (refused result) }
-        ensures plain { OnOk result (S.durable store.new.inner ≡ S.durable store.old.inner) }
-        ensures direct_durable { B.is_direct ≡ true → OnErr result (S.durable store.new.inner ≡ S.durable store.old.inner) }
-        ensures stale { is_current (S.directory store.old.inner) (B.place self.old.inner) ≡ false → S.durable store.new.inner ≡ S.durable store.old.inner }
-        ensures memory { IsMemory result → (B.live self.new.inner ≡ B.live self.old.inner) × (S.durable store.new.inner ≡ S.durable store.old.inner) }
-        ensures directory { S.directory store.new.inner ≡ S.directory store.old.inner }
-        ensures place { B.place self.new.inner ≡ B.place self.old.inner }
-        ensures size { OnOk result (self.new.size ≡ max self.old.size (offset + length bytes)) }
-        ensures same_size { OnErr result (self.new.size ≡ self.old.size) }
-        ensures rng { store.new.rng ≡ store.old.rng }
-        ensures config { store.new.config ≡ store.old.config }
-        ensures recorded { OnOk result (Adds S.place (S.directory store.old.inner) (S.durable store.old.inner) (S.durable store.new.inner) store.old store.new (B.place self.old.inner) (loose (retention store.old.config.write_rate) store.old.next_write offset bytes)) }
-        ensures unrecorded { OnErr result (KeepsRecords S.place store.old store.new) }
-    {
-        let Some(config) = retained(store.config.write_rate) else {
-            return self.write_unrecorded(store, offset, bytes, options);
-        };
-        if bytes.is_empty() {
-            return self.write_unrecorded(store, offset, bytes, options);
-        }
-        if store.next_write == u64::MAX {
-            return Err(Error::GenerationsExhausted);
-        }
-        self.write_pending(store, offset, bytes, options, config)
-    }
-}
-
-impl<B> Blob<B> {
     /// A SYNC write: its range is durable at once, and the pending writes give up what it covers.
     pub(crate) fn write_synced<S: blob_base::Storage, R>(
         &mut self,
