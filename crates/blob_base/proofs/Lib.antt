@@ -18,6 +18,7 @@ pub mod NameSteps
 pub mod Needs
 pub mod NoneSide
 pub mod Openings
+pub mod Persistence
 pub mod Placing
 pub mod Reopening
 pub mod Resolutions

@@ -6,12 +6,12 @@ use Rattle.blob_base.specs.declared.version.BlobVersion.{BlobVersion}
 use Rattle.blob_base.specs.Directory.{Directory, File, Raw, Incarnation, data_start}
 use Rattle.blob_base.specs.Durable.{Durable}
 use Rattle.blob_base.specs.Header.{number_at}
-use Rattle.blob_base.specs.Parse.{Accepted, Failure, VersionMismatch, LayoutMismatch, parsed, parsed_in, parsed_whole, region_failure, layout_of, is_accepted}
+use Rattle.blob_base.specs.Parse.{Accepted, Failure, VersionMismatch, LayoutMismatch, parsed, parsed_in, parsed_whole, region_failure, layout_of, is_accepted, every_layout}
 use Rattle.blob_base.specs.Places.{Place}
 use Rattle.blob_base.specs.Resolve.{resolution, found_in, is_torn}
 use Rattle.blob_base.specs.Refusals.{Refusal}
 use Rattle.blob_base.specs.Versions.{is_in_range}
-use Rattle.blob_base.specs.Opening.{Opening, Continues, Begins, Declines, opening, opening_raw, any_layout, IsOpened, Continued, Begun}
+use Rattle.blob_base.specs.Opening.{Opening, Continues, Begins, Declines, opening, opening_raw, IsOpened, Continued, Begun}
 
 abbrev version_in : ℕ → Opening → ℕ
 version_in other (Continues number layout version) = version
@@ -49,7 +49,7 @@ resolution_within blob a = go (nat_lt (length blob) 8) (is_torn blob)
     go false true = tt
     go false false = in_within (layout_of (take 4 blob) (number_at blob 4)) blob (length blob) a
 
-raw_within : (p n raw : List ℕ) (first last : ℕ) (r : Result (Option (ℕ × BlobVersion × ℕ)) Failure) (layout : Layout) (version : ℕ) (live : List ℕ) → first ≤ last → Within (any_layout first last) r → opening_raw p n raw last r ≡ Begins layout version live → (first ≤ version) × (version ≤ last)
+raw_within : (p n raw : List ℕ) (first last : ℕ) (r : Result (Option (ℕ × BlobVersion × ℕ)) Failure) (layout : Layout) (version : ℕ) (live : List ℕ) → first ≤ last → Within (every_layout first last) r → opening_raw p n raw last r ≡ Begins layout version live → (first ≤ version) × (version ≤ last)
 raw_within p n raw first last (Ok None) layout version live some w e = subst (λ (v : ℕ). (first ≤ v) × (v ≤ last)) (ap (version_in 0) e) (some, omega arith)
 raw_within p n raw first last (Ok (Some (size, found, offset))) layout version live some w e = subst (λ (v : ℕ). (first ≤ v) × (v ≤ last)) (ap (version_in 0) e) (range_of first last found.0 w)
 raw_within p n raw first last (Err failure) layout version live some w e = cc
@@ -61,7 +61,7 @@ raw_begins p n raw last (Err failure) number layout version e = cc
 
 continues_within : (p n : List ℕ) (f : Option File) (first last number : ℕ) (layout : Layout) (version : ℕ) → opening p n f first last ≡ Continues number layout version → (first ≤ version) × (version ≤ last)
 continues_within p n None first last number layout version e = cc
-continues_within p n (Some (Raw raw)) first last number layout version e = absurd (raw_begins p n raw last (resolution raw (any_layout first last)) number layout version e)
+continues_within p n (Some (Raw raw)) first last number layout version e = absurd (raw_begins p n raw last (resolution raw (every_layout first last)) number layout version e)
 continues_within p n (Some (Incarnation k l v)) first last number layout version e = go (is_in_range first last v) refl e
   where
     go : (b : Bool) → is_in_range first last v ≡ b → (if b then Continues k l v else Declines (Refusal.BlobVersionMismatch first last v)) ≡ Continues number layout version → (first ≤ version) × (version ≤ last)
@@ -70,7 +70,7 @@ continues_within p n (Some (Incarnation k l v)) first last number layout version
 
 begins_within : (p n : List ℕ) (f : Option File) (first last : ℕ) (layout : Layout) (version : ℕ) (live : List ℕ) → first ≤ last → opening p n f first last ≡ Begins layout version live → (first ≤ version) × (version ≤ last)
 begins_within p n None first last layout version live some e = subst (λ (w : ℕ). (first ≤ w) × (w ≤ last)) (ap (version_in 0) e) (some, omega arith)
-begins_within p n (Some (Raw raw)) first last layout version live some e = raw_within p n raw first last (resolution raw (any_layout first last)) layout version live some (resolution_within raw (any_layout first last)) e
+begins_within p n (Some (Raw raw)) first last layout version live some e = raw_within p n raw first last (resolution raw (every_layout first last)) layout version live some (resolution_within raw (every_layout first last)) e
 begins_within p n (Some (Incarnation k l v)) first last layout version live some e = go (is_in_range first last v) e
   where
     go : (b : Bool) → (if b then Continues k l v else Declines (Refusal.BlobVersionMismatch first last v)) ≡ Begins layout version live → (first ≤ version) × (version ≤ last)

@@ -1,6 +1,7 @@
 pub mod Audit
 pub mod Buffers
 pub mod Bytes
+pub mod Callers
 pub mod Checksum
 pub mod Directory
 pub mod Draws
@@ -20,6 +21,7 @@ pub mod Order
 pub mod Parse
 pub mod PartitionName
 pub mod Pending
+pub mod Persistence
 pub mod Places
 pub mod Rates
 pub mod Refusals

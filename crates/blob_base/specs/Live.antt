@@ -2,6 +2,7 @@
 use Rattle.std.specs.Prelude.{ℕ, List, [], ◌∷◌, Bool, true, false, Option, Some, None}
 use Rattle.blob_base.specs.Bytes.{written}
 use Rattle.blob_base.specs.Refusals.{Refusal, BlobMissing}
+use Rattle.blob_base.specs.Runs.{Run}
 
 -- answered Ok: an empty SYNC write does nothing
 abbrev pub live_written : Bool → List ℕ → ℕ → List ℕ → List ℕ
@@ -12,5 +13,10 @@ live_written false live offset bytes = written live offset bytes
 -- by what was refused: a SYNC write that finds its incarnation gone has changed the live bytes, other refusals leave them
 abbrev pub live_after : Bool → List ℕ → ℕ → List ℕ → Option Refusal → List ℕ
 live_after sync live offset bytes None = live_written sync live offset bytes
-live_after sync live offset bytes (Some (BlobMissing partition name)) = written live offset bytes
+live_after true live offset bytes (Some (BlobMissing partition name)) = written live offset bytes
 live_after sync live offset bytes (Some refusal) = live
+
+-- by the kept runs of a failed write, one after another
+abbrev pub all_written : List ℕ → List Run → List ℕ
+all_written live [] = live
+all_written live (r ∷ rs) = all_written (written live r.0 r.1) rs

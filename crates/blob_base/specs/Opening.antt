@@ -1,11 +1,11 @@
 -- What an open makes of a name's file.
-use Rattle.std.specs.Prelude.{◌≡◌, ℕ, ◌+◌, List, [], Option, Some, None, Result, Ok, Err, drop, if◌then◌else◌, ◌==◌}
+use Rattle.std.specs.Prelude.{◌≡◌, ℕ, List, [], Option, Some, None, Result, Ok, Err, drop, if◌then◌else◌, ◌==◌}
 use Rattle.blob_base.specs.declared.layout.Layout.{Layout}
 use Rattle.blob_base.specs.declared.layout.Layout.TheVariants.{V0, V1}
 use Rattle.blob_base.specs.declared.version.BlobVersion.{BlobVersion}
 use Rattle.blob_base.specs.Directory.{Directory, File, Raw, Incarnation, data_start, directory_made, directory_without, directory_less, place_made}
 use Rattle.blob_base.specs.Durable.{Durable, with_at}
-use Rattle.blob_base.specs.Parse.{Accepted, Failure}
+use Rattle.blob_base.specs.Parse.{Failure, every_layout}
 use Rattle.blob_base.specs.Places.{Place}
 use Rattle.blob_base.specs.Refusals.{Refusal}
 use Rattle.blob_base.specs.Resolve.{resolution, refusal_for}
@@ -23,10 +23,6 @@ pub data Opening : Type 0 where
 abbrev pub layout_from : ℕ → Layout
 layout_from offset = if offset == 8 then V0 else V1
 
--- every layout, and the versions from first to last
-abbrev pub any_layout : ℕ → ℕ → Accepted
-any_layout first last = record { oldest = V0; newest = V1; least = first; greatest = last }
-
 -- a raw file, by what it resolves to
 abbrev pub opening_raw : List ℕ → List ℕ → List ℕ → ℕ → Result (Option (ℕ × BlobVersion × ℕ)) Failure → Opening
 opening_raw p n raw last (Ok None) = Begins V1 last []
@@ -36,7 +32,7 @@ opening_raw p n raw last (Err failure) = Declines (refusal_for p n failure)
 -- what an open for the versions from first to last finds; a file that is missing, or torn at its creation, begins anew
 abbrev pub opening : List ℕ → List ℕ → Option File → ℕ → ℕ → Opening
 opening p n None first last = Begins V1 last []
-opening p n (Some (Raw raw)) first last = opening_raw p n raw last (resolution raw (any_layout first last))
+opening p n (Some (Raw raw)) first last = opening_raw p n raw last (resolution raw (every_layout first last))
 opening p n (Some (Incarnation number layout version)) first last =
     if is_in_range first last version then Continues number layout version
     else Declines (Refusal.BlobVersionMismatch first last version)

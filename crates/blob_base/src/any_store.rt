@@ -1,12 +1,13 @@
 // What the laws say of any store: callers that know nothing else of it.
-ghost use Rattle.std.specs.Prelude.{◌≡◌, ◌≢◌, ◌+◌, ◌≤◌, ℕ, List, [], true, false, Some, None, OnOk, OnErr, IfOk, length, option_copied};
+ghost use Rattle.std.specs.Prelude.{◌≡◌, ◌+◌, ◌≤◌, ℕ, List, [], true, false, Some, None, OnOk, OnErr, IfOk, length, option_copied};
 ghost use Rattle.blob_base.specs.Bytes.{overlay, resized, written};
+ghost use Rattle.blob_base.specs.Callers.{InTurn};
 ghost use Rattle.blob_base.specs.Directory.{is_current};
 ghost use Rattle.blob_base.specs.Durable.{changed, durable_without};
 ghost use Rattle.blob_base.specs.Live.{live_written};
 ghost use Rattle.blob_base.specs.Options.{is_sync};
 ghost use Rattle.blob_base.specs.Opening.{removed};
-ghost use Rattle.blob_base.specs.Refusals.{refused, Memory, IsMemory};
+ghost use Rattle.blob_base.specs.Refusals.{refused};
 
 use crate::{Blob, Durable, Error, IoBufs, Storage, WriteOptions};
 
@@ -19,6 +20,7 @@ pub fn write_and_sync<S: Durable, B: Blob<S>>(
     plain: WriteOptions,
 ) -> Result<(), Error>
     requires { is_sync plain ≡ false }
+    ensures answer { InTurn (B.allows_write blob.old store.old offset bytes false) (λ b s. (B.live b ≡ written (B.live blob.old) offset bytes) × (B.place b ≡ B.place blob.old) × (S.durable s ≡ S.durable store.old) × (S.directory s ≡ S.directory store.old)) B.allows_sync (refused result) }
     ensures live { OnOk result (B.live blob.new ≡ written (B.live blob.old) offset bytes) }
     ensures durable { OnOk result (S.durable store.new ≡ changed (S.durable store.old) (B.place blob.old) (λ _. written (B.live blob.old) offset bytes)) }
     ensures directory { S.directory store.new ≡ S.directory store.old }
@@ -33,6 +35,7 @@ pub fn resize_and_start_sync<S: Storage, B: Blob<S>>(
     blob: &mut B,
     len: u64,
 ) -> Result<(), Error>
+    ensures answer { InTurn (B.allows_resize blob.old store.old len) (λ b s. (B.live b ≡ resized (B.live blob.old) len) × (B.place b ≡ B.place blob.old) × (S.durable s ≡ S.durable store.old) × (S.directory s ≡ S.directory store.old)) B.allows_start_sync (refused result) }
     ensures durable { OnOk result (S.durable store.new ≡ changed (S.durable store.old) (B.place blob.old) (λ _. resized (B.live blob.old) len)) }
     ensures directory { S.directory store.new ≡ S.directory store.old }
 {
@@ -52,6 +55,7 @@ pub fn write_and_remove<S: Storage, B: Blob<S>>(
     name: &[u8],
 ) -> Result<(), Error>
     requires { is_sync synced ≡ true }
+    ensures answer { InTurn (B.allows_write blob.old store.old offset bytes true) (λ (b : B) s. (S.durable s ≡ changed (S.durable store.old) (B.place blob.old) (λ x. overlay x offset bytes)) × (S.directory s ≡ S.directory store.old)) (λ b s. S.allows_remove s partition.now (Some name.now)) (refused result) }
     ensures durable { OnOk result (S.durable store.new ≡ durable_without (changed (S.durable store.old) (B.place blob.old) (λ x. overlay x offset bytes)) partition.now (Some name.now)) }
     ensures directory { OnOk result (S.directory store.new ≡ removed (S.directory store.old) partition.now (Some name.now)) }
 {
@@ -59,7 +63,7 @@ pub fn write_and_remove<S: Storage, B: Blob<S>>(
     store.remove(partition, Some(name))
 }
 
-/// A SYNC write within reserved room by a current handle of a store that injects nothing wants no memory.
+/// A SYNC write within reserved room by a current handle of a store that injects nothing is done.
 pub fn write_within_room<S: Durable, B: Blob<S>>(
     store: &mut S,
     blob: &mut B,
@@ -72,7 +76,12 @@ pub fn write_within_room<S: Durable, B: Blob<S>>(
     requires direct { B.is_direct ≡ true }
     requires current { is_current (S.directory store.old) (B.place blob.old) ≡ true }
     requires inside { offset + length bytes ≤ end }
-    ensures { IfOk result (λ written. refused written ≢ Some Memory) }
+    ensures reserved { OnErr result (B.allows_reserve blob.old store.old end (refused result)) }
+    ensures done { IfOk result (λ done. done ≡ Ok tt) }
+    ensures live { OnOk result (B.live blob.new ≡ live_written true (B.live blob.old) offset bytes) }
+    ensures durable { OnOk result (S.durable store.new ≡ changed (S.durable store.old) (B.place blob.old) (λ x. overlay x offset bytes)) }
+    ensures err { OnErr result ((B.live blob.new ≡ B.live blob.old) × (S.durable store.new ≡ S.durable store.old)) }
+    ensures directory { S.directory store.new ≡ S.directory store.old }
 {
     blob.reserve(store, end)?;
     Ok(blob.write_at(store, offset, bytes, synced))

@@ -4,3 +4,4 @@ pub mod draws;
 pub mod files;
 pub mod overlays;
 pub mod pending;
+pub mod persistence;

@@ -101,6 +101,7 @@ pub trait Blob<S: Durable> {
         ensures allowed { allows_read self.now store.old offset len (refused result) }
         ensures within { OnOk result (offset + len ≤ length (live self.now)) }
         ensures bytes { IfOk result (λ read. read.bytes ≡ take len (drop offset (live self.now))) }
+        ensures buffer { IfOk result (λ read. buf.capacity ≤ read.capacity) }
         ensures directory { S.directory store.new ≡ S.directory store.old }
         ensures durable { S.durable store.new ≡ S.durable store.old };
 
@@ -204,6 +205,14 @@ pub trait Storage: Durable {
 
     ghost allows_scan: { Self → List ℕ → Option Refusal → Type 0 };
 
+    // what else a call leaves, by the store at entry, its answer and the store after it: of what a store keeps besides files
+    ghost leaves_open: { Self → List ℕ → List ℕ → ℕ → ℕ → Option Refusal → Self → Type 0 };
+
+    ghost leaves_remove: { Self → List ℕ → Option (List ℕ) → Option Refusal → Self → Type 0 };
+
+    // what a handle that an open answers keeps of the size that is answered with it
+    ghost keeps_size: { Self.Blob → ℕ → Type 0 };
+
     /// Opens the blob `name` of `partition` for any of `versions`, and creates it where it is missing or torn.
     fn open_versioned(
         &mut self,
@@ -214,15 +223,19 @@ pub trait Storage: Durable {
         requires fresh { range_inclusive_exhausted versions ≡ false }
         requires some { (range_inclusive_start versions).0 ≤ (range_inclusive_end versions).0 }
         ensures allowed { allows_open self.old partition.now name.now (range_inclusive_start versions).0 (range_inclusive_end versions).0 (refused result) }
+        ensures leaves { leaves_open self.old partition.now name.now (range_inclusive_start versions).0 (range_inclusive_end versions).0 (refused result) self.new }
         ensures opened { IfOk result (λ opened. IsOpened (Self.directory self.old) (Self.durable self.old) (Self.directory self.new) (Self.durable self.new) partition.now name.now (range_inclusive_start versions).0 (range_inclusive_end versions).0 (Self.Blob.place opened.0) (Self.Blob.live opened.0) opened.2.0) }
         ensures size { IfOk result (λ opened. opened.1 ≡ length (Self.Blob.live opened.0)) }
+        ensures kept_size { IfOk result (λ opened. keeps_size opened.0 opened.1) }
         ensures err { OnErr result ((Self.directory self.new ≡ Self.directory self.old) × (Self.durable self.new ≡ Self.durable self.old)) };
 
     /// Opens the blob for the default version alone.
     fn open(&mut self, partition: &str, name: &[u8]) -> Result<(Self::Blob, u64), Error>
         ensures allowed { allows_open self.old partition.now name.now 0 0 (refused result) }
+        ensures leaves { leaves_open self.old partition.now name.now 0 0 (refused result) self.new }
         ensures opened { IfOk result (λ opened. IsOpened (Self.directory self.old) (Self.durable self.old) (Self.directory self.new) (Self.durable self.new) partition.now name.now 0 0 (Self.Blob.place opened.0) (Self.Blob.live opened.0) 0) }
         ensures size { IfOk result (λ opened. opened.1 ≡ length (Self.Blob.live opened.0)) }
+        ensures kept_size { IfOk result (λ opened. keeps_size opened.0 opened.1) }
         ensures err { OnErr result ((Self.directory self.new ≡ Self.directory self.old) × (Self.durable self.new ≡ Self.durable self.old)) }
     {
         let versions = DEFAULT_BLOB_VERSION..=DEFAULT_BLOB_VERSION;
@@ -233,6 +246,7 @@ pub trait Storage: Durable {
     /// Removes the blob, or with no name the whole partition.
     fn remove(&mut self, partition: &str, name: Option<&[u8]>) -> Result<(), Error>
         ensures allowed { allows_remove self.old partition.now (option_copied name.entry) (refused result) }
+        ensures leaves { leaves_remove self.old partition.now (option_copied name.entry) (refused result) self.new }
         ensures directory { OnOk result (Self.directory self.new ≡ removed (Self.directory self.old) partition.now (option_copied name.entry)) }
         ensures durable { OnOk result (Self.durable self.new ≡ durable_without (Self.durable self.old) partition.now (option_copied name.entry)) }
         ensures err { OnErr result ((Self.directory self.new ≡ Self.directory self.old) × (Self.durable self.new ≡ Self.durable self.old)) };

@@ -1,0 +1,25 @@
+use Rattle.std.proofs.Common.{rules, ◌≡◌, refl, sym, ◌∙◌, Some, None, Result, Ok, Err, OnOk}
+use Rattle.blob_base.specs.declared.error.Error.{Error}
+use Rattle.blob_base.specs.Callers.{First, Second}
+use Rattle.blob_base.specs.Refusals.{refused, refusal_of}
+use Rattle.blob_base.proofs.any_store.resize_and_start_sync.Goals as goal
+
+pub returns-in_err-resize-clause-answer : goal.returns-in_err-resize-clause-answer
+returns-in_err-resize-clause-answer g c =
+    let e : refused c.from_residual.result ≡ Some (refusal_of c.in_err-resize.field-0.0) = search rules in
+    rw e (First _ c.in_err-resize.ensures.allowed)
+
+pub returns-clause-answer : goal.returns-clause-answer
+returns-clause-answer g c =
+    let left = c.in_ok-resize.ensures in
+    rw c.finish.ensures.outcome (Second c.resize.new.self c.resize.new.store _ left.allowed (left.live, left.place, left.durable, left.directory) c.start_sync-handle.ensures.allowed)
+
+-- what holds after an outcome of Ok holds after the answer that tells it
+if_told : {P : Type 0} (answer outcome : Result (Unit {0}) Error) → refused answer ≡ refused outcome → (refused outcome ≡ None → P) → OnOk answer P
+if_told (Ok x) outcome told so = so (sym told)
+if_told (Err e) outcome told so = tt
+
+pub returns-clause-durable : goal.returns-clause-durable
+returns-clause-durable g c =
+    let left = c.in_ok-resize.ensures in
+    if_told c.finish.result _ c.finish.ensures.outcome (λ done. c.finish.ensures.durable ∙ c.start_sync-handle.ensures.synced done ∙ rw (left.durable, left.place, left.live) refl)
