@@ -11,8 +11,8 @@ use Rattle.blob_base.specs.declared.version.BlobVersion.{BlobVersion}
 use Rattle.blob_base.specs.Directory.{data_start, Raw}
 use Rattle.blob_base.specs.Header.{region}
 use Rattle.blob_base.specs.HeaderLaws.{HasHeader, reopened}
-use Rattle.blob_base.specs.Opening.{Opening, Continues, Begins, Declines, opening, opening_raw, layout_from, any_layout}
-use Rattle.blob_base.specs.Parse.{Accepted, Failure, InvalidChecksum, VersionMismatch, LayoutMismatch, accepted, is_accepted}
+use Rattle.blob_base.specs.Opening.{Opening, Continues, Begins, Declines, opening, opening_raw, layout_from}
+use Rattle.blob_base.specs.Parse.{Accepted, Failure, InvalidChecksum, VersionMismatch, LayoutMismatch, accepted, is_accepted, every_layout}
 use Rattle.blob_base.specs.Refusals.{Refusal, BlobVersionMismatch, IsMemoryError, refusal_of}
 use Rattle.blob_base.specs.declared.error.Error.{Error}
 use Rattle.blob_base.specs.Resolve.{resolution, refusing, refusal_for, Answers}
@@ -38,7 +38,7 @@ from_start V1 = refl
 behind : (layout : Layout) (v : ℕ) (bytes : List ℕ) → drop (data_start layout) (region layout v ++ bytes) ≡ bytes
 behind layout v bytes = ap (λ k. drop k (region layout v ++ bytes)) (sym (length_region layout v)) ∙ drop-append_seam (region layout v) bytes
 
-any_accepted : (layout : Layout) (first last : ℕ) → is_accepted (any_layout first last) layout ≡ true
+any_accepted : (layout : Layout) (first last : ℕ) → is_accepted (every_layout first last) layout ≡ true
 any_accepted V0 first last = refl
 any_accepted V1 first last = refl
 
@@ -51,8 +51,8 @@ pub held_opens : (p n : List ℕ) (b : Bool) (h : Held) (first last : ℕ) → h
     → opening p n (Some (file_when b h)) first last ≡ held_opening (is_in_range first last h.version.0) h b first last
 held_opens p n false h first last fits = refl
 held_opens p n true h first last fits =
-    ap (opening_raw p n raw last) (reopens h.layout h.version.0 h.bytes.items (any_layout first last) fits)
-    ∙ go (is_accepted (any_layout first last) h.layout) (is_in_range first last h.version.0) (any_accepted h.layout first last)
+    ap (opening_raw p n raw last) (reopens h.layout h.version.0 h.bytes.items (every_layout first last) fits)
+    ∙ go (is_accepted (every_layout first last) h.layout) (is_in_range first last h.version.0) (any_accepted h.layout first last)
   where
     raw : List ℕ
     raw = region h.layout h.version.0 ++ h.bytes.items
@@ -89,12 +89,12 @@ declined p n raw last (Ok y) x e = absurd (false≢true (sym (ap is_answer e)))
 declined p n raw last (Err f) x e = ap declines e
 
 module _ (layouts : RangeInclusive Layout) (versions : RangeInclusive BlobVersion) (oldest : range_inclusive_start layouts ≡ V0) (newest : range_inclusive_end layouts ≡ V1) where
-  any : accepted layouts versions ≡ any_layout (range_inclusive_start versions).0 (range_inclusive_end versions).0
+  any : accepted layouts versions ≡ every_layout (range_inclusive_start versions).0 (range_inclusive_end versions).0
   any = λ i. record { oldest = oldest i; newest = newest i; least = (range_inclusive_start versions).0; greatest = (range_inclusive_end versions).0 }
 
   -- what a raw file that is accepted, or to be created, resolves to
   pub resolves_to : (p n raw : List ℕ) (x : Answer) → refusing p n (resolution raw (accepted layouts versions)) ≡ Ok x
-      → resolution raw (any_layout (range_inclusive_start versions).0 (range_inclusive_end versions).0) ≡ Ok x
+      → resolution raw (every_layout (range_inclusive_start versions).0 (range_inclusive_end versions).0) ≡ Ok x
   resolves_to p n raw x e = ap (resolution raw) (sym any) ∙ answered p n (resolution raw (accepted layouts versions)) x e
 
   -- what one that isn't accepted opens to

@@ -159,6 +159,7 @@ impl blob_base::Blob<Storage> for Blob {
         ensures allowed { refused result ≡ read_refusal (place self.now) (live self.now) offset len }
         ensures within { OnOk result (offset + len ≤ length (live self.now)) }
         ensures bytes { IfOk result (λ read. read.bytes ≡ take len (drop offset (live self.now))) }
+        ensures buffer { IfOk result (λ read. buf.capacity ≤ read.capacity) }
         ensures directory { directory store.new ≡ directory store.old }
         ensures durable { durable store.new ≡ durable store.old }
     {

@@ -1,5 +1,5 @@
 //! Blobs as they lie on the disk, by name, and the checksum over all of them.
-ghost use Rattle.std.specs.Prelude.{◌≡◌, Some, OnOk, OnErr, IfOk};
+ghost use Rattle.std.specs.Prelude.{◌≡◌, Some, IsSome, IsOk, OnOk, OnErr, IfOk};
 ghost use Rattle.blob_base.specs.Audit.{IsListing, audit};
 ghost use Rattle.blob_base.specs.Checksum.{crc32c};
 ghost use Rattle.blob_base.specs.Durable.{durable_without};
@@ -43,7 +43,7 @@ impl Storage {
     ///
     /// # Errors
     ///
-    /// `Memory`, which leaves everything as it was.
+    /// `Memory`, which leaves everything as it was; none where the name has a file.
     pub fn set_raw_blob(
         &mut self,
         partition: &str,
@@ -53,6 +53,7 @@ impl Storage {
         ensures directory { OnOk result (directory self.new ≡ directory_raw (directory self.old) partition.now name.now bytes.items) }
         ensures durable { OnOk result (durable self.new ≡ durable_without (durable self.old) partition.now (Some name.now)) }
         ensures memory { OnErr result (IsMemory result) }
+        ensures succeeds { IsSome ((directory self.old).file partition.now name.now) → IsOk result }
         ensures err { OnErr result (directory self.new ≡ directory self.old) }
         ensures err_durable { OnErr result (durable self.new ≡ durable self.old) }
     {

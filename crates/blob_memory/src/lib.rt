@@ -3,14 +3,14 @@
 
 mod audit;
 pub mod blob;
-pub mod contents;
-pub mod found;
+mod contents;
+mod found;
 pub mod images;
-pub mod item;
-pub mod live;
+mod item;
+mod live;
 pub mod origin;
-pub mod overlay;
-pub mod partitions;
+mod overlay;
+mod partitions;
 pub mod retain;
 pub mod snapshot;
 pub mod storage;

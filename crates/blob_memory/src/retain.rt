@@ -76,6 +76,7 @@ impl Storage {
         ensures durable { durable self.new ≡ durable self.old }
         ensures directory { directory self.new ≡ directory self.old }
         ensures room { (o : Place) (n : ℕ) → HasCrashRoom self.old o n → HasCrashRoom self.new o n }
+        ensures succeeds { len + origin.now.start < 2 ^ 64 → HasCrashRoom self.old origin.now len → IsOk result }
     {
         let len = logical_end(origin.data_offset(), len, 0)?;
         self.contents.reserve_crash(origin, len)?;
@@ -100,6 +101,7 @@ impl Blob {
         ensures err { OnErr result (durable store.new ≡ durable store.old) }
         ensures directory { directory store.new ≡ directory store.old }
         ensures room { (o : Place) (n : ℕ) → HasCrashRoom store.old o n → HasCrashRoom store.new o n }
+        ensures succeeds { offset + (place self.now).start + length bytes.now < 2 ^ 64 → HasCrashRoom store.old (place self.now) (reach offset (length bytes.now) (picked keep.now)) → IsOk result }
     {
         store.retain_write(&self.origin, offset, bytes, keep)
     }
@@ -111,6 +113,7 @@ impl Blob {
         ensures err { OnErr result (durable store.new ≡ durable store.old) }
         ensures directory { directory store.new ≡ directory store.old }
         ensures room { (o : Place) (n : ℕ) → HasCrashRoom store.old o n → HasCrashRoom store.new o n }
+        ensures succeeds { len + (place self.now).start < 2 ^ 64 → HasCrashRoom store.old (place self.now) len → IsOk result }
     {
         store.retain_resize(&self.origin, len)
     }

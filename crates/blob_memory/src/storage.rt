@@ -122,6 +122,12 @@ impl blob_base::Storage for Storage {
 
     ghost allows_scan = { λ s p. OrMemory (partition_refusal (directory s) p) };
 
+    ghost leaves_open = { λ before p n first last answer after. Unit {0} };
+
+    ghost leaves_remove = { λ before p n answer after. Unit {0} };
+
+    ghost keeps_size = { λ blob size. Unit {0} };
+
     fn open_versioned(
         &mut self,
         partition: &str,
