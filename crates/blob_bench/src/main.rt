@@ -1,15 +1,21 @@
-//! Times the checksum over 64 MiB beside a byte table's, and 100,000 resolutions of a region.
+//! Times the checksum over 64 MiB beside a byte table's, 100,000 resolutions of a region, and the memory store: its calls
+//! by name among few and among many names, small writes and reads of a large blob, and the digest of 64 MiB.
 //! The times go to standard error.
 #![tactic(auto)]
 
 mod byte_table;
+mod store;
 
 use anyhow::Result;
 use blob_base::{BlobVersion, Crc32, Header, Layout, resolve};
 use std::alloc::Global;
-use std::time::Instant;
+use std::time::{Clock, Instant};
 
 const RESOLUTIONS: u32 = 100_000;
+
+const NAMES: [u32; 2] = [1_000, 10_000];
+
+const WRITES: u32 = 10_000;
 
 fn main(rt: HostRuntime) -> Result<()> {
     let bytes = noise(rt.alloc())?;
@@ -25,6 +31,26 @@ fn main(rt: HostRuntime) -> Result<()> {
     let valid = resolutions(rt.alloc())?;
     let time = start.elapsed(&rt)?.as_micros();
     eprintln!(rt; "{RESOLUTIONS} resolutions of a region, {valid} valid: {time} us")?;
+    time_store(&rt, rt.alloc(), bytes)
+}
+
+// The memory store: by name, by bytes, and its digest.
+fn time_store<R: Eprint + Clock>(rt: &R, alloc: Global, bytes: Vec<u8>) -> Result<()> {
+    for count in NAMES {
+        let times = store::names(rt, alloc, count)?;
+        let (created, opened, removed) = (times.created, times.opened, times.removed);
+        eprintln!(rt;
+            "{count} names: created {created}, opened {opened}, removed {removed} ns a name"
+        )?;
+    }
+    let times = store::bytes(rt, alloc, WRITES)?;
+    let (written, synced) = (times.written, times.synced);
+    eprintln!(rt; "256 bytes of 1 MiB: written {written}, durably {synced} ns a write")?;
+    let (read, read_into) = (times.read, times.read_into);
+    eprintln!(rt; "256 bytes of 1 MiB: read {read}, into a buffer {read_into} ns a read")?;
+    let (digest, time) = store::audit(rt, alloc, bytes)?;
+    let digest = u32::from_be_bytes(digest);
+    eprintln!(rt; "digest of 64 MiB: {digest:08x} in {time} us")?;
     Ok(())
 }
 
