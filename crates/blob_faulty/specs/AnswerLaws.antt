@@ -1,31 +1,49 @@
 -- What a wrapper's handles never answer.
-use Rattle.std.specs.Prelude.{◌≡◌, ◌≢◌, ◌⊎◌, ℕ, Bool, true, false, List, [], ◌∷◌, Option, Some, None, IsSome, MatchBool}
-use Rattle.std.proofs.Common.{inl, inr}
+use Rattle.std.specs.Prelude.{◌≡◌, ◌≢◌, ℕ, ◌+◌, ◌≤◌, Bool, true, false, List, [], ◌∷◌, length, Option, Some, None, is_some, MatchBool}
+use Rattle.std.proofs.Common.{inl, inr, refl, arith}
 use Rattle.std.proofs.lemmas.Bool.{false≢true}
 use Rattle.rand_core.specs.Stream.{Stream}
-use Rattle.blob_base.specs.Refusals.{Refusal, Memory, Injected, WriteFailed, GenerationsExhausted}
-use Rattle.blob_base.specs.Runs.{Run, runs}
+use Rattle.blob_base.specs.Refusals.{Refusal, OffsetOverflow, Memory}
+use Rattle.blob_base.specs.Runs.{runs}
 use Rattle.blob_faulty.specs.declared.config.Config.{Config}
-use Rattle.blob_faulty.specs.Answers.{Allowed, injected_for, numbered, lacks_number, allows_runs, allows_fate, allows_write, last_end}
-use Rattle.blob_faulty.specs.Faults.{WriteFate, Done, Unsynced, Failed, write_fate, is_nothing, is_uncounted}
+use Rattle.blob_faulty.specs.Answers.{Allowed, or_memory, injected_for, numbered, lacks_number, allows_runs, allows_fate, allows_write}
+use Rattle.blob_faulty.specs.Faults.{WriteFate, Done, Unsynced, Failed, write_fate, retention, is_uncounted}
 
 -- a write whose sync fails isn't answered Ok
 pub injected_none : (inner : Allowed) → injected_for inner None → ⊥
 injected_none inner (inl a) = cc
 injected_none inner (inr a) = false≢true a.0
 
-numbered_none : (lacks : Bool) (inner : Allowed) → (inner None → ⊥) → numbered lacks inner None → ⊥
+pub numbered_none : (lacks : Bool) (inner : Allowed) → (inner None → ⊥) → numbered lacks inner None → ⊥
 numbered_none true inner never a = cc
 numbered_none false inner never a = never a
 
--- a failed write isn't answered Ok
-runs_none : (writes : ℕ → List ℕ → Bool → Allowed) (reserves : ℕ → Allowed) (direct : Bool) (rs : List Run) → allows_runs writes reserves direct rs None → ⊥
-runs_none writes reserves direct [] a = cc
-runs_none writes reserves direct (r ∷ rs) (inl a) = injected_none (writes r.0 r.1 true) a
-runs_none writes reserves direct (r ∷ rs) (inr (inl a)) = false≢true a.0
-runs_none writes reserves direct (r ∷ rs) (inr (inr a)) = cc
-
+-- a SYNC write that the inner store doesn't answer Ok
 pub fate_none : (fate : WriteFate) (writes : ℕ → List ℕ → Bool → Allowed) (reserves : ℕ → Allowed) (direct retained : Bool) (next offset : ℕ) (bytes : List ℕ) → (writes offset bytes true None → ⊥) → allows_fate fate writes reserves direct retained next true offset bytes None → ⊥
 fate_none Done writes reserves direct retained next offset bytes never a = never a
 fate_none Unsynced writes reserves direct retained next offset bytes never a = numbered_none (lacks_number retained next bytes) (injected_for (writes offset bytes false)) (injected_none (writes offset bytes false)) a
-fate_none (Failed kept) writes reserves direct retained next offset bytes never a = runs_none writes reserves direct (runs offset bytes kept) a
+fate_none (Failed kept) writes reserves direct retained next offset bytes never a = injected_none (allows_runs writes reserves direct (runs offset bytes kept)) a
+
+pub memory_none : (inner : Allowed) → (inner None → ⊥) → or_memory inner None → ⊥
+memory_none inner never (inl a) = cc
+memory_none inner never (inr a) = never a
+
+pub uncounted_none : (uncounted : Bool) (inner : Allowed) → (inner None → ⊥) → MatchBool uncounted (◌≡◌ {A = Option Refusal} None (Some OffsetOverflow)) (inner None) → ⊥
+uncounted_none true inner never a = cc
+uncounted_none false inner never a = never a
+
+-- the same, by the draws
+pub write_none : (writes : ℕ → List ℕ → Bool → Allowed) (reserves : ℕ → Allowed) (direct : Bool) (config : Config) (next : ℕ) (stream : Stream) (offset : ℕ) (bytes : List ℕ) → bytes ≢ [] →
+    (writes offset bytes true None → ⊥) → allows_write writes reserves direct config next stream offset bytes true None → ⊥
+write_none writes reserves direct config next stream offset [] some never a = some refl
+write_none writes reserves direct config next stream offset (b ∷ bytes) some never a =
+    uncounted_none (is_uncounted offset (b ∷ bytes)) (or_memory (allows_fate (write_fate config true offset (length (b ∷ bytes)) stream).0 writes reserves direct (is_some (retention config.write_rate)) next true offset (b ∷ bytes)))
+    (memory_none (allows_fate (write_fate config true offset (length (b ∷ bytes)) stream).0 writes reserves direct (is_some (retention config.write_rate)) next true offset (b ∷ bytes))
+    (fate_none (write_fate config true offset (length (b ∷ bytes)) stream).0 writes reserves direct (is_some (retention config.write_rate)) next offset (b ∷ bytes) never))
+    a
+
+-- a SYNC write of no bytes is answered Ok
+pub write_empty : (writes : ℕ → List ℕ → Bool → Allowed) (reserves : ℕ → Allowed) (direct : Bool) (config : Config) (next : ℕ) (stream : Stream) (offset : ℕ) (bytes : List ℕ) → offset + length bytes ≤ 0 →
+    allows_write writes reserves direct config next stream offset bytes true (Some Memory) → ⊥
+write_empty writes reserves direct config next stream offset [] fits a = cc
+write_empty writes reserves direct config next stream offset (b ∷ bytes) fits a = absurd (omega arith)

@@ -32,17 +32,25 @@ abbrev pub numbered : Bool → Allowed → Allowed
 numbered true inner answer = answer ≡ Some GenerationsExhausted
 numbered false inner answer = inner answer
 
--- the end of the last run
-abbrev pub last_end : Run → List Run → ℕ
-last_end r [] = r.0 + length r.1
-last_end r (s ∷ rs) = last_end s rs
+-- one call and then another: what the first refuses is the answer
+abbrev pub one_then : Allowed → Allowed → Allowed
+one_then first second answer = (IsSome answer × first answer) ⊎ (first None × second answer)
 
--- a failed write lays each run as a SYNC write of the inner blob. Room is asked for up to the last run's end; where the
--- inner store refuses the first run, that is the answer, where a later one, it is WriteFailed
+-- the end of the last run, or that of what is before them
+abbrev pub last_end : ℕ → List Run → ℕ
+last_end before [] = before
+last_end before (r ∷ rs) = last_end (r.0 + length r.1) rs
+
+-- Runs are laid as SYNC writes of the inner blob. What refuses the first is the answer; a later one that is refused is
+-- answered WriteFailed, and a store that injects nothing refuses none of these
+abbrev pub allows_laid : (ℕ → List ℕ → Bool → Allowed) → Bool → List Run → Allowed
+allows_laid writes direct [] answer = answer ≡ None
+allows_laid writes direct (r ∷ rs) answer = writes r.0 r.1 true answer ⊎ ((answer ≡ Some WriteFailed) × (direct ≡ false) × (rs ≢ []) × writes r.0 r.1 true None)
+
+-- before the first of them, room is asked for up to the last one's end
 abbrev pub allows_runs : (ℕ → List ℕ → Bool → Allowed) → (ℕ → Allowed) → Bool → List Run → Allowed
-allows_runs writes reserves direct [] answer = answer ≡ Some Injected
-allows_runs writes reserves direct (r ∷ rs) answer =
-    injected_for (writes r.0 r.1 true) answer ⊎ ((IsSome answer × reserves (last_end r rs) answer) ⊎ ((answer ≡ Some WriteFailed) × (direct ≡ false) × (rs ≢ [])))
+allows_runs writes reserves direct [] answer = answer ≡ None
+allows_runs writes reserves direct (r ∷ rs) answer = one_then (reserves (last_end 0 (r ∷ rs))) (allows_laid writes direct (r ∷ rs)) answer
 
 abbrev pub allows_done : (ℕ → List ℕ → Bool → Allowed) → Bool → ℕ → Bool → ℕ → List ℕ → Allowed
 allows_done writes retained next true offset bytes answer = writes offset bytes true answer
@@ -51,7 +59,7 @@ allows_done writes retained next false offset bytes answer = numbered (lacks_num
 abbrev pub allows_fate : WriteFate → (ℕ → List ℕ → Bool → Allowed) → (ℕ → Allowed) → Bool → Bool → ℕ → Bool → ℕ → List ℕ → Allowed
 allows_fate Done writes reserves direct retained next sync offset bytes answer = allows_done writes retained next sync offset bytes answer
 allows_fate Unsynced writes reserves direct retained next sync offset bytes answer = numbered (lacks_number retained next bytes) (injected_for (writes offset bytes false)) answer
-allows_fate (Failed kept) writes reserves direct retained next sync offset bytes answer = allows_runs writes reserves direct (runs offset bytes kept) answer
+allows_fate (Failed kept) writes reserves direct retained next sync offset bytes answer = injected_for (allows_runs writes reserves direct (runs offset bytes kept)) answer
 
 -- `writes` and `reserves` are what the inner blob allows, `direct` whether it injects nothing
 abbrev pub allows_write : (ℕ → List ℕ → Bool → Allowed) → (ℕ → Allowed) → Bool → Config → ℕ → Stream → ℕ → List ℕ → Bool → Allowed

@@ -1,9 +1,8 @@
 -- Runs of a failed write that are still to be laid.
-use Rattle.std.specs.Prelude.{◌≡◌, ◌≢◌, ◌⊎◌, ℕ, ◌+◌, ◌≤◌, Bool, true, false, List, [], ◌∷◌, length, map, reverse, Option, Some, None}
+use Rattle.std.specs.Prelude.{ℕ, ◌+◌, ◌≤◌, true, List, [], ◌∷◌, length, map, reverse, Option}
 use Rattle.blob_base.specs.Live.{live_after}
-use Rattle.blob_base.specs.Refusals.{Refusal, WriteFailed}
+use Rattle.blob_base.specs.Refusals.{Refusal}
 use Rattle.blob_base.specs.Runs.{Run}
-use Rattle.blob_faulty.specs.Answers.{Allowed}
 use Rattle.blob_faulty.specs.declared.write_runs.Piece.{Piece}
 
 abbrev pub run_of : Piece → Run
@@ -15,11 +14,6 @@ runs_in ps = map run_of (reverse ps)
 
 abbrev pub EndsWithin : ℕ → Run → Type 0
 EndsWithin end r = r.0 + length r.1 ≤ end
-
--- the first run may be refused as a SYNC write is; a later one's refusal is WriteFailed, and none is by a store that injects nothing
-abbrev pub allows_laid : (ℕ → List ℕ → Bool → Allowed) → Bool → List Run → Allowed
-allows_laid writes direct [] answer = answer ≡ None
-allows_laid writes direct (r ∷ rs) answer = writes r.0 r.1 true answer ⊎ ((answer ≡ Some WriteFailed) × (direct ≡ false) × (rs ≢ []))
 
 -- the live bytes where the first run was refused
 abbrev pub first_after : List ℕ → List Run → Option Refusal → List ℕ

@@ -1,15 +1,16 @@
--- What a call records in the log, and what it makes of the handle.
+-- What a call records in the log, and what it makes of the handle, over a store that injects nothing. Another one may refuse
+-- a call with some of it done, and its `Injected` is told apart from the wrapper's by nothing.
 use Rattle.std.specs.Prelude.{ℕ, ◌+◌, max, Bool, true, false, List, [], ◌∷◌, length, Option, Some, None, if◌then◌else◌}
 use Rattle.rand_core.specs.Stream.{Stream}
 use Rattle.blob_base.specs.Bytes.{written, resized}
-use Rattle.blob_base.specs.Live.{live_written, live_after}
+use Rattle.blob_base.specs.Live.{live_after}
 use Rattle.blob_base.specs.Log.{Entry, Kept, Loose, Resized}
 use Rattle.blob_base.specs.Modes.{Mode}
 use Rattle.blob_base.specs.Rates.{Rate}
 use Rattle.blob_base.specs.Refusals.{Refusal, Injected, BlobMissing}
 use Rattle.blob_base.specs.Runs.{Run, runs, kept_runs}
 use Rattle.blob_faulty.specs.declared.config.Config.{Config}
-use Rattle.blob_faulty.specs.Faults.{WriteFate, Done, Unsynced, Failed, ResizeFate, Resizes, Stays, Reaches, write_fate, retention, is_nothing, is_uncounted}
+use Rattle.blob_faulty.specs.Faults.{WriteFate, Done, Unsynced, Failed, ResizeFate, Resizes, Reaches, write_fate, retention, is_nothing, is_uncounted}
 
 -- a write that a crash may lose, with the mode and the rate of its issue
 abbrev pub loose : Option (Mode × Rate) → ℕ → ℕ → List ℕ → List Entry
@@ -42,7 +43,7 @@ recorded_resize (Resizes true) len None = Resized len ∷ []
 recorded_resize (Reaches size) len (Some Injected) = Resized size ∷ []
 recorded_resize fate len answer = []
 
--- Live bytes: those of a handle of a store that injects nothing, under the wrapper.
+-- The live bytes of the inner handle.
 
 abbrev pub all_written : List ℕ → List Run → List ℕ
 all_written live [] = live

@@ -2,6 +2,7 @@
 use Rattle.std.specs.Prelude.{ℕ, Bool, List, map, Vec}
 use Rattle.std.specs.Global.{Global}
 use Rattle.blob_base.specs.Draws.{Row}
+use Rattle.std.specs.List.Sorted.{IsNonDecreasingBy}
 use Rattle.blob_faulty.specs.declared.selections.Selections.{Selections}
 
 -- a write's number and its choices
@@ -17,3 +18,7 @@ rows_of selections = selections.rows.items
 -- the table that a crash answers
 abbrev pub table_of : Selections → List Row
 table_of selections = rows_in (rows_of selections)
+
+-- their numbers don't fall
+abbrev pub AreNumbered : List (ℕ × Vec Bool Global) → Type 0
+AreNumbered rows = IsNonDecreasingBy (λ (row : ℕ × Vec Bool Global). row.0) rows

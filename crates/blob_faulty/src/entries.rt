@@ -1,6 +1,7 @@
 //! What is pending of one incarnation, in issue order.
-ghost use Rattle.std.specs.Prelude.{◌≡◌, ◌<◌, ◌≤◌, ◌+◌, ◌^◌, ℕ, List, ◌++◌, ◌∷◌, [], All, OnOk, map, drop, length, vec_len, vec_capacity};
-ghost use Rattle.blob_base.specs.Pending.{cut_by, laid, has_barrier, finished};
+ghost use Rattle.std.specs.Prelude.{◌≡◌, ◌<◌, ◌≤◌, ◌+◌, ◌^◌, ℕ, List, ◌++◌, ◌∷◌, [], All, OnOk, map, drop, length, vec_len, vec_capacity, true};
+ghost use Rattle.blob_base.specs.Pending.{cut_by, laid, has_barrier, finished, ends};
+ghost use Rattle.blob_faulty.specs.Replays.{unmarked, widest};
 ghost use Rattle.blob_faulty.specs.Views.{view, views, pared_by, HasRooms, HasRoom};
 
 use crate::entry::{DurableRange, Entry};
@@ -65,7 +66,7 @@ fn cover_all(entries: &mut Vec<Entry>, start: u64, len: u64)
 }
 
 /// Whether a resize or a queued range is pending.
-fn has_barrier(entries: &[Entry]) -> bool
+pub fn has_barrier(entries: &[Entry]) -> bool
     ensures { result ≡ has_barrier (views entries.now) }
 {
     for entry in entries {
@@ -87,17 +88,25 @@ pub fn push(entries: &mut Vec<Entry>, entry: Entry)
     entries.push(entry).unwrap();
 }
 
-/// A durable range: the writes give up what it covers, and it is queued where a crash would undo it.
-pub fn lay(entries: &mut Vec<Entry>, offset: u64, bytes: IoBufs)
-    requires fits { offset + length bytes < 2 ^ 64 }
+/// A durable range: the writes give up what it covers, and it is queued where a crash would undo it. Only there its bytes
+/// have to be in `copy`.
+pub fn lay(entries: &mut Vec<Entry>, offset: u64, len: u64, copy: IoBufs)
+    requires fits { offset + len < 2 ^ 64 }
+    requires copied { length copy ≤ len }
     requires room { HasRooms 1 entries.old }
-    ensures views { views entries.new.items ≡ laid offset bytes (views entries.old.items) }
+    ensures views { (bytes : List ℕ) → length bytes ≡ len → (has_barrier (views entries.old.items) ≡ true → copy ≡ bytes) → views entries.new.items ≡ laid offset bytes (views entries.old.items) }
     ensures room { (n : ℕ) → HasRooms (n + 1) entries.old → HasRooms n entries.new }
 {
     let queued = has_barrier(entries.as_slice());
-    cover_all(entries, offset, bytes.remaining() as u64);
+    cover_all(entries, offset, len);
     if queued {
-        push(entries, Entry::Range(DurableRange { offset, bytes }));
+        push(
+            entries,
+            Entry::Range(DurableRange {
+                offset,
+                bytes: copy,
+            }),
+        );
     }
 }
 
@@ -119,4 +128,40 @@ pub fn finish(entries: &mut Vec<Entry>, marker: u64)
             return;
         }
     }
+}
+
+/// The entries behind the last marker.
+pub fn unmarked(entries: &[Entry]) -> &[Entry]
+    ensures { views result.now ≡ unmarked (views entries.now) }
+{
+    let mut start = entries.len();
+    while start > 0 {
+        if entries[start - 1].is_marker() {
+            return &entries[start..];
+        }
+        start -= 1;
+    }
+    entries
+}
+
+/// The greatest logical length that an entry asks for.
+pub fn end(entries: &[Entry]) -> u64
+    ensures { result ≡ ends (views entries.now) }
+{
+    let mut end = 0;
+    for entry in entries {
+        end = end.max(entry.end());
+    }
+    end
+}
+
+/// The most bytes that one entry lays.
+pub fn widest(entries: &[Entry]) -> usize
+    ensures { result ≡ widest (views entries.now) }
+{
+    let mut most = 0;
+    for entry in entries {
+        most = most.max(entry.width());
+    }
+    most
 }

@@ -26,7 +26,8 @@ pub enum Entry {
 
 impl Entry {
     ghost use Rattle.std.specs.Prelude.{◌≡◌, ℕ, OnOk};
-    ghost use Rattle.blob_base.specs.Pending.{is_marker, is_barrier, is_mark};
+    ghost use Rattle.blob_base.specs.Pending.{is_marker, is_barrier, is_mark, end_of};
+    ghost use Rattle.blob_faulty.specs.Replays.{width};
     ghost use Rattle.blob_faulty.specs.Views.{view, pared_by, is_left, HasRoom};
 
     /// A write gives up what a durable range covers.
@@ -88,6 +89,29 @@ impl Entry {
         match self {
             Entry::Marker(number) => *number == marker,
             _ => false,
+        }
+    }
+
+    /// The logical length that it asks for.
+    pub fn end(&self) -> u64
+        ensures { result ≡ end_of (view self.now) }
+    {
+        match self {
+            Entry::Write(write) => write.end(),
+            Entry::Resize(len) => *len,
+            Entry::Range(range) => range.offset + range.bytes.remaining() as u64,
+            Entry::Marker(_) => 0,
+        }
+    }
+
+    /// How many bytes it lays.
+    pub fn width(&self) -> usize
+        ensures { result ≡ width (view self.now) }
+    {
+        match self {
+            Entry::Write(write) => write.bytes.remaining(),
+            Entry::Range(range) => range.bytes.remaining(),
+            _ => 0,
         }
     }
 }

@@ -3,10 +3,11 @@ ghost use Rattle.std.specs.Prelude.{◌≡◌, ◌<◌, ◌+◌, ◌^◌, Some, 
 ghost use Rattle.blob_base.specs.Refusals.{IsMemory};
 ghost use Rattle.blob_faulty.specs.Faults.{draw, retention, kept_by, write_failure, failed, write_fate, partly, resize_fate, size_between};
 ghost use Rattle.blob_base.specs.Rates.{sampled};
-ghost use Rattle.blob_faulty.specs.Fates.{write_fate_of, resize_fate_of};
+ghost use Rattle.blob_faulty.specs.Fates.{write_fate_of, resize_fate_of, IsSized};
 
 use crate::config::{Config, ResizeConfig, WriteConfig};
 use crate::selection::draw_positions;
+use blob_base::laws::draws::selections;
 use blob_base::{Error, Probability};
 use rand::RngExt;
 use rand_core::Rng;
@@ -73,12 +74,14 @@ fn draw_kept<R: Rng>(
 ) -> Result<WriteFate, Error>
     requires { offset + len < 2 ^ 64 }
     ensures ok { IfOk result (λ fate. (write_fate_of fate, R.stream rng.new) ≡ failed (retention config) offset len (R.stream rng.old)) }
+    ensures sized { IfOk result (λ fate. IsSized len (write_fate_of fate)) }
     ensures memory { OnErr result (IsMemory result) }
 {
     let Some(config) = retained(config) else {
         return Ok(WriteFate::Failed(Vec::new(alloc)));
     };
     let kept = draw_positions(alloc, config.mode, config.retention_rate, offset, len, rng)?;
+    selections();
     Ok(WriteFate::Failed(kept))
 }
 
@@ -93,6 +96,7 @@ pub fn draw_write<R: Rng>(
 ) -> Result<WriteFate, Error>
     requires { offset + len < 2 ^ 64 }
     ensures ok { IfOk result (λ fate. (write_fate_of fate, R.stream rng.new) ≡ write_fate config.now sync offset len (R.stream rng.old)) }
+    ensures sized { IfOk result (λ fate. IsSized len (write_fate_of fate)) }
     ensures memory { OnErr result (IsMemory result) }
 {
     if draws(write_rate(config.write_rate), rng) {

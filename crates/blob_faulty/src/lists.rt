@@ -1,16 +1,17 @@
 //! The pending lists, one for each incarnation that has one.
-ghost use Rattle.std.specs.Prelude.{◌≡◌, ◌<◌, ◌≤◌, ◌+◌, ◌^◌, ℕ, List, [], ◌∷◌, ◌++◌, length, map, not, false, OnOk, IfOk, IfSome, IfNone, cond, vec_len};
+ghost use Rattle.std.specs.Prelude.{◌≡◌, ◌<◌, ◌≤◌, ◌+◌, ◌^◌, ℕ, List, [], ◌∷◌, ◌++◌, length, map, not, false, OnOk, IfOk, IfSome, IfNone, cond, vec_len, true, OnErr};
 ghost use Rattle.blob_base.specs.Places.{Place, same_place};
 ghost use Rattle.blob_base.specs.Directory.{Directory};
 ghost use Rattle.blob_base.specs.Durable.{with_at};
 ghost use Rattle.blob_base.specs.Order.{ArePlacesApart, has_list};
-ghost use Rattle.blob_base.specs.Pending.{laid, finished};
+ghost use Rattle.blob_base.specs.Pending.{laid, finished, has_barrier};
+ghost use Rattle.blob_base.specs.Refusals.{IsMemory};
 ghost use Rattle.blob_faulty.specs.Views.{view};
 ghost use Rattle.blob_faulty.specs.Lists.{held, list_of, IsAt, HasEntryAt, HasRangesAt, finished_in, AreNoted, has_ended};
 
 use crate::entries;
 use crate::entry::Entry;
-use blob_base::{Durable, IoBufs};
+use blob_base::{Durable, Error, IoBufs};
 use std::alloc::{AllocError, Global};
 
 /// What is pending of one incarnation.
@@ -158,18 +159,34 @@ impl<S: Durable> Lists<S> {
         entries::push(&mut self.all[i].entries, entry);
     }
 
-    /// A durable range in the list at `i`, where there is room for it.
-    pub fn lay(&mut self, i: usize, offset: u64, bytes: IoBufs)
+    /// The bytes of a durable range for `lay`: a copy where the list at `i` queues the range, else none of them. The only
+    /// error is `Memory`.
+    pub fn copy_for(&self, i: usize, bytes: &IoBufs) -> Result<IoBufs, Error>
+        requires { i < vec_len self.now.all }
+        ensures copied { IfOk result (λ copy. (o : Place) → IsAt (held S.place self.now.all.items) i o → has_barrier (list_of S.place self.now.all.items o) ≡ true → copy ≡ bytes.now) }
+        ensures len { IfOk result (λ copy. length copy ≤ length bytes.now) }
+        ensures memory { OnErr result (IsMemory result) }
+    {
+        if entries::has_barrier(self.all[i].entries.as_slice()) {
+            return bytes.copied();
+        }
+        Ok(IoBufs::new(*self.all.allocator()))
+    }
+
+    /// A durable range in the list at `i`, where there is room for it. Only where it is queued its bytes have to be in
+    /// `copy`.
+    pub fn lay(&mut self, i: usize, offset: u64, len: u64, copy: IoBufs)
         requires inside { i < vec_len self.old.all }
-        requires fits { offset + length bytes < 2 ^ 64 }
+        requires fits { offset + len < 2 ^ 64 }
+        requires copied { length copy ≤ len }
         requires room { HasRangesAt self.old.all.items i 1 }
-        ensures lists { (o : Place) → IsAt (held S.place self.old.all.items) i o → (a : Place) → list_of S.place self.new.all.items a ≡ with_at (list_of S.place self.old.all.items) o (laid offset bytes (list_of S.place self.old.all.items o)) a }
+        ensures lists { (o : Place) → IsAt (held S.place self.old.all.items) i o → (bytes : List ℕ) → length bytes ≡ len → (has_barrier (list_of S.place self.old.all.items o) ≡ true → copy ≡ bytes) → (a : Place) → list_of S.place self.new.all.items a ≡ with_at (list_of S.place self.old.all.items) o (laid offset bytes (list_of S.place self.old.all.items o)) a }
         ensures at { (o : Place) → IsAt (held S.place self.old.all.items) i o → IsAt (held S.place self.new.all.items) i o }
         ensures room { (n : ℕ) → HasRangesAt self.old.all.items i (n + 1) → HasRangesAt self.new.all.items i n }
         ensures len { vec_len self.new.all ≡ vec_len self.old.all }
         ensures apart { ArePlacesApart (held S.place self.old.all.items) → ArePlacesApart (held S.place self.new.all.items) }
     {
-        entries::lay(&mut self.all[i].entries, offset, bytes);
+        entries::lay(&mut self.all[i].entries, offset, len, copy);
     }
 
     /// The list of an incarnation goes.

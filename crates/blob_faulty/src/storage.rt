@@ -1,26 +1,16 @@
 //! The wrapper of a store.
-ghost use Rattle.std.specs.Prelude.{◌≡◌, ◌≤◌, ◌↔◌, ℕ, List, [], Bool, true, false, cond, Option, Some, None, is_some, IsTrue, OnOk, OnErr, IfOk, length, map, option_copied};
-ghost use Rattle.std.specs.Range.{range_inclusive_start, range_inclusive_end, range_inclusive_exhausted};
-ghost use Rattle.blob_base.specs.Durable.{durable_without};
+ghost use Rattle.std.specs.Prelude.{◌≡◌, ℕ, List, [], Some};
+ghost use Rattle.std.specs.Borrow.{sem};
+ghost use Rattle.blob_base.specs.Files.{wrapped};
 ghost use Rattle.blob_base.specs.Places.{Place};
-ghost use Rattle.blob_base.specs.Files.{Files};
-ghost use Rattle.blob_base.specs.Handles.{outcome_of, marker_of};
-ghost use Rattle.blob_base.specs.Names.{AreNames};
-ghost use Rattle.blob_base.specs.Opening.{IsOpened, removed};
-ghost use Rattle.blob_base.specs.Refusals.{refused};
-ghost use Rattle.blob_faulty.specs.Answers.{injected_or};
-ghost use Rattle.blob_faulty.specs.Faults.{draw};
-ghost use Rattle.blob_faulty.specs.Lists.{has_ended};
-ghost use Rattle.blob_faulty.specs.Wrapper.{AreApart, KeepsNumbers, finished_by, inner_of, rng_of, config_of, next_write_of, next_marker_of, pending_of, KeepsRecords, Stands, inside, size_of};
+ghost use Rattle.blob_faulty.specs.Lends.{LendsConfig};
+ghost use Rattle.blob_faulty.specs.Wrapper.{inner_of, rng_of, config_of, next_write_of, next_marker_of, pending_of, Stands};
 
-use crate::blob::Blob;
 use crate::config::Config;
-use crate::faults::draws;
 use crate::lists::Lists;
-use blob_base::{BlobVersion, Durable, Error, Handle};
+use blob_base::Durable;
 use rand_core::Rng;
 use std::alloc::Global;
-use std::ops::RangeInclusive;
 
 /// A store that fails by drawn choices and remembers which of its mutations a crash could still lose.
 #[derive(Drop)]
@@ -43,6 +33,7 @@ impl<S: Durable, R> Storage<S, R> {
         ensures pending { pending_of S.place result ≡ (λ _. []) }
         ensures next_write { next_write_of result ≡ 0 }
         ensures next_marker { next_marker_of result ≡ 0 }
+        ensures files { (bytes : Place → List ℕ) → ((o : Place) (x : List ℕ) → S.durable inner o ≡ Some x → bytes o ≡ x) → Stands S.place (S.directory inner) (S.durable inner) result (wrapped (S.directory inner) bytes 0 0) }
     {
         Storage::new_numbered(alloc, inner, rng, config, 0, 0)
     }
@@ -62,6 +53,7 @@ impl<S: Durable, R> Storage<S, R> {
         ensures pending { pending_of S.place result ≡ (λ _. []) }
         ensures next_write { next_write_of result ≡ next_write }
         ensures next_marker { next_marker_of result ≡ next_marker }
+        ensures files { (bytes : Place → List ℕ) → ((o : Place) (x : List ℕ) → S.durable inner o ≡ Some x → bytes o ≡ x) → Stands S.place (S.directory inner) (S.durable inner) result (wrapped (S.directory inner) bytes next_write next_marker) }
     {
         Storage {
             inner,
@@ -78,6 +70,14 @@ impl<S: Durable, R> Storage<S, R> {
         ensures { result.now ≡ inner_of self.now }
     {
         &self.inner
+    }
+
+    /// The rates of the faults, to be changed.
+    pub fn config(&mut self) -> &mut Config
+        ensures* writes_back { sem 𝓛 (LendsConfig S.row R.row S.Origin.row self.entry result) }
+        ensures value { result.now ≡ config_of self.old }
+    {
+        &mut self.config
     }
 
     /// The wrapped store, the generator and the configuration; what is pending is dropped.

@@ -21,6 +21,7 @@ impl Piece {
     ghost use Rattle.std.specs.Prelude.{◌≤◌, List, ℕ, [], All, IfOk, IfNone, IfSome, IsTrue, OnErr, reverse};
     ghost use Rattle.blob_base.specs.Refusals.{IsMemory};
     ghost use Rattle.blob_base.specs.Runs.{runs};
+    ghost use Rattle.blob_faulty.specs.Answers.{last_end};
     ghost use Rattle.blob_faulty.specs.Pieces.{run_of, runs_in};
     ghost use Rattle.blob_faulty.specs.Spans.{piece, pieces, ends_by};
 
@@ -42,7 +43,7 @@ impl Piece {
     }
 
     /// The runs of the kept bytes, from the last to the first. The only error is `Memory`.
-    fn all_of(offset: u64, bytes: &Vec<u8>, kept: &[bool]) -> Result<Vec<Piece>, Error>
+    pub(crate) fn all_of(offset: u64, bytes: &Vec<u8>, kept: &[bool]) -> Result<Vec<Piece>, Error>
         requires sized { length kept.now ≡ length bytes.now.items }
         requires fits { offset + length bytes.now.items < 2 ^ 64 }
         ensures ok { IfOk result (λ ps. runs_in ps.items ≡ runs offset bytes.now.items kept.now) }
@@ -57,6 +58,23 @@ impl Piece {
         all.reverse();
         Ok(all)
     }
+
+    /// The position after its last byte.
+    fn end(&self) -> u64
+        ensures { result ≡ self.now.offset + length self.now.bytes }
+    {
+        self.offset + self.bytes.remaining() as u64
+    }
+
+    /// The end of the last run, or 0 where there is none.
+    pub(crate) fn last_end(pieces: &[Piece]) -> u64
+        ensures { result ≡ last_end 0 (runs_in pieces.now) }
+    {
+        match pieces {
+            [] => 0,
+            [last, ..] => last.end(),
+        }
+    }
 }
 
 impl<B> Blob<B> {
@@ -67,10 +85,10 @@ impl<B> Blob<B> {
     ghost use Rattle.blob_base.specs.Log.{Entry, Kept};
     ghost use Rattle.blob_base.specs.Refusals.{refused, WriteFailed, IsMemory};
     ghost use Rattle.blob_base.specs.Runs.{runs, kept_runs};
-    ghost use Rattle.blob_faulty.specs.Answers.{or_memory, allows_runs};
+    ghost use Rattle.blob_faulty.specs.Answers.{allows_laid};
     ghost use Rattle.blob_faulty.specs.Faults.{Failed, retention};
     ghost use Rattle.blob_faulty.specs.Lists.{held, IsAt, HasRangesAt};
-    ghost use Rattle.blob_faulty.specs.Pieces.{runs_in, EndsWithin, allows_laid, first_after};
+    ghost use Rattle.blob_faulty.specs.Pieces.{runs_in, EndsWithin, first_after};
     ghost use Rattle.blob_faulty.specs.Recorded.{all_written, size_of_runs, recorded_by, live_by, size_by};
     ghost use Rattle.blob_faulty.specs.Wrapper.{Adds, KeepsRecords};
 
@@ -114,8 +132,9 @@ impl<B> Blob<B> {
             bytes,
             copy,
         } = run;
+        let len = bytes.remaining() as u64;
         self.write_unrecorded(store, offset, bytes, WriteOptions::SYNC)?;
-        store.lists.lay(list, offset, copy);
+        store.lists.lay(list, offset, len, copy);
         Ok(())
     }
 
@@ -152,5 +171,47 @@ impl<B> Blob<B> {
             }
         }
         Ok(())
+    }
+
+    /// All runs, in rising order. What refuses the first is the answer; a later one that is refused is answered
+    /// `WriteFailed`.
+    pub(crate) fn lay_runs<S: blob_base::Storage, R>(
+        &mut self,
+        store: &mut Storage<S, R>,
+        list: usize,
+        pieces: Vec<Piece>,
+    ) -> Result<(), Error>
+    where
+        B: blob_base::Blob<S>,
+        requires at { IsAt (held S.place store.old.lists.all.items) list (B.place self.old.inner) }
+        requires inside { list < vec_len store.old.lists.all }
+        requires ranges { HasRangesAt store.old.lists.all.items list (vec_len pieces) }
+        requires within { B.is_direct ≡ true → is_current (S.directory store.old.inner) (B.place self.old.inner) ≡ true → All (EndsWithin (B.room self.old.inner store.old.inner)) (runs_in pieces.items) }
+        ensures allowed { allows_laid (B.allows_write self.old.inner store.old.inner) B.is_direct (runs_in pieces.items) (refused result) }
+        ensures live { OnOk result (B.live self.new.inner ≡ all_written (B.live self.old.inner) (runs_in pieces.items)) }
+        ensures size { OnOk result (self.new.size ≡ size_of_runs self.old.size (runs_in pieces.items)) }
+        ensures recorded { OnOk result (Adds S.place (S.directory store.old.inner) (S.durable store.old.inner) (S.durable store.new.inner) store.old store.new (B.place self.old.inner) (kept_runs (runs_in pieces.items))) }
+
+        // a refusal, by a store that injects nothing
+        ensures direct_live { B.is_direct ≡ true → OnErr result (B.live self.new.inner ≡ first_after (B.live self.old.inner) (runs_in pieces.items) (refused result)) }
+        ensures direct_durable { B.is_direct ≡ true → OnErr result (S.durable store.new.inner ≡ S.durable store.old.inner) }
+        ensures direct_records { B.is_direct ≡ true → OnErr result (KeepsRecords S.place store.old store.new) }
+        ensures direct_size { B.is_direct ≡ true → OnErr result (self.new.size ≡ self.old.size) }
+
+        ensures memory { IsMemory result → (B.live self.new.inner ≡ B.live self.old.inner) × (S.durable store.new.inner ≡ S.durable store.old.inner) }
+        ensures unrecorded { IsMemory result → KeepsRecords S.place store.old store.new }
+        ensures same_size { IsMemory result → self.new.size ≡ self.old.size }
+        ensures stale { is_current (S.directory store.old.inner) (B.place self.old.inner) ≡ false → S.durable store.new.inner ≡ S.durable store.old.inner }
+        ensures directory { S.directory store.new.inner ≡ S.directory store.old.inner }
+        ensures place { B.place self.new.inner ≡ B.place self.old.inner }
+        ensures rng { store.new.rng ≡ store.old.rng }
+        ensures config { store.new.config ≡ store.old.config }
+    {
+        let mut pieces = pieces;
+        let Some(first) = pieces.pop() else {
+            return Ok(());
+        };
+        self.lay_run(store, list, first)?;
+        self.lay_later(store, list, pieces)
     }
 }

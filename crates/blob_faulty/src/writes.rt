@@ -135,7 +135,7 @@ impl<B> Blob<B> {
 
 impl<B> Blob<B> {
     /// A write that is pending until it is retired.
-    fn write_pending<S: blob_base::Storage, R>(
+    pub(crate) fn write_pending<S: blob_base::Storage, R>(
         &mut self,
         store: &mut Storage<S, R>,
         offset: u64,
@@ -206,10 +206,11 @@ impl<B> Blob<B> {
         ensures same_lists { OnErr result ((o : Place) → pending_of S.place store.new o ≡ pending_of S.place store.old o) }
         ensures apart { ArePlacesApart (held S.place store.old.lists.all.items) → ArePlacesApart (held S.place store.new.lists.all.items) }
     {
-        let copy = bytes.copied()?;
         let list = self.room_for_ranges(store, 1)?;
+        let copy = store.lists.copy_for(list, &bytes)?;
+        let len = bytes.remaining() as u64;
         self.write_unrecorded(store, offset, bytes, options)?;
-        store.lists.lay(list, offset, copy);
+        store.lists.lay(list, offset, len, copy);
         Ok(())
     }
 }

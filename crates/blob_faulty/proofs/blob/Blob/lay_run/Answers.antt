@@ -1,4 +1,4 @@
-use Rattle.std.proofs.Common.{◌≡◌, ◌+◌, ℕ, List, refl, sym, subst, ap}
+use Rattle.std.proofs.Common.{◌+◌, length, refl, sym, ◌∙◌, subst, ap}
 use Rattle.blob_base.specs.Places.{Place}
 use Rattle.blob_faulty.specs.declared.storage.Storage.{Storage}
 use Rattle.blob_faulty.specs.Lists.{held, IsAt, HasRangesAt}
@@ -7,7 +7,7 @@ use Rattle.blob_faulty.proofs.blob.Blob.lay_run.Goals as goal
 
 pub returns-clause-recorded : goal.returns-clause-recorded
 returns-clause-recorded g c = lay_adds g.S.Durable.place _ _ _ c.args.store.now c.write_unrecorded.new.store _ c.write_unrecorded.new.store.inner c.args.list _ c.args.run.offset c.args.run.bytes c.args.run.copy
-    c.write_unrecorded.ensures.rest c.requires.at c.args.run.some c.args.run.same (c.in_ok-write_unrecorded.ensures.synced refl) c.lay.ensures.lists c.lay.ensures.apart refl refl
+    c.write_unrecorded.ensures.rest c.requires.at c.args.run.some c.args.run.same (c.in_ok-write_unrecorded.ensures.synced refl) (λ q at. c.lay.ensures.lists q at c.args.run.copy (ap length c.args.run.same ∙ sym c.remaining-len.ensures) (λ _. refl)) c.lay.ensures.apart refl refl
 
 pub returns-clause-at : goal.returns-clause-at
 returns-clause-at g c =

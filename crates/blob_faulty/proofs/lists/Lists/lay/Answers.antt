@@ -1,14 +1,17 @@
-use Rattle.std.proofs.Common.{rules, refl, ◌≡◌, ◌∙◌, ◌+◌, ap, List, get_or}
-use Rattle.blob_base.specs.Pending.{Pending, laid}
+use Rattle.std.proofs.Common.{rules, refl, ◌≡◌, ◌∙◌, ◌+◌, ap, sym, List, get_or}
+use Rattle.blob_base.specs.Pending.{Pending, has_barrier, laid}
+use Rattle.blob_faulty.specs.Lists.{list_of}
+use Rattle.blob_faulty.specs.Views.{views}
 use Rattle.blob_faulty.proofs.ListSteps.{changed_list, changed_apart, changed_at, found, ranges_at, rooms_of}
 use Rattle.blob_faulty.proofs.lists.Lists.lay.Goals as goal
 
 pub returns-clause-lists : goal.returns-clause-lists
-returns-clause-lists g c o i a =
+returns-clause-lists g c o i bytes len same a =
     let is = c.args.self.now.all.items in
     let at : c.index_mut.result.now ≡ get_or is c.args.i c.index_mut.result.now = search rules in
+    let here : views c.index_mut.result.now.entries.items ≡ list_of g.S.Durable.place is o = found g.S.Durable.place is c.args.i c.index_mut.result.now o (search rules) at i in
     changed_list g.S.Durable.place is c.args.i c.index_mut.result.now (record { origin = c.index_mut.result.now.origin; was_current = c.index_mut.result.now.was_current; entries = c.lay.new.entries }) o _ a (search rules) at refl i
-    (c.lay.ensures.views ∙ ap (λ (q : List Pending). laid c.args.offset c.args.bytes q) (found g.S.Durable.place is c.args.i c.index_mut.result.now o (search rules) at i))
+    (c.lay.ensures.views bytes len (λ queued. same (ap has_barrier (sym here) ∙ queued)) ∙ ap (λ (q : List Pending). laid c.args.offset bytes q) here)
 
 pub returns-clause-apart : goal.returns-clause-apart
 returns-clause-apart g c a =

@@ -1,0 +1,184 @@
+-- The replays of a crash, entry by entry and list by list.
+use Rattle.std.proofs.Common.{◌≡◌, ⊎_elim, ℕ, zero, suc, ◌+◌, ◌-◌, ◌<◌, ◌≤◌, max, min, Bool, true, false, cond, not, ◌&&◌, ◌||◌, List, [], ◌∷◌, length, get_or, set, drop, replicate, Option, Some, None, Vec, Global, refl, sym, ◌∙◌, ap, ap₂, subst, arith, true≢false, nat_lt}
+use Rattle.std.specs.Prelude.{option_map, is_some, nat_le, Result, Ok, OnOk}
+use Rattle.std.proofs.lemmas.Bool.{cases_Bool, cases_eq, cond-true, cond-false, and_parts, leb-true, ltb-true, le-leb, lt-ltb}
+use Rattle.std.proofs.lemmas.Bool.Decides.{nat_tests}
+use Rattle.std.proofs.lemmas.List.{get_or-replicate, get_or-set_same, get_or-set_other, get_or_default, at_drop_more}
+use Rattle.blob_base.specs.Bytes.{overlay_by, overlay, between, reach}
+use Rattle.blob_base.specs.Directory.{Directory, is_current}
+use Rattle.blob_base.specs.Durable.{Durable, changed}
+use Rattle.blob_base.specs.Holes.{Holes, in_holes, need_in}
+use Rattle.blob_base.specs.Log.{Choices, Write}
+use Rattle.blob_base.specs.Order.{Held, held_at, has_list}
+use Rattle.blob_base.specs.Pending.{Pending, has_marker, replay, taken, end_of, ends}
+use Rattle.blob_base.specs.Places.{Place, same_place}
+use Rattle.blob_base.specs.Runs.{picked}
+use Rattle.blob_base.specs.SamePlace.{same_place_exact}
+use Rattle.blob_base.specs.Stands.{replayed_at}
+use Rattle.blob_base.proofs.Agrees.{overlay_same}
+use Rattle.blob_base.proofs.Bytes.{lies_in, reach_below}
+use Rattle.blob_memory.specs.declared.storage.Storage.{Storage}
+use Rattle.blob_memory.specs.Contents.{Fits}
+use Rattle.blob_memory.specs.Store.{directory, HasCrashRoom}
+use Rattle.blob_faulty.specs.declared.entry.Entry.{Entry}
+use Rattle.blob_faulty.specs.declared.lists.Incarnation.{Incarnation}
+use Rattle.blob_faulty.specs.Lists.{held, held_by}
+use Rattle.blob_faulty.specs.Replays.{width, widest, widest_of_all, unmarked, IsReady}
+use Rattle.blob_faulty.specs.Views.{view, views}
+
+-- what a call ensures where it answered Ok
+pub ok_is : {T E P : Type 0} (r : Result T E) (x : T) → r ≡ Ok x → OnOk r P → P
+ok_is {T} {E} {P} r x e h = subst (λ (q : Result T E). OnOk q P) e h
+
+-- room for more is room for less
+pub fits_less : (v : Option (Vec ℕ Global)) (n m : ℕ) → m ≤ n → Fits v n → Fits v m
+fits_less None n m h f = tt
+fits_less (Some v) n m h f = omega (arith, f)
+
+-- no chosen byte lies past the write
+pub reach_within : (o n : ℕ) (c : ℕ → Bool) → reach o n c ≤ o + n
+reach_within o n c = reach_below o n c (o + n) (λ i h _. omega arith)
+
+-- each entry asks for no more than the list does
+pub end_in : (q : List Entry) (i : ℕ) (d : Entry) → i < length q → end_of (view (get_or q i d)) ≤ ends (views q)
+end_in [] i d h = absurd (omega arith)
+end_in (x ∷ q) zero d h = omega arith
+end_in (x ∷ q) (suc i) d h = omega (arith, end_in q i d (omega arith))
+
+pub width_in : (q : List Entry) (i : ℕ) (d : Entry) → i < length q → width (view (get_or q i d)) ≤ widest (views q)
+width_in [] i d h = absurd (omega arith)
+width_in (x ∷ q) zero d h = omega arith
+width_in (x ∷ q) (suc i) d h = omega (arith, width_in q i d (omega arith))
+
+-- a range of positions that is no longer chosen, one further
+pub uncovered_more : (xs ys : List Bool) (s i : ℕ) → s ≤ i → i < length xs → ((k : ℕ) → k < length xs → get_or xs k false ≡ (not (between s i k) && get_or ys k false)) →
+    (k : ℕ) → k < length xs → get_or (set xs i false) k false ≡ (not (between s (i + 1) k) && get_or ys k false)
+uncovered_more xs ys s i l h before k small = ⊎_elim same other (cases_eq k i)
+  where
+    same : k ≡ i → get_or (set xs i false) k false ≡ (not (between s (i + 1) k) && get_or ys k false)
+    same e =
+        let at : between s (i + 1) k ≡ true = grind (arith, nat_tests) in
+        ap (λ (j : ℕ). get_or (set xs i false) j false) e ∙ get_or-set_same xs i false false h ∙ sym (ap (λ (b : Bool). not b && get_or ys k false) at)
+
+    other : (k ≡ i → ⊥) → get_or (set xs i false) k false ≡ (not (between s (i + 1) k) && get_or ys k false)
+    other n =
+        let at : between s (i + 1) k ≡ between s i k = grind (arith, nat_tests) in
+        get_or-set_other xs i k false false n ∙ before k small ∙ sym (ap (λ (b : Bool). not b && get_or ys k false) at)
+
+-- as an index of the write
+same_test : (a b : Bool) → (a ≡ true → b ≡ true) → (b ≡ true → a ≡ true) → a ≡ b
+same_test true b f g = sym (f refl)
+same_test false true f g = g refl
+same_test false false f g = refl
+
+in_between : (s e p : ℕ) → between s e p ≡ true → (s ≤ p) × (p < e)
+in_between s e p y = let a = and_parts (nat_le s p) (nat_lt p e) y in (leb-true s p a.0, ltb-true p e a.1)
+
+between_in : (s e p : ℕ) → s ≤ p → p < e → between s e p ≡ true
+between_in s e p a b = ap₂ (λ (x y : Bool). x && y) (le-leb s p a) (lt-ltb p e b)
+
+pub covered_at : (start end o len s e i k : ℕ) → s ≡ start - o → e ≡ min (end - o) len → k < len → s ≤ i → e ≤ i → i ≤ max s e → between s i k ≡ between start end (o + k)
+covered_at start end o len s e i k is_s is_e h a b c = same_test (between s i k) (between start end (o + k))
+    (λ y. let r : (s ≤ k) × (k < i) = in_between s i k y in between_in start end (o + k) (omega arith) (omega arith))
+    (λ y. let r : (start ≤ o + k) × (o + k < end) = in_between start end (o + k) y in between_in s i k (omega arith) (omega arith))
+
+-- one hole further
+holes_one : (a b x : Bool) → (not (a || b) && x) ≡ (not b && (not a && x))
+holes_one true true x = refl
+holes_one true false x = refl
+holes_one false true x = refl
+holes_one false false x = refl
+
+pub holes_more : (h : ℕ × ℕ) (hs : Holes) (p : ℕ) (x : Bool) → (not (in_holes (h ∷ hs) p) && x) ≡ (not (in_holes hs p) && (not (between h.0 h.1 p) && x))
+holes_more h hs p x = holes_one (between h.0 h.1 p) (in_holes hs p) x
+
+-- the choices that are laid are those of the bare bytes
+pub masked : (w : Write) (hs : Holes) (t : Choices) (kept : List Bool) (x : List ℕ) → ((i : ℕ) → i < length w.bytes → get_or kept i false ≡ (not (in_holes hs (w.offset + i)) && t w.number i)) →
+    overlay_by x w.offset w.bytes (picked kept) ≡ overlay_by x w.offset w.bytes (taken (need_in w hs) t)
+masked w hs t kept x h = overlay_same x w.offset w.bytes _ _ (λ i l. h i l ∙ sym (ap (λ (b : Bool). (b && not (in_holes hs (w.offset + i))) && t w.number i) (lies_in w.offset (length w.bytes) (w.offset + i) (omega arith) (omega arith))))
+
+pub all_of : (x : List ℕ) (o : ℕ) (b : List ℕ) (kept : List Bool) → kept ≡ replicate (length b) true → overlay_by x o b (picked kept) ≡ overlay x o b
+all_of x o b kept e = overlay_same x o b _ _ (λ i l. ap (λ (k : List Bool). get_or k i false) e ∙ get_or-replicate (length b) i true false l)
+
+-- what is made of one incarnation's bytes
+pub changed_same : (f : Durable) (o : Place) (g h : List ℕ → List ℕ) (a : Place) → ((x : List ℕ) → g x ≡ h x) → changed f o g a ≡ changed f o h a
+changed_same f o g h a e = ap (λ (r : Option (List ℕ)). cond (same_place o a) r (f a)) (go (f a))
+  where
+    go : (b : Option (List ℕ)) → option_map g b ≡ option_map h b
+    go None = refl
+    go (Some x) = ap Some (e x)
+
+pub changed_twice : (f f' : Durable) (o : Place) (g h : List ℕ → List ℕ) (a : Place) → f' a ≡ changed f o h a → changed f' o g a ≡ changed f o (λ x. g (h x)) a
+changed_twice f f' o g h a e = ap (λ (r : Option (List ℕ)). cond (same_place o a) (option_map g r) r) e ∙ go (same_place o a) (f a)
+  where
+    go : (b : Bool) (x : Option (List ℕ)) → cond b (option_map g (cond b (option_map h x) x)) (cond b (option_map h x) x) ≡ cond b (option_map (λ y. g (h y)) x) x
+    go true None = refl
+    go true (Some x) = refl
+    go false x = refl
+
+pub changed_not : (f : Durable) (o : Place) (a : Place) → f a ≡ changed f o (λ x. x) a
+changed_not f o a = sym (go (same_place o a) (f a))
+  where
+    go : (b : Bool) (x : Option (List ℕ)) → cond b (option_map (λ (y : List ℕ). y) x) x ≡ x
+    go true None = refl
+    go true (Some x) = refl
+    go false x = refl
+
+-- an incarnation that ended has none
+pub changed_ended : (f : Durable) (o : Place) (g : List ℕ → List ℕ) (a : Place) → is_some (f o) ≡ false → f a ≡ changed f o g a
+changed_ended f o g a n = sym (⊎_elim
+    (λ y. cond-true (same_place o a) _ _ y ∙ go (f a) (sym (ap (λ (p : Place). is_some (f p)) (same_place_exact o a y)) ∙ n))
+    (λ other. cond-false (same_place o a) _ _ other)
+    (cases_Bool (same_place o a)))
+  where
+    go : (x : Option (List ℕ)) → is_some x ≡ false → option_map g x ≡ x
+    go None e = refl
+    go (Some x) e = absurd (true≢false e)
+
+none_held : (hs : List Held) (o : Place) → has_list hs o ≡ false → held_at hs o ≡ []
+none_held [] o n = refl
+none_held (h ∷ hs) o n = ⊎_elim
+    (λ y. absurd (true≢false (sym (cond-true (same_place h.0 o) true (has_list hs o) y) ∙ n)))
+    (λ isnt. cond-false (same_place h.0 o) _ _ isnt ∙ none_held hs o (sym (cond-false (same_place h.0 o) true (has_list hs o) isnt) ∙ n))
+    (cases_Bool (same_place h.0 o))
+
+-- the first list is replayed, the others are still to be
+pub replay_first : (t : Choices) (h : Held) (hs : List Held) (f f' : Durable) (a : Place) → has_list hs h.0 ≡ false → f' a ≡ changed f h.0 (λ x. replay h.1 t x) a → replayed_at t (held_at hs a) (f' a) ≡ replayed_at t (held_at (h ∷ hs) a) (f a)
+replay_first t h hs f f' a alone told = ap (replayed_at t (held_at hs a)) told ∙ ⊎_elim
+    (λ y. ap₂ (λ (q : List Pending) (b : Option (List ℕ)). replayed_at t q b) (none_held hs a (ap (has_list hs) (sym (same_place_exact h.0 a y)) ∙ alone)) (cond-true (same_place h.0 a) _ _ y) ∙ go (f a)
+    ∙ ap (λ (q : List Pending). replayed_at t q (f a)) (sym (cond-true (same_place h.0 a) _ _ y)))
+    (λ n. ap (replayed_at t (held_at hs a)) (cond-false (same_place h.0 a) _ _ n) ∙ ap (λ (q : List Pending). replayed_at t q (f a)) (sym (cond-false (same_place h.0 a) _ _ n)))
+    (cases_Bool (same_place h.0 a))
+  where
+    go : (b : Option (List ℕ)) → replayed_at t [] (option_map (λ x. replay h.1 t x) b) ≡ replayed_at t h.1 b
+    go None = refl
+    go (Some x) = refl
+
+-- the lists lay no more than the widest
+pub widest_in : {O : Type 0} (place : O → Place) (is : List (Incarnation O)) (i : ℕ) (x : Incarnation O) → i < length is → x ≡ get_or is i x → widest (views x.entries.items) ≤ widest_of_all (held place is)
+widest_in place [] i x h e = absurd (omega arith)
+widest_in {O} place (y ∷ is) zero x h e = omega (arith, ap (λ (z : Incarnation O). widest (views z.entries.items)) e)
+widest_in place (y ∷ is) (suc i) x h e = omega (arith, widest_in place is i x (omega arith) e)
+
+pub widest_unmarked : (q : List Pending) → widest (unmarked q) ≤ widest q
+widest_unmarked [] = omega arith
+widest_unmarked (e ∷ q) = ⊎_elim
+    (λ y. omega (arith, ap widest (cond-true (has_marker (e ∷ q)) (unmarked q) (e ∷ q) y), widest_unmarked q))
+    (λ n. omega (arith, ap widest (cond-false (has_marker (e ∷ q)) (unmarked q) (e ∷ q) n)))
+    (cases_Bool (has_marker (e ∷ q)))
+
+-- a store that keeps its directory and lowers no room stays ready
+pub still_ready : (s s' : Storage) (h : Held) → directory s' ≡ directory s → ((o : Place) (n : ℕ) → HasCrashRoom s o n → HasCrashRoom s' o n) → IsReady s h → IsReady s' h
+still_ready s s' h same room ready current = let r = ready (sym (ap (λ (d : Directory). is_current d h.0) same) ∙ current) in (r.0, room h.0 (ends (unmarked h.1)) r.1)
+
+pub ready_more : (s s' : Storage) (is : List (Incarnation Place)) (i : ℕ) (x : Incarnation Place) → i < length is → x ≡ get_or is i x → directory s' ≡ directory s → ((o : Place) (n : ℕ) → HasCrashRoom s o n → HasCrashRoom s' o n) →
+    ((k : ℕ) (d : Incarnation Place) → k < i → IsReady s (held_by (λ (o : Place). o) (get_or is k d))) → IsReady s' (held_by (λ (o : Place). o) x) →
+    (k : ℕ) (d : Incarnation Place) → k < i + 1 → IsReady s' (held_by (λ (o : Place). o) (get_or is k d))
+ready_more s s' is i x h e same room before here k d l = ⊎_elim
+    (λ at. subst (λ (y : Incarnation Place). IsReady s' (held_by (λ (o : Place). o) y)) (e ∙ get_or_default is i x d h ∙ ap (λ (j : ℕ). get_or is j d) (sym at)) here)
+    (λ other. still_ready s s' (held_by (λ (o : Place). o) (get_or is k d)) same room (before k d (omega arith)))
+    (cases_eq k i)
+
+-- one list further
+pub held_more : (is : List (Incarnation Place)) (i : ℕ) (x : Incarnation Place) → i < length is → x ≡ get_or is i x → held (λ (o : Place). o) (drop i is) ≡ held_by (λ (o : Place). o) x ∷ held (λ (o : Place). o) (drop (i + 1) is)
+held_more is i x h e = at_drop_more (λ (l : List (Incarnation Place)). held (λ (o : Place). o) l) is i x h ∙ ap (λ (y : Incarnation Place). held_by (λ (o : Place). o) y ∷ held (λ (o : Place). o) (drop (i + 1) is)) (sym e)

@@ -1,0 +1,18 @@
+use Rattle.std.proofs.Common.{refl, sym, ◌∙◌, ap, subst}
+use Rattle.blob_base.specs.Pending.{has_barrier, laid}
+use Rattle.blob_faulty.specs.declared.storage.Storage.{Storage}
+use Rattle.blob_faulty.specs.Lists.{held, IsAt}
+use Rattle.blob_faulty.specs.Wrapper.{pending_of}
+use Rattle.blob_faulty.proofs.Pushing.{after_room}
+use Rattle.blob_faulty.proofs.blob.Blob.write_synced.Goals as goal
+
+pub returns-clause-lists : goal.returns-clause-lists
+returns-clause-lists g c =
+    let o = g.B.Blob.place c.args.self.now.inner in
+    let rest = c.write_unrecorded.ensures.rest in
+    let at = subst (λ (w : Storage g.row.S.Denot g.row.R.Denot g.row.S-Origin.Denot). IsAt (held g.S.Durable.place w.lists.all.items) c.in_ok-list.list o) (sym rest) c.in_ok-list.ensures.at in
+    after_room (pending_of g.S.Durable.place c.args.store.now) (pending_of g.S.Durable.place c.write_unrecorded.new.store) _ o o (laid c.args.offset c.args.bytes)
+    (λ a. ap (λ (w : Storage g.row.S.Denot g.row.R.Denot g.row.S-Origin.Denot). pending_of g.S.Durable.place w a) rest ∙ c.room_for_ranges.ensures.lists a)
+    (c.lay.ensures.lists o at c.args.bytes (sym c.remaining-len.ensures)
+    (λ queued. c.in_ok-copy.ensures.copied o c.in_ok-list.ensures.at (ap (λ (w : Storage g.row.S.Denot g.row.R.Denot g.row.S-Origin.Denot). has_barrier (pending_of g.S.Durable.place w o)) (sym rest) ∙ queued)))
+    refl

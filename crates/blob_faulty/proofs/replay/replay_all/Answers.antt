@@ -1,0 +1,34 @@
+use Rattle.std.proofs.Common.{◌≡◌, ◌<◌, ◌+◌, ◌∙◌, ap, sym, subst, List, ◌∷◌, drop, length, arith}
+use Rattle.blob_base.specs.Draws.{chosen_by}
+use Rattle.blob_base.specs.Log.{Choices}
+use Rattle.blob_base.specs.Order.{Held, held_at, ArePlacesApart}
+use Rattle.blob_base.specs.Places.{Place}
+use Rattle.blob_base.specs.Stands.{replayed_at}
+use Rattle.blob_memory.specs.Store.{durable}
+use Rattle.blob_faulty.specs.Lists.{held, held_by}
+use Rattle.blob_faulty.specs.Rows.{rows_in}
+use Rattle.blob_faulty.proofs.Replaying.{replay_first, widest_in, held_more}
+use Rattle.blob_faulty.proofs.replay.replay_all.Goals as goal
+
+pub replay_list-requires-clause-width : goal.replay_list-requires-clause-width
+replay_list-requires-clause-width c =
+    let h : c.loop-list.list-index < length c.args.lists.now = omega arith in
+    omega (arith, widest_in (λ (o : Place). o) c.args.lists.now c.loop-list.list-index c.list-item.result h c.list-item.is, c.requires.width, c.loop-list.invariant.capacity)
+
+pub loop-list-preserved : goal.loop-list-preserved
+loop-list-preserved c =
+    let i = c.loop-list.list-index in
+    let is = c.args.lists.now in
+    let x = c.list-item.result in
+    let h : i < length is = omega arith in
+    let t : Choices = chosen_by (rows_in c.args.rows.now) in
+    let rest : List Held = held (λ (o : Place). o) (drop (i + 1) is) in
+    let here : held (λ (o : Place). o) (drop i is) ≡ held_by (λ (o : Place). o) x ∷ rest = held_more is i x h c.list-item.is in
+    record {
+      apart = λ a. (subst (λ (hs : List Held). ArePlacesApart hs) here (c.loop-list.invariant.apart a)).1;
+      durable = λ a o. replay_first t (held_by (λ (p : Place). p) x) rest (durable c.loop-list.inner) (durable c.replay_list.new.inner) o (subst (λ (hs : List Held). ArePlacesApart hs) here (c.loop-list.invariant.apart a)).0 (c.replay_list.ensures.durable o)
+          ∙ ap (λ (hs : List Held). replayed_at t (held_at hs o) (durable c.loop-list.inner o)) (sym here) ∙ c.loop-list.invariant.durable a o;
+      room = λ o n f. c.replay_list.ensures.room o n (c.loop-list.invariant.room o n f);
+      capacity = omega arith;
+      directory = c.replay_list.ensures.directory ∙ c.loop-list.invariant.directory;
+    }

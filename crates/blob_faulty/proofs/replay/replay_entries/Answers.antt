@@ -1,0 +1,50 @@
+use Rattle.std.proofs.Common.{◌≡◌, ◌<◌, ◌≤◌, ◌+◌, ◌∙◌, ap, sym, List, ◌∷◌, ℕ, false, drop, length, get_or, arith}
+use Rattle.blob_base.specs.Draws.{chosen_by}
+use Rattle.blob_base.specs.Log.{Choices}
+use Rattle.blob_base.specs.Pending.{Pending, has_marker, replay, replayed, end_of, ends}
+use Rattle.blob_memory.specs.Contents.{vec_at}
+use Rattle.blob_memory.specs.Store.{durable}
+use Rattle.blob_faulty.specs.declared.entry.Entry.{Entry}
+use Rattle.blob_faulty.specs.Replays.{width}
+use Rattle.blob_faulty.specs.Rows.{rows_in}
+use Rattle.blob_faulty.specs.Views.{view, views}
+use Rattle.blob_faulty.proofs.Replaying.{changed_same, changed_twice, fits_less, end_in, width_in}
+use Rattle.blob_faulty.proofs.Unmarked.{views_at, none_after, replay_more}
+use Rattle.blob_faulty.proofs.replay.replay_entries.Goals as goal
+
+pub replay_entry-requires-clause-counted : goal.replay_entry-requires-clause-counted
+replay_entry-requires-clause-counted c =
+    let h : c.loop-entry.entry-index < length c.args.entries.now = omega arith in
+    omega (arith, end_in c.args.entries.now c.loop-entry.entry-index c.entry-item.result h, ap (λ (e : Entry). end_of (view e)) c.entry-item.is, c.requires.counted)
+
+pub replay_entry-requires-clause-room : goal.replay_entry-requires-clause-room
+replay_entry-requires-clause-room c =
+    let h : c.loop-entry.entry-index < length c.args.entries.now = omega arith in
+    let small : end_of (view c.entry-item.result) ≤ ends (views c.args.entries.now) = omega (arith, end_in c.args.entries.now c.loop-entry.entry-index c.entry-item.result h, ap (λ (e : Entry). end_of (view e)) c.entry-item.is) in
+    c.loop-entry.invariant.room c.args.origin.now _ (fits_less (vec_at c.args.inner.now.contents c.args.origin.now) _ _ small c.requires.room)
+
+pub replay_entry-requires-clause-width : goal.replay_entry-requires-clause-width
+replay_entry-requires-clause-width c =
+    let h : c.loop-entry.entry-index < length c.args.entries.now = omega arith in
+    omega (arith, width_in c.args.entries.now c.loop-entry.entry-index c.entry-item.result h, ap (λ (e : Entry). width (view e)) c.entry-item.is, c.requires.width, c.loop-entry.invariant.capacity)
+
+pub loop-entry-preserved : goal.loop-entry-preserved
+loop-entry-preserved c =
+    let i = c.loop-entry.entry-index in
+    let q = c.args.entries.now in
+    let e = c.entry-item.result in
+    let h : i < length q = omega arith in
+    let later = views (drop (i + 1) q) in
+    let t : Choices = chosen_by (rows_in c.args.rows.now) in
+    let o = c.args.origin.now in
+    let is : view (get_or q i e) ≡ view e = ap view (sym c.entry-item.is) in
+    let none : has_marker (view e ∷ later) ≡ false = ap (λ (p : Pending). has_marker (p ∷ later)) (sym is) ∙ sym (views_at has_marker q i e h) ∙ c.loop-entry.invariant.unmarked in
+    let step : (x : List ℕ) → replay (views (drop i q)) t x ≡ replay later t (replayed x (view e) t) = λ (x : List ℕ). views_at (λ (l : List Pending). replay l t x) q i e h ∙ ap (λ (p : Pending). replay (p ∷ later) t x) is ∙ replay_more (view e) later t x (none_after (view e) later none).1 in
+    record {
+      unmarked = (none_after (view e) later none).1;
+      durable = λ a. changed_twice (durable c.loop-entry.inner) (durable c.replay_entry.new.inner) o (λ (x : List ℕ). replay later t x) (λ (x : List ℕ). replayed x (view e) t) a (c.replay_entry.ensures.durable a)
+          ∙ changed_same (durable c.loop-entry.inner) o (λ (x : List ℕ). replay later t (replayed x (view e) t)) (λ (x : List ℕ). replay (views (drop i q)) t x) a (λ x. sym (step x)) ∙ c.loop-entry.invariant.durable a;
+      room = λ a n f. c.replay_entry.ensures.room a n (c.loop-entry.invariant.room a n f);
+      capacity = omega arith;
+      directory = c.replay_entry.ensures.directory ∙ c.loop-entry.invariant.directory;
+    }

@@ -1,0 +1,14 @@
+-- What a wrapper ends as, once its lent configuration was changed.
+use Rattle.std.specs.Borrow.{Lends, Fml, RattleType, MutBor}
+use Rattle.blob_faulty.specs.declared.config.Config.{Config}
+use Rattle.blob_faulty.specs.declared.storage.Storage.{Storage}
+use Rattle.blob_faulty.specs.contracts.config.Config as config
+use Rattle.blob_faulty.specs.contracts.storage.Storage as wrapper
+
+-- with another configuration; all else stays
+abbrev pub with_config : {S R O : Type 0} → Storage S R O → Config → Storage S R O
+with_config w config = record w { config = config }
+
+-- w ends with the last configuration behind r
+abbrev pub LendsConfig : (S R O : RattleType) → MutBor (Storage S.Denot R.Denot O.Denot) → MutBor Config → Fml
+LendsConfig S R O w r = Lends (wrapper.the_row S R O) config.the_row w r (with_config w.now)

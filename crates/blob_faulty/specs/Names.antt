@@ -1,0 +1,43 @@
+-- What opens and removals leave of a wrapper, and what that makes of the files that it stands for.
+use Rattle.std.specs.Prelude.{◌≡◌, Bool, List, [], cond, Option, None, IsSome, MatchBool}
+use Rattle.rand_core.specs.Stream.{Stream}
+use Rattle.blob_base.specs.Directory.{Directory}
+use Rattle.blob_base.specs.Durable.{Durable}
+use Rattle.blob_base.specs.Files.{Files}
+use Rattle.blob_base.specs.Pending.{Pending}
+use Rattle.blob_base.specs.Places.{Place}
+use Rattle.blob_base.specs.Refusals.{Refusal}
+use Rattle.blob_faulty.specs.declared.storage.Storage.{Storage}
+use Rattle.blob_faulty.specs.Faults.{draw}
+use Rattle.blob_faulty.specs.Wrapper.{inner_of, rng_of, config_of, pending_of, AreApart, KeepsNumbers, KeepsRecords, Stands}
+
+-- pending lists, where those of some incarnations are retired
+abbrev pub emptied : (Place → Bool) → (Place → List Pending) → Place → List Pending
+emptied gone lists o = cond (gone o) [] (lists o)
+
+-- an open, by what it may leave of the inner store
+pub record OpenLeaves {S R O : Type 0} (place : O → Place) (stream : R → Stream) (asked : S → Type 0) (before after : Storage S R O) : Type 0 where
+  -- one draw of the open rate is taken
+  pub drawn : stream (rng_of after) ≡ (draw (config_of before).open_rate (stream (rng_of before))).1
+  -- where it is true the inner store isn't asked
+  pub inner : MatchBool (draw (config_of before).open_rate (stream (rng_of before))).0 (inner_of after ≡ inner_of before) (asked (inner_of after))
+  -- nothing is recorded and nothing retired
+  pub records : KeepsRecords place before after
+
+-- a removal, by what it may leave of the inner store, its answer and the incarnations that it ends where that is Ok
+pub record RemoveLeaves {S R O : Type 0} (place : O → Place) (stream : R → Stream) (asked : S → Type 0) (answer : Option Refusal) (ends : Place → Bool) (before after : Storage S R O) : Type 0 where
+  -- one draw of the removal rate is taken
+  pub drawn : stream (rng_of after) ≡ (draw (config_of before).remove_rate (stream (rng_of before))).1
+  -- where it is true the inner store isn't asked
+  pub inner : MatchBool (draw (config_of before).remove_rate (stream (rng_of before))).0 (inner_of after ≡ inner_of before) (asked (inner_of after))
+  -- answered Ok, what is pending of the incarnations that end is retired, and no more
+  pub retired : answer ≡ None → (o : Place) → pending_of place after o ≡ emptied ends (pending_of place before) o
+  -- after a refusal the same is pending
+  pub kept : IsSome answer → (o : Place) → pending_of place after o ≡ pending_of place before o
+  pub apart : AreApart place before → AreApart place after
+  pub numbers : KeepsNumbers before after
+
+-- whatever files a wrapper stood for, it now stands for what this step makes of them
+abbrev pub Steps : {S R O : Type 0} → (O → Place) → (S → Directory) → (S → Durable) → Storage S R O → Storage S R O → (Files → Files) → Type 0
+Steps place directory durable before after step = (files : Files) →
+    Stands place (directory (inner_of before)) (durable (inner_of before)) before files → Stands place (directory (inner_of after)) (durable (inner_of after)) after (step files)

@@ -1,0 +1,42 @@
+//! What is pending of a name is retired.
+ghost use Rattle.std.specs.Prelude.{◌≡◌, Some};
+ghost use Rattle.blob_base.specs.Directory.{current};
+ghost use Rattle.blob_base.specs.Files.{Files, admitted, ends_by};
+ghost use Rattle.blob_base.specs.Places.{Place};
+ghost use Rattle.blob_base.specs.Stands.{retired};
+ghost use Rattle.blob_faulty.specs.Wrapper.{AreApart, KeepsNumbers, Stands, inner_of, rng_of, pending_of};
+ghost use Rattle.blob_memory.specs.Store.{directory, durable};
+
+use crate::retired::Retired;
+use crate::storage::Storage;
+use blob_base::Durable;
+use blob_memory::Origin;
+
+/// Whether an origin names the current incarnation of the name.
+fn is_current_of(
+    inner: &blob_memory::Storage,
+    origin: &Origin,
+    partition: &str,
+    name: &[u8],
+) -> bool
+    ensures { result ≡ ends_by (directory inner.now) partition.now (Some name.now) origin.now }
+{
+    partition == origin.partition() && name == origin.name() && inner.is_current(origin)
+}
+
+impl<R> Storage<blob_memory::Storage, R> {
+    /// What is pending of the name's current incarnation is retired, where it has one: what is durable of it a crash leaves.
+    /// What is pending of incarnations that ended stays. Takes no memory.
+    pub fn admit(&mut self, partition: &str, name: &[u8]) -> Retired
+        ensures pending { (o : Place) → pending_of (λ o. o) self.new o ≡ retired (pending_of (λ o. o) self.old) (current (directory (inner_of self.old)) partition.now name.now) o }
+        ensures apart { AreApart (λ o. o) self.old → AreApart (λ o. o) self.new }
+        ensures stands { (files : Files) → Stands (λ o. o) (directory (inner_of self.old)) (durable (inner_of self.old)) self.old files → Stands (λ o. o) (directory (inner_of self.new)) (durable (inner_of self.new)) self.new (admitted files partition.now name.now) }
+        ensures inner { inner_of self.new ≡ inner_of self.old }
+        ensures rng { rng_of self.new ≡ rng_of self.old }
+        ensures numbers { KeepsNumbers self.old self.new }
+    {
+        let inner = &self.inner;
+        self.lists.all.retain(|list| !is_current_of(inner, &list.origin, partition, name));
+        Retired { _private: () }
+    }
+}

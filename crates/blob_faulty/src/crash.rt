@@ -1,0 +1,102 @@
+//! The crash: what isn't durable is kept or lost by the generator's choices.
+ghost use Rattle.std.specs.Prelude.{◌≡◌, ℕ, [], All, OnOk, OnErr, IfOk};
+ghost use Rattle.blob_base.specs.Draws.{drawn, chosen_by};
+ghost use Rattle.blob_base.specs.Files.{Files, all_needs, after_crash};
+ghost use Rattle.blob_base.specs.Places.{Place};
+ghost use Rattle.blob_base.specs.Refusals.{IsMemory};
+ghost use Rattle.blob_base.specs.Stands.{replayed_at};
+ghost use Rattle.blob_faulty.specs.Lists.{held, held_by};
+ghost use Rattle.blob_faulty.specs.Replays.{widest_of_all, IsReady};
+ghost use Rattle.blob_faulty.specs.Rows.{table_of};
+ghost use Rattle.blob_faulty.specs.Wrapper.{AreApart, KeepsNumbers, KeepsRecords, Stands, inner_of, rng_of, pending_of};
+ghost use Rattle.blob_memory.specs.Store.{directory, durable, HasCrashRoom};
+
+use crate::entries::{end, unmarked, widest};
+use crate::gather::gather;
+use crate::lists::Incarnation;
+use crate::replay::replay_all;
+use crate::rows::draw_rows;
+use crate::selections::Selections;
+use crate::storage::Storage;
+use blob_base::{Durable, Error};
+use blob_memory::Origin;
+use rand_core::Rng;
+use std::alloc::AllocError;
+
+/// The most bytes that one entry lays.
+fn widest_of_all<O>(lists: &[Incarnation<O>]) -> usize
+    ensures { (place : O → Place) → result ≡ widest_of_all (held place lists.now) }
+{
+    let mut most = 0;
+    for list in lists {
+        most = most.max(widest(&list.entries));
+    }
+    most
+}
+
+/// Room for what a list is replayed to, where its incarnation is current. A length that can't be counted can't be had either.
+fn reserve_list(
+    inner: &mut blob_memory::Storage,
+    list: &Incarnation<Origin>,
+) -> Result<(), AllocError>
+    ensures ready { OnOk result (IsReady inner.new (held_by (λ o. o) list.now)) }
+    ensures durable { durable inner.new ≡ durable inner.old }
+    ensures directory { directory inner.new ≡ directory inner.old }
+    ensures room { (o : Place) (n : ℕ) → HasCrashRoom inner.old o n → HasCrashRoom inner.new o n }
+{
+    if !inner.is_current(&list.origin) {
+        return Ok(());
+    }
+    let len = end(unmarked(&list.entries));
+    match inner.reserve_crash(&list.origin, len) {
+        Ok(()) => Ok(()),
+        Err(_) => Err(AllocError),
+    }
+}
+
+/// The same for all lists.
+fn reserve_all(
+    inner: &mut blob_memory::Storage,
+    lists: &[Incarnation<Origin>],
+) -> Result<(), AllocError>
+    ensures ready { OnOk result (All (λ list. IsReady inner.new (held_by (λ o. o) list)) lists.now) }
+    ensures durable { durable inner.new ≡ durable inner.old }
+    ensures directory { directory inner.new ≡ directory inner.old }
+{
+    for list in lists {
+        reserve_list(inner, list)?;
+    }
+    Ok(())
+}
+
+impl<R: Rng> Storage<blob_memory::Storage, R> {
+    /// The pending entries of each current incarnation, behind its last marker, are replayed in issue order over its durable
+    /// bytes: of each write what is drawn for it. The draws go by the writes' numbers, over all incarnations, ended ones too,
+    /// and each is for a whole write, where a byte of it isn't covered by a later durable range. Nothing is pending any more.
+    /// Handles keep their live bytes.
+    ///
+    /// # Errors
+    ///
+    /// `Memory` alone. It leaves all as it was but the generator.
+    pub fn crash(&mut self) -> Result<Selections, Error>
+        ensures rows { IfOk result (λ kept. (files : Files) → Stands (λ o. o) (directory (inner_of self.old)) (durable (inner_of self.old)) self.old files → (table_of kept, R.stream (rng_of self.new)) ≡ drawn (R.stream (rng_of self.old)) (all_needs files.log)) }
+        ensures stands { IfOk result (λ kept. (files : Files) → Stands (λ o. o) (directory (inner_of self.old)) (durable (inner_of self.old)) self.old files → Stands (λ o. o) (directory (inner_of self.new)) (durable (inner_of self.new)) self.new (after_crash files (chosen_by (table_of kept)))) }
+        ensures durable { IfOk result (λ kept. AreApart (λ o. o) self.old → (o : Place) → durable (inner_of self.new) o ≡ replayed_at (chosen_by (table_of kept)) (pending_of (λ o. o) self.old o) (durable (inner_of self.old) o)) }
+        ensures emptied { OnOk result (pending_of (λ o. o) self.new ≡ (λ _. [])) }
+        ensures apart { OnOk result (AreApart (λ o. o) self.new) }
+        ensures memory { OnErr result (IsMemory result) }
+        ensures unchanged { OnErr result (durable (inner_of self.new) ≡ durable (inner_of self.old)) }
+        ensures records { OnErr result (KeepsRecords (λ o. o) self.old self.new) }
+        ensures directory { directory (inner_of self.new) ≡ directory (inner_of self.old) }
+        ensures numbers { KeepsNumbers self.old self.new }
+    {
+        let alloc = *self.lists.all.allocator();
+        let draws = gather(alloc, &self.lists.all)?;
+        let rows = draw_rows(alloc, &draws, &mut self.rng)?;
+        let mut chosen = Vec::with_capacity(alloc, widest_of_all(&self.lists.all))?;
+        reserve_all(&mut self.inner, &self.lists.all)?;
+        replay_all(&mut self.inner, &self.lists.all, &rows, &mut chosen);
+        self.lists.all.clear();
+        Ok(Selections::new(rows))
+    }
+}

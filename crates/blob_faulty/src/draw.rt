@@ -1,0 +1,16 @@
+ghost use Rattle.std.specs.Prelude.{◌<◌, ◌+◌, ◌^◌};
+
+use crate::mode::PartialWriteMode;
+use blob_base::Probability;
+
+/// What the draws of a pending write go by.
+#[derive(Clone, Copy)]
+pub struct Draw {
+    pub number: u64,
+    pub offset: u64,
+    pub len: usize,
+    /// The mode and the retention rate of its issue.
+    pub mode: PartialWriteMode,
+    pub rate: Probability,
+    ghost fits: { offset + len < 2 ^ 64 },
+}

@@ -1,0 +1,182 @@
+//! Opens, removals, scans and finished syncs of the wrapper.
+ghost use Rattle.std.specs.Prelude.{◌≡◌, ◌≤◌, ℕ, Bool, true, false, Option, Some, None, is_some, IsTrue, OnOk, OnErr, IfOk, length, map, option_copied};
+ghost use Rattle.std.specs.Range.{range_inclusive_start, range_inclusive_end, range_inclusive_exhausted};
+ghost use Rattle.blob_base.specs.Durable.{durable_without};
+ghost use Rattle.blob_base.specs.Files.{after_open, after_remove, ends_by};
+ghost use Rattle.blob_base.specs.Handles.{outcome_of, marker_of};
+ghost use Rattle.blob_base.specs.Names.{AreNames};
+ghost use Rattle.blob_base.specs.Opening.{IsOpened, removed};
+ghost use Rattle.blob_base.specs.Places.{Place};
+ghost use Rattle.blob_base.specs.Refusals.{refused};
+ghost use Rattle.blob_faulty.specs.Answers.{injected_or};
+ghost use Rattle.blob_faulty.specs.Faults.{draw};
+ghost use Rattle.blob_faulty.specs.Names.{OpenLeaves, RemoveLeaves, Steps, emptied};
+ghost use Rattle.blob_faulty.specs.Wrapper.{inner_of, rng_of, config_of, pending_of, AreApart, KeepsNumbers, KeepsRecords, finished_by, inside, size_of};
+
+use crate::blob::Blob;
+use crate::faults::draws;
+use crate::retired::Retired;
+use crate::storage::Storage;
+use blob_base::{BlobVersion, Error, Handle};
+use rand_core::Rng;
+use std::ops::RangeInclusive;
+
+impl<S: blob_base::Storage, R> Storage<S, R> {
+    /// The inner store's own open. Its handle tracks the size that it answered.
+    fn open_inner(
+        &mut self,
+        partition: &str,
+        name: &[u8],
+        versions: RangeInclusive<BlobVersion>,
+    ) -> Result<(Blob<S::Blob>, u64, BlobVersion), Error>
+        requires fresh { range_inclusive_exhausted versions ≡ false }
+        requires some { (range_inclusive_start versions).0 ≤ (range_inclusive_end versions).0 }
+        ensures allowed { S.allows_open self.old.inner partition.now name.now (range_inclusive_start versions).0 (range_inclusive_end versions).0 (refused result) }
+        ensures leaves { S.leaves_open self.old.inner partition.now name.now (range_inclusive_start versions).0 (range_inclusive_end versions).0 (refused result) self.new.inner }
+        ensures opened { IfOk result (λ opened. IsOpened (S.directory self.old.inner) (S.durable self.old.inner) (S.directory self.new.inner) (S.durable self.new.inner) partition.now name.now (range_inclusive_start versions).0 (range_inclusive_end versions).0 (S.Blob.place (inside opened.0)) (S.Blob.live (inside opened.0)) opened.2.0) }
+        ensures size { IfOk result (λ opened. opened.1 ≡ length (S.Blob.live (inside opened.0))) }
+        ensures tracked { IfOk result (λ opened. size_of opened.0 ≡ opened.1) }
+        ensures kept_size { IfOk result (λ opened. S.keeps_size (inside opened.0) opened.1) }
+        ensures err { OnErr result ((S.directory self.new.inner ≡ S.directory self.old.inner) × (S.durable self.new.inner ≡ S.durable self.old.inner)) }
+        ensures rest { self.new ≡ record self.old { inner = self.new.inner } }
+    {
+        let (inner, size, version) = self.inner.open_versioned(partition, name, versions)?;
+        Ok((Blob { inner, size }, size, version))
+    }
+
+    /// The inner store's own removal, and then the lists of the incarnations that it ended go.
+    fn remove_inner(&mut self, partition: &str, name: Option<&[u8]>) -> Result<Retired, Error>
+        ensures allowed { S.allows_remove self.old.inner partition.now (option_copied name.entry) (refused result) }
+        ensures leaves { S.leaves_remove self.old.inner partition.now (option_copied name.entry) (refused result) self.new.inner }
+        ensures directory { OnOk result (S.directory self.new.inner ≡ removed (S.directory self.old.inner) partition.now (option_copied name.entry)) }
+        ensures durable { OnOk result (S.durable self.new.inner ≡ durable_without (S.durable self.old.inner) partition.now (option_copied name.entry)) }
+        ensures err { OnErr result ((S.directory self.new.inner ≡ S.directory self.old.inner) × (S.durable self.new.inner ≡ S.durable self.old.inner)) }
+        ensures retired { OnOk result ((o : Place) → pending_of S.place self.new o ≡ emptied (ends_by (S.directory self.old.inner) partition.now (option_copied name.entry)) (pending_of S.place self.old) o) }
+        ensures kept { OnErr result ((o : Place) → pending_of S.place self.new o ≡ pending_of S.place self.old o) }
+        ensures apart { AreApart S.place self.old → AreApart S.place self.new }
+        ensures rest { self.new ≡ record self.old { inner = self.new.inner; lists = self.new.lists } }
+    {
+        self.lists.note_current(&self.inner);
+        self.inner.remove(partition, name)?;
+        self.lists.retire_ended(&self.inner);
+        Ok(Retired { _private: () })
+    }
+}
+
+impl<S: blob_base::Storage, R: Rng> Storage<S, R> {
+    /// Removes the blob, or with no name the whole partition, and retires what is pending of the incarnations that end by it.
+    /// What is pending of incarnations that ended earlier stays.
+    pub fn remove_retired(&mut self, partition: &str, name: Option<&[u8]>) -> Result<Retired, Error>
+        ensures allowed { injected_or (draw (config_of self.old).remove_rate (R.stream (rng_of self.old))).0 (S.allows_remove (inner_of self.old) partition.now (option_copied name.entry)) (refused result) }
+        ensures leaves { RemoveLeaves S.place R.stream (S.leaves_remove (inner_of self.old) partition.now (option_copied name.entry) (refused result)) (refused result) (ends_by (S.directory (inner_of self.old)) partition.now (option_copied name.entry)) self.old self.new }
+        ensures directory { OnOk result (S.directory (inner_of self.new) ≡ removed (S.directory (inner_of self.old)) partition.now (option_copied name.entry)) }
+        ensures durable { OnOk result (S.durable (inner_of self.new) ≡ durable_without (S.durable (inner_of self.old)) partition.now (option_copied name.entry)) }
+        ensures err { OnErr result ((S.directory (inner_of self.new) ≡ S.directory (inner_of self.old)) × (S.durable (inner_of self.new) ≡ S.durable (inner_of self.old))) }
+        ensures files { OnOk result (Steps S.place S.directory S.durable self.old self.new (λ files. after_remove files partition.now (option_copied name.entry))) }
+        ensures same_files { OnErr result (Steps S.place S.directory S.durable self.old self.new (λ files. files)) }
+    {
+        if draws(self.config.remove_rate, &mut self.rng) {
+            return Err(Error::Injected);
+        }
+        self.remove_inner(partition, name)
+    }
+}
+
+impl<S: blob_base::Storage, R> Storage<S, R> {
+    /// A started sync is finished, where it left a marker.
+    fn finish_marker(&mut self, marker: Option<u64>)
+        ensures pending { (o : Place) → pending_of S.place self.new o ≡ finished_by marker (pending_of S.place self.old o) }
+        ensures apart { AreApart S.place self.old → AreApart S.place self.new }
+        ensures rest { self.new ≡ record self.old { lists = self.new.lists } }
+    {
+        if let Some(marker) = marker {
+            self.lists.finish(marker);
+        }
+    }
+}
+
+impl<S: blob_base::Storage, R: Rng> blob_base::Storage for Storage<S, R> {
+    type Blob = Blob<S::Blob>;
+
+    ghost allows_open = { λ s p n first last. injected_or (draw (config_of s).open_rate (R.stream (rng_of s))).0 (S.allows_open (inner_of s) p n first last) };
+
+    ghost allows_remove = { λ s p n. injected_or (draw (config_of s).remove_rate (R.stream (rng_of s))).0 (S.allows_remove (inner_of s) p n) };
+
+    ghost allows_scan = { λ s p. injected_or (draw (config_of s).scan_rate (R.stream (rng_of s))).0 (S.allows_scan (inner_of s) p) };
+
+    ghost leaves_open = { λ before p n first last answer after. OpenLeaves S.place R.stream (S.leaves_open (inner_of before) p n first last answer) before after };
+
+    ghost leaves_remove = { λ before p n answer after. RemoveLeaves S.place R.stream (S.leaves_remove (inner_of before) p n answer) answer (ends_by (S.directory (inner_of before)) p n) before after };
+
+    ghost keeps_size = { λ blob size. (size_of blob ≡ size) × S.keeps_size (inside blob) size };
+
+    /// The inner store's open, after a draw. Nothing that is pending is retired by it.
+    fn open_versioned(
+        &mut self,
+        partition: &str,
+        name: &[u8],
+        versions: RangeInclusive<BlobVersion>,
+    ) -> Result<(Blob<S::Blob>, u64, BlobVersion), Error>
+        requires fresh { range_inclusive_exhausted versions ≡ false }
+        requires some { (range_inclusive_start versions).0 ≤ (range_inclusive_end versions).0 }
+        ensures allowed { injected_or (draw (config_of self.old).open_rate (R.stream (rng_of self.old))).0 (S.allows_open (inner_of self.old) partition.now name.now (range_inclusive_start versions).0 (range_inclusive_end versions).0) (refused result) }
+        ensures leaves { OpenLeaves S.place R.stream (S.leaves_open (inner_of self.old) partition.now name.now (range_inclusive_start versions).0 (range_inclusive_end versions).0 (refused result)) self.old self.new }
+        ensures opened { IfOk result (λ opened. IsOpened (S.directory (inner_of self.old)) (S.durable (inner_of self.old)) (S.directory (inner_of self.new)) (S.durable (inner_of self.new)) partition.now name.now (range_inclusive_start versions).0 (range_inclusive_end versions).0 (S.Blob.place (inside opened.0)) (S.Blob.live (inside opened.0)) opened.2.0) }
+        ensures size { IfOk result (λ opened. opened.1 ≡ length (S.Blob.live (inside opened.0))) }
+        ensures kept_size { IfOk result (λ opened. (size_of opened.0 ≡ opened.1) × S.keeps_size (inside opened.0) opened.1) }
+        ensures err { OnErr result ((S.directory (inner_of self.new) ≡ S.directory (inner_of self.old)) × (S.durable (inner_of self.new) ≡ S.durable (inner_of self.old))) }
+        ensures files { OnOk result (Steps S.place S.directory S.durable self.old self.new (λ files. after_open files partition.now name.now (range_inclusive_start versions).0 (range_inclusive_end versions).0)) }
+        ensures same_files { OnErr result (Steps S.place S.directory S.durable self.old self.new (λ files. files)) }
+    {
+        if draws(self.config.open_rate, &mut self.rng) {
+            return Err(Error::Injected);
+        }
+        self.open_inner(partition, name, versions)
+    }
+
+    /// `remove_retired`, whose result is dropped.
+    fn remove(&mut self, partition: &str, name: Option<&[u8]>) -> Result<(), Error>
+        ensures allowed { injected_or (draw (config_of self.old).remove_rate (R.stream (rng_of self.old))).0 (S.allows_remove (inner_of self.old) partition.now (option_copied name.entry)) (refused result) }
+        ensures leaves { RemoveLeaves S.place R.stream (S.leaves_remove (inner_of self.old) partition.now (option_copied name.entry) (refused result)) (refused result) (ends_by (S.directory (inner_of self.old)) partition.now (option_copied name.entry)) self.old self.new }
+        ensures directory { OnOk result (S.directory (inner_of self.new) ≡ removed (S.directory (inner_of self.old)) partition.now (option_copied name.entry)) }
+        ensures durable { OnOk result (S.durable (inner_of self.new) ≡ durable_without (S.durable (inner_of self.old)) partition.now (option_copied name.entry)) }
+        ensures err { OnErr result ((S.directory (inner_of self.new) ≡ S.directory (inner_of self.old)) × (S.durable (inner_of self.new) ≡ S.durable (inner_of self.old))) }
+        ensures files { OnOk result (Steps S.place S.directory S.durable self.old self.new (λ files. after_remove files partition.now (option_copied name.entry))) }
+        ensures same_files { OnErr result (Steps S.place S.directory S.durable self.old self.new (λ files. files)) }
+    {
+        self.remove_retired(partition, name)?;
+        Ok(())
+    }
+
+    /// The inner store's names, after a draw.
+    fn scan(&mut self, partition: &str) -> Result<Vec<Vec<u8>>, Error>
+        ensures allowed { injected_or (draw (config_of self.old).scan_rate (R.stream (rng_of self.old))).0 (S.allows_scan (inner_of self.old) partition.now) (refused result) }
+        ensures names { IfOk result (λ names. AreNames (map (λ name. name.items) names.items) (λ name. is_some ((S.directory (inner_of self.old)).file partition.now name))) }
+        ensures there { OnOk result (IsTrue ((S.directory (inner_of self.old)).has_partition partition.now)) }
+        ensures directory { S.directory (inner_of self.new) ≡ S.directory (inner_of self.old) }
+        ensures durable { S.durable (inner_of self.new) ≡ S.durable (inner_of self.old) }
+        ensures stream { R.stream (rng_of self.new) ≡ (draw (config_of self.old).scan_rate (R.stream (rng_of self.old))).1 }
+        ensures unrecorded { KeepsRecords S.place self.old self.new }
+        ensures files { Steps S.place S.directory S.durable self.old self.new (λ files. files) }
+    {
+        if draws(self.config.scan_rate, &mut self.rng) {
+            return Err(Error::Injected);
+        }
+        self.inner.scan(partition)
+    }
+
+    /// Ends a started sync, and answers its outcome: its marker and the entries of its incarnation before it go. Where the
+    /// marker is gone, nothing changes.
+    fn finish(&mut self, handle: Handle) -> Result<(), Error>
+        ensures outcome { result ≡ outcome_of handle }
+        ensures pending { (o : Place) → pending_of S.place self.new o ≡ finished_by (marker_of handle) (pending_of S.place self.old o) }
+        ensures apart { AreApart S.place self.old → AreApart S.place self.new }
+        ensures numbers { KeepsNumbers self.old self.new }
+        ensures rng { rng_of self.new ≡ rng_of self.old }
+        ensures inner { inner_of self.new ≡ inner_of self.old }
+        ensures files { Steps S.place S.directory S.durable self.old self.new (λ files. files) }
+    {
+        self.finish_marker(handle.marker());
+        handle.into_outcome()
+    }
+}

@@ -1,0 +1,195 @@
+//! What a crash makes of the durable bytes. Where there is room for it, no memory is taken.
+ghost use Rattle.std.specs.Prelude.{◌≡◌, ◌<◌, ◌≤◌, ◌+◌, ◌^◌, ℕ, true, false, not, ◌&&◌, length, replicate, slice_index_or, vec_capacity, All};
+ghost use Rattle.blob_base.specs.Bytes.{between, overlay_by};
+ghost use Rattle.blob_base.specs.Draws.{chosen_by};
+ghost use Rattle.blob_base.specs.Durable.{changed};
+ghost use Rattle.blob_base.specs.Holes.{in_holes};
+ghost use Rattle.blob_base.specs.Order.{ArePlacesApart};
+ghost use Rattle.blob_base.specs.Pending.{has_marker, replay, replayed, end_of, ends};
+ghost use Rattle.blob_base.specs.Places.{Place};
+ghost use Rattle.blob_base.specs.Runs.{picked};
+ghost use Rattle.blob_base.specs.Stands.{replayed_at};
+ghost use Rattle.blob_faulty.specs.Lists.{held, held_by, list_of};
+ghost use Rattle.blob_faulty.specs.Ranges.{ranges};
+ghost use Rattle.blob_faulty.specs.Replays.{width, widest, widest_of_all, IsReady};
+ghost use Rattle.blob_faulty.specs.Rows.{rows_in, AreNumbered};
+ghost use Rattle.blob_faulty.specs.Views.{view, views};
+ghost use Rattle.blob_memory.specs.Store.{directory, durable, HasCrashRoom};
+
+use crate::entries::unmarked;
+use crate::entry::Entry;
+use crate::holes::Hole;
+use crate::lists::Incarnation;
+use crate::rows::choices_in;
+use crate::write::PendingWrite;
+use blob_base::{Durable, IoBufs};
+use blob_memory::Origin;
+
+/// A row's choices for so many bytes, none past its end.
+fn put_row(chosen: &mut Vec<bool>, row: &[bool], len: usize)
+    requires { len ≤ vec_capacity chosen.old }
+    ensures len { length chosen.new.items ≡ len }
+    ensures each { (i : ℕ) → i < len → slice_index_or chosen.new.items i false ≡ slice_index_or row.now i false }
+    ensures capacity { vec_capacity chosen.old ≤ vec_capacity chosen.new }
+{
+    chosen.clear();
+    for i in 0..len {
+        chosen.push(i < row.len() && row[i]).unwrap();
+    }
+}
+
+/// All of so many bytes.
+fn put_all(chosen: &mut Vec<bool>, len: usize)
+    requires { len ≤ vec_capacity chosen.old }
+    ensures items { chosen.new.items ≡ replicate len true }
+    ensures capacity { vec_capacity chosen.old ≤ vec_capacity chosen.new }
+{
+    chosen.clear();
+    for i in 0..len {
+        let _ = i;
+        chosen.push(true).unwrap();
+    }
+}
+
+/// Nothing that a hole covers is chosen of the bytes at `offset`.
+fn uncover(chosen: &mut [bool], offset: u64, hole: Hole)
+    ensures { (i : ℕ) → i < length chosen.old → slice_index_or chosen.new i false ≡ (not (between hole.start hole.end (offset + i)) && slice_index_or chosen.old i false) }
+{
+    let start = hole.start.saturating_sub(offset) as usize;
+    let end = (hole.end.saturating_sub(offset) as usize).min(chosen.len());
+    for i in start..end {
+        chosen[i] = false;
+    }
+}
+
+/// The same of each hole.
+fn uncover_all(chosen: &mut [bool], offset: u64, holes: &[Hole])
+    ensures { (i : ℕ) → i < length chosen.old → slice_index_or chosen.new i false ≡ (not (in_holes (ranges holes.now) (offset + i)) && slice_index_or chosen.old i false) }
+{
+    for hole in holes {
+        uncover(chosen, offset, *hole);
+    }
+}
+
+/// A row's choices of the bytes of a write that no later durable range covers.
+fn put_choices(chosen: &mut Vec<bool>, write: &PendingWrite, row: &[bool])
+    requires { length write.now.bytes ≤ vec_capacity chosen.old }
+    ensures len { length chosen.new.items ≡ length write.now.bytes }
+    ensures each { (i : ℕ) → i < length write.now.bytes → slice_index_or chosen.new.items i false ≡ (not (in_holes (ranges write.now.holes.items) (write.now.offset + i)) && slice_index_or row.now i false) }
+    ensures capacity { vec_capacity chosen.old ≤ vec_capacity chosen.new }
+{
+    put_row(chosen, row, write.bytes.remaining());
+    uncover_all(chosen.as_mut_slice(), write.offset, &write.holes);
+}
+
+/// The chosen bytes are laid over the durable ones of an incarnation that has room for all.
+fn lay_chosen(
+    inner: &mut blob_memory::Storage,
+    origin: &Origin,
+    offset: u64,
+    bytes: &IoBufs,
+    chosen: &[bool],
+)
+    requires len { length chosen.now ≡ length bytes.now }
+    requires counted { offset + length bytes.now + origin.now.start < 2 ^ 64 }
+    requires room { HasCrashRoom inner.old origin.now (offset + length bytes.now) }
+    ensures durable { durable inner.new ≡ changed (durable inner.old) origin.now (λ x. overlay_by x offset bytes.now (picked chosen.now)) }
+    ensures directory { directory inner.new ≡ directory inner.old }
+    ensures room { (o : Place) (n : ℕ) → HasCrashRoom inner.old o n → HasCrashRoom inner.new o n }
+{
+    inner.retain_write(origin, offset, bytes, chosen).unwrap();
+}
+
+/// One entry is replayed. The rows are read by the write's number.
+fn replay_entry(
+    inner: &mut blob_memory::Storage,
+    origin: &Origin,
+    entry: &Entry,
+    rows: &[(u64, Vec<bool>)],
+    chosen: &mut Vec<bool>,
+)
+    requires numbered { AreNumbered rows.now }
+    requires counted { end_of (view entry.now) + origin.now.start < 2 ^ 64 }
+    requires room { HasCrashRoom inner.old origin.now (end_of (view entry.now)) }
+    requires width { width (view entry.now) ≤ vec_capacity chosen.old }
+    ensures durable { (o : Place) → durable inner.new o ≡ changed (durable inner.old) origin.now (λ x. replayed x (view entry.now) (chosen_by (rows_in rows.now))) o }
+    ensures directory { directory inner.new ≡ directory inner.old }
+    ensures room { (o : Place) (n : ℕ) → HasCrashRoom inner.old o n → HasCrashRoom inner.new o n }
+    ensures capacity { vec_capacity chosen.old ≤ vec_capacity chosen.new }
+{
+    match entry {
+        Entry::Write(write) => {
+            put_choices(chosen, write, choices_in(rows, write.number));
+            lay_chosen(inner, origin, write.offset, &write.bytes, chosen);
+        }
+        Entry::Resize(len) => inner.retain_resize(origin, *len).unwrap(),
+        Entry::Range(range) => {
+            put_all(chosen, range.bytes.remaining());
+            lay_chosen(inner, origin, range.offset, &range.bytes, chosen);
+        }
+        Entry::Marker(_) => (),
+    }
+}
+
+/// Entries among which no marker is are replayed in their order.
+fn replay_entries(
+    inner: &mut blob_memory::Storage,
+    origin: &Origin,
+    entries: &[Entry],
+    rows: &[(u64, Vec<bool>)],
+    chosen: &mut Vec<bool>,
+)
+    requires unmarked { has_marker (views entries.now) ≡ false }
+    requires numbered { AreNumbered rows.now }
+    requires counted { ends (views entries.now) + origin.now.start < 2 ^ 64 }
+    requires room { HasCrashRoom inner.old origin.now (ends (views entries.now)) }
+    requires width { widest (views entries.now) ≤ vec_capacity chosen.old }
+    ensures durable { (o : Place) → durable inner.new o ≡ changed (durable inner.old) origin.now (λ x. replay (views entries.now) (chosen_by (rows_in rows.now)) x) o }
+    ensures directory { directory inner.new ≡ directory inner.old }
+    ensures room { (o : Place) (n : ℕ) → HasCrashRoom inner.old o n → HasCrashRoom inner.new o n }
+    ensures capacity { vec_capacity chosen.old ≤ vec_capacity chosen.new }
+{
+    for entry in entries {
+        replay_entry(inner, origin, entry, rows, chosen);
+    }
+}
+
+/// A list is replayed over its incarnation. Where that has ended, nothing is left to change.
+fn replay_list(
+    inner: &mut blob_memory::Storage,
+    list: &Incarnation<Origin>,
+    rows: &[(u64, Vec<bool>)],
+    chosen: &mut Vec<bool>,
+)
+    requires numbered { AreNumbered rows.now }
+    requires ready { IsReady inner.old (held_by (λ o. o) list.now) }
+    requires width { widest (views list.now.entries.items) ≤ vec_capacity chosen.old }
+    ensures durable { (o : Place) → durable inner.new o ≡ changed (durable inner.old) list.now.origin (λ x. replay (views list.now.entries.items) (chosen_by (rows_in rows.now)) x) o }
+    ensures directory { directory inner.new ≡ directory inner.old }
+    ensures room { (o : Place) (n : ℕ) → HasCrashRoom inner.old o n → HasCrashRoom inner.new o n }
+    ensures capacity { vec_capacity chosen.old ≤ vec_capacity chosen.new }
+{
+    if !inner.is_current(&list.origin) {
+        return;
+    }
+    let entries = unmarked(&list.entries);
+    replay_entries(inner, &list.origin, entries, rows, chosen);
+}
+
+/// All lists are replayed, each over its incarnation.
+pub fn replay_all(
+    inner: &mut blob_memory::Storage,
+    lists: &[Incarnation<Origin>],
+    rows: &[(u64, Vec<bool>)],
+    chosen: &mut Vec<bool>,
+)
+    requires numbered { AreNumbered rows.now }
+    requires ready { All (λ list. IsReady inner.old (held_by (λ o. o) list)) lists.now }
+    requires width { widest_of_all (held (λ o. o) lists.now) ≤ vec_capacity chosen.old }
+    ensures durable { ArePlacesApart (held (λ o. o) lists.now) → (o : Place) → durable inner.new o ≡ replayed_at (chosen_by (rows_in rows.now)) (list_of (λ o. o) lists.now o) (durable inner.old o) }
+    ensures directory { directory inner.new ≡ directory inner.old }
+{
+    for list in lists {
+        replay_list(inner, list, rows, chosen);
+    }
+}

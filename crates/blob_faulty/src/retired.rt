@@ -1,0 +1,7 @@
+//! What retiring answers.
+
+/// What was retired. It has no calls.
+#[derive(Drop)]
+pub struct Retired {
+    pub(crate) _private: (),
+}
