@@ -92,8 +92,17 @@ run "$top/blobcrash" 'resolve ' </dev/null
 expect 'an argument with a space' 2 '' "$usage"
 run "$top/blobcrash" "$(printf '\377')" </dev/null
 expect 'an argument that is not UTF-8' 2 '' "$usage"
+
+# Scripts.
 run "$top/blobcrash" </dev/null
-expect 'no argument' 2 '' "$usage"
+expect 'a script without a line' 0 '' ''
+
+run "$top/blobcrash" <"$top/examples/FIRST.script"
+expect 'the first example' 0 "$(cat "$top/crates/blobcrash/stdout")$line" ''
+
+printf 'open p 62\n# x\nread 0 0\n' >"$work/in"
+run "$top/blobcrash" <"$work/in"
+expect 'a bad line' 2 "opened 0 0 0$line" 'line 3: bad call'
 
 # Streams that fail.
 echo >"$work/in"

@@ -1,8 +1,29 @@
+pub mod AskSteps
+pub mod AskedSyncs
+pub mod AskedWrites
+pub mod CallSteps
+pub mod Denying
+pub mod ExclusiveEnds
+pub mod ExclusiveOpens
 pub mod Keeping
+mod LabLaws
+pub mod LooseOpens
 pub mod Maps
+pub mod NamedCalls
+pub mod OpenEnds
 pub mod OpenHistory
 pub mod OpenNames
+pub mod OpenSteps
+pub mod Opened
+pub mod Performing
 pub mod Reading
+pub mod Rebuilding
 pub mod Recreation
+pub mod RunSteps
+mod Stale
 pub mod Steps
+pub mod TableSteps
+pub mod Telling
+pub mod ThroughHandles
 pub mod Tokens
+pub mod WorkedRows

@@ -25,17 +25,17 @@ closed_other s r e = ap (λ f. record s { registered = f }) (ap (with_at s.regis
 pub taken_back : (s : OpenNames) (p n : List ℕ) (x : Option ℕ) → s.registered p n ≡ None → ended (record s { registered = with_at s.registered p n x }) p (Some n) ≡ s
 taken_back s p n x e = ap (λ f. record s { registered = f }) (with_at_twice s.registered p n x None ∙ sym (ap (with_at s.registered p n) e) ∙ with_at_same s.registered p n)
 
-module _ (s : OpenNames) (p n : List ℕ) (allows : Option Refusal → Type 0) (made kept untouched : Type 0) where
-  is_held : (o : Option ℕ) → is_some o ≡ true → s.registered p n ≡ o → allows None → made → OpenAnswer s p n allows made kept untouched (Some (BlobAlreadyOpen p (encode_lower n)))
+module _ (s : OpenNames) (p n : List ℕ) (asked : Option Refusal → Type 0) (made kept untouched : Type 0) where
+  is_held : (o : Option ℕ) → is_some o ≡ true → s.registered p n ≡ o → asked None → made → OpenAnswer s p n asked made kept untouched (Some (BlobAlreadyOpen p (encode_lower n)))
   is_held None e h a m = absurd (false≢true e)
   is_held (Some k) e h a m = Held k h a m
 
   -- the store accepted an open of a name that is open
-  pub held : (refusal : Refusal) → is_some (s.registered p n) ≡ true → refusal ≡ BlobAlreadyOpen p (encode_lower n) → allows None → made → OpenAnswer s p n allows made kept untouched (Some refusal)
+  pub held : (refusal : Refusal) → is_some (s.registered p n) ≡ true → refusal ≡ BlobAlreadyOpen p (encode_lower n) → asked None → made → OpenAnswer s p n asked made kept untouched (Some refusal)
   held refusal e is a m = rw is (is_held (s.registered p n) e refl a m)
 
   -- no registration could be made
-  pub unregistered : (refusal : Refusal) → (refusal ≡ Memory) ⊎ ((refusal ≡ GenerationsExhausted) × (s.next ≡ 2 ^ 64 - 1)) → s.registered p n ≡ None → untouched → OpenAnswer s p n allows made kept untouched (Some refusal)
+  pub unregistered : (refusal : Refusal) → (refusal ≡ Memory) ⊎ ((refusal ≡ GenerationsExhausted) × (s.next ≡ 2 ^ 64 - 1)) → s.registered p n ≡ None → untouched → OpenAnswer s p n asked made kept untouched (Some refusal)
   unregistered refusal why free u = ⊎_elim (λ e. rw e (NoMemory u)) (λ (e, last). rw e (NoNumber (record { free = free; last = last }) u)) why
 
 pub is_made : {d d' : Directory} {durable durable' : Durable} {p n : List ℕ} {first last : ℕ} {place : Place} {live : List ℕ} {version : ℕ}

@@ -1,6 +1,11 @@
+pub mod Acts
+pub mod After
+pub mod Answers
 pub mod Debts
+pub mod Denials
 pub mod Endings
 pub mod History
+pub mod LabStands
 pub mod Names
 pub mod OpenNames
 pub mod Opens
@@ -8,6 +13,10 @@ pub mod Reading
 pub mod Recreated
 pub mod Replies
 pub mod ResolveReplies
+pub mod Runs
 pub mod Scripted
 pub mod Settings
+pub mod States
+pub mod Tables
+pub mod Told
 pub mod Tokens

@@ -62,12 +62,12 @@ pub record IsExhausted (s : OpenNames) (p n : List ℕ) : Type 0 where
   pub free : s.registered p n ≡ None
   pub last : s.next ≡ 2 ^ 64 - 1
 
--- What an open of a name may answer, over what the store's own open may; `made` says what that leaves in the store where
--- it is accepted, `kept` what it leaves where it isn't, and `untouched` that it wasn't asked.
-pub data OpenAnswer (s : OpenNames) (p n : List ℕ) (allows : Option Refusal → Type 0) (made kept untouched : Type 0) : Option Refusal → Type 0 where
-  Accepted : s.registered p n ≡ None → s.next < 2 ^ 64 - 1 → allows None → made → OpenAnswer s p n allows made kept untouched None
+-- What an open of a name may answer. `asked` says that the store's own open answered so, `made` what that leaves in the
+-- store's files where it is accepted, `kept` what it leaves where it isn't, and `untouched` that the store wasn't asked.
+pub data OpenAnswer (s : OpenNames) (p n : List ℕ) (asked : Option Refusal → Type 0) (made kept untouched : Type 0) : Option Refusal → Type 0 where
+  Accepted : s.registered p n ≡ None → s.next < 2 ^ 64 - 1 → asked None → made → OpenAnswer s p n asked made kept untouched None
   -- the store is asked first, and what its open made stays
-  Held : (number : ℕ) → s.registered p n ≡ Some number → allows None → made → OpenAnswer s p n allows made kept untouched (Some (BlobAlreadyOpen p (encode_lower n)))
-  Declined : (refusal : Refusal) → allows (Some refusal) → kept → OpenAnswer s p n allows made kept untouched (Some refusal)
-  NoMemory : untouched → OpenAnswer s p n allows made kept untouched (Some Memory)
-  NoNumber : IsExhausted s p n → untouched → OpenAnswer s p n allows made kept untouched (Some GenerationsExhausted)
+  Held : (number : ℕ) → s.registered p n ≡ Some number → asked None → made → OpenAnswer s p n asked made kept untouched (Some (BlobAlreadyOpen p (encode_lower n)))
+  Declined : (refusal : Refusal) → (IsExhausted s p n → ⊥) → asked (Some refusal) → kept → OpenAnswer s p n asked made kept untouched (Some refusal)
+  NoMemory : untouched → OpenAnswer s p n asked made kept untouched (Some Memory)
+  NoNumber : IsExhausted s p n → untouched → OpenAnswer s p n asked made kept untouched (Some GenerationsExhausted)

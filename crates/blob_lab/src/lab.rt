@@ -1,31 +1,150 @@
-// Stands in for the laboratory until that is written.
-use crate::{Call, Reply};
+//! The laboratory: a faulty memory store, its open handles and started syncs, and calls as data.
+ghost use Rattle.std.specs.Prelude.{◌≡◌, IfOk, OnErr};
+ghost use Rattle.blob_base.specs.Refusals.{IsMemory};
+ghost use Rattle.blob_lab.specs.Acts.{Configure, act_of};
+ghost use Rattle.blob_lab.specs.LabStands.{StandsFor, Performs, wrapper_of};
+ghost use Rattle.blob_lab.specs.Runs.{Run};
+ghost use Rattle.blob_lab.specs.States.{State, start};
+ghost use Rattle.blob_lab.specs.Tables.{images_of};
+
+mod asking;
+pub mod handles;
+mod naming;
+mod opening;
+mod rebuilding;
+pub mod syncs;
+
+use crate::script::setting::copy_of;
+use crate::{Call, Opens, Reply, ScriptedRng};
 use blob_base::Error;
 use blob_faulty::Config;
+use handles::Handles;
+use std::alloc::Global;
+use syncs::Syncs;
 
-pub(crate) struct Lab {
-    config: Config,
+/// One wrapper over a memory store, with the handles that were opened on it and the syncs that were started.
+///
+/// It is spent by `end`.
+pub struct Lab {
+    pub(crate) wrapper: Wrapper,
+    pub(crate) opens: Opens,
+    pub(crate) handles: Handles,
+    pub(crate) syncs: Syncs,
+    pub(crate) alloc: Global,
 }
 
+/// The wrapper of a laboratory.
+pub type Wrapper = blob_faulty::Storage<blob_memory::Storage, ScriptedRng>;
+
 impl Lab {
-    pub(crate) fn new(
+    /// A laboratory over these raw images (partition, name and bytes), set in order before the store is wrapped. The
+    /// generator has these words. The only error is `Memory`.
+    pub fn new(
         images: Vec<(String, Vec<u8>, Vec<u8>)>,
         words: Vec<u64>,
         config: Config,
-    ) -> Result<Lab, Error> {
-        let _ = images;
-        let _ = words;
-        Ok(Lab { config })
+    ) -> Result<Lab, Error>
+        ensures stands { IfOk result (λ lab. StandsFor lab (start (images_of images.items) words.items config)) }
+        ensures memory { OnErr result (IsMemory result) }
+    {
+        let alloc = *images.allocator();
+        let mut store = blob_memory::Storage::new(alloc);
+        for (partition, name, bytes) in images {
+            store.set_raw_blob(&partition, &name, bytes)?;
+        }
+        let rng = ScriptedRng::new(words);
+        Ok(Lab {
+            wrapper: blob_faulty::Storage::new(alloc, store, rng, config),
+            opens: Opens::new(alloc),
+            handles: Handles::new(alloc),
+            syncs: Syncs::new(alloc),
+            alloc,
+        })
     }
 
-    pub(crate) fn apply(&mut self, call: &Call) -> Reply {
+    /// Makes one call: whatever state the laboratory stood for, the reply is one that the call may be given there, and the
+    /// laboratory now stands for what the call makes of that state.
+    ///
+    /// `NoHandle` and `EmptyRange` change nothing and draw nothing. `Failed(Memory)` changes nothing but the generator,
+    /// and isn't answered to `Configure`, `Admit`, `Close`, `Size`, `Finish` and `Reopen`.
+    pub fn apply(&mut self, call: &Call) -> Reply
+        ensures { Performs self.old (act_of call.now) result self.new }
+    {
         match call {
-            Call::Close(_) => Reply::NoHandle,
-            _ => Reply::Done,
+            Call::Configure(config) => self.configure(config),
+            Call::Open {
+                partition,
+                name,
+                versions,
+            } => self.open(partition, name, versions),
+            Call::OpenLoose {
+                partition,
+                name,
+                versions,
+            } => self.open_loose(partition, name, versions),
+            Call::Admit { partition, name } => self.admit(partition, name),
+            Call::Close(handle) => self.close(*handle),
+            Call::Read {
+                handle,
+                offset,
+                len,
+            } => self.read(*handle, *offset, *len),
+            Call::Write {
+                handle,
+                offset,
+                bytes,
+                sync,
+            } => self.write(*handle, *offset, bytes, *sync),
+            Call::Resize { handle, len } => self.resize(*handle, *len),
+            Call::Size(handle) => self.size(*handle),
+            Call::Sync(handle) => self.sync(*handle),
+            Call::StartSync(handle) => self.start_sync(*handle),
+            Call::Finish(number) => self.finish(*number),
+            Call::Remove { partition, name } => self.remove(partition, name),
+            Call::Scan { partition } => self.scan(partition),
+            Call::Crash => self.crash(),
+            Call::Reopen => self.reopen(),
         }
     }
 
-    pub(crate) fn end(self) {
-        let Lab { config: _ } = self;
+    /// Makes calls one after another, and answers the reply to each. The only error is `Memory`: the list of replies has
+    /// no room, and no call was made.
+    pub fn run(&mut self, calls: &[Call]) -> Result<Vec<Reply>, Error>
+        ensures stands { IfOk result (λ replies. (v : State) → StandsFor self.old v → (w : State) × Run v calls.now replies.items w × StandsFor self.new w) }
+        ensures memory { OnErr result (IsMemory result) }
+        ensures err { OnErr result (self.new ≡ self.old) }
+    {
+        let mut replies = Vec::with_capacity(self.alloc, calls.len())?;
+        for call in calls {
+            let reply = self.apply(call);
+            replies.push(reply).unwrap();
+        }
+        Ok(replies)
+    }
+
+    /// The wrapper, for reading.
+    pub fn wrapper(&self) -> &Wrapper
+        ensures { result.now ≡ wrapper_of self.now }
+    {
+        &self.wrapper
+    }
+
+    /// Closes every handle.
+    pub fn end(self) {
+        let Lab {
+            wrapper: _,
+            mut opens,
+            handles,
+            syncs: _,
+            alloc: _,
+        } = self;
+        handles.close_all(&mut opens);
+    }
+
+    fn configure(&mut self, config: &Config) -> Reply
+        ensures { Performs self.old (Configure config.now) result self.new }
+    {
+        *self.wrapper.config() = copy_of(config);
+        Reply::Done
     }
 }

@@ -4,7 +4,8 @@
 pub mod call;
 mod copies;
 pub mod ending;
-mod lab;
+pub mod lab;
+pub mod laws;
 mod names;
 pub mod open;
 pub mod opens;
@@ -18,7 +19,7 @@ pub mod scripted_rng;
 
 pub use call::Call;
 pub use ending::Ending;
-use lab::Lab;
+pub use lab::Lab;
 pub use opens::Opens;
 pub use pending::{Generation, GenerationId, Pending, Receiver, Sender};
 pub use reply::Reply;

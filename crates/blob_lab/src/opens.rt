@@ -51,13 +51,14 @@ impl Opens {
     ) -> Result<(Blob<S::Blob>, u64, BlobVersion), Error>
         requires fresh { range_inclusive_exhausted versions ≡ false }
         requires some { (range_inclusive_start versions).0 ≤ (range_inclusive_end versions).0 }
-        ensures answer { OpenAnswer (names_of self.old) partition.now name.now (S.allows_open store.old partition.now name.now (range_inclusive_start versions).0 (range_inclusive_end versions).0) (IsMade (S.directory store.old) (S.durable store.old) (S.directory store.new) (S.durable store.new) partition.now name.now (range_inclusive_start versions).0 (range_inclusive_end versions).0) ((S.directory store.new ≡ S.directory store.old) × (S.durable store.new ≡ S.durable store.old)) (store.new ≡ store.old) (refused result) }
+        ensures answer { OpenAnswer (names_of self.old) partition.now name.now (λ answer. S.allows_open store.old partition.now name.now (range_inclusive_start versions).0 (range_inclusive_end versions).0 answer × S.leaves_open store.old partition.now name.now (range_inclusive_start versions).0 (range_inclusive_end versions).0 answer store.new) (IsMade (S.directory store.old) (S.durable store.old) (S.directory store.new) (S.durable store.new) partition.now name.now (range_inclusive_start versions).0 (range_inclusive_end versions).0) ((S.directory store.new ≡ S.directory store.old) × (S.durable store.new ≡ S.durable store.old)) (store.new ≡ store.old) (refused result) }
         ensures exhausted { IsExhausted (names_of self.old) partition.now name.now → refused result ≡ Some GenerationsExhausted }
         ensures registered { OnOk result (names_of self.new ≡ opened (names_of self.old) partition.now name.now) }
         ensures err { OnErr result (names_of self.new ≡ names_of self.old) }
         ensures handle { IfOk result (λ opened. registration_of opened.0 ≡ record { partition = partition.now; name = name.now; number = (names_of self.old).next }) }
         ensures opened { IfOk result (λ opened. IsOpened (S.directory store.old) (S.durable store.old) (S.directory store.new) (S.durable store.new) partition.now name.now (range_inclusive_start versions).0 (range_inclusive_end versions).0 (S.Blob.place (inner_of opened.0)) (S.Blob.live (inner_of opened.0)) opened.2.0) }
         ensures size { IfOk result (λ opened. opened.1 ≡ length (S.Blob.live (inner_of opened.0))) }
+        ensures kept_size { IfOk result (λ opened. S.keeps_size (inner_of opened.0) opened.1) }
     {
         if self.held_by(partition, name).is_some() {
             let refusal = self.already_open(partition, name)?;
@@ -89,6 +90,7 @@ impl Opens {
         name: Option<&[u8]>,
     ) -> Result<(), Error>
         ensures allowed { S.allows_remove store.old partition.now (option_copied name.entry) (refused result) }
+        ensures leaves { S.leaves_remove store.old partition.now (option_copied name.entry) (refused result) store.new }
         ensures directory { OnOk result (S.directory store.new ≡ removed (S.directory store.old) partition.now (option_copied name.entry)) }
         ensures durable { OnOk result (S.durable store.new ≡ durable_without (S.durable store.old) partition.now (option_copied name.entry)) }
         ensures kept { OnErr result ((S.directory store.new ≡ S.directory store.old) × (S.durable store.new ≡ S.durable store.old)) }
@@ -194,3 +196,6 @@ impl Opens {
         }
     }
 }
+
+#[cfg(test)]
+mod tests;

@@ -97,3 +97,5 @@ fn answer<W: Write>(
 
 #[cfg(test)]
 mod tests;
+#[cfg(test)]
+mod worked;

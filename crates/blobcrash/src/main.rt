@@ -3,6 +3,7 @@
 
 use blob_lab::Ending;
 use blob_lab::run_resolve::run_resolve;
+use blob_lab::run_script::run_script;
 use std::env;
 use std::io::{self, BufReader, BufWriter, ErrorKind};
 use std::process::ExitCode;
@@ -26,9 +27,20 @@ fn run<T: AllocGlobal + Input + Print>(rt: &T, mut args: env::Args) -> Ending {
     let word = args.next();
     let is_more = args.next().is_some();
     match word {
+        None => run_input(rt),
         Some(word) if word.as_str() == "resolve" && !is_more => resolve_input(rt),
         _ => Ending::Usage,
     }
+}
+
+fn run_input<T: AllocGlobal + Input + Print>(rt: &T) -> Ending {
+    let Ok(mut reader) = BufReader::new(rt.alloc(), rt.reader()) else {
+        return Ending::NoMemory;
+    };
+    let Ok(mut writer) = BufWriter::new(rt.alloc(), io::writer(rt)) else {
+        return Ending::NoMemory;
+    };
+    run_script(rt.alloc(), &mut reader, &mut writer)
 }
 
 // Without a buffer each byte of standard input would be a read of its own.

@@ -168,6 +168,27 @@ fn success_never_ends_a_failure(rt: HostRuntime) -> Result<(), Fail> {
 }
 
 #[test]
+fn a_failure_stays_until_the_name_is_forgotten(rt: HostRuntime) -> Result<(), Fail> {
+    let alloc = rt.alloc();
+    let key = key(alloc)?;
+    let mut pending = Pending::new(alloc);
+    let first = opened(&rt, &mut pending, false, false);
+    pending.clear(&key, first.id(), Err(Error::ReadFailed));
+    assert_eq!(rt; pending.debt(&key, first.id()), Err(Error::ReadFailed));
+    pending.close(first);
+    assert_eq!(rt; refusal(&mut pending, true), Some(Error::ReadFailed));
+
+    pending.forget("a", Some(b"1"));
+    let second = opened(&rt, &mut pending, false, false);
+    pending.fail(&second, Error::WriteFailed);
+    pending.close(second);
+    assert_eq!(rt; refusal(&mut pending, true), Some(Error::WriteFailed));
+    assert_eq!(rt; refusal(&mut pending, false), None);
+    assert!(rt; pending.names.partitions.is_empty());
+    Ok(())
+}
+
+#[test]
 fn a_live_name_is_refused(rt: HostRuntime) -> Result<(), Fail> {
     let alloc = rt.alloc();
     let key = key(alloc)?;
@@ -221,6 +242,20 @@ fn numbers_that_run_out_change_nothing(rt: HostRuntime) -> Result<(), Fail> {
     };
     assert!(rt; none_left);
     pending.close(last);
+    assert!(rt; pending.names.partitions.is_empty());
+    Ok(())
+}
+
+#[test]
+fn a_closed_name_stays_until_it_is_settled(rt: HostRuntime) -> Result<(), Fail> {
+    let alloc = rt.alloc();
+    let key = key(alloc)?;
+    let mut pending = Pending::new(alloc);
+    let first = opened(&rt, &mut pending, false, false);
+    let sender = released(&rt, &mut pending, &first);
+    pending.close(first);
+    assert!(rt; pending.names.get("a", b"1").is_some());
+    pending.settle(&key, sender, false, None);
     assert!(rt; pending.names.partitions.is_empty());
     Ok(())
 }

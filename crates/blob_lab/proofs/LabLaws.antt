@@ -1,0 +1,22 @@
+-- What follows for the states of a laboratory.
+use Rattle.std.proofs.Common.{◌≡◌, ℕ, List, false, Option, Some, None, refl}
+use Rattle.rand_core.specs.Stream.{Stream}
+use Rattle.blob_base.specs.Files.{log_of, ends_by, after_remove}
+use Rattle.blob_base.specs.Places.{Place}
+use Rattle.blob_base.specs.Refusals.{Refusal}
+use Rattle.blob_base.proofs.Durables.{log_removed}
+use Rattle.blob_lab.specs.Acts.{Remove, Crash}
+use Rattle.blob_lab.specs.After.{after}
+use Rattle.blob_lab.specs.States.{State}
+
+pub removed_base : (v : State) (p : List ℕ) (n : Option (List ℕ)) (refusal : Option Refusal) (rest : Stream) (o : Place) → (after v (Remove p n) refusal rest).files.base o ≡ v.files.base o
+removed_base v p n None rest o = refl
+removed_base v p n (Some refusal) rest o = refl
+
+pub removed_log : (v : State) (p : List ℕ) (n : Option (List ℕ)) (refusal : Option Refusal) (rest : Stream) (o : Place) → ends_by v.files.directory p n o ≡ false → log_of (after v (Remove p n) refusal rest).files.log o ≡ log_of v.files.log o
+removed_log v p n None rest o stays = log_removed v.files p n o stays
+removed_log v p n (Some refusal) rest o stays = refl
+
+pub crash_headers : (v : State) (refusal : Option Refusal) (rest : Stream) → (after v Crash refusal rest).files.directory ≡ v.files.directory
+crash_headers v None rest = refl
+crash_headers v (Some refusal) rest = refl

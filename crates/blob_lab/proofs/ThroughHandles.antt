@@ -1,0 +1,103 @@
+-- Calls through a handle, from what is asked of the handle and the wrapper.
+use Rattle.std.proofs.Common.{◌≡◌, ℕ, ◌<◌, inr, List, [], ◌∷◌, set, Bool, true, Option, Some, None, IfSome, refl, sym, ap, ◌∙◌, subst}
+use Rattle.std.proofs.lemmas.List.Elements.{All-set}
+use Rattle.blob_base.specs.Directory.{Directory}
+use Rattle.blob_base.specs.Files.{Files, all_logged, logged}
+use Rattle.blob_base.specs.Log.{Entry}
+use Rattle.blob_base.specs.Places.{Place}
+use Rattle.blob_base.specs.Refusals.{Refusal}
+use Rattle.blob_lab.specs.declared.lab.Lab.{Lab}
+use Rattle.blob_lab.specs.declared.reply.Reply.{Reply}
+use Rattle.blob_lab.specs.declared.reply.Reply.TheVariants.{NoHandle}
+use Rattle.blob_faulty.specs.Faults.{resize_fate}
+use Rattle.blob_faulty.specs.Recorded.{recorded_write, recorded_resize}
+use Rattle.blob_lab.specs.Acts.{Ask, Write, Resize, Sync, StartSync, Through}
+use Rattle.blob_lab.specs.After.{asked, begun, files_after, held_after, syncs_after}
+use Rattle.blob_lab.specs.Answers.{IsAnswer, through, may_grow, kept_at}
+use Rattle.blob_lab.specs.Denials.{start_denial}
+use Rattle.blob_lab.specs.LabStands.{StandsFor, Performs, Asks, Starts, stream_of}
+use Rattle.blob_lab.specs.Opens.{names_of}
+use Rattle.blob_lab.specs.States.{State, Held, AreGiven}
+use Rattle.blob_lab.specs.Tables.{handles_of, syncs_of}
+use Rattle.blob_lab.specs.Told.{refused_by}
+use Rattle.blob_lab.proofs.Performing.{state_of, performs, stands_same, given_at}
+
+-- what is logged leaves the names
+pub directory-all_logged : (f : Files) (o : Place) (es : List Entry) → (all_logged f o es).directory ≡ f.directory
+directory-all_logged f o [] = refl
+directory-all_logged f o (e ∷ es) = directory-all_logged (logged f o e) o es
+
+-- the numbers that were given, where one handle is made new on the same incarnation
+given_after : (d d' : Directory) (handles : List (Option Held)) (number : ℕ) (h h' : Held) → d' ≡ d → h'.place ≡ h.place → h.place.number < d.next → AreGiven d.next handles → AreGiven d'.next (set handles number (Some h'))
+given_after d d' handles number h h' same place below given =
+    subst (λ (e : Directory). AreGiven e.next (set handles number (Some h'))) (sym same)
+    (All-set (λ slot. IfSome slot (λ g. g.place.number < d.next)) handles number (Some h') (subst (λ (o : Place). o.number < d.next) (sym place) below) given)
+
+module _ (lab lab' : Lab) (number : ℕ) (ask : Ask) (names : names_of lab'.opens ≡ names_of lab.opens) (syncs : syncs_of lab'.syncs ≡ syncs_of lab.syncs) where
+  -- a closed handle, or one that never was
+  pub through_none : kept_at (handles_of lab.handles) number ≡ None → lab'.wrapper ≡ lab.wrapper → handles_of lab'.handles ≡ handles_of lab.handles → Performs lab (Through number ask) NoHandle lab'
+  through_none gone w hs = performs lab lab' (Through number ask) NoHandle
+      (λ f s. subst (λ (o : Option Held). IsAnswer (may_grow (Through number ask)) (through (state_of lab f) o ask) NoHandle (stream_of lab'.wrapper)) (sym gone) (inr (tt, ap stream_of w)))
+      (λ f s. subst (λ (o : Option Held). StandsFor lab' (record (asked (state_of lab f) number o ask None) { stream = stream_of lab'.wrapper })) (sym gone) (stands_same lab lab' f w names hs syncs s))
+
+  module _ (h h' : Held) (reply : Reply) (grows : may_grow (Through number ask) ≡ true) (plain : (v : State) (r : Option Refusal) → syncs_after v h ask r ≡ v.syncs)
+      (place : (v : State) (r : Option Refusal) → (held_after v h ask r).place ≡ h.place) (same : (v : State) (r : Option Refusal) → (files_after v h ask r).directory ≡ v.files.directory) where
+    -- an open handle, that is put back into its slot
+    pub through_some : kept_at (handles_of lab.handles) number ≡ Some h → Asks lab.wrapper h ask reply lab'.wrapper h' → handles_of lab'.handles ≡ set (handles_of lab.handles) number (Some h') → Performs lab (Through number ask) reply lab'
+    through_some here asks table = performs lab lab' (Through number ask) reply
+        (λ f s.
+        let a : IsAnswer true (through (state_of lab f) (Some h) ask) reply (stream_of lab'.wrapper) = asks.answers (state_of lab f) s.wrapper in
+        subst (λ (o : Option Held). IsAnswer (may_grow (Through number ask)) (through (state_of lab f) o ask) reply (stream_of lab'.wrapper)) (sym here)
+        (subst (λ (b : Bool). IsAnswer b (through (state_of lab f) (Some h) ask) reply (stream_of lab'.wrapper)) (sym grows) a))
+        (λ f s.
+        let v = state_of lab f in
+        let r = refused_by reply in
+        let below : h.place.number < f.directory.next = given_at f.directory.next number (handles_of lab.handles) h s.given here in
+        let now = asks.stands v s.wrapper below in
+        subst (λ (o : Option Held). StandsFor lab' (record (asked v number o ask r) { stream = stream_of lab'.wrapper })) (sym here)
+        (record {
+          wrapper = record { files = now.files; config = now.config; stream = refl };
+          names = names;
+          handles = table ∙ ap (λ g. set (handles_of lab.handles) number (Some g)) (asks.held v s.wrapper);
+          syncs = syncs ∙ sym (plain v r);
+          given = given_after f.directory (files_after v h ask r).directory (handles_of lab.handles) number h (held_after v h ask r) (same v r) (place v r) below s.given;
+        }))
+
+-- What is asked through a handle leaves the names.
+
+pub directory-write : (offset : ℕ) (bytes : List ℕ) (sync : Bool) (h : Held) (v : State) (r : Option Refusal) → (files_after v h (Write offset bytes sync) r).directory ≡ v.files.directory
+directory-write offset bytes sync h v r = directory-all_logged v.files h.place (recorded_write v.config v.files.next_write v.stream sync offset bytes r)
+
+pub directory-resize : (len : ℕ) (h : Held) (v : State) (r : Option Refusal) → (files_after v h (Resize len) r).directory ≡ v.files.directory
+directory-resize len h v r = directory-all_logged v.files h.place (recorded_resize (resize_fate v.config.resize_rate h.size len v.stream).0 len r)
+
+pub directory-sync : (h : Held) (v : State) (r : Option Refusal) → (files_after v h Sync r).directory ≡ v.files.directory
+directory-sync h v None = refl
+directory-sync h v (Some r) = refl
+
+begun_directory : (f : Files) (h : Held) (outcome : Option Refusal) → (begun f h outcome).directory ≡ f.directory
+begun_directory f h None = refl
+begun_directory f h (Some r) = refl
+
+directory-start : (h : Held) (v : State) (r : Option Refusal) → (files_after v h StartSync r).directory ≡ v.files.directory
+directory-start h v None = begun_directory v.files h (start_denial v h)
+directory-start h v (Some r) = refl
+
+-- a sync that is started by an open handle, which is put back into its slot
+pub through_started : (lab lab' : Lab) (number : ℕ) (h : Held) (reply : Reply) → names_of lab'.opens ≡ names_of lab.opens → kept_at (handles_of lab.handles) number ≡ Some h
+    → Starts lab.wrapper h (syncs_of lab.syncs) reply lab'.wrapper h (syncs_of lab'.syncs) → handles_of lab'.handles ≡ set (handles_of lab.handles) number (Some h) → Performs lab (Through number StartSync) reply lab'
+through_started lab lab' number h reply names here starts table = performs lab lab' (Through number StartSync) reply
+    (λ f s. subst (λ (o : Option Held). IsAnswer true (through (state_of lab f) o StartSync) reply (stream_of lab'.wrapper)) (sym here) (starts.answers (state_of lab f) s.wrapper refl))
+    (λ f s.
+    let v = state_of lab f in
+    let r = refused_by reply in
+    let below : h.place.number < f.directory.next = given_at f.directory.next number (handles_of lab.handles) h s.given here in
+    let now = starts.stands v s.wrapper below in
+    subst (λ (o : Option Held). StandsFor lab' (record (asked v number o StartSync r) { stream = stream_of lab'.wrapper })) (sym here)
+    (record {
+      wrapper = record { files = now.files; config = now.config; stream = refl };
+      names = names;
+      handles = table;
+      syncs = starts.table v s.wrapper refl;
+      given = given_after f.directory (files_after v h StartSync r).directory (handles_of lab.handles) number h h (directory-start h v r) refl below s.given;
+    }))

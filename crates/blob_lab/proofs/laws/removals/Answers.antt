@@ -1,0 +1,8 @@
+use Rattle.blob_lab.proofs.LabLaws.{removed_base, removed_log}
+use Rattle.blob_lab.proofs.laws.removals.Goals as goal
+
+pub returns-clause-base : goal.returns-clause-base
+returns-clause-base c = removed_base
+
+pub returns-clause-log : goal.returns-clause-log
+returns-clause-log c = removed_log

@@ -1,0 +1,58 @@
+//! What follows for the states of a laboratory, whatever calls came before. Each law is carried by a function that does
+//! nothing: its contract is the law.
+
+ghost use Rattle.std.specs.Prelude.{◌≡◌, ◌<◌, ◌≤◌, ℕ, List, [], true, false, Option, Some, None, length};
+ghost use Rattle.rand_core.specs.Stream.{Stream};
+ghost use Rattle.blob_base.specs.Directory.{is_current};
+ghost use Rattle.blob_base.specs.Draws.{drawn, chosen_by};
+ghost use Rattle.blob_base.specs.Files.{Files, log_of, all_needs, durable_at, ends_by};
+ghost use Rattle.blob_base.specs.Log.{crashed};
+ghost use Rattle.blob_base.specs.Places.{Place, same_place};
+ghost use Rattle.blob_base.specs.Refusals.{Refusal};
+ghost use Rattle.blob_faulty.specs.Faults.{draw};
+ghost use Rattle.blob_memory.specs.Answers.{missing};
+ghost use Rattle.blob_lab.specs.Acts.{Act, Ask, Remove, Crash};
+ghost use Rattle.blob_lab.specs.After.{after, files_after};
+ghost use Rattle.blob_lab.specs.Answers.{answer};
+ghost use Rattle.blob_lab.specs.Denials.{sync_denial};
+ghost use Rattle.blob_lab.specs.OpenNames.{Registration};
+ghost use Rattle.blob_lab.specs.States.{State, Held, held_on};
+ghost use Rattle.blob_lab.specs.Told as told;
+
+/// A crash that is answered with its rows leaves of each incarnation its base with the uncut log replayed in issue order, by
+/// exactly these rows, which are drawn for the writes that the log needs. It changes no header. One straight after it
+/// changes nothing more, answers no row and takes no word.
+pub fn crashes()
+    ensures rows { (v : State) → answer v Crash ≡ (told.Crashed (drawn v.stream (all_needs v.files.log)).0, (drawn v.stream (all_needs v.files.log)).1) }
+    ensures left { (v : State) (rest : Stream) (o : Place) → durable_at (after v Crash None rest).files o ≡ crashed (v.files.base o) (log_of v.files.log o) (chosen_by (drawn v.stream (all_needs v.files.log)).0) }
+    ensures headers { (v : State) (refusal : Option Refusal) (rest : Stream) → (after v Crash refusal rest).files.directory ≡ v.files.directory }
+    ensures again { (v : State) (rest : Stream) → answer (after v Crash None rest) Crash ≡ (told.Crashed [], rest) }
+    ensures same { (v : State) (rest last : Stream) (o : Place) → durable_at (after (after v Crash None rest) Crash None last).files o ≡ durable_at (after v Crash None rest).files o }
+{}
+
+/// A removal leaves the base and the log of every incarnation that it doesn't end.
+pub fn removals()
+    ensures base { (v : State) (partition : List ℕ) (name : Option (List ℕ)) (refusal : Option Refusal) (rest : Stream) (o : Place) → (after v (Remove partition name) refusal rest).files.base o ≡ v.files.base o }
+    ensures log { (v : State) (partition : List ℕ) (name : Option (List ℕ)) (refusal : Option Refusal) (rest : Stream) (o : Place) → ends_by v.files.directory partition name o ≡ false → log_of (after v (Remove partition name) refusal rest).files.log o ≡ log_of v.files.log o }
+{}
+
+/// A handle that was just opened reads what is durable and tracks its length.
+pub fn opens()
+    ensures live { (files : Files) (registration : Option Registration) (o : Place) → (held_on files registration o).live ≡ durable_at files o }
+    ensures size { (files : Files) (registration : Option Registration) (o : Place) → (held_on files registration o).size ≡ length (durable_at files o) }
+{}
+
+/// An incarnation that isn't its name's current one never is again, whatever is called, in a store that is rebuilt too.
+pub fn stale_stays_stale()
+    ensures next { (v : State) (act : Act) (refusal : Option Refusal) (rest : Stream) → v.files.directory.next ≤ (after v act refusal rest).files.directory.next }
+    ensures stale { (v : State) (act : Act) (refusal : Option Refusal) (rest : Stream) (o : Place) → o.number < v.files.directory.next → is_current v.files.directory o ≡ false → is_current (after v act refusal rest).files.directory o ≡ false }
+{}
+
+/// What is asked through a handle changes no directory, and no durable byte but those of its own incarnation. So a stale
+/// handle changes none; its sync is refused, with `BlobMissing` where nothing is injected.
+pub fn asks()
+    ensures directory { (v : State) (h : Held) (ask : Ask) (refusal : Option Refusal) → (files_after v h ask refusal).directory ≡ v.files.directory }
+    ensures others { (v : State) (h : Held) (ask : Ask) (refusal : Option Refusal) (o : Place) → same_place h.place o ≡ false → durable_at (files_after v h ask refusal) o ≡ durable_at v.files o }
+    ensures stale { (v : State) (h : Held) (ask : Ask) (refusal : Option Refusal) (o : Place) → is_current v.files.directory h.place ≡ false → is_current v.files.directory o ≡ true → durable_at (files_after v h ask refusal) o ≡ durable_at v.files o }
+    ensures stale_sync { (v : State) (h : Held) → is_current v.files.directory h.place ≡ false → (draw v.config.sync_rate v.stream).0 ≡ false → sync_denial v h ≡ Some (missing h.place) }
+{}
