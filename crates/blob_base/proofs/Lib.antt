@@ -1,7 +1,6 @@
 pub mod Agrees
 pub mod AnyOrder
 pub mod BehindHeader
-pub mod Blocks
 pub mod Bytes
 pub mod Crash
 pub mod CrashOrder
@@ -27,5 +26,6 @@ pub mod Runs
 pub mod Selections
 pub mod Shape
 pub mod Steps
+pub mod Streams
 pub mod TableRules
 pub mod TornTest

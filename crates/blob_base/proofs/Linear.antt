@@ -134,6 +134,11 @@ unfoldable pub span : List ℕ → ℕ
 span [] = 0
 span (x ∷ xs) = 8 + span xs
 
+pub span-length : (xs : List ℕ) → span xs ≡ 8 * length xs
+unfolding span
+span-length [] = refl
+span-length (x ∷ xs) = rw (span-length xs) (omega arith)
+
 -- bytes all at once
 pub bytes-steps : (r : ℕ) (xs : List ℕ) → ((i : ℕ) → get_or xs i 0 < 256) → fold with_bit r (bits_of xs) ≡ steps (span xs) (bit_xor r (le xs))
 unfolding le span steps

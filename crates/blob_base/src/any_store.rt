@@ -1,13 +1,13 @@
 // What the laws say of any store: callers that know nothing else of it.
 ghost use Rattle.std.specs.Prelude.{◌≡◌, ◌+◌, ◌≤◌, ℕ, List, [], true, false, Some, None, OnOk, OnErr, IfOk, length, option_copied};
 ghost use Rattle.blob_base.specs.Bytes.{overlay, resized, written};
-ghost use Rattle.blob_base.specs.Callers.{InTurn};
+ghost use Rattle.blob_base.specs.Callers.{InTurn, BeforeOrBetween};
 ghost use Rattle.blob_base.specs.Directory.{is_current};
 ghost use Rattle.blob_base.specs.Durable.{changed, durable_without};
 ghost use Rattle.blob_base.specs.Live.{live_written};
 ghost use Rattle.blob_base.specs.Options.{is_sync};
 ghost use Rattle.blob_base.specs.Opening.{removed};
-ghost use Rattle.blob_base.specs.Refusals.{refused};
+ghost use Rattle.blob_base.specs.Refusals.{refused, IsMemory};
 
 use crate::{Blob, Durable, Error, IoBufs, Storage, WriteOptions};
 
@@ -36,7 +36,13 @@ pub fn resize_and_start_sync<S: Storage, B: Blob<S>>(
     len: u64,
 ) -> Result<(), Error>
     ensures answer { InTurn (B.allows_resize blob.old store.old len) (λ b s. (B.live b ≡ resized (B.live blob.old) len) × (B.place b ≡ B.place blob.old) × (S.durable s ≡ S.durable store.old) × (S.directory s ≡ S.directory store.old)) B.allows_start_sync (refused result) }
+    ensures live { OnOk result (B.live blob.new ≡ resized (B.live blob.old) len) }
     ensures durable { OnOk result (S.durable store.new ≡ changed (S.durable store.old) (B.place blob.old) (λ _. resized (B.live blob.old) len)) }
+
+    // a refusal
+    ensures memory { IsMemory result → BeforeOrBetween (B.live blob.old) (resized (B.live blob.old) len) (B.live blob.new) }
+    ensures err { OnErr result (S.durable store.new ≡ S.durable store.old) }
+
     ensures directory { S.directory store.new ≡ S.directory store.old }
 {
     blob.resize(store, len)?;
@@ -56,8 +62,15 @@ pub fn write_and_remove<S: Storage, B: Blob<S>>(
 ) -> Result<(), Error>
     requires { is_sync synced ≡ true }
     ensures answer { InTurn (B.allows_write blob.old store.old offset bytes true) (λ (b : B) s. (S.durable s ≡ changed (S.durable store.old) (B.place blob.old) (λ x. overlay x offset bytes)) × (S.directory s ≡ S.directory store.old)) (λ b s. S.allows_remove s partition.now (Some name.now)) (refused result) }
+    ensures live { OnOk result (B.live blob.new ≡ live_written true (B.live blob.old) offset bytes) }
     ensures durable { OnOk result (S.durable store.new ≡ durable_without (changed (S.durable store.old) (B.place blob.old) (λ x. overlay x offset bytes)) partition.now (Some name.now)) }
     ensures directory { OnOk result (S.directory store.new ≡ removed (S.directory store.old) partition.now (Some name.now)) }
+
+    // a refusal, of the write or behind it
+    ensures memory_live { IsMemory result → BeforeOrBetween (B.live blob.old) (live_written true (B.live blob.old) offset bytes) (B.live blob.new) }
+    ensures memory { IsMemory result → BeforeOrBetween (S.durable store.old) (changed (S.durable store.old) (B.place blob.old) (λ x. overlay x offset bytes)) (S.durable store.new) }
+    ensures direct { B.is_direct ≡ true → OnErr result (BeforeOrBetween (S.durable store.old) (changed (S.durable store.old) (B.place blob.old) (λ x. overlay x offset bytes)) (S.durable store.new)) }
+    ensures err { OnErr result (S.directory store.new ≡ S.directory store.old) }
 {
     blob.write_at(store, offset, bytes, synced)?;
     store.remove(partition, Some(name))

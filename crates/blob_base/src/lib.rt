@@ -2,7 +2,6 @@
 #![tactic(auto)]
 
 pub mod any_store;
-mod block_tables;
 pub mod buffers;
 pub mod buffers_mut;
 pub mod checksum;
@@ -25,6 +24,7 @@ mod region;
 pub mod resolution;
 pub mod sector_size;
 pub mod storage;
+mod stream_tables;
 pub mod version;
 mod word_tables;
 

@@ -7,5 +7,5 @@ use Rattle.blob_base.proofs.checksum.with_eight.Goals as goal
 pub returns : goal.returns
 returns c =
     c.after_word.ensures
-    ∙ ap (λ n. steps 64 (bit_xor c.args.register n)) c.from_le_bytes-word.ensures
+    ∙ ap (λ n. steps 64 (bit_xor c.args.register n)) c.word_of.ensures
     ∙ sym (eight c.args.register c.args.bytes.now c.requires (λ i. omega (arith, c.type_inv.bytes i)))
