@@ -121,14 +121,14 @@ adds_then place names a b c old mid new o e es first later files below s = later
 
 -- a range that is laid in the list at i, after the inner store has done it
 pub lay_adds : {S R O : Type 0} (place : O → Place) (names : Directory) (bytes bytes' : Durable) (old mid new : Storage S R O) (inner : S) (i : ℕ) (o : Place) (p : ℕ) (b copy : List ℕ) →
-    mid ≡ record old { inner = inner } → IsAt (held place old.lists.all.items) i o → 0 < length b → copy ≡ b → bytes' ≡ changed bytes o (λ x. overlay x p b) →
-    ((q : Place) → IsAt (held place mid.lists.all.items) i q → (a : Place) → pending_of place new a ≡ with_at (pending_of place mid) q (laid p copy (pending_of place mid q)) a) →
+    mid ≡ record old { inner = inner } → IsAt (held place old.lists.all.lists.items) i o → 0 < length b → copy ≡ b → bytes' ≡ changed bytes o (λ x. overlay x p b) →
+    ((q : Place) → IsAt (held place mid.lists.all.lists.items) i q → (a : Place) → pending_of place new a ≡ with_at (pending_of place mid) q (laid p copy (pending_of place mid q)) a) →
     (AreApart place mid → AreApart place new) → next_write_of new ≡ next_write_of mid → next_marker_of new ≡ next_marker_of mid →
     Adds place names bytes bytes' old new o (Kept p b ∷ [])
 lay_adds {S} {R} {O} place names bytes bytes' old mid new inner i o p b copy rest at some same over lists apart write marker = kept_adds place names bytes bytes' old new o p b some over
     (subst (λ (d : List ℕ). (a : Place) → pending_of place new a ≡ with_at (pending_of place old) o (laid p d (pending_of place old o)) a) same
     (subst (λ (m : Storage S R O). (a : Place) → pending_of place new a ≡ with_at (pending_of place m) o (laid p copy (pending_of place m o)) a) rest
-    (lists o (subst (λ (m : Storage S R O). IsAt (held place m.lists.all.items) i o) (sym rest) at))))
+    (lists o (subst (λ (m : Storage S R O). IsAt (held place m.lists.all.lists.items) i o) (sym rest) at))))
     (write ∙ ap (λ (m : Storage S R O). next_write_of m) rest)
     (marker ∙ ap (λ (m : Storage S R O). next_marker_of m) rest)
     (λ h. apart (subst (λ (m : Storage S R O). AreApart place m) (sym rest) h))

@@ -1,16 +1,15 @@
 -- What a wrapper may answer where its draws are certain.
-use Rattle.std.proofs.Common.{◌≡◌, ◌≢◌, ◌⊎◌, inl, inr, ℕ, ◌+◌, ◌-◌, ◌^◌, ◌<◌, Bool, true, false, ◌==◌, ◌&&◌, min, max, nat_lt, List, [], ◌∷◌, length, cond, Option, Some, None, refl, sym, ◌∙◌, ap, subst, arith}
-use Rattle.std.specs.Prelude.{is_some, IsSome, MatchBool, ◌↔◌}
+use Rattle.std.proofs.Common.{◌≡◌, inl, inr, ℕ, ◌-◌, ◌^◌, ◌<◌, Bool, true, false, ◌==◌, ◌&&◌, min, max, nat_lt, List, length, cond, Option, Some, None, refl, sym, ◌∙◌, ap, subst, arith}
+use Rattle.std.specs.Prelude.{is_some, MatchBool, ◌↔◌}
 use Rattle.std.proofs.lemmas.Bool.{cond-true, cond-false}
 use Rattle.std.proofs.lemmas.Bool.Decides.{nat_tests}
 use Rattle.rand_core.specs.Stream.{Stream}
 use Rattle.blob_base.specs.Modes.{Mode}
 use Rattle.blob_base.specs.Rates.{Rate, sampled}
-use Rattle.blob_base.specs.Refusals.{Refusal, OffsetOverflow, Memory, Injected, GenerationsExhausted}
+use Rattle.blob_base.specs.Refusals.{Refusal, OffsetOverflow, Injected}
 use Rattle.blob_base.specs.Runs.{runs}
 use Rattle.blob_faulty.specs.declared.config.Config.{Config}
 use Rattle.blob_faulty.specs.declared.config.ResizeConfig.{ResizeConfig}
-use Rattle.blob_faulty.specs.declared.config.WriteConfig.{WriteConfig}
 use Rattle.blob_faulty.specs.AnswerLaws.{injected_none, numbered_none, memory_none, uncounted_none}
 use Rattle.blob_faulty.specs.Answers.{Allowed, injected_or, injected_for, or_memory, numbered, lacks_number, allows_runs, allows_done, allows_fate, allows_write, allows_resize, allows_start}
 use Rattle.blob_faulty.specs.Certain.{IsNever, IsAlways, resize_failure}

@@ -1,6 +1,6 @@
 -- The steps of loops that draw.
-use Rattle.std.proofs.Common.{◌≡◌, ℕ, suc, ◌+◌, ◌-◌, ◌<◌, ◌≤◌, Bool, true, false, ◌||◌, cond, eqb, ◌%◌, List, [], ◌∷◌, ◌++◌, replicate, refl, sym, ◌∙◌, ap, ap₂, arith, append_assoc, append-nil, add-one}
-use Rattle.std.proofs.lemmas.Bool.{cond_both, cond-true, cond-false, ne_eqb}
+use Rattle.std.proofs.Common.{◌≡◌, ℕ, suc, ◌+◌, ◌-◌, ◌<◌, ◌≤◌, Bool, true, false, ◌||◌, cond, eqb, ◌%◌, List, [], ◌∷◌, ◌++◌, replicate, sym, ◌∙◌, ap, ap₂, arith, append_assoc, append-nil}
+use Rattle.std.proofs.lemmas.Bool.{ne_eqb}
 use Rattle.rand_core.specs.Stream.{Stream}
 use Rattle.blob_base.specs.Rates.{Rate, sampled}
 use Rattle.blob_base.specs.Draws.{front, each, sectors, with_choice}

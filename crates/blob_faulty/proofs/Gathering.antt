@@ -8,7 +8,7 @@ use Rattle.blob_base.specs.Pending.{Pending, Waiting, has_marker, waiting}
 use Rattle.blob_base.specs.Places.{Place}
 use Rattle.blob_faulty.specs.Drawings.{Drawing, drawing_of, drawings_of}
 use Rattle.blob_faulty.specs.Lists.{held, held_by}
-use Rattle.blob_faulty.specs.declared.lists.Incarnation.{Incarnation}
+use Rattle.blob_faulty.specs.declared.incarnation.Incarnation.{Incarnation}
 
 -- a write behind the last marker
 pub draw_more : (m : Need) (q : List Pending) → has_marker q ≡ false → drawings_of (waiting (Waiting m ∷ q)) ≡ drawing_of m ∷ drawings_of (waiting q)

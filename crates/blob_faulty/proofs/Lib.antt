@@ -6,12 +6,15 @@ pub mod CertainAnswers
 pub mod Covered
 pub mod Crashing
 pub mod CutSteps
+pub mod Distinct
 pub mod DrawSteps
 pub mod Drawing
 pub mod FailedSteps
 pub mod Finishing
 pub mod Gathering
+pub mod HoleRoom
 pub mod ListSteps
+pub mod Marking
 pub mod Naming
 pub mod Pushing
 pub mod ResizeSteps
@@ -23,4 +26,5 @@ pub mod RunSteps
 pub mod Sorting
 pub mod SpanSteps
 pub mod SyncSteps
+pub mod Taking
 pub mod Unmarked

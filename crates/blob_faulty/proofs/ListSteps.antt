@@ -1,16 +1,18 @@
 -- Lists by their incarnations, after one of them changed.
-use Rattle.std.proofs.Common.{◌≡◌, ⊎_elim, ℕ, zero, suc, ◌+◌, ◌-◌, ◌<◌, ◌≤◌, Bool, true, false, cond, not, ◌&&◌, ◌||◌, List, [], ◌∷◌, ◌++◌, length, get_or, set, map, refl, sym, ◌∙◌, ap, ap₂, subst, arith, true≢false}
+use Rattle.std.proofs.Common.{◌≡◌, ⊎_elim, ℕ, zero, suc, ◌+◌, ◌-◌, ◌<◌, Bool, true, false, cond, not, ◌&&◌, ◌||◌, List, [], ◌∷◌, ◌++◌, length, get_or, set, map, refl, sym, ◌∙◌, ap, ap₂, subst, arith, true≢false}
 use Rattle.std.specs.List.{filter, All}
 use Rattle.std.proofs.lemmas.Bool.{cond_both, cases_Bool, cases_eq, cond-true, cond-false}
-use Rattle.std.proofs.lemmas.List.{set-get_or, length-map, length-set, get_or-set_same, get_or-set_other, length-append, get_or_append_left, get_or-append_right}
+use Rattle.std.proofs.lemmas.List.{set-get_or, length-set, get_or-set_same, get_or-set_other, length-append, get_or_append_left, get_or-append_right}
+use Rattle.blob_base.specs.Holes.{Holes}
 use Rattle.blob_base.specs.Places.{Place, same_place}
 use Rattle.blob_base.specs.SamePlace.{same_place_exact, same_back, same_self, apart_at}
 use Rattle.blob_base.specs.Durable.{with_at}
 use Rattle.blob_base.specs.Order.{Held, held_at, has_list, ArePlacesApart}
 use Rattle.blob_base.specs.Pending.{Pending, finished}
-use Rattle.blob_faulty.specs.Views.{views, HasRooms}
+use Rattle.blob_faulty.specs.Rooms.{HasRoomsFor}
+use Rattle.blob_faulty.specs.Views.{views}
 use Rattle.blob_faulty.specs.Lists.{is_of, IsAt, held_by, held, list_of, HasRangesAt, finished_in}
-use Rattle.blob_faulty.specs.declared.lists.Incarnation.{Incarnation}
+use Rattle.blob_faulty.specs.declared.incarnation.Incarnation.{Incarnation}
 
 -- equal places are apart from the same ones
 pub other_than : (o a i : Place) → i ≡ o → same_place i a ≡ same_place o a
@@ -167,8 +169,8 @@ at_set hs k h o e i = record {
 }
 
 -- a list that is added, as the code has it
-pub added : {O : Type 0} (place : O → Place) (new old : List (Incarnation O)) (j : Incarnation O) → new ≡ old ++ j ∷ [] → j.entries.items ≡ [] → held place new ≡ held place old ++ (place j.origin, []) ∷ []
-added {O} place new old j e none = ap (held place) e ∙ held_push place old j ∙ ap (λ (q : List Pending). held place old ++ (place j.origin, q) ∷ []) (ap views none)
+pub added : {O : Type 0} (place : O → Place) (new old : List (Incarnation O)) (j : Incarnation O) (o : O) → new ≡ old ++ j ∷ [] → j.origin ≡ o → j.entries.items ≡ [] → held place new ≡ held place old ++ (place o, []) ∷ []
+added {O} place new old j o e of none = ap (held place) e ∙ held_push place old j ∙ ap₂ (λ (p : O) (q : List Pending). held place old ++ (place p, q) ∷ []) of (ap views none)
 
 -- a list that is changed in place, as the code has it
 place_at : {O : Type 0} (place : O → Place) (is : List (Incarnation O)) (k : ℕ) (e j : Incarnation O) → k < length is → e ≡ get_or is k e → j.origin ≡ e.origin → place j.origin ≡ (get_or (held place is) k (held_by place j)).0
@@ -197,11 +199,11 @@ held_same {O} place is k e j h at same v = held_set place is k j
     pair : Place → List Pending → Held
     pair p q = (p, q)
 
-pub ranges_at : {O : Type 0} (is : List (Incarnation O)) (k n : ℕ) (j : Incarnation O) → k < length is → HasRooms n j.entries → HasRangesAt (set is k j) k n
-ranges_at {O} is k n j h room d = subst (λ (x : Incarnation O). HasRooms n x.entries) (sym (get_or-set_same is k j d h)) room
+pub ranges_at : {O : Type 0} (is : List (Incarnation O)) (k : ℕ) (hs : Holes) (j : Incarnation O) → k < length is → HasRoomsFor hs j.entries → HasRangesAt (set is k j) k hs
+ranges_at {O} is k hs j h room d = subst (λ (x : Incarnation O). HasRoomsFor hs x.entries) (sym (get_or-set_same is k j d h)) room
 
-pub rooms_of : {O : Type 0} (is : List (Incarnation O)) (k n : ℕ) (e : Incarnation O) → e ≡ get_or is k e → HasRangesAt is k n → HasRooms n e.entries
-rooms_of {O} is k n e at h = subst (λ (x : Incarnation O). HasRooms n x.entries) (sym at) (h e)
+pub rooms_of : {O : Type 0} (is : List (Incarnation O)) (k : ℕ) (hs : Holes) (e : Incarnation O) → e ≡ get_or is k e → HasRangesAt is k hs → HasRoomsFor hs e.entries
+rooms_of {O} is k hs e at h = subst (λ (x : Incarnation O). HasRoomsFor hs x.entries) (sym at) (h e)
 
 -- what holds of those before k, and now of the one at k
 pub below_set : {X : Type 0} (P : X → Type 0) (xs : List X) (k : ℕ) (x : X) → k < length xs → ((m : ℕ) (d : X) → m < k → P (get_or xs m d)) → P x → (m : ℕ) (d : X) → m < k + 1 → P (get_or (set xs k x) m d)

@@ -4,7 +4,7 @@ use Rattle.std.specs.Prelude.{is_some}
 use Rattle.blob_base.specs.Places.{Place}
 use Rattle.blob_base.specs.Directory.{Directory, is_current}
 use Rattle.blob_base.specs.Durable.{Durable, durable_without}
-use Rattle.blob_base.specs.Files.{Files, after_open, after_remove, ends_by}
+use Rattle.blob_base.specs.Files.{after_open, after_remove, ends_by}
 use Rattle.blob_base.specs.Opening.{IsOpened, removed}
 use Rattle.blob_base.specs.Stands.{StandsFor}
 use Rattle.blob_base.proofs.FileSteps.{stands_same, stands_done}

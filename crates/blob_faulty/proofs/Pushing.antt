@@ -1,5 +1,5 @@
 -- Lists that are changed at one place, after room was made for it.
-use Rattle.std.proofs.Common.{◌≡◌, List, cond, sym, ◌∙◌, ap, ap₂, subst}
+use Rattle.std.proofs.Common.{◌≡◌, List, cond, ◌∙◌, ap, ap₂}
 use Rattle.blob_base.specs.Durable.{with_at}
 use Rattle.blob_base.specs.Pending.{Pending}
 use Rattle.blob_base.specs.Places.{Place, same_place}

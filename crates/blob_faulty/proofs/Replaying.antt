@@ -21,7 +21,7 @@ use Rattle.blob_memory.specs.declared.storage.Storage.{Storage}
 use Rattle.blob_memory.specs.Contents.{Fits}
 use Rattle.blob_memory.specs.Store.{directory, HasCrashRoom}
 use Rattle.blob_faulty.specs.declared.entry.Entry.{Entry}
-use Rattle.blob_faulty.specs.declared.lists.Incarnation.{Incarnation}
+use Rattle.blob_faulty.specs.declared.incarnation.Incarnation.{Incarnation}
 use Rattle.blob_faulty.specs.Lists.{held, held_by}
 use Rattle.blob_faulty.specs.Replays.{width, widest, widest_of_all, unmarked, IsReady}
 use Rattle.blob_faulty.specs.Views.{view, views}

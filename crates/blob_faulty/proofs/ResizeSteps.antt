@@ -1,10 +1,10 @@
 -- What a resize adds to the log, and what a refused one leaves.
-use Rattle.std.proofs.Common.{◌≡◌, ◌≢◌, ◌⊎◌, inl, inr, ℕ, ◌<◌, List, [], ◌∷◌, ◌++◌, Option, Some, None, refl, sym, ◌∙◌, ap, subst}
+use Rattle.std.proofs.Common.{◌≡◌, inl, inr, ℕ, List, [], ◌∷◌, ◌++◌, Some, refl, subst}
 use Rattle.blob_base.specs.Places.{Place}
 use Rattle.blob_base.specs.Directory.{Directory}
 use Rattle.blob_base.specs.Durable.{Durable, with_at}
-use Rattle.blob_base.specs.Log.{Entry, Resized}
-use Rattle.blob_base.specs.Pending.{Pending, Cut}
+use Rattle.blob_base.specs.Log.{Resized}
+use Rattle.blob_base.specs.Pending.{Cut}
 use Rattle.blob_base.specs.Refusals.{Refusal, Injected, Memory}
 use Rattle.blob_base.proofs.FileSteps.{stands_same, stands_cut}
 use Rattle.blob_faulty.specs.declared.storage.Storage.{Storage}

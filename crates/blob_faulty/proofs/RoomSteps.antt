@@ -1,5 +1,5 @@
 -- Room is made in a list, the inner store does the call, and an entry goes into the room.
-use Rattle.std.proofs.Common.{◌≡◌, ◌++◌, ◌∷◌, [], ℕ, List, refl, sym, ◌∙◌, ap, subst}
+use Rattle.std.proofs.Common.{◌≡◌, ◌++◌, ◌∷◌, [], ℕ, refl, sym, ◌∙◌, ap, subst}
 use Rattle.blob_base.specs.Durable.{with_at}
 use Rattle.blob_base.specs.Order.{ArePlacesApart}
 use Rattle.blob_base.specs.Pending.{Pending}
@@ -7,7 +7,7 @@ use Rattle.blob_base.specs.Places.{Place}
 use Rattle.blob_faulty.specs.declared.lists.Lists.{Lists}
 use Rattle.blob_faulty.specs.declared.storage.Storage.{Storage}
 use Rattle.blob_faulty.specs.Lists.{held, list_of, IsAt}
-use Rattle.blob_faulty.specs.Wrapper.{pending_of, next_write_of, next_marker_of, config_of, AreApart, KeepsNumbers, KeepsRecords}
+use Rattle.blob_faulty.specs.Wrapper.{pending_of, next_write_of, next_marker_of, config_of, AreApart, KeepsNumbers}
 use Rattle.blob_faulty.proofs.Pushing.{after_room}
 
 -- the lists of a wrapper alone are others, or its inner store alone
@@ -20,15 +20,15 @@ numbers_after {S} {R} {O} old mid done lists inner room rest = record {
 
 -- an entry that goes into the room
 pub pushed_at : {S R O : Type 0} (place : O → Place) (old mid done : Storage S R O) (inner : S) (new : Lists S O) (i : ℕ) (o : Place) (e : Pending) →
-    ((a : Place) → pending_of place mid a ≡ pending_of place old a) → IsAt (held place mid.lists.all.items) i o → done ≡ record mid { inner = inner } →
-    ((p : Place) → IsAt (held place done.lists.all.items) i p → (a : Place) → list_of place new.all.items a ≡ with_at (list_of place done.lists.all.items) p (list_of place done.lists.all.items p ++ e ∷ []) a) →
-    (a : Place) → list_of place new.all.items a ≡ with_at (pending_of place old) o (pending_of place old o ++ e ∷ []) a
-pushed_at {S} {R} {O} place old mid done inner new i o e room at rest pushed = after_room (pending_of place old) (pending_of place mid) (list_of place new.all.items) o o (λ q. q ++ e ∷ []) room
-    (subst (λ (w : Storage S R O). (a : Place) → list_of place new.all.items a ≡ with_at (pending_of place w) o (pending_of place w o ++ e ∷ []) a) rest
-    (pushed o (subst (λ (w : Storage S R O). IsAt (held place w.lists.all.items) i o) (sym rest) at)))
+    ((a : Place) → pending_of place mid a ≡ pending_of place old a) → IsAt (held place mid.lists.all.lists.items) i o → done ≡ record mid { inner = inner } →
+    ((p : Place) → IsAt (held place done.lists.all.lists.items) i p → (a : Place) → list_of place new.all.lists.items a ≡ with_at (list_of place done.lists.all.lists.items) p (list_of place done.lists.all.lists.items p ++ e ∷ []) a) →
+    (a : Place) → list_of place new.all.lists.items a ≡ with_at (pending_of place old) o (pending_of place old o ++ e ∷ []) a
+pushed_at {S} {R} {O} place old mid done inner new i o e room at rest pushed = after_room (pending_of place old) (pending_of place mid) (list_of place new.all.lists.items) o o (λ q. q ++ e ∷ []) room
+    (subst (λ (w : Storage S R O). (a : Place) → list_of place new.all.lists.items a ≡ with_at (pending_of place w) o (pending_of place w o ++ e ∷ []) a) rest
+    (pushed o (subst (λ (w : Storage S R O). IsAt (held place w.lists.all.lists.items) i o) (sym rest) at)))
     refl
 
 pub pushed_apart : {S R O : Type 0} (place : O → Place) (old mid done : Storage S R O) (inner : S) (new : Lists S O) →
     (AreApart place old → AreApart place mid) → done ≡ record mid { inner = inner } →
-    (ArePlacesApart (held place done.lists.all.items) → ArePlacesApart (held place new.all.items)) → AreApart place old → ArePlacesApart (held place new.all.items)
+    (ArePlacesApart (held place done.lists.all.lists.items) → ArePlacesApart (held place new.all.lists.items)) → AreApart place old → ArePlacesApart (held place new.all.lists.items)
 pushed_apart {S} {R} {O} place old mid done inner new room rest pushed h = pushed (subst (λ (w : Storage S R O). AreApart place w) (sym rest) (room h))

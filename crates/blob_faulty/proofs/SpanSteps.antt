@@ -1,8 +1,7 @@
 -- Runs that are found from the last position on.
-use Rattle.std.proofs.Common.{◌≡◌, ◌≢◌, ⊎_elim, ℕ, zero, suc, ◌+◌, ◌-◌, ◌<◌, ◌≤◌, Bool, true, false, cond, eqb, List, [], ◌∷◌, ◌++◌, length, map, reverse, get_or, set, take, drop, refl, sym, ◌∙◌, ap, ap₂, subst, arith, add-one}
+use Rattle.std.proofs.Common.{◌≡◌, ◌≢◌, ℕ, zero, suc, ◌+◌, ◌-◌, ◌<◌, Bool, true, false, eqb, List, [], ◌∷◌, ◌++◌, length, reverse, get_or, set, take, drop, refl, sym, ◌∙◌, ap, ap₂, arith, add-one}
 use Rattle.std.proofs.lemmas.Bool.{cond-true, cond-false, eq-eqb, ne_eqb}
 use Rattle.std.proofs.lemmas.List.{reverse-append}
-use Rattle.std.proofs.lemmas.Grind.{take-set_at, take_at_read}
 use Rattle.std.proofs.Math.Seq.{drop-cons}
 use Rattle.blob_base.specs.Runs.{Run, runs, with_byte}
 use Rattle.blob_faulty.specs.Spans.{piece, pieces}

@@ -1,5 +1,5 @@
 -- What a sync, and a started one, make of the files that a wrapper stands for.
-use Rattle.std.proofs.Common.{◌≡◌, ◌++◌, ◌∷◌, [], ℕ, ◌+◌, ◌<◌, List, refl, sym, ◌∙◌, ap}
+use Rattle.std.proofs.Common.{◌≡◌, ◌++◌, ◌∷◌, [], ℕ, ◌+◌, List, refl}
 use Rattle.std.specs.Prelude.{Result, Ok, Err, OnOk, OnErr, IsSome, None}
 use Rattle.blob_base.specs.declared.error.Error.{Error}
 use Rattle.blob_base.specs.Directory.{Directory}

@@ -1,5 +1,5 @@
 -- Rates whose draws are certain.
-use Rattle.std.specs.Prelude.{◌≡◌, ℕ, ◌<◌, Option, Some, None}
+use Rattle.std.specs.Prelude.{◌≡◌, ◌<◌, Option, Some, None}
 use Rattle.blob_base.specs.Rates.{Rate}
 use Rattle.blob_faulty.specs.declared.config.ResizeConfig.{ResizeConfig}
 

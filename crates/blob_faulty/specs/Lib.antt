@@ -7,12 +7,14 @@ pub mod Fates
 pub mod Faults
 pub mod Lends
 pub mod Lists
+pub mod Marks
 pub mod Modes
 pub mod Names
 pub mod Pieces
 pub mod Ranges
 pub mod Replays
 pub mod Recorded
+pub mod Rooms
 pub mod Rows
 pub mod Spans
 pub mod Syncs

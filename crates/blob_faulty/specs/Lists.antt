@@ -1,12 +1,14 @@
 -- The pending lists of the incarnations, each by its place.
-use Rattle.std.specs.Prelude.{◌≡◌, ℕ, ◌<◌, ◌+◌, List, Bool, true, false, not, ◌&&◌, All, length, map, vec_len, vec_capacity}
+use Rattle.std.specs.Prelude.{◌≡◌, ◌≢◌, AllPairs, ℕ, ◌<◌, List, Bool, true, false, not, ◌&&◌, All, length, map, vec_len, vec_capacity}
 use Rattle.std.proofs.Common.{get_or}
 use Rattle.blob_base.specs.Directory.{Directory, is_current}
 use Rattle.blob_base.specs.Places.{Place, same_place}
 use Rattle.blob_base.specs.Pending.{Pending, finished}
 use Rattle.blob_base.specs.Order.{Held, held_at}
-use Rattle.blob_faulty.specs.Views.{views, HasRooms}
-use Rattle.blob_faulty.specs.declared.lists.Incarnation.{Incarnation}
+use Rattle.blob_base.specs.Holes.{Holes}
+use Rattle.blob_faulty.specs.Rooms.{HasRoomsFor}
+use Rattle.blob_faulty.specs.Views.{views}
+use Rattle.blob_faulty.specs.declared.incarnation.Incarnation.{Incarnation}
 
 abbrev pub held_by : {O : Type 0} → (O → Place) → Incarnation O → Held
 held_by place i = (place i.origin, views i.entries.items)
@@ -27,13 +29,21 @@ pub record IsAt (hs : List Held) (i : ℕ) (o : Place) : Type 0 where
   pub here : (d : Held) → is_of o (get_or hs i d) ≡ true
   pub before : (k : ℕ) (d : Held) → k < i → is_of o (get_or hs k d) ≡ false
 
+-- no two lists have one origin
+abbrev pub AreDistinct : {O : Type 0} → List (Incarnation O) → Type 0
+AreDistinct is = AllPairs (λ a b. a.origin ≢ b.origin) is
+
 -- the list at i can take one more entry
 abbrev pub HasEntryAt : {O : Type 0} → List (Incarnation O) → ℕ → Type 0
 HasEntryAt {O} is i = (d : Incarnation O) → vec_len (get_or is i d).entries < vec_capacity (get_or is i d).entries
 
--- the list at i can take n more durable ranges
-abbrev pub HasRangesAt : {O : Type 0} → List (Incarnation O) → ℕ → ℕ → Type 0
-HasRangesAt {O} is i n = (d : Incarnation O) → HasRooms n (get_or is i d).entries
+-- the list at i can take one more marker
+abbrev pub HasMarkAt : {O : Type 0} → List (Incarnation O) → ℕ → Type 0
+HasMarkAt {O} is i = HasEntryAt is i × ((d : Incarnation O) → vec_len (get_or is i d).marks < vec_capacity (get_or is i d).marks)
+
+-- the list at i can take these durable ranges
+abbrev pub HasRangesAt : {O : Type 0} → List (Incarnation O) → ℕ → Holes → Type 0
+HasRangesAt {O} is i hs = (d : Incarnation O) → HasRoomsFor hs (get_or is i d).entries
 
 -- one list after a started sync is finished
 abbrev pub finished_in : ℕ → Held → Held

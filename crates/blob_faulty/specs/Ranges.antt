@@ -1,6 +1,6 @@
 -- Holes as pairs of positions.
 use Rattle.std.specs.Prelude.{ℕ, suc, List, [], ◌∷◌, map}
-use Rattle.std.specs.Coded.{×_prop, Unit-prop, le_prop}
+use Rattle.std.specs.Coded.{Unit-prop, le_prop}
 use Rattle.blob_base.specs.Holes.{Holes, AreApart}
 use Rattle.blob_faulty.specs.declared.holes.Hole.{Hole}
 

@@ -3,7 +3,7 @@
 use Rattle.std.specs.Prelude.{ℕ, ◌+◌, max, Bool, true, false, List, [], ◌∷◌, length, Option, Some, None, if◌then◌else◌}
 use Rattle.rand_core.specs.Stream.{Stream}
 use Rattle.blob_base.specs.Bytes.{written, resized}
-use Rattle.blob_base.specs.Live.{live_after}
+use Rattle.blob_base.specs.Live.{live_after, all_written}
 use Rattle.blob_base.specs.Log.{Entry, Kept, Loose, Resized}
 use Rattle.blob_base.specs.Modes.{Mode}
 use Rattle.blob_base.specs.Rates.{Rate}
@@ -44,10 +44,6 @@ recorded_resize (Reaches size) len (Some Injected) = Resized size ∷ []
 recorded_resize fate len answer = []
 
 -- The live bytes of the inner handle.
-
-abbrev pub all_written : List ℕ → List Run → List ℕ
-all_written live [] = live
-all_written live (r ∷ rs) = all_written (written live r.0 r.1) rs
 
 -- where the incarnation is gone the first run alone
 abbrev pub first_written : List ℕ → List Run → List ℕ

@@ -1,7 +1,5 @@
 -- What the code's entries stand for.
-use Rattle.std.specs.Prelude.{ℕ, ◌+◌, ◌≤◌, Bool, true, List, map, All, vec_len, vec_capacity}
-use Rattle.std.specs.declared.vec.Vec.{Vec}
-use Rattle.std.specs.declared.alloc.Global.{Global}
+use Rattle.std.specs.Prelude.{ℕ, Bool, true, List, map}
 use Rattle.blob_base.specs.Log.{Write, has_bare}
 use Rattle.blob_base.specs.Pending as model
 use Rattle.blob_base.specs.Pending.{Pending, pared_one}
@@ -24,16 +22,6 @@ view (entry.Marker k) = model.Marker k
 abbrev pub views : List Entry → List Pending
 views q = map view q
 
--- a write can take n more holes
-abbrev pub HasHoles : ℕ → PendingWrite → Type 0
-HasHoles n w = vec_len w.holes + n ≤ vec_capacity w.holes
-
-abbrev pub HasRoom : ℕ → Entry → Type 0
-HasRoom n (entry.Write w) = HasHoles n w
-HasRoom n (entry.Resize len) = Unit {0}
-HasRoom n (entry.Range r) = Unit {0}
-HasRoom n (entry.Marker k) = Unit {0}
-
 -- a pending mutation after a durable range of n bytes at o
 abbrev pub pared_by : ℕ → ℕ → Pending → Pending
 pared_by o n (model.Waiting m) = model.Waiting (pared_one o n m)
@@ -47,8 +35,3 @@ is_left (model.Waiting m) = has_bare m
 is_left (model.Cut len) = true
 is_left (model.Again p b) = true
 is_left (model.Marker k) = true
-
--- a list can take n more entries, and each of its writes n more holes
-pub record HasRooms (n : ℕ) (list : Vec Entry Global) : Type 0 where
-  pub entries : vec_len list + n ≤ vec_capacity list
-  pub holes : All (HasRoom n) list.items

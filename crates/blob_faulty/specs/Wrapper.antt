@@ -30,11 +30,11 @@ next_marker_of w = w.next_marker
 
 -- what is pending of each incarnation, where `place` says which one an origin names
 abbrev pub pending_of : {S R O : Type 0} → (O → Place) → Storage S R O → Place → List Pending
-pending_of place w = list_of place w.lists.all.items
+pending_of place w = list_of place w.lists.all.lists.items
 
 -- no two lists are of one incarnation
 abbrev pub AreApart : {S R O : Type 0} → (O → Place) → Storage S R O → Type 0
-AreApart place w = ArePlacesApart (held place w.lists.all.items)
+AreApart place w = ArePlacesApart (held place w.lists.all.lists.items)
 
 -- what is pending once the started sync with a marker, where there is one, is finished
 abbrev pub finished_by : Option ℕ → List Pending → List Pending
@@ -57,7 +57,7 @@ pub record KeepsRecords {S R O : Type 0} (place : O → Place) (old new : Storag
 pub record Stands {S R O : Type 0} (place : O → Place) (directory : Directory) (durable : Durable) (w : Storage S R O) (files : Files) : Type 0 where
   pub stands : StandsFor directory durable (pending_of place w) (next_write_of w) (next_marker_of w) files
   -- no two lists are of one incarnation
-  pub apart : ArePlacesApart (held place w.lists.all.items)
+  pub apart : ArePlacesApart (held place w.lists.all.lists.items)
 
 -- whatever files a wrapper stood for, it now stands for them with these entries added to an incarnation's log. The directory stays
 abbrev pub Adds : {S R O : Type 0} → (O → Place) → Directory → Durable → Durable → Storage S R O → Storage S R O → Place → List Entry → Type 0

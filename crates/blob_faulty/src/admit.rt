@@ -1,5 +1,5 @@
 //! What is pending of a name is retired.
-ghost use Rattle.std.specs.Prelude.{◌≡◌, Some};
+ghost use Rattle.std.specs.Prelude.{◌≡◌, Some, filter, not};
 ghost use Rattle.blob_base.specs.Directory.{current};
 ghost use Rattle.blob_base.specs.Files.{Files, admitted, ends_by};
 ghost use Rattle.blob_base.specs.Places.{Place};
@@ -7,6 +7,7 @@ ghost use Rattle.blob_base.specs.Stands.{retired};
 ghost use Rattle.blob_faulty.specs.Wrapper.{AreApart, KeepsNumbers, Stands, inner_of, rng_of, pending_of};
 ghost use Rattle.blob_memory.specs.Store.{directory, durable};
 
+use crate::incarnation::Incarnation;
 use crate::retired::Retired;
 use crate::storage::Storage;
 use blob_base::Durable;
@@ -24,6 +25,18 @@ fn is_current_of(
     partition == origin.partition() && name == origin.name() && inner.is_current(origin)
 }
 
+/// The list of the name's current incarnation goes.
+fn drop_current(
+    lists: &mut Vec<Incarnation<Origin>>,
+    inner: &blob_memory::Storage,
+    partition: &str,
+    name: &[u8],
+)
+    ensures { lists.new.items ≡ filter (λ i. not (ends_by (directory inner.now) partition.now (Some name.now) i.origin)) lists.old.items }
+{
+    lists.retain(|list| !is_current_of(inner, &list.origin, partition, name));
+}
+
 impl<R> Storage<blob_memory::Storage, R> {
     /// What is pending of the name's current incarnation is retired, where it has one: what is durable of it a crash leaves.
     /// What is pending of incarnations that ended stays. Takes no memory.
@@ -35,8 +48,7 @@ impl<R> Storage<blob_memory::Storage, R> {
         ensures rng { rng_of self.new ≡ rng_of self.old }
         ensures numbers { KeepsNumbers self.old self.new }
     {
-        let inner = &self.inner;
-        self.lists.all.retain(|list| !is_current_of(inner, &list.origin, partition, name));
+        drop_current(&mut self.lists.all.lists, &self.inner, partition, name);
         Retired { _private: () }
     }
 }

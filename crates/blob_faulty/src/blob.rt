@@ -27,6 +27,8 @@ use rand_core::Rng;
 pub struct Blob<B> {
     pub(crate) inner: B,
     pub(crate) size: u64,
+    /// Where the list of its incarnation was when last used: a hint, which the list's origin confirms.
+    pub(crate) list: usize,
 }
 
 impl<B> Blob<B> {

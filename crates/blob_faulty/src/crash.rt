@@ -13,7 +13,7 @@ ghost use Rattle.blob_memory.specs.Store.{directory, durable, HasCrashRoom};
 
 use crate::entries::{end, unmarked, widest};
 use crate::gather::gather;
-use crate::lists::Incarnation;
+use crate::incarnation::Incarnation;
 use crate::replay::replay_all;
 use crate::rows::draw_rows;
 use crate::selections::Selections;
@@ -90,13 +90,13 @@ impl<R: Rng> Storage<blob_memory::Storage, R> {
         ensures directory { directory (inner_of self.new) ≡ directory (inner_of self.old) }
         ensures numbers { KeepsNumbers self.old self.new }
     {
-        let alloc = *self.lists.all.allocator();
-        let draws = gather(alloc, &self.lists.all)?;
+        let alloc = *self.lists.all.lists.allocator();
+        let draws = gather(alloc, &self.lists.all.lists)?;
         let rows = draw_rows(alloc, &draws, &mut self.rng)?;
-        let mut chosen = Vec::with_capacity(alloc, widest_of_all(&self.lists.all))?;
-        reserve_all(&mut self.inner, &self.lists.all)?;
-        replay_all(&mut self.inner, &self.lists.all, &rows, &mut chosen);
-        self.lists.all.clear();
+        let mut chosen = Vec::with_capacity(alloc, widest_of_all(&self.lists.all.lists))?;
+        reserve_all(&mut self.inner, &self.lists.all.lists)?;
+        replay_all(&mut self.inner, &self.lists.all.lists, &rows, &mut chosen);
+        self.lists.all.lists.clear();
         Ok(Selections::new(rows))
     }
 }

@@ -1,39 +1,53 @@
 //! What is pending of one incarnation, in issue order.
 ghost use Rattle.std.specs.Prelude.{◌≡◌, ◌<◌, ◌≤◌, ◌+◌, ◌^◌, ℕ, List, ◌++◌, ◌∷◌, [], All, OnOk, map, drop, length, vec_len, vec_capacity, true};
+ghost use Rattle.blob_base.specs.Holes.{Holes};
 ghost use Rattle.blob_base.specs.Pending.{cut_by, laid, has_barrier, finished, ends};
+ghost use Rattle.blob_faulty.specs.Marks.{marks_of};
 ghost use Rattle.blob_faulty.specs.Replays.{unmarked, widest};
-ghost use Rattle.blob_faulty.specs.Views.{view, views, pared_by, HasRooms, HasRoom};
+ghost use Rattle.blob_faulty.specs.Rooms.{AreWithin, HasRoomFor, HasRoomsFor};
+ghost use Rattle.blob_faulty.specs.Views.{view, views, pared_by};
 
 use crate::entry::{DurableRange, Entry};
 use blob_base::IoBufs;
 use std::alloc::AllocError;
 
-/// Room for so many more holes in each write.
-fn reserve_holes(entries: &mut [Entry], count: usize) -> Result<(), AllocError>
+/// Room in the writes for the holes of so many ranges from `start` up to `end`.
+fn reserve_holes(
+    entries: &mut [Entry],
+    start: u64,
+    end: u64,
+    count: usize,
+) -> Result<(), AllocError>
     ensures views { views entries.new ≡ views entries.old }
-    ensures ok { OnOk result (All (HasRoom count) entries.new) }
+    ensures ok { OnOk result ((ranges : Holes) → AreWithin start end count ranges → All (HasRoomFor ranges) entries.new) }
 {
     for entry in entries.iter_mut() {
-        entry.reserve(count)?;
+        entry.reserve(start, end, count)?;
     }
     Ok(())
 }
 
-/// Room for so many more durable ranges. A refusal leaves the list as it was.
-pub fn reserve_ranges(entries: &mut Vec<Entry>, count: usize) -> Result<(), AllocError>
+/// Room for so many more durable ranges, which lie from `start` up to `end`. A write that lies elsewhere needs none. A
+/// refusal leaves the list as it was.
+pub fn reserve_ranges(
+    entries: &mut Vec<Entry>,
+    start: u64,
+    end: u64,
+    count: usize,
+) -> Result<(), AllocError>
     ensures views { views entries.new.items ≡ views entries.old.items }
-    ensures ok { OnOk result (HasRooms count entries.new) }
+    ensures ok { OnOk result ((ranges : Holes) → AreWithin start end count ranges → HasRoomsFor ranges entries.new) }
 {
     entries.reserve(count)?;
-    reserve_holes(entries.as_mut_slice(), count)
+    reserve_holes(entries.as_mut_slice(), start, end, count)
 }
 
 /// Each write gives up what a durable range covers.
 fn cover_each(entries: &mut [Entry], start: u64, len: u64)
     requires fits { start + len < 2 ^ 64 }
-    requires room { All (HasRoom 1) entries.old }
+    requires room { All (HasRoomFor ((start, start + len) ∷ [])) entries.old }
     ensures views { views entries.new ≡ map (pared_by start len) (views entries.old) }
-    ensures room { (n : ℕ) → All (HasRoom (n + 1)) entries.old → All (HasRoom n) entries.new }
+    ensures room { (later : Holes) → All (HasRoomFor ((start, start + len) ∷ later)) entries.old → All (HasRoomFor later) entries.new }
 {
     for entry in entries.iter_mut() {
         entry.cover(start, len);
@@ -43,9 +57,9 @@ fn cover_each(entries: &mut [Entry], start: u64, len: u64)
 /// The same of a list that can grow.
 fn cover_writes(entries: &mut Vec<Entry>, start: u64, len: u64)
     requires fits { start + len < 2 ^ 64 }
-    requires room { All (HasRoom 1) entries.old.items }
+    requires room { All (HasRoomFor ((start, start + len) ∷ [])) entries.old.items }
     ensures views { views entries.new.items ≡ map (pared_by start len) (views entries.old.items) }
-    ensures room { (n : ℕ) → All (HasRoom (n + 1)) entries.old.items → All (HasRoom n) entries.new.items }
+    ensures room { (later : Holes) → All (HasRoomFor ((start, start + len) ∷ later)) entries.old.items → All (HasRoomFor later) entries.new.items }
     ensures capacity { vec_capacity entries.new ≡ vec_capacity entries.old }
     ensures len { vec_len entries.new ≡ vec_len entries.old }
 {
@@ -55,9 +69,9 @@ fn cover_writes(entries: &mut Vec<Entry>, start: u64, len: u64)
 /// The same, and one that is covered wholly goes.
 fn cover_all(entries: &mut Vec<Entry>, start: u64, len: u64)
     requires fits { start + len < 2 ^ 64 }
-    requires room { HasRooms 1 entries.old }
+    requires room { HasRoomsFor ((start, start + len) ∷ []) entries.old }
     ensures views { views entries.new.items ≡ cut_by start len (views entries.old.items) }
-    ensures room { (n : ℕ) → HasRooms (n + 1) entries.old → HasRooms n entries.new }
+    ensures room { (later : Holes) → HasRoomsFor ((start, start + len) ∷ later) entries.old → HasRoomsFor later entries.new }
     ensures capacity { vec_capacity entries.old ≤ vec_capacity entries.new }
     ensures len { vec_len entries.new ≤ vec_len entries.old }
 {
@@ -81,7 +95,7 @@ pub fn has_barrier(entries: &[Entry]) -> bool
 pub fn push(entries: &mut Vec<Entry>, entry: Entry)
     requires { vec_len entries.old < vec_capacity entries.old }
     ensures views { views entries.new.items ≡ views entries.old.items ++ view entry ∷ [] }
-    ensures holes { (n : ℕ) → All (HasRoom n) entries.old.items → HasRoom n entry → All (HasRoom n) entries.new.items }
+    ensures holes { (later : Holes) → All (HasRoomFor later) entries.old.items → HasRoomFor later entry → All (HasRoomFor later) entries.new.items }
     ensures len { vec_len entries.new ≡ vec_len entries.old + 1 }
     ensures capacity { vec_capacity entries.old ≤ vec_capacity entries.new }
 {
@@ -93,9 +107,10 @@ pub fn push(entries: &mut Vec<Entry>, entry: Entry)
 pub fn lay(entries: &mut Vec<Entry>, offset: u64, len: u64, copy: IoBufs)
     requires fits { offset + len < 2 ^ 64 }
     requires copied { length copy ≤ len }
-    requires room { HasRooms 1 entries.old }
+    requires room { HasRoomsFor ((offset, offset + len) ∷ []) entries.old }
     ensures views { (bytes : List ℕ) → length bytes ≡ len → (has_barrier (views entries.old.items) ≡ true → copy ≡ bytes) → views entries.new.items ≡ laid offset bytes (views entries.old.items) }
-    ensures room { (n : ℕ) → HasRooms (n + 1) entries.old → HasRooms n entries.new }
+    ensures marks { marks_of (views entries.new.items) ≡ marks_of (views entries.old.items) }
+    ensures room { (later : Holes) → HasRoomsFor ((offset, offset + len) ∷ later) entries.old → HasRoomsFor later entries.new }
 {
     let queued = has_barrier(entries.as_slice());
     cover_all(entries, offset, len);

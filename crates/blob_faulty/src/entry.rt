@@ -25,30 +25,32 @@ pub enum Entry {
 }
 
 impl Entry {
-    ghost use Rattle.std.specs.Prelude.{◌≡◌, ℕ, OnOk};
+    ghost use Rattle.std.specs.Prelude.{◌≡◌, ◌∷◌, [], OnOk};
+    ghost use Rattle.blob_base.specs.Holes.{Holes};
     ghost use Rattle.blob_base.specs.Pending.{is_marker, is_barrier, is_mark, end_of};
     ghost use Rattle.blob_faulty.specs.Replays.{width};
-    ghost use Rattle.blob_faulty.specs.Views.{view, pared_by, is_left, HasRoom};
+    ghost use Rattle.blob_faulty.specs.Rooms.{AreWithin, HasRoomFor};
+    ghost use Rattle.blob_faulty.specs.Views.{view, pared_by, is_left};
 
     /// A write gives up what a durable range covers.
     pub fn cover(&mut self, start: u64, len: u64)
         requires fits { start + len < 2 ^ 64 }
-        requires room { HasRoom 1 self.old }
+        requires room { HasRoomFor ((start, start + len) ∷ []) self.old }
         ensures view { view self.new ≡ pared_by start len (view self.old) }
-        ensures room { (n : ℕ) → HasRoom (n + 1) self.old → HasRoom n self.new }
+        ensures room { (later : Holes) → HasRoomFor ((start, start + len) ∷ later) self.old → HasRoomFor later self.new }
     {
         if let Entry::Write(write) = self {
             write.cover(start, len);
         }
     }
 
-    /// Room in a write for so many more holes. A refusal leaves the entry as it was.
-    pub fn reserve(&mut self, holes: usize) -> Result<(), AllocError>
+    /// Room in a write for the holes of so many ranges from `start` up to `end`. A refusal leaves the entry as it was.
+    pub fn reserve(&mut self, start: u64, end: u64, count: usize) -> Result<(), AllocError>
         ensures view { view self.new ≡ view self.old }
-        ensures ok { OnOk result (HasRoom holes self.new) }
+        ensures ok { OnOk result ((ranges : Holes) → AreWithin start end count ranges → HasRoomFor ranges self.new) }
     {
         match self {
-            Entry::Write(write) => write.reserve(holes),
+            Entry::Write(write) => write.reserve(start, end, count),
             _ => Ok(()),
         }
     }

@@ -1,14 +1,15 @@
 //! A write that fails: room is taken for the runs of its kept bytes, and they are laid.
 ghost use Rattle.std.specs.Prelude.{◌≡◌, ◌≢◌, ◌≤◌, ◌<◌, ◌+◌, ◌^◌, ℕ, List, [], Bool, true, false, Option, Some, None, OnOk, OnErr, IfOk, All, vec_len, length};
 ghost use Rattle.blob_base.specs.Directory.{is_current};
+ghost use Rattle.blob_base.specs.Live.{all_written};
 ghost use Rattle.blob_base.specs.Log.{Entry};
 ghost use Rattle.blob_base.specs.Refusals.{Refusal, refused, refusal_of, Memory, IsMemory, IsMemoryError};
-ghost use Rattle.blob_base.specs.Runs.{runs, kept_runs};
+ghost use Rattle.blob_base.specs.Runs.{runs, kept_runs, AreRunsApart};
 ghost use Rattle.blob_faulty.specs.Answers.{or_memory, injected_for, allows_runs, last_end};
 ghost use Rattle.blob_faulty.specs.Faults.{Failed, retention};
 ghost use Rattle.blob_faulty.specs.Lists.{held, IsAt, HasRangesAt};
-ghost use Rattle.blob_faulty.specs.Pieces.{runs_in, EndsWithin, first_after};
-ghost use Rattle.blob_faulty.specs.Recorded.{all_written, size_of_runs, recorded_by, live_by, size_by};
+ghost use Rattle.blob_faulty.specs.Pieces.{runs_in, extents, first_after};
+ghost use Rattle.blob_faulty.specs.Recorded.{size_of_runs, recorded_by, live_by, size_by};
 ghost use Rattle.blob_faulty.specs.Wrapper.{Adds, KeepsRecords};
 
 use crate::blob::Blob;
@@ -27,12 +28,13 @@ impl<B> Blob<B> {
     ) -> Result<usize, Error>
     where
         B: blob_base::Blob<S>,
+        requires { AreRunsApart 0 (runs_in pieces.now) }
         ensures allowed { or_memory (B.allows_reserve self.old.inner store.old.inner (last_end 0 (runs_in pieces.now))) (refused result) }
         ensures write_answers { (offset : ℕ) (bytes : List ℕ) (sync : Bool) (answer : Option Refusal) → B.allows_write self.new.inner store.new.inner offset bytes sync answer → B.allows_write self.old.inner store.old.inner offset bytes sync answer }
         ensures room { B.is_direct ≡ true → is_current (S.directory store.old.inner) (B.place self.old.inner) ≡ true → OnOk result (last_end 0 (runs_in pieces.now) ≤ B.room self.new.inner store.new.inner) }
-        ensures at { IfOk result (λ i. IsAt (held S.place store.new.lists.all.items) i (B.place self.new.inner)) }
-        ensures inside { IfOk result (λ i. i < vec_len store.new.lists.all) }
-        ensures ranges { IfOk result (λ i. HasRangesAt store.new.lists.all.items i (length pieces.now)) }
+        ensures at { IfOk result (λ i. IsAt (held S.place store.new.lists.all.lists.items) i (B.place self.new.inner)) }
+        ensures inside { IfOk result (λ i. i < vec_len store.new.lists.all.lists) }
+        ensures ranges { IfOk result (λ i. HasRangesAt store.new.lists.all.lists.items i (extents (runs_in pieces.now))) }
         ensures records { KeepsRecords S.place store.old store.new }
         ensures live { B.live self.new.inner ≡ B.live self.old.inner }
         ensures durable { S.durable store.new.inner ≡ S.durable store.old.inner }
@@ -42,9 +44,10 @@ impl<B> Blob<B> {
         ensures rng { store.new.rng ≡ store.old.rng }
         ensures config { store.new.config ≡ store.old.config }
     {
-        let list = self.room_for_ranges(store, pieces.len())?;
-        self.inner
-            .reserve(&mut store.inner, Piece::last_end(pieces))?;
+        let (start, end) = (Piece::first_start(pieces), Piece::last_end(pieces));
+        let list = self.room_for_ranges(store, start, end, pieces.len())?;
+        self.inner.reserve(&mut store.inner, end)?;
+        self.list = list;
         Ok(list)
     }
 
@@ -56,7 +59,7 @@ impl<B> Blob<B> {
     ) -> Result<(), Error>
     where
         B: blob_base::Blob<S>,
-        requires { All (EndsWithin (last_end 0 (runs_in pieces.items))) (runs_in pieces.items) }
+        requires { AreRunsApart 0 (runs_in pieces.items) }
         ensures allowed { or_memory (allows_runs (B.allows_write self.old.inner store.old.inner) (B.allows_reserve self.old.inner store.old.inner) B.is_direct (runs_in pieces.items)) (refused result) }
         ensures live { OnOk result (B.live self.new.inner ≡ all_written (B.live self.old.inner) (runs_in pieces.items)) }
         ensures size { OnOk result (self.new.size ≡ size_of_runs self.old.size (runs_in pieces.items)) }

@@ -11,7 +11,7 @@ ghost use Rattle.blob_faulty.specs.Views.{views};
 use crate::draw::Draw;
 use crate::entries::unmarked;
 use crate::entry::Entry;
-use crate::lists::Incarnation;
+use crate::incarnation::Incarnation;
 use std::alloc::{AllocError, Global};
 
 /// Adds what is drawn for of entries among which no marker is.

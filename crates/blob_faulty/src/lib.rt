@@ -13,6 +13,7 @@ mod failed_writes;
 pub mod faults;
 mod gather;
 pub mod holes;
+pub mod incarnation;
 pub mod laws;
 pub mod lists;
 pub mod mode;

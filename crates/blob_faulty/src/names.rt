@@ -41,7 +41,15 @@ impl<S: blob_base::Storage, R> Storage<S, R> {
         ensures rest { self.new ≡ record self.old { inner = self.new.inner } }
     {
         let (inner, size, version) = self.inner.open_versioned(partition, name, versions)?;
-        Ok((Blob { inner, size }, size, version))
+        Ok((
+            Blob {
+                inner,
+                size,
+                list: 0,
+            },
+            size,
+            version,
+        ))
     }
 
     /// The inner store's own removal, and then the lists of the incarnations that it ended go.

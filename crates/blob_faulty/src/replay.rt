@@ -19,7 +19,7 @@ ghost use Rattle.blob_memory.specs.Store.{directory, durable, HasCrashRoom};
 use crate::entries::unmarked;
 use crate::entry::Entry;
 use crate::holes::Hole;
-use crate::lists::Incarnation;
+use crate::incarnation::Incarnation;
 use crate::rows::choices_in;
 use crate::write::PendingWrite;
 use blob_base::{Durable, IoBufs};

@@ -66,6 +66,7 @@ impl<B> Blob<B> {
         let list = self.room_for_entry(store)?;
         self.resize_unrecorded(store, len)?;
         store.lists.push(list, Entry::Resize(len));
+        self.list = list;
         Ok(())
     }
 

@@ -8,12 +8,11 @@ ghost use Rattle.blob_base.specs.Places.{Place};
 ghost use Rattle.blob_base.specs.Refusals.{refused};
 ghost use Rattle.blob_faulty.specs.Answers.{or_memory, injected_or, numbered, allows_start};
 ghost use Rattle.blob_faulty.specs.Faults.{draw};
-ghost use Rattle.blob_faulty.specs.Lists.{held, IsAt, HasEntryAt};
+ghost use Rattle.blob_faulty.specs.Lists.{held, IsAt, HasMarkAt};
 ghost use Rattle.blob_faulty.specs.Syncs.{Publishes, Starts};
 ghost use Rattle.blob_faulty.specs.Wrapper.{pending_of, KeepsRecords, KeepsNumbers};
 
 use crate::blob::Blob;
-use crate::entry::Entry;
 use crate::faults::draws;
 use crate::storage::Storage;
 use blob_base::Error;
@@ -43,7 +42,7 @@ impl<B> Blob<B> {
     {
         let origin = self.inner.origin()?;
         self.inner.sync(&mut store.inner)?;
-        store.lists.retire(&origin);
+        store.lists.retire(&origin, self.list);
         Ok(())
     }
 
@@ -78,17 +77,17 @@ impl<B> Blob<B> {
 impl<S: blob_base::Storage, R> Storage<S, R> {
     /// Leaves a marker of a started sync, where there is room for it, and takes a number for it.
     fn mark(&mut self, list: usize) -> u64
-        requires inside { list < vec_len self.old.lists.all }
-        requires room { HasEntryAt self.old.lists.all.items list }
+        requires inside { list < vec_len self.old.lists.all.lists }
+        requires room { HasMarkAt self.old.lists.all.lists.items list }
         requires left { self.old.next_marker < 2 ^ 64 - 1 }
         ensures number { result ≡ self.old.next_marker }
-        ensures lists { (o : Place) → IsAt (held S.place self.old.lists.all.items) list o → (a : Place) → pending_of S.place self.new a ≡ with_at (pending_of S.place self.old) o (pending_of S.place self.old o ++ Marker self.old.next_marker ∷ []) a }
-        ensures apart { ArePlacesApart (held S.place self.old.lists.all.items) → ArePlacesApart (held S.place self.new.lists.all.items) }
+        ensures lists { (o : Place) → IsAt (held S.place self.old.lists.all.lists.items) list o → (a : Place) → pending_of S.place self.new a ≡ with_at (pending_of S.place self.old) o (pending_of S.place self.old o ++ Marker self.old.next_marker ∷ []) a }
+        ensures apart { ArePlacesApart (held S.place self.old.lists.all.lists.items) → ArePlacesApart (held S.place self.new.lists.all.lists.items) }
         ensures rest { self.new ≡ record self.old { lists = self.new.lists; next_marker = self.old.next_marker + 1 } }
     {
         let number = self.next_marker;
         self.next_marker = number + 1;
-        self.lists.push(list, Entry::Marker(number));
+        self.lists.mark(list, number);
         number
     }
 }
@@ -138,8 +137,9 @@ impl<B> Blob<B> {
         ensures unrecorded { OnErr result (KeepsRecords S.place store.old store.new) }
         ensures rest { (store.new.rng ≡ store.old.rng) × (store.new.config ≡ store.old.config) × (store.new.next_write ≡ store.old.next_write) }
     {
-        let list = self.room_for_entry(store)?;
+        let list = self.room_for_mark(store)?;
         self.start_inner(store)?;
+        self.list = list;
         Ok(store.mark(list))
     }
 

@@ -26,10 +26,11 @@ pub struct PendingWrite {
 }
 
 impl PendingWrite {
-    ghost use Rattle.std.specs.Prelude.{◌≡◌, ◌≤◌, ℕ, not, OnOk};
+    ghost use Rattle.std.specs.Prelude.{◌≡◌, ◌-◌, ◌∷◌, [], min, max, not, OnOk};
     ghost use Rattle.blob_base.specs.Log.{has_bare};
-    ghost use Rattle.blob_base.specs.Holes.{dug_by, need_in};
-    ghost use Rattle.blob_faulty.specs.Views.{write_of, HasHoles};
+    ghost use Rattle.blob_base.specs.Holes.{Holes, dug_by, need_in};
+    ghost use Rattle.blob_faulty.specs.Rooms.{AreWithin, HasHolesFor};
+    ghost use Rattle.blob_faulty.specs.Views.{write_of};
 
     /// The position after its last byte.
     pub fn end(&self) -> u64
@@ -41,10 +42,10 @@ impl PendingWrite {
     /// The overlap with a durable range joins the holes.
     pub fn cover(&mut self, start: u64, len: u64)
         requires fits { start + len < 2 ^ 64 }
-        requires room { HasHoles 1 self.old }
+        requires room { HasHolesFor ((start, start + len) ∷ []) self.old }
         ensures holes { ranges self.new.holes.items ≡ dug_by start len (write_of self.old) (ranges self.old.holes.items) }
         ensures write { write_of self.new ≡ write_of self.old }
-        ensures room { (n : ℕ) → HasHoles (n + 1) self.old → HasHoles n self.new }
+        ensures room { (later : Holes) → HasHolesFor ((start, start + len) ∷ later) self.old → HasHolesFor later self.new }
     {
         let first = start.max(self.offset);
         let end = (start + len).min(self.end());
@@ -53,13 +54,22 @@ impl PendingWrite {
         }
     }
 
-    /// Room for so many more holes. A refusal leaves the write as it was.
-    pub fn reserve(&mut self, holes: usize) -> Result<(), AllocError>
+    /// How many of its bytes lie from `start` up to `end`.
+    fn overlap(&self, start: u64, end: u64) -> u64
+        ensures { result ≡ min end (self.now.offset + length self.now.bytes) - max start self.now.offset }
+    {
+        end.min(self.end()).saturating_sub(start.max(self.offset))
+    }
+
+    /// Room for the holes of so many ranges from `start` up to `end`: no more than they have bytes in common with the
+    /// write, and none where it lies elsewhere. A refusal leaves the write as it was.
+    pub fn reserve(&mut self, start: u64, end: u64, count: usize) -> Result<(), AllocError>
         ensures write { write_of self.new ≡ write_of self.old }
         ensures holes { ranges self.new.holes.items ≡ ranges self.old.holes.items }
-        ensures ok { OnOk result (HasHoles holes self.new) }
+        ensures ok { OnOk result ((ranges : Holes) → AreWithin start end count ranges → HasHolesFor ranges self.new) }
     {
-        self.holes.reserve(holes)
+        let most = self.overlap(start, end).min(count as u64);
+        self.holes.reserve(most as usize)
     }
 
     /// Whether no byte is left that a crash could lose or keep.

@@ -27,7 +27,7 @@ impl<S: blob_base::Storage, R: Rng> Storage<S, R> {
         ensures memory { OnErr result (IsMemory result) }
         ensures rest { self.new ≡ record self.old { rng = self.new.rng } }
     {
-        let alloc = *self.lists.all.allocator();
+        let alloc = *self.lists.all.lists.allocator();
         faults::draw_write(alloc, &self.config, sync, offset, len, &mut self.rng)
     }
 }

@@ -22,7 +22,7 @@ impl Piece {
     ghost use Rattle.blob_base.specs.Refusals.{IsMemory};
     ghost use Rattle.blob_base.specs.Runs.{runs};
     ghost use Rattle.blob_faulty.specs.Answers.{last_end};
-    ghost use Rattle.blob_faulty.specs.Pieces.{run_of, runs_in};
+    ghost use Rattle.blob_faulty.specs.Pieces.{run_of, runs_in, first_start};
     ghost use Rattle.blob_faulty.specs.Spans.{piece, pieces, ends_by};
 
     /// A span of the bytes of a write at `offset`.
@@ -66,6 +66,16 @@ impl Piece {
         self.offset + self.bytes.remaining() as u64
     }
 
+    /// The offset of the first run, or 0 where there is none.
+    pub(crate) fn first_start(pieces: &[Piece]) -> u64
+        ensures { result ≡ first_start (runs_in pieces.now) }
+    {
+        match pieces.last() {
+            None => 0,
+            Some(first) => first.offset,
+        }
+    }
+
     /// The end of the last run, or 0 where there is none.
     pub(crate) fn last_end(pieces: &[Piece]) -> u64
         ensures { result ≡ last_end 0 (runs_in pieces.now) }
@@ -81,15 +91,15 @@ impl<B> Blob<B> {
     ghost use Rattle.std.specs.Prelude.{◌≢◌, ◌≤◌, List, ℕ, [], ◌∷◌, true, false, max, Some, OnOk, OnErr, All, vec_len};
     ghost use Rattle.blob_base.specs.Bytes.{written};
     ghost use Rattle.blob_base.specs.Directory.{is_current};
-    ghost use Rattle.blob_base.specs.Live.{live_after};
+    ghost use Rattle.blob_base.specs.Live.{live_after, all_written};
     ghost use Rattle.blob_base.specs.Log.{Entry, Kept};
     ghost use Rattle.blob_base.specs.Refusals.{refused, WriteFailed, IsMemory};
-    ghost use Rattle.blob_base.specs.Runs.{runs, kept_runs};
+    ghost use Rattle.blob_base.specs.Runs.{Run, runs, kept_runs};
     ghost use Rattle.blob_faulty.specs.Answers.{allows_laid};
     ghost use Rattle.blob_faulty.specs.Faults.{Failed, retention};
     ghost use Rattle.blob_faulty.specs.Lists.{held, IsAt, HasRangesAt};
-    ghost use Rattle.blob_faulty.specs.Pieces.{runs_in, EndsWithin, first_after};
-    ghost use Rattle.blob_faulty.specs.Recorded.{all_written, size_of_runs, recorded_by, live_by, size_by};
+    ghost use Rattle.blob_faulty.specs.Pieces.{run_of, runs_in, extents, EndsWithin, first_after};
+    ghost use Rattle.blob_faulty.specs.Recorded.{size_of_runs, recorded_by, live_by, size_by};
     ghost use Rattle.blob_faulty.specs.Wrapper.{Adds, KeepsRecords};
 
     /// A run, as a SYNC write of the inner blob, where its list has room for it.
@@ -101,18 +111,18 @@ impl<B> Blob<B> {
     ) -> Result<(), Error>
     where
         B: blob_base::Blob<S>,
-        requires at { IsAt (held S.place store.old.lists.all.items) list (B.place self.old.inner) }
-        requires inside { list < vec_len store.old.lists.all }
-        requires room { HasRangesAt store.old.lists.all.items list 1 }
+        requires at { IsAt (held S.place store.old.lists.all.lists.items) list (B.place self.old.inner) }
+        requires inside { list < vec_len store.old.lists.all.lists }
+        requires room { HasRangesAt store.old.lists.all.lists.items list (extents (run_of run ∷ [])) }
         ensures allowed { B.allows_write self.old.inner store.old.inner run.offset run.bytes true (refused result) }
         ensures live { OnOk result (B.live self.new.inner ≡ written (B.live self.old.inner) run.offset run.bytes) }
         ensures size { OnOk result (self.new.size ≡ max self.old.size (run.offset + length run.bytes)) }
         ensures recorded { OnOk result (Adds S.place (S.directory store.old.inner) (S.durable store.old.inner) (S.durable store.new.inner) store.old store.new (B.place self.old.inner) (Kept run.offset run.bytes ∷ [])) }
         ensures current { OnOk result (is_current (S.directory store.old.inner) (B.place self.old.inner) ≡ true) }
         ensures kept_room { OnOk result (B.room self.old.inner store.old.inner ≤ B.room self.new.inner store.new.inner) }
-        ensures at { OnOk result (IsAt (held S.place store.new.lists.all.items) list (B.place self.new.inner)) }
-        ensures inside { OnOk result (list < vec_len store.new.lists.all) }
-        ensures ranges { OnOk result ((n : ℕ) → HasRangesAt store.old.lists.all.items list (n + 1) → HasRangesAt store.new.lists.all.items list n) }
+        ensures at { OnOk result (IsAt (held S.place store.new.lists.all.lists.items) list (B.place self.new.inner)) }
+        ensures inside { OnOk result (list < vec_len store.new.lists.all.lists) }
+        ensures ranges { OnOk result ((later : List Run) → HasRangesAt store.old.lists.all.lists.items list (extents (run_of run ∷ later)) → HasRangesAt store.new.lists.all.lists.items list (extents later)) }
 
         // a refusal
         ensures unrecorded { OnErr result (KeepsRecords S.place store.old store.new) }
@@ -148,9 +158,9 @@ impl<B> Blob<B> {
     ) -> Result<(), Error>
     where
         B: blob_base::Blob<S>,
-        requires at { IsAt (held S.place store.old.lists.all.items) list (B.place self.old.inner) }
-        requires inside { list < vec_len store.old.lists.all }
-        requires ranges { HasRangesAt store.old.lists.all.items list (vec_len pieces) }
+        requires at { IsAt (held S.place store.old.lists.all.lists.items) list (B.place self.old.inner) }
+        requires inside { list < vec_len store.old.lists.all.lists }
+        requires ranges { HasRangesAt store.old.lists.all.lists.items list (extents (runs_in pieces.items)) }
         requires current { is_current (S.directory store.old.inner) (B.place self.old.inner) ≡ true }
         requires within { B.is_direct ≡ true → All (EndsWithin (B.room self.old.inner store.old.inner)) (runs_in pieces.items) }
         ensures live { OnOk result (B.live self.new.inner ≡ all_written (B.live self.old.inner) (runs_in pieces.items)) }
@@ -183,9 +193,9 @@ impl<B> Blob<B> {
     ) -> Result<(), Error>
     where
         B: blob_base::Blob<S>,
-        requires at { IsAt (held S.place store.old.lists.all.items) list (B.place self.old.inner) }
-        requires inside { list < vec_len store.old.lists.all }
-        requires ranges { HasRangesAt store.old.lists.all.items list (vec_len pieces) }
+        requires at { IsAt (held S.place store.old.lists.all.lists.items) list (B.place self.old.inner) }
+        requires inside { list < vec_len store.old.lists.all.lists }
+        requires ranges { HasRangesAt store.old.lists.all.lists.items list (extents (runs_in pieces.items)) }
         requires within { B.is_direct ≡ true → is_current (S.directory store.old.inner) (B.place self.old.inner) ≡ true → All (EndsWithin (B.room self.old.inner store.old.inner)) (runs_in pieces.items) }
         ensures allowed { allows_laid (B.allows_write self.old.inner store.old.inner) B.is_direct (runs_in pieces.items) (refused result) }
         ensures live { OnOk result (B.live self.new.inner ≡ all_written (B.live self.old.inner) (runs_in pieces.items)) }

@@ -4,6 +4,7 @@ ghost use Rattle.blob_base.specs.Bytes.{overlay, written};
 ghost use Rattle.blob_base.specs.Directory.{is_current};
 ghost use Rattle.blob_base.specs.Durable.{changed};
 ghost use Rattle.blob_base.specs.Files.{Files, all_logged};
+ghost use Rattle.blob_base.specs.Holes.{Holes};
 ghost use Rattle.blob_base.specs.Live.{live_written, live_after};
 ghost use Rattle.blob_base.specs.Options.{is_sync};
 ghost use Rattle.blob_base.specs.Refusals.{refused, Refusal, Memory, IsMemory};
@@ -14,8 +15,9 @@ ghost use Rattle.blob_base.specs.Order.{ArePlacesApart};
 ghost use Rattle.blob_base.specs.Pending.{Waiting, laid};
 ghost use Rattle.blob_base.specs.Places.{Place};
 ghost use Rattle.blob_faulty.specs.Faults.{issued, retention};
-ghost use Rattle.blob_faulty.specs.Lists.{held, IsAt, HasEntryAt, HasRangesAt};
+ghost use Rattle.blob_faulty.specs.Lists.{held, IsAt, HasEntryAt, HasMarkAt, HasRangesAt};
 ghost use Rattle.blob_faulty.specs.Recorded.{loose, kept};
+ghost use Rattle.blob_faulty.specs.Rooms.{AreWithin};
 ghost use Rattle.blob_faulty.specs.Wrapper.{pending_of, KeepsRecords, Adds};
 
 use crate::blob::Blob;
@@ -29,18 +31,18 @@ use blob_base::{Error, IoBufs, WriteOptions};
 impl<S: blob_base::Storage, R> Storage<S, R> {
     /// Records a write that a crash may lose, where there is room for it, and takes a number for it.
     fn record_write(&mut self, list: usize, offset: u64, bytes: IoBufs, config: WriteConfig)
-        requires inside { list < vec_len self.old.lists.all }
-        requires room { HasEntryAt self.old.lists.all.items list }
+        requires inside { list < vec_len self.old.lists.all.lists }
+        requires room { HasEntryAt self.old.lists.all.lists.items list }
         requires some { 0 < length bytes }
         requires fits { offset + length bytes < 2 ^ 64 }
         requires left { self.old.next_write < 2 ^ 64 - 1 }
-        ensures lists { (o : Place) → IsAt (held S.place self.old.lists.all.items) list o → (a : Place) → pending_of S.place self.new a ≡ with_at (pending_of S.place self.old) o (pending_of S.place self.old o ++ Waiting (need_of (issued self.old.next_write offset bytes config) []) ∷ []) a }
-        ensures apart { ArePlacesApart (held S.place self.old.lists.all.items) → ArePlacesApart (held S.place self.new.lists.all.items) }
+        ensures lists { (o : Place) → IsAt (held S.place self.old.lists.all.lists.items) list o → (a : Place) → pending_of S.place self.new a ≡ with_at (pending_of S.place self.old) o (pending_of S.place self.old o ++ Waiting (need_of (issued self.old.next_write offset bytes config) []) ∷ []) a }
+        ensures apart { ArePlacesApart (held S.place self.old.lists.all.lists.items) → ArePlacesApart (held S.place self.new.lists.all.lists.items) }
         ensures rest { self.new ≡ record self.old { lists = self.new.lists; next_write = self.old.next_write + 1 } }
     {
         let number = self.next_write;
         self.next_write = number + 1;
-        let holes = Vec::new(*self.lists.all.allocator());
+        let holes = Vec::new(*self.lists.all.lists.allocator());
         let (mode, rate) = (config.mode, config.retention_rate);
         let write = PendingWrite {
             number,
@@ -63,36 +65,60 @@ impl<B> Blob<B> {
     where
         B: blob_base::Blob<S>,
         ensures lists { (o : Place) → pending_of S.place store.new o ≡ pending_of S.place store.old o }
-        ensures apart { ArePlacesApart (held S.place store.old.lists.all.items) → ArePlacesApart (held S.place store.new.lists.all.items) }
+        ensures apart { ArePlacesApart (held S.place store.old.lists.all.lists.items) → ArePlacesApart (held S.place store.new.lists.all.lists.items) }
         ensures rest { store.new ≡ record store.old { lists = store.new.lists } }
-        ensures at { IfOk result (λ i. IsAt (held S.place store.new.lists.all.items) i (B.place self.now.inner)) }
-        ensures inside { IfOk result (λ i. i < vec_len store.new.lists.all) }
-        ensures room { IfOk result (λ i. HasEntryAt store.new.lists.all.items i) }
+        ensures at { IfOk result (λ i. IsAt (held S.place store.new.lists.all.lists.items) i (B.place self.now.inner)) }
+        ensures inside { IfOk result (λ i. i < vec_len store.new.lists.all.lists) }
+        ensures room { IfOk result (λ i. HasEntryAt store.new.lists.all.lists.items i) }
         ensures memory { OnErr result (IsMemory result) }
     {
         let origin = self.inner.origin()?;
-        let list = store.lists.room_for_entry(origin)?;
+        let list = store.lists.room_for_entry(origin, self.list)?;
         Ok(list)
     }
 
-    /// The same with room for so many durable ranges.
+    /// The same with room for one more marker.
+    pub(crate) fn room_for_mark<S: blob_base::Storage, R>(
+        &self,
+        store: &mut Storage<S, R>,
+    ) -> Result<usize, Error>
+    where
+        B: blob_base::Blob<S>,
+        ensures lists { (o : Place) → pending_of S.place store.new o ≡ pending_of S.place store.old o }
+        ensures apart { ArePlacesApart (held S.place store.old.lists.all.lists.items) → ArePlacesApart (held S.place store.new.lists.all.lists.items) }
+        ensures rest { store.new ≡ record store.old { lists = store.new.lists } }
+        ensures at { IfOk result (λ i. IsAt (held S.place store.new.lists.all.lists.items) i (B.place self.now.inner)) }
+        ensures inside { IfOk result (λ i. i < vec_len store.new.lists.all.lists) }
+        ensures room { IfOk result (λ i. HasMarkAt store.new.lists.all.lists.items i) }
+        ensures memory { OnErr result (IsMemory result) }
+    {
+        let origin = self.inner.origin()?;
+        let list = store.lists.room_for_mark(origin, self.list)?;
+        Ok(list)
+    }
+
+    /// The list of the handle's incarnation, with room for so many durable ranges, which lie from `start` up to `end`.
     pub(crate) fn room_for_ranges<S: blob_base::Storage, R>(
         &self,
         store: &mut Storage<S, R>,
+        start: u64,
+        end: u64,
         count: usize,
     ) -> Result<usize, Error>
     where
         B: blob_base::Blob<S>,
         ensures lists { (o : Place) → pending_of S.place store.new o ≡ pending_of S.place store.old o }
-        ensures apart { ArePlacesApart (held S.place store.old.lists.all.items) → ArePlacesApart (held S.place store.new.lists.all.items) }
+        ensures apart { ArePlacesApart (held S.place store.old.lists.all.lists.items) → ArePlacesApart (held S.place store.new.lists.all.lists.items) }
         ensures rest { store.new ≡ record store.old { lists = store.new.lists } }
-        ensures at { IfOk result (λ i. IsAt (held S.place store.new.lists.all.items) i (B.place self.now.inner)) }
-        ensures inside { IfOk result (λ i. i < vec_len store.new.lists.all) }
-        ensures room { IfOk result (λ i. HasRangesAt store.new.lists.all.items i count) }
+        ensures at { IfOk result (λ i. IsAt (held S.place store.new.lists.all.lists.items) i (B.place self.now.inner)) }
+        ensures inside { IfOk result (λ i. i < vec_len store.new.lists.all.lists) }
+        ensures room { IfOk result (λ i. (ranges : Holes) → AreWithin start end count ranges → HasRangesAt store.new.lists.all.lists.items i ranges) }
         ensures memory { OnErr result (IsMemory result) }
     {
         let origin = self.inner.origin()?;
-        let list = store.lists.room_for_ranges(origin, count)?;
+        let list = store
+            .lists
+            .room_for_ranges(origin, self.list, start, end, count)?;
         Ok(list)
     }
 }
@@ -165,12 +191,13 @@ impl<B> Blob<B> {
         ensures err { OnErr result (store.new.next_write ≡ store.old.next_write) }
         ensures lists { OnOk result ((o : Place) → pending_of S.place store.new o ≡ with_at (pending_of S.place store.old) (B.place self.old.inner) (pending_of S.place store.old (B.place self.old.inner) ++ Waiting (need_of (issued store.old.next_write offset bytes config) []) ∷ []) o) }
         ensures same_lists { OnErr result ((o : Place) → pending_of S.place store.new o ≡ pending_of S.place store.old o) }
-        ensures apart { ArePlacesApart (held S.place store.old.lists.all.items) → ArePlacesApart (held S.place store.new.lists.all.items) }
+        ensures apart { ArePlacesApart (held S.place store.old.lists.all.lists.items) → ArePlacesApart (held S.place store.new.lists.all.lists.items) }
     {
         let copy = bytes.copied()?;
         let list = self.room_for_entry(store)?;
         self.write_unrecorded(store, offset, bytes, options)?;
         store.record_write(list, offset, copy, config);
+        self.list = list;
         Ok(())
     }
 }
@@ -204,13 +231,14 @@ impl<B> Blob<B> {
         ensures rest { (store.new.rng ≡ store.old.rng) × (store.new.config ≡ store.old.config) × (store.new.next_write ≡ store.old.next_write) × (store.new.next_marker ≡ store.old.next_marker) }
         ensures lists { OnOk result ((o : Place) → pending_of S.place store.new o ≡ with_at (pending_of S.place store.old) (B.place self.old.inner) (laid offset bytes (pending_of S.place store.old (B.place self.old.inner))) o) }
         ensures same_lists { OnErr result ((o : Place) → pending_of S.place store.new o ≡ pending_of S.place store.old o) }
-        ensures apart { ArePlacesApart (held S.place store.old.lists.all.items) → ArePlacesApart (held S.place store.new.lists.all.items) }
+        ensures apart { ArePlacesApart (held S.place store.old.lists.all.lists.items) → ArePlacesApart (held S.place store.new.lists.all.lists.items) }
     {
-        let list = self.room_for_ranges(store, 1)?;
-        let copy = store.lists.copy_for(list, &bytes)?;
         let len = bytes.remaining() as u64;
+        let list = self.room_for_ranges(store, offset, offset + len, 1)?;
+        let copy = store.lists.copy_for(list, &bytes)?;
         self.write_unrecorded(store, offset, bytes, options)?;
         store.lists.lay(list, offset, len, copy);
+        self.list = list;
         Ok(())
     }
 }

@@ -1,6 +1,6 @@
 use Rattle.std.proofs.Common.{◌≡◌, ℕ, ◌<◌, get_or}
 use Rattle.blob_base.specs.Places.{Place}
-use Rattle.blob_faulty.specs.declared.lists.Incarnation.{Incarnation}
+use Rattle.blob_faulty.specs.declared.incarnation.Incarnation.{Incarnation}
 use Rattle.blob_faulty.specs.Lists.{held_by}
 use Rattle.blob_faulty.specs.Replays.{IsReady}
 use Rattle.blob_memory.specs.Store.{directory, durable}

@@ -1,9 +1,10 @@
-use Rattle.std.proofs.Common.{rules, ◌≡◌, ◌∙◌, sym, ap, List, subst, arith, map, ◌+◌}
+use Rattle.std.proofs.Common.{rules, ◌≡◌, ◌∙◌, sym, ap, List, subst, arith}
 use Rattle.std.specs.List.{All, filter}
 use Rattle.std.proofs.lemmas.Fn.{filter_same}
 use Rattle.std.proofs.lemmas.List.Elements.{All-filter}
 use Rattle.blob_base.specs.Pending.{Pending}
-use Rattle.blob_faulty.specs.Views.{view, views, is_left, HasRoom}
+use Rattle.blob_faulty.specs.Views.{view, views, is_left}
+use Rattle.blob_faulty.specs.Rooms.{HasRoomFor}
 use Rattle.blob_faulty.specs.declared.entry.Entry.{Entry}
 use Rattle.blob_faulty.proofs.CutSteps.{cut_is, views_filter}
 use Rattle.blob_faulty.proofs.entries.cover_all.Goals as goal
@@ -17,7 +18,7 @@ returns-clause-views c =
     ∙ ap (λ (q : List Pending). filter is_left q) c.cover_writes.ensures.views ∙ sym (cut_is c.args.start c.args.len (views c.args.entries.now.items))
 
 pub returns-clause-room : goal.returns-clause-room
-returns-clause-room c n h = record {
+returns-clause-room c later h = record {
   entries = omega (arith, h.entries);
-  holes = subst (λ (q : List Entry). All (HasRoom n) q) (sym (left c)) (All-filter (λ e. is_left (view e)) (HasRoom n) c.cover_writes.new.entries.items (c.cover_writes.ensures.room n h.holes));
+  holes = subst (λ (q : List Entry). All (HasRoomFor later) q) (sym (left c)) (All-filter (λ e. is_left (view e)) (HasRoomFor later) c.cover_writes.new.entries.items (c.cover_writes.ensures.room later h.holes));
 }

@@ -1,6 +1,8 @@
-use Rattle.std.proofs.Common.{◌≡◌, ◌<◌, ◌∙◌, ◌+◌, ℕ, length, get_or, sym, ap, subst, arith}
+use Rattle.std.proofs.Common.{◌≡◌, ◌<◌, ◌∙◌, ◌+◌, ◌∷◌, [], length, get_or, sym, subst, arith}
 use Rattle.std.proofs.lemmas.List.{get_or_default}
-use Rattle.blob_faulty.specs.Views.{view, pared_by, HasRoom}
+use Rattle.blob_faulty.specs.Views.{pared_by}
+use Rattle.blob_faulty.specs.Rooms.{HasRoomFor}
+use Rattle.blob_base.specs.Holes.{Holes}
 use Rattle.blob_faulty.specs.declared.entry.Entry.{Entry}
 use Rattle.blob_faulty.proofs.CutSteps.{written, below_set, later_set}
 use Rattle.blob_faulty.proofs.entries.cover_each.Goals as goal
@@ -8,7 +10,7 @@ use Rattle.blob_faulty.proofs.entries.cover_each.Goals as goal
 pub cover-requires-clause-room : goal.cover-requires-clause-room
 cover-requires-clause-room c =
     let i = c.loop-entry.entry-index in
-    subst (λ (e : Entry). HasRoom 1 e) (sym (c.loop-entry.invariant.later i c.entry-item.result (omega arith))) (c.requires.room i c.entry-item.result (omega arith))
+    subst (λ (e : Entry). HasRoomFor ((c.args.start, c.args.start + c.args.len) ∷ []) e) (sym (c.loop-entry.invariant.later i c.entry-item.result (omega arith))) (c.requires.room i c.entry-item.result (omega arith))
 
 pub loop-entry-preserved : goal.loop-entry-preserved
 loop-entry-preserved c =
@@ -17,9 +19,9 @@ loop-entry-preserved c =
     let here : (d : Entry) → get_or c.args.entries.now i d ≡ get_or c.loop-entry.entries i c.entry-item.result = λ d. sym (c.loop-entry.invariant.later i d (omega arith)) ∙ get_or_default c.loop-entry.entries i d c.entry-item.result h in
     record {
       so_far = written (pared_by c.args.start c.args.len) c.loop-entry.entries i c.entry-item.result _ h c.cover.ensures.view ∙ c.loop-entry.invariant.so_far;
-      room = below_set (λ k d e. (n : ℕ) → HasRoom (n + 1) (get_or c.args.entries.now k d) → HasRoom n e) c.loop-entry.entries i _ h c.loop-entry.invariant.room (λ d n r. c.cover.ensures.room n (subst (λ (e : Entry). HasRoom (n + 1) e) (here d) r));
+      room = below_set (λ k d e. (later : Holes) → HasRoomFor ((c.args.start, c.args.start + c.args.len) ∷ later) (get_or c.args.entries.now k d) → HasRoomFor later e) c.loop-entry.entries i _ h c.loop-entry.invariant.room (λ d later r. c.cover.ensures.room later (subst (λ (e : Entry). HasRoomFor ((c.args.start, c.args.start + c.args.len) ∷ later) e) (here d) r));
       later = later_set c.loop-entry.entries c.args.entries.now i _ c.loop-entry.invariant.later;
     }
 
 pub returns-clause-room : goal.returns-clause-room
-returns-clause-room c n all k d h = c.loop-entry.invariant.room k d (omega arith) n (all k d (omega arith))
+returns-clause-room c later all k d h = c.loop-entry.invariant.room k d (omega arith) later (all k d (omega arith))

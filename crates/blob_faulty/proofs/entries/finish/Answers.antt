@@ -1,4 +1,4 @@
-use Rattle.std.proofs.Common.{rules, ◌≡◌, ◌∙◌, ◌+◌, ap, sym, arith, List, get_or, true}
+use Rattle.std.proofs.Common.{rules, ◌≡◌, ◌∙◌, ap, sym, arith, List, get_or, true}
 use Rattle.blob_base.specs.Pending.{finished, is_mark}
 use Rattle.blob_faulty.specs.Views.{view, views}
 use Rattle.blob_faulty.specs.declared.entry.Entry.{Entry}

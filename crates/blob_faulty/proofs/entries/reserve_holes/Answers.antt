@@ -1,5 +1,6 @@
 use Rattle.std.proofs.Common.{◌<◌, ◌∙◌, length, arith}
-use Rattle.blob_faulty.specs.Views.{HasRoom}
+use Rattle.blob_faulty.specs.Rooms.{AreWithin, HasRoomFor}
+use Rattle.blob_base.specs.Holes.{Holes}
 use Rattle.blob_faulty.proofs.CutSteps.{views_set, below_set}
 use Rattle.blob_faulty.proofs.entries.reserve_holes.Goals as goal
 
@@ -13,5 +14,5 @@ loop-entry-preserved c =
     let h : c.loop-entry.entry-index < length c.loop-entry.entries = omega arith in
     record {
       views = views_set c.loop-entry.entries c.loop-entry.entry-index c.entry-item.result _ h c.reserve.ensures.view ∙ c.loop-entry.invariant.views;
-      room = below_set (λ k d e. HasRoom c.args.count e) c.loop-entry.entries c.loop-entry.entry-index _ h c.loop-entry.invariant.room (λ d. c.in_ok-reserve.ensures.ok);
+      room = below_set (λ k d e. (ranges : Holes) → AreWithin c.args.start c.args.end c.args.count ranges → HasRoomFor ranges e) c.loop-entry.entries c.loop-entry.entry-index _ h c.loop-entry.invariant.room (λ d. c.in_ok-reserve.ensures.ok);
     }

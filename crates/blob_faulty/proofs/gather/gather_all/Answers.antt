@@ -4,7 +4,7 @@ use Rattle.blob_base.specs.Log.{Need}
 use Rattle.blob_base.specs.Order.{waiting_of_all}
 use Rattle.blob_base.specs.Pending.{has_marker, waiting}
 use Rattle.blob_faulty.specs.declared.entry.Entry.{Entry}
-use Rattle.blob_faulty.specs.declared.lists.Incarnation.{Incarnation}
+use Rattle.blob_faulty.specs.declared.incarnation.Incarnation.{Incarnation}
 use Rattle.blob_faulty.specs.Drawings.{Drawing, drawings_of, drawings_in}
 use Rattle.blob_faulty.specs.Lists.{held}
 use Rattle.blob_faulty.specs.Views.{views}

@@ -1,4 +1,4 @@
-use Rattle.std.proofs.Common.{◌≡◌, ◌≤◌, ◌-◌, ◌<◌, ◌++◌, take, drop, vec_len, vec_capacity}
+use Rattle.std.proofs.Common.{◌≡◌, ◌≤◌, ◌-◌, ◌++◌, take, drop, vec_len, vec_capacity}
 use Rattle.blob_base.specs.Holes.{dug}
 use Rattle.blob_faulty.specs.Ranges.{ranges}
 use Rattle.blob_faulty.proofs.holes.dig.Given as goal

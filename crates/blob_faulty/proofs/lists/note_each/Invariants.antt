@@ -1,7 +1,7 @@
 use Rattle.std.proofs.Common.{◌≡◌, ◌<◌, ℕ, get_or}
 use Rattle.blob_base.specs.Directory.{is_current}
 use Rattle.blob_faulty.specs.Lists.{held}
-use Rattle.blob_faulty.specs.declared.lists.Incarnation.{Incarnation}
+use Rattle.blob_faulty.specs.declared.incarnation.Incarnation.{Incarnation}
 use Rattle.blob_faulty.proofs.lists.note_each.Given as goal
 
 abbrev pub invariant-loop-list : goal.invariant-loop-list

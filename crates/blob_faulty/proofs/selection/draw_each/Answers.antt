@@ -1,5 +1,4 @@
 use Rattle.std.proofs.Common.{rules, ◌≡◌, ◌∙◌, ◌++◌, ◌∷◌, [], ap, sym, arith, List, Bool, ◌-◌, ◌+◌}
-use Rattle.rand_core.specs.Stream.{Stream}
 use Rattle.blob_base.specs.Draws.{each}
 use Rattle.blob_faulty.proofs.DrawSteps.{joined, each_more, each_all}
 use Rattle.blob_faulty.proofs.selection.draw_each.Goals as goal

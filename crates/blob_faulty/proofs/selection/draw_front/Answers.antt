@@ -1,5 +1,4 @@
-use Rattle.std.proofs.Common.{rules, ◌≡◌, ◌∙◌, ◌++◌, ◌∷◌, [], ap, sym, arith, List, Bool, true, false, not, ◌-◌, ◌+◌}
-use Rattle.rand_core.specs.Stream.{Stream}
+use Rattle.std.proofs.Common.{rules, ◌≡◌, ◌∙◌, ◌++◌, ◌∷◌, [], ap, sym, arith, List, Bool, true, false, ◌-◌, ◌+◌}
 use Rattle.blob_base.specs.Draws.{front}
 use Rattle.blob_faulty.proofs.DrawSteps.{joined, front_more, front_lost, front_all}
 use Rattle.blob_faulty.proofs.selection.draw_front.Goals as goal

@@ -1,5 +1,4 @@
 use Rattle.std.proofs.Common.{rules, ◌≡◌, ◌∙◌, ◌++◌, ◌∷◌, [], ap, sym, arith, List, Bool, eqb, ◌-◌, ◌+◌}
-use Rattle.rand_core.specs.Stream.{Stream}
 use Rattle.blob_base.specs.Draws.{sectors}
 use Rattle.blob_faulty.proofs.DrawSteps.{joined, sectors_more, sectors_all}
 use Rattle.blob_faulty.proofs.selection.draw_sectors.Goals as goal

@@ -1,32 +1,35 @@
-use Rattle.std.proofs.Common.{rules, not, ◌≡◌, ◌∙◌, List, Some, ap, subst, sym}
-use Rattle.std.proofs.lemmas.Fn.{filter_same}
+use Rattle.std.proofs.Common.{not, ◌≡◌, ◌≢◌, ◌∙◌, List, Some, ap, subst, sym}
+use Rattle.std.proofs.lemmas.List.Kept.{AllPairs-filter}
 use Rattle.std.specs.List.{filter}
 use Rattle.blob_base.specs.Files.{ends_by}
 use Rattle.blob_base.specs.Order.{Held, held_at, ArePlacesApart}
 use Rattle.blob_base.specs.Places.{Place}
 use Rattle.blob_base.proofs.FileSteps.{stands_admitted}
 use Rattle.blob_memory.specs.Store.{directory, durable}
-use Rattle.blob_faulty.specs.Lists.{held}
+use Rattle.blob_faulty.specs.declared.incarnation.Incarnation.{Incarnation}
+use Rattle.blob_faulty.specs.Lists.{held, AreDistinct}
 use Rattle.blob_faulty.proofs.Admitting.{admits_current}
 use Rattle.blob_faulty.proofs.ListSteps.{held_filter, held_at_filter, apart_filter}
 use Rattle.blob_faulty.proofs.admit.Storage+blob_memory+Storage+R.admit.Given.{Over}
 use Rattle.blob_faulty.proofs.admit.Storage+blob_memory+Storage+R.admit.Goals as goal
 
-left : (g : Over) (c : goal.After-retain g) → c.retain.new.self.items ≡ filter (λ i. not (ends_by (directory c.args.self.now.inner) c.args.partition.now (Some c.args.name.now) i.origin)) c.args.self.now.lists.all.items
-left g c = filter_same _ (λ i. not (ends_by (directory c.args.self.now.inner) c.args.partition.now (Some c.args.name.now) i.origin)) _ (λ x b f' h. search rules) _ _ c.retain.ensures.filtered
-
-kept : (g : Over) (c : goal.After-retain g) → held (λ (o : Place). o) c.retain.new.self.items ≡ filter (λ h. not (ends_by (directory c.args.self.now.inner) c.args.partition.now (Some c.args.name.now) h.0)) (held (λ (o : Place). o) c.args.self.now.lists.all.items)
-kept g c = ap (held (λ (o : Place). o)) (left g c) ∙ held_filter (λ (o : Place). o) (λ o. not (ends_by (directory c.args.self.now.inner) c.args.partition.now (Some c.args.name.now) o)) c.args.self.now.lists.all.items
+kept : (g : Over) (c : goal.After-self-1 g) → held (λ (o : Place). o) c.drop_current.new.lists.items ≡ filter (λ h. not (ends_by (directory c.args.self.now.inner) c.args.partition.now (Some c.args.name.now) h.0)) (held (λ (o : Place). o) c.args.self.now.lists.all.lists.items)
+kept g c = ap (held (λ (o : Place). o)) c.drop_current.ensures ∙ held_filter (λ (o : Place). o) (λ o. not (ends_by (directory c.args.self.now.inner) c.args.partition.now (Some c.args.name.now) o)) c.args.self.now.lists.all.lists.items
 
 pub returns-clause-pending : goal.returns-clause-pending
-returns-clause-pending g c a = ap (λ (hs : List Held). held_at hs a) (kept g c) ∙ held_at_filter (held (λ (o : Place). o) c.args.self.now.lists.all.items) (ends_by (directory c.args.self.now.inner) c.args.partition.now (Some c.args.name.now)) a
-    ∙ admits_current (directory c.args.self.now.inner) c.args.partition.now c.args.name.now (held_at (held (λ (o : Place). o) c.args.self.now.lists.all.items)) a
+returns-clause-pending g c a = ap (λ (hs : List Held). held_at hs a) (kept g c) ∙ held_at_filter (held (λ (o : Place). o) c.args.self.now.lists.all.lists.items) (ends_by (directory c.args.self.now.inner) c.args.partition.now (Some c.args.name.now)) a
+    ∙ admits_current (directory c.args.self.now.inner) c.args.partition.now c.args.name.now (held_at (held (λ (o : Place). o) c.args.self.now.lists.all.lists.items)) a
 
 pub returns-clause-apart : goal.returns-clause-apart
-returns-clause-apart g c a = subst (λ (hs : List Held). ArePlacesApart hs) (sym (kept g c)) (apart_filter (λ h. not (ends_by (directory c.args.self.now.inner) c.args.partition.now (Some c.args.name.now) h.0)) (held (λ (o : Place). o) c.args.self.now.lists.all.items) a)
+returns-clause-apart g c a = subst (λ (hs : List Held). ArePlacesApart hs) (sym (kept g c)) (apart_filter (λ h. not (ends_by (directory c.args.self.now.inner) c.args.partition.now (Some c.args.name.now) h.0)) (held (λ (o : Place). o) c.args.self.now.lists.all.lists.items) a)
 
 pub returns-clause-stands : goal.returns-clause-stands
 returns-clause-stands g c files s = record {
-  stands = stands_admitted (directory c.args.self.now.inner) (durable c.args.self.now.inner) (held_at (held (λ (o : Place). o) c.args.self.now.lists.all.items)) (held_at (held (λ (o : Place). o) c.retain.new.self.items)) c.args.self.now.next_write c.args.self.now.next_marker files c.args.partition.now c.args.name.now (returns-clause-pending g c) s.stands;
+  stands = stands_admitted (directory c.args.self.now.inner) (durable c.args.self.now.inner) (held_at (held (λ (o : Place). o) c.args.self.now.lists.all.lists.items)) (held_at (held (λ (o : Place). o) c.drop_current.new.lists.items)) c.args.self.now.next_write c.args.self.now.next_marker files c.args.partition.now c.args.name.now (returns-clause-pending g c) s.stands;
   apart = returns-clause-apart g c s.apart;
+}
+
+pub invariant_of-self : goal.invariant_of-self
+invariant_of-self g c = record {
+  distinct = subst (λ (is : List (Incarnation Place)). AreDistinct is) (sym c.drop_current.ensures) (AllPairs-filter (λ a b. a.origin ≢ b.origin) _ c.args.self.now.lists.all.lists.items c.args.self.now.lists.all.distinct);
 }

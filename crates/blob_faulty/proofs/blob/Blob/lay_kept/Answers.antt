@@ -1,11 +1,12 @@
-use Rattle.std.proofs.Common.{◌≡◌, List, [], All, None, refl, inr, sym, ◌∙◌, ap, subst}
+use Rattle.std.proofs.Common.{◌≡◌, List, [], None, refl, inr, sym, ◌∙◌, ap, subst}
 use Rattle.std.proofs.lemmas.Bool.{eqb-true}
-use Rattle.blob_base.specs.Runs.{Run, runs, kept_runs}
-use Rattle.blob_faulty.specs.Answers.{or_memory, allows_runs, last_end}
-use Rattle.blob_faulty.specs.Pieces.{EndsWithin}
-use Rattle.blob_faulty.specs.Recorded.{all_written, size_of_runs}
+use Rattle.blob_base.specs.Runs.{Run, runs, kept_runs, AreRunsApart}
+use Rattle.blob_faulty.specs.Answers.{or_memory, allows_runs}
+use Rattle.blob_base.specs.Live.{all_written}
+use Rattle.blob_faulty.specs.Recorded.{size_of_runs}
 use Rattle.blob_faulty.specs.Wrapper.{Adds}
-use Rattle.blob_faulty.proofs.FailedSteps.{end_by_last, runs_of_none}
+use Rattle.blob_faulty.proofs.FailedSteps.{runs_of_none}
+use Rattle.blob_faulty.proofs.HoleRoom.{sooner}
 use Rattle.blob_faulty.proofs.blob.Blob.lay_kept.Goals as goal
 
 pub returns-then-is_empty-clause-allowed : goal.returns-then-is_empty-clause-allowed
@@ -28,5 +29,5 @@ returns-then-is_empty-clause-recorded g c =
 
 pub lay_all-requires : goal.lay_all-requires
 lay_all-requires g c =
-    subst (λ (rs : List Run). All (EndsWithin (last_end 0 rs)) rs) (sym c.in_ok-pieces.ensures.ok)
-    (end_by_last c.args.offset 0 _ (c.runs_are_choices.ensures.apart c.args.offset c.in_ok-bytes.bytes.items c.args.kept.now))
+    subst (λ (rs : List Run). AreRunsApart 0 rs) (sym c.in_ok-pieces.ensures.ok)
+    (sooner c.args.offset _ (c.runs_are_choices.ensures.apart c.args.offset c.in_ok-bytes.bytes.items c.args.kept.now))

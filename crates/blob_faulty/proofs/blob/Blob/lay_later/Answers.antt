@@ -1,8 +1,7 @@
-use Rattle.std.proofs.Common.{rules, ◌≡◌, ⊎_elim, ◌+◌, ◌<◌, ◌≤◌, ℕ, List, [], ◌∷◌, true, false, max, length, All, vec_len, Option, Some, refl, sym, ◌∙◌, ap, ap₂, subst, arith}
+use Rattle.std.proofs.Common.{rules, ◌≡◌, ⊎_elim, ◌+◌, ℕ, List, [], ◌∷◌, true, false, length, All, Option, sym, ◌∙◌, ap, ap₂, subst, arith}
 use Rattle.std.specs.Prelude.{is_err}
 use Rattle.std.proofs.lemmas.Bool.{cases_Bool}
 use Rattle.std.proofs.lemmas.Grind.{common_steps}
-use Rattle.blob_base.specs.Bytes.{written}
 use Rattle.blob_base.specs.Directory.{Directory, is_current}
 use Rattle.blob_base.specs.Log.{Kept}
 use Rattle.blob_base.specs.Places.{Place}
@@ -10,10 +9,12 @@ use Rattle.blob_base.specs.Refusals.{Refusal}
 use Rattle.blob_base.specs.Runs.{Run, kept_runs}
 use Rattle.blob_faulty.specs.declared.write_runs.Piece.{Piece}
 use Rattle.blob_faulty.specs.Lists.{HasRangesAt}
-use Rattle.blob_faulty.specs.Pieces.{run_of, runs_in, EndsWithin}
-use Rattle.blob_faulty.specs.Recorded.{all_written, size_of_runs}
+use Rattle.blob_faulty.specs.Pieces.{run_of, runs_in, extents, EndsWithin}
+use Rattle.blob_base.specs.Live.{all_written}
+use Rattle.blob_faulty.specs.Recorded.{size_of_runs}
 use Rattle.blob_faulty.specs.Wrapper.{Adds}
 use Rattle.blob_faulty.proofs.Adding.{adds_then}
+use Rattle.blob_faulty.proofs.HoleRoom.{first_range}
 use Rattle.blob_faulty.proofs.RunSteps.{ok_holds, is_refused, popped, later_within, first_within}
 use Rattle.blob_faulty.proofs.blob.Blob.lay_later.Goals as goal
 
@@ -37,6 +38,11 @@ returns-then-is_err-clause-some g c none =
     let never : run_of c.in-Some.run' ∷ runs_in c.pop.new.self.items ≡ [] = sym e ∙ left in
     cc
 
+pub lay_run-requires-clause-room : goal.lay_run-requires-clause-room
+lay_run-requires-clause-room g c =
+    first_range c.loop-run.store.lists.all.lists.items c.args.list (c.in-Some.run'.offset, c.in-Some.run'.offset + length c.in-Some.run'.bytes) (extents (runs_in c.pop.new.self.items))
+    (subst (λ (rs : List Run). HasRangesAt c.loop-run.store.lists.all.lists.items c.args.list (extents rs)) (popped _ _ c.in-Some.run' c.in-Some.ensures.items) c.loop-run.invariant.ranges)
+
 pub loop-run-preserved : goal.loop-run-preserved
 loop-run-preserved g c =
     let i = c.loop-run.invariant in
@@ -48,7 +54,7 @@ loop-run-preserved g c =
     record {
       at = ok_holds c.lay_run.result ok l.at;
       inside = ok_holds c.lay_run.result ok l.inside;
-      ranges = ok_holds c.lay_run.result ok l.ranges (vec_len c.pop.new.self) (subst (λ (n : ℕ). HasRangesAt c.loop-run.store.lists.all.items c.args.list n) (sym c.in-Some.ensures.cases) i.ranges);
+      ranges = ok_holds c.lay_run.result ok l.ranges rest (subst (λ (rs : List Run). HasRangesAt c.loop-run.store.lists.all.lists.items c.args.list (extents rs)) e i.ranges);
       within = λ d. later_within _ _ (run_of c.in-Some.run') rest (ok_holds c.lay_run.result ok l.kept_room) (subst (λ (rs : List Run). All (EndsWithin (g.B.Blob.room c.loop-run.self.inner c.loop-run.store.inner)) rs) e (i.within d));
       some = λ none. never (sym e ∙ i.some none);
       live = ap (λ (x : List ℕ). all_written x rest) (ok_holds c.lay_run.result ok l.live) ∙ ap (λ (rs : List Run). all_written (g.B.Blob.live c.loop-run.self.inner) rs) (sym e) ∙ i.live;

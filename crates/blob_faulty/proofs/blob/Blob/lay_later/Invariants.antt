@@ -1,18 +1,19 @@
-use Rattle.std.proofs.Common.{◌≡◌, ℕ, ◌<◌, ◌≤◌, true, vec_len, All, []}
+use Rattle.std.proofs.Common.{◌≡◌, ◌<◌, true, vec_len, All, []}
 use Rattle.blob_base.specs.Durable.{Durable}
 use Rattle.blob_base.specs.Runs.{kept_runs}
 use Rattle.blob_faulty.specs.declared.storage.Storage.{Storage}
 use Rattle.blob_faulty.specs.Lists.{held, IsAt, HasRangesAt}
-use Rattle.blob_faulty.specs.Pieces.{runs_in, EndsWithin}
-use Rattle.blob_faulty.specs.Recorded.{all_written, size_of_runs}
+use Rattle.blob_faulty.specs.Pieces.{runs_in, extents, EndsWithin}
+use Rattle.blob_base.specs.Live.{all_written}
+use Rattle.blob_faulty.specs.Recorded.{size_of_runs}
 use Rattle.blob_faulty.specs.Wrapper.{Adds}
 use Rattle.blob_faulty.proofs.blob.Blob.lay_later.Given as goal
 
 abbrev pub invariant-loop-run : goal.invariant-loop-run
 invariant-loop-run g l = record {
-  at : IsAt (held g.S.Durable.place l.store.lists.all.items) l.list (g.B.Blob.place l.self.inner);
-  inside : l.list < vec_len l.store.lists.all;
-  ranges : HasRangesAt l.store.lists.all.items l.list (vec_len l.pieces);
+  at : IsAt (held g.S.Durable.place l.store.lists.all.lists.items) l.list (g.B.Blob.place l.self.inner);
+  inside : l.list < vec_len l.store.lists.all.lists;
+  ranges : HasRangesAt l.store.lists.all.lists.items l.list (extents (runs_in l.pieces.items));
   within : g.B.Blob.is_direct ≡ true → All (EndsWithin (g.B.Blob.room l.self.inner l.store.inner)) (runs_in l.pieces.items);
   some : runs_in l.fn.pieces.items ≡ [] → runs_in l.pieces.items ≡ [];
   live : all_written (g.B.Blob.live l.self.inner) (runs_in l.pieces.items) ≡ all_written (g.B.Blob.live l.fn.self.inner) (runs_in l.fn.pieces.items);

@@ -8,7 +8,7 @@ use Rattle.blob_faulty.proofs.blob.Blob.sync_drawn.Goals as goal
 pub returns-clause-pending : goal.returns-clause-pending
 returns-clause-pending g c =
     let place = g.S.Durable.place in
-    subst (λ (p : Place). (a : Place) → list_of place c.retire.new.self.all.items a ≡ with_at (list_of place c.args.store.now.lists.all.items) p [] a) c.in_ok-origin.ensures.ok c.retire.ensures.lists
+    subst (λ (p : Place). (a : Place) → list_of place c.retire.new.self.all.lists.items a ≡ with_at (list_of place c.args.store.now.lists.all.lists.items) p [] a) c.in_ok-origin.ensures.ok c.retire.ensures.lists
 
 pub returns-clause-published : goal.returns-clause-published
 returns-clause-published g c =

@@ -10,7 +10,7 @@ use Rattle.blob_base.specs.Places.{Place}
 use Rattle.blob_base.specs.Stands.{replayed_at}
 use Rattle.blob_memory.specs.Store.{directory, durable}
 use Rattle.blob_faulty.specs.declared.draw.Draw.{Draw}
-use Rattle.blob_faulty.specs.declared.lists.Incarnation.{Incarnation}
+use Rattle.blob_faulty.specs.declared.incarnation.Incarnation.{Incarnation}
 use Rattle.blob_faulty.specs.Drawings.{drawings_of, drawings_in, rows_drawn}
 use Rattle.blob_faulty.specs.Lists.{held, held_by, list_of}
 use Rattle.blob_faulty.specs.Replays.{IsReady}
@@ -46,7 +46,7 @@ returns-clause-durable g c apart o =
     c.replay_all.ensures.durable (subst (λ (is : List (Incarnation Place)). ArePlacesApart (held (λ (p : Place). p) is)) (sym c.deref-5.ensures.value) apart) o
     ∙ ap (λ (rows : List (ℕ × Vec Bool Global)). replayed_at (chosen_by (rows_in rows)) (list_of (λ (p : Place). p) c.deref-5.result.now o) (now o)) (c.deref-6.ensures.value ∙ sym c.new.ensures)
     ∙ ap (λ (is : List (Incarnation Place)). replayed_at t (list_of (λ (p : Place). p) is o) (now o)) c.deref-5.ensures.value
-    ∙ ap (λ (f : Durable). replayed_at t (list_of (λ (p : Place). p) c.args.self.now.lists.all.items o) (f o)) c.reserve_all.ensures.durable
+    ∙ ap (λ (f : Durable). replayed_at t (list_of (λ (p : Place). p) c.args.self.now.lists.all.lists.items o) (f o)) c.reserve_all.ensures.durable
 
 pub returns-clause-stands : goal.returns-clause-stands
 returns-clause-stands g c files f =

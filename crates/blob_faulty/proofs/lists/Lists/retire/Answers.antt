@@ -1,23 +1,26 @@
-use Rattle.std.proofs.Common.{rules, not, ◌≡◌, ◌∙◌, List, Bool, sym, ap, subst}
-use Rattle.std.proofs.lemmas.Fn.{filter_same}
-use Rattle.std.specs.List.{filter}
-use Rattle.blob_base.specs.Places.{Place, same_place}
-use Rattle.blob_base.specs.SamePlace.{same_back}
-use Rattle.blob_base.specs.Order.{Held, held_at, ArePlacesApart}
+use Rattle.std.proofs.Common.{arith}
 use Rattle.blob_faulty.specs.Lists.{held}
-use Rattle.blob_faulty.proofs.ListSteps.{held_filter, held_at_filter, apart_filter}
-use Rattle.blob_faulty.proofs.lists.Lists.retire.Given.{Over}
+use Rattle.blob_faulty.proofs.Distinct.{apart_of}
+use Rattle.blob_faulty.proofs.Taking.{distinct_taken, taken_by, taken_list, no_list}
 use Rattle.blob_faulty.proofs.lists.Lists.retire.Goals as goal
 
-left : (g : Over) (c : goal.After-retain g) → c.retain.new.self.items ≡ filter (λ i. not (same_place (g.S.Durable.place c.args.origin.now) (g.S.Durable.place i.origin))) c.args.self.now.all.items
-left g c = filter_same _ (λ i. not (g.S.Origin.PartialEq.eq i.origin c.args.origin.now)) _ (λ x b f' h. search rules) _ _ c.retain.ensures.filtered
-    ∙ (λ j. filter (λ x. not ((g.met.S.Durable.same_origins x.origin c.args.origin.now ∙ same_back (g.S.Durable.place x.origin) (g.S.Durable.place c.args.origin.now)) j)) c.args.self.now.all.items)
+pub invariant_of-self : goal.invariant_of-self
+invariant_of-self g c = record {
+  distinct = distinct_taken c.args.self.now.all.lists.items c.swap_remove.new.self.items c.in-Some.i
+      (taken_by g.S.Durable.place c.args.self.now.all.lists.items c.swap_remove.new.self.items c.in-Some.i _ (g.S.Durable.place c.args.origin.now) (omega arith) c.in-Some.ensures.some (omega (arith, c.swap_remove.ensures.len)) c.swap_remove.ensures.by_index)
+      c.args.self.now.all.distinct;
+}
 
-kept : (g : Over) (c : goal.After-retain g) → held g.S.Durable.place c.retain.new.self.items ≡ filter (λ h. not (same_place (g.S.Durable.place c.args.origin.now) h.0)) (held g.S.Durable.place c.args.self.now.all.items)
-kept g c = ap (held g.S.Durable.place) (left g c) ∙ held_filter g.S.Durable.place (λ o. not (same_place (g.S.Durable.place c.args.origin.now) o)) c.args.self.now.all.items
+pub returns-in-Some-clause-lists : goal.returns-in-Some-clause-lists
+returns-in-Some-clause-lists g c a =
+    taken_list g.S.Durable.place c.args.self.now.all.lists.items c.swap_remove.new.self.items c.in-Some.i c.swap_remove.result (g.S.Durable.place c.args.origin.now) a g.met.S.Durable.one_origin c.args.self.now.all.distinct c.in-Some.ensures.some
+    (taken_by g.S.Durable.place c.args.self.now.all.lists.items c.swap_remove.new.self.items c.in-Some.i _ (g.S.Durable.place c.args.origin.now) (omega arith) c.in-Some.ensures.some (omega (arith, c.swap_remove.ensures.len)) c.swap_remove.ensures.by_index)
 
-pub returns-clause-lists : goal.returns-clause-lists
-returns-clause-lists g c a = ap (λ (hs : List Held). held_at hs a) (kept g c) ∙ held_at_filter (held g.S.Durable.place c.args.self.now.all.items) (same_place (g.S.Durable.place c.args.origin.now)) a
+pub returns-in-Some-clause-apart : goal.returns-in-Some-clause-apart
+returns-in-Some-clause-apart g c _ = apart_of g.S.Durable.place c.swap_remove.new.self.items g.met.S.Durable.one_origin
+    (distinct_taken c.args.self.now.all.lists.items c.swap_remove.new.self.items c.in-Some.i
+    (taken_by g.S.Durable.place c.args.self.now.all.lists.items c.swap_remove.new.self.items c.in-Some.i _ (g.S.Durable.place c.args.origin.now) (omega arith) c.in-Some.ensures.some (omega (arith, c.swap_remove.ensures.len)) c.swap_remove.ensures.by_index)
+    c.args.self.now.all.distinct)
 
-pub returns-clause-apart : goal.returns-clause-apart
-returns-clause-apart g c a = subst (λ (hs : List Held). ArePlacesApart hs) (sym (kept g c)) (apart_filter (λ h. not (same_place (g.S.Durable.place c.args.origin.now) h.0)) (held g.S.Durable.place c.args.self.now.all.items) a)
+pub returns-in_default-clause-lists : goal.returns-in_default-clause-lists
+returns-in_default-clause-lists g c a = no_list (held g.S.Durable.place c.args.self.now.all.lists.items) (g.S.Durable.place c.args.origin.now) a c.in_default.ensures.none

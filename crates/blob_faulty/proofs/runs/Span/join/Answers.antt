@@ -1,4 +1,4 @@
-use Rattle.std.proofs.Common.{rules, refl, ◌≡◌, ◌-◌, ◌+◌, get_or, arith, length, vec_len}
+use Rattle.std.proofs.Common.{rules, refl, ◌≡◌, ◌-◌, arith, length, vec_len}
 use Rattle.blob_faulty.proofs.SpanSteps.{extended}
 use Rattle.blob_faulty.proofs.runs.Span.join.Goals as goal
 

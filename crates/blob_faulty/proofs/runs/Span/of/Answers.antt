@@ -1,5 +1,5 @@
-use Rattle.std.proofs.Common.{rules, ◌≡◌, ◌∙◌, ◌-◌, ◌+◌, ◌<◌, List, Bool, ℕ, true, false, get_or, arith, length, ap, drop, sym}
-use Rattle.blob_base.specs.Runs.{Run, runs, with_byte}
+use Rattle.std.proofs.Common.{◌∙◌, ◌-◌, ◌+◌, List, get_or, arith, length, ap}
+use Rattle.blob_base.specs.Runs.{Run, with_byte}
 use Rattle.blob_faulty.proofs.SpanSteps.{left_out, joined_in, back_one}
 use Rattle.blob_faulty.proofs.runs.Span.of.Goals as goal
 

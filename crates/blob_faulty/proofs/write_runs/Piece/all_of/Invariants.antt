@@ -1,4 +1,4 @@
-use Rattle.std.proofs.Common.{◌≡◌, ℕ, ◌≤◌, map, take, vec_len}
+use Rattle.std.proofs.Common.{◌≡◌, map, take}
 use Rattle.blob_faulty.specs.Pieces.{run_of}
 use Rattle.blob_faulty.specs.Spans.{pieces}
 use Rattle.blob_faulty.proofs.write_runs.Piece.all_of.Given as goal

@@ -1,0 +1,10 @@
+use Rattle.std.proofs.Common.{sym, subst, List}
+use Rattle.blob_base.specs.Order.{Held, ArePlacesApart}
+use Rattle.blob_faulty.proofs.Distinct.{distinct_of, apart_of}
+use Rattle.blob_faulty.proofs.lists.Lists.note_current.Goals as goal
+
+pub invariant_of-self : goal.invariant_of-self
+invariant_of-self g c = record {
+  distinct = distinct_of g.S.Durable.place c.note_all.new.lists.items
+      (subst (λ (hs : List Held). ArePlacesApart hs) (sym c.note_all.ensures.held) (apart_of g.S.Durable.place c.args.self.now.all.lists.items g.met.S.Durable.one_origin c.args.self.now.all.distinct));
+}
