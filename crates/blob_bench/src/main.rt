@@ -1,10 +1,11 @@
 //! Times the checksum over 64 MiB beside a byte table's, 100,000 resolutions of a region, and the memory store: its calls
-//! by name among few and among many names, small writes and reads of a large blob, and the digest of 64 MiB.
-//! The times go to standard error.
+//! by name among few and among many names, small writes and reads of a large blob, and the digest of 64 MiB; and the
+//! wrapper over it, where many writes are pending. The times go to standard error.
 #![tactic(auto)]
 
 mod byte_table;
 mod store;
+mod wrapper;
 
 use anyhow::Result;
 use blob_base::{BlobVersion, Crc32, Header, Layout, resolve};
@@ -16,6 +17,10 @@ const RESOLUTIONS: u32 = 100_000;
 const NAMES: [u32; 2] = [1_000, 10_000];
 
 const WRITES: u32 = 10_000;
+
+const PENDING: [u32; 3] = [2_000, 4_000, 8_000];
+
+const CRASHED: [u32; 3] = [25_000, 50_000, 100_000];
 
 fn main(rt: HostRuntime) -> Result<()> {
     let bytes = noise(rt.alloc())?;
@@ -31,7 +36,8 @@ fn main(rt: HostRuntime) -> Result<()> {
     let valid = resolutions(rt.alloc())?;
     let time = start.elapsed(&rt)?.as_micros();
     eprintln!(rt; "{RESOLUTIONS} resolutions of a region, {valid} valid: {time} us")?;
-    time_store(&rt, rt.alloc(), bytes)
+    time_store(&rt, rt.alloc(), bytes)?;
+    time_wrapper(&rt, rt.alloc())
 }
 
 // The memory store: by name, by bytes, and its digest.
@@ -51,6 +57,27 @@ fn time_store<R: Eprint + Clock>(rt: &R, alloc: Global, bytes: Vec<u8>) -> Resul
     let (digest, time) = store::audit(rt, alloc, bytes)?;
     let digest = u32::from_be_bytes(digest);
     eprintln!(rt; "digest of 64 MiB: {digest:08x} in {time} us")?;
+    Ok(())
+}
+
+// The wrapper: writes among many that are pending, and the crash.
+fn time_wrapper<R: Eprint + Clock>(rt: &R, alloc: Global) -> Result<()> {
+    for count in PENDING {
+        let times = wrapper::over_pending(rt, alloc, count)?;
+        let (pending, synced) = (times.pending, times.synced);
+        eprintln!(rt;
+            "{count} pending writes: {pending}, durable ones over them {synced} ns a write"
+        )?;
+        let times = wrapper::beside_pending(rt, alloc, count)?;
+        let (pending, synced) = (times.pending, times.synced);
+        eprintln!(rt; "{count} of 100 other blobs: {pending}, durable ones {synced} ns a write")?;
+        let time = wrapper::behind_shrink(rt, alloc, count)?;
+        eprintln!(rt; "{count} durable writes behind a resize that survives: {time} ns a write")?;
+    }
+    for count in CRASHED {
+        let (time, rows) = wrapper::crash(rt, alloc, count)?;
+        eprintln!(rt; "crash over {count} pending writes, {rows} drawn: {time} ns a write")?;
+    }
     Ok(())
 }
 

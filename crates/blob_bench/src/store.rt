@@ -47,7 +47,8 @@ fn name(number: u32) -> [u8; 4] {
     number.wrapping_mul(0x9e37_79b1).to_be_bytes()
 }
 
-fn per_call(time: u128, count: u32) -> u128 {
+/// The time of one of so many calls.
+pub fn per_call(time: u128, count: u32) -> u128 {
     if count == 0 {
         return 0;
     }
