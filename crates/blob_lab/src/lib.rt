@@ -4,6 +4,8 @@
 pub mod call;
 mod copies;
 pub mod ending;
+#[cfg(test)]
+mod failing;
 pub mod lab;
 pub mod laws;
 mod names;

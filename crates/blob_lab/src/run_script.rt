@@ -97,5 +97,3 @@ fn answer<W: Write>(
 
 #[cfg(test)]
 mod tests;
-#[cfg(test)]
-mod worked;

@@ -1,0 +1,52 @@
+#!/bin/sh
+# Worked scripts: runs each tests/scripts/NAME.script and compares its standard output with NAME.out, its exit status with
+# NAME.status and its standard error with NAME.err, all to the byte; without these two files, 0 and nothing. Then runs
+# each line of bad_lines.txt alone, which is no call. The last line is `N passed, M failed`.
+set -u
+
+top=$(CDPATH='' cd -- "$(dirname -- "$0")/.." && pwd -P)
+scripts=$top/tests/scripts
+work=$(mktemp -d)
+trap 'rm -rf "$work"' EXIT
+passed=0
+failed=0
+: >"$work/none"
+
+# expect NAME STATUS OUTPUT ERRORS: runs the script on standard input; OUTPUT and ERRORS are files.
+expect() {
+    "$top/blobcrash" >"$work/out" 2>"$work/err"
+    status=$?
+    if [ "$status" = "$2" ] && cmp -s "$work/out" "$3" && cmp -s "$work/err" "$4"; then
+        passed=$((passed + 1))
+    else
+        failed=$((failed + 1))
+        echo "scripts.sh: $1: status $status, wanted $2"
+        diff "$3" "$work/out"
+        diff "$4" "$work/err"
+    fi
+}
+
+# Builds the program where that is still to be done, so that no test below sees the notice of a build.
+if ! "$top/blobcrash" resolve </dev/null >/dev/null; then
+    echo "scripts.sh: the program can't be built or started"
+    echo "0 passed, 1 failed"
+    exit 1
+fi
+
+for script in "$scripts"/*.script; do
+    name=${script%.script}
+    wanted=0
+    [ ! -e "$name.status" ] || wanted=$(cat "$name.status")
+    errors=$work/none
+    [ ! -e "$name.err" ] || errors=$name.err
+    expect "${name##*/}" "$wanted" "$name.out" "$errors" <"$script"
+done
+
+echo 'line 1: bad call' >"$work/bad"
+while IFS= read -r line; do
+    printf '%s\n' "$line" >"$work/in"
+    expect "bad line '$line'" 2 "$work/none" "$work/bad" <"$work/in"
+done <"$scripts/bad_lines.txt"
+
+echo "$passed passed, $failed failed"
+[ "$failed" -eq 0 ]
