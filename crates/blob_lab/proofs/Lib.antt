@@ -1,12 +1,24 @@
+mod Accepting
 pub mod AskSteps
 pub mod AskedSyncs
 pub mod AskedWrites
 pub mod CallSteps
 pub mod Denying
+pub mod DoneWrites
+pub mod Exclusive
 pub mod ExclusiveEnds
 pub mod ExclusiveOpens
+pub mod ExclusiveSteps
+pub mod Firm
+pub mod FirmAsks
+pub mod FirmFiles
+pub mod FirmOpens
+pub mod FirmSteps
+pub mod Fixing
+pub mod FreshLogs
 pub mod Keeping
 mod LabLaws
+pub mod Lasting
 pub mod LooseOpens
 pub mod Maps
 pub mod NamedCalls
@@ -15,15 +27,23 @@ pub mod OpenHistory
 pub mod OpenNames
 pub mod OpenSteps
 pub mod Opened
+mod OpensAgain
 pub mod Performing
+pub mod PersistenceRows
+mod ReachedStates
 pub mod Reading
 pub mod Rebuilding
 pub mod Recreation
 pub mod RunSteps
+mod Sizes
+pub mod Slots
 mod Stale
 pub mod Steps
 pub mod TableSteps
 pub mod Telling
 pub mod ThroughHandles
 pub mod Tokens
+mod ToldRefusals
+pub mod Unreached
+mod ValidOpens
 pub mod WorkedRows

@@ -27,7 +27,7 @@ in_range true p n k l w r number layout version e =
 in_range false p n k l w r number layout version e = cc
 
 -- an incarnation that goes on is the name's current one
-continued : (p n : List ℕ) (file : Option File) (first last number : ℕ) (layout : Layout) (version : ℕ) → opening p n file first last ≡ Continues number layout version → place_in p n file ≡ Some (place_of p n number layout)
+pub continued : (p n : List ℕ) (file : Option File) (first last number : ℕ) (layout : Layout) (version : ℕ) → opening p n file first last ≡ Continues number layout version → place_in p n file ≡ Some (place_of p n number layout)
 continued p n None first last number layout version e = cc
 continued p n (Some (Raw raw)) first last number layout version e = absurd (raw_begins p n raw last (resolution raw (every_layout first last)) number layout version e)
 continued p n (Some (Incarnation k l w)) first last number layout version e = ap Some (in_range (is_in_range first last w) p n k l w (Refusal.BlobVersionMismatch first last w) number layout version e)
@@ -35,7 +35,7 @@ continued p n (Some (Incarnation k l w)) first last number layout version e = ap
 same_bytes : (p : List ℕ) → bytes_eq p p ≡ true
 same_bytes p = (bytes_decides p p).1 refl
 
-with_file_here : (f : List ℕ → List ℕ → Option File) (p n : List ℕ) (file : Option File) → with_file f p n file p n ≡ file
+pub with_file_here : (f : List ℕ → List ℕ → Option File) (p n : List ℕ) (file : Option File) → with_file f p n file p n ≡ file
 with_file_here f p n file =
     cond-true (bytes_eq p p) (cond (bytes_eq n n) file (f p n)) (f p n) (same_bytes p) ∙ cond-true (bytes_eq n n) file (f p n) (same_bytes n)
 

@@ -1,39 +1,44 @@
 -- An incarnation that isn't its name's current one never is again: a number isn't given twice.
 use Rattle.std.proofs.Common.{◌≡◌, ℕ, ◌+◌, ◌<◌, ◌≤◌, Bool, true, false, cond, ◌&&◌, List, [], ◌∷◌, Option, Some, None, refl, sym, ◌∙◌, subst, arith, ne_eqb, ◌==◌, ap, ⊎_elim, if◌then◌else◌}
-use Rattle.std.proofs.lemmas.Bool.{cond_both, and_left, false≢true, cases_Bool}
+use Rattle.std.proofs.lemmas.Bool.{cond_both, and_left, eqb-true, false≢true, cases_Bool}
 use Rattle.std.specs.Str.{bytes_eq}
 use Rattle.rand_core.specs.Stream.{Stream}
 use Rattle.blob_base.specs.declared.layout.Layout.{Layout}
-use Rattle.blob_base.specs.Directory.{Directory, File, Raw, Incarnation, data_start, current, is_that, is_current, with_file, without_files, directory_made}
-use Rattle.blob_base.specs.Files.{Files, opened, after_open, admitted, admitted_at, all_logged, logged, raw_again, reopened, after_remove, durable_at}
+use Rattle.blob_base.specs.Directory.{Directory, File, Raw, Incarnation, data_start, current, is_that, is_current, with_file, directory_made}
+use Rattle.blob_base.specs.Files.{Files, opened, after_open, admitted, admitted_at, all_logged, logged, raw_again, reopened, durable_at}
 use Rattle.blob_base.specs.Log.{Entry}
-use Rattle.blob_base.specs.Opening.{Opening, Continues, Begins, Declines, opening, removed, place_of}
+use Rattle.blob_base.specs.Opening.{Opening, Continues, Begins, Declines, opening, removed}
 use Rattle.blob_base.specs.Places.{Place, same_place}
 use Rattle.blob_base.specs.Refusals.{Refusal, BlobAlreadyOpen}
 use Rattle.blob_faulty.specs.Faults.{draw, resize_fate}
 use Rattle.blob_faulty.specs.Recorded.{recorded_write, recorded_resize}
 use Rattle.blob_memory.specs.Answers.{missing, sync_refusal}
-use Rattle.blob_base.specs.SamePlace.{same_place_exact}
+use Rattle.blob_base.specs.SamePlace.{parts, same_place_exact}
 use Rattle.blob_base.proofs.Durables.{others_logged, others_published}
 use Rattle.blob_lab.specs.Acts.{Ask, Read, Write, Resize, Size, Sync, StartSync, Act, Configure, Open, OpenLoose, Admit, Close, Through, Finish, Remove, Scan, Crash, Reopen}
-use Rattle.blob_lab.specs.After.{after, changed, asked, begun, files_after, closed, finished, removed as removal, crashed, exclusively_opened, loosely_opened}
+use Rattle.blob_lab.specs.After.{after, asked, begun, files_after, closed, finished, removed as removal, crashed, exclusively_opened, loosely_opened}
 use Rattle.blob_lab.specs.Answers.{kept_at}
 use Rattle.blob_lab.specs.Denials.{start_denial, sync_denial, injected_if, or_then}
 use Rattle.blob_lab.specs.States.{State, Held, Started}
+
+-- each current incarnation has a number that was given
+abbrev pub AreCurrentGiven : Directory → Type 0
+AreCurrentGiven d = (o : Place) → is_current d o ≡ true → o.number < d.next
 
 -- a directory after which an incarnation that was given a number and isn't current still isn't
 pub record Ages (d e : Directory) : Type 0 where
   pub next : d.next ≤ e.next
   pub stale : (o : Place) → o.number < d.next → is_current d o ≡ false → is_current e o ≡ false
+  pub given : AreCurrentGiven d → AreCurrentGiven e
 
 same_age : (d : Directory) → Ages d d
-same_age d = record { next = omega arith; stale = λ o below old. old }
+same_age d = record { next = omega arith; stale = λ o below old. old; given = λ given. given }
 
 by_same : (d e : Directory) → e ≡ d → Ages d e
 by_same d e same = subst (λ (x : Directory). Ages d x) (sym same) (same_age d)
 
 -- one name's file made new
-with_file_stale : (f : List ℕ → List ℕ → Option File) (p n q m : List ℕ) (x : Option File) (number start : ℕ) → is_that x number start ≡ false → is_that (f q m) number start ≡ false → is_that (with_file f p n x q m) number start ≡ false
+pub with_file_stale : (f : List ℕ → List ℕ → Option File) (p n q m : List ℕ) (x : Option File) (number start : ℕ) → is_that x number start ≡ false → is_that (f q m) number start ≡ false → is_that (with_file f p n x q m) number start ≡ false
 with_file_stale f p n q m x number start new old = cond_both (bytes_eq p q) (cond (bytes_eq n m) x (f q m)) (f q m) (λ r. is_that r number start ≡ false)
     (λ _. cond_both (bytes_eq n m) x (f q m) (λ r. is_that r number start ≡ false) (λ _. new) (λ _. old))
     (λ _. old)
@@ -42,10 +47,21 @@ with_file_stale f p n q m x number start new old = cond_both (bytes_eq p q) (con
 new_number : (next number : ℕ) (rest : Bool) → number < next → ((next == number) && rest) ≡ false
 new_number next number rest below = and_left (next == number) rest (ne_eqb next number (λ same. absurd (omega (arith, same, below))))
 
+-- what is the file that was made new, or is there as before
+with_file_either : (f : List ℕ → List ℕ → Option File) (p n q m : List ℕ) (x : Option File) (number start : ℕ) (P : Type 0) → (is_that x number start ≡ true → P) → (is_that (f q m) number start ≡ true → P) → is_that (with_file f p n x q m) number start ≡ true → P
+with_file_either f p n q m x number start P new old = cond_both (bytes_eq p q) (cond (bytes_eq n m) x (f q m)) (f q m) (λ r. is_that r number start ≡ true → P)
+    (λ _. cond_both (bytes_eq n m) x (f q m) (λ r. is_that r number start ≡ true → P) (λ _. new) (λ _. old))
+    (λ _. old)
+
+-- the next number was given once it is taken
+taken : (next number : ℕ) (rest : Bool) → ((next == number) && rest) ≡ true → number < next + 1
+taken next number rest now = let same : next ≡ number = eqb-true next number (parts (next == number) rest now).0 in omega (arith, same)
+
 made_ages : (d : Directory) (p n : List ℕ) (layout : Layout) (version : ℕ) → Ages d (directory_made d p n layout version)
 made_ages d p n layout version = record {
   next = omega arith;
   stale = λ o below old. with_file_stale d.file p n o.partition o.name (Some (Incarnation d.next layout version)) o.number o.start (new_number d.next o.number (data_start layout == o.start) below) old;
+  given = λ given o now. with_file_either d.file p n o.partition o.name (Some (Incarnation d.next layout version)) o.number o.start (o.number < d.next + 1) (taken d.next o.number (data_start layout == o.start)) (λ old. let below : o.number < d.next = given o old in omega arith) now;
 }
 
 opened_ages : (f : Files) (p n : List ℕ) (found : Opening) → Ages f.directory (opened f p n found).directory
@@ -56,7 +72,7 @@ opened_ages f p n (Declines refusal) = same_age f.directory
 open_ages : (f : Files) (p n : List ℕ) (first last : ℕ) → Ages f.directory (after_open f p n first last).directory
 open_ages f p n first last = opened_ages f p n (opening p n (f.directory.file p n) first last)
 
-admitted_directory : (f : Files) (p n : List ℕ) → (admitted f p n).directory ≡ f.directory
+pub admitted_directory : (f : Files) (p n : List ℕ) → (admitted f p n).directory ≡ f.directory
 admitted_directory f p n = go (current f.directory p n)
   where
     go : (o : Option Place) → (admitted_at f o).directory ≡ f.directory
@@ -67,10 +83,15 @@ admitted_ages : (d : Directory) (f : Files) (p n : List ℕ) → Ages d f.direct
 admitted_ages d f p n ages = subst (λ (x : Directory). Ages d x) (sym (admitted_directory f p n)) ages
 
 removed_ages : (d : Directory) (p : List ℕ) (n : Option (List ℕ)) → Ages d (removed d p n)
-removed_ages d p (Some n) = record { next = omega arith; stale = λ o below old. with_file_stale d.file p n o.partition o.name None o.number o.start refl old }
+removed_ages d p (Some n) = record {
+  next = omega arith;
+  stale = λ o below old. with_file_stale d.file p n o.partition o.name None o.number o.start refl old;
+  given = λ given o now. with_file_either d.file p n o.partition o.name None o.number o.start (o.number < d.next) (λ none. absurd (false≢true none)) (given o) now;
+}
 removed_ages d p None = record {
   next = omega arith;
   stale = λ o below old. cond_both (bytes_eq p o.partition) None (d.file o.partition o.name) (λ r. is_that r o.number o.start ≡ false) (λ _. refl) (λ _. old);
+  given = λ given o now. cond_both (bytes_eq p o.partition) None (d.file o.partition o.name) (λ r. is_that r o.number o.start ≡ true → o.number < d.next) (λ _ none. absurd (false≢true none)) (λ _. given o) now;
 }
 
 -- a rebuilt store has raw files alone
@@ -79,8 +100,15 @@ raw_stale bytes p n None number start = refl
 raw_stale bytes p n (Some (Raw x)) number start = refl
 raw_stale bytes p n (Some (Incarnation k layout version)) number start = refl
 
+pub none_current : (f : Files) (o : Place) → is_current (reopened f).directory o ≡ false
+none_current f o = raw_stale (durable_at f) o.partition o.name (f.directory.file o.partition o.name) o.number o.start
+
 reopened_ages : (f : Files) → Ages f.directory (reopened f).directory
-reopened_ages f = record { next = omega arith; stale = λ o below old. raw_stale (durable_at f) o.partition o.name (f.directory.file o.partition o.name) o.number o.start }
+reopened_ages f = record {
+  next = omega arith;
+  stale = λ o below old. none_current f o;
+  given = λ given o now. absurd (false≢true (sym (none_current f o) ∙ now));
+}
 
 -- what is asked through a handle leaves the directory
 pub logged_directory : (f : Files) (o : Place) (es : List Entry) → (all_logged f o es).directory ≡ f.directory

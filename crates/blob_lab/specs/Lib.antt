@@ -1,14 +1,18 @@
+pub mod Accepted
 pub mod Acts
 pub mod After
 pub mod Answers
 pub mod Debts
 pub mod Denials
 pub mod Endings
+pub mod Exclusive
+pub mod Fixed
 pub mod History
 pub mod LabStands
 pub mod Names
 pub mod OpenNames
 pub mod Opens
+pub mod Reached
 pub mod Reading
 pub mod Recreated
 pub mod Replies
@@ -18,5 +22,5 @@ pub mod Scripted
 pub mod Settings
 pub mod States
 pub mod Tables
-pub mod Told
 pub mod Tokens
+pub mod Told

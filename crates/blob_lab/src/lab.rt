@@ -2,7 +2,9 @@
 ghost use Rattle.std.specs.Prelude.{◌≡◌, IfOk, OnErr};
 ghost use Rattle.blob_base.specs.Refusals.{IsMemory};
 ghost use Rattle.blob_lab.specs.Acts.{Configure, act_of};
+ghost use Rattle.blob_lab.specs.Fixed.{Persists};
 ghost use Rattle.blob_lab.specs.LabStands.{StandsFor, Performs, wrapper_of};
+ghost use Rattle.blob_lab.specs.Reached.{NoneLoose, ReachedExclusively};
 ghost use Rattle.blob_lab.specs.Runs.{Run};
 ghost use Rattle.blob_lab.specs.States.{State, start};
 ghost use Rattle.blob_lab.specs.Tables.{images_of};
@@ -109,8 +111,12 @@ impl Lab {
 
     /// Makes calls one after another, and answers the reply to each. The only error is `Memory`: the list of replies has
     /// no room, and no call was made.
+    ///
+    /// Where all opens, these and those of earlier calls, are exclusive, a byte that one of the calls fixes lasts through
+    /// the calls after it, until one of them reaches it.
     pub fn run(&mut self, calls: &[Call]) -> Result<Vec<Reply>, Error>
         ensures stands { IfOk result (λ replies. (v : State) → StandsFor self.old v → (w : State) × Run v calls.now replies.items w × StandsFor self.new w) }
+        ensures fixed { IfOk result (λ replies. (v : State) → StandsFor self.old v → ReachedExclusively v → NoneLoose calls.now → Persists v calls.now replies.items) }
         ensures memory { OnErr result (IsMemory result) }
         ensures err { OnErr result (self.new ≡ self.old) }
     {

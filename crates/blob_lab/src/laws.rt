@@ -1,7 +1,7 @@
 //! What follows for the states of a laboratory, whatever calls came before. Each law is carried by a function that does
 //! nothing: its contract is the law.
 
-ghost use Rattle.std.specs.Prelude.{◌≡◌, ◌<◌, ◌≤◌, ℕ, List, [], true, false, Option, Some, None, length};
+ghost use Rattle.std.specs.Prelude.{◌≡◌, ◌<◌, ◌≤◌, ◌++◌, ℕ, List, [], true, false, Option, Some, None, length};
 ghost use Rattle.rand_core.specs.Stream.{Stream};
 ghost use Rattle.blob_base.specs.Directory.{is_current};
 ghost use Rattle.blob_base.specs.Draws.{drawn, chosen_by};
@@ -10,14 +10,24 @@ ghost use Rattle.blob_base.specs.Log.{crashed};
 ghost use Rattle.blob_base.specs.Places.{Place, same_place};
 ghost use Rattle.blob_base.specs.Refusals.{Refusal};
 ghost use Rattle.blob_faulty.specs.Faults.{draw};
+ghost use Rattle.blob_faulty.specs.declared.config.Config.{Config};
 ghost use Rattle.blob_memory.specs.Answers.{missing};
 ghost use Rattle.blob_lab.specs.Acts.{Act, Ask, Remove, Crash};
 ghost use Rattle.blob_lab.specs.After.{after, files_after};
 ghost use Rattle.blob_lab.specs.Answers.{answer};
 ghost use Rattle.blob_lab.specs.Denials.{sync_denial};
+ghost use Rattle.blob_lab.specs.Exclusive.{HoldNames, Sole};
 ghost use Rattle.blob_lab.specs.OpenNames.{Registration};
-ghost use Rattle.blob_lab.specs.States.{State, Held, held_on};
+ghost use Rattle.blob_lab.specs.Reached.{NoneLoose, Reached, ReachedExclusively};
+ghost use Rattle.blob_lab.specs.Runs.{Run};
+ghost use Rattle.blob_lab.specs.States.{State, Held, Image, held_on, start};
 ghost use Rattle.blob_lab.specs.Told as told;
+ghost use Rattle.blob_lab.specs.declared.call.Call.{Call};
+ghost use Rattle.blob_lab.specs.declared.reply.Reply.{Reply};
+
+pub mod current_handles;
+pub mod persistence;
+pub mod rebuilt_stores;
 
 /// A crash that is answered with its rows leaves of each incarnation its base with the uncut log replayed in issue order, by
 /// exactly these rows, which are drawn for the writes that the log needs. It changes no header. One straight after it
@@ -55,4 +65,20 @@ pub fn asks()
     ensures others { (v : State) (h : Held) (ask : Ask) (refusal : Option Refusal) (o : Place) → same_place h.place o ≡ false → durable_at (files_after v h ask refusal) o ≡ durable_at v.files o }
     ensures stale { (v : State) (h : Held) (ask : Ask) (refusal : Option Refusal) (o : Place) → is_current v.files.directory h.place ≡ false → is_current v.files.directory o ≡ true → durable_at (files_after v h ask refusal) o ≡ durable_at v.files o }
     ensures stale_sync { (v : State) (h : Held) → is_current v.files.directory h.place ≡ false → (draw v.config.sync_rate v.stream).0 ≡ false → sync_denial v h ≡ Some (missing h.place) }
+{}
+
+/// Where calls lead to whose opens are all exclusive, a current incarnation has one open handle at most, and the name of
+/// each handle that is on a current incarnation is open by that handle's own registration.
+pub fn opens_are_exclusive()
+    ensures sole { (v : State) → ReachedExclusively v → Sole v }
+    ensures names { (v : State) → ReachedExclusively v → HoldNames v }
+{}
+
+/// A run after another is one run, so that where calls lead from a state that was reached is reached too: exclusively,
+/// where no call of either is an open that isn't exclusive. A laboratory that was just made is reached so.
+pub fn runs_go_on()
+    ensures runs { (v w u : State) (calls more : List Call) (replies rest : List Reply) → Run v calls replies w → Run w more rest u → Run v (calls ++ more) (replies ++ rest) u }
+    ensures start { (images : List Image) (words : List ℕ) (config : Config) → ReachedExclusively (start images words config) }
+    ensures reached { (v w : State) (calls : List Call) (replies : List Reply) → Reached v → Run v calls replies w → Reached w }
+    ensures exclusively { (v w : State) (calls : List Call) (replies : List Reply) → ReachedExclusively v → NoneLoose calls → Run v calls replies w → ReachedExclusively w }
 {}

@@ -1,7 +1,9 @@
 use Rattle.std.proofs.Common.{rules, refl, arith, ◌≡◌, ◌++◌, ◌∷◌, ◌+◌, [], take, sym, ap, ◌∙◌, List, subst}
-use Rattle.std.proofs.lemmas.List.{take_more}
+use Rattle.std.proofs.lemmas.List.{take_all, take_more}
 use Rattle.blob_lab.specs.Runs.{Run}
+use Rattle.blob_lab.specs.declared.call.Call.{Call}
 use Rattle.blob_lab.specs.declared.reply.Reply.{Reply}
+use Rattle.blob_lab.proofs.Lasting.{run_persists}
 use Rattle.blob_lab.proofs.RunSteps.{run_more}
 use Rattle.blob_lab.proofs.lab.Lab.run.Goals as goal
 
@@ -23,3 +25,11 @@ loop-call-preserved c =
           let s = c.loop-call.invariant.stands v h in
           rw (more, told) (_, run_more s.0 (take i calls) c.loop-call.replies.items v c.call-item.result c.apply-reply.result _ s.1 (c.apply-reply.ensures.answers s.0 s.2), c.apply-reply.ensures.stands s.0 s.2);
     }
+
+pub returns-clause-fixed : goal.returns-clause-fixed
+returns-clause-fixed c = λ v h reached strict.
+    let calls = c.args.calls.now in
+    let replies = c.loop-call.replies.items in
+    let s = c.loop-call.invariant.stands v h in
+    let all : take c.loop-call.call-index calls ≡ calls = take_all c.loop-call.call-index calls (omega arith) in
+    run_persists v s.0 calls replies reached strict (subst (λ (cs : List Call). Run v cs replies s.0) all s.1)

@@ -1,0 +1,56 @@
+-- Names that an open accepted and that nothing removed since, and their opens in a rebuilt store.
+use Rattle.std.specs.Prelude.{◌≡◌, ◌≢◌, ℕ, ◌-◌, ◌^◌, ◌<◌, ◌≤◌, ◌&&◌, List, ◌∷◌, ◌++◌, length, Bool, false, All, Option, Some, None}
+use Rattle.std.specs.Str.{bytes_eq}
+use Rattle.rand_core.specs.Stream.{Stream}
+use Rattle.blob_base.specs.declared.layout.Layout.{Layout}
+use Rattle.blob_base.specs.declared.version.BlobVersion.{BlobVersion}
+use Rattle.blob_base.specs.Directory.{Raw}
+use Rattle.blob_base.specs.Header.{region}
+use Rattle.blob_faulty.specs.Faults.{draw}
+use Rattle.blob_lab.specs.declared.call.Call.{Call}
+use Rattle.blob_lab.specs.declared.reply.Reply.{Reply}
+use Rattle.blob_lab.specs.declared.reply.Reply.TheVariants as reply
+use Rattle.blob_lab.specs.Acts.{Act, Open, OpenLoose, Remove, act_of}
+use Rattle.blob_lab.specs.Runs.{Run}
+use Rattle.blob_lab.specs.States.{State}
+use Rattle.blob_lab.specs.Told.{Told, Opened}
+
+-- partition and name of what a call opens
+abbrev pub opened_name : Act → Option (List ℕ × List ℕ)
+opened_name (Open p n versions) = Some (p, n)
+opened_name (OpenLoose p n versions) = Some (p, n)
+opened_name act = None
+
+-- whether a call removes a name, or its whole partition
+abbrev pub removes : Act → List ℕ → List ℕ → Bool
+removes (Remove q (Some m)) p n = bytes_eq q p && bytes_eq m n
+removes (Remove q None) p n = bytes_eq q p
+removes act p n = false
+
+-- calls from one state to another: an open of a name that answered this version, and then none that removes the name
+pub record IsKept (v : State) (p n : List ℕ) (version : BlobVersion) (w : State) : Type 0 where
+  pub opening : Call
+  pub handle : ℕ
+  pub size : ℕ
+  pub calls : List Call
+  pub replies : List Reply
+  pub opens : opened_name (act_of opening) ≡ Some (p, n)
+  pub run : Run v (opening ∷ calls) (reply.Opened handle size version ∷ replies) w
+  pub keeps : All (λ call. removes (act_of call) p n ≡ false) calls
+
+-- in a state that is rebuilt with this stream, an open for versions from a first to a last one accepts this version: nothing
+-- is injected, and a number is left for the incarnation and for the open
+pub record Accepts (v : State) (rest : Stream) (first last version : ℕ) : Type 0 where
+  pub fits : version < 2 ^ 16
+  pub least : first ≤ version
+  pub greatest : version ≤ last
+  pub uninjected : (draw v.config.open_rate rest).0 ≡ false
+  pub incarnation : v.files.directory.next ≢ 2 ^ 64 - 1
+  pub registration : v.names.next ≢ 2 ^ 64 - 1
+
+-- what an open is told of a name that has a raw file: the version in its header, and how many bytes are behind that
+pub record IsToldOf (v : State) (p n : List ℕ) (version : ℕ) (answer : Told) : Type 0 where
+  pub layout : Layout
+  pub behind : List ℕ
+  pub file : v.files.directory.file p n ≡ Some (Raw (region layout version ++ behind))
+  pub told : answer ≡ Opened (length v.handles) (length behind) version

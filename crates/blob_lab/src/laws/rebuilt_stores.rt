@@ -1,0 +1,25 @@
+//! What holds of a store that is rebuilt.
+
+ghost use Rattle.std.specs.Prelude.{◌≡◌, ℕ, List, Some, None, length};
+ghost use Rattle.rand_core.specs.Stream.{Stream};
+ghost use Rattle.blob_base.specs.Directory.{Incarnation};
+ghost use Rattle.blob_base.specs.Files.{durable_at};
+ghost use Rattle.blob_base.specs.Opening.{Begins, place_of};
+ghost use Rattle.blob_base.specs.declared.layout.Layout.{Layout};
+ghost use Rattle.blob_base.specs.declared.version.BlobVersion.{BlobVersion};
+ghost use Rattle.blob_lab.specs.Accepted.{IsKept, Accepts, IsToldOf};
+ghost use Rattle.blob_lab.specs.Acts.{Open, Reopen};
+ghost use Rattle.blob_lab.specs.After.{after};
+ghost use Rattle.blob_lab.specs.Answers.{answer, found};
+ghost use Rattle.blob_lab.specs.Reached.{Reached};
+ghost use Rattle.blob_lab.specs.States.{State};
+ghost use Rattle.blob_lab.specs.Told as told;
+
+/// A current incarnation opens again with its durable bytes, for versions that hold its own, where nothing is injected and
+/// numbers are left. So does every name that an open accepted and that no call removed since, through any calls, crashes
+/// and further rebuilds among them. As ever the reply says this answer, or `Memory`.
+pub fn accepted_names_open_again()
+    ensures found { (v : State) (rest : Stream) (p n : List ℕ) (first last version number : ℕ) (layout : Layout) → Accepts v rest first last version → v.files.directory.file p n ≡ Some (Incarnation number layout version) → found (after v Reopen None rest) p n first last ≡ Begins layout version (durable_at v.files (place_of p n number layout)) }
+    ensures told { (v : State) (rest : Stream) (p n : List ℕ) (first last version number : ℕ) (layout : Layout) → Reached v → Accepts v rest first last version → v.files.directory.file p n ≡ Some (Incarnation number layout version) → (answer (after v Reopen None rest) (Open p n (Some (first, last)))).0 ≡ told.Opened (length v.handles) (length (durable_at v.files (place_of p n number layout))) version }
+    ensures kept { (v w : State) (p n : List ℕ) (version : BlobVersion) (first last : ℕ) (rest : Stream) → IsKept v p n version w → Accepts w rest first last version.0 → IsToldOf (after w Reopen None rest) p n version.0 (answer (after w Reopen None rest) (Open p n (Some (first, last)))).0 }
+{}
