@@ -1,0 +1,16 @@
+//! Tests alone: long lists of calls of a laboratory, made by chance from fixed seeds. After each call every fixed byte has
+//! to have its value in the memory store.
+#![tactic(auto)]
+
+#[cfg(test)]
+mod chance;
+#[cfg(test)]
+mod counts;
+#[cfg(test)]
+mod files;
+#[cfg(test)]
+mod fixed;
+#[cfg(test)]
+mod record;
+#[cfg(test)]
+mod walk;
