@@ -1,0 +1,277 @@
+#!/bin/sh
+# Refuses memory, and lets reads and writes fail, from outside of the programs: by a library that is preloaded.
+#
+# Each public call that takes memory is tried with each of its requests refused, alone and with all that come after it, and
+# each call that takes none with every request refused; then whole scripts with each request of the program refused.
+# The last line is `N passed, M failed`. Without a C compiler nothing is tried.
+set -u
+
+top=$(CDPATH='' cd -- "$(dirname -- "$0")/.." && pwd -P)
+if ! command -v cc >/dev/null 2>&1; then
+    echo "refusals.sh: skipped, since there is no cc to build the library with"
+    echo "0 passed, 0 failed"
+    exit 0
+fi
+# In memory where that can be had, since thousands of small files are written.
+work=$(mktemp -d -p /dev/shm 2>/dev/null) || work=$(mktemp -d)
+trap 'rm -rf "$work"' EXIT
+passed=0
+failed=0
+library=$work/refuse.so
+line='
+'
+
+pass() { passed=$((passed + 1)); }
+
+# fail TEXT: counts a failure, and shows what the last run printed.
+fail() {
+    failed=$((failed + 1))
+    echo "refusals.sh: $1"
+    echo "  out: $(head -c 300 "$work/out")"
+    echo "  err: $(head -c 300 "$work/err")"
+}
+
+give_up() {
+    echo "refusals.sh: $1"
+    echo "0 passed, 1 failed"
+    exit 1
+}
+
+rt=$(command -v rt) || rt=/opt/rattle/bin/rt
+cc -shared -fPIC -O2 -o "$library" "$top/tests/refusals/refuse.c" || give_up "the library can't be built"
+"$top/blobcrash" resolve </dev/null >/dev/null || give_up "blobcrash can't be built or started"
+(cd "$top/crates/blob_refusals" && "$rt" run -- steady) </dev/null >"$work/build" 2>&1 || {
+    cat "$work/build"
+    give_up "blob_refusals can't be built or started"
+}
+calls=$top/crates/blob_refusals/out/blob_refusals
+program=$top/out/blobcrash
+
+# under NAME=VALUE.. COMMAND..: runs it with the library, and leaves its status, what it printed and the library's counts.
+under() {
+    rm -f "$work/counts"
+    env LD_PRELOAD="$library" REFUSE_LOG="$work/counts" "$@" >"$work/out" 2>"$work/err"
+    status=$?
+    counted=x
+    refused=x
+    [ ! -e "$work/counts" ] || read -r counted refused <"$work/counts"
+}
+
+# The counts of a call's line `NAME: N refused, M compared`.
+tally() {
+    refusals=$(sed -n 's/.*: \([0-9]*\) refused, \([0-9]*\) compared$/\1/p' "$work/out")
+    comparisons=$(sed -n 's/.*: \([0-9]*\) refused, \([0-9]*\) compared$/\2/p' "$work/out")
+}
+
+# sweep CALL [REFUSE_ON=1]: refuses each request of the call in turn, until it makes so few that none is refused.
+sweep() {
+    name=$1
+    n=0
+    while :; do
+        n=$((n + 1))
+        under REFUSE="$n" ${2:-} "$calls" "$name"
+        tally
+        if [ "$status" -ne 0 ] || [ -z "$refusals" ]; then
+            fail "'$name' with request $n refused${2:+, and all after it}"
+            return
+        fi
+        [ "$refusals" -ne 0 ] || break
+        all_refusals=$((all_refusals + refusals))
+        all_comparisons=$((all_comparisons + comparisons))
+    done
+    if [ "$n" -eq 1 ]; then
+        fail "'$name' takes memory, and no request was refused"
+    else
+        pass
+    fi
+}
+
+all_refusals=0
+all_comparisons=0
+growing=0
+steady=0
+
+"$calls" growing >"$work/growing"
+while IFS= read -r name; do
+    growing=$((growing + 1))
+    sweep "$name"
+    sweep "$name" REFUSE_ON=1
+done <"$work/growing"
+
+"$calls" steady >"$work/steady"
+while IFS= read -r name; do
+    steady=$((steady + 1))
+    under REFUSE=1 REFUSE_ON=1 "$calls" "$name"
+    tally
+    if [ "$status" -eq 0 ] && [ "$refusals" = 0 ] && [ "$counted" = 0 ]; then
+        pass
+    else
+        fail "'$name' takes no memory"
+    fi
+done <"$work/steady"
+echo "refusals.sh: $growing calls that take memory: $all_refusals refusals, $all_comparisons comparisons;" \
+    "$steady calls that take none"
+
+# is_call: whether a line of a script has a reply.
+is_call='!/^ *(#|image |words |$)/'
+
+# without K: the replies of the script without its Kth call.
+without() {
+    if [ ! -e "$work/without.$1" ]; then
+        awk -v k="$1" "$is_call"' { n++; if (n == k) next } { print }' "$script" >"$work/shorter"
+        "$program" <"$work/shorter" >"$work/without.$1"
+    fi
+    cat "$work/without.$1"
+}
+
+# is_front: whether what the last run printed is a front of the right replies, on whole lines.
+is_front() {
+    head -n "$(wc -l <"$work/out")" "$work/right" | cmp -s - "$work/out"
+}
+
+# is_one_refused: whether one call was refused, and the others answered as without it.
+is_one_refused() {
+    k=$(awk 'NR == FNR { right[NR] = $0; next } $0 != right[FNR] { print FNR; exit }' "$work/right" "$work/out")
+    [ -n "$k" ] && [ "$(sed -n "${k}p" "$work/out")" = 'error Memory' ] || return 1
+    without "$k" >"$work/wanted"
+    sed "${k}d" "$work/out" | cmp -s - "$work/wanted"
+}
+
+# Each request of the program refused in turn, from its first to its last.
+refuse_script() {
+    script=$1
+    rm -f "$work"/without.*
+    "$program" <"$script" >"$work/right"
+    ended=0
+    told=0
+    n=0
+    while :; do
+        n=$((n + 1))
+        under REFUSE="$n" REFUSE_ALL=1 "$program" <"$script"
+        [ "$refused" = 1 ] || break
+        if [ "$status" -eq 3 ] && [ "$(cat "$work/err")" = 'no memory' ] && is_front; then
+            ended=$((ended + 1))
+        elif [ "$status" -eq 0 ] && [ ! -s "$work/err" ] && is_one_refused; then
+            told=$((told + 1))
+        else
+            fail "$script with request $n refused: status $status"
+        fi
+    done
+    if [ "$status" -eq 0 ] && [ "$refused" = 0 ] && cmp -s "$work/right" "$work/out" && [ "$told" -gt 0 ]; then
+        pass
+    else
+        fail "$script with no request refused: status $status"
+    fi
+    echo "refusals.sh: $(basename "$script"): $ended refusals ended it, $told were a call's"
+}
+
+for script in "$top"/tests/refusals/*.script "$top/examples/FIRST.script"; do
+    refuse_script "$script"
+done
+
+# A read fails at each place: the replies to the lines that were read whole stand.
+fail_reads() {
+    script=$1
+    "$program" <"$script" >"$work/right"
+    # for each place, how many calls are whole before it
+    LC_ALL=C awk 'BEGIN { n = 0 } { for (i = 0; i <= length($0); i++) print n } '"$is_call"' { n++ } END { print n }' "$script" \
+        >"$work/whole"
+    n=0
+    while read -r whole; do
+        n=$((n + 1))
+        under REFUSE_SHORT=1 REFUSE_READ="$n" "$program" <"$script"
+        head -n "$whole" "$work/right" >"$work/wanted"
+        if [ "$status" -ne 1 ] || [ "$(cat "$work/err")" != 'input failed' ] || ! cmp -s "$work/wanted" "$work/out"; then
+            fail "$script with read $n failing: status $status"
+            return
+        fi
+    done <"$work/whole"
+    under REFUSE_SHORT=1 REFUSE_READ=$((n + 1)) "$program" <"$script"
+    if [ "$status" -eq 0 ] && cmp -s "$work/right" "$work/out"; then
+        pass
+    else
+        fail "$script in reads of one byte: status $status"
+    fi
+    echo "refusals.sh: $(basename "$script"): $n failing reads"
+}
+
+# fail_writes INPUT SHORT [ARGUMENT]: a write fails at each place, and what is printed is a front of the right replies.
+fail_writes() {
+    input=$1
+    "$program" ${3:-} <"$input" >"$work/right"
+    n=0
+    while :; do
+        n=$((n + 1))
+        under REFUSE_SHORT="$2" REFUSE_WRITE="$n" "$program" ${3:-} <"$input"
+        [ "$refused" = 1 ] || break
+        if [ "$status" -ne 1 ] || [ "$(cat "$work/err")" != 'output failed' ] ||
+            ! head -c "$(wc -c <"$work/out")" "$work/right" | cmp -s - "$work/out"; then
+            fail "$input with write $n failing: status $status"
+            return
+        fi
+    done
+    if [ "$status" -eq 0 ] && cmp -s "$work/right" "$work/out" && [ "$n" -gt 1 ]; then
+        pass
+    else
+        fail "$input in writes of $2 bytes: status $status"
+    fi
+    echo "refusals.sh: $(basename "$input"): $((n - 1)) failing writes"
+}
+
+for script in "$top"/tests/refusals/kept.script "$top/examples/FIRST.script"; do
+    fail_reads "$script"
+    fail_writes "$script" 1
+done
+
+# More replies than a buffer holds, so that writes fail between calls too.
+{ printf 'open p 61\nresize 0 5000\n' && yes 'read 0 0 5000' | head -n 6; } >"$work/long.script"
+fail_writes "$work/long.script" 1000
+
+# `resolve`: each request of the program refused, each read and each write failing.
+printf '4357494300000007\n' >"$work/image"
+printf '4357494b000100051de3\n' >"$work/refused image"
+fail_resolve_reads() {
+    n=0
+    while :; do
+        n=$((n + 1))
+        under REFUSE_SHORT=1 REFUSE_READ="$n" "$program" resolve <"$work/image"
+        [ "$refused" = 1 ] || break
+        if [ "$status" -ne 1 ] || [ -s "$work/out" ] || [ "$(cat "$work/err")" != 'input failed' ]; then
+            fail "resolve with read $n failing: status $status"
+            return
+        fi
+    done
+    # the line has 17 bytes
+    if [ "$status" -eq 0 ] && [ "$n" -eq 18 ]; then pass; else fail "resolve in reads of one byte: status $status"; fi
+}
+
+# refuse_resolve INPUT REPLY LEAST: the program's own requests end it, and one that is the call's is its reply; of these
+# there are so many at least.
+refuse_resolve() {
+    n=0
+    told=0
+    while :; do
+        n=$((n + 1))
+        under REFUSE="$n" REFUSE_ALL=1 "$program" resolve <"$1"
+        [ "$refused" = 1 ] || break
+        if [ "$status" -eq 0 ] && [ "$(cat "$work/out")" = 'error Memory' ] && [ ! -s "$work/err" ]; then
+            told=$((told + 1))
+        elif [ "$status" -ne 3 ] || [ -s "$work/out" ] || [ "$(cat "$work/err")" != 'no memory' ]; then
+            fail "resolve with request $n refused: status $status"
+            return
+        fi
+    done
+    if [ "$status" -eq 0 ] && [ "$(cat "$work/out")" = "$2" ] && [ "$told" -ge "$3" ] && [ "$n" -gt 1 ]; then
+        pass
+    else
+        fail "resolve with no request refused: status $status, $told refusals told"
+    fi
+}
+
+fail_resolve_reads
+fail_writes "$work/image" 1 resolve
+refuse_resolve "$work/image" 'valid 0 7 8' 0
+refuse_resolve "$work/refused image" 'error BlobCorrupt image 626c6f62 truncated header: required length 12, raw length 10' 1
+
+echo "$passed passed, $failed failed"
+[ "$failed" -eq 0 ]
