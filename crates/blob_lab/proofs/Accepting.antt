@@ -1,11 +1,10 @@
 -- What an open accepted is accepted again: its header stands, as that of an incarnation or as the bytes of a raw file.
 use Rattle.std.proofs.Common.{◌≡◌, ℕ, ◌^◌, ◌<◌, Bool, true, false, ◌&&◌, cond, if◌then◌else◌, List, [], ◌∷◌, ◌++◌, length, drop, Option, Some, None, Ok, Err, refl, sym, ap, ◌∙◌, subst}
-use Rattle.std.specs.Prelude.{All}
+use Rattle.std.specs.List.{AllZip}
 use Rattle.std.specs.Str.{bytes_eq}
 use Rattle.std.specs.Cmp.Lexicographic.{bytes_decides}
 use Rattle.std.proofs.Math.Seq.{drop-append_seam}
 use Rattle.std.proofs.lemmas.Bool.{cond_both, cond-false, false≢true}
-use Rattle.std.proofs.lemmas.List.Elements.{All-head, All-tail}
 use Rattle.rand_core.specs.Stream.{Stream}
 use Rattle.blob_base.specs.declared.layout.Layout.{Layout}
 use Rattle.blob_base.specs.declared.layout.Layout.TheVariants.{V0, V1}
@@ -106,7 +105,7 @@ of_again bytes p n (Some (Incarnation number layout v)) version is =
 raw_of : (file : Option File) (version : ℕ) → ((layout : Layout) × (data_bytes : List ℕ) × (file ≡ Some (Raw (region layout version ++ data_bytes)))) → IsOf file version
 raw_of file version (layout, data_bytes, same) = subst (λ (x : Option File). IsOf x version) (sym same) (layout, data_bytes, refl)
 
-of_removed : (d : Directory) (q : List ℕ) (m : Option (List ℕ)) (p n : List ℕ) (version : ℕ) → removes (Remove q m) p n ≡ false → IsOf (d.file p n) version → IsOf ((removed d q m).file p n) version
+of_removed : (d : Directory) (q : List ℕ) (m : Option (List ℕ)) (p n : List ℕ) (version : ℕ) → removes (Remove q m) None p n ≡ false → IsOf (d.file p n) version → IsOf ((removed d q m).file p n) version
 of_removed d q None p n version stays is = subst (λ (x : Option File). IsOf x version) (sym (cond-false (bytes_eq q p) None (d.file p n) stays)) is
 of_removed d q (Some m) p n version stays is = by_tests (bytes_eq q p) (bytes_eq m n) stays where
   by_tests : (b c : Bool) → (b && c) ≡ false → IsOf (cond b (cond c None (d.file p n)) (d.file p n)) version
@@ -146,7 +145,7 @@ module _ (v : State) (rest : Stream) (p n : List ℕ) (version : ℕ) (fits : ve
   finished_still number None = is
   finished_still number (Some s) = is
 
-  removal_still : (q : List ℕ) (m : Option (List ℕ)) (refusal : Option Refusal) → removes (Remove q m) p n ≡ false → Still (removal v q m refusal)
+  removal_still : (q : List ℕ) (m : Option (List ℕ)) (refusal : Option Refusal) → removes (Remove q m) refusal p n ≡ false → Still (removal v q m refusal)
   removal_still q m None stays = of_removed v.files.directory q m p n version stays is
   removal_still q m (Some refusal) stays = is
 
@@ -154,7 +153,7 @@ module _ (v : State) (rest : Stream) (p n : List ℕ) (version : ℕ) (fits : ve
   crashed_still None = is
   crashed_still (Some refusal) = is
 
-  still_after : (act : Act) (refusal : Option Refusal) → removes act p n ≡ false → Still (after v act refusal rest)
+  still_after : (act : Act) (refusal : Option Refusal) → removes act refusal p n ≡ false → Still (after v act refusal rest)
   still_after (Configure config) refusal stays = is
   still_after (Open q m None) refusal stays = is
   still_after (Open q m (Some versions)) refusal stays = exclusive_still q m versions refusal
@@ -169,11 +168,10 @@ module _ (v : State) (rest : Stream) (p n : List ℕ) (version : ℕ) (fits : ve
   still_after Crash refusal stays = crashed_still refusal
   still_after Reopen refusal stays = raw_of (raw_again (durable_at v.files) p n (v.files.directory.file p n)) version (of_again (durable_at v.files) p n (v.files.directory.file p n) version is)
 
-pub still_run : (v : State) (calls : List Call) (replies : List Reply) (w : State) (p n : List ℕ) (version : ℕ) → version < 2 ^ 16 → All (λ call. removes (act_of call) p n ≡ false) calls → Run v calls replies w
+pub still_run : (v : State) (calls : List Call) (replies : List Reply) (w : State) (p n : List ℕ) (version : ℕ) → version < 2 ^ 16 → AllZip (λ call reply. removes (act_of call) (refused_by reply) p n ≡ false) calls replies → Run v calls replies w
     → IsOf (v.files.directory.file p n) version → IsOf (w.files.directory.file p n) version
 still_run v [] [] w p n version fits keeps run is = subst (λ (x : State). IsOf (x.files.directory.file p n) version) run is
 still_run v [] (r ∷ replies) w p n version fits keeps run is = absurd run
 still_run v (call ∷ calls) [] w p n version fits keeps run is = absurd run
-still_run v (call ∷ calls) (r ∷ replies) w p n version fits keeps (left, a, run) is =
-    still_run (after v (act_of call) (refused_by r) left) calls replies w p n version fits (All-tail (λ c. removes (act_of c) p n ≡ false) call calls keeps) run
-    (still_after v left p n version fits is (act_of call) (refused_by r) (All-head (λ c. removes (act_of c) p n ≡ false) call calls keeps))
+still_run v (call ∷ calls) (r ∷ replies) w p n version fits (stays, keeps) (left, a, run) is =
+    still_run (after v (act_of call) (refused_by r) left) calls replies w p n version fits keeps run (still_after v left p n version fits is (act_of call) (refused_by r) stays)

@@ -1,11 +1,13 @@
 -- Names that an open accepted and that nothing removed since, and their opens in a rebuilt store.
-use Rattle.std.specs.Prelude.{◌≡◌, ◌≢◌, ℕ, ◌-◌, ◌^◌, ◌<◌, ◌≤◌, ◌&&◌, List, ◌∷◌, ◌++◌, length, Bool, false, All, Option, Some, None}
+use Rattle.std.specs.Prelude.{◌≡◌, ◌≢◌, ℕ, ◌-◌, ◌^◌, ◌<◌, ◌≤◌, ◌&&◌, List, ◌∷◌, ◌++◌, length, Bool, false, Option, Some, None}
+use Rattle.std.specs.List.{AllZip}
 use Rattle.std.specs.Str.{bytes_eq}
 use Rattle.rand_core.specs.Stream.{Stream}
 use Rattle.blob_base.specs.declared.layout.Layout.{Layout}
 use Rattle.blob_base.specs.declared.version.BlobVersion.{BlobVersion}
 use Rattle.blob_base.specs.Directory.{Raw}
 use Rattle.blob_base.specs.Header.{region}
+use Rattle.blob_base.specs.Refusals.{Refusal}
 use Rattle.blob_faulty.specs.Faults.{draw}
 use Rattle.blob_lab.specs.declared.call.Call.{Call}
 use Rattle.blob_lab.specs.declared.reply.Reply.{Reply}
@@ -13,7 +15,7 @@ use Rattle.blob_lab.specs.declared.reply.Reply.TheVariants as reply
 use Rattle.blob_lab.specs.Acts.{Act, Open, OpenLoose, Remove, act_of}
 use Rattle.blob_lab.specs.Runs.{Run}
 use Rattle.blob_lab.specs.States.{State}
-use Rattle.blob_lab.specs.Told.{Told, Opened}
+use Rattle.blob_lab.specs.Told.{Told, Opened, refused_by}
 
 -- partition and name of what a call opens
 abbrev pub opened_name : Act → Option (List ℕ × List ℕ)
@@ -21,11 +23,11 @@ opened_name (Open p n versions) = Some (p, n)
 opened_name (OpenLoose p n versions) = Some (p, n)
 opened_name act = None
 
--- whether a call removes a name, or its whole partition
-abbrev pub removes : Act → List ℕ → List ℕ → Bool
-removes (Remove q (Some m)) p n = bytes_eq q p && bytes_eq m n
-removes (Remove q None) p n = bytes_eq q p
-removes act p n = false
+-- whether a call removes a name, or its whole partition: a removal that is answered Ok
+abbrev pub removes : Act → Option Refusal → List ℕ → List ℕ → Bool
+removes (Remove q (Some m)) None p n = bytes_eq q p && bytes_eq m n
+removes (Remove q None) None p n = bytes_eq q p
+removes act refusal p n = false
 
 -- calls from one state to another: an open of a name that answered this version, and then none that removes the name
 pub record IsKept (v : State) (p n : List ℕ) (version : BlobVersion) (w : State) : Type 0 where
@@ -36,7 +38,7 @@ pub record IsKept (v : State) (p n : List ℕ) (version : BlobVersion) (w : Stat
   pub replies : List Reply
   pub opens : opened_name (act_of opening) ≡ Some (p, n)
   pub run : Run v (opening ∷ calls) (reply.Opened handle size version ∷ replies) w
-  pub keeps : All (λ call. removes (act_of call) p n ≡ false) calls
+  pub keeps : AllZip (λ call reply. removes (act_of call) (refused_by reply) p n ≡ false) calls replies
 
 -- in a state that is rebuilt with this stream, an open for versions from a first to a last one accepts this version: nothing
 -- is injected, and a number is left for the incarnation and for the open

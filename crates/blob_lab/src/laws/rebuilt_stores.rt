@@ -16,8 +16,8 @@ ghost use Rattle.blob_lab.specs.States.{State};
 ghost use Rattle.blob_lab.specs.Told as told;
 
 /// A current incarnation opens again with its durable bytes, for versions that hold its own, where nothing is injected and
-/// numbers are left. So does every name that an open accepted and that no call removed since, through any calls, crashes
-/// and further rebuilds among them. As ever the reply says this answer, or `Memory`.
+/// numbers are left. So does every name that an open accepted and that no call removed since, through any calls, refused
+/// removals, crashes and further rebuilds among them. As ever the reply says this answer, or `Memory`.
 pub fn accepted_names_open_again()
     ensures found { (v : State) (rest : Stream) (p n : List ℕ) (first last version number : ℕ) (layout : Layout) → Accepts v rest first last version → v.files.directory.file p n ≡ Some (Incarnation number layout version) → found (after v Reopen None rest) p n first last ≡ Begins layout version (durable_at v.files (place_of p n number layout)) }
     ensures told { (v : State) (rest : Stream) (p n : List ℕ) (first last version number : ℕ) (layout : Layout) → Reached v → Accepts v rest first last version → v.files.directory.file p n ≡ Some (Incarnation number layout version) → (answer (after v Reopen None rest) (Open p n (Some (first, last)))).0 ≡ told.Opened (length v.handles) (length (durable_at v.files (place_of p n number layout))) version }
