@@ -19,6 +19,7 @@ pub mod NoneSide
 pub mod Openings
 pub mod Persistence
 pub mod Placing
+pub mod RawFiles
 pub mod Reopening
 pub mod Resolutions
 mod Rows

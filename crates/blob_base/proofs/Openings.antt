@@ -12,6 +12,7 @@ use Rattle.blob_base.specs.Resolve.{resolution, found_in, is_torn}
 use Rattle.blob_base.specs.Refusals.{Refusal}
 use Rattle.blob_base.specs.Versions.{is_in_range}
 use Rattle.blob_base.specs.Opening.{Opening, Continues, Begins, Declines, opening, opening_raw, IsOpened, Continued, Begun}
+use Rattle.blob_base.proofs.RawFiles.{raw_not_continues}
 
 abbrev version_in : ℕ → Opening → ℕ
 version_in other (Continues number layout version) = version
@@ -54,14 +55,9 @@ raw_within p n raw first last (Ok None) layout version live some w e = subst (λ
 raw_within p n raw first last (Ok (Some (size, found, offset))) layout version live some w e = subst (λ (v : ℕ). (first ≤ v) × (v ≤ last)) (ap (version_in 0) e) (range_of first last found.0 w)
 raw_within p n raw first last (Err failure) layout version live some w e = cc
 
-raw_begins : (p n raw : List ℕ) (last : ℕ) (r : Result (Option (ℕ × BlobVersion × ℕ)) Failure) (number : ℕ) (layout : Layout) (version : ℕ) → opening_raw p n raw last r ≡ Continues number layout version → ⊥
-raw_begins p n raw last (Ok None) number layout version e = cc
-raw_begins p n raw last (Ok (Some (size, found, offset))) number layout version e = cc
-raw_begins p n raw last (Err failure) number layout version e = cc
-
 continues_within : (p n : List ℕ) (f : Option File) (first last number : ℕ) (layout : Layout) (version : ℕ) → opening p n f first last ≡ Continues number layout version → (first ≤ version) × (version ≤ last)
 continues_within p n None first last number layout version e = cc
-continues_within p n (Some (Raw raw)) first last number layout version e = absurd (raw_begins p n raw last (resolution raw (every_layout first last)) number layout version e)
+continues_within p n (Some (Raw raw)) first last number layout version e = absurd (raw_not_continues p n raw last (resolution raw (every_layout first last)) number layout version e)
 continues_within p n (Some (Incarnation k l v)) first last number layout version e = go (is_in_range first last v) refl e
   where
     go : (b : Bool) → is_in_range first last v ≡ b → (if b then Continues k l v else Declines (Refusal.BlobVersionMismatch first last v)) ≡ Continues number layout version → (first ≤ version) × (version ≤ last)

@@ -14,7 +14,7 @@ use Rattle.blob_base.specs.Runs.{Run, runs, with_byte, kept_runs}
 use Rattle.blob_base.specs.SamePlace.{same_place_exact, same_self}
 use Rattle.blob_base.proofs.Bytes.{lies_in, lies_below, lies_past, length-overlay_by, at_chosen, at_other, length-resized, at_resized, above_chosen}
 use Rattle.blob_base.proofs.Durables.{durable_logged, crashed_logged, durable_published, crashed_published, durable_made, crashed_made, others_removed}
-use Rattle.blob_base.proofs.NoneSide.{length_region}
+use Rattle.blob_base.proofs.RawFiles.{drop_region}
 
 -- Of one list of bytes.
 
@@ -175,10 +175,5 @@ fixed_made f q n layout version p v x none h =
       crash = λ t. moved (HasByte p v) _ _ (crashed_made f q n layout version x t o none ∙ cond-true (same_place o o) _ _ (same_self o)) h;
     }
 
--- behind a header of its length
-drop_front : (r x : List ℕ) → drop (length r) (r ++ x) ≡ x
-drop_front [] x = refl
-drop_front (b ∷ r) x = drop_front r x
-
 pub has_raw : (layout : Layout) (version p v : ℕ) (x : List ℕ) → HasByte p v x → HasByte p v (drop (data_start layout) (region layout version ++ x))
-has_raw layout version p v x h = moved (HasByte p v) _ _ (ap (λ n. drop n (region layout version ++ x)) (sym (length_region layout version)) ∙ drop_front (region layout version) x) h
+has_raw layout version p v x h = moved (HasByte p v) _ _ (drop_region layout version x) h

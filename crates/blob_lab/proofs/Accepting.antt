@@ -16,8 +16,7 @@ use Rattle.blob_base.specs.Parse.{VersionMismatch, every_layout}
 use Rattle.blob_base.specs.Places.{Place}
 use Rattle.blob_base.specs.Refusals.{Refusal, BlobAlreadyOpen, BlobVersionMismatch}
 use Rattle.blob_base.specs.Versions.{is_in_range}
-use Rattle.blob_base.proofs.NoneSide.{length_region}
-use Rattle.blob_base.proofs.Reopening.{reopens, reopened_all}
+use Rattle.blob_base.proofs.RawFiles.{raw_opens}
 use Rattle.blob_lab.specs.declared.call.Call.{Call}
 use Rattle.blob_lab.specs.declared.reply.Reply.{Reply}
 use Rattle.blob_lab.specs.Accepted.{removes}
@@ -28,29 +27,6 @@ use Rattle.blob_lab.specs.Runs.{Run}
 use Rattle.blob_lab.specs.States.{State, Held, Started}
 use Rattle.blob_lab.specs.Told.{refused_by}
 use Rattle.blob_lab.proofs.Stale.{asked_directory, admitted_directory}
-
--- A raw file under a whole header.
-
-from_start : (layout : Layout) → layout_from (data_start layout) ≡ layout
-from_start V0 = refl
-from_start V1 = refl
-
-behind : (layout : Layout) (version : ℕ) (data_bytes : List ℕ) → drop (data_start layout) (region layout version ++ data_bytes) ≡ data_bytes
-behind layout version data_bytes = ap (λ k. drop k (region layout version ++ data_bytes)) (sym (length_region layout version)) ∙ drop-append_seam (region layout version) data_bytes
-
-pub raw_opens : (p n : List ℕ) (layout : Layout) (version : ℕ) (data_bytes : List ℕ) (first last : ℕ) → version < 2 ^ 16
-    → opening p n (Some (Raw (region layout version ++ data_bytes))) first last ≡ (if is_in_range first last version then Begins layout version data_bytes else Declines (BlobVersionMismatch first last version))
-raw_opens p n layout version data_bytes first last fits =
-    ap (opening_raw p n raw last) (reopens layout version data_bytes (every_layout first last) fits ∙ reopened_all first last layout version (length data_bytes))
-    ∙ go (is_in_range first last version)
-  where
-    raw : List ℕ
-    raw = region layout version ++ data_bytes
-
-    go : (b : Bool) → opening_raw p n raw last (cond b (Ok (Some (length data_bytes, record { 0 = version }, data_start layout))) (Err (VersionMismatch first last version)))
-        ≡ (if b then Begins layout version data_bytes else Declines (BlobVersionMismatch first last version))
-    go true = λ i. Begins (from_start layout i) version (behind layout version data_bytes i)
-    go false = refl
 
 -- Files of a version.
 

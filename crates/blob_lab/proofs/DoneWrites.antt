@@ -20,7 +20,7 @@ use Rattle.blob_lab.specs.Denials.{or_then, or_injected, exhausted_if, runs_deni
 use Rattle.blob_lab.specs.States.{State, Held}
 use Rattle.blob_lab.specs.Told as told
 use Rattle.blob_lab.specs.Told.{refused_by}
-use Rattle.blob_lab.proofs.Exclusive.{undenied}
+use Rattle.blob_lab.proofs.ToldRefusals.{denied}
 
 -- why its fate is no other
 done_fate : (fate : WriteFate) (d : Directory) (o : Place) (retained : Bool) (next : ℕ) (offset : ℕ) (bytes : List ℕ) → fate_denial fate d o retained next true offset bytes ≡ None → fate ≡ Done
@@ -98,5 +98,5 @@ module _ (v : State) (h : Held) (offset : ℕ) (bytes : List ℕ) (done : IsDone
 pub write_free : (v : State) (h : Held) (offset : ℕ) (bytes : List ℕ) (answered : Reply) (left : Stream) → IsAnswer true (through v (Some h) (Write offset bytes true)) answered left → refused_by answered ≡ None → write_denial v h offset bytes true ≡ None
 write_free v h offset bytes answered left answers done = ⊎_elim
     (λ memory. absurd (none-some Memory (sym done ∙ memory.1)))
-    (λ tells. undenied answered (write_denial v h offset bytes true) told.Done tells.0 done)
+    (λ tells. sym (denied answered (write_denial v h offset bytes true) told.Done refl tells.0) ∙ done)
     answers

@@ -27,6 +27,7 @@ use Rattle.blob_lab.specs.States.{State, Held, Started, Image, start, held_on, e
 use Rattle.blob_lab.specs.Told.{Told, Tells, refused_by}
 use Rattle.blob_lab.proofs.ExclusiveSteps.{AreExclusive, IsNew, aged, closed_one, put_back, ended_names, added}
 use Rattle.blob_lab.proofs.Stale.{ages, asked_directory, none_current, with_file_stale}
+use Rattle.blob_lab.proofs.ToldRefusals.{denied}
 
 abbrev pub Exclusive : State → Type 0
 Exclusive v = AreExclusive v.files.directory v.names v.handles
@@ -60,12 +61,6 @@ exclusive_start images words config = record {
 
 -- An open.
 
--- a call that wasn't refused wasn't denied
-pub undenied : (answered : Reply) (denial : Option Refusal) (otherwise : Told) → Tells answered (unless_denied denial otherwise) → refused_by answered ≡ None → denial ≡ None
-undenied answered None otherwise tells free = refl
-undenied (reply.Failed e) (Some r) otherwise tells free = cc
-undenied answered (Some r) otherwise tells free = absurd tells
-
 pub or_then_none : (first later : Option Refusal) → or_then first later ≡ None → (first ≡ None) × (later ≡ None)
 or_then_none None later none = (refl, none)
 or_then_none (Some r) later none = cc
@@ -80,7 +75,7 @@ open_free v p n versions answered left answers done =
     ⊎_elim
     (λ memory. absurd (none-some Memory (sym done ∙ memory.1)))
     (λ told.
-    let free = undenied answered (open_denial v p n versions.0 versions.1) (opened v p n versions) told.0 done in
+    let free = sym (denied answered (open_denial v p n versions.0 versions.1) (opened v p n versions) refl told.0) ∙ done in
     let later = or_then_none (exhausted_if (is_unnumbered v.names p n)) (or_then (loose_denial v p n versions.0 versions.1) (open_already v.names p n)) free in
     let last = or_then_none (loose_denial v p n versions.0 versions.1) (open_already v.names p n) later.1 in
     not_open (v.names.registered p n) _ last.1)
@@ -95,7 +90,7 @@ fresh v p n versions answered left x answers done i h here now partition name =
     (sym (open_free v p n versions answered left answers done) ∙ sym (ap (λ q. v.names.registered q n) partition) ∙ sym (ap (v.names.registered h.place.partition) name) ∙ is_open.number)
 
 -- a name's current incarnation is of the name, and current
-record IsOf (d : Directory) (p n : List ℕ) (o : Place) : Type 0 where
+pub record IsOf (d : Directory) (p n : List ℕ) (o : Place) : Type 0 where
   pub partition : o.partition ≡ p
   pub name : o.name ≡ n
   pub current : is_current d o ≡ true
@@ -103,7 +98,7 @@ record IsOf (d : Directory) (p n : List ℕ) (o : Place) : Type 0 where
 both_true : (a b : Bool) → a ≡ true → b ≡ true → (a && b) ≡ true
 both_true a b first second = ap (λ x. x && b) first ∙ second
 
-current_of : (d : Directory) (p n : List ℕ) (o : Place) → current d p n ≡ Some o → IsOf d p n o
+pub current_of : (d : Directory) (p n : List ℕ) (o : Place) → current d p n ≡ Some o → IsOf d p n o
 current_of d p n o here = by_file (d.file p n) refl here
   where
     by_file : (file : Option File) → d.file p n ≡ file → place_in p n file ≡ Some o → IsOf d p n o

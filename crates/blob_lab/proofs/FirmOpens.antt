@@ -16,10 +16,10 @@ use Rattle.blob_base.specs.Refusals.{Refusal, BlobVersionMismatch}
 use Rattle.blob_base.specs.SamePlace.{same_place_exact}
 use Rattle.blob_base.specs.Versions.{is_in_range}
 use Rattle.blob_base.proofs.Persistence.{fixed_beside, fixed_made}
+use Rattle.blob_base.proofs.RawFiles.{raw_opens}
 use Rattle.blob_lab.specs.Answers.{kept_at}
 use Rattle.blob_lab.specs.Fixed.{Byte, is_of}
 use Rattle.blob_lab.specs.States.{Held}
-use Rattle.blob_lab.proofs.Accepting.{raw_opens}
 use Rattle.blob_lab.proofs.Firm.{IsFirm, Now, Behind, at, of_parts}
 use Rattle.blob_lab.proofs.FirmFiles.{file_beside}
 use Rattle.blob_lab.proofs.Opened.{with_file_here}

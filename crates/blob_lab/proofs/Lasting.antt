@@ -26,7 +26,7 @@ use Rattle.blob_lab.specs.Reached.{is_loose, NoneLoose, ReachedExclusively}
 use Rattle.blob_lab.specs.Runs.{Run}
 use Rattle.blob_lab.specs.States.{State, Held, held_on}
 use Rattle.blob_lab.specs.Told.{Tells, refused_by}
-use Rattle.blob_lab.proofs.Exclusive.{reached_exclusive, undenied, or_then_none}
+use Rattle.blob_lab.proofs.Exclusive.{reached_exclusive, or_then_none}
 use Rattle.blob_lab.proofs.Firm.{IsFirm, Now, Behind, at, of_parts, firm_has}
 use Rattle.blob_lab.proofs.FirmSteps.{HasFirm, IsSound, firm_after}
 use Rattle.blob_lab.proofs.Fixing.{fixes_firm}
@@ -36,6 +36,7 @@ use Rattle.blob_lab.proofs.OpensAgain.{valid_open}
 use Rattle.blob_lab.proofs.Performing.{given_at}
 use Rattle.blob_lab.proofs.RunSteps.{reached_strictly}
 use Rattle.blob_lab.proofs.Stale.{admitted_directory}
+use Rattle.blob_lab.proofs.ToldRefusals.{denied}
 
 -- The states of a run.
 
@@ -106,7 +107,7 @@ opens_with v (Open p n (Some versions)) (reply.Opened handle size version) left 
     let f = admitted (after_open v.files p n versions.0 versions.1) p n in
     let registration : Option Registration = Some (record { partition = p; name = n; number = v.names.next }) in
     let tells = ⊎_elim (λ memory. absurd (none-some Memory memory.1)) (λ told. told.0) a in
-    let free = undenied (reply.Opened handle size version) (open_denial v p n versions.0 versions.1) (answers.opened v p n versions) tells refl in
+    let free = sym (denied (reply.Opened handle size version) (open_denial v p n versions.0 versions.1) (answers.opened v p n versions) refl tells) in
     let c = found_current v p n versions free in
     let number : handle ≡ length v.handles = (subst (λ (x : Option Refusal). Tells (reply.Opened handle size version) (unless_denied x (answers.opened v p n versions))) free tells).0 in (
       held_on f registration c.place,

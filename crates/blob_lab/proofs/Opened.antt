@@ -13,11 +13,7 @@ use Rattle.blob_base.specs.Places.{Place}
 use Rattle.blob_base.specs.Refusals.{Refusal}
 use Rattle.blob_base.specs.Resolve.{resolution}
 use Rattle.blob_base.specs.Versions.{is_in_range}
-
-raw_begins : (p n raw : List ℕ) (last : ℕ) (r : Result (Option (ℕ × BlobVersion × ℕ)) Failure) (number : ℕ) (layout : Layout) (version : ℕ) → opening_raw p n raw last r ≡ Continues number layout version → ⊥
-raw_begins p n raw last (Ok None) number layout version e = cc
-raw_begins p n raw last (Ok (Some (size, found, offset))) number layout version e = cc
-raw_begins p n raw last (Err failure) number layout version e = cc
+use Rattle.blob_base.proofs.RawFiles.{raw_not_continues}
 
 in_range : (b : Bool) (p n : List ℕ) (k : ℕ) (l : Layout) (w : ℕ) (r : Refusal) (number : ℕ) (layout : Layout) (version : ℕ) → (if b then Continues k l w else Declines r) ≡ Continues number layout version → place_of p n k l ≡ place_of p n number layout
 in_range true p n k l w r number layout version e =
@@ -29,7 +25,7 @@ in_range false p n k l w r number layout version e = cc
 -- an incarnation that goes on is the name's current one
 pub continued : (p n : List ℕ) (file : Option File) (first last number : ℕ) (layout : Layout) (version : ℕ) → opening p n file first last ≡ Continues number layout version → place_in p n file ≡ Some (place_of p n number layout)
 continued p n None first last number layout version e = cc
-continued p n (Some (Raw raw)) first last number layout version e = absurd (raw_begins p n raw last (resolution raw (every_layout first last)) number layout version e)
+continued p n (Some (Raw raw)) first last number layout version e = absurd (raw_not_continues p n raw last (resolution raw (every_layout first last)) number layout version e)
 continued p n (Some (Incarnation k l w)) first last number layout version e = ap Some (in_range (is_in_range first last w) p n k l w (Refusal.BlobVersionMismatch first last w) number layout version e)
 
 same_bytes : (p : List ℕ) → bytes_eq p p ≡ true

@@ -16,6 +16,7 @@ use Rattle.blob_base.specs.PartitionName.{is_partition_name}
 use Rattle.blob_base.specs.Refusals.{Refusal, BlobVersionMismatch, PartitionNameInvalid, GenerationsExhausted}
 use Rattle.blob_base.specs.Resolve.{resolution}
 use Rattle.blob_base.specs.Versions.{is_in_range}
+use Rattle.blob_base.proofs.RawFiles.{raw_opens, raw_not_continues}
 use Rattle.blob_faulty.specs.Faults.{draw}
 use Rattle.blob_memory.specs.Answers.{opening_refusal, open_refusal}
 use Rattle.blob_lab.specs.declared.reply.Reply.TheVariants as reply
@@ -28,28 +29,16 @@ use Rattle.blob_lab.specs.Denials.{or_then, injected_if, exhausted_if, open_deni
 use Rattle.blob_lab.specs.States.{State}
 use Rattle.blob_lab.specs.Told as told
 use Rattle.blob_lab.specs.Told.{Told, Tells}
-use Rattle.blob_lab.proofs.Accepting.{IsOf, raw_opens, of_again, still_run}
+use Rattle.blob_lab.proofs.Accepting.{IsOf, of_again, still_run}
+use Rattle.blob_lab.proofs.Exclusive.{or_then_none}
+use Rattle.blob_lab.proofs.Opened.{with_file_here}
 use Rattle.blob_lab.proofs.Stale.{admitted_directory}
 
 -- An open that was accepted.
 
--- none of two refusals holds
-none_first : (first later : Option Refusal) → or_then first later ≡ None → first ≡ None
-none_first None later e = refl
-none_first (Some r) later e = e
-
-none_later : (first later : Option Refusal) → or_then first later ≡ None → later ≡ None
-none_later None later e = e
-none_later (Some r) later e = absurd (none-some _ (sym e))
-
 tells_opened : (denial : Option Refusal) (handle size : ℕ) (version : BlobVersion) (number len found : ℕ) → Tells (reply.Opened handle size version) (unless_denied denial (told.Opened number len found)) → (denial ≡ None) × (version.0 ≡ found)
 tells_opened None handle size version number len found t = (refl, t.2)
 tells_opened (Some r) handle size version number len found t = absurd t
-
-raw_not_continues : (p n raw : List ℕ) (last : ℕ) (r : Result (Option (ℕ × BlobVersion × ℕ)) Failure) (number : ℕ) (layout : Layout) (version : ℕ) → opening_raw p n raw last r ≡ Continues number layout version → ⊥
-raw_not_continues p n raw last (Ok None) number layout version e = cc
-raw_not_continues p n raw last (Ok (Some found)) number layout version e = cc
-raw_not_continues p n raw last (Err failure) number layout version e = cc
 
 -- an incarnation that goes on is of its version
 of_continued : (p n : List ℕ) (file : Option File) (first last number : ℕ) (layout : Layout) (version : ℕ) → opening p n file first last ≡ Continues number layout version → IsOf file version
@@ -66,11 +55,7 @@ of_found : (f : Files) (p n : List ℕ) (first last : ℕ) → opening_refusal (
 of_found f p n first last free = by_found (opening p n (f.directory.file p n) first last) refl free where
   by_found : (o : Opening) → opening p n (f.directory.file p n) first last ≡ o → opening_refusal o f.directory.next ≡ None → IsOf ((opened f p n o).directory.file p n) (version_of o)
   by_found (Continues number layout version) e free' = of_continued p n (f.directory.file p n) first last number layout version e
-  by_found (Begins layout version live) e free' =
-      let new : Option File = Some (Incarnation f.directory.next layout version) in
-      cond_both (bytes_eq p p) (cond (bytes_eq n n) new (f.directory.file p n)) (f.directory.file p n) (λ x. IsOf x version)
-      (λ _. cond_both (bytes_eq n n) new (f.directory.file p n) (λ x. IsOf x version) (λ _. refl) (λ other. absurd (false≢true (sym other ∙ (bytes_decides n n).1 refl))))
-      (λ other. absurd (false≢true (sym other ∙ (bytes_decides p p).1 refl)))
+  by_found (Begins layout version live) e free' = subst (λ (x : Option File). IsOf x version) (sym (with_file_here f.directory.file p n (Some (Incarnation f.directory.next layout version)))) refl
   by_found (Declines refusal) e free' = absurd (none-some _ (sym free'))
 
 -- the store's own open
@@ -87,14 +72,14 @@ pub record IsOpened (d : Directory) (p n : List ℕ) (version : ℕ) : Type 0 wh
 
 loosely : (v : State) (p n : List ℕ) (first last : ℕ) → loose_denial v p n first last ≡ None → IsOpened (after_open v.files p n first last).directory p n (version_of (found v p n first last))
 loosely v p n first last free =
-    let store : open_refusal v.files.directory p n first last ≡ None = none_later (injected_if (draw v.config.open_rate v.stream).0) (open_refusal v.files.directory p n first last) free in
+    let store : open_refusal v.files.directory p n first last ≡ None = (or_then_none (injected_if (draw v.config.open_rate v.stream).0) (open_refusal v.files.directory p n first last) free).1 in
     let parts = valid_open p (opening_refusal (found v p n first last) v.files.directory.next) store in
     record { valid = parts.0; file = of_found v.files p n first last parts.1 }
 
 exclusively : (v : State) (p n : List ℕ) (first last : ℕ) → open_denial v p n first last ≡ None → loose_denial v p n first last ≡ None
 exclusively v p n first last free =
-    none_first (loose_denial v p n first last) (open_already v.names p n)
-    (none_later (exhausted_if (is_unnumbered v.names p n)) (or_then (loose_denial v p n first last) (open_already v.names p n)) free)
+    let later = or_then_none (exhausted_if (is_unnumbered v.names p n)) (or_then (loose_denial v p n first last) (open_already v.names p n)) free in
+    (or_then_none (loose_denial v p n first last) (open_already v.names p n) later.1).0
 
 -- the first call of a run
 module _ (v : State) (handle size : ℕ) (version : BlobVersion) (left : Stream) where

@@ -27,29 +27,25 @@ use Rattle.blob_lab.specs.Runs.{Run}
 use Rattle.blob_lab.specs.States.{State, Held, Started, Image, empty_directory, with_image, with_images, start, held_on}
 use Rattle.blob_lab.specs.Told as told
 use Rattle.blob_lab.specs.Told.{refused_by}
-use Rattle.blob_lab.proofs.Sizes.{asked_sized, asked_place}
-use Rattle.blob_lab.proofs.Stale.{Ages, ages, asked_directory, admitted_directory}
+use Rattle.blob_lab.proofs.Exclusive.{current_of, exclusive_start, place_after}
+use Rattle.blob_lab.proofs.Sizes.{asked_sized}
+use Rattle.blob_lab.proofs.Stale.{AreCurrentGiven, Ages, ages, asked_directory, admitted_directory}
 use Rattle.blob_lab.proofs.ValidOpens.{made, exclusive_valid, loose_valid}
 
 -- Files.
 
--- a file's number was given, and its partition's name is valid
-abbrev IsSound : List ℕ → ℕ → Option File → Type 0
-IsSound p next None = Unit {0}
-IsSound p next (Some (Raw bytes)) = Unit {0}
-IsSound p next (Some (Incarnation number layout version)) = (number < next) × (is_partition_name p ≡ true)
+-- the partition of an incarnation has a valid name
+abbrev IsValid : List ℕ → Option File → Type 0
+IsValid p None = Unit {0}
+IsValid p (Some (Raw bytes)) = Unit {0}
+IsValid p (Some (Incarnation number layout version)) = is_partition_name p ≡ true
 
-abbrev AreSound : Directory → Type 0
-AreSound d = (p n : List ℕ) → IsSound p d.next (d.file p n)
+abbrev AreValid : Directory → Type 0
+AreValid d = (p n : List ℕ) → IsValid p (d.file p n)
 
-sound_later : (p : List ℕ) (next later : ℕ) (file : Option File) → next ≤ later → IsSound p next file → IsSound p later file
-sound_later p next later None least sound = tt
-sound_later p next later (Some (Raw bytes)) least sound = tt
-sound_later p next later (Some (Incarnation number layout version)) least sound = (omega (arith, sound.0), sound.1)
-
-sound_with : (next : ℕ) (f : List ℕ → List ℕ → Option File) (p n q m : List ℕ) (x : Option File) → IsSound p next x → IsSound q next (f q m) → IsSound q next (with_file f p n x q m)
-sound_with next f p n q m x new old = cond_both (bytes_eq p q) (cond (bytes_eq n m) x (f q m)) (f q m) (IsSound q next)
-    (λ same. cond_both (bytes_eq n m) x (f q m) (IsSound q next) (λ _. subst (λ (r : List ℕ). IsSound r next x) ((bytes_decides p q).0 same) new) (λ _. old))
+valid_with : (f : List ℕ → List ℕ → Option File) (p n q m : List ℕ) (x : Option File) → IsValid p x → IsValid q (f q m) → IsValid q (with_file f p n x q m)
+valid_with f p n q m x new old = cond_both (bytes_eq p q) (cond (bytes_eq n m) x (f q m)) (f q m) (IsValid q)
+    (λ same. cond_both (bytes_eq n m) x (f q m) (IsValid q) (λ _. subst (λ (r : List ℕ). IsValid r x) ((bytes_decides p q).0 same) new) (λ _. old))
     (λ _. old)
 
 -- an open that begins an incarnation has a valid name
@@ -58,30 +54,28 @@ begins (Begins layout version live) = true
 begins (Continues number layout version) = false
 begins (Declines refusal) = false
 
-sound_opened : (f : Files) (p n : List ℕ) (found : Opening) → (begins found ≡ true → is_partition_name p ≡ true) → AreSound f.directory → AreSound (opened f p n found).directory
-sound_opened f p n (Continues number layout version) valid sound = sound
-sound_opened f p n (Begins layout version live) valid sound = λ q m.
-    sound_with (f.directory.next + 1) f.directory.file p n q m (Some (Incarnation f.directory.next layout version)) (omega arith, valid refl)
-    (sound_later q f.directory.next (f.directory.next + 1) (f.directory.file q m) (omega arith) (sound q m))
-sound_opened f p n (Declines refusal) valid sound = sound
+valid_opened : (f : Files) (p n : List ℕ) (found : Opening) → (begins found ≡ true → is_partition_name p ≡ true) → AreValid f.directory → AreValid (opened f p n found).directory
+valid_opened f p n (Continues number layout version) name valid = valid
+valid_opened f p n (Begins layout version live) name valid = λ q m. valid_with f.directory.file p n q m (Some (Incarnation f.directory.next layout version)) (name refl) (valid q m)
+valid_opened f p n (Declines refusal) name valid = valid
 
-sound_removed : (d : Directory) (p : List ℕ) (n : Option (List ℕ)) → AreSound d → AreSound (removed d p n)
-sound_removed d p (Some n) sound = λ q m. sound_with d.next d.file p n q m None tt (sound q m)
-sound_removed d p None sound = λ q m. cond_both (bytes_eq p q) None (d.file q m) (IsSound q d.next) (λ _. tt) (λ _. sound q m)
+valid_removed : (d : Directory) (p : List ℕ) (n : Option (List ℕ)) → AreValid d → AreValid (removed d p n)
+valid_removed d p (Some n) valid = λ q m. valid_with d.file p n q m None tt (valid q m)
+valid_removed d p None valid = λ q m. cond_both (bytes_eq p q) None (d.file q m) (IsValid q) (λ _. tt) (λ _. valid q m)
 
 -- a rebuilt store has raw files alone
-sound_again : (next : ℕ) (bytes : Place → List ℕ) (p n : List ℕ) (file : Option File) → IsSound p next (raw_again bytes p n file)
-sound_again next bytes p n None = tt
-sound_again next bytes p n (Some (Raw x)) = tt
-sound_again next bytes p n (Some (Incarnation number layout version)) = tt
+valid_again : (bytes : Place → List ℕ) (p n : List ℕ) (file : Option File) → IsValid p (raw_again bytes p n file)
+valid_again bytes p n None = tt
+valid_again bytes p n (Some (Raw x)) = tt
+valid_again bytes p n (Some (Incarnation number layout version)) = tt
 
-sound_by : (d e : Directory) → e ≡ d → AreSound d → AreSound e
-sound_by d e same sound = subst AreSound (sym same) sound
+valid_by : (d e : Directory) → e ≡ d → AreValid d → AreValid e
+valid_by d e same valid = subst AreValid (sym same) valid
 
 -- images are raw
-sound_images : (d : Directory) (images : List Image) → AreSound d → AreSound (with_images d images)
-sound_images d [] sound = sound
-sound_images d (i ∷ is) sound = sound_images (with_image d i) is (λ q m. sound_with d.next d.file i.0 i.1 q m (Some (Raw i.2)) tt (sound q m))
+valid_images : (d : Directory) (images : List Image) → AreValid d → AreValid (with_images d images)
+valid_images d [] valid = valid
+valid_images d (i ∷ is) valid = valid_images (with_image d i) is (λ q m. valid_with d.file i.0 i.1 q m (Some (Raw i.2)) tt (valid q m))
 
 -- Handles.
 
@@ -110,10 +104,11 @@ all_later : (d e : Directory) (handles : List (Option Held)) → Ages d e → Ar
 all_later d e handles aged all = All-weaker (Slot d) (Slot e) (λ slot t. IfSome_then slot t (tracked_later d e aged)) handles all
 
 -- a handle that was just opened
-tracked_on : (d : Directory) (f : Files) (registration : Option Registration) (p n : List ℕ) (file : Option File) → IsSound p d.next file → Slot d (option_map (held_on f registration) (place_in p n file))
-tracked_on d f registration p n None sound = tt
-tracked_on d f registration p n (Some (Raw bytes)) sound = tt
-tracked_on d f registration p n (Some (Incarnation number layout version)) sound = record { given = sound.0; sized = λ now. refl }
+tracked_on : (d : Directory) (f : Files) (registration : Option Registration) (p n : List ℕ) → AreCurrentGiven d → Slot d (option_map (held_on f registration) (current d p n))
+tracked_on d f registration p n given = go (current d p n) (λ o here. given o (current_of d p n o here).current) where
+  go : (slot : Option Place) → ((o : Place) → slot ≡ Some o → o.number < d.next) → Slot d (option_map (held_on f registration) slot)
+  go None below = tt
+  go (Some o) below = record { given = below o refl; sized = λ now. refl }
 
 -- the handle of a number
 kept_tracked : (d : Directory) (handles : List (Option Held)) (number : ℕ) → AreTracked d handles → IfSome (kept_at handles number) (IsTracked d)
@@ -125,28 +120,31 @@ kept_tracked d handles number all = go (slice_get handles number) refl where
 -- States.
 
 pub record Holds (v : State) : Type 0 where
-  pub files : AreSound v.files.directory
+  pub valid : AreValid v.files.directory
+  pub given : AreCurrentGiven v.files.directory
   pub handles : AreTracked v.files.directory v.handles
 
 -- a call that leaves the handles
-holds_same : (v w : State) → Holds v → Ages v.files.directory w.files.directory → AreSound w.files.directory → w.handles ≡ v.handles → Holds w
-holds_same v w h aged sound same = record {
-  files = sound;
+holds_same : (v w : State) → Holds v → Ages v.files.directory w.files.directory → AreValid w.files.directory → w.handles ≡ v.handles → Holds w
+holds_same v w h aged valid same = record {
+  valid = valid;
+  given = aged.given h.given;
   handles = subst (AreTracked w.files.directory) (sym same) (all_later v.files.directory w.files.directory v.handles aged h.handles);
 }
 
-opened_sound : (v : State) (p n : List ℕ) (first last : ℕ) → Holds v → is_partition_name p ≡ true → AreSound (after_open v.files p n first last).directory
-opened_sound v p n first last h valid = sound_opened v.files p n (opening p n (v.files.directory.file p n) first last) (λ _. valid) h.files
+opened_valid : (v : State) (p n : List ℕ) (first last : ℕ) → Holds v → is_partition_name p ≡ true → AreValid (after_open v.files p n first last).directory
+opened_valid v p n first last h name = valid_opened v.files p n (opening p n (v.files.directory.file p n) first last) (λ _. name) h.valid
 
 -- one more handle
-holds_more : (v w : State) (p n : List ℕ) (registration : Option Registration) → Holds v → Ages v.files.directory w.files.directory → AreSound w.files.directory
+holds_more : (v w : State) (p n : List ℕ) (registration : Option Registration) → Holds v → Ages v.files.directory w.files.directory → AreValid w.files.directory
     → w.handles ≡ v.handles ++ option_map (held_on w.files registration) (current w.files.directory p n) ∷ [] → Holds w
-holds_more v w p n registration h aged sound more = record {
-  files = sound;
+holds_more v w p n registration h aged valid more = record {
+  valid = valid;
+  given = aged.given h.given;
   handles = subst (AreTracked w.files.directory) (sym more)
       (All-push (Slot w.files.directory) v.handles (option_map (held_on w.files registration) (current w.files.directory p n))
       (all_later v.files.directory w.files.directory v.handles aged h.handles)
-      (tracked_on w.files.directory w.files registration p n (w.files.directory.file p n) (sound p n)));
+      (tracked_on w.files.directory w.files registration p n (aged.given h.given)));
 }
 
 module _ (v : State) (rest : Stream) (h : Holds v) where
@@ -157,73 +155,74 @@ module _ (v : State) (rest : Stream) (h : Holds v) where
   holds_exclusive p n versions None valid =
       holds_more v (after v (Open p n (Some versions)) None rest) p n (Some (record { partition = p; name = n; number = v.names.next })) h
       (ages v (Open p n (Some versions)) None rest)
-      (sound_by (after_open v.files p n versions.0 versions.1).directory (admitted (after_open v.files p n versions.0 versions.1) p n).directory
-      (admitted_directory (after_open v.files p n versions.0 versions.1) p n) (opened_sound v p n versions.0 versions.1 h (valid refl)))
+      (valid_by (after_open v.files p n versions.0 versions.1).directory (admitted (after_open v.files p n versions.0 versions.1) p n).directory
+      (admitted_directory (after_open v.files p n versions.0 versions.1) p n) (opened_valid v p n versions.0 versions.1 h (valid refl)))
       refl
   holds_exclusive p n versions (Some (BlobAlreadyOpen q m)) valid =
       holds_same v (after v (Open p n (Some versions)) (Some (BlobAlreadyOpen q m)) rest) h (ages v (Open p n (Some versions)) (Some (BlobAlreadyOpen q m)) rest)
-      (opened_sound v p n versions.0 versions.1 h (valid refl)) refl
+      (opened_valid v p n versions.0 versions.1 h (valid refl)) refl
   holds_exclusive p n versions (Some refusal) valid =
-      holds_same v (after v (Open p n (Some versions)) (Some refusal) rest) h (ages v (Open p n (Some versions)) (Some refusal) rest) h.files refl
+      holds_same v (after v (Open p n (Some versions)) (Some refusal) rest) h (ages v (Open p n (Some versions)) (Some refusal) rest) h.valid refl
 
   holds_loose : (p n : List ℕ) (versions : ℕ × ℕ) (refusal : Option Refusal) → (made refusal ≡ true → is_partition_name p ≡ true) → Holds (after v (OpenLoose p n (Some versions)) refusal rest)
   holds_loose p n versions None valid =
-      holds_more v (after v (OpenLoose p n (Some versions)) None rest) p n None h (ages v (OpenLoose p n (Some versions)) None rest) (opened_sound v p n versions.0 versions.1 h (valid refl)) refl
+      holds_more v (after v (OpenLoose p n (Some versions)) None rest) p n None h (ages v (OpenLoose p n (Some versions)) None rest) (opened_valid v p n versions.0 versions.1 h (valid refl)) refl
   holds_loose p n versions (Some refusal) valid =
-      holds_same v (after v (OpenLoose p n (Some versions)) (Some refusal) rest) h (ages v (OpenLoose p n (Some versions)) (Some refusal) rest) h.files refl
+      holds_same v (after v (OpenLoose p n (Some versions)) (Some refusal) rest) h (ages v (OpenLoose p n (Some versions)) (Some refusal) rest) h.valid refl
 
   holds_removed : (p : List ℕ) (n : Option (List ℕ)) (refusal : Option Refusal) → Holds (after v (Remove p n) refusal rest)
-  holds_removed p n None = holds_same v (after v (Remove p n) None rest) h (ages v (Remove p n) None rest) (sound_removed d p n h.files) refl
-  holds_removed p n (Some refusal) = holds_same v (after v (Remove p n) (Some refusal) rest) h (ages v (Remove p n) (Some refusal) rest) h.files refl
+  holds_removed p n None = holds_same v (after v (Remove p n) None rest) h (ages v (Remove p n) None rest) (valid_removed d p n h.valid) refl
+  holds_removed p n (Some refusal) = holds_same v (after v (Remove p n) (Some refusal) rest) h (ages v (Remove p n) (Some refusal) rest) h.valid refl
 
   holds_crashed : (refusal : Option Refusal) → Holds (after v Crash refusal rest)
-  holds_crashed None = holds_same v (after v Crash None rest) h (ages v Crash None rest) h.files refl
-  holds_crashed (Some refusal) = holds_same v (after v Crash (Some refusal) rest) h (ages v Crash (Some refusal) rest) h.files refl
+  holds_crashed None = holds_same v (after v Crash None rest) h (ages v Crash None rest) h.valid refl
+  holds_crashed (Some refusal) = holds_same v (after v Crash (Some refusal) rest) h (ages v Crash (Some refusal) rest) h.valid refl
 
   closed_at : (number : ℕ) (slot : Option Held) → Holds (record (closed v number slot) { stream = rest })
-  closed_at number None = record { files = h.files; handles = h.handles }
-  closed_at number (Some held) = record { files = h.files; handles = All-set (Slot d) v.handles number None tt h.handles }
+  closed_at number None = record { valid = h.valid; given = h.given; handles = h.handles }
+  closed_at number (Some held) = record { valid = h.valid; given = h.given; handles = All-set (Slot d) v.handles number None tt h.handles }
 
   finished_at : (number : ℕ) (slot : Option Started) → Holds (record (finished v number slot) { stream = rest })
-  finished_at number None = record { files = h.files; handles = h.handles }
-  finished_at number (Some s) = record { files = h.files; handles = h.handles }
+  finished_at number None = record { valid = h.valid; given = h.given; handles = h.handles }
+  finished_at number (Some s) = record { valid = h.valid; given = h.given; handles = h.handles }
 
   -- what is asked through a handle changes that handle alone
   asked_at : (number : ℕ) (slot : Option Held) (ask : Ask) (grows : Bool) (reply : Reply) (left : Stream) → IfSome slot (IsTracked d) → IsAnswer grows (through v slot ask) reply left
       → Holds (record (asked v number slot ask (refused_by reply)) { stream = rest })
-  asked_at number None ask grows reply left tracked a = record { files = h.files; handles = h.handles }
+  asked_at number None ask grows reply left tracked a = record { valid = h.valid; given = h.given; handles = h.handles }
   asked_at number (Some held) ask grows reply left tracked a =
       let held' = held_after v held ask (refused_by reply) in
       let now : IsTracked d held' = record {
-        given = subst (λ (o : Place). o.number < d.next) (sym (asked_place v held ask (refused_by reply))) tracked.given;
-        sized = λ current. asked_sized v held ask reply grows left a (sym (ap (is_current d) (asked_place v held ask (refused_by reply))) ∙ current) (tracked.sized (sym (ap (is_current d) (asked_place v held ask (refused_by reply))) ∙ current));
+        given = subst (λ (o : Place). o.number < d.next) (sym (place_after v held ask (refused_by reply))) tracked.given;
+        sized = λ current. asked_sized v held ask reply grows left a (sym (ap (is_current d) (place_after v held ask (refused_by reply))) ∙ current) (tracked.sized (sym (ap (is_current d) (place_after v held ask (refused_by reply))) ∙ current));
       } in
       let same : (files_after v held ask (refused_by reply)).directory ≡ d = asked_directory v held ask (refused_by reply) in
       record {
-        files = sound_by d (files_after v held ask (refused_by reply)).directory same h.files;
+        valid = valid_by d (files_after v held ask (refused_by reply)).directory same h.valid;
+        given = subst AreCurrentGiven (sym same) h.given;
         handles = subst (λ (e : Directory). AreTracked e (set v.handles number (Some held'))) (sym same) (All-set (Slot d) v.handles number (Some held') now h.handles);
       }
 
 -- a call with an answer that the state allows
 pub holds_after : (v : State) (act : Act) (reply : Reply) (left : Stream) → Holds v → Answers v act reply left → Holds (after v act (refused_by reply) left)
-holds_after v (Configure config) reply left h a = holds_same v (after v (Configure config) (refused_by reply) left) h (ages v (Configure config) (refused_by reply) left) h.files refl
-holds_after v (Open p n None) reply left h a = holds_same v (after v (Open p n None) (refused_by reply) left) h (ages v (Open p n None) (refused_by reply) left) h.files refl
+holds_after v (Configure config) reply left h a = holds_same v (after v (Configure config) (refused_by reply) left) h (ages v (Configure config) (refused_by reply) left) h.valid refl
+holds_after v (Open p n None) reply left h a = holds_same v (after v (Open p n None) (refused_by reply) left) h (ages v (Open p n None) (refused_by reply) left) h.valid refl
 holds_after v (Open p n (Some versions)) reply left h a = holds_exclusive v left h p n versions (refused_by reply) (exclusive_valid v p n versions reply left a)
-holds_after v (OpenLoose p n None) reply left h a = holds_same v (after v (OpenLoose p n None) (refused_by reply) left) h (ages v (OpenLoose p n None) (refused_by reply) left) h.files refl
+holds_after v (OpenLoose p n None) reply left h a = holds_same v (after v (OpenLoose p n None) (refused_by reply) left) h (ages v (OpenLoose p n None) (refused_by reply) left) h.valid refl
 holds_after v (OpenLoose p n (Some versions)) reply left h a = holds_loose v left h p n versions (refused_by reply) (loose_valid v p n versions reply left a)
 holds_after v (Admit p n) reply left h a =
     holds_same v (after v (Admit p n) (refused_by reply) left) h (ages v (Admit p n) (refused_by reply) left)
-    (sound_by v.files.directory (admitted v.files p n).directory (admitted_directory v.files p n) h.files) refl
+    (valid_by v.files.directory (admitted v.files p n).directory (admitted_directory v.files p n) h.valid) refl
 holds_after v (Close number) reply left h a = closed_at v left h number (kept_at v.handles number)
 holds_after v (Through number ask) reply left h a =
     asked_at v left h number (kept_at v.handles number) ask (may_grow (Through number ask)) reply left (kept_tracked v.files.directory v.handles number h.handles) a
 holds_after v (Finish number) reply left h a = finished_at v left h number (kept_at v.syncs number)
 holds_after v (Remove p n) reply left h a = holds_removed v left h p n (refused_by reply)
-holds_after v (Scan p) reply left h a = holds_same v (after v (Scan p) (refused_by reply) left) h (ages v (Scan p) (refused_by reply) left) h.files refl
+holds_after v (Scan p) reply left h a = holds_same v (after v (Scan p) (refused_by reply) left) h (ages v (Scan p) (refused_by reply) left) h.valid refl
 holds_after v Crash reply left h a = holds_crashed v left h (refused_by reply)
 holds_after v Reopen reply left h a =
     holds_same v (after v Reopen (refused_by reply) left) h (ages v Reopen (refused_by reply) left)
-    (λ p n. sound_again v.files.directory.next (durable_at v.files) p n (v.files.directory.file p n)) refl
+    (λ p n. valid_again (durable_at v.files) p n (v.files.directory.file p n)) refl
 
 -- calls one after another
 pub holds_run : (v : State) (calls : List Call) (replies : List Reply) (w : State) → Holds v → Run v calls replies w → Holds w
@@ -235,7 +234,8 @@ holds_run v (call ∷ calls) (reply ∷ replies) w h (left, a, run) =
 
 holds_start : (images : List Image) (words : List ℕ) (config : Config) → Holds (start images words config)
 holds_start images words config = record {
-  files = sound_images empty_directory images (λ p n. tt);
+  valid = valid_images empty_directory images (λ p n. tt);
+  given = (exclusive_start images words config).current;
   handles = All-nil (Slot (with_images empty_directory images));
 }
 
@@ -255,4 +255,4 @@ current_told v number h reached here now =
 
 -- an incarnation's partition has a valid name
 pub reached_valid : (v : State) (p n : List ℕ) (number : ℕ) (layout : Layout) (version : ℕ) → Reached v → v.files.directory.file p n ≡ Some (Incarnation number layout version) → is_partition_name p ≡ true
-reached_valid v p n number layout version reached held = (subst (IsSound p v.files.directory.next) held ((holds_reached v reached).files p n)).1
+reached_valid v p n number layout version reached held = subst (IsValid p) held ((holds_reached v reached).valid p n)

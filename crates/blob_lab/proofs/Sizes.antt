@@ -156,11 +156,3 @@ asked_sized v h (Read offset len) r grows left a now e = e
 asked_sized v h Size r grows left a now e = e
 asked_sized v h Sync r grows left a now e = e
 asked_sized v h StartSync r grows left a now e = e
-
-pub asked_place : (v : State) (h : Held) (ask : Ask) (refusal : Option Refusal) → (held_after v h ask refusal).place ≡ h.place
-asked_place v h (Write offset bytes sync) refusal = refl
-asked_place v h (Resize len) refusal = refl
-asked_place v h (Read offset len) refusal = refl
-asked_place v h Size refusal = refl
-asked_place v h Sync refusal = refl
-asked_place v h StartSync refusal = refl

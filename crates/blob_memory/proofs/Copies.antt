@@ -2,7 +2,6 @@
 use Rattle.std.proofs.Common.{◌≡◌, ℕ, ◌<◌, ◌≤◌, ◌^◌, ◌∙◌, ⊎_elim, true, cond, List, ◌++◌, length, drop, get_or, Option, Some, None, Result, Ok, Err, refl, sym, ap, arith, length-append}
 use Rattle.std.specs.Prelude.{option_map}
 use Rattle.std.proofs.lemmas.Bool.{lt-ltb, le-leb, and_from, false≢true}
-use Rattle.std.proofs.Math.Seq.{drop-append_seam}
 use Rattle.blob_base.specs.declared.error.Error.{Error}
 use Rattle.blob_base.specs.declared.version.BlobVersion.{BlobVersion}
 use Rattle.blob_base.specs.declared.layout.Layout.{Layout}
@@ -15,6 +14,7 @@ use Rattle.blob_base.specs.Resolve.{resolution, refusing, Answers}
 use Rattle.blob_base.specs.Refusals.{Refusal}
 use Rattle.blob_base.proofs.Headers.{has_header}
 use Rattle.blob_base.proofs.NoneSide.{length_region}
+use Rattle.blob_base.proofs.RawFiles.{drop_region}
 use Rattle.blob_base.proofs.Reopening.{reopens, reopened_all}
 use Rattle.blob_memory.specs.declared.contents.Contents.{Contents}
 use Rattle.blob_memory.specs.declared.item.Item.{Item}
@@ -50,8 +50,7 @@ offset_within raw a size version offset small h = within (has_header raw a (size
 pub behind_region : (layout : Layout) (version : ℕ) (bytes : List ℕ) → version < 2 ^ 16 → logical_found (region layout version ++ bytes) ≡ Some bytes
 behind_region layout version bytes fits =
     ap (λ (r : Found). behind r (region layout version ++ bytes)) found
-    ∙ ap (λ (n : ℕ). Some (drop n (region layout version ++ bytes))) (sym (length_region layout version))
-    ∙ ap (λ (b : List ℕ). Some b) (drop-append_seam (region layout version) bytes)
+    ∙ ap (λ (b : List ℕ). Some b) (drop_region layout version bytes)
   where
     inside : is_in_range 0 65535 version ≡ true
     inside = and_from _ _ (le-leb 0 version (omega arith)) (le-leb version 65535 (omega arith))

@@ -18,7 +18,7 @@ use Rattle.blob_base.specs.declared.error.Error.{Error}
 use Rattle.blob_base.specs.Resolve.{resolution, refusing, refusal_for, Answers}
 use Rattle.blob_base.specs.Versions.{is_in_range}
 use Rattle.blob_base.proofs.NoneSide.{length_region}
-use Rattle.blob_base.proofs.Reopening.{reopens}
+use Rattle.blob_base.proofs.RawFiles.{from_start, raw_opens}
 use Rattle.blob_memory.specs.declared.item.Held.{Held}
 use Rattle.blob_base.specs.Directory.{directory_made, place_made}
 use Rattle.blob_base.specs.Durable.{with_at}
@@ -31,17 +31,6 @@ use Rattle.blob_memory.specs.Found.{opening_with, opening_of, IsFound, IsFoundBy
 use Rattle.std.specs.Bool.{then_some}
 use Rattle.std.specs.Prelude.{not}
 
-from_start : (layout : Layout) → layout_from (data_start layout) ≡ layout
-from_start V0 = refl
-from_start V1 = refl
-
-behind : (layout : Layout) (v : ℕ) (bytes : List ℕ) → drop (data_start layout) (region layout v ++ bytes) ≡ bytes
-behind layout v bytes = ap (λ k. drop k (region layout v ++ bytes)) (sym (length_region layout v)) ∙ drop-append_seam (region layout v) bytes
-
-any_accepted : (layout : Layout) (first last : ℕ) → is_accepted (every_layout first last) layout ≡ true
-any_accepted V0 first last = refl
-any_accepted V1 first last = refl
-
 -- what an incarnation, current or ended, opens to
 abbrev pub held_opening : Bool → Held → Bool → ℕ → ℕ → Opening
 held_opening accepts h true first last = if accepts then Begins h.layout h.version.0 h.bytes.items else Declines (BlobVersionMismatch first last h.version.0)
@@ -50,19 +39,7 @@ held_opening accepts h false first last = if accepts then Continues h.number h.l
 pub held_opens : (p n : List ℕ) (b : Bool) (h : Held) (first last : ℕ) → h.version.0 < 2 ^ 16
     → opening p n (Some (file_when b h)) first last ≡ held_opening (is_in_range first last h.version.0) h b first last
 held_opens p n false h first last fits = refl
-held_opens p n true h first last fits =
-    ap (opening_raw p n raw last) (reopens h.layout h.version.0 h.bytes.items (every_layout first last) fits)
-    ∙ go (is_accepted (every_layout first last) h.layout) (is_in_range first last h.version.0) (any_accepted h.layout first last)
-  where
-    raw : List ℕ
-    raw = region h.layout h.version.0 ++ h.bytes.items
-
-    go : (a c : Bool) → a ≡ true
-        → opening_raw p n raw last (if a then (if c then Ok (Some (length h.bytes.items, record { 0 = h.version.0 }, data_start h.layout)) else Err (VersionMismatch first last h.version.0)) else Err (LayoutMismatch V0 V1 h.layout))
-        ≡ (if c then Begins h.layout h.version.0 h.bytes.items else Declines (BlobVersionMismatch first last h.version.0))
-    go false c e = absurd (false≢true e)
-    go true true e = λ i. Begins (from_start h.layout i) h.version.0 (behind h.layout h.version.0 h.bytes.items i)
-    go true false e = refl
+held_opens p n true h first last fits = raw_opens p n h.layout h.version.0 h.bytes.items first last fits
 
 -- an answer of `resolve`, as what the opening of a raw file goes by
 abbrev Answer : Type 0
