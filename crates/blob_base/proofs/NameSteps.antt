@@ -49,7 +49,7 @@ stands_opened names names' bytes bytes' lists write marker f p n first last o li
     (stands_made names names' bytes bytes' lists write marker f p n layout version live named (λ a. ap (λ (g : Durable). g a) kept ∙ ap (λ (q : Place). with_at bytes q (Some live) a) at) s)
 
 -- answers a handle on what is durable
-read_by_open : (names names' : Directory) (bytes bytes' : Durable) (p n : List ℕ) (first last : ℕ) (o : Place) (live : List ℕ) (version : ℕ) → IsOpened names bytes names' bytes' p n first last o live version → bytes' o ≡ Some live
+pub read_by_open : (names names' : Directory) (bytes bytes' : Durable) (p n : List ℕ) (first last : ℕ) (o : Place) (live : List ℕ) (version : ℕ) → IsOpened names bytes names' bytes' p n first last o live version → bytes' o ≡ Some live
 read_by_open names names' bytes bytes' p n first last o live version (Continued number layout found at read named kept) = ap (λ (g : Durable). g o) kept ∙ read
 read_by_open names names' bytes bytes' p n first last o live version (Begun layout found at named kept) = ap (λ (g : Durable). g o) kept ∙ cond-true (same_place o o) _ _ (same_self o)
 
@@ -86,7 +86,7 @@ ended_bytes true false None e = refl
 ended_bytes true false (Some x) e = absurd (true≢false e)
 ended_bytes false current v e = refl
 
-next_removed : (d : Directory) (p : List ℕ) (n : Option (List ℕ)) → (removed d p n).next ≡ d.next
+pub next_removed : (d : Directory) (p : List ℕ) (n : Option (List ℕ)) → (removed d p n).next ≡ d.next
 next_removed d p None = refl
 next_removed d p (Some n) = refl
 

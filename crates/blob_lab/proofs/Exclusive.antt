@@ -26,7 +26,7 @@ use Rattle.blob_lab.specs.Runs.{Run}
 use Rattle.blob_lab.specs.States.{State, Held, Started, Image, start, held_on, empty_directory, with_image, with_images}
 use Rattle.blob_lab.specs.Told.{Told, Tells, refused_by}
 use Rattle.blob_lab.proofs.ExclusiveSteps.{AreExclusive, IsNew, aged, closed_one, put_back, ended_names, added}
-use Rattle.blob_lab.proofs.Stale.{ages, asked_directory, none_current, with_file_stale}
+use Rattle.blob_lab.proofs.Stale.{ages, asked_directory, none_current, place_after, with_file_stale}
 use Rattle.blob_lab.proofs.ToldRefusals.{denied}
 
 abbrev pub Exclusive : State → Type 0
@@ -133,11 +133,6 @@ exclusive_opened v p n versions left (Some refusal) free x = x
 exclusive_closed : (v : State) (number : ℕ) (slot : Option Held) → kept_at v.handles number ≡ slot → Exclusive v → Exclusive (closed v number slot)
 exclusive_closed v number None here x = x
 exclusive_closed v number (Some h) here x = closed_one v.files.directory v.names v.handles number h h.registration here refl x
-
-pub place_after : (v : State) (h : Held) (ask : Ask) (refusal : Option Refusal) → (held_after v h ask refusal).place ≡ h.place
-place_after v h (Write offset bytes sync) refusal = refl
-place_after v h (Resize len) refusal = refl
-place_after v h ask refusal = refl
 
 registration_after : (v : State) (h : Held) (ask : Ask) (refusal : Option Refusal) → (held_after v h ask refusal).registration ≡ h.registration
 registration_after v h (Write offset bytes sync) refusal = refl

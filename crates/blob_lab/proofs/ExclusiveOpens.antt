@@ -120,10 +120,6 @@ unexhausted s p n some = by_held (s.registered p n) refl where
   by_held None e = by_number (s.next == 2 ^ 64 - 1) refl e
   by_held (Some k) e = refl
 
-admitted_same : (f : Files) (o : Option Place) → (admitted_at f o).directory ≡ f.directory
-admitted_same f None = refl
-admitted_same f (Some o) = refl
-
 -- What an exclusive open is told.
 
 module _ (lab lab' : Lab) (p n : List ℕ) (first last : ℕ) where

@@ -9,6 +9,7 @@ use Rattle.blob_base.specs.Places.{Place}
 use Rattle.blob_base.specs.Refusals.{Refusal, refusal_of}
 use Rattle.blob_base.specs.declared.error.Error.{Error}
 use Rattle.blob_base.specs.declared.version.BlobVersion.{BlobVersion}
+use Rattle.blob_base.proofs.NameSteps.{read_by_open}
 use Rattle.blob_faulty.specs.Answers.{injected_or}
 use Rattle.blob_faulty.specs.Faults.{draw}
 use Rattle.blob_faulty.specs.Wrapper.{config_of, inner_of as store_of}
@@ -27,7 +28,7 @@ use Rattle.blob_lab.specs.Tables.{handles_of, syncs_of}
 use Rattle.blob_lab.specs.Told as told
 use Rattle.blob_lab.specs.Told.{Tells}
 use Rattle.blob_lab.proofs.Denying.{drawn_denial, not_memory}
-use Rattle.blob_lab.proofs.OpenSteps.{held_opened, size_found, version_found, given_opened, durable_opened}
+use Rattle.blob_lab.proofs.OpenSteps.{held_opened, size_found, version_found, given_opened}
 use Rattle.blob_lab.proofs.Opened.{current_opened}
 use Rattle.blob_lab.proofs.Performing.{state_of, performs}
 use Rattle.blob_lab.proofs.Telling.{done_answers, failed_answers}
@@ -64,7 +65,7 @@ module _ (lab lab' : Lab) (w : Wrapper) (p n : List ℕ) (first last : ℕ) (o :
       table ∙ ap (λ (x : Option Held). handles_of lab.handles ++ x ∷ [])
       (held_opened lab'.wrapper f p n o live h registration s
       (ap (λ (d : Directory). current d p n) names ∙ current_opened (directory (store_of lab.wrapper)) (directory (store_of w)) (durable (store_of lab.wrapper)) (durable (store_of w)) p n first last o live version opens)
-      (ap (λ (b : Durable). b o) contents ∙ durable_opened (directory (store_of lab.wrapper)) (directory (store_of w)) (durable (store_of lab.wrapper)) (durable (store_of w)) p n first last o live version opens)
+      (ap (λ (b : Durable). b o) contents ∙ read_by_open (directory (store_of lab.wrapper)) (directory (store_of w)) (durable (store_of lab.wrapper)) (durable (store_of w)) p n first last o live version opens)
       place bytes tracked registered)
 
   pub open_given : (f f' : Files) → StandsFor lab (state_of lab f) → IsFor lab'.wrapper f' → AreGiven f'.directory.next (handles_of lab'.handles)

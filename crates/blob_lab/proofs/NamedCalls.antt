@@ -9,6 +9,7 @@ use Rattle.blob_base.specs.Opening.{removed}
 use Rattle.blob_base.specs.Places.{Place}
 use Rattle.blob_base.specs.Refusals.{Refusal, Memory, refusal_of}
 use Rattle.blob_base.specs.declared.error.Error.{Error}
+use Rattle.blob_base.proofs.NameSteps.{next_removed}
 use Rattle.blob_faulty.specs.Answers.{injected_or}
 use Rattle.blob_faulty.specs.Faults.{draw}
 use Rattle.blob_faulty.specs.Wrapper.{config_of, inner_of as store_of}
@@ -30,17 +31,8 @@ use Rattle.blob_lab.specs.Told as told
 use Rattle.blob_lab.specs.Told.{Tells, refused_by}
 use Rattle.blob_lab.proofs.Denying.{drawn_denial, not_memory}
 use Rattle.blob_lab.proofs.Performing.{state_of, performs}
+use Rattle.blob_lab.proofs.Stale.{admitted_directory}
 use Rattle.blob_lab.proofs.Telling.{done_answers, failed_answers}
-
--- What calls leave of the next number.
-
-admitted_directory : (f : Files) (o : Option Place) → (admitted_at f o).directory ≡ f.directory
-admitted_directory f None = refl
-admitted_directory f (Some o) = refl
-
-removed_next : (d : Directory) (p : List ℕ) (n : Option (List ℕ)) → (removed d p n).next ≡ d.next
-removed_next d p None = refl
-removed_next d p (Some n) = refl
 
 module _ (lab lab' : Lab) (handles : handles_of lab'.handles ≡ handles_of lab.handles) where
   module _ (names : names_of lab'.opens ≡ names_of lab.opens) (syncs : syncs_of lab'.syncs ≡ syncs_of lab.syncs) where
@@ -58,7 +50,7 @@ module _ (lab lab' : Lab) (handles : handles_of lab'.handles ≡ handles_of lab.
             names = names;
             handles = handles;
             syncs = syncs;
-            given = subst (λ (d : Directory). AreGiven d.next (handles_of lab.handles)) (sym (admitted_directory f (current f.directory p n))) s.given;
+            given = subst (λ (d : Directory). AreGiven d.next (handles_of lab.handles)) (sym (admitted_directory f p n)) s.given;
           })
 
       -- A scan.
@@ -137,7 +129,7 @@ module _ (lab lab' : Lab) (handles : handles_of lab'.handles ≡ handles_of lab.
           names = names;
           handles = handles;
           syncs = syncs;
-          given = subst (λ (k : ℕ). AreGiven k (handles_of lab.handles)) (sym (removed_next f.directory p n)) s.given;
+          given = subst (λ (k : ℕ). AreGiven k (handles_of lab.handles)) (sym (next_removed f.directory p n)) s.given;
         })
 
     pub remove_failed : (e : Error) → IsRemoveAllowed (Some (refusal_of e)) → names_of lab'.opens ≡ names_of lab.opens → ((f : Files) → IsFor lab.wrapper f → IsFor lab'.wrapper f) → Performs lab (Remove p n) (reply.Failed e) lab'

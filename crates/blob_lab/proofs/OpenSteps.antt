@@ -11,6 +11,7 @@ use Rattle.blob_base.specs.Opening.{Opening, opening, IsOpened, Continued, Begun
 use Rattle.blob_base.specs.Places.{Place, same_place}
 use Rattle.blob_base.specs.SamePlace.{same_self}
 use Rattle.blob_base.specs.Stands.{StandsAt}
+use Rattle.blob_base.proofs.NameSteps.{read_by_open}
 use Rattle.blob_faulty.specs.Wrapper.{inner_of as store_of, pending_of}
 use Rattle.blob_memory.specs.Laws.{currents, given}
 use Rattle.blob_memory.specs.Store.{directory, durable}
@@ -23,11 +24,6 @@ use Rattle.blob_lab.proofs.Opened.{current_opened, next_opened}
 -- what is durable of a current incarnation is so of the files
 pub live_is : (w : Wrapper) (f : Files) (o : Place) (live : List ℕ) → IsFor w f → durable (store_of w) o ≡ Some live → live ≡ durable_at f o
 live_is w f o live s holds = (subst (λ (b : Option (List ℕ)). StandsAt b (pending_of (λ a. a) w o) (f.base o) (log_of f.log o)) holds (s.stands.at o)).durable
-
--- after an accepted open the handle's bytes are the durable ones
-pub durable_opened : (d d' : Directory) (bytes bytes' : Durable) (p n : List ℕ) (first last : ℕ) (o : Place) (live : List ℕ) (version : ℕ) → IsOpened d bytes d' bytes' p n first last o live version → bytes' o ≡ Some live
-durable_opened d d' bytes bytes' p n first last o live version (Continued number layout opens place holds same kept) = ap (λ (b : Durable). b o) kept ∙ holds
-durable_opened d d' bytes bytes' p n first last o live version (Begun layout opens place made kept) = ap (λ (b : Durable). b o) kept ∙ cond-true (same_place o o) (Some live) (bytes o) (same_self o)
 
 -- the handle that is added
 pub held_opened : (w : Wrapper) (f : Files) (p n : List ℕ) (o : Place) (live : List ℕ) (h : Held) (registration : Option Registration) → IsFor w f → current (directory (store_of w)) p n ≡ Some o → durable (store_of w) o ≡ Some live
@@ -57,7 +53,7 @@ number_given w o live holds = given (store_of w).contents o (sym (currents (stor
 pub given_opened : (w w' : Wrapper) (p n : List ℕ) (first last : ℕ) (o : Place) (live : List ℕ) (version : ℕ) (handles : List (Option Held)) (h : Held) → IsOpened (directory (store_of w)) (durable (store_of w)) (directory (store_of w')) (durable (store_of w')) p n first last o live version
     → h.place ≡ o → AreGiven (directory (store_of w)).next handles → AreGiven (directory (store_of w')).next (handles ++ Some h ∷ [])
 given_opened w w' p n first last o live version handles h opens place before =
-    let holds : durable (store_of w') o ≡ Some live = durable_opened (directory (store_of w)) (directory (store_of w')) (durable (store_of w)) (durable (store_of w')) p n first last o live version opens in
+    let holds : durable (store_of w') o ≡ Some live = read_by_open (directory (store_of w)) (directory (store_of w')) (durable (store_of w)) (durable (store_of w')) p n first last o live version opens in
     All-push (λ slot. IfSome slot (λ g. g.place.number < (directory (store_of w')).next)) handles (Some h)
     (All-weaker (λ slot. IfSome slot (λ g. g.place.number < (directory (store_of w)).next)) (λ slot. IfSome slot (λ g. g.place.number < (directory (store_of w')).next)) weaker handles before)
     (subst (λ (a : Place). a.number < (directory (store_of w')).next) (sym place) (number_given w' o live holds))

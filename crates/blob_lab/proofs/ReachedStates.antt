@@ -27,9 +27,9 @@ use Rattle.blob_lab.specs.Runs.{Run}
 use Rattle.blob_lab.specs.States.{State, Held, Started, Image, empty_directory, with_image, with_images, start, held_on}
 use Rattle.blob_lab.specs.Told as told
 use Rattle.blob_lab.specs.Told.{refused_by}
-use Rattle.blob_lab.proofs.Exclusive.{current_of, exclusive_start, place_after}
+use Rattle.blob_lab.proofs.Exclusive.{current_of, exclusive_start}
 use Rattle.blob_lab.proofs.Sizes.{asked_sized}
-use Rattle.blob_lab.proofs.Stale.{AreCurrentGiven, Ages, ages, asked_directory, admitted_directory}
+use Rattle.blob_lab.proofs.Stale.{AreCurrentGiven, Ages, ages, asked_directory, admitted_directory, place_after}
 use Rattle.blob_lab.proofs.ValidOpens.{made, exclusive_valid, loose_valid}
 
 -- Files.

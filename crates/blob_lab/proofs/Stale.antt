@@ -16,7 +16,7 @@ use Rattle.blob_memory.specs.Answers.{missing, sync_refusal}
 use Rattle.blob_base.specs.SamePlace.{parts, same_place_exact}
 use Rattle.blob_base.proofs.Durables.{others_logged, others_published}
 use Rattle.blob_lab.specs.Acts.{Ask, Read, Write, Resize, Size, Sync, StartSync, Act, Configure, Open, OpenLoose, Admit, Close, Through, Finish, Remove, Scan, Crash, Reopen}
-use Rattle.blob_lab.specs.After.{after, asked, begun, files_after, closed, finished, removed as removal, crashed, exclusively_opened, loosely_opened}
+use Rattle.blob_lab.specs.After.{after, asked, begun, files_after, held_after, closed, finished, removed as removal, crashed, exclusively_opened, loosely_opened}
 use Rattle.blob_lab.specs.Answers.{kept_at}
 use Rattle.blob_lab.specs.Denials.{start_denial, sync_denial, injected_if, or_then}
 use Rattle.blob_lab.specs.States.{State, Held, Started}
@@ -128,6 +128,12 @@ asked_directory v h StartSync None = begun_directory v.files h (start_denial v h
 asked_directory v h StartSync (Some refusal) = refl
 asked_directory v h (Read offset len) refusal = refl
 asked_directory v h Size refusal = refl
+
+-- and the handle on its incarnation
+pub place_after : (v : State) (h : Held) (ask : Ask) (refusal : Option Refusal) → (held_after v h ask refusal).place ≡ h.place
+place_after v h (Write offset bytes sync) refusal = refl
+place_after v h (Resize len) refusal = refl
+place_after v h ask refusal = refl
 
 through_ages : (v : State) (number : ℕ) (slot : Option Held) (ask : Ask) (refusal : Option Refusal) → Ages v.files.directory (asked v number slot ask refusal).files.directory
 through_ages v number None ask refusal = same_age v.files.directory

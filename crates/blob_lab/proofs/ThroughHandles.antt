@@ -21,11 +21,7 @@ use Rattle.blob_lab.specs.States.{State, Held, AreGiven}
 use Rattle.blob_lab.specs.Tables.{handles_of, syncs_of}
 use Rattle.blob_lab.specs.Told.{refused_by}
 use Rattle.blob_lab.proofs.Performing.{state_of, performs, stands_same, given_at}
-
--- what is logged leaves the names
-pub directory-all_logged : (f : Files) (o : Place) (es : List Entry) → (all_logged f o es).directory ≡ f.directory
-directory-all_logged f o [] = refl
-directory-all_logged f o (e ∷ es) = directory-all_logged (logged f o e) o es
+use Rattle.blob_lab.proofs.Stale.{asked_directory, place_after}
 
 -- the numbers that were given, where one handle is made new on the same incarnation
 given_after : (d d' : Directory) (handles : List (Option Held)) (number : ℕ) (h h' : Held) → d' ≡ d → h'.place ≡ h.place → h.place.number < d.next → AreGiven d.next handles → AreGiven d'.next (set handles number (Some h'))
@@ -40,8 +36,7 @@ module _ (lab lab' : Lab) (number : ℕ) (ask : Ask) (names : names_of lab'.open
       (λ f s. subst (λ (o : Option Held). IsAnswer (may_grow (Through number ask)) (through (state_of lab f) o ask) NoHandle (stream_of lab'.wrapper)) (sym gone) (inr (tt, ap stream_of w)))
       (λ f s. subst (λ (o : Option Held). StandsFor lab' (record (asked (state_of lab f) number o ask None) { stream = stream_of lab'.wrapper })) (sym gone) (stands_same lab lab' f w names hs syncs s))
 
-  module _ (h h' : Held) (reply : Reply) (grows : may_grow (Through number ask) ≡ true) (plain : (v : State) (r : Option Refusal) → syncs_after v h ask r ≡ v.syncs)
-      (place : (v : State) (r : Option Refusal) → (held_after v h ask r).place ≡ h.place) (same : (v : State) (r : Option Refusal) → (files_after v h ask r).directory ≡ v.files.directory) where
+  module _ (h h' : Held) (reply : Reply) (grows : may_grow (Through number ask) ≡ true) (plain : (v : State) (r : Option Refusal) → syncs_after v h ask r ≡ v.syncs) where
     -- an open handle, that is put back into its slot
     pub through_some : kept_at (handles_of lab.handles) number ≡ Some h → Asks lab.wrapper h ask reply lab'.wrapper h' → handles_of lab'.handles ≡ set (handles_of lab.handles) number (Some h') → Performs lab (Through number ask) reply lab'
     through_some here asks table = performs lab lab' (Through number ask) reply
@@ -60,28 +55,8 @@ module _ (lab lab' : Lab) (number : ℕ) (ask : Ask) (names : names_of lab'.open
           names = names;
           handles = table ∙ ap (λ g. set (handles_of lab.handles) number (Some g)) (asks.held v s.wrapper);
           syncs = syncs ∙ sym (plain v r);
-          given = given_after f.directory (files_after v h ask r).directory (handles_of lab.handles) number h (held_after v h ask r) (same v r) (place v r) below s.given;
+          given = given_after f.directory (files_after v h ask r).directory (handles_of lab.handles) number h (held_after v h ask r) (asked_directory v h ask r) (place_after v h ask r) below s.given;
         }))
-
--- What is asked through a handle leaves the names.
-
-pub directory-write : (offset : ℕ) (bytes : List ℕ) (sync : Bool) (h : Held) (v : State) (r : Option Refusal) → (files_after v h (Write offset bytes sync) r).directory ≡ v.files.directory
-directory-write offset bytes sync h v r = directory-all_logged v.files h.place (recorded_write v.config v.files.next_write v.stream sync offset bytes r)
-
-pub directory-resize : (len : ℕ) (h : Held) (v : State) (r : Option Refusal) → (files_after v h (Resize len) r).directory ≡ v.files.directory
-directory-resize len h v r = directory-all_logged v.files h.place (recorded_resize (resize_fate v.config.resize_rate h.size len v.stream).0 len r)
-
-pub directory-sync : (h : Held) (v : State) (r : Option Refusal) → (files_after v h Sync r).directory ≡ v.files.directory
-directory-sync h v None = refl
-directory-sync h v (Some r) = refl
-
-begun_directory : (f : Files) (h : Held) (outcome : Option Refusal) → (begun f h outcome).directory ≡ f.directory
-begun_directory f h None = refl
-begun_directory f h (Some r) = refl
-
-directory-start : (h : Held) (v : State) (r : Option Refusal) → (files_after v h StartSync r).directory ≡ v.files.directory
-directory-start h v None = begun_directory v.files h (start_denial v h)
-directory-start h v (Some r) = refl
 
 -- a sync that is started by an open handle, which is put back into its slot
 pub through_started : (lab lab' : Lab) (number : ℕ) (h : Held) (reply : Reply) → names_of lab'.opens ≡ names_of lab.opens → kept_at (handles_of lab.handles) number ≡ Some h
@@ -99,5 +74,5 @@ through_started lab lab' number h reply names here starts table = performs lab l
       names = names;
       handles = table;
       syncs = starts.table v s.wrapper refl;
-      given = given_after f.directory (files_after v h StartSync r).directory (handles_of lab.handles) number h h (directory-start h v r) refl below s.given;
+      given = given_after f.directory (files_after v h StartSync r).directory (handles_of lab.handles) number h h (asked_directory v h StartSync r) refl below s.given;
     }))

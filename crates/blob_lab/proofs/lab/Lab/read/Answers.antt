@@ -11,5 +11,5 @@ returns-in_default c = through_none c.args.self.now _ c.args.number (Read c.args
 pub returns : goal.returns
 returns c =
     let h' = held_by c.in-Some.handle in
-    through_some c.args.self.now _ c.args.number (Read c.args.offset c.args.len) refl refl (held_by c.in-Some.handle) h' _ refl (λ v r. refl) (λ v r. refl) (λ v r. refl) (sym c.in-Some.ensures.handle) c.read-reply.ensures
+    through_some c.args.self.now _ c.args.number (Read c.args.offset c.args.len) refl refl (held_by c.in-Some.handle) h' _ refl (λ v r. refl) (sym c.in-Some.ensures.handle) c.read-reply.ensures
     (c.put.ensures ∙ ap (λ hs. set hs c.args.number (Some h')) c.in-Some.ensures.taken ∙ set-set (handles_of c.args.self.now.handles) c.args.number None (Some h'))
