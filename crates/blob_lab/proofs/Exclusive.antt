@@ -1,7 +1,7 @@
 -- Handles of a laboratory whose opens are all exclusive: a current incarnation has one handle, whatever is called.
 use Rattle.std.proofs.Common.{◌≡◌, ℕ, ◌&&◌, List, [], ◌∷◌, Bool, true, false, Option, Some, None, option_map, refl, sym, ap, ◌∙◌, subst, ⊎_elim, if◌then◌else◌, ◌==◌}
 use Rattle.std.specs.Prelude.{◌<◌, is_some, IfSome}
-use Rattle.std.proofs.lemmas.Bool.{false≢true, eq-eqb}
+use Rattle.std.proofs.lemmas.Bool.{and_from, false≢true, eq-eqb}
 use Rattle.std.proofs.lemmas.List.Elements.{All-nil, All-head, All-tail}
 use Rattle.std.proofs.lemmas.Option.{none-some, same_Some}
 use Rattle.rand_core.specs.Stream.{Stream}
@@ -95,9 +95,6 @@ pub record IsOf (d : Directory) (p n : List ℕ) (o : Place) : Type 0 where
   pub name : o.name ≡ n
   pub current : is_current d o ≡ true
 
-both_true : (a b : Bool) → a ≡ true → b ≡ true → (a && b) ≡ true
-both_true a b first second = ap (λ x. x && b) first ∙ second
-
 pub current_of : (d : Directory) (p n : List ℕ) (o : Place) → current d p n ≡ Some o → IsOf d p n o
 current_of d p n o here = by_file (d.file p n) refl here
   where
@@ -107,7 +104,7 @@ current_of d p n o here = by_file (d.file p n) refl here
     by_file (Some (Incarnation number layout version)) is here = subst (IsOf d p n) (same_Some (place_of p n number layout) o here) (record {
       partition = refl;
       name = refl;
-      current = ap (λ (f : Option File). is_that f number (data_start layout)) is ∙ both_true (number == number) (data_start layout == data_start layout) (eq-eqb number number refl) (eq-eqb (data_start layout) (data_start layout) refl);
+      current = ap (λ (f : Option File). is_that f number (data_start layout)) is ∙ and_from (number == number) (data_start layout == data_start layout) (eq-eqb number number refl) (eq-eqb (data_start layout) (data_start layout) refl);
     })
 
 new_handle : (f : Files) (s : OpenNames) (p n : List ℕ) (o : Option Place) → ((a : Place) → o ≡ Some a → IsOf f.directory p n a) → (h : Held)

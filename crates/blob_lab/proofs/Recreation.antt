@@ -2,7 +2,7 @@
 use Rattle.std.proofs.Common.{◌≡◌, ℕ, ◌<◌, ◌≤◌, List, [], ◌∷◌, ◌++◌, Bool, true, false, ◌&&◌, is_none, Option, Some, None, if◌then◌else◌, refl, sym, ap, subst, ◌∙◌, cond, arith, ◌==◌}
 use Rattle.std.specs.Str.{bytes_eq}
 use Rattle.std.specs.Cmp.Lexicographic.{bytes_decides}
-use Rattle.std.proofs.lemmas.Bool.{cond-true, false≢true}
+use Rattle.std.proofs.lemmas.Bool.{and_parts, cond-true, false≢true}
 use Rattle.std.proofs.lemmas.Bool.Decides.{nat_tests}
 use Rattle.blob_base.specs.Refusals.{Refusal}
 use Rattle.blob_lab.specs.Names.{with_at}
@@ -75,14 +75,10 @@ module _ (g t : ℕ) where
   call_newer (Forget q (Some m)) h p n num gs ts new = choice (bytes_eq q p) (bytes_eq m n) [] (events h p n) (λ y z. nothing_newer) new
   call_newer (Forget q None) h p n num gs ts new = choice_all (bytes_eq q p) (events h p n) new
 
-both : (b d : Bool) → (b && d) ≡ true → (b ≡ true) × (d ≡ true)
-both true d e = (refl, e)
-both false d e = absurd (false≢true e)
-
 -- the call that forgets
 forgotten_newer : (c : Call) (h : History) (p n : List ℕ) → IsNumbered (c ∷ h) → forgets c p n ≡ true → IsNewer (generations h) (tokens h) (events (c ∷ h) p n)
 forgotten_newer (To q m (Admit false k)) h p n num f =
-    let s = both (bytes_eq q p) (bytes_eq m n) f in
+    let s = and_parts (bytes_eq q p) (bytes_eq m n) f in
     let here : events (To q m (Admit false k) ∷ h) p n ≡ Admitted k ∷ [] = cond-true (bytes_eq q p) (cond (bytes_eq m n) (Admitted k ∷ []) (events h p n)) (events h p n) s.0 ∙ cond-true (bytes_eq m n) (Admitted k ∷ []) (events h p n) s.1 in
     subst (IsNewer (generations h) (tokens h)) (sym here) (admitted_newer (generations h) (tokens h) k [] (subst (λ j. generations h ≤ j) (sym num.0) (omega arith)) (nothing_newer (generations h) (tokens h)))
 forgotten_newer (To q m (Admit true k)) h p n num f = absurd (false≢true f)
@@ -92,7 +88,7 @@ forgotten_newer (To q m (Clear k o)) h p n num f = absurd (false≢true f)
 forgotten_newer (To q m (Fail k e)) h p n num f = absurd (false≢true f)
 forgotten_newer (To q m (Close k)) h p n num f = absurd (false≢true f)
 forgotten_newer (Forget q (Some m)) h p n num f =
-    let s = both (bytes_eq q p) (bytes_eq m n) f in
+    let s = and_parts (bytes_eq q p) (bytes_eq m n) f in
     let here : events (Forget q (Some m) ∷ h) p n ≡ [] = cond-true (bytes_eq q p) (cond (bytes_eq m n) [] (events h p n)) (events h p n) s.0 ∙ cond-true (bytes_eq m n) [] (events h p n) s.1 in
     subst (IsNewer (generations h) (tokens h)) (sym here) (nothing_newer (generations h) (tokens h))
 forgotten_newer (Forget q None) h p n num f =

@@ -1,7 +1,6 @@
 -- What the files of a store open to.
 use Rattle.std.proofs.Common.{◌≡◌, ◌⊎◌, inl, inr, ℕ, ◌+◌, ◌≤◌, ◌<◌, ◌^◌, List, [], ◌++◌, length, drop, Bool, true, false, Option, Some, None, Result, Ok, Err, refl, sym, ap, ap₂, ◌∙◌, subst, arith, length-append}
 use Rattle.std.specs.Prelude.{if◌then◌else◌, ◌==◌, IsErr}
-use Rattle.std.proofs.Math.Seq.{drop-append_seam}
 use Rattle.std.proofs.lemmas.Bool.{false≢true}
 use Rattle.std.specs.Range.{range_inclusive_start, range_inclusive_end}
 use Rattle.std.specs.declared.ops.RangeInclusive.{RangeInclusive}
@@ -10,9 +9,9 @@ use Rattle.blob_base.specs.declared.layout.Layout.TheVariants.{V0, V1}
 use Rattle.blob_base.specs.declared.version.BlobVersion.{BlobVersion}
 use Rattle.blob_base.specs.Directory.{data_start, Raw}
 use Rattle.blob_base.specs.Header.{region}
-use Rattle.blob_base.specs.HeaderLaws.{HasHeader, reopened}
+use Rattle.blob_base.specs.HeaderLaws.{HasHeader}
 use Rattle.blob_base.specs.Opening.{Opening, Continues, Begins, Declines, opening, opening_raw, layout_from}
-use Rattle.blob_base.specs.Parse.{Accepted, Failure, InvalidChecksum, VersionMismatch, LayoutMismatch, accepted, is_accepted, every_layout}
+use Rattle.blob_base.specs.Parse.{Accepted, Failure, InvalidChecksum, accepted, every_layout}
 use Rattle.blob_base.specs.Refusals.{Refusal, BlobVersionMismatch, IsMemoryError, refusal_of}
 use Rattle.blob_base.specs.declared.error.Error.{Error}
 use Rattle.blob_base.specs.Resolve.{resolution, refusing, refusal_for, Answers}
