@@ -1,18 +1,15 @@
 -- What an open accepted is accepted again: its header stands, as that of an incarnation or as the bytes of a raw file.
-use Rattle.std.proofs.Common.{◌≡◌, ℕ, ◌^◌, ◌<◌, Bool, true, false, ◌&&◌, cond, if◌then◌else◌, List, [], ◌∷◌, ◌++◌, length, drop, Option, Some, None, Ok, Err, refl, sym, ap, ◌∙◌, subst}
+use Rattle.std.proofs.Common.{◌≡◌, ℕ, ◌^◌, ◌<◌, Bool, true, false, ◌&&◌, cond, if◌then◌else◌, List, [], ◌∷◌, ◌++◌, Option, Some, None, refl, sym, ap, ◌∙◌, subst}
 use Rattle.std.specs.List.{AllZip}
 use Rattle.std.specs.Str.{bytes_eq}
 use Rattle.std.specs.Cmp.Lexicographic.{bytes_decides}
-use Rattle.std.proofs.Math.Seq.{drop-append_seam}
 use Rattle.std.proofs.lemmas.Bool.{cond_both, cond-false, false≢true}
 use Rattle.rand_core.specs.Stream.{Stream}
 use Rattle.blob_base.specs.declared.layout.Layout.{Layout}
-use Rattle.blob_base.specs.declared.layout.Layout.TheVariants.{V0, V1}
-use Rattle.blob_base.specs.Directory.{Directory, File, Raw, Incarnation, data_start}
+use Rattle.blob_base.specs.Directory.{Directory, File, Raw, Incarnation}
 use Rattle.blob_base.specs.Files.{Files, opened, after_open, raw_again, durable_at}
 use Rattle.blob_base.specs.Header.{region}
-use Rattle.blob_base.specs.Opening.{Opening, Continues, Begins, Declines, opening, opening_raw, layout_from, place_of, removed}
-use Rattle.blob_base.specs.Parse.{VersionMismatch, every_layout}
+use Rattle.blob_base.specs.Opening.{Opening, Continues, Begins, Declines, opening, place_of, removed}
 use Rattle.blob_base.specs.Places.{Place}
 use Rattle.blob_base.specs.Refusals.{Refusal, BlobAlreadyOpen, BlobVersionMismatch}
 use Rattle.blob_base.specs.Versions.{is_in_range}

@@ -1,12 +1,11 @@
 -- What is asked of a handle, from what the wrapper promises of its own call.
-use Rattle.std.proofs.Common.{◌≡◌, ◌≢◌, ℕ, ◌<◌, List, Bool, true, false, Option, Some, None, refl, sym, ap, ◌∙◌, subst, take, drop, length}
-use Rattle.rand_core.specs.Stream.{Stream}
+use Rattle.std.proofs.Common.{◌≡◌, ℕ, ◌<◌, List, true, Option, Some, None, refl, sym, ◌∙◌, subst, take, drop}
 use Rattle.blob_base.specs.Directory.{Directory}
 use Rattle.blob_base.specs.Durable.{Durable}
 use Rattle.blob_base.specs.Files.{Files}
 use Rattle.blob_base.specs.Pending.{Pending}
 use Rattle.blob_base.specs.Places.{Place}
-use Rattle.blob_base.specs.Refusals.{Refusal, Memory, refusal_of}
+use Rattle.blob_base.specs.Refusals.{Refusal, refusal_of}
 use Rattle.blob_base.specs.Stands as base
 use Rattle.blob_base.specs.declared.error.Error.{Error}
 use Rattle.blob_faulty.specs.Answers.{injected_or}

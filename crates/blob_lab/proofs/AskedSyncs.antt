@@ -12,7 +12,7 @@ use Rattle.blob_memory.specs.Answers.{OrMemory, sync_refusal}
 use Rattle.blob_memory.specs.Store.{directory, durable}
 use Rattle.blob_lab.specs.declared.reply.Reply.{Reply}
 use Rattle.blob_lab.specs.declared.reply.Reply.TheVariants.{Done, Failed, Started}
-use Rattle.blob_lab.specs.Acts.{Sync, StartSync}
+use Rattle.blob_lab.specs.Acts.{Sync}
 use Rattle.blob_lab.specs.After.{begun}
 use Rattle.blob_lab.specs.Denials.{or_then, injected_if, exhausted_if, sync_denial, start_denial}
 use Rattle.blob_lab.specs.LabStands.{IsFor, Wrapper, Wraps, Asks, Starts, stream_of}

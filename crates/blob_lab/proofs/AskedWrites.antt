@@ -16,7 +16,6 @@ use Rattle.blob_faulty.specs.Recorded.{recorded_by, live_by, size_by, recorded_w
 use Rattle.blob_faulty.specs.Wrapper.{Stands, Adds, config_of, inner_of as store_of, next_write_of}
 use Rattle.blob_memory.specs.Answers.{OrMemory, AllowsWrite, end_refusal}
 use Rattle.blob_memory.specs.Store.{directory, durable}
-use Rattle.blob_lab.specs.declared.reply.Reply.{Reply}
 use Rattle.blob_lab.specs.declared.reply.Reply.TheVariants as reply
 use Rattle.blob_lab.specs.Acts.{Write, Resize}
 use Rattle.blob_lab.specs.Denials.{fate_denial, write_denial, reaching_denial, or_injected}

@@ -1,5 +1,5 @@
 -- Handles of a laboratory whose opens are all exclusive: a current incarnation has one handle, whatever is called.
-use Rattle.std.proofs.Common.{◌≡◌, ℕ, ◌&&◌, List, [], ◌∷◌, Bool, true, false, Option, Some, None, option_map, refl, sym, ap, ◌∙◌, subst, ⊎_elim, if◌then◌else◌, ◌==◌}
+use Rattle.std.proofs.Common.{◌≡◌, ℕ, List, [], ◌∷◌, true, false, Option, Some, None, option_map, refl, sym, ap, ◌∙◌, subst, ⊎_elim, if◌then◌else◌, ◌==◌}
 use Rattle.std.specs.Prelude.{◌<◌, is_some, IfSome}
 use Rattle.std.proofs.lemmas.Bool.{and_from, false≢true, eq-eqb}
 use Rattle.std.proofs.lemmas.List.Elements.{All-nil, All-head, All-tail}
@@ -14,17 +14,16 @@ use Rattle.blob_base.specs.SamePlace.{same_place_exact}
 use Rattle.blob_faulty.specs.declared.config.Config.{Config}
 use Rattle.blob_lab.specs.declared.call.Call.{Call}
 use Rattle.blob_lab.specs.declared.reply.Reply.{Reply}
-use Rattle.blob_lab.specs.declared.reply.Reply.TheVariants as reply
 use Rattle.blob_lab.specs.Acts.{Ask, Write, Resize, Accepted, Act, Configure, Open, OpenLoose, Admit, Close, Through, Finish, Remove, Scan, Crash, Reopen, act_of}
 use Rattle.blob_lab.specs.After.{after, asked, closed, finished, removed as removal, crashed, exclusively_opened, held_after, rebuilt}
-use Rattle.blob_lab.specs.Answers.{Answers, kept_at, unless_denied, opened}
+use Rattle.blob_lab.specs.Answers.{Answers, kept_at, opened}
 use Rattle.blob_lab.specs.Denials.{or_then, exhausted_if, is_unnumbered, loose_denial, open_already, open_denial}
 use Rattle.blob_lab.specs.Exclusive.{HoldNames, Sole}
 use Rattle.blob_lab.specs.OpenNames.{OpenNames}
 use Rattle.blob_lab.specs.Reached.{is_loose, NoneLoose, ReachedExclusively}
 use Rattle.blob_lab.specs.Runs.{Run}
 use Rattle.blob_lab.specs.States.{State, Held, Started, Image, start, held_on, empty_directory, with_image, with_images}
-use Rattle.blob_lab.specs.Told.{Told, Tells, refused_by}
+use Rattle.blob_lab.specs.Told.{refused_by}
 use Rattle.blob_lab.proofs.ExclusiveSteps.{AreExclusive, IsNew, aged, closed_one, put_back, ended_names, added}
 use Rattle.blob_lab.proofs.Stale.{ages, asked_directory, none_current, place_after, with_file_stale}
 use Rattle.blob_lab.proofs.ToldRefusals.{denied}

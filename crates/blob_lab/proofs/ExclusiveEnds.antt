@@ -1,7 +1,5 @@
 -- Refused exclusive opens, by what the registry of open names says of them.
-use Rattle.std.proofs.Common.{◌≡◌, ◌<◌, ℕ, List, Option, Some, None, refl, sym, ap, subst}
-use Rattle.blob_base.specs.Directory.{Directory}
-use Rattle.blob_base.specs.Durable.{Durable}
+use Rattle.std.proofs.Common.{◌≡◌, ℕ, List, Option, Some, sym, ap, subst}
 use Rattle.blob_base.specs.Files.{Files, after_open}
 use Rattle.blob_base.specs.Opening.{IsOpened}
 use Rattle.blob_base.specs.Places.{Place}

@@ -1,17 +1,16 @@
 -- Exclusive opens, by what the registry of open names answers.
-use Rattle.std.proofs.Common.{◌≡◌, ◌≢◌, ◌⊎◌, ℕ, ◌<◌, ◌-◌, ◌^◌, ◌==◌, ◌&&◌, ◌++◌, inl, inr, List, [], ◌∷◌, Bool, true, false, Option, Some, None, refl, sym, ap, ◌∙◌, subst, length, if◌then◌else◌, arith, ⊎_elim}
+use Rattle.std.proofs.Common.{◌≡◌, ◌≢◌, ℕ, ◌<◌, ◌-◌, ◌^◌, ◌==◌, ◌&&◌, ◌++◌, inl, inr, List, [], ◌∷◌, Bool, true, false, Option, Some, None, refl, sym, ap, ◌∙◌, subst, length, if◌then◌else◌, arith, ⊎_elim}
 use Rattle.std.specs.Prelude.{is_none, is_some, not}
-use Rattle.std.proofs.lemmas.Bool.{false≢true}
 use Rattle.std.proofs.lemmas.Bool.Decides.{nat_tests}
 use Rattle.hex.specs.Hex.{encode_lower}
 use Rattle.rand_core.specs.Stream.{Stream}
-use Rattle.blob_base.specs.Directory.{Directory, File, Raw, Incarnation, current}
-use Rattle.blob_base.specs.Files.{Files, after_open, admitted, admitted_at}
-use Rattle.blob_base.specs.Opening.{Opening, Continues, Begins, Declines, IsOpened, opening, opening_raw}
+use Rattle.blob_base.specs.Directory.{Directory, File, Raw, Incarnation}
+use Rattle.blob_base.specs.Files.{Files, after_open, admitted}
+use Rattle.blob_base.specs.Opening.{Continues, Declines, IsOpened, opening, opening_raw}
 use Rattle.blob_base.specs.Parse.{Failure, InvalidMagic, UnsupportedLayoutVersion, LayoutMismatch, VersionMismatch, InvalidChecksum, InvalidPadding, Truncated, every_layout}
 use Rattle.blob_base.specs.PartitionName.{is_partition_name}
 use Rattle.blob_base.specs.Places.{Place}
-use Rattle.blob_base.specs.Refusals.{Refusal, refusal_of, BlobAlreadyOpen, GenerationsExhausted, Memory, Injected, PartitionNameInvalid, BlobVersionMismatch}
+use Rattle.blob_base.specs.Refusals.{Refusal, refusal_of, BlobAlreadyOpen, GenerationsExhausted, Memory, PartitionNameInvalid, BlobVersionMismatch}
 use Rattle.blob_base.specs.Resolve.{resolution, refusal_for}
 use Rattle.blob_base.specs.Versions.{is_in_range}
 use Rattle.blob_base.specs.declared.error.Error.{Error}
@@ -24,10 +23,9 @@ use Rattle.blob_memory.specs.Store.{directory, durable}
 use Rattle.blob_lab.specs.declared.lab.Lab.{Lab}
 use Rattle.blob_lab.specs.declared.reply.Reply.TheVariants as reply
 use Rattle.blob_lab.specs.Acts.{Open}
-use Rattle.blob_lab.specs.After as after
 use Rattle.blob_lab.specs.After.{exclusively_opened}
 use Rattle.blob_lab.specs.Answers.{opened, left_of_open, IsAnswer, unless_denied}
-use Rattle.blob_lab.specs.Denials.{or_then, injected_if, exhausted_if, is_unnumbered, open_already, open_denial}
+use Rattle.blob_lab.specs.Denials.{or_then, injected_if, exhausted_if, is_unnumbered, open_denial}
 use Rattle.blob_lab.specs.LabStands.{IsFor, StandsFor, Performs, Wrapper, stream_of}
 use Rattle.blob_lab.specs.OpenNames as names
 use Rattle.blob_lab.specs.OpenNames.{OpenNames, OpenAnswer, Accepted, Held, Declined, NoMemory, NoNumber, IsExhausted}
@@ -35,10 +33,9 @@ use Rattle.blob_lab.specs.Opens.{names_of}
 use Rattle.blob_lab.specs.States as states
 use Rattle.blob_lab.specs.States.{State, AreGiven}
 use Rattle.blob_lab.specs.Tables.{handles_of, syncs_of}
-use Rattle.blob_lab.specs.Told as told
 use Rattle.blob_lab.proofs.Denying.{not_memory}
 use Rattle.blob_lab.proofs.LooseOpens.{IsOpenAllowed, open_denied_by, open_denied, open_tells, open_adds, open_given}
-use Rattle.blob_lab.proofs.Performing.{state_of, performs, stands_same}
+use Rattle.blob_lab.proofs.Performing.{state_of, performs}
 use Rattle.blob_lab.proofs.Telling.{done_answers, failed_answers}
 
 -- A store's open isn't refused as open already.

@@ -1,7 +1,7 @@
 -- What follows for the states of a laboratory.
 use Rattle.std.proofs.Common.{◌≡◌, ℕ, List, false, Option, Some, None, refl}
 use Rattle.rand_core.specs.Stream.{Stream}
-use Rattle.blob_base.specs.Files.{log_of, ends_by, after_remove}
+use Rattle.blob_base.specs.Files.{log_of, ends_by}
 use Rattle.blob_base.specs.Places.{Place}
 use Rattle.blob_base.specs.Refusals.{Refusal}
 use Rattle.blob_base.proofs.Durables.{log_removed}

@@ -25,7 +25,6 @@ use Rattle.blob_lab.specs.OpenNames.{Registration}
 use Rattle.blob_lab.specs.Opens.{names_of}
 use Rattle.blob_lab.specs.States.{Held, AreGiven, held_on}
 use Rattle.blob_lab.specs.Tables.{handles_of, syncs_of}
-use Rattle.blob_lab.specs.Told as told
 use Rattle.blob_lab.specs.Told.{Tells}
 use Rattle.blob_lab.proofs.Denying.{drawn_denial, not_memory}
 use Rattle.blob_lab.proofs.OpenSteps.{held_opened, size_found, version_found, given_opened}

@@ -1,12 +1,10 @@
 -- Calls of a laboratory by name, and those that are about all of it, from what the wrapper and the open names promise.
-use Rattle.std.proofs.Common.{◌≡◌, ◌≢◌, ℕ, inl, inr, List, Bool, Option, Some, None, refl, sym, ap, ◌∙◌, subst, map}
+use Rattle.std.proofs.Common.{◌≡◌, ℕ, inl, inr, List, Option, Some, None, refl, sym, ap, ◌∙◌, subst, map}
 use Rattle.std.specs.Prelude.{is_some}
 use Rattle.rand_core.specs.Stream.{Stream}
-use Rattle.blob_base.specs.Directory.{Directory, current}
+use Rattle.blob_base.specs.Directory.{Directory}
 use Rattle.blob_base.specs.Draws.{Row, drawn, chosen_by}
-use Rattle.blob_base.specs.Files.{Files, admitted, admitted_at, after_remove, after_crash, reopened, all_needs}
-use Rattle.blob_base.specs.Opening.{removed}
-use Rattle.blob_base.specs.Places.{Place}
+use Rattle.blob_base.specs.Files.{Files, admitted, after_remove, after_crash, reopened, all_needs}
 use Rattle.blob_base.specs.Refusals.{Refusal, Memory, refusal_of}
 use Rattle.blob_base.specs.declared.error.Error.{Error}
 use Rattle.blob_base.proofs.NameSteps.{next_removed}

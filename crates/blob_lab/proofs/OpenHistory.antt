@@ -1,10 +1,10 @@
 -- The numbers of open names over any history.
-use Rattle.std.proofs.Common.{◌≡◌, ◌≢◌, ℕ, ◌+◌, ◌<◌, ◌⊎◌, inl, inr, List, [], ◌∷◌, Bool, true, false, ◌==◌, Option, Some, None, refl, sym, ap, ◌∙◌, cond, if◌then◌else◌, ⊎_elim, arith}
+use Rattle.std.proofs.Common.{◌≡◌, ◌≢◌, ℕ, ◌<◌, ◌⊎◌, inl, inr, List, [], ◌∷◌, Bool, true, false, ◌==◌, Option, Some, None, refl, ap, ◌∙◌, cond, if◌then◌else◌, ⊎_elim, arith}
 use Rattle.std.proofs.lemmas.Bool.{cases_Bool, eqb-true, cond-true, cond-false}
 use Rattle.std.specs.Str.{bytes_eq}
 use Rattle.std.specs.Cmp.Lexicographic.{bytes_decides}
 use Rattle.blob_lab.specs.Names.{with_at}
-use Rattle.blob_lab.specs.OpenNames.{OpenNames, Registration, Deed, Opened, Closed, Ended, Rebuilt, after, closed, unless_number}
+use Rattle.blob_lab.specs.OpenNames.{Registration, Deed, Opened, Closed, Ended, Rebuilt, after, unless_number}
 
 -- one of two is picked
 picked : (b d : Bool) (x y : Option ℕ) (k : ℕ) → cond b (cond d x y) y ≡ Some k → (x ≡ Some k) ⊎ (y ≡ Some k)

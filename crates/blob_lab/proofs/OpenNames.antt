@@ -1,5 +1,5 @@
 -- Steps of the open names that leave them, and what holds of all that are reached.
-use Rattle.std.proofs.Common.{◌≡◌, ℕ, ◌-◌, ◌^◌, ◌⊎◌, List, Bool, true, false, ◌==◌, Option, Some, None, is_some, refl, sym, ap, ◌∙◌, if◌then◌else◌, nat_eq, ⊎_elim}
+use Rattle.std.proofs.Common.{◌≡◌, ℕ, ◌-◌, ◌^◌, ◌⊎◌, List, true, false, Option, Some, None, is_some, refl, sym, ap, ◌∙◌, if◌then◌else◌, nat_eq, ⊎_elim}
 use Rattle.std.specs.Option.{option_eq}
 use Rattle.blob_base.specs.Directory.{Directory}
 use Rattle.blob_base.specs.Durable.{Durable}

@@ -1,15 +1,12 @@
 -- Opens of a laboratory, from what the wrapper and the open names promise.
-use Rattle.std.proofs.Common.{◌≡◌, ℕ, ◌<◌, ◌+◌, ◌++◌, inr, List, [], ◌∷◌, Bool, true, Option, Some, None, IfSome, refl, sym, ap, ◌∙◌, subst, cond, length}
-use Rattle.std.specs.Prelude.{is_some, option_map, All}
-use Rattle.std.proofs.lemmas.Bool.{cond-true}
+use Rattle.std.proofs.Common.{◌≡◌, ℕ, ◌<◌, ◌++◌, List, [], ◌∷◌, Option, Some, None, IfSome, sym, ap, ◌∙◌, subst, length}
+use Rattle.std.specs.Prelude.{is_some, option_map}
 use Rattle.std.proofs.lemmas.List.Elements.{All-push, All-weaker}
-use Rattle.blob_base.specs.Directory.{Directory, current, is_current}
-use Rattle.blob_base.specs.Durable as model
-use Rattle.blob_base.specs.Durable.{Durable, with_at}
+use Rattle.blob_base.specs.Directory.{Directory, current}
+use Rattle.blob_base.specs.Durable.{Durable}
 use Rattle.blob_base.specs.Files.{Files, durable_at, log_of}
-use Rattle.blob_base.specs.Opening.{Opening, opening, IsOpened, Continued, Begun, place_of}
-use Rattle.blob_base.specs.Places.{Place, same_place}
-use Rattle.blob_base.specs.SamePlace.{same_self}
+use Rattle.blob_base.specs.Opening.{opening, IsOpened, Continued, Begun}
+use Rattle.blob_base.specs.Places.{Place}
 use Rattle.blob_base.specs.Stands.{StandsAt}
 use Rattle.blob_base.proofs.NameSteps.{read_by_open}
 use Rattle.blob_faulty.specs.Wrapper.{inner_of as store_of, pending_of}
@@ -19,7 +16,7 @@ use Rattle.blob_lab.specs.Answers.{size_of, version_of}
 use Rattle.blob_lab.specs.LabStands.{IsFor, Wrapper}
 use Rattle.blob_lab.specs.OpenNames.{Registration}
 use Rattle.blob_lab.specs.States.{Held, AreGiven, held_on}
-use Rattle.blob_lab.proofs.Opened.{current_opened, next_opened}
+use Rattle.blob_lab.proofs.Opened.{next_opened}
 
 -- what is durable of a current incarnation is so of the files
 pub live_is : (w : Wrapper) (f : Files) (o : Place) (live : List ℕ) → IsFor w f → durable (store_of w) o ≡ Some live → live ≡ durable_at f o

@@ -1,14 +1,13 @@
 -- The handle that an accepted open adds.
-use Rattle.std.proofs.Common.{◌≡◌, ℕ, ◌<◌, ◌+◌, List, Bool, true, false, Option, Some, None, Result, Ok, Err, refl, sym, ◌∙◌, ap, subst, cond, if◌then◌else◌, arith}
+use Rattle.std.proofs.Common.{◌≡◌, ℕ, ◌<◌, ◌+◌, List, Bool, true, false, Option, Some, None, refl, sym, ◌∙◌, ap, subst, cond, if◌then◌else◌, arith}
 use Rattle.std.proofs.lemmas.Bool.{cond-true}
 use Rattle.std.specs.Cmp.Lexicographic.{bytes_decides}
 use Rattle.std.specs.Str.{bytes_eq}
 use Rattle.blob_base.specs.declared.layout.Layout.{Layout}
-use Rattle.blob_base.specs.declared.version.BlobVersion.{BlobVersion}
-use Rattle.blob_base.specs.Directory.{Directory, File, Raw, Incarnation, place_in, current, with_file, directory_made}
+use Rattle.blob_base.specs.Directory.{Directory, File, Raw, Incarnation, place_in, current, with_file}
 use Rattle.blob_base.specs.Durable.{Durable}
-use Rattle.blob_base.specs.Opening.{Opening, Continues, Begins, Declines, opening, opening_raw, place_of, IsOpened, Continued, Begun}
-use Rattle.blob_base.specs.Parse.{Failure, every_layout}
+use Rattle.blob_base.specs.Opening.{Continues, Declines, opening, place_of, IsOpened, Continued, Begun}
+use Rattle.blob_base.specs.Parse.{every_layout}
 use Rattle.blob_base.specs.Places.{Place}
 use Rattle.blob_base.specs.Refusals.{Refusal}
 use Rattle.blob_base.specs.Resolve.{resolution}

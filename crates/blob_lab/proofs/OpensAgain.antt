@@ -1,8 +1,6 @@
 -- An open that was accepted, and the open of the same name in a rebuilt store.
-use Rattle.std.proofs.Common.{◌≡◌, inl, inr, ℕ, ◌-◌, ◌^◌, ◌≤◌, Bool, true, false, not, cond, if◌then◌else◌, List, ◌++◌, length, Option, Some, None, Result, Ok, Err, refl, sym, ap, ◌∙◌, subst, ne_eqb}
-use Rattle.std.specs.Str.{bytes_eq}
-use Rattle.std.specs.Cmp.Lexicographic.{bytes_decides}
-use Rattle.std.proofs.lemmas.Bool.{cond_both, false≢true, and_from, le-leb}
+use Rattle.std.proofs.Common.{◌≡◌, inl, inr, ℕ, ◌-◌, ◌^◌, ◌≤◌, Bool, true, false, not, if◌then◌else◌, List, ◌++◌, length, Option, Some, None, refl, sym, ap, ◌∙◌, subst, ne_eqb}
+use Rattle.std.proofs.lemmas.Bool.{false≢true, and_from, le-leb}
 use Rattle.std.proofs.lemmas.Option.{none-some}
 use Rattle.rand_core.specs.Stream.{Stream}
 use Rattle.blob_base.specs.declared.layout.Layout.{Layout}
@@ -10,8 +8,8 @@ use Rattle.blob_base.specs.declared.version.BlobVersion.{BlobVersion}
 use Rattle.blob_base.specs.Directory.{Directory, File, Raw, Incarnation}
 use Rattle.blob_base.specs.Files.{Files, opened, after_open, raw_again, durable_at}
 use Rattle.blob_base.specs.Header.{region}
-use Rattle.blob_base.specs.Opening.{Opening, Continues, Begins, Declines, opening, opening_raw, place_of}
-use Rattle.blob_base.specs.Parse.{Failure, every_layout}
+use Rattle.blob_base.specs.Opening.{Opening, Continues, Begins, Declines, opening, place_of}
+use Rattle.blob_base.specs.Parse.{every_layout}
 use Rattle.blob_base.specs.PartitionName.{is_partition_name}
 use Rattle.blob_base.specs.Refusals.{Refusal, BlobVersionMismatch, PartitionNameInvalid, GenerationsExhausted}
 use Rattle.blob_base.specs.Resolve.{resolution}

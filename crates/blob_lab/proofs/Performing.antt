@@ -2,7 +2,6 @@
 use Rattle.std.proofs.Common.{◌≡◌, ℕ, ◌<◌, List, Option, Some, None, IfSome, refl, sym, ap, subst}
 use Rattle.std.specs.Prelude.{slice_get, option_and_then}
 use Rattle.std.proofs.lemmas.Option.{get_or_from_slice_get, slice_get_within}
-use Rattle.rand_core.specs.Stream.{Stream}
 use Rattle.blob_base.specs.Files.{Files}
 use Rattle.blob_faulty.specs.Wrapper.{Stands, config_of, inner_of as store_of}
 use Rattle.blob_memory.specs.Store.{directory, durable}

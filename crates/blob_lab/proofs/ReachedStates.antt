@@ -1,6 +1,6 @@
 -- In each state that calls lead to, the numbers of incarnations were given and their partitions have valid names, and current
 -- handles track the length of their live bytes.
-use Rattle.std.proofs.Common.{◌≡◌, ⊎_elim, ℕ, ◌+◌, ◌<◌, ◌≤◌, Bool, true, false, cond, List, [], ◌∷◌, ◌++◌, set, length, Option, Some, None, IfSome, refl, sym, ap, ◌∙◌, subst, arith}
+use Rattle.std.proofs.Common.{◌≡◌, ⊎_elim, ℕ, ◌<◌, Bool, true, false, cond, List, [], ◌∷◌, ◌++◌, set, length, Option, Some, None, IfSome, refl, sym, ap, ◌∙◌, subst, arith}
 use Rattle.std.specs.Prelude.{All, option_map, option_and_then, slice_get}
 use Rattle.std.specs.Str.{bytes_eq}
 use Rattle.std.specs.Cmp.Lexicographic.{bytes_decides}
@@ -9,7 +9,7 @@ use Rattle.std.proofs.lemmas.Option.{IfSome_then, get_or_from_slice_get, slice_g
 use Rattle.std.proofs.lemmas.List.Elements.{All-nil, All-push, All-set, All-weaker}
 use Rattle.rand_core.specs.Stream.{Stream}
 use Rattle.blob_base.specs.declared.layout.Layout.{Layout}
-use Rattle.blob_base.specs.Directory.{Directory, File, Raw, Incarnation, place_in, current, is_current, with_file}
+use Rattle.blob_base.specs.Directory.{Directory, File, Raw, Incarnation, current, is_current, with_file}
 use Rattle.blob_base.specs.Files.{Files, opened, after_open, admitted, raw_again, durable_at}
 use Rattle.blob_base.specs.Opening.{Opening, Continues, Begins, Declines, opening, removed}
 use Rattle.blob_base.specs.PartitionName.{is_partition_name}

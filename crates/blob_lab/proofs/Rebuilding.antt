@@ -1,5 +1,5 @@
 -- A store that is rebuilt from a snapshot, and wrapped anew.
-use Rattle.std.proofs.Common.{◌≡◌, ℕ, List, [], true, Some, None, Option, refl, sym, ap, ◌∙◌, subst}
+use Rattle.std.proofs.Common.{◌≡◌, ℕ, List, [], true, Some, None, Option, refl, sym, ◌∙◌, subst}
 use Rattle.std.specs.Prelude.{unwrap_or, is_some}
 use Rattle.blob_base.specs.Directory.{Directory, is_current}
 use Rattle.blob_base.specs.Durable.{Durable}

@@ -1,7 +1,7 @@
 -- Tables of slots, seen by what their slots hold.
-use Rattle.std.proofs.Common.{◌≡◌, ℕ, ◌≤◌, ◌<◌, ◌++◌, List, [], ◌∷◌, map, set, Option, Some, None, refl, sym, ap, ◌∙◌, length, arith}
+use Rattle.std.proofs.Common.{◌≡◌, ℕ, ◌≤◌, ◌++◌, List, [], ◌∷◌, map, set, Option, Some, None, refl, ap, ◌∙◌, length}
 use Rattle.std.specs.Prelude.{IfSome, option_map, option_and_then, slice_get}
-use Rattle.std.proofs.lemmas.List.{map-append, map-set, length-map}
+use Rattle.std.proofs.lemmas.List.{map-append, map-set}
 use Rattle.std.proofs.lemmas.Option.{slice_get-map, slice_get_past}
 use Rattle.blob_lab.specs.Answers.{kept_at}
 

@@ -1,20 +1,15 @@
 -- Calls through a handle, from what is asked of the handle and the wrapper.
-use Rattle.std.proofs.Common.{◌≡◌, ℕ, ◌<◌, inr, List, [], ◌∷◌, set, Bool, true, Option, Some, None, IfSome, refl, sym, ap, ◌∙◌, subst}
+use Rattle.std.proofs.Common.{◌≡◌, ℕ, ◌<◌, inr, List, set, Bool, true, Option, Some, None, IfSome, refl, sym, ap, ◌∙◌, subst}
 use Rattle.std.proofs.lemmas.List.Elements.{All-set}
 use Rattle.blob_base.specs.Directory.{Directory}
-use Rattle.blob_base.specs.Files.{Files, all_logged, logged}
-use Rattle.blob_base.specs.Log.{Entry}
 use Rattle.blob_base.specs.Places.{Place}
 use Rattle.blob_base.specs.Refusals.{Refusal}
 use Rattle.blob_lab.specs.declared.lab.Lab.{Lab}
 use Rattle.blob_lab.specs.declared.reply.Reply.{Reply}
 use Rattle.blob_lab.specs.declared.reply.Reply.TheVariants.{NoHandle}
-use Rattle.blob_faulty.specs.Faults.{resize_fate}
-use Rattle.blob_faulty.specs.Recorded.{recorded_write, recorded_resize}
-use Rattle.blob_lab.specs.Acts.{Ask, Write, Resize, Sync, StartSync, Through}
-use Rattle.blob_lab.specs.After.{asked, begun, files_after, held_after, syncs_after}
+use Rattle.blob_lab.specs.Acts.{Ask, StartSync, Through}
+use Rattle.blob_lab.specs.After.{asked, files_after, held_after, syncs_after}
 use Rattle.blob_lab.specs.Answers.{IsAnswer, through, may_grow, kept_at}
-use Rattle.blob_lab.specs.Denials.{start_denial}
 use Rattle.blob_lab.specs.LabStands.{StandsFor, Performs, Asks, Starts, stream_of}
 use Rattle.blob_lab.specs.Opens.{names_of}
 use Rattle.blob_lab.specs.States.{State, Held, AreGiven}

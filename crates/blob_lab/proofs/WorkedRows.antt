@@ -7,7 +7,7 @@ use Rattle.blob_base.specs.Checksum.{crc32c, register_of, low_bits, with_bit}
 use Rattle.blob_base.specs.Draws.{front}
 use Rattle.blob_base.specs.Header.{region}
 use Rattle.blob_base.specs.Parse.{page_failure}
-use Rattle.blob_base.specs.Rates.{Rate, sampled}
+use Rattle.blob_base.specs.Rates.{sampled}
 use Rattle.blob_base.specs.Refusals.{BlobAlreadyOpen}
 use Rattle.blob_base.specs.Resolve.{resolution, is_torn}
 use Rattle.blob_faulty.specs.declared.config.Config.{Config}

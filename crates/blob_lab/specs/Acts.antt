@@ -1,5 +1,5 @@
 -- The calls of a laboratory, in the words of the definitions.
-use Rattle.std.specs.Prelude.{ℕ, List, Bool, true, false, ◌||◌, nat_lt, Option, Some, None, if◌then◌else◌, option_map}
+use Rattle.std.specs.Prelude.{ℕ, List, Bool, ◌||◌, nat_lt, Option, Some, None, if◌then◌else◌, option_map}
 use Rattle.std.specs.Range.{range_inclusive_start, range_inclusive_end, range_inclusive_exhausted}
 use Rattle.std.specs.String.{string_bytes}
 use Rattle.blob_faulty.specs.declared.config.Config.{Config}

@@ -1,5 +1,5 @@
 -- What a call leaves of a laboratory, by what it refused.
-use Rattle.std.specs.Prelude.{ℕ, ◌+◌, Bool, List, [], ◌∷◌, ◌++◌, length, map, set, Option, Some, None, option_map}
+use Rattle.std.specs.Prelude.{ℕ, List, [], ◌∷◌, ◌++◌, map, set, Option, Some, None, option_map}
 use Rattle.rand_core.specs.Stream.{Stream}
 use Rattle.blob_base.specs.Directory.{current}
 use Rattle.blob_base.specs.Draws.{chosen_by, drawn}
@@ -7,7 +7,7 @@ use Rattle.blob_base.specs.Files.{Files, all_logged, synced, started, admitted, 
 use Rattle.blob_base.specs.Refusals.{Refusal, BlobAlreadyOpen}
 use Rattle.blob_faulty.specs.Faults.{resize_fate}
 use Rattle.blob_faulty.specs.Recorded.{recorded_write, recorded_resize, live_of_write, live_of_resize, size_of_write, size_of_resize}
-use Rattle.blob_lab.specs.Acts.{Ask, Read, Write, Resize, Size, Sync, StartSync, Accepted, Act, Configure, Open, OpenLoose, Admit, Close, Through, Finish, Remove, Scan, Crash, Reopen}
+use Rattle.blob_lab.specs.Acts.{Ask, Write, Resize, Sync, StartSync, Accepted, Act, Configure, Open, OpenLoose, Admit, Close, Through, Finish, Remove, Scan, Crash, Reopen}
 use Rattle.blob_lab.specs.Answers.{kept_at}
 use Rattle.blob_lab.specs.Denials.{start_denial}
 use Rattle.blob_lab.specs.OpenNames as names

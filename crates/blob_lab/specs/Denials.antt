@@ -1,5 +1,5 @@
 -- Why a call of a laboratory is refused, by its state: the first refusal whose condition holds, or none.
-use Rattle.std.specs.Prelude.{◌≡◌, ℕ, ◌-◌, ◌^◌, ◌==◌, Bool, true, false, ◌&&◌, if◌then◌else◌, List, [], ◌∷◌, length, Option, Some, None, is_some, is_none}
+use Rattle.std.specs.Prelude.{ℕ, ◌-◌, ◌^◌, ◌==◌, Bool, true, false, ◌&&◌, if◌then◌else◌, List, [], ◌∷◌, length, Option, Some, None, is_some, is_none}
 use Rattle.hex.specs.Hex.{encode_lower}
 use Rattle.blob_base.specs.Directory.{Directory}
 use Rattle.blob_base.specs.Places.{Place}

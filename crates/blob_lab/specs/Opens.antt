@@ -1,5 +1,5 @@
 -- What the registry of open names shows.
-use Rattle.std.specs.Prelude.{◌≡◌, ℕ, List, Option}
+use Rattle.std.specs.Prelude.{ℕ, List}
 use Rattle.blob_base.specs.Directory.{Directory}
 use Rattle.blob_base.specs.Durable.{Durable}
 use Rattle.blob_base.specs.Opening.{IsOpened}

@@ -1,5 +1,5 @@
 -- What reading leaves of a reader's bytes, where those are known.
-use Rattle.std.specs.Prelude.{◌≡◌, ℕ, List, [], Option, Some, None, IfSome, IsSome}
+use Rattle.std.specs.Prelude.{◌≡◌, ℕ, List, [], Option, Some, IfSome, IsSome}
 
 -- they are still known
 abbrev pub StaysKnown : Option (List ℕ) → Option (List ℕ) → Type 0

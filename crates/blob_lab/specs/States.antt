@@ -1,5 +1,5 @@
 -- What a laboratory is seen as: files, and what is kept beside them.
-use Rattle.std.specs.Prelude.{◌≡◌, ◌<◌, ℕ, List, [], ◌∷◌, Bool, true, false, All, Option, Some, None, length, IfSome}
+use Rattle.std.specs.Prelude.{◌<◌, ℕ, List, [], ◌∷◌, true, false, All, Option, Some, None, length, IfSome}
 use Rattle.rand_core.specs.Stream.{Stream}
 use Rattle.blob_base.specs.Directory.{Directory, Raw, with_file, with_partition}
 use Rattle.blob_base.specs.Files.{Files, wrapped, durable_at}

@@ -1,11 +1,8 @@
-use Rattle.std.proofs.Common.{refl, sym, ap, ◌∙◌, ◌++◌, ◌∷◌, [], Some, Option, subst, length}
+use Rattle.std.proofs.Common.{refl, ap, ◌∙◌, ◌++◌, ◌∷◌, [], Some, length}
 use Rattle.std.specs.Range.{range_inclusive_start, range_inclusive_end}
 use Rattle.blob_faulty.specs.Wrapper.{inside, size_of}
 use Rattle.blob_memory.specs.Store.{place, live}
-use Rattle.blob_lab.specs.Acts.{Accepted, OpenLoose}
-use Rattle.blob_lab.specs.LabStands.{Performs}
 use Rattle.blob_lab.specs.Tables.{held_by}
-use Rattle.blob_lab.specs.declared.reply.Reply.TheVariants.{Opened, Failed}
 use Rattle.blob_lab.proofs.LooseOpens.{loose_done, loose_failed}
 use Rattle.blob_lab.proofs.OpenEnds.{loose_empty, loose_unasked, loose_for}
 use Rattle.blob_lab.proofs.lab.Lab.open_loose.Goals as goal

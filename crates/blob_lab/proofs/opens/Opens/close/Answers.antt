@@ -1,4 +1,4 @@
-use Rattle.std.proofs.Common.{rules, ◌≡◌, sym, ap, false, Some, nat_eq}
+use Rattle.std.proofs.Common.{rules, ◌≡◌, sym, false, Some, nat_eq}
 use Rattle.std.specs.Option.{option_eq}
 use Rattle.blob_lab.specs.Opens.{names_of, registration_of}
 use Rattle.blob_lab.proofs.OpenNames.{closed_other}

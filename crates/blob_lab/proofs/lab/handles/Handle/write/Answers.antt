@@ -1,6 +1,6 @@
 use Rattle.std.proofs.Common.{◌≡◌, ◌≢◌, refl, List, ℕ, Bool, Some, None, subst}
 use Rattle.blob_base.specs.Options.{is_sync}
-use Rattle.blob_base.specs.Refusals.{Refusal, Memory}
+use Rattle.blob_base.specs.Refusals.{Memory}
 use Rattle.blob_memory.specs.Store.{room}
 use Rattle.blob_faulty.specs.Wrapper.{inside, inner_of as store_of}
 use Rattle.blob_lab.specs.Acts.{Write}
