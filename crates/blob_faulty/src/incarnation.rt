@@ -68,6 +68,7 @@ impl<O> Incarnation<O> {
     /// Room for one more entry. A refusal leaves the list as it was.
     pub fn reserve_entry(&mut self) -> Result<(), AllocError>
         ensures origin { self.new.origin ≡ self.old.origin }
+        ensures noted { self.new.was_current ≡ self.old.was_current }
         ensures views { views self.new.entries.items ≡ views self.old.entries.items }
         ensures ok { OnOk result (vec_len self.new.entries < vec_capacity self.new.entries) }
     {
@@ -77,6 +78,7 @@ impl<O> Incarnation<O> {
     /// Room for one more marker. A refusal leaves the list as it was.
     pub fn reserve_mark(&mut self) -> Result<(), AllocError>
         ensures origin { self.new.origin ≡ self.old.origin }
+        ensures noted { self.new.was_current ≡ self.old.was_current }
         ensures views { views self.new.entries.items ≡ views self.old.entries.items }
         ensures entries { OnOk result (vec_len self.new.entries < vec_capacity self.new.entries) }
         ensures marks { OnOk result (vec_len self.new.marks < vec_capacity self.new.marks) }
@@ -88,6 +90,7 @@ impl<O> Incarnation<O> {
     /// Room for so many more durable ranges, which lie from `start` up to `end`. A refusal leaves the list as it was.
     pub fn reserve_ranges(&mut self, start: u64, end: u64, count: usize) -> Result<(), AllocError>
         ensures origin { self.new.origin ≡ self.old.origin }
+        ensures noted { self.new.was_current ≡ self.old.was_current }
         ensures views { views self.new.entries.items ≡ views self.old.entries.items }
         ensures ok { OnOk result ((ranges : Holes) → AreWithin start end count ranges → HasRoomsFor ranges self.new.entries) }
     {
@@ -99,6 +102,7 @@ impl<O> Incarnation<O> {
         requires room { vec_len self.old.entries < vec_capacity self.old.entries }
         requires unmarked { is_marker (view entry) ≡ false }
         ensures origin { self.new.origin ≡ self.old.origin }
+        ensures noted { self.new.was_current ≡ self.old.was_current }
         ensures views { views self.new.entries.items ≡ views self.old.entries.items ++ view entry ∷ [] }
     {
         entries::push(&mut self.entries, entry);
@@ -109,6 +113,7 @@ impl<O> Incarnation<O> {
         requires room { vec_len self.old.entries < vec_capacity self.old.entries }
         requires marks { vec_len self.old.marks < vec_capacity self.old.marks }
         ensures origin { self.new.origin ≡ self.old.origin }
+        ensures noted { self.new.was_current ≡ self.old.was_current }
         ensures views { views self.new.entries.items ≡ views self.old.entries.items ++ Marker number ∷ [] }
     {
         self.marks.push(number).unwrap();
@@ -121,6 +126,7 @@ impl<O> Incarnation<O> {
         requires copied { length copy ≤ len }
         requires room { HasRoomsFor ((offset, offset + len) ∷ []) self.old.entries }
         ensures origin { self.new.origin ≡ self.old.origin }
+        ensures noted { self.new.was_current ≡ self.old.was_current }
         ensures views { (bytes : List ℕ) → length bytes ≡ len → (has_barrier (views self.old.entries.items) ≡ true → copy ≡ bytes) → views self.new.entries.items ≡ laid offset bytes (views self.old.entries.items) }
         ensures room { (later : Holes) → HasRoomsFor ((offset, offset + len) ∷ later) self.old.entries → HasRoomsFor later self.new.entries }
     {
@@ -130,6 +136,7 @@ impl<O> Incarnation<O> {
     /// A started sync is finished: its marker and what stands before it go, where it is there.
     pub fn finish(&mut self, marker: u64)
         ensures origin { self.new.origin ≡ self.old.origin }
+        ensures noted { self.new.was_current ≡ self.old.was_current }
         ensures views { views self.new.entries.items ≡ finished marker (views self.old.entries.items) }
     {
         if let Some(i) = place_of(&self.marks, marker) {
