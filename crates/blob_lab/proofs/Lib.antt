@@ -22,6 +22,7 @@ pub mod Lasting
 pub mod LooseOpens
 pub mod Maps
 pub mod NamedCalls
+pub mod Numbers
 pub mod OpenEnds
 pub mod OpenHistory
 pub mod OpenNames
@@ -35,6 +36,7 @@ pub mod Reading
 pub mod Rebuilding
 pub mod Recreation
 pub mod RunSteps
+pub mod SaidLines
 mod Sizes
 pub mod Slots
 mod Stale
@@ -46,4 +48,6 @@ pub mod Tokens
 mod ToldRefusals
 pub mod Unreached
 mod ValidOpens
+pub mod WordLists
+pub mod WorkedLines
 pub mod WorkedRows

@@ -2,13 +2,16 @@ pub mod Accepted
 pub mod Acts
 pub mod After
 pub mod Answers
+pub mod CallLines
 pub mod Debts
 pub mod Denials
 pub mod Endings
 pub mod Exclusive
 pub mod Fixed
+pub mod Forms
 pub mod History
 pub mod LabStands
+pub mod Lines
 pub mod Names
 pub mod OpenNames
 pub mod Opens
@@ -19,6 +22,7 @@ pub mod Replies
 pub mod ResolveReplies
 pub mod Runs
 pub mod Scripted
+pub mod SettingLines
 pub mod Settings
 pub mod States
 pub mod Tables

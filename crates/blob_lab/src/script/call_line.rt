@@ -1,4 +1,11 @@
 // The lines of calls.
+ghost use Rattle.std.specs.Prelude.{◌≡◌, IfOk, Some, None, string_bytes, option_map};
+ghost use Rattle.std.specs.Range.{range_inclusive_start, range_inclusive_end, range_inclusive_exhausted};
+ghost use Rattle.blob_lab.specs.Acts.{act_of, accepted};
+ghost use Rattle.blob_lab.specs.CallLines.{call, writing};
+ghost use Rattle.blob_lab.specs.Forms.{text, hex, name, digits, versions};
+ghost use Rattle.blob_lab.specs.Tokens.{version_of};
+
 use crate::Call;
 use crate::script::RefusedLine;
 use crate::script::token::{Tokens, bytes, number};
@@ -7,7 +14,10 @@ use std::alloc::Global;
 use std::ops::RangeInclusive;
 
 /// Reads a call, of which `word` is the first token. Tokens after it are left.
-pub(crate) fn call(alloc: Global, word: &str, tokens: &mut Tokens) -> Result<Call, RefusedLine> {
+pub(crate) fn call(alloc: Global, word: &str, tokens: &mut Tokens) -> Result<Call, RefusedLine>
+    ensures ok { IfOk result (λ asked. call word.now tokens.old ≡ Some (act_of asked, tokens.new)) }
+    ensures bad { result ≡ Err RefusedLine.BadCall → call word.now tokens.old ≡ None }
+{
     Ok(match word {
         "open" => {
             let (partition, name) = (text(alloc, tokens)?, hex(alloc, tokens)?);
@@ -60,7 +70,10 @@ pub(crate) fn call(alloc: Global, word: &str, tokens: &mut Tokens) -> Result<Cal
     })
 }
 
-fn write(alloc: Global, tokens: &mut Tokens, sync: bool) -> Result<Call, RefusedLine> {
+fn write(alloc: Global, tokens: &mut Tokens, sync: bool) -> Result<Call, RefusedLine>
+    ensures ok { IfOk result (λ asked. writing sync tokens.old ≡ Some (act_of asked, tokens.new)) }
+    ensures bad { result ≡ Err RefusedLine.BadCall → writing sync tokens.old ≡ None }
+{
     Ok(Call::Write {
         handle: index(tokens)?,
         offset: digits(tokens)?,
@@ -70,18 +83,27 @@ fn write(alloc: Global, tokens: &mut Tokens, sync: bool) -> Result<Call, Refused
 }
 
 /// The next token as it is.
-pub(crate) fn text(alloc: Global, tokens: &mut Tokens) -> Result<String, RefusedLine> {
+pub(crate) fn text(alloc: Global, tokens: &mut Tokens) -> Result<String, RefusedLine>
+    ensures ok { IfOk result (λ read. text tokens.old ≡ Some (string_bytes read, tokens.new)) }
+    ensures bad { result ≡ Err RefusedLine.BadCall → text tokens.old ≡ None }
+{
     let token = tokens.next().ok_or(RefusedLine::BadCall)?;
     Ok(String::from_str(alloc, token)?)
 }
 
 /// The bytes of the next token.
-pub(crate) fn hex(alloc: Global, tokens: &mut Tokens) -> Result<Vec<u8>, RefusedLine> {
+pub(crate) fn hex(alloc: Global, tokens: &mut Tokens) -> Result<Vec<u8>, RefusedLine>
+    ensures ok { IfOk result (λ read. hex tokens.old ≡ Some (read.items, tokens.new)) }
+    ensures bad { result ≡ Err RefusedLine.BadCall → hex tokens.old ≡ None }
+{
     bytes(alloc, tokens.next().ok_or(RefusedLine::BadCall)?)
 }
 
 /// The bytes of the next token, where there is one.
-fn name(alloc: Global, tokens: &mut Tokens) -> Result<Option<Vec<u8>>, RefusedLine> {
+fn name(alloc: Global, tokens: &mut Tokens) -> Result<Option<Vec<u8>>, RefusedLine>
+    ensures ok { IfOk result (λ read. name tokens.old ≡ Some (option_map (λ bytes. bytes.items) read, tokens.new)) }
+    ensures bad { result ≡ Err RefusedLine.BadCall → name tokens.old ≡ None }
+{
     match tokens.next() {
         Some(token) => Ok(Some(bytes(alloc, token)?)),
         None => Ok(None),
@@ -89,17 +111,26 @@ fn name(alloc: Global, tokens: &mut Tokens) -> Result<Option<Vec<u8>>, RefusedLi
 }
 
 /// The number of the next token.
-fn digits(tokens: &mut Tokens) -> Result<u64, RefusedLine> {
+fn digits(tokens: &mut Tokens) -> Result<u64, RefusedLine>
+    ensures ok { IfOk result (λ read. digits tokens.old ≡ Some (read, tokens.new)) }
+    ensures bad { result ≡ Err RefusedLine.BadCall → digits tokens.old ≡ None }
+{
     let token = tokens.next().ok_or(RefusedLine::BadCall)?;
     number(token).ok_or(RefusedLine::BadCall)
 }
 
-fn index(tokens: &mut Tokens) -> Result<usize, RefusedLine> {
+fn index(tokens: &mut Tokens) -> Result<usize, RefusedLine>
+    ensures ok { IfOk result (λ read. digits tokens.old ≡ Some (read, tokens.new)) }
+    ensures bad { result ≡ Err RefusedLine.BadCall → digits tokens.old ≡ None }
+{
     Ok(digits(tokens)? as usize)
 }
 
 /// The two versions that are left, or where nothing is left the default alone.
-fn versions(tokens: &mut Tokens) -> Result<RangeInclusive<BlobVersion>, RefusedLine> {
+fn versions(tokens: &mut Tokens) -> Result<RangeInclusive<BlobVersion>, RefusedLine>
+    ensures ok { IfOk result (λ read. versions tokens.old ≡ Some (accepted (range_inclusive_exhausted read) (range_inclusive_start read).0 (range_inclusive_end read).0, tokens.new)) }
+    ensures bad { result ≡ Err RefusedLine.BadCall → versions tokens.old ≡ None }
+{
     let Some(first) = tokens.next() else {
         return Ok(DEFAULT_BLOB_VERSION..=DEFAULT_BLOB_VERSION);
     };
@@ -107,7 +138,10 @@ fn versions(tokens: &mut Tokens) -> Result<RangeInclusive<BlobVersion>, RefusedL
     Ok(version(first)?..=version(last)?)
 }
 
-fn version(token: &str) -> Result<BlobVersion, RefusedLine> {
+fn version(token: &str) -> Result<BlobVersion, RefusedLine>
+    ensures ok { IfOk result (λ read. version_of token.now ≡ Some read.0) }
+    ensures bad { result ≡ Err RefusedLine.BadCall → version_of token.now ≡ None }
+{
     let number = number(token).ok_or(RefusedLine::BadCall)?;
     match u16::try_from(number) {
         Ok(number) => Ok(BlobVersion::new(number)),

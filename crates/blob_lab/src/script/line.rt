@@ -1,4 +1,8 @@
 // One line of a script.
+ghost use Rattle.std.specs.Prelude.{◌≡◌, IfOk, Some, None};
+ghost use Rattle.blob_lab.specs.Forms.{words};
+ghost use Rattle.blob_lab.specs.Lines.{line_of, said_by, statement};
+
 use crate::Call;
 use crate::script::call_line::{call, hex, text};
 use crate::script::setting::read_setting;
@@ -28,7 +32,10 @@ pub enum Line {
 ///
 /// `BadCall` where it isn't UTF-8, its first token is no word of a script, a token is missing or surplus, or a number is out
 /// of range. Tokens are parted by spaces alone, and a `#` at the start of the first one begins a comment.
-pub fn read_line(alloc: Global, line: &[u8]) -> Result<Line, RefusedLine> {
+pub fn read_line(alloc: Global, line: &[u8]) -> Result<Line, RefusedLine>
+    ensures ok { IfOk result (λ read. line_of line.now ≡ Some (said_by read)) }
+    ensures bad { result ≡ Err RefusedLine.BadCall → line_of line.now ≡ None }
+{
     let Ok(text) = std::str::from_utf8(line) else {
         return Err(RefusedLine::BadCall);
     };
@@ -47,7 +54,10 @@ pub fn read_line(alloc: Global, line: &[u8]) -> Result<Line, RefusedLine> {
     }
 }
 
-fn said(alloc: Global, word: &str, tokens: &mut Tokens) -> Result<Line, RefusedLine> {
+fn said(alloc: Global, word: &str, tokens: &mut Tokens) -> Result<Line, RefusedLine>
+    ensures ok { IfOk result (λ read. statement word.now tokens.old ≡ Some (said_by read, tokens.new)) }
+    ensures bad { result ≡ Err RefusedLine.BadCall → statement word.now tokens.old ≡ None }
+{
     match word {
         "image" => Ok(Line::Image {
             partition: text(alloc, tokens)?,
@@ -63,7 +73,10 @@ fn said(alloc: Global, word: &str, tokens: &mut Tokens) -> Result<Line, RefusedL
 }
 
 /// The words that are left, one at least.
-fn words(alloc: Global, tokens: &mut Tokens) -> Result<Vec<u64>, RefusedLine> {
+fn words(alloc: Global, tokens: &mut Tokens) -> Result<Vec<u64>, RefusedLine>
+    ensures ok { IfOk result (λ read. words tokens.old ≡ Some (read.items, tokens.new)) }
+    ensures bad { result ≡ Err RefusedLine.BadCall → words tokens.old ≡ None }
+{
     let mut words = Vec::new(alloc);
     while let Some(token) = tokens.next() {
         let word = if token == "max" {

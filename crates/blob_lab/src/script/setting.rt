@@ -1,5 +1,6 @@
 //! The lines that configure the wrapper.
-ghost use Rattle.std.specs.Prelude.{◌≡◌};
+ghost use Rattle.std.specs.Prelude.{◌≡◌, IfSome, IfNone, Some, None};
+ghost use Rattle.blob_lab.specs.SettingLines.{setting, rate, mode};
 ghost use Rattle.blob_lab.specs.Settings.{configured};
 
 use crate::script::token::{Tokens, number};
@@ -54,7 +55,10 @@ pub(crate) fn copy_of(config: &Config) -> Config
 }
 
 /// Reads what follows `config`; none where it isn't a setting. Tokens after it are left.
-pub(crate) fn read_setting(tokens: &mut Tokens) -> Option<Setting> {
+pub(crate) fn read_setting(tokens: &mut Tokens) -> Option<Setting>
+    ensures some { IfSome result (λ read. setting tokens.old ≡ Some (read, tokens.new)) }
+    ensures none { IfNone result (setting tokens.old ≡ None) }
+{
     Some(match tokens.next()? {
         "open" => Setting::Open(rate(tokens)?),
         "read" => Setting::Read(rate(tokens)?),
@@ -75,13 +79,19 @@ pub(crate) fn read_setting(tokens: &mut Tokens) -> Option<Setting> {
     })
 }
 
-fn rate(tokens: &mut Tokens) -> Option<Probability> {
+fn rate(tokens: &mut Tokens) -> Option<Probability>
+    ensures some { IfSome result (λ read. rate tokens.old ≡ Some (read, tokens.new)) }
+    ensures none { IfNone result (rate tokens.old ≡ None) }
+{
     let numerator = number(tokens.next()?)?;
     let denominator = number(tokens.next()?)?;
     Probability::new(numerator, denominator)
 }
 
-fn mode(tokens: &mut Tokens) -> Option<PartialWriteMode> {
+fn mode(tokens: &mut Tokens) -> Option<PartialWriteMode>
+    ensures some { IfSome result (λ read. mode tokens.old ≡ Some (read, tokens.new)) }
+    ensures none { IfNone result (mode tokens.old ≡ None) }
+{
     Some(match tokens.next()? {
         "prefix" => PartialWriteMode::Prefix,
         "subset" => PartialWriteMode::Subset,

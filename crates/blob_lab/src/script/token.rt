@@ -1,7 +1,7 @@
 //! The tokens of a line, and what they stand for.
 ghost use Rattle.std.specs.Prelude.{◌≡◌, ◌↔◌, ◌∷◌, [], ◌<◌, ◌^◌, IfSome, IfNone, IfOk, IfErr, OnErr, IsSome, IsErr, string_bytes};
 ghost use Rattle.std.specs.Str.Parse.{digits_value};
-ghost use Rattle.blob_lab.specs.Tokens.{tokens, bytes_of, IsNumber};
+ghost use Rattle.blob_lab.specs.Tokens.{tokens, bytes_of, number_of, IsNumber};
 
 use crate::script::RefusedLine;
 use blob_base::Probability;
@@ -56,6 +56,7 @@ impl<'a> Tokens<'a> {
 pub fn number(token: &str) -> Option<u64>
     ensures value { IfSome result (λ value. value ≡ digits_value 10 token.now) }
     ensures found { IsSome result ↔ IsNumber token.now }
+    ensures read { result ≡ number_of token.now }
 {
     // The library's parser takes a sign.
     if token.starts_with('+') {
