@@ -1,5 +1,5 @@
 -- An open answers a version that was asked for.
-use Rattle.std.proofs.Common.{◌≡◌, ℕ, ◌-◌, ◌≤◌, Bool, true, false, List, length, take, Option, Some, None, Result, Ok, Err, refl, sym, ◌∙◌, ap, subst, ◌&&◌, if◌then◌else◌, nat_le, nat_lt, arith}
+use Rattle.std.proofs.Common.{◌≡◌, ℕ, ◌-◌, ◌≤◌, Bool, true, false, List, length, take, Option, Some, None, Result, Ok, Err, refl, ap, subst, if◌then◌else◌, nat_lt, arith}
 use Rattle.std.proofs.lemmas.Bool.Decides.{nat_tests}
 use Rattle.blob_base.specs.declared.layout.Layout.{Layout}
 use Rattle.blob_base.specs.declared.version.BlobVersion.{BlobVersion}

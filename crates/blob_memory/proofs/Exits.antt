@@ -1,5 +1,5 @@
 -- What a result says of a call, by its refusal.
-use Rattle.std.proofs.Common.{◌≡◌, sym, Option, Some, None, Result, Ok, Err}
+use Rattle.std.proofs.Common.{◌≡◌, sym, None, Result, Ok, Err}
 use Rattle.std.specs.Prelude.{OnOk}
 use Rattle.std.proofs.lemmas.Option.{none-some}
 use Rattle.blob_base.specs.declared.error.Error.{Error}

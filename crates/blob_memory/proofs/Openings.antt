@@ -1,6 +1,6 @@
 -- What the files of a store open to.
-use Rattle.std.proofs.Common.{◌≡◌, ◌⊎◌, inl, inr, ℕ, ◌+◌, ◌≤◌, ◌<◌, ◌^◌, List, [], ◌++◌, length, drop, Bool, true, false, Option, Some, None, Result, Ok, Err, refl, sym, ap, ap₂, ◌∙◌, subst, arith, length-append}
-use Rattle.std.specs.Prelude.{if◌then◌else◌, ◌==◌, IsErr}
+use Rattle.std.proofs.Common.{◌≡◌, ◌⊎◌, inl, inr, ℕ, ◌≤◌, ◌<◌, ◌^◌, List, ◌++◌, length, drop, Bool, true, false, Option, Some, None, Result, Ok, Err, refl, sym, ap, ap₂, ◌∙◌, subst, arith, length-append}
+use Rattle.std.specs.Prelude.{if◌then◌else◌}
 use Rattle.std.proofs.lemmas.Bool.{false≢true}
 use Rattle.std.specs.Range.{range_inclusive_start, range_inclusive_end}
 use Rattle.std.specs.declared.ops.RangeInclusive.{RangeInclusive}
@@ -14,7 +14,7 @@ use Rattle.blob_base.specs.Opening.{Opening, Continues, Begins, Declines, openin
 use Rattle.blob_base.specs.Parse.{Accepted, Failure, InvalidChecksum, accepted, every_layout}
 use Rattle.blob_base.specs.Refusals.{Refusal, BlobVersionMismatch, IsMemoryError, refusal_of}
 use Rattle.blob_base.specs.declared.error.Error.{Error}
-use Rattle.blob_base.specs.Resolve.{resolution, refusing, refusal_for, Answers}
+use Rattle.blob_base.specs.Resolve.{resolution, refusing, Answers}
 use Rattle.blob_base.specs.Versions.{is_in_range}
 use Rattle.blob_base.proofs.NoneSide.{length_region}
 use Rattle.blob_base.proofs.RawFiles.{from_start, raw_opens}

@@ -9,7 +9,7 @@ use Rattle.blob_base.specs.Places.{Place}
 use Rattle.blob_base.specs.Refusals.{Refusal, OffsetOverflow, Injected, Memory}
 use Rattle.blob_memory.specs.declared.blob.Blob.{Blob}
 use Rattle.blob_memory.specs.declared.storage.Storage.{Storage}
-use Rattle.blob_memory.specs.Answers.{is_uncounted, is_idle, missing, write_refusal, end_refusal, OrMemory, AllowsWrite, may_grow}
+use Rattle.blob_memory.specs.Answers.{is_uncounted, is_idle, missing, write_refusal, end_refusal, OrMemory, AllowsWrite}
 use Rattle.blob_memory.specs.Contents.{vec_at}
 use Rattle.blob_memory.specs.Store.{directory, place, room, room_in}
 

@@ -1,4 +1,4 @@
-use Rattle.std.proofs.Common.{◌≡◌, ◌∙◌, ◌≤◌, ℕ, inr, sym, ap, refl, subst, Ok, Some, length, take, drop, arith}
+use Rattle.std.proofs.Common.{◌≡◌, ◌∙◌, sym, ap, refl, Ok, Some, arith}
 use Rattle.std.proofs.lemmas.List.{take_all}
 use Rattle.std.specs.Range.{range_inclusive_start, range_inclusive_end}
 use Rattle.blob_base.specs.HeaderLaws.{HasHeader}

@@ -1,4 +1,4 @@
-use Rattle.std.proofs.Common.{◌≡◌, ℕ, ◌≤◌, List, ap, subst, refl, arith}
+use Rattle.std.proofs.Common.{◌≡◌, ℕ, List, ap, subst, arith}
 use Rattle.blob_base.specs.declared.version.BlobVersion.{BlobVersion}
 use Rattle.blob_base.specs.Directory.{Directory}
 use Rattle.blob_base.specs.Durable.{Durable}

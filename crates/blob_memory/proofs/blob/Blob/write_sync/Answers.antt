@@ -1,4 +1,4 @@
-use Rattle.std.proofs.Common.{◌≡◌, sym, ap, List, [], length, arith}
+use Rattle.std.proofs.Common.{◌≡◌, sym, ap, [], length, arith}
 use Rattle.blob_memory.specs.Store.{place, durable}
 use Rattle.blob_memory.proofs.Overlays.{overlay_empty}
 use Rattle.blob_memory.proofs.Rooms.{changed_idle, room_kept}

@@ -1,7 +1,7 @@
 use Rattle.std.proofs.Common.{◌≡◌, subst, arith}
 use Rattle.blob_memory.specs.Contents.{vec_at, Fits}
 use Rattle.blob_memory.specs.AnswerLaws.{answers_kept}
-use Rattle.blob_memory.specs.Store.{place, directory, durable, room}
+use Rattle.blob_memory.specs.Store.{place, directory}
 use Rattle.blob_memory.proofs.Rooms.{room_kept, room_reached}
 use Rattle.blob_memory.proofs.blob.BlobBlobStorage.reserve.Goals as goal
 

@@ -1,6 +1,6 @@
 use Rattle.std.proofs.Common.{◌≡◌, ◌∙◌, sym, false}
 use Rattle.blob_base.specs.Options.{is_sync}
-use Rattle.blob_memory.specs.Store.{place, directory, durable, room}
+use Rattle.blob_memory.specs.Store.{directory, room}
 use Rattle.std.proofs.lemmas.Result.{on_ok_weaker}
 use Rattle.blob_memory.proofs.blob.BlobBlobStorage.write_at.Goals as goal
 

@@ -1,11 +1,10 @@
-use Rattle.std.proofs.Common.{◌≡◌, ◌∙◌, inr, sym, ap, ap₂, Option, ℕ, List}
+use Rattle.std.proofs.Common.{◌∙◌, inr, sym, ap₂, Option, ℕ, List}
 use Rattle.blob_base.specs.declared.version.BlobVersion.{BlobVersion}
 use Rattle.std.specs.Range.{range_inclusive_start, range_inclusive_end}
-use Rattle.blob_base.specs.Opening.{Opening, Declines}
+use Rattle.blob_base.specs.Opening.{Declines}
 use Rattle.blob_base.specs.Refusals.{BlobVersionMismatch}
-use Rattle.blob_base.specs.Versions.{is_in_range}
 use Rattle.blob_memory.specs.Found.{opening_with}
-use Rattle.blob_memory.proofs.Openings.{held_opens, held_opening, held_declined, held_accepted}
+use Rattle.blob_memory.proofs.Openings.{held_opens, held_declined, held_accepted}
 use Rattle.blob_memory.proofs.item.Held.found.Goals as goal
 
 pub returns-then-not-has_version-clause-err : goal.returns-then-not-has_version-clause-err

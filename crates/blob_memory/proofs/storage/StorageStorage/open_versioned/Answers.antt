@@ -1,4 +1,4 @@
-use Rattle.std.proofs.Common.{◌≡◌, ◌∙◌, ap, ap₂, ℕ}
+use Rattle.std.proofs.Common.{◌∙◌, ap, ap₂, ℕ}
 use Rattle.blob_base.specs.Places.{Place}
 use Rattle.blob_memory.specs.Store.{place, live}
 use Rattle.blob_memory.proofs.Openings.{continues, begins}
