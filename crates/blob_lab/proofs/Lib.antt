@@ -37,6 +37,10 @@ pub mod Rebuilding
 pub mod Recreation
 pub mod RunSteps
 pub mod SaidLines
+pub mod ScriptLines
+pub mod ScriptRuns
+pub mod ScriptStarts
+pub mod ScriptSteps
 mod Sizes
 pub mod Slots
 mod Stale
@@ -51,3 +55,4 @@ mod ValidOpens
 pub mod WordLists
 pub mod WorkedLines
 pub mod WorkedRows
+pub mod WorkedScripts

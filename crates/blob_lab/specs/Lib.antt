@@ -22,6 +22,8 @@ pub mod Replies
 pub mod ResolveReplies
 pub mod Runs
 pub mod Scripted
+pub mod ScriptReading
+pub mod Scripts
 pub mod SettingLines
 pub mod Settings
 pub mod States

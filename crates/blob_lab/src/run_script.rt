@@ -1,6 +1,12 @@
-ghost use Rattle.std.specs.Prelude.{◌≡◌, true, IfErr, OnOk};
+ghost use Rattle.std.specs.Prelude.{◌≡◌, ◌⊎◌, ℕ, List, ◌∷◌, true, IfSome, IfErr, OnOk};
+ghost use Rattle.std.specs.Io.KnownBytes.{Appends};
+ghost use Rattle.blob_lab.specs.declared.reply.Reply.{Reply};
+ghost use Rattle.blob_lab.specs.Acts.{act_of};
 ghost use Rattle.blob_lab.specs.Endings.{is_of_script, is_cut};
+ghost use Rattle.blob_lab.specs.LabStands.{Performs};
 ghost use Rattle.blob_lab.specs.Reading.{IsReadOut};
+ghost use Rattle.blob_lab.specs.ScriptReading.{Begins};
+ghost use Rattle.blob_lab.specs.Scripts.{Script, Prints, PrintsUpTo, PrintsBefore, PrintsFront, lines_of, no_script, printed_reply, script_of, with_lines};
 
 mod lines;
 
@@ -18,9 +24,16 @@ use std::io::{BufRead, Write};
 pub fn run_script<R: BufRead, W: Write>(alloc: Global, reader: &mut R, writer: &mut W) -> Ending
     ensures ending { is_of_script result ≡ true }
     ensures read { result ≡ Ending.Done → IsReadOut (R.remaining reader.old) (R.remaining reader.new) }
+    ensures done { result ≡ Ending.Done → IfSome (R.remaining reader.old)
+        (λ input. Prints (script_of (lines_of input)) (W.contents writer.old) (W.contents writer.new)) }
+    ensures bad_call { (number : ℕ) → result ≡ Ending.BadCall number → IfSome (R.remaining reader.old)
+        (λ input. PrintsBefore no_script 1 number (lines_of input) (W.contents writer.old) (W.contents writer.new)) }
+    ensures input_failed { result ≡ Ending.InputFailed → IfSome (R.remaining reader.old)
+        (λ input. PrintsFront no_script (lines_of input) (W.contents writer.old) (W.contents writer.new)) }
+    ensures no_memory { result ≡ Ending.NoMemory → IfSome (R.remaining reader.old)
+        (λ input. PrintsFront no_script (lines_of input) (W.contents writer.old) (W.contents writer.new)) }
 {
-    let mut lines = Lines::new(alloc);
-    let ran = run_lines(alloc, &mut lines, reader, writer);
+    let ran = run_lines(alloc, reader, writer);
     match writer.flush() {
         Ok(()) => match ran {
             Ok(()) => Ending::Done,
@@ -32,13 +45,17 @@ pub fn run_script<R: BufRead, W: Write>(alloc: Global, reader: &mut R, writer: &
 
 fn run_lines<R: BufRead, W: Write>(
     alloc: Global,
-    lines: &mut Lines,
     reader: &mut R,
     writer: &mut W,
 ) -> Result<(), Ending>
     ensures cut { IfErr result (λ ending. is_cut ending ≡ true) }
     ensures read { OnOk result (IsReadOut (R.remaining reader.old) (R.remaining reader.new)) }
+    ensures all { OnOk result (IfSome (R.remaining reader.old)
+        (λ input. Prints (script_of (lines_of input)) (W.contents writer.old) (W.contents writer.new))) }
+    ensures front { IfErr result (λ ending. IfSome (R.remaining reader.old)
+        (λ input. PrintsUpTo ending no_script 1 (lines_of input) (W.contents writer.old) (W.contents writer.new))) }
 {
+    let mut lines = Lines::new(alloc);
     let mut preamble = Preamble::new(alloc);
     let Some(first) = lines.first_call(reader, &mut preamble)? else {
         return Ok(());
@@ -47,7 +64,7 @@ fn run_lines<R: BufRead, W: Write>(
     let Ok(mut lab) = Lab::new(images, words, Config::default()) else {
         return Err(Ending::NoMemory);
     };
-    let ran = answer_calls(alloc, &mut lab, first, lines, reader, writer);
+    let ran = answer_calls(alloc, &mut lab, first, &mut lines, reader, writer);
     lab.end();
     ran
 }
@@ -62,6 +79,10 @@ fn answer_calls<R: BufRead, W: Write>(
 ) -> Result<(), Ending>
     ensures cut { IfErr result (λ ending. is_cut ending ≡ true) }
     ensures read { OnOk result (IsReadOut (R.remaining reader.old) (R.remaining reader.new)) }
+    ensures all { OnOk result ((s : Script) (line : List ℕ) → Begins lab.old s line (act_of first) lines.old.config
+        → IfSome (R.remaining reader.old) (λ input. Prints (with_lines s (line ∷ lines_of input)) (W.contents writer.old) (W.contents writer.new))) }
+    ensures front { IfErr result (λ ending. (s : Script) (line : List ℕ) → Begins lab.old s line (act_of first) lines.old.config
+        → IfSome (R.remaining reader.old) (λ input. PrintsUpTo ending s lines.old.number (line ∷ lines_of input) (W.contents writer.old) (W.contents writer.new))) }
 {
     let mut text = String::new(alloc);
     let mut call = first;
@@ -82,7 +103,10 @@ fn answer<W: Write>(
     text: &mut String,
     writer: &mut W,
 ) -> Result<(), Ending>
-    ensures { IfErr result (λ ending. is_cut ending ≡ true) }
+    ensures answered { OnOk result ((reply : Reply)
+        × Performs lab.old (act_of call.now) reply lab.new
+        × Appends (W.contents writer.old) (W.contents writer.new) (printed_reply reply)) }
+    ensures cut { IfErr result (λ ending. (ending ≡ Ending.OutputFailed) ⊎ ((ending ≡ Ending.NoMemory) × (writer.new ≡ writer.old))) }
 {
     let reply = lab.apply(call);
     text.clear();

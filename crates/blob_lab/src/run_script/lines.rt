@@ -1,8 +1,14 @@
 // The lines of a script as they come in.
-ghost use Rattle.std.specs.Prelude.{◌≡◌, true, IfNone, IfOk, IfErr, OnOk};
+ghost use Rattle.std.specs.Prelude.{◌≡◌, ◌≢◌, ℕ, ◌+◌, [], true, IfSome, IfNone, IfOk, IfErr, OnOk};
+ghost use Rattle.std.specs.Io.BufRead.{strip_last};
+ghost use Rattle.std.specs.Io.Iter.{u64_saturate};
+ghost use Rattle.blob_lab.specs.Acts.{act_of};
 ghost use Rattle.blob_lab.specs.Endings.{is_cut};
+ghost use Rattle.blob_lab.specs.Lines.{said_by};
 ghost use Rattle.blob_lab.specs.Reading.{StaysKnown, IsReadOut};
-ghost use Rattle.blob_lab.specs.Settings.{configured};
+ghost use Rattle.blob_lab.specs.ScriptReading.{OfLines, TakesLine, TakesCall, TakesBadCall, preamble_of};
+ghost use Rattle.blob_lab.specs.Scripts.{Script, with_lines};
+ghost use Rattle.blob_lab.specs.Settings.{cleared, configured};
 
 use crate::script::setting::copy_of;
 use crate::script::{Line, RefusedLine, Setting, read_line};
@@ -19,7 +25,10 @@ pub(crate) struct Preamble {
 }
 
 impl Preamble {
-    pub(crate) fn new(alloc: Global) -> Preamble {
+    pub(crate) fn new(alloc: Global) -> Preamble
+        ensures images { result.images.items ≡ [] }
+        ensures words { result.words.items ≡ [] }
+    {
         Preamble {
             images: Vec::new(alloc),
             words: Vec::new(alloc),
@@ -36,7 +45,10 @@ pub(crate) struct Lines {
 }
 
 impl Lines {
-    pub(crate) fn new(alloc: Global) -> Lines {
+    pub(crate) fn new(alloc: Global) -> Lines
+        ensures number { result.number ≡ 0 }
+        ensures config { result.config ≡ cleared }
+    {
         Lines {
             line: Vec::new(alloc),
             number: 0,
@@ -53,6 +65,12 @@ impl Lines {
         ensures cut { IfErr result (λ ending. is_cut ending ≡ true) }
         ensures known { OnOk result (StaysKnown (R.remaining reader.old) (R.remaining reader.new)) }
         ensures end { IfOk result (λ call. IfNone call (IsReadOut (R.remaining reader.old) (R.remaining reader.new))) }
+        ensures call { IfOk result (λ call. IfSome call (λ call. OfLines (R.remaining reader.old) (R.remaining reader.new)
+            (TakesCall (preamble_of preamble.old self.old.config) (preamble_of preamble.new self.old.config) (self.old.number + 1) self.new.number (act_of call) self.new.config))) }
+        ensures over { IfOk result (λ call. IfNone call (OfLines (R.remaining reader.old) (R.remaining reader.new)
+            (λ lines _. with_lines (preamble_of preamble.old self.old.config) lines ≡ Some (preamble_of preamble.new self.old.config)))) }
+        ensures bad { (number : ℕ) → result ≡ Err (Ending.BadCall number) → OfLines (R.remaining reader.old) (R.remaining reader.new)
+            (TakesBadCall (preamble_of preamble.old self.old.config) (preamble_of preamble.new self.old.config) (self.old.number + 1) number) }
     {
         'lines: for _ in 0..u64::MAX {
             let Some(line) = self.next_line(reader)? else {
@@ -84,6 +102,11 @@ impl Lines {
         ensures cut { IfErr result (λ ending. is_cut ending ≡ true) }
         ensures known { OnOk result (StaysKnown (R.remaining reader.old) (R.remaining reader.new)) }
         ensures end { IfOk result (λ call. IfNone call (IsReadOut (R.remaining reader.old) (R.remaining reader.new))) }
+        ensures call { IfOk result (λ call. IfSome call (λ call. (s : Script) → s.config ≡ self.old.config → OfLines (R.remaining reader.old) (R.remaining reader.new)
+            (TakesCall s s (self.old.number + 1) self.new.number (act_of call) self.new.config))) }
+        ensures over { IfOk result (λ call. IfNone call ((s : Script) → OfLines (R.remaining reader.old) (R.remaining reader.new) (λ lines _. with_lines s lines ≡ Some s))) }
+        ensures bad { (number : ℕ) → result ≡ Err (Ending.BadCall number) → (s : Script) → s.calls ≢ [] → OfLines (R.remaining reader.old) (R.remaining reader.new)
+            (TakesBadCall s s (self.old.number + 1) number) }
     {
         'lines: for _ in 0..u64::MAX {
             let Some(line) = self.next_line(reader)? else {
@@ -104,6 +127,11 @@ impl Lines {
         ensures cut { IfErr result (λ ending. is_cut ending ≡ true) }
         ensures known { OnOk result (StaysKnown (R.remaining reader.old) (R.remaining reader.new)) }
         ensures end { IfOk result (λ line. IfNone line (IsReadOut (R.remaining reader.old) (R.remaining reader.new))) }
+        ensures line { IfOk result (λ line. IfSome line (λ line. OfLines (R.remaining reader.old) (R.remaining reader.new) (TakesLine (Some (said_by line))))) }
+        ensures over { IfOk result (λ line. IfNone line (OfLines (R.remaining reader.old) (R.remaining reader.new) (λ lines _. lines ≡ []))) }
+        ensures bad { (number : ℕ) → result ≡ Err (Ending.BadCall number) → (number ≡ u64_saturate (self.old.number + 1)) × OfLines (R.remaining reader.old) (R.remaining reader.new) (TakesLine None) }
+        ensures numbered { IfOk result (λ line. IfSome line (λ _. self.new.number ≡ u64_saturate (self.old.number + 1))) }
+        ensures kept { self.new.config ≡ self.old.config }
     {
         self.line.clear();
         match reader.read_until(b'\n', &mut self.line) {
@@ -112,9 +140,7 @@ impl Lines {
             Err(e) if e.kind() == ErrorKind::OutOfMemory => return Err(Ending::NoMemory),
             Err(_) => return Err(Ending::InputFailed),
         }
-        if self.line.last() == Some(&b'\n') {
-            let _ = self.line.pop();
-        }
+        drop_line_feed(&mut self.line);
         self.number = self.number.saturating_add(1);
         let alloc = *self.line.allocator();
         match read_line(alloc, self.line.as_slice()) {
@@ -131,5 +157,14 @@ impl Lines {
     {
         self.config = setting.apply(copy_of(&self.config));
         Call::Configure(copy_of(&self.config))
+    }
+}
+
+/// Takes the end of a line off, if it has one.
+fn drop_line_feed(line: &mut Vec<u8>)
+    ensures { line.new.items ≡ strip_last 10 line.old.items }
+{
+    if line.last() == Some(&b'\n') {
+        let _ = line.pop();
     }
 }
