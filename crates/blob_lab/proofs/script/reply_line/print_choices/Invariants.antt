@@ -1,7 +1,5 @@
 use Rattle.std.proofs.Common.{◌≡◌, ◌++◌, map, take, string_bytes}
-use Rattle.std.specs.List.{flat_map}
-use Rattle.blob_faulty.specs.Rows.{rows_in}
-use Rattle.blob_lab.specs.Replies.{name_field, row_field, digit_of}
+use Rattle.blob_lab.specs.Replies.{digit_of}
 use Rattle.blob_lab.proofs.script.reply_line.print_choices.Given as goal
 
 abbrev pub invariant-loop-kept : goal.invariant-loop-kept

@@ -1,4 +1,4 @@
-use Rattle.std.proofs.Common.{rules, arith, ◌≡◌, ◌∷◌, [], ◌<◌, length, true, cond, ◌∙◌, sym, ap}
+use Rattle.std.proofs.Common.{rules, ◌≡◌, ◌∷◌, [], ◌<◌, length, true, cond, ◌∙◌, sym, ap}
 use Rattle.std.specs.List.{position_or_len, before_first, after_first}
 use Rattle.blob_lab.specs.Tokens.{tokens, is_space, has_bytes}
 use Rattle.blob_lab.proofs.Tokens.{tokens_take, tokens_none, nonempty_has}
