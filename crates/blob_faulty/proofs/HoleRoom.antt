@@ -7,13 +7,14 @@ use Rattle.std.proofs.lemmas.Bool.{cond_both, ltb-true}
 use Rattle.std.proofs.lemmas.List.Sums.{sum_by-cons, count_by-le-length}
 use Rattle.std.proofs.lemmas.List.{length-map, length-reverse}
 use Rattle.blob_base.specs.Holes.{Holes, AreApart}
+use Rattle.blob_base.specs.Places.{Place}
 use Rattle.blob_base.specs.Runs.{Run, AreRunsApart}
 use Rattle.blob_faulty.specs.declared.entry.Entry.{Entry}
 use Rattle.blob_faulty.specs.declared.entry.Entry.TheVariants as entry
 use Rattle.blob_faulty.specs.declared.incarnation.Incarnation.{Incarnation}
 use Rattle.blob_faulty.specs.declared.write_runs.Piece.{Piece}
 use Rattle.blob_faulty.specs.Answers.{last_end}
-use Rattle.blob_faulty.specs.Lists.{HasRangesAt}
+use Rattle.blob_faulty.specs.Lists.{HasRangesAt, HasRoomAt}
 use Rattle.blob_faulty.specs.Pieces.{run_of, runs_in, extents, first_start, EndsWithin}
 use Rattle.blob_faulty.proofs.FailedSteps.{end_by_last}
 use Rattle.blob_faulty.specs.Rooms.{AreWithin, meets, HasRoomFor, HasRoomsFor}
@@ -91,3 +92,7 @@ runs_within ps apart = record {
   few = let len : length (extents (runs_in ps)) ≡ length ps = length-map (runs_in ps) extent ∙ length-map (reverse ps) run_of ∙ length-reverse ps in omega arith;
   apart = apart_within (first_start (runs_in ps)) (last_end 0 (runs_in ps)) (runs_in ps) (from_first (runs_in ps) apart) (end_by_last 0 0 (runs_in ps) apart);
 }
+
+-- the same of a list that is of an incarnation
+pub first_at : {O : Type 0} (place : O → Place) (is : List (Incarnation O)) (i : ℕ) (o : Place) (h : ℕ × ℕ) (hs : Holes) → HasRoomAt place is i o (h ∷ hs) → HasRoomAt place is i o (h ∷ [])
+first_at place is i o h hs room = record { at = room.at; inside = room.inside; ranges = first_range is i h hs room.ranges }

@@ -8,8 +8,8 @@ pub mod Crashing
 pub mod CutSteps
 pub mod Distinct
 pub mod DrawSteps
-pub mod Drawing
 pub mod FailedSteps
+pub mod Fating
 pub mod Finishing
 pub mod Gathering
 pub mod HoleRoom
@@ -17,7 +17,6 @@ pub mod ListSteps
 pub mod Marking
 pub mod Naming
 pub mod Pushing
-pub mod ResizeSteps
 pub mod RoomSteps
 pub mod Queued
 pub mod Replaying
@@ -28,3 +27,4 @@ pub mod SpanSteps
 pub mod SyncSteps
 pub mod Taking
 pub mod Unmarked
+pub mod Writing

@@ -1,6 +1,6 @@
 -- Steps of the runs of a failed write.
-use Rattle.std.proofs.Common.{◌≡◌, ℕ, suc, ◌≤◌, true, false, List, [], ◌∷◌, ◌++◌, map, All, Some, refl, sym, ◌∙◌, ap, arith}
-use Rattle.std.specs.Prelude.{Result, Ok, Err, OnOk, OnErr, is_err}
+use Rattle.std.proofs.Common.{◌≡◌, ℕ, suc, ◌≤◌, Bool, true, false, List, [], ◌∷◌, ◌++◌, map, All, Some, None, refl, sym, ◌∙◌, ap, arith}
+use Rattle.std.specs.Prelude.{Result, Ok, Err, OnOk, is_err}
 use Rattle.std.proofs.lemmas.Bool.{false≢true}
 use Rattle.std.proofs.lemmas.List.{reverse-append}
 use Rattle.blob_base.specs.declared.error.Error.{Error}
@@ -14,13 +14,17 @@ pub ok_holds : {T E P : Type 0} (r : Result T E) → is_err r ≡ false → OnOk
 ok_holds (Ok x) n h = h
 ok_holds (Err e) n h = absurd (false≢true (sym n))
 
-pub err_holds : {T E P : Type 0} (r : Result T E) → is_err r ≡ true → OnErr r P → P
-err_holds (Ok x) y h = absurd (false≢true y)
-err_holds (Err e) y h = h
-
 pub is_refused : {T : Type 0} (r : Result T Error) → is_err r ≡ true → (x : Refusal) × (refused r ≡ Some x)
 is_refused (Ok x) y = absurd (false≢true y)
 is_refused (Err e) y = (refusal_of e, refl)
+
+pub is_done : {T : Type 0} (r : Result T Error) → is_err r ≡ false → refused r ≡ None
+is_done (Ok x) n = refl
+is_done (Err e) n = absurd (false≢true (sym n))
+
+pub not_stale : (b : Bool) → (b ≡ false → ⊥) → b ≡ true
+not_stale true h = refl
+not_stale false h = absurd (h refl)
 
 -- the last piece is the next run
 pub popped : (old new : List Piece) (x : Piece) → old ≡ new ++ x ∷ [] → runs_in old ≡ run_of x ∷ runs_in new

@@ -20,3 +20,4 @@ pub mod Spans
 pub mod Syncs
 pub mod Views
 pub mod Wrapper
+pub mod Writes

@@ -56,3 +56,9 @@ AreNoted place d is = All (λ i. i.was_current ≡ is_current d (place i.origin)
 -- whether an incarnation was current and isn't any more
 abbrev pub has_ended : Directory → Directory → Place → Bool
 has_ended before after o = is_current before o && not (is_current after o)
+
+-- the list at i is of an incarnation and can take these durable ranges
+pub record HasRoomAt {O : Type 0} (place : O → Place) (is : List (Incarnation O)) (i : ℕ) (o : Place) (hs : Holes) : Type 0 where
+  pub at : IsAt (held place is) i o
+  pub inside : i < length is
+  pub ranges : HasRangesAt is i hs

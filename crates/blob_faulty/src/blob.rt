@@ -17,7 +17,7 @@ ghost use Rattle.blob_faulty.specs.Syncs.{Publishes, Starts};
 ghost use Rattle.blob_faulty.specs.Wrapper.{inner_of, rng_of, config_of, next_write_of, next_marker_of, pending_of, inside, size_of, KeepsRecords, KeepsNumbers, Adds};
 ghost use Rattle.blob_faulty.specs.AnswerLaws.{write_none, write_empty};
 
-use crate::faults::draws;
+use crate::faults::{draw_resize, draw_write, draws};
 use crate::storage::Storage;
 use blob_base::{Error, Handle, IoBufs, IoBufsMut, ReadOptions, WriteOptions};
 use rand_core::Rng;
@@ -139,7 +139,17 @@ impl<S: blob_base::Storage, R: Rng, B: blob_base::Blob<S>> blob_base::Blob<Stora
         ensures unrecorded { IsMemory result → KeepsRecords S.place store.old store.new }
         ensures same_size { IsMemory result → size_of self.new ≡ size_of self.old }
     {
-        self.write_by_fate(store, offset, bytes, options)
+        let sync = options.contains(WriteOptions::SYNC);
+        let len = bytes.remaining();
+        if sync && len == 0 {
+            return Ok(());
+        }
+        if offset.checked_add(len as u64).is_none() {
+            return Err(Error::OffsetOverflow);
+        }
+        let alloc = *store.lists.all.lists.allocator();
+        let fate = draw_write(alloc, &store.config, sync, offset, len, &mut store.rng)?;
+        self.write_by_fate(store, fate, offset, bytes, options)
     }
 
     fn resize(&mut self, store: &mut Storage<S, R>, len: u64) -> Result<(), Error>
@@ -166,7 +176,8 @@ impl<S: blob_base::Storage, R: Rng, B: blob_base::Blob<S>> blob_base::Blob<Stora
         ensures unrecorded { IsMemory result → KeepsRecords S.place store.old store.new }
         ensures same_size { IsMemory result → size_of self.new ≡ size_of self.old }
     {
-        self.resize_by_fate(store, len)
+        let fate = draw_resize(store.config.resize_rate, self.size, len, &mut store.rng);
+        self.resize_by_fate(store, fate, len)
     }
 
     fn sync(&mut self, store: &mut Storage<S, R>) -> Result<(), Error>

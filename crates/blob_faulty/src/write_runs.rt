@@ -4,6 +4,7 @@ ghost use Rattle.std.specs.Prelude.{◌≡◌, ◌<◌, ◌+◌, ◌^◌, length
 use crate::blob::Blob;
 use crate::runs::Span;
 use crate::storage::Storage;
+use blob_base::laws::overlays::runs_are_choices;
 use blob_base::{Error, IoBufs, WriteOptions};
 
 /// A run of a write's bytes, and their copy for the pending list.
@@ -18,7 +19,7 @@ pub struct Piece {
 }
 
 impl Piece {
-    ghost use Rattle.std.specs.Prelude.{◌≤◌, List, ℕ, [], All, IfOk, IfNone, IfSome, IsTrue, OnErr, reverse};
+    ghost use Rattle.std.specs.Prelude.{◌≤◌, List, ℕ, [], All, IfOk, OnErr};
     ghost use Rattle.blob_base.specs.Refusals.{IsMemory};
     ghost use Rattle.blob_base.specs.Runs.{runs};
     ghost use Rattle.blob_faulty.specs.Answers.{last_end};
@@ -88,65 +89,14 @@ impl Piece {
 }
 
 impl<B> Blob<B> {
-    ghost use Rattle.std.specs.Prelude.{◌≢◌, ◌≤◌, List, ℕ, [], ◌∷◌, true, false, max, Some, OnOk, OnErr, All, vec_len};
-    ghost use Rattle.blob_base.specs.Bytes.{written};
+    ghost use Rattle.std.specs.Prelude.{◌≢◌, ◌≤◌, ℕ, List, [], Bool, true, false, Option, Some, OnOk, OnErr, IfOk, All};
     ghost use Rattle.blob_base.specs.Directory.{is_current};
-    ghost use Rattle.blob_base.specs.Live.{live_after, all_written};
-    ghost use Rattle.blob_base.specs.Log.{Entry, Kept};
-    ghost use Rattle.blob_base.specs.Refusals.{refused, WriteFailed, IsMemory};
-    ghost use Rattle.blob_base.specs.Runs.{Run, runs, kept_runs};
-    ghost use Rattle.blob_faulty.specs.Answers.{allows_laid};
-    ghost use Rattle.blob_faulty.specs.Faults.{Failed, retention};
-    ghost use Rattle.blob_faulty.specs.Lists.{held, IsAt, HasRangesAt};
-    ghost use Rattle.blob_faulty.specs.Pieces.{run_of, runs_in, extents, EndsWithin, first_after};
-    ghost use Rattle.blob_faulty.specs.Recorded.{size_of_runs, recorded_by, live_by, size_by};
-    ghost use Rattle.blob_faulty.specs.Wrapper.{Adds, KeepsRecords};
-
-    /// A run, as a SYNC write of the inner blob, where its list has room for it.
-    fn lay_run<S: blob_base::Storage, R>(
-        &mut self,
-        store: &mut Storage<S, R>,
-        list: usize,
-        run: Piece,
-    ) -> Result<(), Error>
-    where
-        B: blob_base::Blob<S>,
-        requires at { IsAt (held S.place store.old.lists.all.lists.items) list (B.place self.old.inner) }
-        requires inside { list < vec_len store.old.lists.all.lists }
-        requires room { HasRangesAt store.old.lists.all.lists.items list (extents (run_of run ∷ [])) }
-        ensures allowed { B.allows_write self.old.inner store.old.inner run.offset run.bytes true (refused result) }
-        ensures live { OnOk result (B.live self.new.inner ≡ written (B.live self.old.inner) run.offset run.bytes) }
-        ensures size { OnOk result (self.new.size ≡ max self.old.size (run.offset + length run.bytes)) }
-        ensures recorded { OnOk result (Adds S.place (S.directory store.old.inner) (S.durable store.old.inner) (S.durable store.new.inner) store.old store.new (B.place self.old.inner) (Kept run.offset run.bytes ∷ [])) }
-        ensures current { OnOk result (is_current (S.directory store.old.inner) (B.place self.old.inner) ≡ true) }
-        ensures kept_room { OnOk result (B.room self.old.inner store.old.inner ≤ B.room self.new.inner store.new.inner) }
-        ensures at { OnOk result (IsAt (held S.place store.new.lists.all.lists.items) list (B.place self.new.inner)) }
-        ensures inside { OnOk result (list < vec_len store.new.lists.all.lists) }
-        ensures ranges { OnOk result ((later : List Run) → HasRangesAt store.old.lists.all.lists.items list (extents (run_of run ∷ later)) → HasRangesAt store.new.lists.all.lists.items list (extents later)) }
-
-        // a refusal
-        ensures unrecorded { OnErr result (KeepsRecords S.place store.old store.new) }
-        ensures same_size { OnErr result (self.new.size ≡ self.old.size) }
-        ensures direct_live { B.is_direct ≡ true → B.live self.new.inner ≡ live_after true (B.live self.old.inner) run.offset run.bytes (refused result) }
-        ensures direct_durable { B.is_direct ≡ true → OnErr result (S.durable store.new.inner ≡ S.durable store.old.inner) }
-        ensures memory { IsMemory result → (B.live self.new.inner ≡ B.live self.old.inner) × (S.durable store.new.inner ≡ S.durable store.old.inner) }
-
-        ensures stale { is_current (S.directory store.old.inner) (B.place self.old.inner) ≡ false → S.durable store.new.inner ≡ S.durable store.old.inner }
-        ensures directory { S.directory store.new.inner ≡ S.directory store.old.inner }
-        ensures place { B.place self.new.inner ≡ B.place self.old.inner }
-        ensures rng { store.new.rng ≡ store.old.rng }
-        ensures config { store.new.config ≡ store.old.config }
-    {
-        let Piece {
-            offset,
-            bytes,
-            copy,
-        } = run;
-        let len = bytes.remaining() as u64;
-        self.write_unrecorded(store, offset, bytes, WriteOptions::SYNC)?;
-        store.lists.lay(list, offset, len, copy);
-        Ok(())
-    }
+    ghost use Rattle.blob_base.specs.Refusals.{Refusal, refused, WriteFailed};
+    ghost use Rattle.blob_base.specs.Runs.{runs, AreRunsApart};
+    ghost use Rattle.blob_faulty.specs.Answers.{or_memory, allows_laid, allows_runs, last_end};
+    ghost use Rattle.blob_faulty.specs.Lists.{HasRoomAt};
+    ghost use Rattle.blob_faulty.specs.Pieces.{run_of, runs_in, extents, EndsWithin};
+    ghost use Rattle.blob_faulty.specs.Writes.{seen, Recorded, Unchanged, laid_runs};
 
     /// The runs behind the first, in rising order. A refused one is answered `WriteFailed`, and those before it stay
     /// laid.
@@ -158,25 +108,27 @@ impl<B> Blob<B> {
     ) -> Result<(), Error>
     where
         B: blob_base::Blob<S>,
-        requires at { IsAt (held S.place store.old.lists.all.lists.items) list (B.place self.old.inner) }
-        requires inside { list < vec_len store.old.lists.all.lists }
-        requires ranges { HasRangesAt store.old.lists.all.lists.items list (extents (runs_in pieces.items)) }
+        requires room { HasRoomAt S.place store.old.lists.all.lists.items list (B.place self.old.inner) (extents (runs_in pieces.items)) }
         requires current { is_current (S.directory store.old.inner) (B.place self.old.inner) ≡ true }
         requires within { B.is_direct ≡ true → All (EndsWithin (B.room self.old.inner store.old.inner)) (runs_in pieces.items) }
-        ensures live { OnOk result (B.live self.new.inner ≡ all_written (B.live self.old.inner) (runs_in pieces.items)) }
-        ensures size { OnOk result (self.new.size ≡ size_of_runs self.old.size (runs_in pieces.items)) }
-        ensures recorded { OnOk result (Adds S.place (S.directory store.old.inner) (S.durable store.old.inner) (S.durable store.new.inner) store.old store.new (B.place self.old.inner) (kept_runs (runs_in pieces.items))) }
+        ensures recorded { let old = seen S.directory S.durable S.place B.place B.live self.old store.old in
+            let new = seen S.directory S.durable S.place B.place B.live self.new store.new in
+            Recorded B.is_direct old new (laid_runs (runs_in pieces.items)) (refused result) }
         ensures failed { OnErr result (refused result ≡ Some WriteFailed) }
         ensures indirect { OnErr result (B.is_direct ≡ false) }
         ensures some { OnErr result (runs_in pieces.items ≢ []) }
-        ensures directory { S.directory store.new.inner ≡ S.directory store.old.inner }
-        ensures place { B.place self.new.inner ≡ B.place self.old.inner }
-        ensures rng { store.new.rng ≡ store.old.rng }
-        ensures config { store.new.config ≡ store.old.config }
     {
         let mut pieces = pieces;
         while let Some(run) = pieces.pop() {
-            if self.lay_run(store, list, run).is_err() {
+            let Piece {
+                offset,
+                bytes,
+                copy,
+            } = run;
+            if self
+                .lay_range(store, list, offset, bytes, copy, WriteOptions::SYNC)
+                .is_err()
+            {
                 return Err(Error::WriteFailed);
             }
         }
@@ -185,7 +137,7 @@ impl<B> Blob<B> {
 
     /// All runs, in rising order. What refuses the first is the answer; a later one that is refused is answered
     /// `WriteFailed`.
-    pub(crate) fn lay_runs<S: blob_base::Storage, R>(
+    fn lay_runs<S: blob_base::Storage, R>(
         &mut self,
         store: &mut Storage<S, R>,
         list: usize,
@@ -193,35 +145,78 @@ impl<B> Blob<B> {
     ) -> Result<(), Error>
     where
         B: blob_base::Blob<S>,
-        requires at { IsAt (held S.place store.old.lists.all.lists.items) list (B.place self.old.inner) }
-        requires inside { list < vec_len store.old.lists.all.lists }
-        requires ranges { HasRangesAt store.old.lists.all.lists.items list (extents (runs_in pieces.items)) }
+        requires room { HasRoomAt S.place store.old.lists.all.lists.items list (B.place self.old.inner) (extents (runs_in pieces.items)) }
         requires within { B.is_direct ≡ true → is_current (S.directory store.old.inner) (B.place self.old.inner) ≡ true → All (EndsWithin (B.room self.old.inner store.old.inner)) (runs_in pieces.items) }
         ensures allowed { allows_laid (B.allows_write self.old.inner store.old.inner) B.is_direct (runs_in pieces.items) (refused result) }
-        ensures live { OnOk result (B.live self.new.inner ≡ all_written (B.live self.old.inner) (runs_in pieces.items)) }
-        ensures size { OnOk result (self.new.size ≡ size_of_runs self.old.size (runs_in pieces.items)) }
-        ensures recorded { OnOk result (Adds S.place (S.directory store.old.inner) (S.durable store.old.inner) (S.durable store.new.inner) store.old store.new (B.place self.old.inner) (kept_runs (runs_in pieces.items))) }
-
-        // a refusal, by a store that injects nothing
-        ensures direct_live { B.is_direct ≡ true → OnErr result (B.live self.new.inner ≡ first_after (B.live self.old.inner) (runs_in pieces.items) (refused result)) }
-        ensures direct_durable { B.is_direct ≡ true → OnErr result (S.durable store.new.inner ≡ S.durable store.old.inner) }
-        ensures direct_records { B.is_direct ≡ true → OnErr result (KeepsRecords S.place store.old store.new) }
-        ensures direct_size { B.is_direct ≡ true → OnErr result (self.new.size ≡ self.old.size) }
-
-        ensures memory { IsMemory result → (B.live self.new.inner ≡ B.live self.old.inner) × (S.durable store.new.inner ≡ S.durable store.old.inner) }
-        ensures unrecorded { IsMemory result → KeepsRecords S.place store.old store.new }
-        ensures same_size { IsMemory result → self.new.size ≡ self.old.size }
-        ensures stale { is_current (S.directory store.old.inner) (B.place self.old.inner) ≡ false → S.durable store.new.inner ≡ S.durable store.old.inner }
-        ensures directory { S.directory store.new.inner ≡ S.directory store.old.inner }
-        ensures place { B.place self.new.inner ≡ B.place self.old.inner }
-        ensures rng { store.new.rng ≡ store.old.rng }
-        ensures config { store.new.config ≡ store.old.config }
+        ensures recorded { let old = seen S.directory S.durable S.place B.place B.live self.old store.old in
+            let new = seen S.directory S.durable S.place B.place B.live self.new store.new in
+            Recorded B.is_direct old new (laid_runs (runs_in pieces.items)) (refused result) }
     {
         let mut pieces = pieces;
         let Some(first) = pieces.pop() else {
             return Ok(());
         };
-        self.lay_run(store, list, first)?;
+        let Piece {
+            offset,
+            bytes,
+            copy,
+        } = first;
+        self.lay_range(store, list, offset, bytes, copy, WriteOptions::SYNC)?;
         self.lay_later(store, list, pieces)
+    }
+
+    /// Room for the runs: as durable ranges in the list of the handle's incarnation, which it answers, and for their
+    /// bytes in the inner store.
+    fn reserve_runs<S: blob_base::Storage, R>(
+        &mut self,
+        store: &mut Storage<S, R>,
+        pieces: &[Piece],
+    ) -> Result<usize, Error>
+    where
+        B: blob_base::Blob<S>,
+        requires { AreRunsApart 0 (runs_in pieces.now) }
+        ensures allowed { or_memory (B.allows_reserve self.old.inner store.old.inner (last_end 0 (runs_in pieces.now))) (refused result) }
+        ensures write_answers { (offset : ℕ) (bytes : List ℕ) (sync : Bool) (answer : Option Refusal) → B.allows_write self.new.inner store.new.inner offset bytes sync answer → B.allows_write self.old.inner store.old.inner offset bytes sync answer }
+        ensures room { B.is_direct ≡ true → is_current (S.directory store.old.inner) (B.place self.old.inner) ≡ true → OnOk result (last_end 0 (runs_in pieces.now) ≤ B.room self.new.inner store.new.inner) }
+        ensures ranges { IfOk result (λ i. HasRoomAt S.place store.new.lists.all.lists.items i (B.place self.new.inner) (extents (runs_in pieces.now))) }
+        ensures unchanged { let old = seen S.directory S.durable S.place B.place B.live self.old store.old in
+            let new = seen S.directory S.durable S.place B.place B.live self.new store.new in
+            Unchanged old new }
+    {
+        let (start, end) = (Piece::first_start(pieces), Piece::last_end(pieces));
+        let list = self.room_for_ranges(store, start, end, pieces.len())?;
+        self.inner.reserve(&mut store.inner, end)?;
+        self.list = list;
+        Ok(list)
+    }
+
+    /// The runs of the kept bytes of a write, all of them. `kept` lists a choice for each byte, or none.
+    pub(crate) fn lay_kept<S: blob_base::Storage, R>(
+        &mut self,
+        store: &mut Storage<S, R>,
+        offset: u64,
+        bytes: IoBufs,
+        kept: &[bool],
+    ) -> Result<(), Error>
+    where
+        B: blob_base::Blob<S>,
+        requires fits { offset + length bytes < 2 ^ 64 }
+        requires sized { kept.now ≢ [] → length kept.now ≡ length bytes }
+        ensures allowed { or_memory (allows_runs (B.allows_write self.old.inner store.old.inner) (B.allows_reserve self.old.inner store.old.inner) B.is_direct (runs offset bytes kept.now)) (refused result) }
+        ensures recorded { let old = seen S.directory S.durable S.place B.place B.live self.old store.old in
+            let new = seen S.directory S.durable S.place B.place B.live self.new store.new in
+            Recorded B.is_direct old new (laid_runs (runs offset bytes kept.now)) (refused result) }
+    {
+        if kept.is_empty() {
+            return Ok(());
+        }
+        let bytes = bytes.coalesce()?;
+        let pieces = Piece::all_of(offset, &bytes, kept)?;
+        if pieces.is_empty() {
+            return Ok(());
+        }
+        runs_are_choices();
+        let list = self.reserve_runs(store, &pieces)?;
+        self.lay_runs(store, list, pieces)
     }
 }

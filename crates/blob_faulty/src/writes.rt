@@ -1,29 +1,25 @@
 //! How a write goes to the inner blob, and what it records.
-ghost use Rattle.std.specs.Prelude.{◌≡◌, ◌≢◌, ◌≤◌, ◌<◌, ◌+◌, ◌-◌, ◌^◌, ◌++◌, ◌∷◌, ℕ, List, [], Bool, true, false, max, Option, Some, None, is_some, OnOk, OnErr, IfOk, vec_len, length};
-ghost use Rattle.blob_base.specs.Bytes.{overlay, written};
-ghost use Rattle.blob_base.specs.Directory.{is_current};
-ghost use Rattle.blob_base.specs.Durable.{changed};
-ghost use Rattle.blob_base.specs.Files.{Files, all_logged};
+ghost use Rattle.std.specs.Prelude.{◌≡◌, ◌≢◌, ◌≤◌, ◌<◌, ◌+◌, ◌-◌, ◌^◌, ◌++◌, ◌∷◌, [], true, false, Some, is_some, OnOk, OnErr, IfOk, vec_len, length};
 ghost use Rattle.blob_base.specs.Holes.{Holes};
-ghost use Rattle.blob_base.specs.Live.{live_written, live_after};
 ghost use Rattle.blob_base.specs.Options.{is_sync};
-ghost use Rattle.blob_base.specs.Refusals.{refused, Refusal, Memory, IsMemory};
-ghost use Rattle.blob_faulty.specs.Answers.{or_memory, numbered, lacks_number};
+ghost use Rattle.blob_base.specs.Refusals.{refused, IsMemory};
+ghost use Rattle.blob_faulty.specs.Answers.{or_memory, numbered, lacks_number, allows_fate};
 ghost use Rattle.blob_base.specs.Durable.{with_at};
 ghost use Rattle.blob_base.specs.Log.{need_of};
 ghost use Rattle.blob_base.specs.Order.{ArePlacesApart};
-ghost use Rattle.blob_base.specs.Pending.{Waiting, laid};
+ghost use Rattle.blob_base.specs.Pending.{Waiting, has_barrier};
 ghost use Rattle.blob_base.specs.Places.{Place};
 ghost use Rattle.blob_faulty.specs.Faults.{issued, retention};
-ghost use Rattle.blob_faulty.specs.Lists.{held, IsAt, HasEntryAt, HasMarkAt, HasRangesAt};
-ghost use Rattle.blob_faulty.specs.Recorded.{loose, kept};
+ghost use Rattle.blob_faulty.specs.Lists.{held, IsAt, HasEntryAt, HasMarkAt, HasRangesAt, HasRoomAt};
 ghost use Rattle.blob_faulty.specs.Rooms.{AreWithin};
-ghost use Rattle.blob_faulty.specs.Wrapper.{pending_of, KeepsRecords, Adds};
+ghost use Rattle.blob_faulty.specs.Wrapper.{pending_of};
+ghost use Rattle.blob_faulty.specs.Writes.{seen, Wrote, Recorded, WroteBy, unrecorded, plain, laid_runs};
+ghost use Rattle.blob_faulty.specs.Fates.{write_fate_of, IsSized};
 
 use crate::blob::Blob;
 use crate::config::WriteConfig;
 use crate::entry::Entry;
-use crate::faults::retained;
+use crate::faults::{WriteFate, retained};
 use crate::storage::Storage;
 use crate::write::PendingWrite;
 use blob_base::{Error, IoBufs, WriteOptions};
@@ -125,7 +121,7 @@ impl<B> Blob<B> {
 
 impl<B> Blob<B> {
     /// A write of which nothing is recorded.
-    pub(crate) fn write_unrecorded<S: blob_base::Storage, R>(
+    fn write_unrecorded<S: blob_base::Storage, R>(
         &mut self,
         store: &mut Storage<S, R>,
         offset: u64,
@@ -136,19 +132,10 @@ impl<B> Blob<B> {
         B: blob_base::Blob<S>,
         requires fits { offset + length bytes < 2 ^ 64 }
         ensures allowed { B.allows_write self.old.inner store.old.inner offset bytes (is_sync options) (refused result) }
-        ensures live { OnOk result (B.live self.new.inner ≡ live_written (is_sync options) (B.live self.old.inner) offset bytes) }
-        ensures direct_live { B.is_direct ≡ true → B.live self.new.inner ≡ live_after (is_sync options) (B.live self.old.inner) offset bytes (refused result) }
-        ensures synced { OnOk result (is_sync options ≡ true → S.durable store.new.inner ≡ changed (S.durable store.old.inner) (B.place self.old.inner) (λ x. overlay x offset bytes)) }
-        ensures current { OnOk result (is_sync options ≡ true → bytes ≢ [] → is_current (S.directory store.old.inner) (B.place self.old.inner) ≡ true) }
-        ensures plain { OnOk result (is_sync options ≡ false → S.durable store.new.inner ≡ S.durable store.old.inner) }
+        ensures wrote { let old = seen S.directory S.durable S.place B.place B.live self.old store.old in
+            let new = seen S.directory S.durable S.place B.place B.live self.new store.new in
+            Wrote B.is_direct old new (unrecorded (is_sync options) offset bytes) (refused result) }
         ensures room { OnOk result (is_sync options ≡ true → B.room self.old.inner store.old.inner ≤ B.room self.new.inner store.new.inner) }
-        ensures direct_durable { B.is_direct ≡ true → OnErr result (S.durable store.new.inner ≡ S.durable store.old.inner) }
-        ensures stale { is_current (S.directory store.old.inner) (B.place self.old.inner) ≡ false → S.durable store.new.inner ≡ S.durable store.old.inner }
-        ensures memory { IsMemory result → (B.live self.new.inner ≡ B.live self.old.inner) × (S.durable store.new.inner ≡ S.durable store.old.inner) }
-        ensures directory { S.directory store.new.inner ≡ S.directory store.old.inner }
-        ensures place { B.place self.new.inner ≡ B.place self.old.inner }
-        ensures size { OnOk result (self.new.size ≡ max self.old.size (offset + length bytes)) }
-        ensures same_size { OnErr result (self.new.size ≡ self.old.size) }
         ensures rest { store.new ≡ record store.old { inner = store.new.inner } }
     {
         let end = offset + bytes.remaining() as u64;
@@ -160,39 +147,32 @@ impl<B> Blob<B> {
 }
 
 impl<B> Blob<B> {
-    /// A write that is pending until it is retired.
-    pub(crate) fn write_pending<S: blob_base::Storage, R>(
+    /// A write that isn't durable. It is pending where retention is set and there is a byte, and then takes a number.
+    fn write_plain<S: blob_base::Storage, R>(
         &mut self,
         store: &mut Storage<S, R>,
         offset: u64,
         bytes: IoBufs,
         options: WriteOptions,
-        config: WriteConfig,
     ) -> Result<(), Error>
     where
         B: blob_base::Blob<S>,
         requires plain { is_sync options ≡ false }
-        requires some { 0 < length bytes }
         requires fits { offset + length bytes < 2 ^ 64 }
-        requires left { store.old.next_write < 2 ^ 64 - 1 }
-        ensures allowed { or_memory (B.allows_write self.old.inner store.old.inner offset bytes false) (refused result) }
-        ensures live { OnOk result (B.live self.new.inner ≡ written (B.live self.old.inner) offset bytes) }
-        ensures direct_live { B.is_direct ≡ true → B.live self.new.inner ≡ live_after false (B.live self.old.inner) offset bytes (refused result) }
-        ensures plain { OnOk result (S.durable store.new.inner ≡ S.durable store.old.inner) }
-        ensures direct_durable { B.is_direct ≡ true → OnErr result (S.durable store.new.inner ≡ S.durable store.old.inner) }
-        ensures stale { is_current (S.directory store.old.inner) (B.place self.old.inner) ≡ false → S.durable store.new.inner ≡ S.durable store.old.inner }
-        ensures memory { IsMemory result → (B.live self.new.inner ≡ B.live self.old.inner) × (S.durable store.new.inner ≡ S.durable store.old.inner) }
-        ensures directory { S.directory store.new.inner ≡ S.directory store.old.inner }
-        ensures place { B.place self.new.inner ≡ B.place self.old.inner }
-        ensures size { OnOk result (self.new.size ≡ max self.old.size (offset + length bytes)) }
-        ensures same_size { OnErr result (self.new.size ≡ self.old.size) }
-        ensures rest { (store.new.rng ≡ store.old.rng) × (store.new.config ≡ store.old.config) × (store.new.next_marker ≡ store.old.next_marker) }
-        ensures next { OnOk result (store.new.next_write ≡ store.old.next_write + 1) }
-        ensures err { OnErr result (store.new.next_write ≡ store.old.next_write) }
-        ensures lists { OnOk result ((o : Place) → pending_of S.place store.new o ≡ with_at (pending_of S.place store.old) (B.place self.old.inner) (pending_of S.place store.old (B.place self.old.inner) ++ Waiting (need_of (issued store.old.next_write offset bytes config) []) ∷ []) o) }
-        ensures same_lists { OnErr result ((o : Place) → pending_of S.place store.new o ≡ pending_of S.place store.old o) }
-        ensures apart { ArePlacesApart (held S.place store.old.lists.all.lists.items) → ArePlacesApart (held S.place store.new.lists.all.lists.items) }
+        ensures allowed { or_memory (numbered (lacks_number (is_some (retention store.old.config.write_rate)) store.old.next_write bytes) (B.allows_write self.old.inner store.old.inner offset bytes false)) (refused result) }
+        ensures recorded { let old = seen S.directory S.durable S.place B.place B.live self.old store.old in
+            let new = seen S.directory S.durable S.place B.place B.live self.new store.new in
+            Recorded B.is_direct old new (plain offset bytes) (refused result) }
     {
+        let Some(config) = retained(store.config.write_rate) else {
+            return self.write_unrecorded(store, offset, bytes, options);
+        };
+        if bytes.is_empty() {
+            return self.write_unrecorded(store, offset, bytes, options);
+        }
+        if store.next_write == u64::MAX {
+            return Err(Error::GenerationsExhausted);
+        }
         let copy = bytes.copied()?;
         let list = self.room_for_entry(store)?;
         self.write_unrecorded(store, offset, bytes, options)?;
@@ -200,11 +180,44 @@ impl<B> Blob<B> {
         self.list = list;
         Ok(())
     }
-}
 
-impl<B> Blob<B> {
+    /// A range that is durable at once, by a SYNC write of the inner blob, where its list has room for it. Only where it
+    /// is queued its bytes have to be in `copy`.
+    pub(crate) fn lay_range<S: blob_base::Storage, R>(
+        &mut self,
+        store: &mut Storage<S, R>,
+        list: usize,
+        offset: u64,
+        bytes: IoBufs,
+        copy: IoBufs,
+        options: WriteOptions,
+    ) -> Result<(), Error>
+    where
+        B: blob_base::Blob<S>,
+        requires sync { is_sync options ≡ true }
+        requires some { 0 < length bytes }
+        requires fits { offset + length bytes < 2 ^ 64 }
+        requires len { length copy ≤ length bytes }
+        requires copied { has_barrier (pending_of S.place store.old (B.place self.old.inner)) ≡ true → copy ≡ bytes }
+        requires room { let lists = store.old.lists.all.lists.items in
+            HasRoomAt S.place lists list (B.place self.old.inner) ((offset, offset + length bytes) ∷ []) }
+        ensures allowed { B.allows_write self.old.inner store.old.inner offset bytes true (refused result) }
+        ensures recorded { let old = seen S.directory S.durable S.place B.place B.live self.old store.old in
+            let new = seen S.directory S.durable S.place B.place B.live self.new store.new in
+            Recorded B.is_direct old new (laid_runs ((offset, bytes) ∷ [])) (refused result) }
+        ensures kept_room { OnOk result (B.room self.old.inner store.old.inner ≤ B.room self.new.inner store.new.inner) }
+        ensures left { OnOk result ((later : Holes) →
+            HasRoomAt S.place store.old.lists.all.lists.items list (B.place self.old.inner) ((offset, offset + length bytes) ∷ later) →
+            HasRoomAt S.place store.new.lists.all.lists.items list (B.place self.new.inner) later) }
+    {
+        let len = bytes.remaining() as u64;
+        self.write_unrecorded(store, offset, bytes, options)?;
+        store.lists.lay(list, offset, len, copy);
+        Ok(())
+    }
+
     /// A SYNC write: its range is durable at once, and the pending writes give up what it covers.
-    pub(crate) fn write_synced<S: blob_base::Storage, R>(
+    fn write_synced<S: blob_base::Storage, R>(
         &mut self,
         store: &mut Storage<S, R>,
         offset: u64,
@@ -214,31 +227,54 @@ impl<B> Blob<B> {
     where
         B: blob_base::Blob<S>,
         requires sync { is_sync options ≡ true }
-        requires some { 0 < length bytes }
+        requires some { bytes ≢ [] }
         requires fits { offset + length bytes < 2 ^ 64 }
         ensures allowed { or_memory (B.allows_write self.old.inner store.old.inner offset bytes true) (refused result) }
-        ensures live { OnOk result (B.live self.new.inner ≡ written (B.live self.old.inner) offset bytes) }
-        ensures direct_live { B.is_direct ≡ true → B.live self.new.inner ≡ live_after true (B.live self.old.inner) offset bytes (refused result) }
-        ensures synced { OnOk result (S.durable store.new.inner ≡ changed (S.durable store.old.inner) (B.place self.old.inner) (λ x. overlay x offset bytes)) }
-        ensures current { OnOk result (is_current (S.directory store.old.inner) (B.place self.old.inner) ≡ true) }
-        ensures direct_durable { B.is_direct ≡ true → OnErr result (S.durable store.new.inner ≡ S.durable store.old.inner) }
-        ensures stale { is_current (S.directory store.old.inner) (B.place self.old.inner) ≡ false → S.durable store.new.inner ≡ S.durable store.old.inner }
-        ensures memory { IsMemory result → (B.live self.new.inner ≡ B.live self.old.inner) × (S.durable store.new.inner ≡ S.durable store.old.inner) }
-        ensures directory { S.directory store.new.inner ≡ S.directory store.old.inner }
-        ensures place { B.place self.new.inner ≡ B.place self.old.inner }
-        ensures size { OnOk result (self.new.size ≡ max self.old.size (offset + length bytes)) }
-        ensures same_size { OnErr result (self.new.size ≡ self.old.size) }
-        ensures rest { (store.new.rng ≡ store.old.rng) × (store.new.config ≡ store.old.config) × (store.new.next_write ≡ store.old.next_write) × (store.new.next_marker ≡ store.old.next_marker) }
-        ensures lists { OnOk result ((o : Place) → pending_of S.place store.new o ≡ with_at (pending_of S.place store.old) (B.place self.old.inner) (laid offset bytes (pending_of S.place store.old (B.place self.old.inner))) o) }
-        ensures same_lists { OnErr result ((o : Place) → pending_of S.place store.new o ≡ pending_of S.place store.old o) }
-        ensures apart { ArePlacesApart (held S.place store.old.lists.all.lists.items) → ArePlacesApart (held S.place store.new.lists.all.lists.items) }
+        ensures recorded { let old = seen S.directory S.durable S.place B.place B.live self.old store.old in
+            let new = seen S.directory S.durable S.place B.place B.live self.new store.new in
+            Recorded B.is_direct old new (laid_runs ((offset, bytes) ∷ [])) (refused result) }
     {
         let len = bytes.remaining() as u64;
         let list = self.room_for_ranges(store, offset, offset + len, 1)?;
         let copy = store.lists.copy_for(list, &bytes)?;
-        self.write_unrecorded(store, offset, bytes, options)?;
-        store.lists.lay(list, offset, len, copy);
         self.list = list;
-        Ok(())
+        self.lay_range(store, list, offset, bytes, copy, options)
+    }
+
+    /// A write of some bytes whose fate was drawn.
+    pub(crate) fn write_by_fate<S: blob_base::Storage, R>(
+        &mut self,
+        store: &mut Storage<S, R>,
+        fate: WriteFate,
+        offset: u64,
+        bytes: IoBufs,
+        options: WriteOptions,
+    ) -> Result<(), Error>
+    where
+        B: blob_base::Blob<S>,
+        requires some { is_sync options ≡ true → bytes ≢ [] }
+        requires fits { offset + length bytes < 2 ^ 64 }
+        requires sized { IsSized (length bytes) (write_fate_of fate) }
+        ensures allowed { or_memory (allows_fate (write_fate_of fate) (B.allows_write self.old.inner store.old.inner) (B.allows_reserve self.old.inner store.old.inner) B.is_direct (is_some (retention store.old.config.write_rate)) store.old.next_write (is_sync options) offset bytes) (refused result) }
+        ensures wrote { let old = seen S.directory S.durable S.place B.place B.live self.old store.old in
+            let new = seen S.directory S.durable S.place B.place B.live self.new store.new in
+            WroteBy (write_fate_of fate) B.is_direct old new (is_sync options) offset bytes (refused result) }
+    {
+        match fate {
+            WriteFate::Done => {
+                if options.contains(WriteOptions::SYNC) {
+                    return self.write_synced(store, offset, bytes, options);
+                }
+                self.write_plain(store, offset, bytes, options)
+            }
+            WriteFate::Unsynced => {
+                self.write_plain(store, offset, bytes, options.without(WriteOptions::SYNC))?;
+                Err(Error::Injected)
+            }
+            WriteFate::Failed(kept) => {
+                self.lay_kept(store, offset, bytes, &kept)?;
+                Err(Error::Injected)
+            }
+        }
     }
 }

@@ -1,12 +1,16 @@
-use Rattle.std.proofs.Common.{◌≡◌, List, [], None, refl, inr, sym, ◌∙◌, ap, subst}
+use Rattle.std.proofs.Common.{rules, ◌≡◌, ◌≤◌, List, [], None, refl, inr, sym, ◌∙◌, ap₂, subst, arith}
 use Rattle.std.proofs.lemmas.Bool.{eqb-true}
-use Rattle.blob_base.specs.Runs.{Run, runs, kept_runs, AreRunsApart}
-use Rattle.blob_faulty.specs.Answers.{or_memory, allows_runs}
-use Rattle.blob_base.specs.Live.{all_written}
-use Rattle.blob_faulty.specs.Recorded.{size_of_runs}
-use Rattle.blob_faulty.specs.Wrapper.{Adds}
-use Rattle.blob_faulty.proofs.FailedSteps.{runs_of_none}
+use Rattle.std.proofs.lemmas.Grind.{common_steps}
+use Rattle.blob_base.specs.Directory.{is_current}
+use Rattle.blob_base.specs.Refusals.{refused}
+use Rattle.blob_base.specs.Runs.{Run, runs, AreRunsApart}
+use Rattle.blob_faulty.specs.declared.write_runs.Piece.{Piece}
+use Rattle.blob_faulty.specs.Answers.{or_memory, allows_runs, last_end}
+use Rattle.blob_faulty.specs.Pieces.{runs_in}
+use Rattle.blob_faulty.specs.Writes.{View, Recorded, seen, laid_runs}
+use Rattle.blob_faulty.proofs.FailedSteps.{runs_of_none, end_by_last}
 use Rattle.blob_faulty.proofs.HoleRoom.{sooner}
+use Rattle.blob_faulty.proofs.Writing.{no_runs, runs_after}
 use Rattle.blob_faulty.proofs.blob.Blob.lay_kept.Goals as goal
 
 pub returns-then-is_empty-clause-allowed : goal.returns-then-is_empty-clause-allowed
@@ -14,20 +18,30 @@ returns-then-is_empty-clause-allowed g c =
     let none : runs c.args.offset c.args.bytes c.args.kept.now ≡ [] = runs_of_none c.args.offset c.args.bytes c.args.kept.now (eqb-true _ _ (sym c.is_empty.ensures ∙ c.if-is_empty.true)) in
     subst (λ (rs : List Run). or_memory (allows_runs (g.B.Blob.allows_write c.args.self.now.inner c.args.store.now.inner) (g.B.Blob.allows_reserve c.args.self.now.inner c.args.store.now.inner) g.B.Blob.is_direct rs) None) (sym none) (inr refl)
 
-pub returns-then-is_empty-clause-live : goal.returns-then-is_empty-clause-live
-returns-then-is_empty-clause-live g c =
-    ap (all_written (g.B.Blob.live c.args.self.now.inner)) (sym (runs_of_none c.args.offset c.args.bytes c.args.kept.now (eqb-true _ _ (sym c.is_empty.ensures ∙ c.if-is_empty.true))))
-
-pub returns-then-is_empty-clause-size : goal.returns-then-is_empty-clause-size
-returns-then-is_empty-clause-size g c =
-    ap (size_of_runs c.args.self.now.size) (sym (runs_of_none c.args.offset c.args.bytes c.args.kept.now (eqb-true _ _ (sym c.is_empty.ensures ∙ c.if-is_empty.true))))
-
 pub returns-then-is_empty-clause-recorded : goal.returns-then-is_empty-clause-recorded
 returns-then-is_empty-clause-recorded g c =
-    let none : runs c.args.offset c.args.bytes c.args.kept.now ≡ [] = runs_of_none c.args.offset c.args.bytes c.args.kept.now (eqb-true _ _ (sym c.is_empty.ensures ∙ c.if-is_empty.true)) in
-    subst (λ (rs : List Run). Adds g.S.Durable.place (g.S.Durable.directory c.args.store.now.inner) (g.S.Durable.durable c.args.store.now.inner) (g.S.Durable.durable c.args.store.now.inner) c.args.store.now c.args.store.now (g.B.Blob.place c.args.self.now.inner) (kept_runs rs)) (sym none) (λ files below s. s)
+    no_runs _ _ _ (runs_of_none c.args.offset c.args.bytes c.args.kept.now (eqb-true _ _ (sym c.is_empty.ensures ∙ c.if-is_empty.true)))
 
-pub lay_all-requires : goal.lay_all-requires
-lay_all-requires g c =
-    subst (λ (rs : List Run). AreRunsApart 0 rs) (sym c.in_ok-pieces.ensures.ok)
-    (sooner c.args.offset _ (c.runs_are_choices.ensures.apart c.args.offset c.in_ok-bytes.bytes.items c.args.kept.now))
+pub reserve_runs-requires : goal.reserve_runs-requires
+reserve_runs-requires g c =
+    subst (λ (ps : List Piece). AreRunsApart 0 (runs_in ps)) (sym c.deref.ensures.value)
+    (subst (λ (rs : List Run). AreRunsApart 0 rs) (sym c.in_ok-pieces.ensures.ok)
+    (sooner c.args.offset _ (c.runs_are_choices.ensures.apart c.args.offset c.in_ok-bytes.bytes.items c.args.kept.now)))
+
+pub lay_runs-requires-clause-within : goal.lay_runs-requires-clause-within
+lay_runs-requires-clause-within g c direct now k d h =
+    let apart : AreRunsApart 0 (runs_in c.in_ok-pieces.pieces.items) = subst (λ (rs : List Run). AreRunsApart 0 rs) (sym c.in_ok-pieces.ensures.ok)
+    (sooner c.args.offset _ (c.runs_are_choices.ensures.apart c.args.offset c.in_ok-bytes.bytes.items c.args.kept.now)) in
+    let room : last_end 0 (runs_in c.in_ok-pieces.pieces.items) ≤ g.B.Blob.room c.reserve_runs.new.self.inner c.reserve_runs.new.store.inner =
+    subst (λ (ps : List Piece). last_end 0 (runs_in ps) ≤ g.B.Blob.room c.reserve_runs.new.self.inner c.reserve_runs.new.store.inner) c.deref.ensures.value
+    (c.in_ok-list.ensures.room direct (sym (ap₂ is_current c.reserve_runs.ensures.unchanged.directory c.reserve_runs.ensures.unchanged.place) ∙ now)) in
+    let ends = end_by_last 0 0 (runs_in c.in_ok-pieces.pieces.items) apart k d h in
+    omega arith
+
+pub returns-clause-recorded : goal.returns-clause-recorded
+returns-clause-recorded g c =
+    let old : View g.row.R.Denot = seen g.S.Durable.directory g.S.Durable.durable g.S.Durable.place g.B.Blob.place g.B.Blob.live c.args.self.now c.args.store.now in
+    let new : View g.row.R.Denot = seen g.S.Durable.directory g.S.Durable.durable g.S.Durable.place g.B.Blob.place g.B.Blob.live c.lay_runs.new.self c.lay_runs.new.store in
+    let same : runs_in c.in_ok-pieces.pieces.items ≡ runs c.args.offset c.args.bytes c.args.kept.now = first_of (search rules, grind (arith, common_steps)) in
+    subst (λ (rs : List Run). Recorded g.B.Blob.is_direct old new (laid_runs rs) (refused c.lay_runs.result)) same
+    (runs_after g.B.Blob.is_direct old _ new (runs_in c.in_ok-pieces.pieces.items) (refused c.lay_runs.result) c.reserve_runs.ensures.unchanged c.lay_runs.ensures.recorded)

@@ -1,22 +1,45 @@
-use Rattle.std.proofs.Common.{◌≡◌, ◌+◌, length, List, ◌∷◌, All, subst}
+use Rattle.std.proofs.Common.{◌≡◌, ◌+◌, true, length, List, ◌∷◌, All, None, refl, sym, ◌∙◌, ap₂, subst}
+use Rattle.blob_base.specs.Directory.{is_current}
+use Rattle.blob_base.specs.Refusals.{refused}
 use Rattle.blob_base.specs.Runs.{Run}
-use Rattle.blob_faulty.specs.Lists.{HasRangesAt}
+use Rattle.blob_faulty.specs.Lists.{HasRoomAt}
 use Rattle.blob_faulty.specs.Pieces.{run_of, runs_in, extents, EndsWithin}
-use Rattle.blob_faulty.proofs.HoleRoom.{first_range}
-use Rattle.blob_faulty.proofs.RunSteps.{popped, later_within}
+use Rattle.blob_faulty.specs.Writes.{View, Recorded, seen, laid_runs}
+use Rattle.blob_faulty.proofs.Adding.{bytes_some}
+use Rattle.blob_faulty.proofs.HoleRoom.{first_at}
+use Rattle.blob_faulty.proofs.RunSteps.{not_stale, popped, later_within}
+use Rattle.blob_faulty.proofs.Writing.{then_runs}
 use Rattle.blob_faulty.proofs.blob.Blob.lay_runs.Goals as goal
 
-pub lay_later-requires-clause-ranges : goal.lay_later-requires-clause-ranges
-lay_later-requires-clause-ranges g c =
-    c.in_ok-lay_run.ensures.ranges (runs_in c.pop.new.self.items) (subst (λ (rs : List Run). HasRangesAt c.args.store.now.lists.all.lists.items c.args.list (extents rs)) (popped _ _ c.in-Some.first c.in-Some.ensures.items) c.requires.ranges)
+pub lay_range-requires-clause-room : goal.lay_range-requires-clause-room
+lay_range-requires-clause-room g c =
+    first_at g.S.Durable.place c.args.store.now.lists.all.lists.items c.args.list (g.B.Blob.place c.args.self.now.inner) (c.in-Some.first.offset, c.in-Some.first.offset + length c.in-Some.first.bytes) (extents (runs_in c.pop.new.self.items))
+    (subst (λ (rs : List Run). HasRoomAt g.S.Durable.place c.args.store.now.lists.all.lists.items c.args.list (g.B.Blob.place c.args.self.now.inner) (extents rs)) (popped _ _ c.in-Some.first c.in-Some.ensures.items) c.requires.room)
 
-pub lay_run-requires-clause-room : goal.lay_run-requires-clause-room
-lay_run-requires-clause-room g c =
-    first_range c.args.store.now.lists.all.lists.items c.args.list (c.in-Some.first.offset, c.in-Some.first.offset + length c.in-Some.first.bytes) (extents (runs_in c.pop.new.self.items))
-    (subst (λ (rs : List Run). HasRangesAt c.args.store.now.lists.all.lists.items c.args.list (extents rs)) (popped _ _ c.in-Some.first c.in-Some.ensures.items) c.requires.ranges)
+pub lay_later-requires-clause-room : goal.lay_later-requires-clause-room
+lay_later-requires-clause-room g c =
+    c.in_ok-lay_range.ensures.left (extents (runs_in c.pop.new.self.items)) (subst (λ (rs : List Run). HasRoomAt g.S.Durable.place c.args.store.now.lists.all.lists.items c.args.list (g.B.Blob.place c.args.self.now.inner) (extents rs)) (popped _ _ c.in-Some.first c.in-Some.ensures.items) c.requires.room)
+
+pub lay_later-requires-clause-current : goal.lay_later-requires-clause-current
+lay_later-requires-clause-current g c =
+    let now : is_current (g.S.Durable.directory c.args.store.now.inner) (g.B.Blob.place c.args.self.now.inner) ≡ true =
+    not_stale _ (λ stale. g.met.B.Blob.stale_refused c.args.self.now.inner c.args.store.now.inner c.in-Some.first.offset c.in-Some.first.bytes stale (bytes_some c.in-Some.first.bytes c.in-Some.first.some) c.in_ok-lay_range.ensures.allowed) in
+    ap₂ is_current c.lay_range.ensures.recorded.wrote.directory c.lay_range.ensures.recorded.wrote.place ∙ now
 
 pub lay_later-requires-clause-within : goal.lay_later-requires-clause-within
 lay_later-requires-clause-within g c direct =
+    let now : is_current (g.S.Durable.directory c.args.store.now.inner) (g.B.Blob.place c.args.self.now.inner) ≡ true =
+    not_stale _ (λ stale. g.met.B.Blob.stale_refused c.args.self.now.inner c.args.store.now.inner c.in-Some.first.offset c.in-Some.first.bytes stale (bytes_some c.in-Some.first.bytes c.in-Some.first.some) c.in_ok-lay_range.ensures.allowed) in
     let e : runs_in c.args.pieces.items ≡ run_of c.in-Some.first ∷ runs_in c.pop.new.self.items = popped _ _ c.in-Some.first c.in-Some.ensures.items in
-    later_within _ _ (run_of c.in-Some.first) (runs_in c.pop.new.self.items) c.in_ok-lay_run.ensures.kept_room
-    (subst (λ (rs : List Run). All (EndsWithin (g.B.Blob.room c.args.self.now.inner c.args.store.now.inner)) rs) e (c.requires.within direct c.in_ok-lay_run.ensures.current))
+    later_within _ _ (run_of c.in-Some.first) (runs_in c.pop.new.self.items) c.in_ok-lay_range.ensures.kept_room
+    (subst (λ (rs : List Run). All (EndsWithin (g.B.Blob.room c.args.self.now.inner c.args.store.now.inner)) rs) e (c.requires.within direct now))
+
+pub returns-clause-recorded : goal.returns-clause-recorded
+returns-clause-recorded g c =
+    let now : is_current (g.S.Durable.directory c.args.store.now.inner) (g.B.Blob.place c.args.self.now.inner) ≡ true =
+    not_stale _ (λ stale. g.met.B.Blob.stale_refused c.args.self.now.inner c.args.store.now.inner c.in-Some.first.offset c.in-Some.first.bytes stale (bytes_some c.in-Some.first.bytes c.in-Some.first.some) c.in_ok-lay_range.ensures.allowed) in
+    let e : runs_in c.args.pieces.items ≡ run_of c.in-Some.first ∷ runs_in c.pop.new.self.items = popped _ _ c.in-Some.first c.in-Some.ensures.items in
+    let old : View g.row.R.Denot = seen g.S.Durable.directory g.S.Durable.durable g.S.Durable.place g.B.Blob.place g.B.Blob.live c.args.self.now c.args.store.now in
+    let new : View g.row.R.Denot = seen g.S.Durable.directory g.S.Durable.durable g.S.Durable.place g.B.Blob.place g.B.Blob.live c.lay_later.new.self c.lay_later.new.store in
+    subst (λ (rs : List Run). Recorded g.B.Blob.is_direct old new (laid_runs rs) (refused c.lay_later.result)) (sym e)
+    (then_runs g.B.Blob.is_direct old _ new (run_of c.in-Some.first) (runs_in c.pop.new.self.items) None c.lay_later.result refl c.lay_later.ensures.failed c.lay_later.ensures.indirect now c.in_ok-lay_range.ensures.recorded c.lay_later.ensures.recorded)

@@ -1,4 +1,5 @@
-use Rattle.std.proofs.Common.{ℕ, length, sym, subst}
+use Rattle.std.proofs.Common.{rules, ℕ, length, sym, subst, arith}
+use Rattle.std.proofs.lemmas.Grind.{common_steps}
 use Rattle.blob_faulty.specs.Answers.{last_end}
 use Rattle.blob_faulty.specs.Pieces.{runs_in, extents}
 use Rattle.blob_faulty.specs.Rooms.{AreWithin}
@@ -8,6 +9,10 @@ use Rattle.blob_faulty.proofs.blob.Blob.reserve_runs.Goals as goal
 pub returns-clause-ranges : goal.returns-clause-ranges
 returns-clause-ranges g c =
     let ps = c.args.pieces.now in
-    c.in_ok-list.ensures.room (extents (runs_in ps))
-    (subst (λ (end : ℕ). AreWithin c.first_start-start.result end (length ps) (extents (runs_in ps))) (sym c.last_end-end.ensures)
-    (subst (λ (start : ℕ). AreWithin start (last_end 0 (runs_in ps)) (length ps) (extents (runs_in ps))) (sym c.first_start-start.ensures) (runs_within ps c.requires)))
+    record {
+      at = first_of (search rules, grind (arith, common_steps));
+      inside = first_of (search rules, grind (arith, common_steps));
+      ranges = c.in_ok-list.ensures.room (extents (runs_in ps))
+          (subst (λ (end : ℕ). AreWithin c.first_start-start.result end (length ps) (extents (runs_in ps))) (sym c.last_end-end.ensures)
+          (subst (λ (start : ℕ). AreWithin start (last_end 0 (runs_in ps)) (length ps) (extents (runs_in ps))) (sym c.first_start-start.ensures) (runs_within ps c.requires)));
+    }

@@ -1,22 +1,38 @@
-use Rattle.std.proofs.Common.{rules, ◌≡◌, ◌≢◌, ◌+◌, ◌^◌, ◌<◌, List, [], true, false, length, arith, sym, ◌∙◌, subst}
-use Rattle.std.proofs.lemmas.Bool.{cond-false, le-ltb}
+use Rattle.std.proofs.Common.{rules, ◌≡◌, false, true, Option, Some, ap, sym, ◌∙◌, subst, arith}
+use Rattle.std.specs.Prelude.{is_some}
 use Rattle.std.proofs.lemmas.Grind.{common_steps}
-use Rattle.blob_base.specs.Log.{Entry}
 use Rattle.blob_base.specs.Options.{is_sync}
-use Rattle.blob_faulty.specs.Faults.{is_nothing, is_uncounted}
-use Rattle.blob_faulty.specs.Wrapper.{Adds}
-use Rattle.blob_faulty.proofs.Adding.{nothing_changed, nothing_not}
+use Rattle.blob_base.specs.Refusals.{Refusal, refused, refusal_of}
+use Rattle.blob_base.specs.Runs.{runs}
+use Rattle.blob_faulty.specs.Answers.{or_memory, lacks_number, allows_runs}
+use Rattle.blob_faulty.specs.Faults.{Unsynced, Failed, retention}
+use Rattle.blob_faulty.specs.Fates.{write_fate_of}
+use Rattle.blob_faulty.proofs.Fating.{unsynced_refused, failed_refused, runs_uninjected, reserve_uninjected, of_fate}
 use Rattle.blob_faulty.proofs.blob.Blob.write_by_fate.Goals as goal
 
-pub returns-then-len-eq0-clause-synced : goal.returns-then-len-eq0-clause-synced
-returns-then-len-eq0-clause-synced g c sync = nothing_changed _ _ c.args.offset c.args.bytes (omega arith)
+pub returns-in_err-write_plain-in-Unsynced-clause-wrote :
+    goal.returns-in_err-write_plain-in-Unsynced-clause-wrote
+returns-in_err-write_plain-in-Unsynced-clause-wrote g c =
+    let e = c.in_err-write_plain-in-Unsynced.field-0.0 in
+    let same : refused c.from_residual.result ≡ Some (refusal_of e) = first_of (search rules, cc, grind (arith, common_steps)) in
+    let is : refused c.write_plain-in-Unsynced.result ≡ Some (refusal_of e) = first_of (search rules, cc, grind (arith, common_steps)) in
+    let fate : write_fate_of c.args.fate ≡ Unsynced = ap write_fate_of c.in-Unsynced.is in
+    of_fate _ _ _ _ _ _ _ _ _ _ fate same
+    (unsynced_refused _ _ _ (is_sync c.args.options) _ _ (lacks_number (is_some (retention c.args.store.now.config.write_rate)) c.args.store.now.next_write c.args.bytes) (g.B.Blob.allows_write c.args.self.now.inner c.args.store.now.inner c.args.offset c.args.bytes false)
+    (refused c.write_plain-in-Unsynced.result) (refusal_of e) is
+    (λ direct. g.met.B.Blob.uninjected c.args.self.now.inner c.args.store.now.inner c.args.offset c.args.bytes false direct) c.write_plain-in-Unsynced.ensures.allowed c.write_plain-in-Unsynced.ensures.recorded)
 
-pub returns-clause-recorded : goal.returns-clause-recorded
-returns-clause-recorded g c direct =
-    let some : is_sync c.args.options ≡ true → c.args.bytes ≢ [] = first_of (search rules, grind (arith, common_steps)) in
-    let fits : c.args.offset + length c.args.bytes < 2 ^ 64 = first_of (search rules, grind (arith, common_steps)) in
-    let nothing : is_nothing (is_sync c.args.options) c.args.bytes ≡ false = nothing_not (is_sync c.args.options) c.args.bytes some in
-    let counted : is_uncounted c.args.offset c.args.bytes ≡ false = le-ltb _ _ (omega (arith, fits)) in
-    subst (λ (es : List Entry). Adds g.S.Durable.place (g.S.Durable.directory c.args.store.now.inner) (g.S.Durable.durable c.args.store.now.inner) (g.S.Durable.durable c.write_drawn.new.store.inner) c.args.store.now c.write_drawn.new.store (g.B.Blob.place c.args.self.now.inner) es)
-    (sym (cond-false (is_nothing (is_sync c.args.options) c.args.bytes) _ _ nothing ∙ cond-false (is_uncounted c.args.offset c.args.bytes) _ _ counted))
-    (c.write_drawn.ensures.recorded direct)
+pub returns-in_err-lay_kept-in-Failed-clause-wrote :
+    goal.returns-in_err-lay_kept-in-Failed-clause-wrote
+returns-in_err-lay_kept-in-Failed-clause-wrote g c =
+    let e = c.in_err-lay_kept-in-Failed.field-0.0 in
+    let same : refused c.from_residual-in_err-lay_kept-in-Failed.result ≡ Some (refusal_of e) = first_of (search rules, cc, grind (arith, common_steps)) in
+    let is : refused c.lay_kept.result ≡ Some (refusal_of e) = first_of (search rules, cc, grind (arith, common_steps)) in
+    let fate : write_fate_of c.args.fate ≡ Failed c.deref.result.now = ap write_fate_of c.in-Failed.is ∙ ap Failed (sym c.deref.ensures.value) in
+    of_fate _ _ _ _ _ _ _ _ _ _ fate same
+    (failed_refused c.deref.result.now _ _ _ (is_sync c.args.options) _ _ (refused c.lay_kept.result) (refusal_of e) is
+    (λ direct. runs_uninjected (g.B.Blob.allows_write c.args.self.now.inner c.args.store.now.inner) (g.B.Blob.allows_reserve c.args.self.now.inner c.args.store.now.inner) g.B.Blob.is_direct (runs c.args.offset c.args.bytes c.deref.result.now) (refusal_of e)
+    (λ o b. g.met.B.Blob.uninjected c.args.self.now.inner c.args.store.now.inner o b true direct)
+    (λ end. reserve_uninjected _ (g.met.B.Blob.reserve_refused c.args.self.now.inner c.args.store.now.inner end _))
+    (subst (λ (a : Option Refusal). or_memory (allows_runs (g.B.Blob.allows_write c.args.self.now.inner c.args.store.now.inner) (g.B.Blob.allows_reserve c.args.self.now.inner c.args.store.now.inner) g.B.Blob.is_direct (runs c.args.offset c.args.bytes c.deref.result.now)) a) is c.lay_kept.ensures.allowed))
+    c.lay_kept.ensures.recorded)

@@ -1,0 +1,195 @@
+-- What a write makes of a handle and of the wrapper that it is used with.
+use Rattle.std.specs.Prelude.{◌≡◌, ℕ, ◌<◌, ◌+◌, max, Bool, true, false, List, [], ◌∷◌, length, Option, Some, None, IsSome}
+use Rattle.blob_base.specs.Bytes.{overlay, resized}
+use Rattle.blob_base.specs.Directory.{Directory, is_current}
+use Rattle.blob_base.specs.Durable.{Durable, changed}
+use Rattle.blob_base.specs.Files.{Files, all_logged}
+use Rattle.blob_base.specs.Live.{live_after, live_written, all_written}
+use Rattle.blob_base.specs.Log.{Entry}
+use Rattle.blob_base.specs.Order.{Held, held_at, ArePlacesApart}
+use Rattle.blob_base.specs.Places.{Place}
+use Rattle.blob_base.specs.Refusals.{Refusal, Memory}
+use Rattle.blob_base.specs.Runs.{Run, kept_runs}
+use Rattle.blob_base.specs.Stands.{StandsFor}
+use Rattle.blob_faulty.specs.declared.blob.Blob.{Blob}
+use Rattle.blob_faulty.specs.declared.config.Config.{Config}
+use Rattle.blob_faulty.specs.declared.storage.Storage.{Storage}
+use Rattle.blob_faulty.specs.Lists.{held}
+use Rattle.blob_faulty.specs.Pieces.{first_after}
+use Rattle.blob_faulty.specs.Faults.{WriteFate, ResizeFate, retention}
+use Rattle.blob_faulty.specs.Recorded.{loose, size_of_runs, recorded_by, live_by, size_by, recorded_resize, live_of_resize, size_of_resize}
+
+-- a handle and its wrapper, over an inner store
+pub record View (R : Type 0) : Type 0 where
+  pub directory : Directory
+  pub durable : Durable
+  pub place : Place
+  pub live : List ℕ
+  pub size : ℕ
+  pub held : List Held
+  pub next_write : ℕ
+  pub next_marker : ℕ
+  pub config : Config
+  pub rng : R
+
+abbrev pub seen : {S R O B : Type 0} → (S → Directory) → (S → Durable) → (O → Place) → (B → Place) → (B → List ℕ) → Blob B → Storage S R O → View R
+seen directory durable origin place live b w = record {
+  directory = directory w.inner;
+  durable = durable w.inner;
+  place = place b.inner;
+  live = live b.inner;
+  size = b.size;
+  held = held origin w.lists.all.lists.items;
+  next_write = w.next_write;
+  next_marker = w.next_marker;
+  config = w.config;
+  rng = w.rng;
+}
+
+-- a wrapper stands for files
+pub record IsFor {R : Type 0} (v : View R) (files : Files) : Type 0 where
+  pub stands : StandsFor v.directory v.durable (held_at v.held) v.next_write v.next_marker files
+  pub apart : ArePlacesApart v.held
+
+-- whatever files it stood for, it now stands for them with these entries added to the log of the handle's incarnation
+abbrev pub Logs : {R : Type 0} → View R → View R → List Entry → Type 0
+Logs old new entries = (files : Files) → old.place.number < old.directory.next → IsFor old files → IsFor new (all_logged files old.place entries)
+
+-- nothing was recorded and nothing retired
+pub record SameRecords {R : Type 0} (old new : View R) : Type 0 where
+  pub pending : (o : Place) → held_at new.held o ≡ held_at old.held o
+  pub apart : ArePlacesApart old.held → ArePlacesApart new.held
+  pub next_write : new.next_write ≡ old.next_write
+  pub next_marker : new.next_marker ≡ old.next_marker
+
+-- what a write comes to where it is done; the live bytes go by its answer
+pub record Effect : Type 0 where
+  pub live : Option Refusal → List ℕ
+  pub durable : Durable
+  pub size : ℕ
+  pub entries : List Entry
+
+pub record HasBytes {R : Type 0} (v : View R) (bytes : List ℕ) (kept : Durable) (most : ℕ) : Type 0 where
+  pub live : v.live ≡ bytes
+  pub durable : v.durable ≡ kept
+  pub size : v.size ≡ most
+
+-- a step that changes nothing that is seen
+pub record Unchanged {R : Type 0} (old new : View R) : Type 0 where
+  pub bytes : HasBytes new old.live old.durable old.size
+  pub records : SameRecords old new
+  pub directory : new.directory ≡ old.directory
+  pub place : new.place ≡ old.place
+  pub config : new.config ≡ old.config
+  pub rng : new.rng ≡ old.rng
+
+-- what a write by this answer made of the bytes
+pub record Wrote {R : Type 0} (direct : Bool) (old new : View R) (effect : View R → Effect) (answer : Option Refusal) : Type 0 where
+  pub done : answer ≡ None → HasBytes new ((effect old).live None) (effect old).durable (effect old).size
+  -- refused by a store that injects nothing
+  pub refused : direct ≡ true → IsSome answer → HasBytes new ((effect old).live answer) old.durable old.size
+  -- refused for memory
+  pub memory : answer ≡ Some Memory → HasBytes new old.live old.durable old.size
+  -- by the handle of an incarnation that is gone
+  pub stale : is_current old.directory old.place ≡ false → new.durable ≡ old.durable
+  pub directory : new.directory ≡ old.directory
+  pub place : new.place ≡ old.place
+
+-- the same, and what it recorded
+pub record Recorded {R : Type 0} (direct : Bool) (old new : View R) (effect : View R → Effect) (answer : Option Refusal) : Type 0 where
+  pub wrote : Wrote direct old new effect answer
+  pub done : answer ≡ None → Logs old new (effect old).entries
+  pub refused : direct ≡ true → IsSome answer → SameRecords old new
+  pub memory : answer ≡ Some Memory → SameRecords old new
+  pub config : new.config ≡ old.config
+  pub rng : new.rng ≡ old.rng
+
+-- The effects.
+
+abbrev pub durable_written : Bool → Durable → Place → ℕ → List ℕ → Durable
+durable_written true durable o offset bytes = changed durable o (λ x. overlay x offset bytes)
+durable_written false durable o offset bytes = durable
+
+-- a write of the inner blob, of which nothing is recorded
+abbrev pub unrecorded : {R : Type 0} → Bool → ℕ → List ℕ → View R → Effect
+unrecorded sync offset bytes v = record {
+  live = live_after sync v.live offset bytes;
+  durable = durable_written sync v.durable v.place offset bytes;
+  size = max v.size (offset + length bytes);
+  entries = [];
+}
+
+-- a write that isn't durable, and that a crash may lose where retention is set
+abbrev pub plain : {R : Type 0} → ℕ → List ℕ → View R → Effect
+plain offset bytes v = record {
+  live = live_after false v.live offset bytes;
+  durable = v.durable;
+  size = max v.size (offset + length bytes);
+  entries = loose (retention v.config.write_rate) v.next_write offset bytes;
+}
+
+abbrev pub all_changed : Durable → Place → List Run → Durable
+all_changed durable o [] = durable
+all_changed durable o (r ∷ rs) = all_changed (changed durable o (λ x. overlay x r.0 r.1)) o rs
+
+-- refused, what the first run leaves
+abbrev pub live_of_runs : List ℕ → List Run → Option Refusal → List ℕ
+live_of_runs live rs None = all_written live rs
+live_of_runs live rs (Some refusal) = first_after live rs (Some refusal)
+
+-- runs that are durable at once
+abbrev pub laid_runs : {R : Type 0} → List Run → View R → Effect
+laid_runs rs v = record { live = live_of_runs v.live rs; durable = all_changed v.durable v.place rs; size = size_of_runs v.size rs; entries = kept_runs rs }
+
+-- a write of some bytes by the fate that was drawn for it
+pub record WroteBy {R : Type 0} (fate : WriteFate) (direct : Bool) (old new : View R) (sync : Bool) (offset : ℕ) (bytes : List ℕ) (answer : Option Refusal) : Type 0 where
+  pub done : answer ≡ None → HasBytes new (live_written sync old.live offset bytes) (durable_written sync old.durable old.place offset bytes) (max old.size (offset + length bytes))
+  -- whatever is answered, by a store that injects nothing
+  pub live : direct ≡ true → new.live ≡ live_by fate sync old.live offset bytes answer
+  pub size : direct ≡ true → new.size ≡ size_by fate old.size offset bytes answer
+  pub logs : direct ≡ true → Logs old new (recorded_by fate (retention old.config.write_rate) old.next_write sync offset bytes answer)
+  -- refused for memory
+  pub memory : answer ≡ Some Memory → HasBytes new old.live old.durable old.size
+  pub unrecorded : answer ≡ Some Memory → SameRecords old new
+  -- by the handle of an incarnation that is gone
+  pub stale : is_current old.directory old.place ≡ false → new.durable ≡ old.durable
+  pub directory : new.directory ≡ old.directory
+  pub place : new.place ≡ old.place
+  pub config : new.config ≡ old.config
+  pub rng : new.rng ≡ old.rng
+
+-- some runs were laid, and what is laid with those that are left is what all of them come to
+pub record LeavesRuns {R : Type 0} (old new : View R) (all left : List Run) : Type 0 where
+  pub live : all_written new.live left ≡ all_written old.live all
+  pub durable : all_changed new.durable new.place left ≡ all_changed old.durable old.place all
+  pub size : size_of_runs new.size left ≡ size_of_runs old.size all
+  pub logs : (later : View R) → Logs new later (kept_runs left) → Logs old later (kept_runs all)
+  pub directory : new.directory ≡ old.directory
+  pub place : new.place ≡ old.place
+  pub config : new.config ≡ old.config
+  pub rng : new.rng ≡ old.rng
+
+-- A resize.
+
+abbrev pub live_cut : List ℕ → ℕ → Option Refusal → List ℕ
+live_cut live len None = resized live len
+live_cut live len (Some refusal) = live
+
+-- with what is recorded of it
+abbrev pub cut : {R : Type 0} → ℕ → List Entry → View R → Effect
+cut len entries v = record { live = live_cut v.live len; durable = v.durable; size = len; entries = entries }
+
+-- by the fate that was drawn for it
+pub record ResizedBy {R : Type 0} (fate : ResizeFate) (direct : Bool) (old new : View R) (len : ℕ) (answer : Option Refusal) : Type 0 where
+  pub done : answer ≡ None → HasBytes new (resized old.live len) old.durable len
+  pub recorded : answer ≡ None → Logs old new (recorded_resize fate len None)
+  -- whatever is answered, by a store that injects nothing
+  pub live : direct ≡ true → new.live ≡ live_of_resize fate old.live len answer
+  pub size : direct ≡ true → new.size ≡ size_of_resize fate old.size len answer
+  pub logs : direct ≡ true → Logs old new (recorded_resize fate len answer)
+  -- refused for memory
+  pub memory : answer ≡ Some Memory → HasBytes new old.live old.durable old.size
+  pub unrecorded : answer ≡ Some Memory → SameRecords old new
+  pub directory : new.directory ≡ old.directory
+  pub place : new.place ≡ old.place
+  pub rng : new.rng ≡ old.rng
