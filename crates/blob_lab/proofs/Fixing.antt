@@ -16,7 +16,7 @@ use Rattle.blob_base.proofs.Persistence.{fixed_by_write, new_written, fixed_by_s
 use Rattle.blob_lab.specs.declared.reply.Reply.{Reply}
 use Rattle.blob_lab.specs.Acts.{Ask, Read, Write, Resize, Size, Sync, StartSync, Accepted, Act, Open, Through}
 use Rattle.blob_lab.specs.After.{after, asked, begun, files_after, held_after, exclusively_opened}
-use Rattle.blob_lab.specs.Answers.{Answers, IsAnswer, through, kept_at}
+use Rattle.blob_lab.specs.Answers.{asks_memory, Answers, IsAnswer, through, kept_at}
 use Rattle.blob_lab.specs.Denials.{write_denial, start_denial}
 use Rattle.blob_lab.specs.Exclusive.{Sole}
 use Rattle.blob_lab.specs.Fixed.{Byte, is_of, is_on, HasIn, HasDurably, Submits, FixesThrough, Fixes}
@@ -103,7 +103,7 @@ fixes_through v number (Some h) Sync answered left b reached here answers done f
 fixes_through v number (Some h) StartSync answered left b reached here answers done fixes =
     start_firm v b number h here fixes.0 (sole v (reached_exclusive v reached)) fixes.1 fixes.2 (counted v number h b reached here fixes.0 fixes.2)
 fixes_through v number (Some h) (Write offset bytes true) answered left b reached here answers done fixes =
-    let asks : IsAnswer true (through v (Some h) (Write offset bytes true)) answered left = subst (λ (x : Option Held). IsAnswer true (through v x (Write offset bytes true)) answered left) here answers in
+    let asks : IsAnswer true (through v (Some h) (Write offset bytes true)) answered left = subst (λ (x : Option Held). IsAnswer (asks_memory (Write offset bytes true) x) (through v x (Write offset bytes true)) answered left) here answers in
     write_firm v b number h here fixes.0 (sole v (reached_exclusive v reached)) offset bytes (write_free v h offset bytes answered left asks done) fixes.1
 fixes_through v number (Some h) (Write offset bytes false) answered left b reached here answers done fixes = absurd fixes
 fixes_through v number (Some h) (Read offset len) answered left b reached here answers done fixes = absurd fixes

@@ -215,7 +215,7 @@ holds_after v (Admit p n) reply left h a =
     (valid_by v.files.directory (admitted v.files p n).directory (admitted_directory v.files p n) h.valid) refl
 holds_after v (Close number) reply left h a = closed_at v left h number (kept_at v.handles number)
 holds_after v (Through number ask) reply left h a =
-    asked_at v left h number (kept_at v.handles number) ask (may_grow (Through number ask)) reply left (kept_tracked v.files.directory v.handles number h.handles) a
+    asked_at v left h number (kept_at v.handles number) ask (may_grow v (Through number ask)) reply left (kept_tracked v.files.directory v.handles number h.handles) a
 holds_after v (Finish number) reply left h a = finished_at v left h number (kept_at v.syncs number)
 holds_after v (Remove p n) reply left h a = holds_removed v left h p n (refused_by reply)
 holds_after v (Scan p) reply left h a = holds_same v (after v (Scan p) (refused_by reply) left) h (ages v (Scan p) (refused_by reply) left) h.valid refl

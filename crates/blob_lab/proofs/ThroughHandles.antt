@@ -9,7 +9,7 @@ use Rattle.blob_lab.specs.declared.reply.Reply.{Reply}
 use Rattle.blob_lab.specs.declared.reply.Reply.TheVariants.{NoHandle}
 use Rattle.blob_lab.specs.Acts.{Ask, StartSync, Through}
 use Rattle.blob_lab.specs.After.{asked, files_after, held_after, syncs_after}
-use Rattle.blob_lab.specs.Answers.{IsAnswer, through, may_grow, kept_at}
+use Rattle.blob_lab.specs.Answers.{IsAnswer, through, asks_memory, kept_at}
 use Rattle.blob_lab.specs.LabStands.{StandsFor, Performs, Asks, Starts, stream_of}
 use Rattle.blob_lab.specs.Opens.{names_of}
 use Rattle.blob_lab.specs.States.{State, Held, AreGiven}
@@ -28,16 +28,16 @@ module _ (lab lab' : Lab) (number : ℕ) (ask : Ask) (names : names_of lab'.open
   -- a closed handle, or one that never was
   pub through_none : kept_at (handles_of lab.handles) number ≡ None → lab'.wrapper ≡ lab.wrapper → handles_of lab'.handles ≡ handles_of lab.handles → Performs lab (Through number ask) NoHandle lab'
   through_none gone w hs = performs lab lab' (Through number ask) NoHandle
-      (λ f s. subst (λ (o : Option Held). IsAnswer (may_grow (Through number ask)) (through (state_of lab f) o ask) NoHandle (stream_of lab'.wrapper)) (sym gone) (inr (tt, ap stream_of w)))
+      (λ f s. subst (λ (o : Option Held). IsAnswer (asks_memory ask o) (through (state_of lab f) o ask) NoHandle (stream_of lab'.wrapper)) (sym gone) (inr (tt, ap stream_of w)))
       (λ f s. subst (λ (o : Option Held). StandsFor lab' (record (asked (state_of lab f) number o ask None) { stream = stream_of lab'.wrapper })) (sym gone) (stands_same lab lab' f w names hs syncs s))
 
-  module _ (h h' : Held) (reply : Reply) (grows : may_grow (Through number ask) ≡ true) (plain : (v : State) (r : Option Refusal) → syncs_after v h ask r ≡ v.syncs) where
+  module _ (h h' : Held) (reply : Reply) (grows : asks_memory ask (Some h) ≡ true) (plain : (v : State) (r : Option Refusal) → syncs_after v h ask r ≡ v.syncs) where
     -- an open handle, that is put back into its slot
     pub through_some : kept_at (handles_of lab.handles) number ≡ Some h → Asks lab.wrapper h ask reply lab'.wrapper h' → handles_of lab'.handles ≡ set (handles_of lab.handles) number (Some h') → Performs lab (Through number ask) reply lab'
     through_some here asks table = performs lab lab' (Through number ask) reply
         (λ f s.
         let a : IsAnswer true (through (state_of lab f) (Some h) ask) reply (stream_of lab'.wrapper) = asks.answers (state_of lab f) s.wrapper in
-        subst (λ (o : Option Held). IsAnswer (may_grow (Through number ask)) (through (state_of lab f) o ask) reply (stream_of lab'.wrapper)) (sym here)
+        subst (λ (o : Option Held). IsAnswer (asks_memory ask o) (through (state_of lab f) o ask) reply (stream_of lab'.wrapper)) (sym here)
         (subst (λ (b : Bool). IsAnswer b (through (state_of lab f) (Some h) ask) reply (stream_of lab'.wrapper)) (sym grows) a))
         (λ f s.
         let v = state_of lab f in
@@ -57,7 +57,7 @@ module _ (lab lab' : Lab) (number : ℕ) (ask : Ask) (names : names_of lab'.open
 pub through_started : (lab lab' : Lab) (number : ℕ) (h : Held) (reply : Reply) → names_of lab'.opens ≡ names_of lab.opens → kept_at (handles_of lab.handles) number ≡ Some h
     → Starts lab.wrapper h (syncs_of lab.syncs) reply lab'.wrapper h (syncs_of lab'.syncs) → handles_of lab'.handles ≡ set (handles_of lab.handles) number (Some h) → Performs lab (Through number StartSync) reply lab'
 through_started lab lab' number h reply names here starts table = performs lab lab' (Through number StartSync) reply
-    (λ f s. subst (λ (o : Option Held). IsAnswer true (through (state_of lab f) o StartSync) reply (stream_of lab'.wrapper)) (sym here) (starts.answers (state_of lab f) s.wrapper refl))
+    (λ f s. subst (λ (o : Option Held). IsAnswer (asks_memory StartSync o) (through (state_of lab f) o StartSync) reply (stream_of lab'.wrapper)) (sym here) (starts.answers (state_of lab f) s.wrapper refl))
     (λ f s.
     let v = state_of lab f in
     let r = refused_by reply in

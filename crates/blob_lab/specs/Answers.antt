@@ -98,20 +98,24 @@ answer v (Scan p) = (unless_denied (scan_denial v p) (told.Names (λ n. is_some 
 answer v Crash = let d = drawn v.stream (all_needs v.files.log) in (told.Crashed d.0, d.1)
 answer v Reopen = (told.Done, v.stream)
 
+-- whether what is asked through a handle may want memory: a number without a handle never does
+abbrev pub asks_memory : Ask → Option Held → Bool
+asks_memory Size slot = false
+asks_memory ask slot = is_some slot
+
 -- whether a call may want memory that can't be had
-abbrev pub may_grow : Act → Bool
-may_grow (Configure config) = false
-may_grow (Open p n versions) = is_some versions
-may_grow (OpenLoose p n versions) = is_some versions
-may_grow (Admit p n) = false
-may_grow (Close number) = false
-may_grow (Through number Size) = false
-may_grow (Through number ask) = true
-may_grow (Finish number) = false
-may_grow (Remove p n) = true
-may_grow (Scan p) = true
-may_grow Crash = true
-may_grow Reopen = false
+abbrev pub may_grow : State → Act → Bool
+may_grow v (Configure config) = false
+may_grow v (Open p n versions) = is_some versions
+may_grow v (OpenLoose p n versions) = is_some versions
+may_grow v (Admit p n) = false
+may_grow v (Close number) = false
+may_grow v (Through number ask) = asks_memory ask (kept_at v.handles number)
+may_grow v (Finish number) = false
+may_grow v (Remove p n) = true
+may_grow v (Scan p) = true
+may_grow v Crash = true
+may_grow v Reopen = false
 
 -- A reply that may be given, with what is left of the stream: the answer, or, where the call may grow, that there is no
 -- memory. Then any draws may have been made.
@@ -119,4 +123,4 @@ abbrev pub IsAnswer : Bool → Answer → Reply → Stream → Type 0
 IsAnswer grows answer reply left = (IsTrue grows × (refused_by reply ≡ Some Memory)) ⊎ (Tells reply answer.0 × (left ≡ answer.1))
 
 abbrev pub Answers : State → Act → Reply → Stream → Type 0
-Answers v act reply left = IsAnswer (may_grow act) (answer v act) reply left
+Answers v act reply left = IsAnswer (may_grow v act) (answer v act) reply left

@@ -34,3 +34,9 @@ is_of_script ending = true
 abbrev pub is_cut : Ending → Bool
 is_cut Done = false
 is_cut ending = is_of_script ending
+
+-- whether a run of `resolve` may end so: it has no script, and isn't called in a wrong way
+abbrev pub is_of_resolve : Ending → Bool
+is_of_resolve (BadCall line) = false
+is_of_resolve Usage = false
+is_of_resolve ending = true

@@ -3,7 +3,7 @@
 //! A backend whose handles are closed with work outstanding admits each open here. The open learns whether a predecessor
 //! is still at work, whether mutations are left to flush, and whether a failure was retained. A contract speaks of the
 //! history of accepted calls: whatever history the registry stood for, it answers by it and stands for it with the call added.
-ghost use Rattle.std.specs.Prelude.{◌≡◌, List, ℕ, ◌∷◌, [], OnErr, OnOk, IfOk, not, option_map, option_copied, Some, None, if◌then◌else◌, false, ◌⊎◌, ◌<◌, ◌^◌, ◌-◌};
+ghost use Rattle.std.specs.Prelude.{◌≡◌, ◌≢◌, IsErr, Ok, List, ℕ, ◌∷◌, [], OnErr, OnOk, IfOk, not, option_map, option_copied, Some, None, if◌then◌else◌, false, ◌⊎◌, ◌<◌, ◌^◌, ◌-◌};
 ghost use Rattle.hex.specs.Hex.{encode_lower};
 ghost use Rattle.std.specs.String.{string_bytes};
 ghost use Rattle.blob_base.specs.Refusals.{refusal_of, refused, Memory, BlobAlreadyOpen};
@@ -123,6 +123,7 @@ impl Pending {
         ensures stands { (h : History) → StandsFor self.old h → StandsFor self.new (after_release h generation.now result) }
         ensures refused { OnErr result (IsUnchanged self.old self.new) }
         ensures nothing { result ≡ Ok None → IsUnchanged self.old self.new }
+        ensures memory { (h : History) → StandsFor self.old h → refused result ≡ Some Memory → released h generation.now ≢ Ok None }
     {
         let key = &generation.key;
         let number = generation.number;
@@ -154,7 +155,8 @@ impl Pending {
     /// Answers the failure that was retained, or whether debt is there, and `Ok(false)` where `id` isn't the name's latest
     /// generation. `Memory` where none was found for the failure's texts.
     pub fn debt(&self, key: &(String, Vec<u8>), id: GenerationId) -> Result<bool, Error>
-        ensures { (h : History) → StandsFor self.now h → Answers result (owed (events h (string_bytes key.now.0) key.now.1.items) id) }
+        ensures answer { (h : History) → StandsFor self.now h → Answers result (owed (events h (string_bytes key.now.0) key.now.1.items) id) }
+        ensures memory { (h : History) → StandsFor self.now h → refused result ≡ Some Memory → IsErr (owed (events h (string_bytes key.now.0) key.now.1.items) id) }
     {
         let Some(entry) = self.names.get(key.0.as_str(), key.1.as_slice()) else {
             return Ok(false);

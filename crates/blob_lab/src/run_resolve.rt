@@ -1,8 +1,9 @@
-ghost use Rattle.std.specs.Prelude.{◌≡◌, ◌++◌, ◌∷◌, [], OnOk, ◌≢◌, ◌⊎◌, IfSome, IfOk, IfErr, IsErr};
+ghost use Rattle.std.specs.Prelude.{true, ◌≡◌, ◌++◌, ◌∷◌, [], OnOk, ◌≢◌, ◌⊎◌, IfSome, IfOk, IfErr, IsErr};
 ghost use Rattle.std.specs.Io.KnownBytes.{Appends, Keeps};
 ghost use Rattle.std.specs.Io.BufRead.{DropsThrough, first_piece};
 ghost use Rattle.hex.specs.Hex.{decode_of};
 ghost use Rattle.blob_base.specs.Resolve.{Answers};
+ghost use Rattle.blob_lab.specs.Endings.{is_of_resolve};
 ghost use Rattle.blob_lab.specs.ResolveReplies.{AnswersLine, by_refusal, resolution_line, resolved_image};
 
 use crate::ending::Ending;
@@ -18,7 +19,7 @@ pub fn run_resolve<R: BufRead, W: Write>(alloc: Global, reader: &mut R, writer: 
     ensures rest { result ≡ Ending.Done → DropsThrough (R.remaining reader.old) (R.remaining reader.new) 10 }
     ensures bad_image { result ≡ Ending.BadImage → IfSome (R.remaining reader.old) (λ input. IsErr (decode_of (first_piece 10 input))) }
     ensures nothing_written { result ≢ Ending.Done → result ≢ Ending.OutputFailed → Keeps (W.contents writer.old) (W.contents writer.new) }
-    ensures no_other { result ≢ Ending.Usage }
+    ensures ending { is_of_resolve result ≡ true }
 {
     let line = match read_line(alloc, reader) {
         Ok(line) => line,
@@ -68,7 +69,7 @@ fn write_reply<W: Write>(
 fn read_line<R: BufRead>(alloc: Global, reader: &mut R) -> Result<Vec<u8>, Ending>
     ensures line { IfOk result (λ line. IfSome (R.remaining reader.old) (λ input. line.items ≡ first_piece 10 input)) }
     ensures rest { IfOk result (λ _. DropsThrough (R.remaining reader.old) (R.remaining reader.new) 10) }
-    ensures ending { IfErr result (λ ending. (ending ≢ Ending.Done) × (ending ≢ Ending.OutputFailed) × (ending ≢ Ending.BadImage) × (ending ≢ Ending.Usage)) }
+    ensures ending { IfErr result (λ ending. (ending ≡ Ending.InputFailed) ⊎ (ending ≡ Ending.NoMemory)) }
 {
     let mut line = Vec::new(alloc);
     match reader.read_until(b'\n', &mut line) {
