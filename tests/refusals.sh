@@ -37,14 +37,9 @@ give_up() {
     exit 1
 }
 
-rt=$(command -v rt) || rt=/opt/rattle/bin/rt
 cc -shared -fPIC -O2 -o "$library" "$top/tests/refusals/refuse.c" || give_up "the library can't be built"
 "$top/blobcrash" resolve </dev/null >/dev/null || give_up "blobcrash can't be built or started"
-(cd "$top/crates/blob_refusals" && "$rt" run -- steady) </dev/null >"$work/build" 2>&1 || {
-    cat "$work/build"
-    give_up "blob_refusals can't be built or started"
-}
-calls=$top/crates/blob_refusals/out/blob_refusals
+calls=$("$top/tools/built" blob_refusals steady) || give_up "blob_refusals can't be built"
 program=$top/out/blobcrash
 
 # under NAME=VALUE.. COMMAND..: runs it with the library, and leaves its status, what it printed and the library's counts.
