@@ -17,7 +17,8 @@ use crate::{
 };
 use std::ops::RangeInclusive;
 
-/// What keeps bytes through a crash, by incarnation.
+/// What keeps bytes through a crash, by incarnation: one life of a name, from the open that created or accepted its blob to its
+/// removal or the store's rebuilding.
 pub trait Durable {
     /// Names the incarnation that a handle was opened on.
     type Origin: Eq + Drop;
@@ -31,7 +32,7 @@ pub trait Durable {
     // the durable logical bytes of each current incarnation
     ghost durable: { Self → Durable };
 
-    /// Whether the incarnation is still its name's current one.
+    /// Whether the incarnation is still its name's current one. A handle on any other is stale. Takes no memory, draws nothing.
     fn is_current(&self, origin: &Self::Origin) -> bool
         ensures { result ≡ is_current (directory self.now) (place origin.now) };
 
@@ -48,6 +49,14 @@ pub trait Durable {
 }
 
 /// A handle on a blob of a store, which is lent to each call.
+///
+/// It has live bytes of its own, a copy of the durable ones from when it was opened, which its reads see. Offsets, lengths and
+/// sizes are logical, in bytes: they count from behind the blob's header. It is stale once its incarnation isn't current any
+/// more, and no call of a stale handle changes a durable byte.
+///
+/// Each call may be refused with `Memory` in place of any other answer, and then changes nothing but a wrapper's generator. A
+/// wrapper adds `Injected`, before it asks the store inside; what else it may answer its own docs say. What each implementation
+/// refuses, in which order and with what it leaves, is in docs/BEHAVIOUR.md.
 pub trait Blob<S: Durable> {
     // the bytes that a read sees
     ghost live: { Self → List ℕ };
@@ -74,7 +83,13 @@ pub trait Blob<S: Durable> {
 
     ghost allows_reserve: { Self → S → ℕ → Option Refusal → Type 0 };
 
-    /// Reads `len` bytes at the logical `offset`.
+    /// Reads exactly `len` live bytes at the logical `offset`, by a stale handle too. A read of no bytes is answered Ok up to the
+    /// end of the live bytes, and refused behind it.
+    ///
+    /// # Errors
+    ///
+    /// `OffsetOverflow` where the range's end, with the header, can't be counted; `BlobInsufficientLength` where the range
+    /// goes past the live bytes; `Memory` where there is none for the buffer. Nothing changes.
     fn read_at(
         &self,
         store: &mut S,
@@ -88,7 +103,13 @@ pub trait Blob<S: Durable> {
         ensures directory { S.directory store.new ≡ S.directory store.old }
         ensures durable { S.durable store.new ≡ S.durable store.old };
 
-    /// The same into a buffer that has room for `len` bytes.
+    /// Reads exactly `len` live bytes at the logical `offset` into a buffer of the caller's, in place of what it held.
+    ///
+    /// The caller hands a buffer whose capacity is at least `len`. It comes back with the bytes and no less room.
+    ///
+    /// # Errors
+    ///
+    /// `OffsetOverflow` and `BlobInsufficientLength` as `read_at`. The buffer is dropped then; nothing else changes.
     fn read_at_buf(
         &self,
         store: &mut S,
@@ -105,7 +126,18 @@ pub trait Blob<S: Durable> {
         ensures directory { S.directory store.new ≡ S.directory store.old }
         ensures durable { S.durable store.new ≡ S.durable store.old };
 
-    /// Writes at the logical `offset`: to the live bytes, and by a SYNC write to the durable ones at once.
+    /// Writes at the logical `offset`: to the live bytes, and with `WriteOptions::SYNC` to the durable ones at once. A gap
+    /// behind the end is filled with zeros.
+    ///
+    /// A plain write changes no durable byte; one of no bytes past the end lengthens the live bytes with zeros up to `offset`;
+    /// a stale handle's is answered Ok too. A SYNC write makes its own range durable and no other byte; one of no bytes is
+    /// answered Ok and changes nothing, by a stale handle too.
+    ///
+    /// # Errors
+    ///
+    /// `OffsetOverflow` where the range's end, with the header, can't be counted: nothing changes. `BlobMissing` for a SYNC
+    /// write of some bytes by a stale handle: its live bytes are written, no durable byte is. `Memory`: nothing changes.
+    /// A wrapper may also answer `Injected`, `WriteFailed` and `GenerationsExhausted`.
     fn write_at(
         &mut self,
         store: &mut S,
@@ -129,7 +161,13 @@ pub trait Blob<S: Durable> {
         ensures directory { S.directory store.new ≡ S.directory store.old }
         ensures place { place self.new ≡ place self.old };
 
-    /// Cuts the live bytes to the logical length `len`, or lengthens them by zeros. Nothing becomes durable.
+    /// Cuts the live bytes to the logical length `len`, or lengthens them with zeros, by a stale handle too. Nothing becomes
+    /// durable before a sync.
+    ///
+    /// # Errors
+    ///
+    /// `OffsetOverflow` where the length, with the header, can't be counted, or `Memory`: nothing changes. A wrapper may also
+    /// answer `Injected`, and has then perhaps reached a length between the old and the wanted one.
     fn resize(&mut self, store: &mut S, len: u64) -> Result<(), Error>
         ensures allowed { allows_resize self.old store.old len (refused result) }
         ensures live { OnOk result (live self.new ≡ resized (live self.old) len) }
@@ -139,7 +177,11 @@ pub trait Blob<S: Durable> {
         ensures directory { S.directory store.new ≡ S.directory store.old }
         ensures place { place self.new ≡ place self.old };
 
-    /// Makes the live bytes durable.
+    /// Makes the live bytes the durable ones, all of them and their length.
+    ///
+    /// # Errors
+    ///
+    /// `BlobMissing` by a stale handle; `Memory`. A wrapper may also answer `Injected`. No durable byte changes.
     fn sync(&mut self, store: &mut S) -> Result<(), Error>
         ensures allowed { allows_sync self.old store.old (refused result) }
         ensures synced { OnOk result (S.durable store.new ≡ changed (S.durable store.old) (place self.old) (λ _. live self.old)) }
@@ -149,7 +191,14 @@ pub trait Blob<S: Durable> {
         ensures directory { S.directory store.new ≡ S.directory store.old }
         ensures place { place self.new ≡ place self.old };
 
-    /// Begins to make the live bytes durable. The handle that it answers is given back to the store's `finish`.
+    /// Begins to make the live bytes the durable ones. The handle that it answers has the outcome, and is given back to the
+    /// store's `finish`; it may also be dropped.
+    ///
+    /// Where the outcome is Ok they are durable already, and a crash can't take them back, finished or not.
+    ///
+    /// # Errors
+    ///
+    /// The outcome may be what `sync` may answer, and of a wrapper `GenerationsExhausted`. No durable byte changes then.
     fn start_sync(&mut self, store: &mut S) -> Handle
         ensures allowed { allows_start_sync self.old store.old (refused (outcome_of result)) }
         ensures synced { refused (outcome_of result) ≡ None → S.durable store.new ≡ changed (S.durable store.old) (place self.old) (λ _. live self.old) }
@@ -159,7 +208,12 @@ pub trait Blob<S: Durable> {
         ensures directory { S.directory store.new ≡ S.directory store.old }
         ensures place { place self.new ≡ place self.old };
 
-    /// Takes room for the live bytes, and by a current handle for the durable ones, up to the logical `end`.
+    /// Takes room for the live bytes, and by a current handle for the durable ones, up to the logical `end`. Changes no byte and
+    /// draws nothing. A SYNC write by a current handle that ends within its room isn't answered `Memory`.
+    ///
+    /// # Errors
+    ///
+    /// `OffsetOverflow` where the end, with the header, can't be counted, which is tested first; `Memory`.
     fn reserve(&mut self, store: &mut S, end: u64) -> Result<(), Error>
         ensures allowed { allows_reserve self.old store.old end (refused result) }
         ensures room { is_direct ≡ true → is_current (S.directory store.old) (place self.old) ≡ true → OnOk result (end ≤ room self.new store.new) }
@@ -171,7 +225,11 @@ pub trait Blob<S: Durable> {
         ensures directory { S.directory store.new ≡ S.directory store.old }
         ensures place { place self.new ≡ place self.old };
 
-    /// The incarnation that the handle was opened on.
+    /// The incarnation that the handle was opened on, current or not.
+    ///
+    /// # Errors
+    ///
+    /// `Memory` alone.
     fn origin(&self) -> Result<S::Origin, Error>
         ensures ok { IfOk result (λ origin. S.place origin ≡ place self.now) }
         ensures memory { OnErr result (IsMemory result) };
@@ -195,7 +253,12 @@ pub trait Blob<S: Durable> {
 }
 
 /// A store of blobs in partitions.
+///
+/// A call may be refused with `Memory` in place of any other answer, and a wrapper's with `Injected` before it asks the store
+/// inside. After a refusal the files are as before. A partition's name is valid where it isn't empty and has only ASCII letters,
+/// digits, `-` and `_`; a blob's name may be any bytes, none too.
 pub trait Storage: Durable {
+    /// A handle on one of its blobs.
     type Blob: Blob<Self> + Drop;
 
     // what a call may answer, by the store at entry
@@ -213,7 +276,17 @@ pub trait Storage: Durable {
     // what a handle that an open answers keeps of the size that is answered with it
     ghost keeps_size: { Self.Blob → ℕ → Type 0 };
 
-    /// Opens the blob `name` of `partition` for any of `versions`, and creates it where it is missing or torn.
+    /// Opens the blob `name` of `partition` for any of `versions`, and creates it for the greatest of them where it is missing,
+    /// has fewer raw bytes than a header, or is what an interrupted creation left; the partition is made where it is missing.
+    ///
+    /// Answers a handle whose live bytes are the durable ones, their number, and the blob's version. The caller hands a range
+    /// that isn't empty and wasn't iterated to its end.
+    ///
+    /// # Errors
+    ///
+    /// `PartitionNameInvalid`; then `BlobCorrupt` with the reason, or `BlobVersionMismatch`, by the order of tests in
+    /// docs/FORMATS.md; `GenerationsExhausted` where a new incarnation would have no number; `Memory`. A wrapper answers
+    /// `Injected` before these. The files are as before.
     fn open_versioned(
         &mut self,
         partition: &str,
@@ -229,7 +302,11 @@ pub trait Storage: Durable {
         ensures kept_size { IfOk result (λ opened. keeps_size opened.0 opened.1) }
         ensures err { OnErr result ((Self.directory self.new ≡ Self.directory self.old) × (Self.durable self.new ≡ Self.durable self.old)) };
 
-    /// Opens the blob for the default version alone.
+    /// Opens the blob for `DEFAULT_BLOB_VERSION` alone, and answers a handle and the number of its live bytes.
+    ///
+    /// # Errors
+    ///
+    /// As `open_versioned`.
     fn open(&mut self, partition: &str, name: &[u8]) -> Result<(Self::Blob, u64), Error>
         ensures allowed { allows_open self.old partition.now name.now 0 0 (refused result) }
         ensures leaves { leaves_open self.old partition.now name.now 0 0 (refused result) self.new }
@@ -243,7 +320,13 @@ pub trait Storage: Durable {
         Ok((blob, size))
     }
 
-    /// Removes the blob, or with no name the whole partition.
+    /// Removes the blob, or with no name the partition with all its blobs. Their handles are stale from then on, and keep their
+    /// live bytes. A partition stays when its last blob is removed.
+    ///
+    /// # Errors
+    ///
+    /// `PartitionNameInvalid`, `PartitionMissing`, then `BlobMissing` where there is no such name; `Memory` for the texts of
+    /// these. A wrapper answers `Injected` before these. Nothing is removed.
     fn remove(&mut self, partition: &str, name: Option<&[u8]>) -> Result<(), Error>
         ensures allowed { allows_remove self.old partition.now (option_copied name.entry) (refused result) }
         ensures leaves { leaves_remove self.old partition.now (option_copied name.entry) (refused result) self.new }
@@ -251,7 +334,11 @@ pub trait Storage: Durable {
         ensures durable { OnOk result (Self.durable self.new ≡ durable_without (Self.durable self.old) partition.now (option_copied name.entry)) }
         ensures err { OnErr result ((Self.directory self.new ≡ Self.directory self.old) × (Self.durable self.new ≡ Self.durable self.old)) };
 
-    /// The names of the partition, sorted by their bytes.
+    /// The names of the partition's blobs, each once, sorted by their bytes. Changes nothing.
+    ///
+    /// # Errors
+    ///
+    /// `PartitionNameInvalid`, then `PartitionMissing`; `Memory`. A wrapper answers `Injected` before these.
     fn scan(&mut self, partition: &str) -> Result<Vec<Vec<u8>>, Error>
         ensures allowed { allows_scan self.old partition.now (refused result) }
         ensures names { IfOk result (λ names. AreNames (map (λ name. name.items) names.items) (λ name. is_some ((Self.directory self.old).file partition.now name))) }
@@ -259,7 +346,12 @@ pub trait Storage: Durable {
         ensures directory { Self.directory self.new ≡ Self.directory self.old }
         ensures durable { Self.durable self.new ≡ Self.durable self.old };
 
-    /// Ends a started sync, and answers its outcome.
+    /// Ends a started sync, and answers the outcome that its handle carries. No file changes, and nothing is drawn. A wrapper
+    /// retires what the sync made durable.
+    ///
+    /// # Errors
+    ///
+    /// The outcome of the sync, and nothing of its own.
     fn finish(&mut self, handle: Handle) -> Result<(), Error>
         ensures outcome { refused result ≡ refused (outcome_of handle) }
         ensures directory { Self.directory self.new ≡ Self.directory self.old }
