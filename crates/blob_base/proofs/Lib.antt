@@ -16,6 +16,7 @@ pub mod LowBits
 pub mod NameSteps
 pub mod Needs
 pub mod NoneSide
+pub mod Opened
 pub mod Openings
 pub mod Persistence
 pub mod Placing

@@ -7,6 +7,7 @@ pub mod Directory
 pub mod Draws
 pub mod Durable
 pub mod Files
+pub mod Fronts
 pub mod Handles
 pub mod Header
 pub mod HeaderLaws
@@ -15,6 +16,7 @@ pub mod Live
 pub mod Log
 pub mod Modes
 pub mod Names
+pub mod Opened
 pub mod Opening
 pub mod Options
 pub mod Order

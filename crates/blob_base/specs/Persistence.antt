@@ -23,3 +23,7 @@ any_touches p (e ∷ es) = touches p e || any_touches p es
 pub record IsFixed (p v : ℕ) (f : Files) (o : Place) : Type 0 where
   pub durable : HasByte p v (durable_at f o)
   pub crash : (t : Choices) → HasByte p v (crashed_at f t o)
+
+-- bytes that begin an incarnation: each of them is fixed
+abbrev pub AreFixed : List ℕ → Files → Place → Type 0
+AreFixed bytes f o = (p : ℕ) → p < length bytes → IsFixed p (slice_index bytes p) f o

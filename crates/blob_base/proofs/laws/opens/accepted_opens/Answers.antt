@@ -1,0 +1,18 @@
+use Rattle.blob_base.proofs.NameSteps.{read_by_open}
+use Rattle.blob_base.proofs.Opened.{named_opened, current_opened, goes_on, next_opened}
+use Rattle.blob_base.proofs.laws.opens.accepted_opens.Goals as goal
+
+pub returns-clause-named : goal.returns-clause-named
+returns-clause-named c = named_opened
+
+pub returns-clause-current : goal.returns-clause-current
+returns-clause-current c = current_opened
+
+pub returns-clause-durable : goal.returns-clause-durable
+returns-clause-durable c = read_by_open
+
+pub returns-clause-goes_on : goal.returns-clause-goes_on
+returns-clause-goes_on c = goes_on
+
+pub returns-clause-next : goal.returns-clause-next
+returns-clause-next c = next_opened
