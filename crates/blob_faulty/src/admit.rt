@@ -38,8 +38,9 @@ fn drop_current(
 }
 
 impl<R> Storage<blob_memory::Storage, R> {
-    /// What is pending of the name's current incarnation is retired, where it has one: what is durable of it a crash leaves.
-    /// What is pending of incarnations that ended stays. Takes no memory.
+    /// What is pending of the name's current incarnation is retired, where it has one: a crash leaves its durable bytes as they
+    /// are. To be called behind an open that is to stand. What is pending of incarnations that ended stays, and changes no byte.
+    /// An unknown name changes nothing. Never refused; takes no memory and draws nothing.
     pub fn admit(&mut self, partition: &str, name: &[u8]) -> Retired
         ensures pending { (o : Place) → pending_of (λ o. o) self.new o ≡ retired (pending_of (λ o. o) self.old) (current (directory (inner_of self.old)) partition.now name.now) o }
         ensures apart { AreApart (λ o. o) self.old → AreApart (λ o. o) self.new }

@@ -23,6 +23,9 @@ use blob_base::{Error, Handle, IoBufs, IoBufsMut, ReadOptions, WriteOptions};
 use rand_core::Rng;
 
 /// A handle on a blob through the wrapper, which tracks the size that the wrapper last knew.
+///
+/// Offsets, lengths and sizes are logical, in bytes. Each refusal but those named leaves live and durable bytes, size and what is
+/// pending as they were; the words that were drawn are taken.
 #[derive(Drop)]
 pub struct Blob<B> {
     pub(crate) inner: B,
@@ -64,6 +67,11 @@ impl<S: blob_base::Storage, R: Rng, B: blob_base::Blob<S>> blob_base::Blob<Stora
 
     ghost allows_reserve = { λ b s end. B.allows_reserve b.inner s.inner end };
 
+    /// Draws the read rate, then reads through the handle inside, current or stale. Records nothing.
+    ///
+    /// # Errors
+    ///
+    /// `Injected`; then as the handle inside: over memory `OffsetOverflow`, `BlobInsufficientLength`, `Memory`.
     fn read_at(
         &self,
         store: &mut Storage<S, R>,
@@ -85,6 +93,11 @@ impl<S: blob_base::Storage, R: Rng, B: blob_base::Blob<S>> blob_base::Blob<Stora
         self.inner.read_at(&mut store.inner, offset, len, options)
     }
 
+    /// Draws the read rate, then reads through the handle inside into a buffer whose capacity is at least `len`.
+    ///
+    /// # Errors
+    ///
+    /// `Injected`; then as the handle inside: over memory `OffsetOverflow`, `BlobInsufficientLength`. The buffer is dropped.
     fn read_at_buf(
         &self,
         store: &mut Storage<S, R>,
@@ -110,6 +123,22 @@ impl<S: blob_base::Storage, R: Rng, B: blob_base::Blob<S>> blob_base::Blob<Stora
             .read_at_buf(&mut store.inner, offset, len, buf, options)
     }
 
+    /// Draws whether the write fails and, of one that doesn't and is SYNC, whether its sync does. A SYNC write of no bytes is
+    /// answered Ok before that, and one whose logical end can't be counted `OffsetOverflow`.
+    ///
+    /// Done, it is the write of the handle inside. Where retention is set, a plain one of some bytes is pending from then on: a
+    /// crash keeps what it draws of it. Failed, each run of bytes that is kept by its positions is laid as a SYNC write inside,
+    /// and is durable and live. With its sync failed, it is a plain write. The size rises to the greatest end that was written.
+    ///
+    /// # Errors
+    ///
+    /// - `Injected` where the write or its sync was chosen to fail; the kept runs, or the plain write, stay.
+    /// - `GenerationsExhausted` where no number is left for a write that would be pending.
+    /// - `OffsetOverflow` where the raw end can't be counted, of a failed write that of its last kept run.
+    /// - `BlobMissing` by a stale handle, of a SYNC write or a failed one with a kept run: the live bytes have the write, or the
+    ///   first run.
+    /// - `WriteFailed` where the store inside refused a run behind the first: those before it stay. Memory stores refuse none.
+    /// - `Memory`: nothing changes but the generator.
     fn write_at(
         &mut self,
         store: &mut Storage<S, R>,
@@ -152,6 +181,13 @@ impl<S: blob_base::Storage, R: Rng, B: blob_base::Blob<S>> blob_base::Blob<Stora
         self.write_by_fate(store, fate, offset, bytes, options)
     }
 
+    /// Draws whether the resize fails. Done, it is that of the handle inside, and a second draw tells whether it is pending and so
+    /// survives a crash. Failed, it changes nothing, or by the partial rate reaches a drawn length strictly between the size and
+    /// `len`, which is pending then. Nothing becomes durable; a stale handle's is like any other.
+    ///
+    /// # Errors
+    ///
+    /// `Injected`; `OffsetOverflow` where the raw length can't be counted; `Memory`.
     fn resize(&mut self, store: &mut Storage<S, R>, len: u64) -> Result<(), Error>
         ensures allowed { answers_resize (B.allows_resize (inside self.old) (inner_of store.old)) (resize_fate (config_of store.old).resize_rate (size_of self.old) len (R.stream (rng_of store.old))).0 len (refused result) }
         ensures live { OnOk result (B.live (inside self.new) ≡ resized (B.live (inside self.old)) len) }
@@ -180,6 +216,11 @@ impl<S: blob_base::Storage, R: Rng, B: blob_base::Blob<S>> blob_base::Blob<Stora
         self.resize_by_fate(store, fate, len)
     }
 
+    /// Draws the sync rate, then makes the live bytes durable. What is pending of the handle's incarnation is retired.
+    ///
+    /// # Errors
+    ///
+    /// `Injected`; then `BlobMissing` by a stale handle; `Memory`. What is pending stays pending.
     fn sync(&mut self, store: &mut Storage<S, R>) -> Result<(), Error>
         ensures allowed { injected_or (draw (config_of store.old).sync_rate (R.stream (rng_of store.old))).0 (or_memory (B.allows_sync (inside self.old) (inner_of store.old))) (refused result) }
         ensures synced { OnOk result (S.durable (inner_of store.new) ≡ changed (S.durable (inner_of store.old)) (B.place (inside self.old)) (λ _. B.live (inside self.old))) }
@@ -199,6 +240,13 @@ impl<S: blob_base::Storage, R: Rng, B: blob_base::Blob<S>> blob_base::Blob<Stora
         self.sync_by_draw(store)
     }
 
+    /// Draws the sync rate, then makes the live bytes durable, and leaves a marker: a crash replays nothing that is pending before
+    /// it. The store's `finish` takes the handle, and retires that for good.
+    ///
+    /// # Errors
+    ///
+    /// The outcome may be `Injected`, `GenerationsExhausted` where no number is left for a marker, `BlobMissing` by a stale
+    /// handle, or `Memory`. There is no marker then.
     fn start_sync(&mut self, store: &mut Storage<S, R>) -> Handle
         ensures allowed { allows_start (draw (config_of store.old).sync_rate (R.stream (rng_of store.old))).0 (next_marker_of store.old) (B.allows_start_sync (inside self.old) (inner_of store.old)) (refused (outcome_of result)) }
         ensures synced { refused (outcome_of result) ≡ None → S.durable (inner_of store.new) ≡ changed (S.durable (inner_of store.old)) (B.place (inside self.old)) (λ _. B.live (inside self.old)) }
@@ -229,6 +277,12 @@ impl<S: blob_base::Storage, R: Rng, B: blob_base::Blob<S>> blob_base::Blob<Stora
         }
     }
 
+    /// Takes room in the handle inside up to the logical `end`, without a draw. The wrapper's own room is 0: it may want memory for
+    /// what it records, so a later write may still answer `Memory`.
+    ///
+    /// # Errors
+    ///
+    /// As the handle inside: over memory `OffsetOverflow`, then `Memory`.
     fn reserve(&mut self, store: &mut Storage<S, R>, end: u64) -> Result<(), Error>
         ensures allowed { B.allows_reserve (inside self.old) (inner_of store.old) end (refused result) }
         ensures answers { (later : ℕ) (answer : Option Refusal) → B.allows_reserve (inside self.new) (inner_of store.new) later answer → B.allows_reserve (inside self.old) (inner_of store.old) later answer }
@@ -246,6 +300,7 @@ impl<S: blob_base::Storage, R: Rng, B: blob_base::Blob<S>> blob_base::Blob<Stora
         self.inner.reserve(&mut store.inner, end)
     }
 
+    /// The incarnation that the handle inside was opened on. The only error is `Memory`.
     fn origin(&self) -> Result<S::Origin, Error> {
         self.inner.origin()
     }

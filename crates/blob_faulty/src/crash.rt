@@ -73,7 +73,7 @@ impl<R: Rng> Storage<blob_memory::Storage, R> {
     /// The pending entries of each current incarnation, behind its last marker, are replayed in issue order over its durable
     /// bytes: of each write what is drawn for it. The draws go by the writes' numbers, over all incarnations, ended ones too,
     /// and each is for a whole write, where a byte of it isn't covered by a later durable range. Nothing is pending any more.
-    /// Handles keep their live bytes.
+    /// Handles keep their live bytes and stay current: to see what is left, open again.
     ///
     /// # Errors
     ///

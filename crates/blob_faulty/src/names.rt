@@ -72,8 +72,13 @@ impl<S: blob_base::Storage, R> Storage<S, R> {
 }
 
 impl<S: blob_base::Storage, R: Rng> Storage<S, R> {
-    /// Removes the blob, or with no name the whole partition, and retires what is pending of the incarnations that end by it.
-    /// What is pending of incarnations that ended earlier stays.
+    /// Draws the remove rate, then removes the blob, or with no name the whole partition, and retires what is pending of the
+    /// incarnations that end by it. What is pending of incarnations that ended earlier stays, and changes no byte.
+    ///
+    /// # Errors
+    ///
+    /// `Injected`; then as the store inside: over memory `PartitionNameInvalid`, `PartitionMissing`, `BlobMissing`, or `Memory`
+    /// for their texts. Nothing is removed or retired.
     pub fn remove_retired(&mut self, partition: &str, name: Option<&[u8]>) -> Result<Retired, Error>
         ensures allowed { injected_or (draw (config_of self.old).remove_rate (R.stream (rng_of self.old))).0 (S.allows_remove (inner_of self.old) partition.now (option_copied name.entry)) (refused result) }
         ensures leaves { RemoveLeaves S.place R.stream (S.leaves_remove (inner_of self.old) partition.now (option_copied name.entry) (refused result)) (refused result) (ends_by (S.directory (inner_of self.old)) partition.now (option_copied name.entry)) self.old self.new }
@@ -118,7 +123,13 @@ impl<S: blob_base::Storage, R: Rng> blob_base::Storage for Storage<S, R> {
 
     ghost keeps_size = { λ blob size. (size_of blob ≡ size) × S.keeps_size (inside blob) size };
 
-    /// The inner store's open, after a draw. Nothing that is pending is retired by it.
+    /// Draws the open rate, then opens in the store inside. The handle's size is the one that is answered. Nothing that is pending
+    /// is retired by it: over a memory store `admit` does that.
+    ///
+    /// # Errors
+    ///
+    /// `Injected`; then as the store inside: over memory `PartitionNameInvalid`, `BlobCorrupt`, `BlobVersionMismatch`,
+    /// `GenerationsExhausted`, or `Memory`.
     fn open_versioned(
         &mut self,
         partition: &str,
@@ -142,7 +153,11 @@ impl<S: blob_base::Storage, R: Rng> blob_base::Storage for Storage<S, R> {
         self.open_inner(partition, name, versions)
     }
 
-    /// `remove_retired`, whose result is dropped.
+    /// Draws the remove rate, then removes, and retires what is pending of what ends, as `remove_retired` does.
+    ///
+    /// # Errors
+    ///
+    /// As `remove_retired`.
     fn remove(&mut self, partition: &str, name: Option<&[u8]>) -> Result<(), Error>
         ensures allowed { injected_or (draw (config_of self.old).remove_rate (R.stream (rng_of self.old))).0 (S.allows_remove (inner_of self.old) partition.now (option_copied name.entry)) (refused result) }
         ensures leaves { RemoveLeaves S.place R.stream (S.leaves_remove (inner_of self.old) partition.now (option_copied name.entry) (refused result)) (refused result) (ends_by (S.directory (inner_of self.old)) partition.now (option_copied name.entry)) self.old self.new }
@@ -156,7 +171,11 @@ impl<S: blob_base::Storage, R: Rng> blob_base::Storage for Storage<S, R> {
         Ok(())
     }
 
-    /// The inner store's names, after a draw.
+    /// Draws the scan rate, then asks the names of the store inside. Records nothing.
+    ///
+    /// # Errors
+    ///
+    /// `Injected`; then as the store inside: over memory `PartitionNameInvalid`, `PartitionMissing`, or `Memory`.
     fn scan(&mut self, partition: &str) -> Result<Vec<Vec<u8>>, Error>
         ensures allowed { injected_or (draw (config_of self.old).scan_rate (R.stream (rng_of self.old))).0 (S.allows_scan (inner_of self.old) partition.now) (refused result) }
         ensures names { IfOk result (λ names. AreNames (map (λ name. name.items) names.items) (λ name. is_some ((S.directory (inner_of self.old)).file partition.now name))) }
@@ -174,7 +193,8 @@ impl<S: blob_base::Storage, R: Rng> blob_base::Storage for Storage<S, R> {
     }
 
     /// Ends a started sync, and answers its outcome: its marker and the entries of its incarnation before it go. Where the
-    /// marker is gone, nothing changes.
+    /// marker is gone, by a crash, a later sync, `admit` or a removal, nothing changes. Draws nothing, and answers no error but
+    /// the outcome.
     fn finish(&mut self, handle: Handle) -> Result<(), Error>
         ensures outcome { result ≡ outcome_of handle }
         ensures pending { (o : Place) → pending_of S.place self.new o ≡ finished_by (marker_of handle) (pending_of S.place self.old o) }

@@ -15,7 +15,7 @@ impl Selections {
         Selections { rows }
     }
 
-    /// Pairs of a write's number and its choices, one for each submitted byte.
+    /// Pairs of a write's number and its choices, one for each submitted byte: true where it was kept. Sorted by the numbers.
     pub fn rows(&self) -> &[(u64, Vec<bool>)]
         ensures { result.now ≡ rows_of self.now }
     {

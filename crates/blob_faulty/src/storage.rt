@@ -13,6 +13,10 @@ use rand_core::Rng;
 use std::alloc::Global;
 
 /// A store that fails by drawn choices and remembers which of its mutations a crash could still lose.
+///
+/// Each call that draws does so before it asks the store inside, and answers `Injected` where the draw is true. What the store
+/// inside refuses is the answer, also where `Injected` was to follow, and nothing is recorded. A refusal for memory leaves
+/// everything as it was but the generator.
 #[derive(Drop)]
 pub struct Storage<S: Durable, R> {
     pub(crate) inner: S,
@@ -38,7 +42,8 @@ impl<S: Durable, R> Storage<S, R> {
         Storage::new_numbered(alloc, inner, rng, config, 0, 0)
     }
 
-    /// The same with these first numbers of writes and markers.
+    /// A wrapper of the store that draws from the generator. Nothing is pending, and writes and markers are numbered from these
+    /// two on, so that the end of the numbers can be reached.
     pub fn new_numbered(
         alloc: Global,
         inner: S,
@@ -65,14 +70,14 @@ impl<S: Durable, R> Storage<S, R> {
         }
     }
 
-    /// The wrapped store, for reading.
+    /// The wrapped store, for reading. What is pending isn't in it: its durable bytes are those before a crash.
     pub fn inner(&self) -> &S
         ensures { result.now ≡ inner_of self.now }
     {
         &self.inner
     }
 
-    /// The rates of the faults, to be changed.
+    /// The rates of the faults, to be changed at any time. An entry that is pending keeps the mode and the rate of its own issue.
     pub fn config(&mut self) -> &mut Config
         ensures* writes_back { sem 𝓛 (LendsConfig S.row R.row S.Origin.row self.entry result) }
         ensures value { result.now ≡ config_of self.old }
@@ -107,6 +112,7 @@ impl<S: blob_base::Storage, R: Rng> Durable for Storage<S, R> {
 
     ghost given = { λ s o. S.given s.inner o };
 
+    /// Whether the incarnation is still its name's current one, as the store inside says.
     fn is_current(&self, origin: &S::Origin) -> bool {
         self.inner.is_current(origin)
     }

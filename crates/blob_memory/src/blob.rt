@@ -13,7 +13,10 @@ use crate::{live, overlay};
 use blob_base::{Error, Handle, IoBufs, IoBufsMut, ReadOptions, WriteOptions};
 use std::alloc::AllocError;
 
-/// The live bytes of a blob, and the incarnation that they were opened on.
+/// A handle on a blob of the memory store: live bytes of its own, and the incarnation that they were opened on.
+///
+/// Offsets and lengths are logical, in bytes. `OffsetOverflow` is tested first of all refusals, for the raw end, which lies the
+/// header's length behind the logical one. `Memory` leaves everything as it was.
 #[derive(Drop)]
 pub struct Blob {
     pub(crate) origin: Origin,
@@ -132,6 +135,11 @@ impl blob_base::Blob<Storage> for Blob {
 
     ghost within_room = { within_room };
 
+    /// Reads the handle's live bytes, whether it is current or not. The store isn't looked at.
+    ///
+    /// # Errors
+    ///
+    /// `OffsetOverflow`, then `BlobInsufficientLength` where the range goes past the live bytes, then `Memory`.
     fn read_at(
         &self,
         store: &mut Storage,
@@ -147,6 +155,11 @@ impl blob_base::Blob<Storage> for Blob {
         Ok(buf)
     }
 
+    /// Reads the handle's live bytes into a buffer whose capacity is at least `len`, and takes no memory.
+    ///
+    /// # Errors
+    ///
+    /// `OffsetOverflow`, then `BlobInsufficientLength` where the range goes past the live bytes.
     fn read_at_buf(
         &self,
         store: &mut Storage,
@@ -171,6 +184,15 @@ impl blob_base::Blob<Storage> for Blob {
         Ok(buf)
     }
 
+    /// Writes the live bytes, over zeros in a gap, and with SYNC the same range of the durable ones.
+    ///
+    /// A plain write of no bytes behind the end lengthens the live bytes with zeros up to `offset`. A SYNC write of no bytes is
+    /// answered Ok before any test and changes nothing.
+    ///
+    /// # Errors
+    ///
+    /// `OffsetOverflow`; then `BlobMissing` for a SYNC write by a stale handle, whose live bytes are written all the same;
+    /// `Memory`, never for a SYNC write by a current handle within its room.
     fn write_at(
         &mut self,
         store: &mut Storage,
@@ -185,6 +207,11 @@ impl blob_base::Blob<Storage> for Blob {
         }
     }
 
+    /// Cuts the live bytes to `len`, or lengthens them with zeros, also by a stale handle. No durable byte changes.
+    ///
+    /// # Errors
+    ///
+    /// `OffsetOverflow`, then `Memory`.
     fn resize(&mut self, store: &mut Storage, len: u64) -> Result<(), Error> {
         let _ = store;
         let len = live::logical_end(self.origin.data_offset(), len, 0)?;
@@ -192,6 +219,11 @@ impl blob_base::Blob<Storage> for Blob {
         Ok(())
     }
 
+    /// Makes the live bytes the durable ones of its incarnation, whatever other handles have live.
+    ///
+    /// # Errors
+    ///
+    /// `BlobMissing` by a stale handle; `Memory` where the durable bytes have no room.
     fn sync(&mut self, store: &mut Storage) -> Result<(), Error> {
         if !store.contents.is_current(&self.origin) {
             return Err(self.missing()?);
@@ -200,10 +232,16 @@ impl blob_base::Blob<Storage> for Blob {
         Ok(())
     }
 
+    /// Syncs at once. The handle has the outcome and no marker, and may be dropped.
     fn start_sync(&mut self, store: &mut Storage) -> Handle {
         Handle::ready(self.sync(store))
     }
 
+    /// Takes room for the live bytes, and by a current handle for the durable ones, up to the logical `end`.
+    ///
+    /// # Errors
+    ///
+    /// `OffsetOverflow`, then `Memory`, which may leave the live bytes with more room.
     fn reserve(&mut self, store: &mut Storage, end: u64) -> Result<(), Error> {
         let end = live::logical_end(self.origin.data_offset(), end, 0)?;
         overlay::make_room(&mut self.live, end)?;
@@ -211,6 +249,7 @@ impl blob_base::Blob<Storage> for Blob {
         Ok(())
     }
 
+    /// The incarnation that the handle was opened on, as a copy. The only error is `Memory`.
     fn origin(&self) -> Result<Origin, Error> {
         Ok(self.origin.copied()?)
     }

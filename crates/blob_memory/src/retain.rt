@@ -17,7 +17,8 @@ impl Storage {
     ghost use Rattle.blob_memory.specs.Store.{directory, durable, HasCrashRoom};
 
     /// Lays the chosen bytes of a write at the logical `offset` over the durable bytes of an incarnation, which grow only to
-    /// the end of a chosen byte. Does nothing where the incarnation isn't current. Handles keep their live bytes.
+    /// the end of a chosen byte. `keep` has one choice for each byte. Does nothing where the incarnation isn't current. Handles
+    /// keep their live bytes.
     ///
     /// # Errors
     ///
@@ -87,7 +88,12 @@ impl Storage {
 impl Blob {
     ghost use Rattle.blob_memory.specs.Store.{place, directory, durable, HasCrashRoom};
 
-    /// `Storage::retain_write` for the incarnation that the handle was opened on. The live bytes stay.
+    /// Lays the chosen bytes of a write at the logical `offset` over the durable bytes of the handle's incarnation, which grow only
+    /// to the end of a chosen byte. `keep` has one choice for each byte. Does nothing by a stale handle. The live bytes stay.
+    ///
+    /// # Errors
+    ///
+    /// `OffsetOverflow` for a range that can't be counted, which is tested first; `Memory`. Both leave everything as it was.
     pub fn retain_crash_write(
         &self,
         store: &mut Storage,
@@ -106,7 +112,12 @@ impl Blob {
         store.retain_write(&self.origin, offset, bytes, keep)
     }
 
-    /// `Storage::retain_resize` for the incarnation that the handle was opened on. The live bytes stay.
+    /// Cuts the durable bytes of the handle's incarnation to the logical length `len`, or lengthens them by zeros. Does nothing by
+    /// a stale handle. The live bytes stay.
+    ///
+    /// # Errors
+    ///
+    /// `OffsetOverflow` for a length that can't be counted, which is tested first; `Memory`. Both leave everything as it was.
     pub fn retain_crash_resize(&self, store: &mut Storage, len: u64) -> Result<(), Error>
         ensures allowed { OrMemory (end_refusal (place self.now) len) (refused result) }
         ensures ok { OnOk result (durable store.new ≡ changed (durable store.old) (place self.now) (λ x. resized x len)) }

@@ -14,7 +14,9 @@ use blob_base::{BlobVersion, Durable, Error, Handle, validate_partition_name};
 use std::alloc::{AllocError, Global};
 use std::ops::RangeInclusive;
 
-/// Blobs in partitions, kept in memory.
+/// Blobs in partitions, kept in memory. It injects no faults, and records nothing: what isn't durable is in its handles alone.
+///
+/// Each refusal leaves the files and the next number as they were.
 #[derive(Drop)]
 pub struct Storage {
     pub(crate) alloc: Global,
@@ -42,6 +44,7 @@ impl Durable for Storage {
 
     ghost given = { λ s. given s.contents };
 
+    /// Whether the incarnation is still its name's current one. Takes no memory.
     fn is_current(&self, origin: &Origin) -> bool {
         self.contents.is_current(origin)
     }
@@ -58,7 +61,7 @@ impl Storage {
         Storage::starting_at(alloc, 0)
     }
 
-    /// An empty store, whose first incarnation has this number.
+    /// An empty store, whose first incarnation has the number `next`, so that the end of the numbers can be reached.
     pub fn starting_at(alloc: Global, next: u64) -> Storage
         ensures directory { directory result ≡ record { has_partition = λ _. false; file = λ _ _. None; next = next } }
         ensures durable { durable result ≡ (λ _. None) }
@@ -128,6 +131,13 @@ impl blob_base::Storage for Storage {
 
     ghost keeps_size = { λ blob size. Unit {0} };
 
+    /// A current incarnation goes on under its number. A valid raw file of either layout becomes one with the bytes behind its
+    /// header. A missing or torn one begins empty, with a V1 header of the range's greatest version.
+    ///
+    /// # Errors
+    ///
+    /// `PartitionNameInvalid`, then `BlobCorrupt` or `BlobVersionMismatch`, then `GenerationsExhausted` where a number is needed
+    /// and the next is `u64::MAX`; `Memory`.
     fn open_versioned(
         &mut self,
         partition: &str,
@@ -151,6 +161,11 @@ impl blob_base::Storage for Storage {
         }
     }
 
+    /// Removes the blob, or with `None` the partition, and takes no memory but for the texts of a refusal.
+    ///
+    /// # Errors
+    ///
+    /// `PartitionNameInvalid`, `PartitionMissing`, then `BlobMissing`; `Memory`.
     fn remove(&mut self, partition: &str, name: Option<&[u8]>) -> Result<(), Error> {
         self.find_partition(partition)?;
         match name {
@@ -165,11 +180,17 @@ impl blob_base::Storage for Storage {
         Ok(())
     }
 
+    /// The names of the partition, sorted by their bytes, as copies.
+    ///
+    /// # Errors
+    ///
+    /// `PartitionNameInvalid`, then `PartitionMissing`; `Memory`.
     fn scan(&mut self, partition: &str) -> Result<Vec<Vec<u8>>, Error> {
         self.find_partition(partition)?;
         Ok(self.contents.names(partition)?)
     }
 
+    /// Answers the handle's outcome. The sync was done when it was started, so nothing changes.
     fn finish(&mut self, handle: Handle) -> Result<(), Error> {
         handle.into_outcome()
     }
