@@ -54,7 +54,7 @@ fn reserve_list(
     }
 }
 
-/// The same for all lists.
+/// Room for what every list is replayed to.
 fn reserve_all(
     inner: &mut blob_memory::Storage,
     lists: &[Incarnation<Origin>],

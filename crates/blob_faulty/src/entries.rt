@@ -54,7 +54,7 @@ fn cover_each(entries: &mut [Entry], start: u64, len: u64)
     }
 }
 
-/// The same of a list that can grow.
+/// Each write of a vector gives up what a durable range covers.
 fn cover_writes(entries: &mut Vec<Entry>, start: u64, len: u64)
     requires fits { start + len < 2 ^ 64 }
     requires room { All (HasRoomFor ((start, start + len) ∷ [])) entries.old.items }
@@ -66,7 +66,7 @@ fn cover_writes(entries: &mut Vec<Entry>, start: u64, len: u64)
     cover_each(entries.as_mut_slice(), start, len);
 }
 
-/// The same, and one that is covered wholly goes.
+/// Each write gives up what a durable range covers, and one that is covered wholly goes.
 fn cover_all(entries: &mut Vec<Entry>, start: u64, len: u64)
     requires fits { start + len < 2 ^ 64 }
     requires room { HasRoomsFor ((start, start + len) ∷ []) entries.old }

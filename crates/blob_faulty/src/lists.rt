@@ -39,7 +39,7 @@ fn finish_each<O>(lists: &mut [Incarnation<O>], marker: u64)
     }
 }
 
-/// The same of a list that can grow.
+/// A started sync is finished in each list of a vector.
 fn finish_all<O>(lists: &mut Vec<Incarnation<O>>, marker: u64)
     ensures { (place : O → Place) → held place lists.new.items ≡ map (finished_in marker) (held place lists.old.items) }
 {
@@ -57,7 +57,7 @@ fn note_each<S: Durable>(lists: &mut [Incarnation<S::Origin>], store: &S)
     }
 }
 
-/// The same of a list that can grow.
+/// Notes of each list of a vector whether its incarnation is current.
 fn note_all<S: Durable>(lists: &mut Vec<Incarnation<S::Origin>>, store: &S)
     ensures held { held S.place lists.new.items ≡ held S.place lists.old.items }
     ensures noted { AreNoted S.place (S.directory store.now) lists.new.items }
@@ -186,7 +186,8 @@ impl<S: Durable> Lists<S> {
         Ok(i)
     }
 
-    /// The same with room for one more marker.
+    /// The list of an incarnation, with room for one more marker. It is looked for at `hint` first. A refusal leaves the lists
+    /// as they were.
     pub fn room_for_mark(&mut self, origin: S::Origin, hint: usize) -> Result<usize, AllocError>
         ensures lists { (o : Place) → list_of S.place self.new.all.lists.items o ≡ list_of S.place self.old.all.lists.items o }
         ensures apart { ArePlacesApart (held S.place self.old.all.lists.items) → ArePlacesApart (held S.place self.new.all.lists.items) }

@@ -62,7 +62,7 @@ fn uncover(chosen: &mut [bool], offset: u64, hole: Hole)
     }
 }
 
-/// The same of each hole.
+/// No byte in any of the holes is chosen.
 fn uncover_all(chosen: &mut [bool], offset: u64, holes: &[Hole])
     ensures { (i : ℕ) → i < length chosen.old → slice_index_or chosen.new i false ≡ (not (in_holes (ranges holes.now) (offset + i)) && slice_index_or chosen.old i false) }
 {

@@ -73,7 +73,7 @@ impl<B> Blob<B> {
         Ok(list)
     }
 
-    /// The same with room for one more marker.
+    /// The list of the handle's incarnation, with room for one more marker. The only error is want of memory.
     pub(crate) fn room_for_mark<S: blob_base::Storage, R>(
         &self,
         store: &mut Storage<S, R>,

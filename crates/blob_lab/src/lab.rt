@@ -128,14 +128,14 @@ impl Lab {
         Ok(replies)
     }
 
-    /// The wrapper, for reading.
+    /// The wrapper, for reading: its store's durable bytes, and which incarnations are current.
     pub fn wrapper(&self) -> &Wrapper
         ensures { result.now ≡ wrapper_of self.now }
     {
         &self.wrapper
     }
 
-    /// Closes every handle.
+    /// Closes every handle, and drops the store. Takes no memory.
     pub fn end(self) {
         let Lab {
             wrapper: _,

@@ -28,9 +28,9 @@ impl Model for Registration {
     ghost view = { λ r. record { partition = string_bytes r.partition; name = r.name.items; number = r.number } };
 }
 
-/// A handle of a store whose name is open by it alone, spent by `Opens::close`.
+/// A handle of a store whose name is open by it alone. It must be spent, by `Opens::close`.
 ///
-/// It passes each call on to the store's own handle.
+/// It passes each call on to the store's own handle, and answers what that answers: nothing of a call is its own.
 pub struct Blob<B> {
     pub(crate) inner: B,
     pub(crate) registration: Registration,
@@ -39,7 +39,7 @@ pub struct Blob<B> {
 impl<B> Blob<B> {
     ghost use Rattle.blob_lab.specs.Opens.{inner_of};
 
-    /// The store's own handle.
+    /// The store's own handle, for what isn't a call of the traits, as a wrapper's tracked size.
     pub fn inner(&self) -> &B
         ensures { result.now ≡ inner_of self.now }
     {

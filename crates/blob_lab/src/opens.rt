@@ -37,11 +37,15 @@ impl Opens {
         }
     }
 
-    /// Opens a blob that isn't open yet. The store's own open comes first.
+    /// Opens a blob that isn't open yet, and answers its handle, its size in logical bytes and its version. The store's own open
+    /// comes first. The caller hands a range of versions that isn't empty and wasn't iterated to its end.
     ///
-    /// `BlobAlreadyOpen` where the name is open; what the store's open made stays. `GenerationsExhausted` where the name
-    /// isn't open and no number is left; the store isn't asked then. `Memory` also where there is no room for the
-    /// registration or for the texts of a refusal. After each refusal the same names are open.
+    /// # Errors
+    ///
+    /// `GenerationsExhausted` where the name isn't open and no number is left: the store isn't asked. Then what the store's open
+    /// refuses, also where the name is open. Then `BlobAlreadyOpen` where the name is open: what the store's open drew and made
+    /// stays. `Memory` also where there is no room for the registration or for the texts of a refusal. After each the same names
+    /// are open.
     pub fn open<S: Storage>(
         &mut self,
         store: &mut S,
@@ -82,7 +86,12 @@ impl Opens {
         }
     }
 
-    /// Removes a blob, or with no name a partition. Answered `Ok`, none of these names is open any more.
+    /// Removes a blob, or with no name a partition, from the store. Answered `Ok`, none of these names is open any more; their
+    /// handles are stale, and still have to be closed.
+    ///
+    /// # Errors
+    ///
+    /// As the store's removal. The same names are open.
     pub fn remove<S: Storage>(
         &mut self,
         store: &mut S,
@@ -120,7 +129,8 @@ impl Opens {
         Ok(replaced)
     }
 
-    /// Closes a handle. Its name isn't open any more where it was open by this handle.
+    /// Closes a handle. Its name isn't open any more where it was open by this handle; where it was removed and opened again by
+    /// another, that stays. Never refused, and takes no memory. What isn't synced is dropped with the live bytes.
     pub fn close<B: Drop>(&mut self, blob: Blob<B>)
         ensures { names_of self.new ≡ closed (names_of self.old) (registration_of blob) }
     {

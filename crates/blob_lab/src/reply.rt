@@ -19,11 +19,11 @@ pub enum Reply {
     Size(u64),
     /// The names of a partition, sorted by their bytes.
     Names(Vec<Vec<u8>>),
-    /// A started sync's number.
+    /// A started sync's number. Its outcome is told when it is finished.
     Started(usize),
-    /// What a crash chose.
+    /// What a crash chose: for each write that it drew for, which bytes it kept.
     Crashed(Selections),
-    /// The call was refused.
+    /// The call was refused, with what its own docs say of the error.
     Failed(Error),
     /// No open handle or unfinished sync has this number. Nothing changed.
     NoHandle,

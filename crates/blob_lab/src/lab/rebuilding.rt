@@ -12,7 +12,7 @@ use blob_faulty::Config;
 use std::alloc::Global;
 use std::mem;
 
-/// The same store from a snapshot of it, wrapped anew with the same generator and configuration.
+/// A wrapper's store built again from a snapshot of it, and wrapped anew with its generator and configuration.
 fn rewrapped(alloc: Global, wrapper: Wrapper) -> Wrapper
     ensures files { (f : Files) → IsFor wrapper f → IsFor result (reopened f) }
     ensures config { config_of result ≡ config_of wrapper }

@@ -39,7 +39,7 @@ impl Setting {
     }
 }
 
-/// The same configuration once more.
+/// A copy of a configuration.
 pub(crate) fn copy_of(config: &Config) -> Config
     ensures { result ≡ config.now }
 {
