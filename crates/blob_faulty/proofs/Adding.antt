@@ -28,11 +28,9 @@ at_each e a = ap (λ (g : Durable). g a) e
 -- nothing is recorded
 pub keeps_stands : {S R O : Type 0} (place : O → Place) (names names' : Directory) (bytes bytes' : Durable) (old new : Storage S R O) (files : Files) →
     names' ≡ names → bytes' ≡ bytes → KeepsRecords place old new → Stands place names bytes old files → Stands place names' bytes' new files
-keeps_stands place names names' bytes bytes' old new files named same k s = record {
-  stands = numbered_so names' bytes' (pending_of place new) _ _ _ _ files k.numbers.next_write k.numbers.next_marker
-      (stands_same names names' bytes bytes' (pending_of place old) (pending_of place new) _ _ files named (at_each same) k.pending s.stands);
-  apart = k.apart s.apart;
-}
+keeps_stands place names names' bytes bytes' old new files named same k s =
+    numbered_so names' bytes' (pending_of place new) _ _ _ _ files k.numbers.next_write k.numbers.next_marker
+    (stands_same names names' bytes bytes' (pending_of place old) (pending_of place new) _ _ files named (at_each same) k.pending s)
 
 -- what is recorded of a write with bytes
 pub kept_some : (o : ℕ) (b : List ℕ) → 0 < length b → kept o b ≡ Kept o b ∷ []

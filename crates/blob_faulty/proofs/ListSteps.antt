@@ -11,8 +11,9 @@ use Rattle.blob_base.specs.Order.{Held, held_at, has_list, ArePlacesApart}
 use Rattle.blob_base.specs.Pending.{Pending, finished}
 use Rattle.blob_faulty.specs.Rooms.{HasRoomsFor}
 use Rattle.blob_faulty.specs.Views.{views}
-use Rattle.blob_faulty.specs.Lists.{is_of, IsAt, held_by, held, list_of, HasRangesAt, finished_in}
+use Rattle.blob_faulty.specs.Lists.{is_of, IsAt, held_by, held, list_of, HasRoom, HasRoomIn, HasRangesAt, finished_in}
 use Rattle.blob_faulty.specs.declared.incarnation.Incarnation.{Incarnation}
+use Rattle.blob_faulty.specs.declared.room.Room.{Room}
 
 -- equal places are apart from the same ones
 pub other_than : (o a i : Place) → i ≡ o → same_place i a ≡ same_place o a
@@ -198,6 +199,12 @@ held_same {O} place is k e j h at same v = held_set place is k j
   where
     pair : Place → List Pending → Held
     pair p q = (p, q)
+
+pub room_in : {O : Type 0} (is : List (Incarnation O)) (k : ℕ) (what : Room) (j : Incarnation O) → k < length is → HasRoom what j → HasRoomIn (set is k j) k what
+room_in {O} is k what j h room = record {
+  inside = omega (arith, length-set is k j, h);
+  room = λ d. subst (λ (x : Incarnation O). HasRoom what x) (sym (get_or-set_same is k j d h)) room;
+}
 
 pub ranges_at : {O : Type 0} (is : List (Incarnation O)) (k : ℕ) (hs : Holes) (j : Incarnation O) → k < length is → HasRoomsFor hs j.entries → HasRangesAt (set is k j) k hs
 ranges_at {O} is k hs j h room d = subst (λ (x : Incarnation O). HasRoomsFor hs x.entries) (sym (get_or-set_same is k j d h)) room

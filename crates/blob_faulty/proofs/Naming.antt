@@ -12,7 +12,7 @@ use Rattle.blob_base.proofs.NameSteps.{stands_opened, stands_removed}
 use Rattle.blob_faulty.specs.declared.lists.Lists.{Lists}
 use Rattle.blob_faulty.specs.declared.storage.Storage.{Storage}
 use Rattle.blob_faulty.specs.Names.{Steps, emptied}
-use Rattle.blob_faulty.specs.Wrapper.{inner_of, config_of, pending_of, next_write_of, next_marker_of, AreApart, KeepsNumbers, KeepsRecords, finished_by}
+use Rattle.blob_faulty.specs.Wrapper.{inner_of, config_of, pending_of, next_write_of, next_marker_of, KeepsNumbers, KeepsRecords, finished_by}
 use Rattle.blob_faulty.proofs.Adding.{numbered_so, at_each, keeps_stands}
 
 -- a call that changes nothing of them
@@ -26,44 +26,38 @@ pub opened_steps : {S R O : Type 0} (place : O → Place) (directory : S → Dir
     IsOpened (directory (inner_of before)) (durable (inner_of before)) (directory (inner_of after)) (durable (inner_of after)) p n first last o live version → KeepsRecords place before after →
     Steps place directory durable before after (λ files. after_open files p n first last)
 opened_steps place directory durable before after p n first last o live version is k files s =
-    keeps_stands place (directory (inner_of after)) (directory (inner_of after)) (durable (inner_of after)) (durable (inner_of after)) before after (after_open files p n first last) refl refl k (record {
-      stands = stands_opened (directory (inner_of before)) (directory (inner_of after)) (durable (inner_of before)) (durable (inner_of after)) (pending_of place before) _ _ files p n first last o live version is s.stands;
-      apart = s.apart;
-    })
+    keeps_stands place (directory (inner_of after)) (directory (inner_of after)) (durable (inner_of after)) (durable (inner_of after)) before after (after_open files p n first last) refl refl k
+    (stands_opened (directory (inner_of before)) (directory (inner_of after)) (durable (inner_of before)) (durable (inner_of after)) (pending_of place before) _ _ files p n first last o live version is s)
 
 -- a removal that was answered Ok
 pub removed_steps : {S R O : Type 0} (place : O → Place) (directory : S → Directory) (durable : S → Durable) (before after : Storage S R O) (p : List ℕ) (n : Option (List ℕ)) →
     ((o : Place) → is_some (durable (inner_of before) o) ≡ is_current (directory (inner_of before)) o) →
     directory (inner_of after) ≡ removed (directory (inner_of before)) p n → durable (inner_of after) ≡ durable_without (durable (inner_of before)) p n →
-    ((o : Place) → pending_of place after o ≡ emptied (ends_by (directory (inner_of before)) p n) (pending_of place before) o) → (AreApart place before → AreApart place after) → KeepsNumbers before after →
+    ((o : Place) → pending_of place after o ≡ emptied (ends_by (directory (inner_of before)) p n) (pending_of place before) o) → KeepsNumbers before after →
     Steps place directory durable before after (λ files. after_remove files p n)
-removed_steps place directory durable before after p n currents named kept retired apart numbers files s = record {
-  stands = numbered_so _ _ (pending_of place after) _ _ _ _ (after_remove files p n) numbers.next_write numbers.next_marker
-      (stands_removed (directory (inner_of before)) (directory (inner_of after)) (durable (inner_of before)) (durable (inner_of after)) (pending_of place before) (pending_of place after) _ _ files p n currents named (at_each kept) retired s.stands);
-  apart = apart s.apart;
-}
+removed_steps place directory durable before after p n currents named kept retired numbers files s =
+    numbered_so _ _ (pending_of place after) _ _ _ _ (after_remove files p n) numbers.next_write numbers.next_marker
+    (stands_removed (directory (inner_of before)) (directory (inner_of after)) (durable (inner_of before)) (durable (inner_of after)) (pending_of place before) (pending_of place after) _ _ files p n currents named (at_each kept) retired s)
 
 -- a started sync that is finished
 pub finished_steps : {S R O : Type 0} (place : O → Place) (directory : S → Directory) (durable : S → Durable) (before after : Storage S R O) (marker : Option ℕ) →
-    inner_of after ≡ inner_of before → ((o : Place) → pending_of place after o ≡ finished_by marker (pending_of place before o)) → (AreApart place before → AreApart place after) → KeepsNumbers before after →
+    inner_of after ≡ inner_of before → ((o : Place) → pending_of place after o ≡ finished_by marker (pending_of place before o)) → KeepsNumbers before after →
     Steps place directory durable before after (λ files. files)
-finished_steps {S} {R} {O} place directory durable before after marker same finished apart numbers files s = record {
-  stands = subst (λ (i : S). StandsFor (directory i) (durable i) (pending_of place after) (next_write_of after) (next_marker_of after) files) (sym same)
-      (numbered_so _ _ (pending_of place after) _ _ _ _ files numbers.next_write numbers.next_marker (by marker finished));
-  apart = apart s.apart;
-}
+finished_steps {S} {R} {O} place directory durable before after marker same finished numbers files s =
+    subst (λ (i : S). StandsFor (directory i) (durable i) (pending_of place after) (next_write_of after) (next_marker_of after) files) (sym same)
+    (numbered_so _ _ (pending_of place after) _ _ _ _ files numbers.next_write numbers.next_marker (by marker finished))
   where
     by : (m : Option ℕ) → ((o : Place) → pending_of place after o ≡ finished_by m (pending_of place before o)) →
         StandsFor (directory (inner_of before)) (durable (inner_of before)) (pending_of place after) (next_write_of before) (next_marker_of before) files
-    by None new = stands_same _ _ _ _ (pending_of place before) (pending_of place after) _ _ files refl (λ _. refl) new s.stands
-    by (Some k) new = stands_done _ _ (pending_of place before) (pending_of place after) _ _ k files new s.stands
+    by None new = stands_same _ _ _ _ (pending_of place before) (pending_of place after) _ _ files refl (λ _. refl) new s
+    by (Some k) new = stands_done _ _ (pending_of place before) (pending_of place after) _ _ k files new s
 
 -- the same, where nothing else changes
 pub marker_steps : {S R O : Type 0} (place : O → Place) (directory : S → Directory) (durable : S → Durable) (before after : Storage S R O) (marker : Option ℕ) (lists : Lists S O) →
-    after ≡ record before { lists = lists } → ((o : Place) → pending_of place after o ≡ finished_by marker (pending_of place before o)) → (AreApart place before → AreApart place after) →
+    after ≡ record before { lists = lists } → ((o : Place) → pending_of place after o ≡ finished_by marker (pending_of place before o)) →
     Steps place directory durable before after (λ files. files)
-marker_steps {S} {R} {O} place directory durable before after marker lists rest finished apart =
-    finished_steps place directory durable before after marker (ap (λ (w : Storage S R O). inner_of w) rest) finished apart (record {
+marker_steps {S} {R} {O} place directory durable before after marker lists rest finished =
+    finished_steps place directory durable before after marker (ap (λ (w : Storage S R O). inner_of w) rest) finished (record {
       next_write = ap (λ (w : Storage S R O). next_write_of w) rest;
       next_marker = ap (λ (w : Storage S R O). next_marker_of w) rest;
       config = ap (λ (w : Storage S R O). config_of w) rest;

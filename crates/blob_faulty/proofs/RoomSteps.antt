@@ -1,13 +1,12 @@
 -- Room is made in a list, the inner store does the call, and an entry goes into the room.
 use Rattle.std.proofs.Common.{◌≡◌, ◌++◌, ◌∷◌, [], ℕ, refl, sym, ◌∙◌, ap, subst}
 use Rattle.blob_base.specs.Durable.{with_at}
-use Rattle.blob_base.specs.Order.{ArePlacesApart}
 use Rattle.blob_base.specs.Pending.{Pending}
 use Rattle.blob_base.specs.Places.{Place}
 use Rattle.blob_faulty.specs.declared.lists.Lists.{Lists}
 use Rattle.blob_faulty.specs.declared.storage.Storage.{Storage}
 use Rattle.blob_faulty.specs.Lists.{held, list_of, IsAt}
-use Rattle.blob_faulty.specs.Wrapper.{pending_of, next_write_of, next_marker_of, config_of, AreApart, KeepsNumbers}
+use Rattle.blob_faulty.specs.Wrapper.{pending_of, next_write_of, next_marker_of, config_of, KeepsNumbers}
 use Rattle.blob_faulty.proofs.Pushing.{after_room}
 
 -- the lists of a wrapper alone are others, or its inner store alone
@@ -27,8 +26,3 @@ pushed_at {S} {R} {O} place old mid done inner new i o e room at rest pushed = a
     (subst (λ (w : Storage S R O). (a : Place) → list_of place new.all.lists.items a ≡ with_at (pending_of place w) o (pending_of place w o ++ e ∷ []) a) rest
     (pushed o (subst (λ (w : Storage S R O). IsAt (held place w.lists.all.lists.items) i o) (sym rest) at)))
     refl
-
-pub pushed_apart : {S R O : Type 0} (place : O → Place) (old mid done : Storage S R O) (inner : S) (new : Lists S O) →
-    (AreApart place old → AreApart place mid) → done ≡ record mid { inner = inner } →
-    (ArePlacesApart (held place done.lists.all.lists.items) → ArePlacesApart (held place new.all.lists.items)) → AreApart place old → ArePlacesApart (held place new.all.lists.items)
-pushed_apart {S} {R} {O} place old mid done inner new room rest pushed h = pushed (subst (λ (w : Storage S R O). AreApart place w) (sym rest) (room h))

@@ -1,6 +1,6 @@
 -- What a sync, and a started one, make of the files that a wrapper stands for.
 use Rattle.std.proofs.Common.{◌≡◌, ◌++◌, ◌∷◌, [], ℕ, ◌+◌, List, refl}
-use Rattle.std.specs.Prelude.{Result, Ok, Err, OnOk, OnErr, IsSome, None}
+use Rattle.std.specs.Prelude.{Result, Ok, Err, OnOk, None}
 use Rattle.blob_base.specs.declared.error.Error.{Error}
 use Rattle.blob_base.specs.Directory.{Directory}
 use Rattle.blob_base.specs.Durable.{Durable, with_at, changed}
@@ -10,36 +10,28 @@ use Rattle.blob_base.specs.Refusals.{refused}
 use Rattle.blob_base.proofs.FileSteps.{stands_synced, stands_begun}
 use Rattle.blob_faulty.specs.declared.storage.Storage.{Storage}
 use Rattle.blob_faulty.specs.Syncs.{Publishes, Starts}
-use Rattle.blob_faulty.specs.Wrapper.{pending_of, next_write_of, next_marker_of, AreApart}
+use Rattle.blob_faulty.specs.Wrapper.{pending_of, next_write_of, next_marker_of}
 use Rattle.blob_faulty.proofs.Adding.{numbered_so, at_each}
 
 -- a sync
 pub sync_publishes : {S R O : Type 0} (place : O → Place) (names : Directory) (bytes bytes' : Durable) (old new : Storage S R O) (o : Place) (live : List ℕ) →
     bytes' ≡ changed bytes o (λ _. live) → ((a : Place) → pending_of place new a ≡ with_at (pending_of place old) o [] a) →
-    next_write_of new ≡ next_write_of old → next_marker_of new ≡ next_marker_of old → (AreApart place old → AreApart place new) →
+    next_write_of new ≡ next_write_of old → next_marker_of new ≡ next_marker_of old →
     Publishes place names bytes bytes' old new o live
-sync_publishes place names bytes bytes' old new o live over lists write marker apart files s = record {
-  stands = numbered_so names bytes' (pending_of place new) _ _ _ _ _ write marker
-      (stands_synced names bytes bytes' (pending_of place old) (pending_of place new) (next_write_of old) (next_marker_of old) files o live (at_each over) lists s.stands);
-  apart = apart s.apart;
-}
+sync_publishes place names bytes bytes' old new o live over lists write marker files s =
+    numbered_so names bytes' (pending_of place new) _ _ _ _ _ write marker
+    (stands_synced names bytes bytes' (pending_of place old) (pending_of place new) (next_write_of old) (next_marker_of old) files o live (at_each over) lists s)
 
 -- a started sync
 pub marker_starts : {S R O : Type 0} (place : O → Place) (names : Directory) (bytes bytes' : Durable) (old new : Storage S R O) (o : Place) (live : List ℕ) →
     bytes' ≡ changed bytes o (λ _. live) → ((a : Place) → pending_of place new a ≡ with_at (pending_of place old) o (pending_of place old o ++ Marker (next_marker_of old) ∷ []) a) →
-    next_write_of new ≡ next_write_of old → next_marker_of new ≡ next_marker_of old + 1 → (AreApart place old → AreApart place new) →
+    next_write_of new ≡ next_write_of old → next_marker_of new ≡ next_marker_of old + 1 →
     Starts place names bytes bytes' old new o live
-marker_starts place names bytes bytes' old new o live over lists write marker apart files below s = record {
-  stands = numbered_so names bytes' (pending_of place new) _ _ _ _ _ write marker
-      (stands_begun names bytes bytes' (pending_of place old) (pending_of place new) (next_write_of old) (next_marker_of old) files o live below (at_each over) lists s.stands);
-  apart = apart s.apart;
-}
+marker_starts place names bytes bytes' old new o live over lists write marker files below s =
+    numbered_so names bytes' (pending_of place new) _ _ _ _ _ write marker
+    (stands_begun names bytes bytes' (pending_of place old) (pending_of place new) (next_write_of old) (next_marker_of old) files o live below (at_each over) lists s)
 
--- what holds by a call's refusal, by its result
-pub ok_by : {T P : Type 0} (r : Result T Error) → (refused r ≡ None → P) → OnOk r P
-ok_by (Ok x) h = h refl
-ok_by (Err e) h = tt
-
-pub err_by : {T P : Type 0} (r : Result T Error) → (IsSome (refused r) → P) → OnErr r P
-err_by (Ok x) h = tt
-err_by (Err e) h = h refl
+-- a consequence of what a call ensures where it is answered Ok
+pub ok_of : {T A P : Type 0} (r : Result T Error) → OnOk r A → (refused r ≡ None → A → P) → OnOk r P
+ok_of (Ok x) a f = f refl a
+ok_of (Err e) a f = tt

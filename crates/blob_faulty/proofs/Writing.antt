@@ -7,11 +7,13 @@ use Rattle.blob_base.specs.Durable.{Durable, with_at, changed}
 use Rattle.blob_base.specs.Files.{Files, logged, all_logged}
 use Rattle.blob_base.specs.Log.{Entry, Loose, Kept, Resized, Write, need_of}
 use Rattle.blob_base.specs.Live.{live_written, all_written}
-use Rattle.blob_base.specs.Order.{held_at, ArePlacesApart}
+use Rattle.blob_base.specs.Order.{held_at}
 use Rattle.blob_base.specs.Pending.{Waiting, Cut, laid}
 use Rattle.blob_base.specs.Places.{Place}
 use Rattle.blob_base.specs.Refusals.{Refusal, WriteFailed, refused}
 use Rattle.blob_base.specs.declared.error.Error.{Error}
+use Rattle.blob_base.specs.declared.storage.Durable as stores
+use Rattle.blob_base.specs.declared.storage.Blob as handles
 use Rattle.blob_base.specs.Runs.{Run, kept_runs}
 use Rattle.blob_base.specs.Stands.{StandsFor}
 use Rattle.blob_base.proofs.FileSteps.{stands_plain, stands_cut, stands_range, stands_same}
@@ -37,43 +39,35 @@ told {R} new files names write marker d w m s =
 
 -- nothing is recorded
 pub same_logs : {R : Type 0} (old new : View R) → new.directory ≡ old.directory → new.durable ≡ old.durable → SameRecords old new → Logs old new []
-same_logs old new names same k files below s = record {
-  stands = told new files old.directory old.next_write old.next_marker names k.next_write k.next_marker
-      (stands_same old.directory old.directory old.durable new.durable (held_at old.held) (held_at new.held) old.next_write old.next_marker files refl (at_each same) k.pending s.stands);
-  apart = k.apart s.apart;
-}
+same_logs old new names same k files below s =
+    told new files old.directory old.next_write old.next_marker names k.next_write k.next_marker
+    (stands_same old.directory old.directory old.durable new.durable (held_at old.held) (held_at new.held) old.next_write old.next_marker files refl (at_each same) k.pending s)
 
 -- a loose write
 pub loose_logs : {R : Type 0} (old new : View R) (w : Write) → 0 < length w.bytes → w.number ≡ old.next_write → new.directory ≡ old.directory → new.durable ≡ old.durable →
     ((a : Place) → held_at new.held a ≡ with_at (held_at old.held) old.place (held_at old.held old.place ++ Waiting (need_of w []) ∷ []) a) →
-    new.next_write ≡ old.next_write + 1 → new.next_marker ≡ old.next_marker → (ArePlacesApart old.held → ArePlacesApart new.held) → Logs old new (Loose w ∷ [])
-loose_logs old new w some is names same lists write marker apart files below s = record {
-  stands = told new _ old.directory (old.next_write + 1) old.next_marker names write marker
-      (stands_same old.directory old.directory old.durable new.durable (held_at new.held) (held_at new.held) (old.next_write + 1) old.next_marker _ refl (at_each same) (λ _. refl)
-      (stands_plain old.directory old.durable (held_at old.held) (held_at new.held) old.next_write old.next_marker files old.place w some is below lists s.stands));
-  apart = apart s.apart;
-}
+    new.next_write ≡ old.next_write + 1 → new.next_marker ≡ old.next_marker → Logs old new (Loose w ∷ [])
+loose_logs old new w some is names same lists write marker files below s =
+    told new _ old.directory (old.next_write + 1) old.next_marker names write marker
+    (stands_same old.directory old.directory old.durable new.durable (held_at new.held) (held_at new.held) (old.next_write + 1) old.next_marker _ refl (at_each same) (λ _. refl)
+    (stands_plain old.directory old.durable (held_at old.held) (held_at new.held) old.next_write old.next_marker files old.place w some is below lists s))
 
 -- a durable range
 pub kept_logs : {R : Type 0} (old new : View R) (p : ℕ) (b : List ℕ) → 0 < length b → new.directory ≡ old.directory → new.durable ≡ changed old.durable old.place (λ x. overlay x p b) →
     ((a : Place) → held_at new.held a ≡ with_at (held_at old.held) old.place (laid p b (held_at old.held old.place)) a) →
-    new.next_write ≡ old.next_write → new.next_marker ≡ old.next_marker → (ArePlacesApart old.held → ArePlacesApart new.held) → Logs old new (Kept p b ∷ [])
-kept_logs old new p b some names over lists write marker apart files below s = record {
-  stands = told new _ old.directory old.next_write old.next_marker names write marker
-      (stands_range old.directory old.durable new.durable (held_at old.held) (held_at new.held) old.next_write old.next_marker files old.place p b some below (at_each over) lists s.stands);
-  apart = apart s.apart;
-}
+    new.next_write ≡ old.next_write → new.next_marker ≡ old.next_marker → Logs old new (Kept p b ∷ [])
+kept_logs old new p b some names over lists write marker files below s =
+    told new _ old.directory old.next_write old.next_marker names write marker
+    (stands_range old.directory old.durable new.durable (held_at old.held) (held_at new.held) old.next_write old.next_marker files old.place p b some below (at_each over) lists s)
 
 -- a resize that survives a crash
 pub cut_logs : {R : Type 0} (old new : View R) (n : ℕ) → new.directory ≡ old.directory → new.durable ≡ old.durable →
     ((a : Place) → held_at new.held a ≡ with_at (held_at old.held) old.place (held_at old.held old.place ++ Cut n ∷ []) a) →
-    new.next_write ≡ old.next_write → new.next_marker ≡ old.next_marker → (ArePlacesApart old.held → ArePlacesApart new.held) → Logs old new (Resized n ∷ [])
-cut_logs old new n names same lists write marker apart files below s = record {
-  stands = told new _ old.directory old.next_write old.next_marker names write marker
-      (stands_same old.directory old.directory old.durable new.durable (held_at new.held) (held_at new.held) old.next_write old.next_marker _ refl (at_each same) (λ _. refl)
-      (stands_cut old.directory old.durable (held_at old.held) (held_at new.held) old.next_write old.next_marker files old.place n below lists s.stands));
-  apart = apart s.apart;
-}
+    new.next_write ≡ old.next_write → new.next_marker ≡ old.next_marker → Logs old new (Resized n ∷ [])
+cut_logs old new n names same lists write marker files below s =
+    told new _ old.directory old.next_write old.next_marker names write marker
+    (stands_same old.directory old.directory old.durable new.durable (held_at new.held) (held_at new.held) old.next_write old.next_marker _ refl (at_each same) (λ _. refl)
+    (stands_cut old.directory old.durable (held_at old.held) (held_at new.held) old.next_write old.next_marker files old.place n below lists s))
 
 -- one after the other
 pub logs_then : {R : Type 0} (old mid new : View R) (e : Entry) (es : List Entry) → mid.place ≡ old.place → mid.directory ≡ old.directory → Logs old mid (e ∷ []) → Logs mid new es → Logs old new (e ∷ es)
@@ -191,7 +185,6 @@ logs_after old mid new es u later files below s =
 records_after : {R : Type 0} (old mid new : View R) → SameRecords old mid → SameRecords mid new → SameRecords old new
 records_after old mid new u k = record {
   pending = λ o. k.pending o ∙ u.pending o;
-  apart = λ h. k.apart (u.apart h);
   next_write = k.next_write ∙ u.next_write;
   next_marker = k.next_marker ∙ u.next_marker;
 }
@@ -220,21 +213,17 @@ runs_after {R} direct old mid new rs answer u w = record {
         ∙ ap (λ (n : ℕ). record { live = live_of_runs old.live rs; durable = all_changed old.durable old.place rs; size = size_of_runs n rs; entries = kept_runs rs }) u.bytes.size
 
 -- what a handle and its wrapper log, after a draw, as the wrapper's files have it
-pub adds_of : {S R O B : Type 0} (directory : S → Directory) (durable : S → Durable) (origin : O → Place) (place : B → Place) (live : B → List ℕ) (b b' : Blob B) (w w' : Storage S R O) (rng : R) (es es' : List Entry) →
-    directory w'.inner ≡ directory w.inner → es ≡ es' → Logs (seen directory durable origin place live b (record w { rng = rng })) (seen directory durable origin place live b' w') es' →
-    Adds origin (directory w.inner) (durable w.inner) (durable w'.inner) w w' (place b.inner) es
-adds_of {S} {R} {O} {B} directory durable origin place live b b' w w' rng es es' names same logs files below s =
-    let x = logs files below (record { stands = s.stands; apart = s.apart }) in
-    subst (λ (entries : List Entry). Stands origin (directory w.inner) (durable w'.inner) w' (all_logged files (place b.inner) entries)) (sym same)
-    (record {
-      stands = subst (λ (d : Directory). StandsFor d (durable w'.inner) (pending_of origin w') w'.next_write w'.next_marker (all_logged files (place b.inner) es')) names x.stands;
-      apart = x.apart;
-    })
+pub adds_of : {S R O B : Type 0} (store : stores.Ghosts S O) (handle : handles.Ghosts B S O) (b b' : Blob B) (w w' : Storage S R O) (rng : R) (es es' : List Entry) →
+    store.directory w'.inner ≡ store.directory w.inner → es ≡ es' → Logs (seen store handle b (record w { rng = rng })) (seen store handle b' w') es' →
+    Adds store.place (store.directory w.inner) (store.durable w.inner) (store.durable w'.inner) w w' (handle.place b.inner) es
+adds_of {S} {R} {O} {B} store handle b b' w w' rng es es' names same logs files below s =
+    subst (λ (entries : List Entry). Stands store.place (store.directory w.inner) (store.durable w'.inner) w' (all_logged files (handle.place b.inner) entries)) (sym same)
+    (subst (λ (d : Directory). StandsFor d (store.durable w'.inner) (pending_of store.place w') w'.next_write w'.next_marker (all_logged files (handle.place b.inner) es')) names (logs files below s))
 
 -- a draw that was refused for memory
 pub drawn_adds : {S R O : Type 0} (origin : O → Place) (names : Directory) (bytes : Durable) (w : Storage S R O) (rng : R) (o : Place) (es : List Entry) → es ≡ [] → Adds origin names bytes bytes w (record w { rng = rng }) o es
 drawn_adds {S} {R} {O} origin names bytes w rng o es none files below s =
-    subst (λ (entries : List Entry). Stands origin names bytes (record w { rng = rng }) (all_logged files o entries)) (sym none) (record { stands = s.stands; apart = s.apart })
+    subst (λ (entries : List Entry). Stands origin names bytes (record w { rng = rng }) (all_logged files o entries)) (sym none) s
 
 -- a SYNC write of some bytes that was done
 pub some_written : (live : List ℕ) (p : ℕ) (b : List ℕ) → 0 < length b → live_written true live p b ≡ written live p b

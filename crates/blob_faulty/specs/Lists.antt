@@ -2,13 +2,16 @@
 use Rattle.std.specs.Prelude.{◌≡◌, ◌≢◌, AllPairs, ℕ, ◌<◌, List, Bool, true, false, not, ◌&&◌, All, length, map, vec_len, vec_capacity}
 use Rattle.std.proofs.Common.{get_or}
 use Rattle.blob_base.specs.Directory.{Directory, is_current}
+use Rattle.blob_base.specs.Durable.{with_at}
 use Rattle.blob_base.specs.Places.{Place, same_place}
 use Rattle.blob_base.specs.Pending.{Pending, finished}
 use Rattle.blob_base.specs.Order.{Held, held_at}
 use Rattle.blob_base.specs.Holes.{Holes}
-use Rattle.blob_faulty.specs.Rooms.{HasRoomsFor}
+use Rattle.blob_faulty.specs.Rooms.{AreWithin, HasRoomsFor}
 use Rattle.blob_faulty.specs.Views.{views}
 use Rattle.blob_faulty.specs.declared.incarnation.Incarnation.{Incarnation}
+use Rattle.blob_faulty.specs.declared.room.Room.{Room}
+use Rattle.blob_faulty.specs.declared.room.Room.TheVariants as room
 
 abbrev pub held_by : {O : Type 0} → (O → Place) → Incarnation O → Held
 held_by place i = (place i.origin, views i.entries.items)
@@ -33,13 +36,35 @@ pub record IsAt (hs : List Held) (i : ℕ) (o : Place) : Type 0 where
 abbrev pub AreDistinct : {O : Type 0} → List (Incarnation O) → Type 0
 AreDistinct is = AllPairs (λ a b. a.origin ≢ b.origin) is
 
--- the list at i can take one more entry
-abbrev pub HasEntryAt : {O : Type 0} → List (Incarnation O) → ℕ → Type 0
-HasEntryAt {O} is i = (d : Incarnation O) → vec_len (get_or is i d).entries < vec_capacity (get_or is i d).entries
+-- an incarnation's list can take this
+abbrev pub HasRoom : {O : Type 0} → Room → Incarnation O → Type 0
+HasRoom room.Entry i = vec_len i.entries < vec_capacity i.entries
+HasRoom room.Mark i = (vec_len i.entries < vec_capacity i.entries) × (vec_len i.marks < vec_capacity i.marks)
+HasRoom (room.Ranges start end count) i = (hs : Holes) → AreWithin start end count hs → HasRoomsFor hs i.entries
 
--- the list at i can take one more marker
-abbrev pub HasMarkAt : {O : Type 0} → List (Incarnation O) → ℕ → Type 0
-HasMarkAt {O} is i = HasEntryAt is i × ((d : Incarnation O) → vec_len (get_or is i d).marks < vec_capacity (get_or is i d).marks)
+-- it has these entries, and is of the same incarnation
+pub record Becomes {O : Type 0} (old new : Incarnation O) (q : List Pending) : Type 0 where
+  pub origin : new.origin ≡ old.origin
+  pub noted : new.was_current ≡ old.was_current
+  pub entries : views new.entries.items ≡ q
+
+-- the list at i is there, and can take this
+pub record HasRoomIn {O : Type 0} (is : List (Incarnation O)) (i : ℕ) (what : Room) : Type 0 where
+  pub inside : i < length is
+  pub room : (d : Incarnation O) → HasRoom what (get_or is i d)
+
+-- it is that of an incarnation
+pub record IsRoomAt {O : Type 0} (place : O → Place) (is : List (Incarnation O)) (i : ℕ) (o : Place) (what : Room) : Type 0 where
+  pub at : IsAt (held place is) i o
+  pub here : HasRoomIn is i what
+
+-- what is pending of each incarnation stays
+abbrev pub SameLists : {O : Type 0} → (O → Place) → List (Incarnation O) → List (Incarnation O) → Type 0
+SameLists place old new = (o : Place) → list_of place new o ≡ list_of place old o
+
+-- the list at i alone is another, by whichever incarnation it is of
+abbrev pub ChangesAt : {O : Type 0} → (O → Place) → List (Incarnation O) → List (Incarnation O) → ℕ → (List Pending → List Pending) → Type 0
+ChangesAt place old new i change = (o : Place) → IsAt (held place old) i o → (a : Place) → list_of place new a ≡ with_at (list_of place old) o (change (list_of place old o)) a
 
 -- the list at i can take these durable ranges
 abbrev pub HasRangesAt : {O : Type 0} → List (Incarnation O) → ℕ → Holes → Type 0

@@ -9,7 +9,7 @@ use Rattle.blob_base.specs.Places.{Place}
 use Rattle.blob_base.specs.Refusals.{Refusal}
 use Rattle.blob_faulty.specs.declared.storage.Storage.{Storage}
 use Rattle.blob_faulty.specs.Faults.{draw}
-use Rattle.blob_faulty.specs.Wrapper.{inner_of, rng_of, config_of, pending_of, AreApart, KeepsNumbers, KeepsRecords, Stands}
+use Rattle.blob_faulty.specs.Wrapper.{inner_of, rng_of, config_of, pending_of, KeepsNumbers, KeepsRecords, Stands}
 
 -- pending lists, where those of some incarnations are retired
 abbrev pub emptied : (Place → Bool) → (Place → List Pending) → Place → List Pending
@@ -34,7 +34,6 @@ pub record RemoveLeaves {S R O : Type 0} (place : O → Place) (stream : R → S
   pub retired : answer ≡ None → (o : Place) → pending_of place after o ≡ emptied ends (pending_of place before) o
   -- after a refusal the same is pending
   pub kept : IsSome answer → (o : Place) → pending_of place after o ≡ pending_of place before o
-  pub apart : AreApart place before → AreApart place after
   pub numbers : KeepsNumbers before after
 
 -- whatever files a wrapper stood for, it now stands for what this step makes of them

@@ -10,8 +10,7 @@ use Rattle.blob_base.specs.Stands.{StandsFor}
 use Rattle.blob_faulty.specs.declared.config.Config.{Config}
 use Rattle.blob_faulty.specs.declared.storage.Storage.{Storage}
 use Rattle.blob_faulty.specs.declared.blob.Blob.{Blob}
-use Rattle.blob_base.specs.Order.{ArePlacesApart}
-use Rattle.blob_faulty.specs.Lists.{held, list_of}
+use Rattle.blob_faulty.specs.Lists.{list_of}
 
 abbrev pub inner_of : {S R O : Type 0} → Storage S R O → S
 inner_of w = w.inner
@@ -32,10 +31,6 @@ next_marker_of w = w.next_marker
 abbrev pub pending_of : {S R O : Type 0} → (O → Place) → Storage S R O → Place → List Pending
 pending_of place w = list_of place w.lists.all.lists.items
 
--- no two lists are of one incarnation
-abbrev pub AreApart : {S R O : Type 0} → (O → Place) → Storage S R O → Type 0
-AreApart place w = ArePlacesApart (held place w.lists.all.lists.items)
-
 -- what is pending once the started sync with a marker, where there is one, is finished
 abbrev pub finished_by : Option ℕ → List Pending → List Pending
 finished_by None list = list
@@ -50,14 +45,11 @@ pub record KeepsNumbers {S R O : Type 0} (old new : Storage S R O) : Type 0 wher
 -- nothing was recorded and nothing retired
 pub record KeepsRecords {S R O : Type 0} (place : O → Place) (old new : Storage S R O) : Type 0 where
   pub pending : (o : Place) → pending_of place new o ≡ pending_of place old o
-  pub apart : AreApart place old → AreApart place new
   pub numbers : KeepsNumbers old new
 
 -- a wrapper, over a store with this directory and these durable bytes, stands for files
-pub record Stands {S R O : Type 0} (place : O → Place) (directory : Directory) (durable : Durable) (w : Storage S R O) (files : Files) : Type 0 where
-  pub stands : StandsFor directory durable (pending_of place w) (next_write_of w) (next_marker_of w) files
-  -- no two lists are of one incarnation
-  pub apart : ArePlacesApart (held place w.lists.all.lists.items)
+abbrev pub Stands : {S R O : Type 0} → (O → Place) → Directory → Durable → Storage S R O → Files → Type 0
+Stands place directory durable w files = StandsFor directory durable (pending_of place w) (next_write_of w) (next_marker_of w) files
 
 -- whatever files a wrapper stood for, it now stands for them with these entries added to an incarnation's log. The directory stays
 abbrev pub Adds : {S R O : Type 0} → (O → Place) → Directory → Durable → Durable → Storage S R O → Storage S R O → Place → List Entry → Type 0

@@ -2,15 +2,18 @@
 use Rattle.std.specs.Prelude.{◌≡◌, ℕ, ◌<◌, ◌+◌, max, Bool, true, false, List, [], ◌∷◌, length, Option, Some, None, IsSome}
 use Rattle.blob_base.specs.Bytes.{overlay, resized}
 use Rattle.blob_base.specs.Directory.{Directory, is_current}
-use Rattle.blob_base.specs.Durable.{Durable, changed}
+use Rattle.blob_base.specs.Durable.{Durable, changed, with_at}
 use Rattle.blob_base.specs.Files.{Files, all_logged}
 use Rattle.blob_base.specs.Live.{live_after, live_written, all_written}
 use Rattle.blob_base.specs.Log.{Entry}
-use Rattle.blob_base.specs.Order.{Held, held_at, ArePlacesApart}
+use Rattle.blob_base.specs.Order.{Held, held_at}
+use Rattle.blob_base.specs.Pending.{Pending}
 use Rattle.blob_base.specs.Places.{Place}
 use Rattle.blob_base.specs.Refusals.{Refusal, Memory}
 use Rattle.blob_base.specs.Runs.{Run, kept_runs}
 use Rattle.blob_base.specs.Stands.{StandsFor}
+use Rattle.blob_base.specs.declared.storage.Durable as stores
+use Rattle.blob_base.specs.declared.storage.Blob as handles
 use Rattle.blob_faulty.specs.declared.blob.Blob.{Blob}
 use Rattle.blob_faulty.specs.declared.config.Config.{Config}
 use Rattle.blob_faulty.specs.declared.storage.Storage.{Storage}
@@ -32,14 +35,15 @@ pub record View (R : Type 0) : Type 0 where
   pub config : Config
   pub rng : R
 
-abbrev pub seen : {S R O B : Type 0} → (S → Directory) → (S → Durable) → (O → Place) → (B → Place) → (B → List ℕ) → Blob B → Storage S R O → View R
-seen directory durable origin place live b w = record {
-  directory = directory w.inner;
-  durable = durable w.inner;
-  place = place b.inner;
-  live = live b.inner;
+-- by what the inner store and its handles show
+abbrev pub seen : {S R O B : Type 0} → stores.Ghosts S O → handles.Ghosts B S O → Blob B → Storage S R O → View R
+seen store handle b w = record {
+  directory = store.directory w.inner;
+  durable = store.durable w.inner;
+  place = handle.place b.inner;
+  live = handle.live b.inner;
   size = b.size;
-  held = held origin w.lists.all.lists.items;
+  held = held store.place w.lists.all.lists.items;
   next_write = w.next_write;
   next_marker = w.next_marker;
   config = w.config;
@@ -47,9 +51,8 @@ seen directory durable origin place live b w = record {
 }
 
 -- a wrapper stands for files
-pub record IsFor {R : Type 0} (v : View R) (files : Files) : Type 0 where
-  pub stands : StandsFor v.directory v.durable (held_at v.held) v.next_write v.next_marker files
-  pub apart : ArePlacesApart v.held
+abbrev pub IsFor : {R : Type 0} → View R → Files → Type 0
+IsFor v files = StandsFor v.directory v.durable (held_at v.held) v.next_write v.next_marker files
 
 -- whatever files it stood for, it now stands for them with these entries added to the log of the handle's incarnation
 abbrev pub Logs : {R : Type 0} → View R → View R → List Entry → Type 0
@@ -58,7 +61,6 @@ Logs old new entries = (files : Files) → old.place.number < old.directory.next
 -- nothing was recorded and nothing retired
 pub record SameRecords {R : Type 0} (old new : View R) : Type 0 where
   pub pending : (o : Place) → held_at new.held o ≡ held_at old.held o
-  pub apart : ArePlacesApart old.held → ArePlacesApart new.held
   pub next_write : new.next_write ≡ old.next_write
   pub next_marker : new.next_marker ≡ old.next_marker
 
@@ -193,3 +195,48 @@ pub record ResizedBy {R : Type 0} (fate : ResizeFate) (direct : Bool) (old new :
   pub directory : new.directory ≡ old.directory
   pub place : new.place ≡ old.place
   pub rng : new.rng ≡ old.rng
+
+-- A sync.
+
+-- by this answer
+pub record Synced {R : Type 0} (old new : View R) (answer : Option Refusal) : Type 0 where
+  pub done : answer ≡ None → new.durable ≡ changed old.durable old.place (λ _. old.live)
+  -- by the handle of an incarnation that is gone it isn't done
+  pub current : answer ≡ None → is_current old.directory old.place ≡ true
+  pub refused : IsSome answer → new.durable ≡ old.durable
+  pub unrecorded : IsSome answer → SameRecords old new
+  pub live : new.live ≡ old.live
+  pub size : new.size ≡ old.size
+  pub next_write : new.next_write ≡ old.next_write
+  pub directory : new.directory ≡ old.directory
+  pub place : new.place ≡ old.place
+  pub config : new.config ≡ old.config
+  pub rng : new.rng ≡ old.rng
+
+-- what was pending of the handle's incarnation is another list
+abbrev pub Holds : {R : Type 0} → View R → View R → List Pending → Type 0
+Holds old new list = (o : Place) → held_at new.held o ≡ with_at (held_at old.held) old.place list o
+
+-- The same of a handle and a wrapper before a call and after it.
+
+module _ {S R O B : Type 0} (store : stores.Ghosts S O) (handle : handles.Ghosts B S O) (b : Blob B) (w : Storage S R O) (b' : Blob B) (w' : Storage S R O) where
+  abbrev pub Keeps : Type 0
+  Keeps = Unchanged (seen store handle b w) (seen store handle b' w')
+
+  abbrev pub Writes : (View R → Effect) → Option Refusal → Type 0
+  Writes effect answer = Wrote handle.is_direct (seen store handle b w) (seen store handle b' w') effect answer
+
+  abbrev pub Records : (View R → Effect) → Option Refusal → Type 0
+  Records effect answer = Recorded handle.is_direct (seen store handle b w) (seen store handle b' w') effect answer
+
+  abbrev pub WritesBy : WriteFate → Bool → ℕ → List ℕ → Option Refusal → Type 0
+  WritesBy fate sync offset bytes answer = WroteBy fate handle.is_direct (seen store handle b w) (seen store handle b' w') sync offset bytes answer
+
+  abbrev pub ResizesBy : ResizeFate → ℕ → Option Refusal → Type 0
+  ResizesBy fate len answer = ResizedBy fate handle.is_direct (seen store handle b w) (seen store handle b' w') len answer
+
+  abbrev pub Syncs : Option Refusal → Type 0
+  Syncs answer = Synced (seen store handle b w) (seen store handle b' w') answer
+
+  abbrev pub Retires : List Pending → Type 0
+  Retires list = Holds (seen store handle b w) (seen store handle b' w') list

@@ -4,7 +4,7 @@ ghost use Rattle.blob_base.specs.Directory.{current};
 ghost use Rattle.blob_base.specs.Files.{Files, admitted, ends_by};
 ghost use Rattle.blob_base.specs.Places.{Place};
 ghost use Rattle.blob_base.specs.Stands.{retired};
-ghost use Rattle.blob_faulty.specs.Wrapper.{AreApart, KeepsNumbers, Stands, inner_of, rng_of, pending_of};
+ghost use Rattle.blob_faulty.specs.Wrapper.{KeepsNumbers, Stands, inner_of, rng_of, pending_of};
 ghost use Rattle.blob_memory.specs.Store.{directory, durable};
 
 use crate::incarnation::Incarnation;
@@ -43,7 +43,6 @@ impl<R> Storage<blob_memory::Storage, R> {
     /// An unknown name changes nothing. Never refused; takes no memory and draws nothing.
     pub fn admit(&mut self, partition: &str, name: &[u8]) -> Retired
         ensures pending { (o : Place) → pending_of (λ o. o) self.new o ≡ retired (pending_of (λ o. o) self.old) (current (directory (inner_of self.old)) partition.now name.now) o }
-        ensures apart { AreApart (λ o. o) self.old → AreApart (λ o. o) self.new }
         ensures stands { (files : Files) → Stands (λ o. o) (directory (inner_of self.old)) (durable (inner_of self.old)) self.old files → Stands (λ o. o) (directory (inner_of self.new)) (durable (inner_of self.new)) self.new (admitted files partition.now name.now) }
         ensures inner { inner_of self.new ≡ inner_of self.old }
         ensures rng { rng_of self.new ≡ rng_of self.old }

@@ -237,7 +237,10 @@ impl<S: blob_base::Storage, R: Rng, B: blob_base::Blob<S>> blob_base::Blob<Stora
         ensures numbers { KeepsNumbers store.old store.new }
         ensures size { size_of self.new ≡ size_of self.old }
     {
-        self.sync_by_draw(store)
+        if draws(store.config.sync_rate, &mut store.rng) {
+            return Err(Error::Injected);
+        }
+        self.sync_drawn(store)
     }
 
     /// Draws the sync rate, then makes the live bytes durable, and leaves a marker: a crash replays nothing that is pending before
@@ -271,7 +274,13 @@ impl<S: blob_base::Storage, R: Rng, B: blob_base::Blob<S>> blob_base::Blob<Stora
         ensures unmarked { IsSome (refused (outcome_of result)) → marker_of result ≡ None }
         ensures unrecorded { IsSome (refused (outcome_of result)) → KeepsRecords S.place store.old store.new }
     {
-        match self.start_by_draw(store) {
+        if draws(store.config.sync_rate, &mut store.rng) {
+            return Handle::ready(Err(Error::Injected));
+        }
+        if store.next_marker == u64::MAX {
+            return Handle::ready(Err(Error::GenerationsExhausted));
+        }
+        match self.start_marked(store) {
             Ok(marker) => Handle::marked(marker),
             Err(error) => Handle::ready(Err(error)),
         }

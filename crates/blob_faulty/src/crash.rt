@@ -8,7 +8,7 @@ ghost use Rattle.blob_base.specs.Stands.{replayed_at};
 ghost use Rattle.blob_faulty.specs.Lists.{held, held_by};
 ghost use Rattle.blob_faulty.specs.Replays.{widest_of_all, IsReady};
 ghost use Rattle.blob_faulty.specs.Rows.{table_of};
-ghost use Rattle.blob_faulty.specs.Wrapper.{AreApart, KeepsNumbers, KeepsRecords, Stands, inner_of, rng_of, pending_of};
+ghost use Rattle.blob_faulty.specs.Wrapper.{KeepsNumbers, KeepsRecords, Stands, inner_of, rng_of, pending_of};
 ghost use Rattle.blob_memory.specs.Store.{directory, durable, HasCrashRoom};
 
 use crate::entries::{end, unmarked, widest};
@@ -81,9 +81,8 @@ impl<R: Rng> Storage<blob_memory::Storage, R> {
     pub fn crash(&mut self) -> Result<Selections, Error>
         ensures rows { IfOk result (λ kept. (files : Files) → Stands (λ o. o) (directory (inner_of self.old)) (durable (inner_of self.old)) self.old files → (table_of kept, R.stream (rng_of self.new)) ≡ drawn (R.stream (rng_of self.old)) (all_needs files.log)) }
         ensures stands { IfOk result (λ kept. (files : Files) → Stands (λ o. o) (directory (inner_of self.old)) (durable (inner_of self.old)) self.old files → Stands (λ o. o) (directory (inner_of self.new)) (durable (inner_of self.new)) self.new (after_crash files (chosen_by (table_of kept)))) }
-        ensures durable { IfOk result (λ kept. AreApart (λ o. o) self.old → (o : Place) → durable (inner_of self.new) o ≡ replayed_at (chosen_by (table_of kept)) (pending_of (λ o. o) self.old o) (durable (inner_of self.old) o)) }
+        ensures durable { IfOk result (λ kept. (o : Place) → durable (inner_of self.new) o ≡ replayed_at (chosen_by (table_of kept)) (pending_of (λ o. o) self.old o) (durable (inner_of self.old) o)) }
         ensures emptied { OnOk result (pending_of (λ o. o) self.new ≡ (λ _. [])) }
-        ensures apart { OnOk result (AreApart (λ o. o) self.new) }
         ensures memory { OnErr result (IsMemory result) }
         ensures unchanged { OnErr result (durable (inner_of self.new) ≡ durable (inner_of self.old)) }
         ensures records { OnErr result (KeepsRecords (λ o. o) self.old self.new) }

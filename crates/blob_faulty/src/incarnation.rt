@@ -5,6 +5,7 @@ ghost use Rattle.blob_faulty.specs.Views.{views};
 
 use crate::entries;
 use crate::entry::Entry;
+use crate::room::Room;
 use blob_base::IoBufs;
 use std::alloc::{AllocError, Global};
 
@@ -37,10 +38,11 @@ fn drop_front(marks: &mut Vec<u64>, count: usize)
 }
 
 impl<O> Incarnation<O> {
-    ghost use Rattle.std.specs.Prelude.{◌<◌, ◌+◌, ◌^◌, ◌++◌, ◌∷◌, ℕ, List, [], OnOk, false, true, length, vec_capacity};
+    ghost use Rattle.std.specs.Prelude.{◌<◌, ◌+◌, ◌^◌, ◌++◌, ◌∷◌, ℕ, List, [], OnOk, false, true, length};
     ghost use Rattle.blob_base.specs.Holes.{Holes};
     ghost use Rattle.blob_base.specs.Pending.{Marker, laid, finished, has_barrier, is_marker};
-    ghost use Rattle.blob_faulty.specs.Rooms.{AreWithin, HasRoomsFor};
+    ghost use Rattle.blob_faulty.specs.Lists.{Becomes, HasRoom};
+    ghost use Rattle.blob_faulty.specs.Rooms.{HasRoomsFor};
     ghost use Rattle.blob_faulty.specs.Views.{view};
 
     /// Nothing is pending of it yet.
@@ -65,56 +67,36 @@ impl<O> Incarnation<O> {
         self.was_current = is_current;
     }
 
-    /// Room for one more entry. A refusal leaves the list as it was.
-    pub fn reserve_entry(&mut self) -> Result<(), AllocError>
-        ensures origin { self.new.origin ≡ self.old.origin }
-        ensures noted { self.new.was_current ≡ self.old.was_current }
-        ensures views { views self.new.entries.items ≡ views self.old.entries.items }
-        ensures ok { OnOk result (vec_len self.new.entries < vec_capacity self.new.entries) }
+    /// Room for this. A refusal leaves the list as it was.
+    pub fn reserve(&mut self, room: Room) -> Result<(), AllocError>
+        ensures same { Becomes self.old self.new (views self.old.entries.items) }
+        ensures ok { OnOk result (HasRoom room self.new) }
     {
-        self.entries.reserve(1)
-    }
-
-    /// Room for one more marker. A refusal leaves the list as it was.
-    pub fn reserve_mark(&mut self) -> Result<(), AllocError>
-        ensures origin { self.new.origin ≡ self.old.origin }
-        ensures noted { self.new.was_current ≡ self.old.was_current }
-        ensures views { views self.new.entries.items ≡ views self.old.entries.items }
-        ensures entries { OnOk result (vec_len self.new.entries < vec_capacity self.new.entries) }
-        ensures marks { OnOk result (vec_len self.new.marks < vec_capacity self.new.marks) }
-    {
-        self.marks.reserve(1)?;
-        self.entries.reserve(1)
-    }
-
-    /// Room for so many more durable ranges, which lie from `start` up to `end`. A refusal leaves the list as it was.
-    pub fn reserve_ranges(&mut self, start: u64, end: u64, count: usize) -> Result<(), AllocError>
-        ensures origin { self.new.origin ≡ self.old.origin }
-        ensures noted { self.new.was_current ≡ self.old.was_current }
-        ensures views { views self.new.entries.items ≡ views self.old.entries.items }
-        ensures ok { OnOk result ((ranges : Holes) → AreWithin start end count ranges → HasRoomsFor ranges self.new.entries) }
-    {
-        entries::reserve_ranges(&mut self.entries, start, end, count)
+        match room {
+            Room::Entry => self.entries.reserve(1),
+            Room::Mark => {
+                self.marks.reserve(1)?;
+                self.entries.reserve(1)
+            }
+            Room::Ranges(start, end, count) => {
+                entries::reserve_ranges(&mut self.entries, start, end, count)
+            }
+        }
     }
 
     /// One more entry that is no marker, where there is room for it.
     pub fn push(&mut self, entry: Entry)
-        requires room { vec_len self.old.entries < vec_capacity self.old.entries }
+        requires room { HasRoom Room.Entry self.old }
         requires unmarked { is_marker (view entry) ≡ false }
-        ensures origin { self.new.origin ≡ self.old.origin }
-        ensures noted { self.new.was_current ≡ self.old.was_current }
-        ensures views { views self.new.entries.items ≡ views self.old.entries.items ++ view entry ∷ [] }
+        ensures { Becomes self.old self.new (views self.old.entries.items ++ view entry ∷ []) }
     {
         entries::push(&mut self.entries, entry);
     }
 
     /// A marker, where there is room for it.
     pub fn mark(&mut self, number: u64)
-        requires room { vec_len self.old.entries < vec_capacity self.old.entries }
-        requires marks { vec_len self.old.marks < vec_capacity self.old.marks }
-        ensures origin { self.new.origin ≡ self.old.origin }
-        ensures noted { self.new.was_current ≡ self.old.was_current }
-        ensures views { views self.new.entries.items ≡ views self.old.entries.items ++ Marker number ∷ [] }
+        requires { HasRoom Room.Mark self.old }
+        ensures { Becomes self.old self.new (views self.old.entries.items ++ Marker number ∷ []) }
     {
         self.marks.push(number).unwrap();
         entries::push(&mut self.entries, Entry::Marker(number));
@@ -125,9 +107,9 @@ impl<O> Incarnation<O> {
         requires fits { offset + len < 2 ^ 64 }
         requires copied { length copy ≤ len }
         requires room { HasRoomsFor ((offset, offset + len) ∷ []) self.old.entries }
+        ensures laid { (bytes : List ℕ) → length bytes ≡ len → (has_barrier (views self.old.entries.items) ≡ true → copy ≡ bytes) →
+            Becomes self.old self.new (laid offset bytes (views self.old.entries.items)) }
         ensures origin { self.new.origin ≡ self.old.origin }
-        ensures noted { self.new.was_current ≡ self.old.was_current }
-        ensures views { (bytes : List ℕ) → length bytes ≡ len → (has_barrier (views self.old.entries.items) ≡ true → copy ≡ bytes) → views self.new.entries.items ≡ laid offset bytes (views self.old.entries.items) }
         ensures room { (later : Holes) → HasRoomsFor ((offset, offset + len) ∷ later) self.old.entries → HasRoomsFor later self.new.entries }
     {
         entries::lay(&mut self.entries, offset, len, copy);
@@ -135,9 +117,7 @@ impl<O> Incarnation<O> {
 
     /// A started sync is finished: its marker and what stands before it go, where it is there.
     pub fn finish(&mut self, marker: u64)
-        ensures origin { self.new.origin ≡ self.old.origin }
-        ensures noted { self.new.was_current ≡ self.old.was_current }
-        ensures views { views self.new.entries.items ≡ finished marker (views self.old.entries.items) }
+        ensures { Becomes self.old self.new (finished marker (views self.old.entries.items)) }
     {
         if let Some(i) = place_of(&self.marks, marker) {
             drop_front(&mut self.marks, i + 1);

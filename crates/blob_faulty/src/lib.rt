@@ -20,6 +20,7 @@ pub mod names;
 mod replay;
 mod resizes;
 mod retired;
+mod room;
 mod rows;
 pub mod runs;
 pub mod selection;

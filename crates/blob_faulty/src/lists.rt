@@ -4,16 +4,16 @@ ghost use Rattle.blob_base.specs.Places.{Place, same_place};
 ghost use Rattle.blob_base.specs.Directory.{Directory, is_current};
 ghost use Rattle.blob_base.specs.Durable.{with_at};
 ghost use Rattle.blob_base.specs.Holes.{Holes};
-ghost use Rattle.blob_base.specs.Order.{ArePlacesApart, has_list};
+ghost use Rattle.blob_base.specs.Order.{has_list};
 ghost use Rattle.blob_base.specs.Pending.{Marker, laid, finished, has_barrier, is_marker};
 ghost use Rattle.blob_base.specs.Refusals.{IsMemory};
-ghost use Rattle.blob_faulty.specs.Rooms.{AreWithin};
 ghost use Rattle.blob_faulty.specs.Views.{view};
-ghost use Rattle.blob_faulty.specs.Lists.{held, list_of, IsAt, HasEntryAt, HasMarkAt, HasRangesAt, AreDistinct, finished_in, AreNoted, has_ended};
+ghost use Rattle.blob_faulty.specs.Lists.{held, list_of, IsAt, HasRoomIn, IsRoomAt, HasRangesAt, SameLists, ChangesAt, AreDistinct, finished_in, AreNoted, has_ended};
 
 use crate::entries;
 use crate::entry::Entry;
 use crate::incarnation::Incarnation;
+use crate::room::Room;
 use blob_base::{Durable, Error, IoBufs};
 use std::alloc::{AllocError, Global};
 
@@ -111,8 +111,7 @@ impl<S: Durable> Lists<S> {
     /// A list for an incarnation that has none. A refusal leaves the lists as they were.
     fn add(&mut self, origin: S::Origin) -> Result<(), AllocError>
         requires { has_list (held S.place self.old.all.lists.items) (S.place origin) ≡ false }
-        ensures lists { (o : Place) → list_of S.place self.new.all.lists.items o ≡ list_of S.place self.old.all.lists.items o }
-        ensures apart { ArePlacesApart (held S.place self.old.all.lists.items) → ArePlacesApart (held S.place self.new.all.lists.items) }
+        ensures same { SameLists S.place self.old.all.lists.items self.new.all.lists.items }
         ensures ok { OnOk result (IsAt (held S.place self.new.all.lists.items) (vec_len self.old.all.lists) (S.place origin)) }
         ensures len { OnOk result (vec_len self.new.all.lists ≡ vec_len self.old.all.lists + 1) }
     {
@@ -123,8 +122,7 @@ impl<S: Durable> Lists<S> {
 
     /// Where the list of an incarnation is, which is added where there is none. A refusal leaves the lists as they were.
     fn place_for(&mut self, origin: S::Origin, hint: usize) -> Result<usize, AllocError>
-        ensures lists { (o : Place) → list_of S.place self.new.all.lists.items o ≡ list_of S.place self.old.all.lists.items o }
-        ensures apart { ArePlacesApart (held S.place self.old.all.lists.items) → ArePlacesApart (held S.place self.new.all.lists.items) }
+        ensures same { SameLists S.place self.old.all.lists.items self.new.all.lists.items }
         ensures at { IfOk result (λ i. IsAt (held S.place self.new.all.lists.items) i (S.place origin)) }
         ensures inside { IfOk result (λ i. i < vec_len self.new.all.lists) }
     {
@@ -136,108 +134,44 @@ impl<S: Durable> Lists<S> {
         Ok(i)
     }
 
-    /// Room for one more entry in the list at `i`.
-    fn reserve_entry(&mut self, i: usize) -> Result<(), AllocError>
+    /// Room for this in the list at `i`.
+    fn reserve(&mut self, i: usize, room: Room) -> Result<(), AllocError>
         requires { i < vec_len self.old.all.lists }
         ensures held { held S.place self.new.all.lists.items ≡ held S.place self.old.all.lists.items }
-        ensures len { vec_len self.new.all.lists ≡ vec_len self.old.all.lists }
-        ensures ok { OnOk result (HasEntryAt self.new.all.lists.items i) }
+        ensures ok { OnOk result (HasRoomIn self.new.all.lists.items i room) }
     {
-        self.all.lists[i].reserve_entry()
+        self.all.lists[i].reserve(room)
     }
 
-    /// Room for one more marker in the list at `i`.
-    fn reserve_mark(&mut self, i: usize) -> Result<(), AllocError>
-        requires { i < vec_len self.old.all.lists }
-        ensures held { held S.place self.new.all.lists.items ≡ held S.place self.old.all.lists.items }
-        ensures len { vec_len self.new.all.lists ≡ vec_len self.old.all.lists }
-        ensures ok { OnOk result (HasMarkAt self.new.all.lists.items i) }
-    {
-        self.all.lists[i].reserve_mark()
-    }
-
-    /// Room in the list at `i` for so many more durable ranges, which lie from `start` up to `end`.
-    fn reserve_ranges(
-        &mut self,
-        i: usize,
-        start: u64,
-        end: u64,
-        count: usize,
-    ) -> Result<(), AllocError>
-        requires { i < vec_len self.old.all.lists }
-        ensures held { held S.place self.new.all.lists.items ≡ held S.place self.old.all.lists.items }
-        ensures len { vec_len self.new.all.lists ≡ vec_len self.old.all.lists }
-        ensures ok { OnOk result ((ranges : Holes) → AreWithin start end count ranges → HasRangesAt self.new.all.lists.items i ranges) }
-    {
-        self.all.lists[i].reserve_ranges(start, end, count)
-    }
-
-    /// The list of an incarnation, with room for one more entry. It is looked for at `hint` first. A refusal leaves the lists
-    /// as they were.
-    pub fn room_for_entry(&mut self, origin: S::Origin, hint: usize) -> Result<usize, AllocError>
-        ensures lists { (o : Place) → list_of S.place self.new.all.lists.items o ≡ list_of S.place self.old.all.lists.items o }
-        ensures apart { ArePlacesApart (held S.place self.old.all.lists.items) → ArePlacesApart (held S.place self.new.all.lists.items) }
-        ensures at { IfOk result (λ i. IsAt (held S.place self.new.all.lists.items) i (S.place origin)) }
-        ensures inside { IfOk result (λ i. i < vec_len self.new.all.lists) }
-        ensures room { IfOk result (λ i. HasEntryAt self.new.all.lists.items i) }
-    {
-        let i = self.place_for(origin, hint)?;
-        self.reserve_entry(i)?;
-        Ok(i)
-    }
-
-    /// The list of an incarnation, with room for one more marker. It is looked for at `hint` first. A refusal leaves the lists
-    /// as they were.
-    pub fn room_for_mark(&mut self, origin: S::Origin, hint: usize) -> Result<usize, AllocError>
-        ensures lists { (o : Place) → list_of S.place self.new.all.lists.items o ≡ list_of S.place self.old.all.lists.items o }
-        ensures apart { ArePlacesApart (held S.place self.old.all.lists.items) → ArePlacesApart (held S.place self.new.all.lists.items) }
-        ensures at { IfOk result (λ i. IsAt (held S.place self.new.all.lists.items) i (S.place origin)) }
-        ensures inside { IfOk result (λ i. i < vec_len self.new.all.lists) }
-        ensures room { IfOk result (λ i. HasMarkAt self.new.all.lists.items i) }
-    {
-        let i = self.place_for(origin, hint)?;
-        self.reserve_mark(i)?;
-        Ok(i)
-    }
-
-    /// The list of an incarnation, with room for so many more durable ranges, which lie from `start` up to `end`. A refusal
-    /// leaves the lists as they were.
-    pub fn room_for_ranges(
+    /// The list of an incarnation, with room for this. It is looked for at `hint` first. A refusal leaves the lists as they
+    /// were.
+    pub fn room_for(
         &mut self,
         origin: S::Origin,
         hint: usize,
-        start: u64,
-        end: u64,
-        count: usize,
+        room: Room,
     ) -> Result<usize, AllocError>
-        ensures lists { (o : Place) → list_of S.place self.new.all.lists.items o ≡ list_of S.place self.old.all.lists.items o }
-        ensures apart { ArePlacesApart (held S.place self.old.all.lists.items) → ArePlacesApart (held S.place self.new.all.lists.items) }
-        ensures at { IfOk result (λ i. IsAt (held S.place self.new.all.lists.items) i (S.place origin)) }
-        ensures inside { IfOk result (λ i. i < vec_len self.new.all.lists) }
-        ensures room { IfOk result (λ i. (ranges : Holes) → AreWithin start end count ranges → HasRangesAt self.new.all.lists.items i ranges) }
+        ensures same { SameLists S.place self.old.all.lists.items self.new.all.lists.items }
+        ensures ok { IfOk result (λ i. IsRoomAt S.place self.new.all.lists.items i (S.place origin) room) }
     {
         let i = self.place_for(origin, hint)?;
-        self.reserve_ranges(i, start, end, count)?;
+        self.reserve(i, room)?;
         Ok(i)
     }
 
     /// One more entry in the list at `i` that is no marker, where there is room for it.
     pub fn push(&mut self, i: usize, entry: Entry)
-        requires inside { i < vec_len self.old.all.lists }
-        requires room { HasEntryAt self.old.all.lists.items i }
+        requires room { HasRoomIn self.old.all.lists.items i Room.Entry }
         requires unmarked { is_marker (view entry) ≡ false }
-        ensures lists { (o : Place) → IsAt (held S.place self.old.all.lists.items) i o → (a : Place) → list_of S.place self.new.all.lists.items a ≡ with_at (list_of S.place self.old.all.lists.items) o (list_of S.place self.old.all.lists.items o ++ view entry ∷ []) a }
-        ensures apart { ArePlacesApart (held S.place self.old.all.lists.items) → ArePlacesApart (held S.place self.new.all.lists.items) }
+        ensures { ChangesAt S.place self.old.all.lists.items self.new.all.lists.items i (λ q. q ++ view entry ∷ []) }
     {
         self.all.lists[i].push(entry);
     }
 
     /// A marker in the list at `i`, where there is room for it.
     pub fn mark(&mut self, i: usize, number: u64)
-        requires inside { i < vec_len self.old.all.lists }
-        requires room { HasMarkAt self.old.all.lists.items i }
-        ensures lists { (o : Place) → IsAt (held S.place self.old.all.lists.items) i o → (a : Place) → list_of S.place self.new.all.lists.items a ≡ with_at (list_of S.place self.old.all.lists.items) o (list_of S.place self.old.all.lists.items o ++ Marker number ∷ []) a }
-        ensures apart { ArePlacesApart (held S.place self.old.all.lists.items) → ArePlacesApart (held S.place self.new.all.lists.items) }
+        requires { HasRoomIn self.old.all.lists.items i Room.Mark }
+        ensures { ChangesAt S.place self.old.all.lists.items self.new.all.lists.items i (λ q. q ++ Marker number ∷ []) }
     {
         self.all.lists[i].mark(number);
     }
@@ -267,15 +201,13 @@ impl<S: Durable> Lists<S> {
         ensures at { (o : Place) → IsAt (held S.place self.old.all.lists.items) i o → IsAt (held S.place self.new.all.lists.items) i o }
         ensures room { (later : Holes) → HasRangesAt self.old.all.lists.items i ((offset, offset + len) ∷ later) → HasRangesAt self.new.all.lists.items i later }
         ensures len { vec_len self.new.all.lists ≡ vec_len self.old.all.lists }
-        ensures apart { ArePlacesApart (held S.place self.old.all.lists.items) → ArePlacesApart (held S.place self.new.all.lists.items) }
     {
         self.all.lists[i].lay(offset, len, copy);
     }
 
     /// The list of an incarnation goes, and the last one takes its place. It is looked for at `hint` first.
     pub fn retire(&mut self, origin: &S::Origin, hint: usize)
-        ensures lists { (a : Place) → list_of S.place self.new.all.lists.items a ≡ with_at (list_of S.place self.old.all.lists.items) (S.place origin.now) [] a }
-        ensures apart { ArePlacesApart (held S.place self.old.all.lists.items) → ArePlacesApart (held S.place self.new.all.lists.items) }
+        ensures { (a : Place) → list_of S.place self.new.all.lists.items a ≡ with_at (list_of S.place self.old.all.lists.items) (S.place origin.now) [] a }
     {
         if let Some(i) = self.find(origin, hint) {
             self.all.lists.swap_remove(i);
@@ -284,15 +216,14 @@ impl<S: Durable> Lists<S> {
 
     /// A started sync is finished: its marker and what stands before it in its list go. Where the marker is gone, nothing changes.
     pub fn finish(&mut self, marker: u64)
-        ensures lists { (o : Place) → list_of S.place self.new.all.lists.items o ≡ finished marker (list_of S.place self.old.all.lists.items o) }
-        ensures apart { ArePlacesApart (held S.place self.old.all.lists.items) → ArePlacesApart (held S.place self.new.all.lists.items) }
+        ensures { (o : Place) → list_of S.place self.new.all.lists.items o ≡ finished marker (list_of S.place self.old.all.lists.items o) }
     {
         finish_all(&mut self.all.lists, marker);
     }
 
     /// Notes which incarnations are current, before a removal.
     pub fn note_current(&mut self, store: &S)
-        ensures held { held S.place self.new.all.lists.items ≡ held S.place self.old.all.lists.items }
+        ensures same { SameLists S.place self.old.all.lists.items self.new.all.lists.items }
         ensures noted { AreNoted S.place (S.directory store.now) self.new.all.lists.items }
     {
         note_all(&mut self.all.lists, store);
@@ -300,8 +231,8 @@ impl<S: Durable> Lists<S> {
 
     /// The lists of incarnations that were current when this was noted, and aren't any more, go.
     pub fn retire_ended(&mut self, store: &S)
-        ensures lists { (d : Directory) → AreNoted S.place d self.old.all.lists.items → (a : Place) → list_of S.place self.new.all.lists.items a ≡ cond (has_ended d (S.directory store.now) a) [] (list_of S.place self.old.all.lists.items a) }
-        ensures apart { ArePlacesApart (held S.place self.old.all.lists.items) → ArePlacesApart (held S.place self.new.all.lists.items) }
+        ensures { (d : Directory) → AreNoted S.place d self.old.all.lists.items → (a : Place) →
+            list_of S.place self.new.all.lists.items a ≡ cond (has_ended d (S.directory store.now) a) [] (list_of S.place self.old.all.lists.items a) }
     {
         drop_ended(&mut self.all.lists, store);
     }

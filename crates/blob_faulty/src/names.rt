@@ -11,7 +11,7 @@ ghost use Rattle.blob_base.specs.Refusals.{refused};
 ghost use Rattle.blob_faulty.specs.Answers.{injected_or};
 ghost use Rattle.blob_faulty.specs.Faults.{draw};
 ghost use Rattle.blob_faulty.specs.Names.{OpenLeaves, RemoveLeaves, Steps, emptied};
-ghost use Rattle.blob_faulty.specs.Wrapper.{inner_of, rng_of, config_of, pending_of, AreApart, KeepsNumbers, KeepsRecords, finished_by, inside, size_of};
+ghost use Rattle.blob_faulty.specs.Wrapper.{inner_of, rng_of, config_of, pending_of, KeepsNumbers, KeepsRecords, finished_by, inside, size_of};
 
 use crate::blob::Blob;
 use crate::faults::draws;
@@ -61,7 +61,6 @@ impl<S: blob_base::Storage, R> Storage<S, R> {
         ensures err { OnErr result ((S.directory self.new.inner ≡ S.directory self.old.inner) × (S.durable self.new.inner ≡ S.durable self.old.inner)) }
         ensures retired { OnOk result ((o : Place) → pending_of S.place self.new o ≡ emptied (ends_by (S.directory self.old.inner) partition.now (option_copied name.entry)) (pending_of S.place self.old) o) }
         ensures kept { OnErr result ((o : Place) → pending_of S.place self.new o ≡ pending_of S.place self.old o) }
-        ensures apart { AreApart S.place self.old → AreApart S.place self.new }
         ensures rest { self.new ≡ record self.old { inner = self.new.inner; lists = self.new.lists } }
     {
         self.lists.note_current(&self.inner);
@@ -99,7 +98,6 @@ impl<S: blob_base::Storage, R> Storage<S, R> {
     /// A started sync is finished, where it left a marker.
     fn finish_marker(&mut self, marker: Option<u64>)
         ensures pending { (o : Place) → pending_of S.place self.new o ≡ finished_by marker (pending_of S.place self.old o) }
-        ensures apart { AreApart S.place self.old → AreApart S.place self.new }
         ensures rest { self.new ≡ record self.old { lists = self.new.lists } }
     {
         if let Some(marker) = marker {
@@ -198,7 +196,6 @@ impl<S: blob_base::Storage, R: Rng> blob_base::Storage for Storage<S, R> {
     fn finish(&mut self, handle: Handle) -> Result<(), Error>
         ensures outcome { result ≡ outcome_of handle }
         ensures pending { (o : Place) → pending_of S.place self.new o ≡ finished_by (marker_of handle) (pending_of S.place self.old o) }
-        ensures apart { AreApart S.place self.old → AreApart S.place self.new }
         ensures numbers { KeepsNumbers self.old self.new }
         ensures rng { rng_of self.new ≡ rng_of self.old }
         ensures inner { inner_of self.new ≡ inner_of self.old }

@@ -5,11 +5,12 @@ ghost use Rattle.blob_base.specs.Refusals.{refused};
 ghost use Rattle.blob_faulty.specs.Answers.{or_memory, allows_resize};
 ghost use Rattle.blob_faulty.specs.Fates.{resize_fate_of};
 ghost use Rattle.blob_faulty.specs.Wrapper.{KeepsNumbers};
-ghost use Rattle.blob_faulty.specs.Writes.{seen, Wrote, Recorded, ResizedBy, cut};
+ghost use Rattle.blob_faulty.specs.Writes.{Writes, Records, ResizesBy, cut};
 
 use crate::blob::Blob;
 use crate::entry::Entry;
 use crate::faults::ResizeFate;
+use crate::room::Room;
 use crate::storage::Storage;
 use blob_base::Error;
 
@@ -23,9 +24,7 @@ impl<B> Blob<B> {
     where
         B: blob_base::Blob<S>,
         ensures allowed { B.allows_resize self.old.inner store.old.inner len (refused result) }
-        ensures wrote { let old = seen S.directory S.durable S.place B.place B.live self.old store.old in
-            let new = seen S.directory S.durable S.place B.place B.live self.new store.new in
-            Wrote B.is_direct old new (cut len []) (refused result) }
+        ensures wrote { Writes S.Durable B.Blob self.old store.old self.new store.new (cut len []) (refused result) }
         ensures durable { S.durable store.new.inner ≡ S.durable store.old.inner }
         ensures rest { store.new ≡ record store.old { inner = store.new.inner } }
     {
@@ -43,13 +42,11 @@ impl<B> Blob<B> {
     where
         B: blob_base::Blob<S>,
         ensures allowed { or_memory (B.allows_resize self.old.inner store.old.inner len) (refused result) }
-        ensures recorded { let old = seen S.directory S.durable S.place B.place B.live self.old store.old in
-            let new = seen S.directory S.durable S.place B.place B.live self.new store.new in
-            Recorded B.is_direct old new (cut len (Resized len ∷ [])) (refused result) }
+        ensures recorded { Records S.Durable B.Blob self.old store.old self.new store.new (cut len (Resized len ∷ [])) (refused result) }
         ensures durable { S.durable store.new.inner ≡ S.durable store.old.inner }
         ensures numbers { KeepsNumbers store.old store.new }
     {
-        let list = self.room_for_entry(store)?;
+        let list = self.room_for(store, Room::Entry)?;
         self.resize_unrecorded(store, len)?;
         store.lists.push(list, Entry::Resize(len));
         self.list = list;
@@ -66,9 +63,7 @@ impl<B> Blob<B> {
     where
         B: blob_base::Blob<S>,
         ensures allowed { allows_resize (B.allows_resize self.old.inner store.old.inner) (resize_fate_of fate) len (refused result) }
-        ensures resized { let old = seen S.directory S.durable S.place B.place B.live self.old store.old in
-            let new = seen S.directory S.durable S.place B.place B.live self.new store.new in
-            ResizedBy (resize_fate_of fate) B.is_direct old new len (refused result) }
+        ensures resized { ResizesBy S.Durable B.Blob self.old store.old self.new store.new (resize_fate_of fate) len (refused result) }
         ensures durable { S.durable store.new.inner ≡ S.durable store.old.inner }
         ensures numbers { KeepsNumbers store.old store.new }
     {

@@ -2,6 +2,7 @@
 ghost use Rattle.std.specs.Prelude.{◌≡◌, ◌<◌, ◌+◌, ◌^◌, length};
 
 use crate::blob::Blob;
+use crate::room::Room;
 use crate::runs::Span;
 use crate::storage::Storage;
 use blob_base::laws::overlays::runs_are_choices;
@@ -96,7 +97,7 @@ impl<B> Blob<B> {
     ghost use Rattle.blob_faulty.specs.Answers.{or_memory, allows_laid, allows_runs, last_end};
     ghost use Rattle.blob_faulty.specs.Lists.{HasRoomAt};
     ghost use Rattle.blob_faulty.specs.Pieces.{run_of, runs_in, extents, EndsWithin};
-    ghost use Rattle.blob_faulty.specs.Writes.{seen, Recorded, Unchanged, laid_runs};
+    ghost use Rattle.blob_faulty.specs.Writes.{Records, Keeps, laid_runs};
 
     /// The runs behind the first, in rising order. A refused one is answered `WriteFailed`, and those before it stay
     /// laid.
@@ -111,9 +112,7 @@ impl<B> Blob<B> {
         requires room { HasRoomAt S.place store.old.lists.all.lists.items list (B.place self.old.inner) (extents (runs_in pieces.items)) }
         requires current { is_current (S.directory store.old.inner) (B.place self.old.inner) ≡ true }
         requires within { B.is_direct ≡ true → All (EndsWithin (B.room self.old.inner store.old.inner)) (runs_in pieces.items) }
-        ensures recorded { let old = seen S.directory S.durable S.place B.place B.live self.old store.old in
-            let new = seen S.directory S.durable S.place B.place B.live self.new store.new in
-            Recorded B.is_direct old new (laid_runs (runs_in pieces.items)) (refused result) }
+        ensures recorded { Records S.Durable B.Blob self.old store.old self.new store.new (laid_runs (runs_in pieces.items)) (refused result) }
         ensures failed { OnErr result (refused result ≡ Some WriteFailed) }
         ensures indirect { OnErr result (B.is_direct ≡ false) }
         ensures some { OnErr result (runs_in pieces.items ≢ []) }
@@ -148,9 +147,7 @@ impl<B> Blob<B> {
         requires room { HasRoomAt S.place store.old.lists.all.lists.items list (B.place self.old.inner) (extents (runs_in pieces.items)) }
         requires within { B.is_direct ≡ true → is_current (S.directory store.old.inner) (B.place self.old.inner) ≡ true → All (EndsWithin (B.room self.old.inner store.old.inner)) (runs_in pieces.items) }
         ensures allowed { allows_laid (B.allows_write self.old.inner store.old.inner) B.is_direct (runs_in pieces.items) (refused result) }
-        ensures recorded { let old = seen S.directory S.durable S.place B.place B.live self.old store.old in
-            let new = seen S.directory S.durable S.place B.place B.live self.new store.new in
-            Recorded B.is_direct old new (laid_runs (runs_in pieces.items)) (refused result) }
+        ensures recorded { Records S.Durable B.Blob self.old store.old self.new store.new (laid_runs (runs_in pieces.items)) (refused result) }
     {
         let mut pieces = pieces;
         let Some(first) = pieces.pop() else {
@@ -179,12 +176,10 @@ impl<B> Blob<B> {
         ensures write_answers { (offset : ℕ) (bytes : List ℕ) (sync : Bool) (answer : Option Refusal) → B.allows_write self.new.inner store.new.inner offset bytes sync answer → B.allows_write self.old.inner store.old.inner offset bytes sync answer }
         ensures room { B.is_direct ≡ true → is_current (S.directory store.old.inner) (B.place self.old.inner) ≡ true → OnOk result (last_end 0 (runs_in pieces.now) ≤ B.room self.new.inner store.new.inner) }
         ensures ranges { IfOk result (λ i. HasRoomAt S.place store.new.lists.all.lists.items i (B.place self.new.inner) (extents (runs_in pieces.now))) }
-        ensures unchanged { let old = seen S.directory S.durable S.place B.place B.live self.old store.old in
-            let new = seen S.directory S.durable S.place B.place B.live self.new store.new in
-            Unchanged old new }
+        ensures unchanged { Keeps S.Durable B.Blob self.old store.old self.new store.new }
     {
         let (start, end) = (Piece::first_start(pieces), Piece::last_end(pieces));
-        let list = self.room_for_ranges(store, start, end, pieces.len())?;
+        let list = self.room_for(store, Room::Ranges(start, end, pieces.len()))?;
         self.inner.reserve(&mut store.inner, end)?;
         self.list = list;
         Ok(list)
@@ -203,9 +198,7 @@ impl<B> Blob<B> {
         requires fits { offset + length bytes < 2 ^ 64 }
         requires sized { kept.now ≢ [] → length kept.now ≡ length bytes }
         ensures allowed { or_memory (allows_runs (B.allows_write self.old.inner store.old.inner) (B.allows_reserve self.old.inner store.old.inner) B.is_direct (runs offset bytes kept.now)) (refused result) }
-        ensures recorded { let old = seen S.directory S.durable S.place B.place B.live self.old store.old in
-            let new = seen S.directory S.durable S.place B.place B.live self.new store.new in
-            Recorded B.is_direct old new (laid_runs (runs offset bytes kept.now)) (refused result) }
+        ensures recorded { Records S.Durable B.Blob self.old store.old self.new store.new (laid_runs (runs offset bytes kept.now)) (refused result) }
     {
         if kept.is_empty() {
             return Ok(());

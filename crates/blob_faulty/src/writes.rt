@@ -4,22 +4,19 @@ ghost use Rattle.blob_base.specs.Holes.{Holes};
 ghost use Rattle.blob_base.specs.Options.{is_sync};
 ghost use Rattle.blob_base.specs.Refusals.{refused, IsMemory};
 ghost use Rattle.blob_faulty.specs.Answers.{or_memory, numbered, lacks_number, allows_fate};
-ghost use Rattle.blob_base.specs.Durable.{with_at};
 ghost use Rattle.blob_base.specs.Log.{need_of};
-ghost use Rattle.blob_base.specs.Order.{ArePlacesApart};
 ghost use Rattle.blob_base.specs.Pending.{Waiting, has_barrier};
-ghost use Rattle.blob_base.specs.Places.{Place};
 ghost use Rattle.blob_faulty.specs.Faults.{issued, retention};
-ghost use Rattle.blob_faulty.specs.Lists.{held, IsAt, HasEntryAt, HasMarkAt, HasRangesAt, HasRoomAt};
-ghost use Rattle.blob_faulty.specs.Rooms.{AreWithin};
+ghost use Rattle.blob_faulty.specs.Lists.{HasRoomIn, IsRoomAt, HasRoomAt, SameLists, ChangesAt};
 ghost use Rattle.blob_faulty.specs.Wrapper.{pending_of};
-ghost use Rattle.blob_faulty.specs.Writes.{seen, Wrote, Recorded, WroteBy, unrecorded, plain, laid_runs};
+ghost use Rattle.blob_faulty.specs.Writes.{Writes, Records, WritesBy, unrecorded, plain, laid_runs};
 ghost use Rattle.blob_faulty.specs.Fates.{write_fate_of, IsSized};
 
 use crate::blob::Blob;
 use crate::config::WriteConfig;
 use crate::entry::Entry;
 use crate::faults::{WriteFate, retained};
+use crate::room::Room;
 use crate::storage::Storage;
 use crate::write::PendingWrite;
 use blob_base::{Error, IoBufs, WriteOptions};
@@ -27,13 +24,12 @@ use blob_base::{Error, IoBufs, WriteOptions};
 impl<S: blob_base::Storage, R> Storage<S, R> {
     /// Records a write that a crash may lose, where there is room for it, and takes a number for it.
     fn record_write(&mut self, list: usize, offset: u64, bytes: IoBufs, config: WriteConfig)
-        requires inside { list < vec_len self.old.lists.all.lists }
-        requires room { HasEntryAt self.old.lists.all.lists.items list }
+        requires room { HasRoomIn self.old.lists.all.lists.items list Room.Entry }
         requires some { 0 < length bytes }
         requires fits { offset + length bytes < 2 ^ 64 }
         requires left { self.old.next_write < 2 ^ 64 - 1 }
-        ensures lists { (o : Place) → IsAt (held S.place self.old.lists.all.lists.items) list o → (a : Place) → pending_of S.place self.new a ≡ with_at (pending_of S.place self.old) o (pending_of S.place self.old o ++ Waiting (need_of (issued self.old.next_write offset bytes config) []) ∷ []) a }
-        ensures apart { ArePlacesApart (held S.place self.old.lists.all.lists.items) → ArePlacesApart (held S.place self.new.lists.all.lists.items) }
+        ensures lists { let write = need_of (issued self.old.next_write offset bytes config) [] in
+            ChangesAt S.place self.old.lists.all.lists.items self.new.lists.all.lists.items list (λ q. q ++ Waiting write ∷ []) }
         ensures rest { self.new ≡ record self.old { lists = self.new.lists; next_write = self.old.next_write + 1 } }
     {
         let number = self.next_write;
@@ -53,68 +49,21 @@ impl<S: blob_base::Storage, R> Storage<S, R> {
 }
 
 impl<B> Blob<B> {
-    /// The list of the handle's incarnation, with room for one more entry. The only error is want of memory.
-    pub(crate) fn room_for_entry<S: blob_base::Storage, R>(
+    /// The list of the handle's incarnation, with room for this. The only error is want of memory.
+    pub(crate) fn room_for<S: blob_base::Storage, R>(
         &self,
         store: &mut Storage<S, R>,
+        room: Room,
     ) -> Result<usize, Error>
     where
         B: blob_base::Blob<S>,
-        ensures lists { (o : Place) → pending_of S.place store.new o ≡ pending_of S.place store.old o }
-        ensures apart { ArePlacesApart (held S.place store.old.lists.all.lists.items) → ArePlacesApart (held S.place store.new.lists.all.lists.items) }
-        ensures rest { store.new ≡ record store.old { lists = store.new.lists } }
-        ensures at { IfOk result (λ i. IsAt (held S.place store.new.lists.all.lists.items) i (B.place self.now.inner)) }
-        ensures inside { IfOk result (λ i. i < vec_len store.new.lists.all.lists) }
-        ensures room { IfOk result (λ i. HasEntryAt store.new.lists.all.lists.items i) }
+        ensures same { SameLists S.place store.old.lists.all.lists.items store.new.lists.all.lists.items }
+        ensures ok { IfOk result (λ i. IsRoomAt S.place store.new.lists.all.lists.items i (B.place self.now.inner) room) }
         ensures memory { OnErr result (IsMemory result) }
+        ensures rest { store.new ≡ record store.old { lists = store.new.lists } }
     {
         let origin = self.inner.origin()?;
-        let list = store.lists.room_for_entry(origin, self.list)?;
-        Ok(list)
-    }
-
-    /// The list of the handle's incarnation, with room for one more marker. The only error is want of memory.
-    pub(crate) fn room_for_mark<S: blob_base::Storage, R>(
-        &self,
-        store: &mut Storage<S, R>,
-    ) -> Result<usize, Error>
-    where
-        B: blob_base::Blob<S>,
-        ensures lists { (o : Place) → pending_of S.place store.new o ≡ pending_of S.place store.old o }
-        ensures apart { ArePlacesApart (held S.place store.old.lists.all.lists.items) → ArePlacesApart (held S.place store.new.lists.all.lists.items) }
-        ensures rest { store.new ≡ record store.old { lists = store.new.lists } }
-        ensures at { IfOk result (λ i. IsAt (held S.place store.new.lists.all.lists.items) i (B.place self.now.inner)) }
-        ensures inside { IfOk result (λ i. i < vec_len store.new.lists.all.lists) }
-        ensures room { IfOk result (λ i. HasMarkAt store.new.lists.all.lists.items i) }
-        ensures memory { OnErr result (IsMemory result) }
-    {
-        let origin = self.inner.origin()?;
-        let list = store.lists.room_for_mark(origin, self.list)?;
-        Ok(list)
-    }
-
-    /// The list of the handle's incarnation, with room for so many durable ranges, which lie from `start` up to `end`.
-    pub(crate) fn room_for_ranges<S: blob_base::Storage, R>(
-        &self,
-        store: &mut Storage<S, R>,
-        start: u64,
-        end: u64,
-        count: usize,
-    ) -> Result<usize, Error>
-    where
-        B: blob_base::Blob<S>,
-        ensures lists { (o : Place) → pending_of S.place store.new o ≡ pending_of S.place store.old o }
-        ensures apart { ArePlacesApart (held S.place store.old.lists.all.lists.items) → ArePlacesApart (held S.place store.new.lists.all.lists.items) }
-        ensures rest { store.new ≡ record store.old { lists = store.new.lists } }
-        ensures at { IfOk result (λ i. IsAt (held S.place store.new.lists.all.lists.items) i (B.place self.now.inner)) }
-        ensures inside { IfOk result (λ i. i < vec_len store.new.lists.all.lists) }
-        ensures room { IfOk result (λ i. (ranges : Holes) → AreWithin start end count ranges → HasRangesAt store.new.lists.all.lists.items i ranges) }
-        ensures memory { OnErr result (IsMemory result) }
-    {
-        let origin = self.inner.origin()?;
-        let list = store
-            .lists
-            .room_for_ranges(origin, self.list, start, end, count)?;
+        let list = store.lists.room_for(origin, self.list, room)?;
         Ok(list)
     }
 }
@@ -132,9 +81,7 @@ impl<B> Blob<B> {
         B: blob_base::Blob<S>,
         requires fits { offset + length bytes < 2 ^ 64 }
         ensures allowed { B.allows_write self.old.inner store.old.inner offset bytes (is_sync options) (refused result) }
-        ensures wrote { let old = seen S.directory S.durable S.place B.place B.live self.old store.old in
-            let new = seen S.directory S.durable S.place B.place B.live self.new store.new in
-            Wrote B.is_direct old new (unrecorded (is_sync options) offset bytes) (refused result) }
+        ensures wrote { Writes S.Durable B.Blob self.old store.old self.new store.new (unrecorded (is_sync options) offset bytes) (refused result) }
         ensures room { OnOk result (is_sync options ≡ true → B.room self.old.inner store.old.inner ≤ B.room self.new.inner store.new.inner) }
         ensures rest { store.new ≡ record store.old { inner = store.new.inner } }
     {
@@ -160,9 +107,7 @@ impl<B> Blob<B> {
         requires plain { is_sync options ≡ false }
         requires fits { offset + length bytes < 2 ^ 64 }
         ensures allowed { or_memory (numbered (lacks_number (is_some (retention store.old.config.write_rate)) store.old.next_write bytes) (B.allows_write self.old.inner store.old.inner offset bytes false)) (refused result) }
-        ensures recorded { let old = seen S.directory S.durable S.place B.place B.live self.old store.old in
-            let new = seen S.directory S.durable S.place B.place B.live self.new store.new in
-            Recorded B.is_direct old new (plain offset bytes) (refused result) }
+        ensures recorded { Records S.Durable B.Blob self.old store.old self.new store.new (plain offset bytes) (refused result) }
     {
         let Some(config) = retained(store.config.write_rate) else {
             return self.write_unrecorded(store, offset, bytes, options);
@@ -174,7 +119,7 @@ impl<B> Blob<B> {
             return Err(Error::GenerationsExhausted);
         }
         let copy = bytes.copied()?;
-        let list = self.room_for_entry(store)?;
+        let list = self.room_for(store, Room::Entry)?;
         self.write_unrecorded(store, offset, bytes, options)?;
         store.record_write(list, offset, copy, config);
         self.list = list;
@@ -202,9 +147,7 @@ impl<B> Blob<B> {
         requires room { let lists = store.old.lists.all.lists.items in
             HasRoomAt S.place lists list (B.place self.old.inner) ((offset, offset + length bytes) ∷ []) }
         ensures allowed { B.allows_write self.old.inner store.old.inner offset bytes true (refused result) }
-        ensures recorded { let old = seen S.directory S.durable S.place B.place B.live self.old store.old in
-            let new = seen S.directory S.durable S.place B.place B.live self.new store.new in
-            Recorded B.is_direct old new (laid_runs ((offset, bytes) ∷ [])) (refused result) }
+        ensures recorded { Records S.Durable B.Blob self.old store.old self.new store.new (laid_runs ((offset, bytes) ∷ [])) (refused result) }
         ensures kept_room { OnOk result (B.room self.old.inner store.old.inner ≤ B.room self.new.inner store.new.inner) }
         ensures left { OnOk result ((later : Holes) →
             HasRoomAt S.place store.old.lists.all.lists.items list (B.place self.old.inner) ((offset, offset + length bytes) ∷ later) →
@@ -230,12 +173,10 @@ impl<B> Blob<B> {
         requires some { bytes ≢ [] }
         requires fits { offset + length bytes < 2 ^ 64 }
         ensures allowed { or_memory (B.allows_write self.old.inner store.old.inner offset bytes true) (refused result) }
-        ensures recorded { let old = seen S.directory S.durable S.place B.place B.live self.old store.old in
-            let new = seen S.directory S.durable S.place B.place B.live self.new store.new in
-            Recorded B.is_direct old new (laid_runs ((offset, bytes) ∷ [])) (refused result) }
+        ensures recorded { Records S.Durable B.Blob self.old store.old self.new store.new (laid_runs ((offset, bytes) ∷ [])) (refused result) }
     {
         let len = bytes.remaining() as u64;
-        let list = self.room_for_ranges(store, offset, offset + len, 1)?;
+        let list = self.room_for(store, Room::Ranges(offset, offset + len, 1))?;
         let copy = store.lists.copy_for(list, &bytes)?;
         self.list = list;
         self.lay_range(store, list, offset, bytes, copy, options)
@@ -256,9 +197,7 @@ impl<B> Blob<B> {
         requires fits { offset + length bytes < 2 ^ 64 }
         requires sized { IsSized (length bytes) (write_fate_of fate) }
         ensures allowed { or_memory (allows_fate (write_fate_of fate) (B.allows_write self.old.inner store.old.inner) (B.allows_reserve self.old.inner store.old.inner) B.is_direct (is_some (retention store.old.config.write_rate)) store.old.next_write (is_sync options) offset bytes) (refused result) }
-        ensures wrote { let old = seen S.directory S.durable S.place B.place B.live self.old store.old in
-            let new = seen S.directory S.durable S.place B.place B.live self.new store.new in
-            WroteBy (write_fate_of fate) B.is_direct old new (is_sync options) offset bytes (refused result) }
+        ensures wrote { WritesBy S.Durable B.Blob self.old store.old self.new store.new (write_fate_of fate) (is_sync options) offset bytes (refused result) }
     {
         match fate {
             WriteFate::Done => {

@@ -43,7 +43,7 @@ stands_kept w w' f names bytes kept s =
     let before : Parts = (directory (store_of w), durable (store_of w), pending_of (λ o. o) w, next_write_of w, next_marker_of w) in
     let after : Parts = (directory (store_of w'), durable (store_of w'), pending_of (λ o. o) w', next_write_of w', next_marker_of w') in
     let same : after ≡ before = λ i. (names i, bytes i, (λ o. kept.pending o i), kept.numbers.next_write i, kept.numbers.next_marker i) in
-    record { stands = subst (StandsBy f) (sym same) s.stands; apart = kept.apart s.apart }
+    subst (StandsBy f) (sym same) s
 
 -- a state with the configuration and the stream of a wrapper
 abbrev pub as_of : Wrapper → State → State

@@ -39,7 +39,7 @@ module _ (w w' : Wrapper) (h : Held) (names : directory (store_of w') ≡ direct
       (memory_denial (OrMemory (sync_refusal (directory (store_of w)) h.place)) (sync_refusal (directory (store_of w)) h.place) (λ answer' m. m)) answer a
 
   seen : (v : State) → Wraps w (as_of w v) → denial (directory (store_of w)) ≡ sync_denial (as_of w v) h
-  seen v u i = denial (u.files.stands.directory i)
+  seen v u i = denial (u.files.directory i)
 
   pub sync_done : allowed None → ((f : Files) → IsFor w f → Stands (λ o. o) (directory (store_of w)) (durable (store_of w')) w' (synced f h.place h.live)) → Asks w h Sync Done w' h
   sync_done a publishes = asks_by w w' h h Sync Done
@@ -68,7 +68,7 @@ module _ (w w' : Wrapper) (h : Held) (syncs : List (Option states.Started)) (nam
   IsStartAllowed answer = allows_start (draw (config_of w).sync_rate (stream_of w)).0 (next_marker_of w) (OrMemory (sync_refusal (directory (store_of w)) h.place)) answer
 
   outcome_seen : (v : State) → Wraps w (as_of w v) → start_denial_by (directory (store_of w)) (next_marker_of w) ≡ start_denial (as_of w v) h
-  outcome_seen v u i = start_denial_by (u.files.stands.directory i) (u.files.stands.next_marker i)
+  outcome_seen v u i = start_denial_by (u.files.directory i) (u.files.next_marker i)
 
   -- the outcome that a started sync has is the one that is expected, unless there is no memory
   outcome_is : (outcome : Option Refusal) → IsStartAllowed outcome → outcome ≢ Some Memory → (v : State) → Wraps w (as_of w v) → outcome ≡ start_denial (as_of w v) h
@@ -93,7 +93,7 @@ module _ (w w' : Wrapper) (h : Held) (syncs : List (Option states.Started)) (nam
         record {
           files = subst (λ (x : State). IsFor w' (begun x.files h (start_denial x h))) (as_seen w v u)
               (subst (λ (x : Option Refusal). IsFor w' (begun v.files h x)) (outcome_is outcome a other v u')
-              (begins v.files outcome (λ done. starts v.files (subst (λ (d : Directory). h.place.number < d.next) (sym u.files.stands.directory) below) done u.files) bytes kept u.files));
+              (begins v.files outcome (λ done. starts v.files (subst (λ (d : Directory). h.place.number < d.next) (sym u.files.directory) below) done u.files) bytes kept u.files));
           config = config ∙ u.config;
           stream = refl;
         };

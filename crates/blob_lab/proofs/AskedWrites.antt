@@ -29,9 +29,9 @@ use Rattle.blob_lab.proofs.Telling.{done_answers, failed_answers}
 -- what is added to a log is added to that of the files that the wrapper stands for
 added : (w w' : Wrapper) (f : Files) (o : Place) (entries : ℕ → List Entry) → directory (store_of w') ≡ directory (store_of w) → Adds (λ a. a) (directory (store_of w)) (durable (store_of w)) (durable (store_of w')) w w' o (entries (next_write_of w)) → o.number < f.directory.next → IsFor w f → IsFor w' (all_logged f o (entries f.next_write))
 added w w' f o entries names adds below s =
-    let now = adds f (subst (λ (d : Directory). o.number < d.next) (sym s.stands.directory) below) s in
+    let now = adds f (subst (λ (d : Directory). o.number < d.next) (sym s.directory) below) s in
     subst (λ (d : Directory). Stands (λ a. a) d (durable (store_of w')) w' (all_logged f o (entries f.next_write))) (sym names)
-    (subst (λ (n : ℕ). Stands (λ a. a) (directory (store_of w)) (durable (store_of w')) w' (all_logged f o (entries n))) s.stands.next_write now)
+    (subst (λ (n : ℕ). Stands (λ a. a) (directory (store_of w)) (durable (store_of w')) w' (all_logged f o (entries n))) s.next_write now)
 
 same_held : (h h' : Held) (live : List ℕ) (size : ℕ) → h'.place ≡ h.place → h'.live ≡ live → h'.size ≡ size → h'.registration ≡ h.registration → h' ≡ record h { live = live; size = size }
 same_held h h' live size p l s r i = record { place = p i; live = l i; size = s i; registration = r i }
@@ -68,7 +68,7 @@ module _ (w w' : Wrapper) (h h' : Held) (room offset : ℕ) (bytes : List ℕ) (
       answer a
 
   seen : (v : State) → Wraps w (as_of w v) → denial (directory (store_of w)) (next_write_of w) ≡ write_denial (as_of w v) h offset bytes sync
-  seen v u i = denial (u.files.stands.directory i) (u.files.stands.next_write i)
+  seen v u i = denial (u.files.directory i) (u.files.next_write i)
 
   pub write_done : allowed None → stream_of w' ≡ after_write (config_of w) sync offset bytes (stream_of w) → IsRecorded None → IsLive None → IsSize None → Asks w h (Write offset bytes sync) reply.Done w' h'
   write_done a stream adds live size = asks_by w w' h h' (Write offset bytes sync) reply.Done

@@ -128,7 +128,7 @@ module _ (lab lab' : Lab) (p n : List ℕ) (first last : ℕ) where
 
   denial_seen : (f : Files) → StandsFor lab (state_of lab f) → (unnumbered : Bool) → is_unnumbered (names_of lab.opens) p n ≡ unnumbered → (held : Option ℕ) → (names_of lab.opens).registered p n ≡ held
       → denial unnumbered (directory (store_of lab.wrapper)) held ≡ open_denial (state_of lab f) p n first last
-  denial_seen f s unnumbered number held here i = denial (sym number i) (s.wrapper.files.stands.directory i) (sym here i)
+  denial_seen f s unnumbered number held here i = denial (sym number i) (s.wrapper.files.directory i) (sym here i)
 
   left_seen : (f : Files) (unnumbered : Bool) → is_unnumbered (names_of lab.opens) p n ≡ unnumbered → (if unnumbered then stream_of lab.wrapper else drawn_left) ≡ left_of_open (state_of lab f) p n
   left_seen f unnumbered number i = if sym number i then stream_of lab.wrapper else drawn_left
@@ -186,7 +186,7 @@ module _ (lab lab' : Lab) (p n : List ℕ) (first last : ℕ) where
           names = names;
           handles = handles;
           syncs = syncs;
-          given = subst (λ (d : Directory). AreGiven d.next (handles_of lab.handles)) s'.stands.directory (given f.directory.next (sym (ap (λ (d : Directory). d.next) s.wrapper.files.stands.directory)) s.given);
+          given = subst (λ (d : Directory). AreGiven d.next (handles_of lab.handles)) s'.directory (given f.directory.next (sym (ap (λ (d : Directory). d.next) s.wrapper.files.directory)) s.given);
         }))
 
     module _ (stands : (f : Files) → IsFor lab.wrapper f → IsFor lab'.wrapper f) where

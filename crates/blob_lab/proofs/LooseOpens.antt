@@ -53,7 +53,7 @@ module _ (lab lab' : Lab) (w : Wrapper) (p n : List ℕ) (first last : ℕ) (o :
     (names : directory (store_of lab'.wrapper) ≡ directory (store_of w)) (contents : durable (store_of lab'.wrapper) ≡ durable (store_of w)) where
   pub open_tells : (f : Files) → StandsFor lab (state_of lab f) → Tells (reply.Opened number size ver) (opened (state_of lab f) p n (first, last))
   open_tells f s =
-      let same : directory (store_of lab.wrapper) ≡ f.directory = s.wrapper.files.stands.directory in (
+      let same : directory (store_of lab.wrapper) ≡ f.directory = s.wrapper.files.directory in (
         count,
         long ∙ size_found lab.wrapper f (directory (store_of w)) (durable (store_of w)) p n first last o live version s.wrapper.files opens ∙ ap (λ (d : Directory). size_of f p n (opening p n (d.file p n) first last)) same,
         told-version ∙ version_found (directory (store_of lab.wrapper)) (directory (store_of w)) (durable (store_of lab.wrapper)) (durable (store_of w)) p n first last o live version opens ∙ ap (λ (d : Directory). version_of (opening p n (d.file p n) first last)) same,
@@ -69,8 +69,8 @@ module _ (lab lab' : Lab) (w : Wrapper) (p n : List ℕ) (first last : ℕ) (o :
 
   pub open_given : (f f' : Files) → StandsFor lab (state_of lab f) → IsFor lab'.wrapper f' → AreGiven f'.directory.next (handles_of lab'.handles)
   open_given f f' s s' =
-      let before : AreGiven (directory (store_of lab.wrapper)).next (handles_of lab.handles) = subst (λ (d : Directory). AreGiven d.next (handles_of lab.handles)) (sym s.wrapper.files.stands.directory) s.given in
-      subst (λ (d : Directory). AreGiven d.next (handles_of lab'.handles)) (sym names ∙ s'.stands.directory)
+      let before : AreGiven (directory (store_of lab.wrapper)).next (handles_of lab.handles) = subst (λ (d : Directory). AreGiven d.next (handles_of lab.handles)) (sym s.wrapper.files.directory) s.given in
+      subst (λ (d : Directory). AreGiven d.next (handles_of lab'.handles)) (sym names ∙ s'.directory)
       (subst (AreGiven (directory (store_of w)).next) (sym table) (given_opened lab.wrapper w p n first last o live version (handles_of lab.handles) h opens place before))
 
 module _ (lab lab' : Lab) (p n : List ℕ) (first last : ℕ) (names : names_of lab'.opens ≡ names_of lab.opens) (syncs : syncs_of lab'.syncs ≡ syncs_of lab.syncs) (config : config_of lab'.wrapper ≡ config_of lab.wrapper)
@@ -83,7 +83,7 @@ module _ (lab lab' : Lab) (p n : List ℕ) (first last : ℕ) (names : names_of 
       (λ f s.
       done_answers (reply.Opened number size ver) (loose_denial (state_of lab f) p n first last) (opened (state_of lab f) p n (first, last)) (stream_of lab'.wrapper) ((draw (config_of lab.wrapper).open_rate (stream_of lab.wrapper)).1)
       (open_tells lab lab' lab'.wrapper p n first last o live version h number size ver opens count long is place bytes tracked table refl refl f s)
-      (not_memory (open_denied_by lab.wrapper p n first last (directory (store_of lab.wrapper))) (open_denied lab.wrapper p n first last None a) ∙ ap (open_denied_by lab.wrapper p n first last) s.wrapper.files.stands.directory)
+      (not_memory (open_denied_by lab.wrapper p n first last (directory (store_of lab.wrapper))) (open_denied lab.wrapper p n first last None a) ∙ ap (open_denied_by lab.wrapper p n first last) s.wrapper.files.directory)
       stream)
       (λ f s.
       let s' = stands f s.wrapper.files in
@@ -101,5 +101,5 @@ module _ (lab lab' : Lab) (p n : List ℕ) (first last : ℕ) (names : names_of 
   loose_failed e a handles stands = performs lab lab' (OpenLoose p n (Some (first, last))) (reply.Failed e)
       (λ f s.
       failed_answers e (loose_denial (state_of lab f) p n first last) (opened (state_of lab f) p n (first, last)) (stream_of lab'.wrapper) ((draw (config_of lab.wrapper).open_rate (stream_of lab.wrapper)).1)
-      (subst (λ (x : Option Refusal). OrMemory x (Some (refusal_of e))) (ap (open_denied_by lab.wrapper p n first last) s.wrapper.files.stands.directory) (open_denied lab.wrapper p n first last (Some (refusal_of e)) a)) (λ no. stream))
+      (subst (λ (x : Option Refusal). OrMemory x (Some (refusal_of e))) (ap (open_denied_by lab.wrapper p n first last) s.wrapper.files.directory) (open_denied lab.wrapper p n first last (Some (refusal_of e)) a)) (λ no. stream))
       (λ f s. record { wrapper = record { files = stands f s.wrapper.files; config = config; stream = refl }; names = names; handles = handles; syncs = syncs; given = s.given })

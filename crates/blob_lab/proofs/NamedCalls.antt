@@ -69,7 +69,7 @@ module _ (lab lab' : Lab) (handles : handles_of lab'.handles ≡ handles_of lab.
         pub scan_done : (r : Reply) → refused_by r ≡ None → ((d : Directory) → directory (store_of lab.wrapper) ≡ d → Tells r (told.Names (λ n. is_some (d.file p n)))) → IsScanAllowed None → Performs lab (Scan p) r lab'
         scan_done r done tells a = performs lab lab' (Scan p) r
             (λ f s.
-            let same = s.wrapper.files.stands.directory in
+            let same = s.wrapper.files.directory in
             done_answers r (scan_denial (state_of lab f) p) (told.Names (λ n. is_some (f.directory.file p n))) (stream_of lab'.wrapper) ((draw (config_of lab.wrapper).scan_rate (stream_of lab.wrapper)).1)
             (tells f.directory same) (not_memory (scan_denied_by (directory (store_of lab.wrapper))) (scan_denied None a) ∙ ap scan_denied_by same) stream)
             (λ f s. scanned f s r done)
@@ -78,7 +78,7 @@ module _ (lab lab' : Lab) (handles : handles_of lab'.handles ≡ handles_of lab.
         scan_failed e a = performs lab lab' (Scan p) (reply.Failed e)
             (λ f s.
             failed_answers e (scan_denial (state_of lab f) p) (told.Names (λ n. is_some (f.directory.file p n))) (stream_of lab'.wrapper) ((draw (config_of lab.wrapper).scan_rate (stream_of lab.wrapper)).1)
-            (subst (λ (x : Option Refusal). OrMemory x (Some (refusal_of e))) (ap scan_denied_by s.wrapper.files.stands.directory) (scan_denied (Some (refusal_of e)) a)) (λ no. stream))
+            (subst (λ (x : Option Refusal). OrMemory x (Some (refusal_of e))) (ap scan_denied_by s.wrapper.files.directory) (scan_denied (Some (refusal_of e)) a)) (λ no. stream))
             (λ f s. scanned f s reply.Done refl)
 
       -- A crash.
@@ -121,7 +121,7 @@ module _ (lab lab' : Lab) (handles : handles_of lab'.handles ≡ handles_of lab.
     remove_done a names stands = performs lab lab' (Remove p n) reply.Done
         (λ f s.
         done_answers reply.Done (remove_denial (state_of lab f) p n) told.Done (stream_of lab'.wrapper) ((draw (config_of lab.wrapper).remove_rate (stream_of lab.wrapper)).1) tt
-        (not_memory (remove_denied_by (directory (store_of lab.wrapper))) (remove_denied None a) ∙ ap remove_denied_by s.wrapper.files.stands.directory) stream)
+        (not_memory (remove_denied_by (directory (store_of lab.wrapper))) (remove_denied None a) ∙ ap remove_denied_by s.wrapper.files.directory) stream)
         (λ f s. record {
           wrapper = record { files = stands f s.wrapper.files; config = config; stream = refl };
           names = names;
@@ -134,7 +134,7 @@ module _ (lab lab' : Lab) (handles : handles_of lab'.handles ≡ handles_of lab.
     remove_failed e a names stands = performs lab lab' (Remove p n) (reply.Failed e)
         (λ f s.
         failed_answers e (remove_denial (state_of lab f) p n) told.Done (stream_of lab'.wrapper) ((draw (config_of lab.wrapper).remove_rate (stream_of lab.wrapper)).1)
-        (subst (λ (x : Option Refusal). OrMemory x (Some (refusal_of e))) (ap remove_denied_by s.wrapper.files.stands.directory) (remove_denied (Some (refusal_of e)) a)) (λ no. stream))
+        (subst (λ (x : Option Refusal). OrMemory x (Some (refusal_of e))) (ap remove_denied_by s.wrapper.files.directory) (remove_denied (Some (refusal_of e)) a)) (λ no. stream))
         (λ f s. record { wrapper = record { files = stands f s.wrapper.files; config = config; stream = refl }; names = names; handles = handles; syncs = syncs; given = s.given })
 
   -- a store that is rebuilt, and wrapped anew

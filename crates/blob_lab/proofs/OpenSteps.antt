@@ -20,13 +20,13 @@ use Rattle.blob_lab.proofs.Opened.{next_opened}
 
 -- what is durable of a current incarnation is so of the files
 pub live_is : (w : Wrapper) (f : Files) (o : Place) (live : List ℕ) → IsFor w f → durable (store_of w) o ≡ Some live → live ≡ durable_at f o
-live_is w f o live s holds = (subst (λ (b : Option (List ℕ)). StandsAt b (pending_of (λ a. a) w o) (f.base o) (log_of f.log o)) holds (s.stands.at o)).durable
+live_is w f o live s holds = (subst (λ (b : Option (List ℕ)). StandsAt b (pending_of (λ a. a) w o) (f.base o) (log_of f.log o)) holds (s.at o)).durable
 
 -- the handle that is added
 pub held_opened : (w : Wrapper) (f : Files) (p n : List ℕ) (o : Place) (live : List ℕ) (h : Held) (registration : Option Registration) → IsFor w f → current (directory (store_of w)) p n ≡ Some o → durable (store_of w) o ≡ Some live
     → h.place ≡ o → h.live ≡ live → h.size ≡ length live → h.registration ≡ registration → Some h ≡ option_map (held_on f registration) (current f.directory p n)
 held_opened w f p n o live h registration s here holds place bytes size register =
-    let at : current f.directory p n ≡ Some o = sym (ap (λ (d : Directory). current d p n) s.stands.directory) ∙ here in
+    let at : current f.directory p n ≡ Some o = sym (ap (λ (d : Directory). current d p n) s.directory) ∙ here in
     let is : live ≡ durable_at f o = live_is w f o live s holds in
     let same : h ≡ held_on f registration o = λ i. record { place = place i; live = (bytes ∙ is) i; size = (size ∙ ap length is) i; registration = register i } in
     ap Some same ∙ sym (ap (option_map (held_on f registration)) at)

@@ -7,7 +7,7 @@ use Rattle.blob_base.specs.Files.{Files, directory_again, reopened}
 use Rattle.blob_base.specs.Pending.{Pending}
 use Rattle.blob_base.specs.Places.{Place}
 use Rattle.blob_base.specs.Stands.{StandsFor}
-use Rattle.blob_faulty.specs.Wrapper.{inner_of as store_of, pending_of, next_write_of, next_marker_of, AreApart}
+use Rattle.blob_faulty.specs.Wrapper.{inner_of as store_of, pending_of, next_write_of, next_marker_of}
 use Rattle.blob_memory.specs.Laws.{currents}
 use Rattle.blob_memory.specs.Store.{directory, durable}
 use Rattle.blob_lab.specs.LabStands.{IsFor, Wrapper}
@@ -29,12 +29,9 @@ abbrev Numbers : Type 0
 Numbers = ℕ × ℕ
 
 pub rebuilt_for : (w w' : Wrapper) (f : Files) → Snapshots → directory (store_of w') ≡ directory_again (λ o. unwrap_or (durable (store_of w) o) []) (directory (store_of w)) → durable (store_of w') ≡ (λ o. None) → pending_of (λ o. o) w' ≡ (λ o. [])
-    → next_write_of w' ≡ 0 → next_marker_of w' ≡ 0 → AreApart (λ o. o) w' → IsFor w f → IsFor w' (reopened f)
-rebuilt_for w w' f law names bytes lists write marker apart s =
+    → next_write_of w' ≡ 0 → next_marker_of w' ≡ 0 → IsFor w f → IsFor w' (reopened f)
+rebuilt_for w w' f law names bytes lists write marker s =
     let now = law (directory (store_of w)) (directory (store_of w')) (durable (store_of w)) (durable (store_of w')) (pending_of (λ o. o) w) (pending_of (λ o. o) w') (next_write_of w) (next_marker_of w) f (λ o. unwrap_or (durable (store_of w) o) [])
-    (λ o is. filled (durable (store_of w) o) (currents (store_of w).contents o ∙ is)) names (λ o i. bytes i o) (λ o i. lists i o) s.stands in
+    (λ o is. filled (durable (store_of w) o) (currents (store_of w).contents o ∙ is)) names (λ o i. bytes i o) (λ o i. lists i o) s in
     let numbers : (0, 0) ≡ (next_write_of w', next_marker_of w') = λ i. (sym write i, sym marker i) in
-    record {
-      stands = subst (λ (k : Numbers). StandsFor (directory (store_of w')) (durable (store_of w')) (pending_of (λ o. o) w') k.0 k.1 (reopened f)) numbers now;
-      apart = apart;
-    }
+    subst (λ (k : Numbers). StandsFor (directory (store_of w')) (durable (store_of w')) (pending_of (λ o. o) w') k.0 k.1 (reopened f)) numbers now

@@ -2,14 +2,14 @@ use Rattle.std.proofs.Common.{not, ◌≡◌, ◌≢◌, ◌∙◌, List, Some, 
 use Rattle.std.proofs.lemmas.List.Kept.{AllPairs-filter}
 use Rattle.std.specs.List.{filter}
 use Rattle.blob_base.specs.Files.{ends_by}
-use Rattle.blob_base.specs.Order.{Held, held_at, ArePlacesApart}
+use Rattle.blob_base.specs.Order.{Held, held_at}
 use Rattle.blob_base.specs.Places.{Place}
 use Rattle.blob_base.proofs.FileSteps.{stands_admitted}
 use Rattle.blob_memory.specs.Store.{directory, durable}
 use Rattle.blob_faulty.specs.declared.incarnation.Incarnation.{Incarnation}
 use Rattle.blob_faulty.specs.Lists.{held, AreDistinct}
 use Rattle.blob_faulty.proofs.Admitting.{admits_current}
-use Rattle.blob_faulty.proofs.ListSteps.{held_filter, held_at_filter, apart_filter}
+use Rattle.blob_faulty.proofs.ListSteps.{held_filter, held_at_filter}
 use Rattle.blob_faulty.proofs.admit.Storage+blob_memory+Storage+R.admit.Given.{Over}
 use Rattle.blob_faulty.proofs.admit.Storage+blob_memory+Storage+R.admit.Goals as goal
 
@@ -20,14 +20,9 @@ pub returns-clause-pending : goal.returns-clause-pending
 returns-clause-pending g c a = ap (λ (hs : List Held). held_at hs a) (kept g c) ∙ held_at_filter (held (λ (o : Place). o) c.args.self.now.lists.all.lists.items) (ends_by (directory c.args.self.now.inner) c.args.partition.now (Some c.args.name.now)) a
     ∙ admits_current (directory c.args.self.now.inner) c.args.partition.now c.args.name.now (held_at (held (λ (o : Place). o) c.args.self.now.lists.all.lists.items)) a
 
-pub returns-clause-apart : goal.returns-clause-apart
-returns-clause-apart g c a = subst (λ (hs : List Held). ArePlacesApart hs) (sym (kept g c)) (apart_filter (λ h. not (ends_by (directory c.args.self.now.inner) c.args.partition.now (Some c.args.name.now) h.0)) (held (λ (o : Place). o) c.args.self.now.lists.all.lists.items) a)
-
 pub returns-clause-stands : goal.returns-clause-stands
-returns-clause-stands g c files s = record {
-  stands = stands_admitted (directory c.args.self.now.inner) (durable c.args.self.now.inner) (held_at (held (λ (o : Place). o) c.args.self.now.lists.all.lists.items)) (held_at (held (λ (o : Place). o) c.drop_current.new.lists.items)) c.args.self.now.next_write c.args.self.now.next_marker files c.args.partition.now c.args.name.now (returns-clause-pending g c) s.stands;
-  apart = returns-clause-apart g c s.apart;
-}
+returns-clause-stands g c files s =
+    stands_admitted (directory c.args.self.now.inner) (durable c.args.self.now.inner) (held_at (held (λ (o : Place). o) c.args.self.now.lists.all.lists.items)) (held_at (held (λ (o : Place). o) c.drop_current.new.lists.items)) c.args.self.now.next_write c.args.self.now.next_marker files c.args.partition.now c.args.name.now (returns-clause-pending g c) s
 
 pub invariant_of-self : goal.invariant_of-self
 invariant_of-self g c = record {

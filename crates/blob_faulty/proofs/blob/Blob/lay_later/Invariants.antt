@@ -9,8 +9,8 @@ invariant-loop-run g l = record {
   room : HasRoomAt g.S.Durable.place l.store.lists.all.lists.items l.list (g.B.Blob.place l.self.inner) (extents (runs_in l.pieces.items));
   within : g.B.Blob.is_direct ≡ true → All (EndsWithin (g.B.Blob.room l.self.inner l.store.inner)) (runs_in l.pieces.items);
   some : runs_in l.fn.pieces.items ≡ [] → runs_in l.pieces.items ≡ [];
-  left : LeavesRuns (seen g.S.Durable.directory g.S.Durable.durable g.S.Durable.place g.B.Blob.place g.B.Blob.live l.fn.self l.fn.store)
-      (seen g.S.Durable.directory g.S.Durable.durable g.S.Durable.place g.B.Blob.place g.B.Blob.live l.self l.store) (runs_in l.fn.pieces.items) (runs_in l.pieces.items);
+  left : LeavesRuns (seen g.S.Durable g.B.Blob l.fn.self l.fn.store)
+      (seen g.S.Durable g.B.Blob l.self l.store) (runs_in l.fn.pieces.items) (runs_in l.pieces.items);
 }
 
 abbrev pub decreases-loop-run : goal.decreases-loop-run

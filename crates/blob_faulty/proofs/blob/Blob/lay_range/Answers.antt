@@ -2,7 +2,7 @@ use Rattle.std.proofs.Common.{rules, ◌≡◌, ◌∷◌, [], length, refl, sym
 use Rattle.std.proofs.lemmas.Grind.{common_steps}
 use Rattle.blob_base.specs.Durable.{with_at}
 use Rattle.blob_base.specs.Log.{Kept}
-use Rattle.blob_base.specs.Order.{held_at, ArePlacesApart}
+use Rattle.blob_base.specs.Order.{held_at}
 use Rattle.blob_base.specs.Pending.{has_barrier, laid}
 use Rattle.blob_base.specs.Places.{Place}
 use Rattle.blob_faulty.specs.declared.storage.Storage.{Storage}
@@ -21,8 +21,8 @@ lay-requires-clause-room g c =
 
 pub returns-clause-recorded : goal.returns-clause-recorded
 returns-clause-recorded g c =
-    let old : View g.row.R.Denot = seen g.S.Durable.directory g.S.Durable.durable g.S.Durable.place g.B.Blob.place g.B.Blob.live c.args.self.now c.args.store.now in
-    let new : View g.row.R.Denot = seen g.S.Durable.directory g.S.Durable.durable g.S.Durable.place g.B.Blob.place g.B.Blob.live c.write_unrecorded.new.self (record c.write_unrecorded.new.store { lists = c.lay.new.self }) in
+    let old : View g.row.R.Denot = seen g.S.Durable g.B.Blob c.args.self.now c.args.store.now in
+    let new : View g.row.R.Denot = seen g.S.Durable g.B.Blob c.write_unrecorded.new.self (record c.write_unrecorded.new.store { lists = c.lay.new.self }) in
     let rest = c.write_unrecorded.ensures.rest in
     let at = subst (λ (w : Storage g.row.S.Denot g.row.R.Denot g.row.S-Origin.Denot). IsAt (held g.S.Durable.place w.lists.all.lists.items) c.args.list old.place) (sym rest) c.requires.room.at in
     let lists : (a : Place) → held_at new.held a ≡ with_at (held_at old.held) old.place (laid c.args.offset c.args.bytes (held_at old.held old.place)) a =
@@ -31,8 +31,7 @@ returns-clause-recorded g c =
     (c.lay.ensures.lists old.place at c.args.bytes (sym c.remaining-len.ensures)
     (λ queued. c.requires.copied (ap (λ (w : Storage g.row.S.Denot g.row.R.Denot g.row.S-Origin.Denot). has_barrier (pending_of g.S.Durable.place w old.place)) (sym rest) ∙ queued)))
     refl in
-    let apart : ArePlacesApart old.held → ArePlacesApart new.held = first_of (search rules, grind (arith, common_steps)) in
-    let logs : Logs old new (Kept c.args.offset c.args.bytes ∷ []) = kept_logs old new c.args.offset c.args.bytes c.requires.some (first_of (search rules, cc)) (first_of (search rules, cc)) lists (first_of (search rules, cc)) (first_of (search rules, cc)) apart in
+    let logs : Logs old new (Kept c.args.offset c.args.bytes ∷ []) = kept_logs old new c.args.offset c.args.bytes c.requires.some (first_of (search rules, cc)) (first_of (search rules, cc)) lists (first_of (search rules, cc)) (first_of (search rules, cc)) in
     let written = some_written old.live c.args.offset c.args.bytes c.requires.some in
     record {
       wrote = first_of (search rules, grind (arith, common_steps));

@@ -39,7 +39,7 @@ returns-clause-recorded g c =
     let now : is_current (g.S.Durable.directory c.args.store.now.inner) (g.B.Blob.place c.args.self.now.inner) ≡ true =
     not_stale _ (λ stale. g.met.B.Blob.stale_refused c.args.self.now.inner c.args.store.now.inner c.in-Some.first.offset c.in-Some.first.bytes stale (bytes_some c.in-Some.first.bytes c.in-Some.first.some) c.in_ok-lay_range.ensures.allowed) in
     let e : runs_in c.args.pieces.items ≡ run_of c.in-Some.first ∷ runs_in c.pop.new.self.items = popped _ _ c.in-Some.first c.in-Some.ensures.items in
-    let old : View g.row.R.Denot = seen g.S.Durable.directory g.S.Durable.durable g.S.Durable.place g.B.Blob.place g.B.Blob.live c.args.self.now c.args.store.now in
-    let new : View g.row.R.Denot = seen g.S.Durable.directory g.S.Durable.durable g.S.Durable.place g.B.Blob.place g.B.Blob.live c.lay_later.new.self c.lay_later.new.store in
+    let old : View g.row.R.Denot = seen g.S.Durable g.B.Blob c.args.self.now c.args.store.now in
+    let new : View g.row.R.Denot = seen g.S.Durable g.B.Blob c.lay_later.new.self c.lay_later.new.store in
     subst (λ (rs : List Run). Recorded g.B.Blob.is_direct old new (laid_runs rs) (refused c.lay_later.result)) (sym e)
     (then_runs g.B.Blob.is_direct old _ new (run_of c.in-Some.first) (runs_in c.pop.new.self.items) None c.lay_later.result refl c.lay_later.ensures.failed c.lay_later.ensures.indirect now c.in_ok-lay_range.ensures.recorded c.lay_later.ensures.recorded)

@@ -2,7 +2,7 @@ use Rattle.std.proofs.Common.{rules, ◌≡◌, ◌<◌, ◌++◌, ◌∷◌, []
 use Rattle.std.proofs.lemmas.Grind.{common_steps}
 use Rattle.blob_base.specs.Durable.{with_at}
 use Rattle.blob_base.specs.Log.{need_of, Loose}
-use Rattle.blob_base.specs.Order.{held_at, ArePlacesApart}
+use Rattle.blob_base.specs.Order.{held_at}
 use Rattle.blob_base.specs.Pending.{Waiting}
 use Rattle.blob_base.specs.Places.{Place}
 use Rattle.blob_faulty.specs.Faults.{issued, retention}
@@ -14,14 +14,13 @@ use Rattle.blob_faulty.proofs.blob.Blob.write_plain.Goals as goal
 
 pub returns-clause-recorded : goal.returns-clause-recorded
 returns-clause-recorded g c =
-    let old : View g.row.R.Denot = seen g.S.Durable.directory g.S.Durable.durable g.S.Durable.place g.B.Blob.place g.B.Blob.live c.args.self.now c.args.store.now in
-    let new : View g.row.R.Denot = seen g.S.Durable.directory g.S.Durable.durable g.S.Durable.place g.B.Blob.place g.B.Blob.live c.write_unrecorded-2.new.self c.record_write.new.self in
+    let old : View g.row.R.Denot = seen g.S.Durable g.B.Blob c.args.self.now c.args.store.now in
+    let new : View g.row.R.Denot = seen g.S.Durable g.B.Blob c.write_unrecorded-2.new.self c.record_write.new.self in
     let write = issued c.args.store.now.next_write c.args.offset c.args.bytes c.in-Some.config in
     let some : 0 < length c.args.bytes = first_of (search rules, grind (arith, common_steps)) in
     let lists : (a : Place) → held_at new.held a ≡ with_at (held_at old.held) old.place (held_at old.held old.place ++ Waiting (need_of write []) ∷ []) a = first_of (search rules, grind (arith, common_steps)) in
-    let apart : ArePlacesApart old.held → ArePlacesApart new.held = first_of (search rules, grind (arith, common_steps)) in
     let entries : loose (retention old.config.write_rate) old.next_write c.args.offset c.args.bytes ≡ Loose write ∷ [] = first_of (search rules, grind (arith, common_steps, loose_some)) in
-    let logs : Logs old new (Loose write ∷ []) = loose_logs old new write some refl (first_of (search rules, cc)) (first_of (search rules, cc)) lists (first_of (search rules, cc)) (first_of (search rules, cc)) apart in
+    let logs : Logs old new (Loose write ∷ []) = loose_logs old new write some refl (first_of (search rules, cc)) (first_of (search rules, cc)) lists (first_of (search rules, cc)) (first_of (search rules, cc)) in
     record {
       wrote = search rules;
       done = λ ok. rw entries logs;

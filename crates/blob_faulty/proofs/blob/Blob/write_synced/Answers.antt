@@ -12,16 +12,16 @@ pub lay_range-requires-clause-room : goal.lay_range-requires-clause-room
 lay_range-requires-clause-room g c =
     let range = (c.args.offset, c.args.offset + length c.args.bytes) ∷ [] in
     record {
-      at = c.in_ok-list.ensures.at;
-      inside = first_of (search rules, grind (arith, common_steps));
-      ranges = c.in_ok-list.ensures.room range (subst (λ (n : ℕ). AreWithin c.args.offset (c.args.offset + n) 1 range) (sym c.remaining-len.ensures)
+      at = c.in_ok-list.ensures.ok.at;
+      inside = c.in_ok-list.ensures.ok.here.inside;
+      ranges = λ d. c.in_ok-list.ensures.ok.here.room d range (subst (λ (n : ℕ). AreWithin c.args.offset (c.args.offset + n) 1 range) (sym c.remaining-len.ensures)
           (one_within c.args.offset (c.args.offset + length c.args.bytes) (omega (arith, some_byte c.args.bytes c.requires.some))));
     }
 
 pub returns-clause-recorded : goal.returns-clause-recorded
 returns-clause-recorded g c =
-    let old : View g.row.R.Denot = seen g.S.Durable.directory g.S.Durable.durable g.S.Durable.place g.B.Blob.place g.B.Blob.live c.args.self.now c.args.store.now in
-    let mid : View g.row.R.Denot = seen g.S.Durable.directory g.S.Durable.durable g.S.Durable.place g.B.Blob.place g.B.Blob.live (record c.args.self.now { list = c.in_ok-list.list }) c.room_for_ranges.new.store in
-    let new : View g.row.R.Denot = seen g.S.Durable.directory g.S.Durable.durable g.S.Durable.place g.B.Blob.place g.B.Blob.live c.lay_range.new.self c.lay_range.new.store in
+    let old : View g.row.R.Denot = seen g.S.Durable g.B.Blob c.args.self.now c.args.store.now in
+    let mid : View g.row.R.Denot = seen g.S.Durable g.B.Blob (record c.args.self.now { list = c.in_ok-list.list }) c.room_for.new.store in
+    let new : View g.row.R.Denot = seen g.S.Durable g.B.Blob c.lay_range.new.self c.lay_range.new.store in
     let room : Unchanged old mid = first_of (search rules, grind (arith, common_steps)) in
     runs_after g.B.Blob.is_direct old mid new ((c.args.offset, c.args.bytes) ∷ []) (refused c.lay_range.result) room c.lay_range.ensures.recorded

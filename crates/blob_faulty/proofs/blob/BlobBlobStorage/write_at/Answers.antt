@@ -29,7 +29,7 @@ returns-clause-recorded g c direct =
     let fits : c.args.offset + length c.args.bytes < 2 ^ 64 = first_of (search rules, grind (arith, common_steps)) in
     let same : write_fate_of c.in_ok-fate.fate ≡ (write_fate store.config (is_sync c.args.options) c.args.offset (length c.args.bytes) (g.R.Rng.stream store.rng)).0 =
     (let drawn = ap (λ (d : WriteFate × Stream). d.0) c.in_ok-fate.ensures.ok in first_of (cc, search rules, grind (arith, common_steps))) in
-    adds_of g.S.Durable.directory g.S.Durable.durable g.S.Durable.place g.B.Blob.place g.B.Blob.live c.args.self.now c.write_by_fate.new.self store c.write_by_fate.new.store c.draw_write.new.rng _ _
+    adds_of g.S.Durable g.B.Blob c.args.self.now c.write_by_fate.new.self store c.write_by_fate.new.store c.draw_write.new.rng _ _
     c.write_by_fate.ensures.wrote.directory
     (recorded_so store.config store.next_write (g.R.Rng.stream store.rng) (is_sync c.args.options) c.args.offset c.args.bytes (refused c.write_by_fate.result) (write_fate_of c.in_ok-fate.fate) some fits same)
     (c.write_by_fate.ensures.wrote.logs direct)

@@ -1,4 +1,4 @@
-use Rattle.std.proofs.Common.{refl, ◌≡◌, ◌∙◌, ap, sym, subst, List, ℕ, Bool, Vec, All}
+use Rattle.std.proofs.Common.{◌≡◌, ◌∙◌, ap, sym, subst, List, ℕ, Bool, Vec, All}
 use Rattle.std.specs.Global.{Global}
 use Rattle.std.specs.List.Sorted.{IsPermutation}
 use Rattle.rand_core.specs.Stream.{Stream}
@@ -15,6 +15,7 @@ use Rattle.blob_faulty.specs.Drawings.{drawings_of, drawings_in, rows_drawn}
 use Rattle.blob_faulty.specs.Lists.{held, held_by, list_of}
 use Rattle.blob_faulty.specs.Replays.{IsReady}
 use Rattle.blob_faulty.specs.Rows.{rows_in, table_of, AreNumbered}
+use Rattle.blob_faulty.proofs.Distinct.{apart_of}
 use Rattle.blob_faulty.proofs.Crashing.{crash_rows, crash_stands}
 use Rattle.blob_faulty.proofs.Rowing.{rows_rise}
 use Rattle.blob_faulty.proofs.crash.Storage+blob_memory+Storage+R.crash.Goals as goal
@@ -35,15 +36,15 @@ returns-clause-rows g c files f =
     let table : table_of c.new.result ≡ rows_in c.in_ok-rows.rows.items = ap rows_in c.new.ensures in
     let told : (rows_in c.in_ok-rows.rows.items, rest) ≡ rows_drawn s (drawings_in c.in_ok-draws.draws.items) = c.in_ok-rows.ensures ∙ ap (λ (ds : List Draw). rows_drawn s (drawings_in ds)) c.deref-2.ensures.value in
     ap (λ (t : List Row). (t, rest)) table
-    ∙ crash_rows (λ (o : Place). o) (directory c.args.self.now.inner) (durable c.args.self.now.inner) c.args.self.now c.in_ok-draws.draws.items s (rows_in c.in_ok-rows.rows.items, rest)
+    ∙ crash_rows (λ (o : Place). o) (directory c.args.self.now.inner) (durable c.args.self.now.inner) c.args.self.now c.in_ok-draws.draws.items s (rows_in c.in_ok-rows.rows.items, rest) (λ a b same. same)
     (subst (λ (is : List (Incarnation Place)). IsPermutation (drawings_of (waiting_of_all (held (λ (o : Place). o) is))) (drawings_in c.in_ok-draws.draws.items)) c.deref.ensures.value (c.in_ok-draws.ensures.all (λ (o : Place). o)))
     c.in_ok-draws.ensures.rising told files f
 
 pub returns-clause-durable : goal.returns-clause-durable
-returns-clause-durable g c apart o =
+returns-clause-durable g c o =
     let now : Durable = durable c.reserve_all.new.inner in
     let t : Choices = chosen_by (table_of c.new.result) in
-    c.replay_all.ensures.durable (subst (λ (is : List (Incarnation Place)). ArePlacesApart (held (λ (p : Place). p) is)) (sym c.deref-5.ensures.value) apart) o
+    c.replay_all.ensures.durable (subst (λ (is : List (Incarnation Place)). ArePlacesApart (held (λ (p : Place). p) is)) (sym c.deref-5.ensures.value) (apart_of (λ (p : Place). p) c.args.self.now.lists.all.lists.items (λ a b same. same) c.args.self.now.lists.all.distinct)) o
     ∙ ap (λ (rows : List (ℕ × Vec Bool Global)). replayed_at (chosen_by (rows_in rows)) (list_of (λ (p : Place). p) c.deref-5.result.now o) (now o)) (c.deref-6.ensures.value ∙ sym c.new.ensures)
     ∙ ap (λ (is : List (Incarnation Place)). replayed_at t (list_of (λ (p : Place). p) is o) (now o)) c.deref-5.ensures.value
     ∙ ap (λ (f : Durable). replayed_at t (list_of (λ (p : Place). p) c.args.self.now.lists.all.lists.items o) (f o)) c.reserve_all.ensures.durable
@@ -51,4 +52,4 @@ returns-clause-durable g c apart o =
 pub returns-clause-stands : goal.returns-clause-stands
 returns-clause-stands g c files f =
     crash_stands (λ (o : Place). o) (directory c.args.self.now.inner) (directory c.replay_all.new.inner) (durable c.args.self.now.inner) (durable c.replay_all.new.inner) c.args.self.now _ (chosen_by (table_of c.new.result))
-    (c.replay_all.ensures.directory ∙ c.reserve_all.ensures.directory) (record { next_write = refl; next_marker = refl; config = refl }) c.clear.ensures.items (returns-clause-durable g c) files f
+    (c.replay_all.ensures.directory ∙ c.reserve_all.ensures.directory) (λ a. ap (λ (is : List (Incarnation Place)). list_of (λ (o : Place). o) is a) c.clear.ensures.items) (returns-clause-durable g c) files f

@@ -1,4 +1,4 @@
-use Rattle.std.proofs.Common.{sym, ◌∙◌, ap, ◌+◌, drop}
+use Rattle.std.proofs.Common.{refl, sym, ◌∙◌, ap, ◌+◌, drop}
 use Rattle.blob_faulty.specs.Marks.{marks_of}
 use Rattle.blob_faulty.specs.Views.{views}
 use Rattle.blob_faulty.proofs.Marking.{finished_marks, finished_none}
@@ -11,6 +11,9 @@ invariant_of-self g c = record {
       ∙ ap marks_of (sym c.finish.ensures);
 }
 
-pub returns-in_default-clause-views : goal.returns-in_default-clause-views
-returns-in_default-clause-views g c =
-    finished_none c.args.marker (views c.args.self.now.entries.items) c.deref.result.now (c.deref.ensures.value ∙ c.args.self.now.marked) (sym c.in_default.is ∙ c.place_of.ensures)
+pub returns-in_default : goal.returns-in_default
+returns-in_default g c = record {
+  origin = refl;
+  noted = refl;
+  entries = finished_none c.args.marker (views c.args.self.now.entries.items) c.deref.result.now (c.deref.ensures.value ∙ c.args.self.now.marked) (sym c.in_default.is ∙ c.place_of.ensures);
+}

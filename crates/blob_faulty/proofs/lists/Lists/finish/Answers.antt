@@ -14,8 +14,5 @@ invariant_of-self g c =
           (subst (λ (hs : List Held). ArePlacesApart hs) (sym (c.finish_all.ensures place)) (apart_finished c.args.marker (held place is) (apart_of place is g.met.S.Durable.one_origin c.args.self.now.all.distinct)));
     }
 
-pub returns-clause-lists : goal.returns-clause-lists
-returns-clause-lists g c o = ap (λ (hs : List Held). held_at hs o) (c.finish_all.ensures g.S.Durable.place) ∙ held_at_finished c.args.marker (held g.S.Durable.place c.args.self.now.all.lists.items) o
-
-pub returns-clause-apart : goal.returns-clause-apart
-returns-clause-apart g c a = subst (λ (hs : List Held). ArePlacesApart hs) (sym (c.finish_all.ensures g.S.Durable.place)) (apart_finished c.args.marker (held g.S.Durable.place c.args.self.now.all.lists.items) a)
+pub returns : goal.returns
+returns g c o = ap (λ (hs : List Held). held_at hs o) (c.finish_all.ensures g.S.Durable.place) ∙ held_at_finished c.args.marker (held g.S.Durable.place c.args.self.now.all.lists.items) o

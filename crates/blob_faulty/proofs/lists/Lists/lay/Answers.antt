@@ -2,7 +2,7 @@ use Rattle.std.proofs.Common.{rules, ◌≡◌, ◌∙◌, ◌+◌, ◌∷◌, a
 use Rattle.blob_base.specs.Pending.{Pending, has_barrier, laid}
 use Rattle.blob_faulty.specs.Lists.{list_of}
 use Rattle.blob_faulty.specs.Views.{views}
-use Rattle.blob_faulty.proofs.ListSteps.{changed_list, changed_apart, changed_at, found, ranges_at, rooms_of}
+use Rattle.blob_faulty.proofs.ListSteps.{changed_list, changed_at, found, ranges_at, rooms_of}
 use Rattle.blob_faulty.proofs.lists.Lists.lay.Goals as goal
 
 pub returns-clause-lists : goal.returns-clause-lists
@@ -11,13 +11,7 @@ returns-clause-lists g c o i bytes len same a =
     let at : c.index_mut.result.now ≡ get_or is c.args.i c.index_mut.result.now = search rules in
     let here : views c.index_mut.result.now.entries.items ≡ list_of g.S.Durable.place is o = found g.S.Durable.place is c.args.i c.index_mut.result.now o (search rules) at i in
     changed_list g.S.Durable.place is c.args.i c.index_mut.result.now c.lay.new.self o _ a (search rules) at c.lay.ensures.origin i
-    (c.lay.ensures.views bytes len (λ queued. same (ap has_barrier (sym here) ∙ queued)) ∙ ap (λ (q : List Pending). laid c.args.offset bytes q) here)
-
-pub returns-clause-apart : goal.returns-clause-apart
-returns-clause-apart g c a =
-    let is = c.args.self.now.all.lists.items in
-    let at : c.index_mut.result.now ≡ get_or is c.args.i c.index_mut.result.now = search rules in
-    changed_apart g.S.Durable.place is c.args.i c.index_mut.result.now c.lay.new.self (search rules) at c.lay.ensures.origin a
+    ((c.lay.ensures.laid bytes len (λ queued. same (ap has_barrier (sym here) ∙ queued))).entries ∙ ap (λ (q : List Pending). laid c.args.offset bytes q) here)
 
 pub returns-clause-at : goal.returns-clause-at
 returns-clause-at g c o i =

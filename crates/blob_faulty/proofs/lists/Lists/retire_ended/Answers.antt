@@ -2,10 +2,10 @@ use Rattle.std.proofs.Common.{not, get_or, ◌≡◌, ◌≢◌, ◌∙◌, ◌|
 use Rattle.std.proofs.lemmas.List.Kept.{AllPairs-filter}
 use Rattle.std.specs.List.{filter}
 use Rattle.blob_base.specs.Directory.{Directory, is_current}
-use Rattle.blob_base.specs.Order.{Held, held_at, ArePlacesApart}
+use Rattle.blob_base.specs.Order.{Held, held_at}
 use Rattle.blob_faulty.specs.declared.incarnation.Incarnation.{Incarnation}
 use Rattle.blob_faulty.specs.Lists.{held, AreNoted, AreDistinct, has_ended}
-use Rattle.blob_faulty.proofs.ListSteps.{held_filter, held_at_filter, apart_left, filter_on, stays_is}
+use Rattle.blob_faulty.proofs.ListSteps.{held_filter, held_at_filter, filter_on, stays_is}
 use Rattle.blob_faulty.proofs.lists.Lists.retire_ended.Given.{Over}
 use Rattle.blob_faulty.proofs.lists.Lists.retire_ended.Goals as goal
 
@@ -18,11 +18,8 @@ kept g c d noted =
     (λ k e h. ap (λ (was : Bool). not was || is_current now (g.S.Durable.place (get_or c.args.self.now.all.lists.items k e).origin)) (noted k e h) ∙ stays_is _ _))
     ∙ held_filter g.S.Durable.place (λ o. not (has_ended d now o)) c.args.self.now.all.lists.items
 
-pub returns-clause-lists : goal.returns-clause-lists
-returns-clause-lists g c d noted a = ap (λ (hs : List Held). held_at hs a) (kept g c d noted) ∙ held_at_filter (held g.S.Durable.place c.args.self.now.all.lists.items) (has_ended d (g.S.Durable.directory c.args.store.now)) a
-
-pub returns-clause-apart : goal.returns-clause-apart
-returns-clause-apart g c a = subst (λ (is : List (Incarnation g.row.S-Origin.Denot)). ArePlacesApart (held g.S.Durable.place is)) (sym c.drop_ended.ensures) (apart_left g.S.Durable.place _ c.args.self.now.all.lists.items a)
+pub returns : goal.returns
+returns g c d noted a = ap (λ (hs : List Held). held_at hs a) (kept g c d noted) ∙ held_at_filter (held g.S.Durable.place c.args.self.now.all.lists.items) (has_ended d (g.S.Durable.directory c.args.store.now)) a
 
 pub invariant_of-self : goal.invariant_of-self
 invariant_of-self g c = record {

@@ -15,4 +15,4 @@ returns-clause-files g c =
     } in
     ok_three c.remove_inner.result c.remove_inner.ensures.directory c.remove_inner.ensures.durable c.remove_inner.ensures.retired
     (λ named kept retired. removed_steps g.S.Durable.place g.S.Durable.directory g.S.Durable.durable c.args.self.now c.remove_inner.new.self c.args.partition.now (option_copied c.args.name)
-    (g.met.S.Durable.currents c.args.self.now.inner) named kept retired c.remove_inner.ensures.apart numbers)
+    (g.met.S.Durable.currents c.args.self.now.inner) named kept retired numbers)

@@ -13,5 +13,4 @@ returns-clause-files c = λ f s.
     ap directory c.new.ensures.inner ∙ c.from_snapshot-rebuilt.ensures.directory ∙ c.take_snapshot.ensures.directory
     ∙ ap (λ x. directory_again (λ o. unwrap_or (durable x o) []) (directory x)) c.into_inner-store.ensures.inner in
     let bytes = ap durable c.new.ensures.inner ∙ c.from_snapshot-rebuilt.ensures.durable ∙ c.take_snapshot.ensures.ended in
-    let none = c.from_snapshot-rebuilt.ensures.durable ∙ c.take_snapshot.ensures.ended in
-    rebuilt_for w c.new.result f c.snapshots.ensures names bytes c.new.ensures.pending c.new.ensures.next_write c.new.ensures.next_marker (c.new.ensures.files (λ o. []) (λ o x e. let n : durable c.from_snapshot-rebuilt.result o ≡ None = ap (λ b. b o) none in cc)).apart s
+    rebuilt_for w c.new.result f c.snapshots.ensures names bytes c.new.ensures.pending c.new.ensures.next_write c.new.ensures.next_marker s
