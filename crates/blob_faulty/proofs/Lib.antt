@@ -5,6 +5,7 @@ pub mod CellLaws
 pub mod CertainAnswers
 pub mod Covered
 pub mod Crashing
+pub mod CurrentWrites
 pub mod CutSteps
 pub mod Distinct
 pub mod DrawSteps
@@ -13,6 +14,8 @@ pub mod Fating
 pub mod Finishing
 pub mod Gathering
 pub mod HoleRoom
+pub mod Laying
+pub mod Leaving
 pub mod ListSteps
 pub mod Marking
 pub mod Naming

@@ -16,3 +16,7 @@ IsAlways (Some rate) = (0 < rate.numerator) × (rate.numerator ≡ rate.denomina
 abbrev pub resize_failure : Option ResizeConfig → Option Rate
 resize_failure None = None
 resize_failure (Some c) = Some c.failure_rate
+
+abbrev pub partial_resizes : Option ResizeConfig → Option Rate
+partial_resizes None = None
+partial_resizes (Some c) = Some c.partial_rate

@@ -10,6 +10,7 @@ pub mod Lists
 pub mod Marks
 pub mod Modes
 pub mod Names
+pub mod Outcomes
 pub mod Pieces
 pub mod Ranges
 pub mod Replays

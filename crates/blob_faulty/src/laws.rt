@@ -11,7 +11,9 @@ ghost use Rattle.blob_faulty.specs.Certain.{IsNever, IsAlways, resize_failure};
 ghost use Rattle.blob_faulty.specs.Faults.{write_failure, retention, is_nothing, is_uncounted};
 ghost use Rattle.blob_faulty.specs.Wrapper.{inner_of, config_of, next_write_of, next_marker_of, inside, KeepsRecords, Stands};
 
+pub mod current_handles;
 pub mod names;
+pub mod outcomes;
 
 use crate::blob::Blob;
 use crate::storage::Storage;

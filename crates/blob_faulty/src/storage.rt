@@ -3,7 +3,8 @@ ghost use Rattle.std.specs.Prelude.{◌≡◌, ℕ, List, [], Some};
 ghost use Rattle.std.specs.Borrow.{sem};
 ghost use Rattle.blob_base.specs.Files.{wrapped};
 ghost use Rattle.blob_base.specs.Places.{Place};
-ghost use Rattle.blob_faulty.specs.Lends.{LendsConfig};
+ghost use Rattle.blob_faulty.specs.Lends.{LendsConfig, with_config};
+ghost use Rattle.blob_faulty.specs.Names.{Steps};
 ghost use Rattle.blob_faulty.specs.Wrapper.{inner_of, rng_of, config_of, next_write_of, next_marker_of, pending_of, Stands};
 
 use crate::config::Config;
@@ -83,6 +84,15 @@ impl<S: Durable, R> Storage<S, R> {
         ensures value { result.now ≡ config_of self.old }
     {
         &mut self.config
+    }
+
+    /// From here on the faults are drawn by these rates, and nothing else changes: for an owner who lends no part of the wrapper,
+    /// as one whose type has an invariant.
+    pub fn set_config(&mut self, config: Config)
+        ensures set { self.new ≡ with_config self.old config }
+        ensures files { Steps S.place S.directory S.durable self.old self.new (λ files. files) }
+    {
+        self.config = config;
     }
 
     /// The wrapped store, the generator and the configuration; what is pending is dropped.

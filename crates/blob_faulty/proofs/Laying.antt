@@ -1,0 +1,211 @@
+-- What a write or a resize that is recorded lays, and what a write makes of live bytes and of the tracked size.
+use Rattle.std.proofs.Common.{◌≡◌, ◌⊎◌, ⊎_elim, ℕ, ◌+◌, ◌-◌, ◌<◌, ◌≤◌, max, min, nat_lt, ◌&&◌, Bool, true, false, List, [], ◌∷◌, length, get_or, Option, Some, None, cond, refl, sym, ◌∙◌, ap, subst, inl, inr, arith, if◌then◌else◌}
+use Rattle.std.specs.Prelude.{is_some}
+use Rattle.std.proofs.lemmas.Bool.{cond_both, cases_lt, false≢true}
+use Rattle.std.proofs.lemmas.List.{get_or_past}
+use Rattle.rand_core.specs.Stream.{Stream}
+use Rattle.blob_base.specs.Bytes.{overlay_by, overlay, resized, written, lies, reach}
+use Rattle.blob_base.specs.Live.{live_written, live_after, all_written}
+use Rattle.blob_base.specs.Log.{Entry, Choices, crashed}
+use Rattle.blob_base.specs.Modes.{Mode}
+use Rattle.blob_base.specs.Rates.{Rate, sampled}
+use Rattle.blob_base.specs.Refusals.{Refusal, BlobMissing, Injected}
+use Rattle.blob_base.specs.Runs.{Run, runs, kept_runs, all_laid, picked}
+use Rattle.blob_base.proofs.Bytes.{length-overlay_by, length-resized, reach_all, at_other, at_chosen, at_resized, past_resized, same_bytes, none_chosen, picks}
+use Rattle.blob_base.proofs.Runs.{AreSome, laid_runs, runs_some}
+use Rattle.blob_faulty.specs.declared.config.Config.{Config}
+use Rattle.blob_faulty.specs.declared.config.ResizeConfig.{ResizeConfig}
+use Rattle.blob_faulty.specs.Certain.{IsNever, partial_resizes}
+use Rattle.blob_faulty.specs.Faults.{WriteFate, Done, Unsynced, Failed, ResizeFate, Resizes, Stays, Reaches, write_fate, resize_fate, partly, size_between, retention, is_nothing, is_uncounted}
+use Rattle.blob_faulty.specs.Outcomes.{LaysSome, WritesSome}
+use Rattle.blob_faulty.specs.Recorded.{loose, kept, recorded_by, recorded_write, recorded_resize, live_by, live_of_write, live_of_resize, size_by, size_of_write, size_of_resize, size_of_runs}
+use Rattle.blob_faulty.proofs.CertainAnswers.{never_drawn}
+
+-- What a crash lays of a recorded write.
+
+module _ (o : ℕ) (b : List ℕ) (t : Choices) where
+  none_laid : LaysSome o b [] t
+  none_laid = (λ _. false, λ x. sym (none_chosen x o b))
+
+all_kept : (rs : List Run) (x : List ℕ) (t : Choices) → crashed x (kept_runs rs) t ≡ all_laid x rs
+all_kept [] x t = refl
+all_kept (r ∷ rs) x t = all_kept rs (overlay x r.0 r.1) t
+
+loose_laid : (k : Option (Mode × Rate)) (n o : ℕ) (b : List ℕ) (t : Choices) → LaysSome o b (loose k n o b) t
+loose_laid k n o [] t = none_laid o [] t
+loose_laid None n o (x ∷ b) t = none_laid o (x ∷ b) t
+loose_laid (Some k) n o (x ∷ b) t = (t n, λ y. refl)
+
+kept_laid : (o : ℕ) (b : List ℕ) (t : Choices) → LaysSome o b (kept o b) t
+kept_laid o [] t = none_laid o [] t
+kept_laid o (x ∷ b) t = (λ _. true, λ y. refl)
+
+runs_laid : (o : ℕ) (b : List ℕ) (c : List Bool) (t : Choices) → LaysSome o b (kept_runs (runs o b c)) t
+runs_laid o b c t = (picked c, λ x. all_kept (runs o b c) x t ∙ laid_runs o b c x)
+
+by_fate_laid : (fate : WriteFate) (k : Option (Mode × Rate)) (n : ℕ) (sync : Bool) (o : ℕ) (b : List ℕ) (answer : Option Refusal) (t : Choices) → LaysSome o b (recorded_by fate k n sync o b answer) t
+by_fate_laid Done k n true o b None t = kept_laid o b t
+by_fate_laid Done k n false o b None t = loose_laid k n o b t
+by_fate_laid Unsynced k n sync o b (Some Injected) t = loose_laid k n o b t
+by_fate_laid (Failed chosen) k n sync o b (Some Injected) t = runs_laid o b chosen t
+by_fate_laid fate k n sync o b answer t = none_laid o b t
+
+pub write_laid : (config : Config) (n : ℕ) (stream : Stream) (sync : Bool) (o : ℕ) (b : List ℕ) (answer : Option Refusal) (t : Choices) → LaysSome o b (recorded_write config n stream sync o b answer) t
+write_laid config n stream sync o b answer t =
+    cond_both (is_nothing sync b) [] _ (λ es. LaysSome o b es t) (λ _. none_laid o b t)
+    (λ _. cond_both (is_uncounted o b) [] _ (λ es. LaysSome o b es t) (λ _. none_laid o b t)
+    (λ _. by_fate_laid (write_fate config sync o (length b) stream).0 (retention config.write_rate) n sync o b answer t))
+
+-- Resizes, where none fails in part.
+
+abbrev IsWhole : ResizeFate → Type 0
+IsWhole (Resizes survives) = Unit {0}
+IsWhole Stays = Unit {0}
+IsWhole (Reaches size) = ⊥
+
+whole_so : (b : Bool) (low : Bool) (r : ℕ × Stream) (s : Stream) → b ≡ false → IsWhole (cond {A = ResizeFate × Stream} (b && low) (Reaches r.0, r.1) (Stays, s)).0
+whole_so true low r s e = cc
+whole_so false low r s e = tt
+
+whole_fate : (c : Option ResizeConfig) (size len : ℕ) (stream : Stream) → IsNever (partial_resizes c) → IsWhole (resize_fate c size len stream).0
+whole_fate None size len stream never = tt
+whole_fate (Some c) size len stream never =
+    let d = sampled c.failure_rate stream in
+    let e = sampled c.partial_rate d.1 in
+    cond_both d.0 (partly size len e) (Resizes (sampled c.failure_rate d.1).0, (sampled c.failure_rate d.1).1) (λ (x : ResizeFate × Stream). IsWhole x.0)
+    (λ _. whole_so e.0 (nat_lt 1 (max size len - min size len)) (size_between (min size len) (max size len) e.1) e.1 (ap (λ (x : Bool × Stream). x.0) (never_drawn (Some c.partial_rate) d.1 never)))
+    (λ _. tt)
+
+fate_resizes : (fate : ResizeFate) (len : ℕ) (answer : Option Refusal) (t : Choices) (x : List ℕ) → IsWhole fate →
+    (crashed x (recorded_resize fate len answer) t ≡ x) ⊎ (crashed x (recorded_resize fate len answer) t ≡ resized x len)
+fate_resizes (Resizes true) len None t x whole = inr refl
+fate_resizes (Resizes true) len (Some r) t x whole = inl refl
+fate_resizes (Resizes false) len answer t x whole = inl refl
+fate_resizes Stays len answer t x whole = inl refl
+fate_resizes (Reaches size) len answer t x whole = absurd whole
+
+pub resize_laid : (c : Option ResizeConfig) (size len : ℕ) (stream : Stream) (answer : Option Refusal) (t : Choices) → IsNever (partial_resizes c) → (x : List ℕ) →
+    (crashed x (recorded_resize (resize_fate c size len stream).0 len answer) t ≡ x) ⊎ (crashed x (recorded_resize (resize_fate c size len stream).0 len answer) t ≡ resized x len)
+resize_laid c size len stream answer t never x = fate_resizes (resize_fate c size len stream).0 len answer t x (whole_fate c size len stream never)
+
+fate_live : (fate : ResizeFate) (len : ℕ) (answer : Option Refusal) (live : List ℕ) → IsWhole fate → (live_of_resize fate live len answer ≡ live) ⊎ (live_of_resize fate live len answer ≡ resized live len)
+fate_live (Resizes survives) len None live whole = inr refl
+fate_live (Resizes survives) len (Some r) live whole = inl refl
+fate_live Stays len answer live whole = inl refl
+fate_live (Reaches size) len answer live whole = absurd whole
+
+pub resize_live : (c : Option ResizeConfig) (size len : ℕ) (stream : Stream) (live : List ℕ) (answer : Option Refusal) → IsNever (partial_resizes c) →
+    (live_of_resize (resize_fate c size len stream).0 live len answer ≡ live) ⊎ (live_of_resize (resize_fate c size len stream).0 live len answer ≡ resized live len)
+resize_live c size len stream live answer never = fate_live (resize_fate c size len stream).0 len answer live (whole_fate c size len stream never)
+
+-- Live bytes and the tracked size.
+
+abbrev IsFound : Option Refusal → Type 0
+IsFound answer = (p n : List ℕ) → answer ≡ Some (BlobMissing p n) → ⊥
+
+grown_bytes : (x : List ℕ) (n p : ℕ) → length x ≤ n → get_or (resized x n) p 0 ≡ get_or x p 0
+grown_bytes x n p h = ⊎_elim (λ below. at_resized x n p below) (λ past. past_resized x n p past ∙ sym (get_or_past x p 0 (omega arith))) (cases_lt p n)
+
+resized_self : (x : List ℕ) → resized x (length x) ≡ x
+resized_self x = same_bytes _ _ (length-resized x (length x)) (λ p. grown_bytes x (length x) p (omega arith))
+
+-- a write grows bytes to its end
+length-written : (x : List ℕ) (o : ℕ) (b : List ℕ) → length (written x o b) ≡ max (length x) (o + length b)
+length-written x o [] = length-overlay_by (resized x (max (length x) o)) o [] (λ _. true) ∙ omega (arith, length-resized x (max (length x) o))
+length-written x o (b ∷ bs) =
+    length-overlay_by (resized x (max (length x) o)) o (b ∷ bs) (λ _. true)
+    ∙ omega (arith, length-resized x (max (length x) o), reach_all o (length (b ∷ bs)) (omega arith))
+
+written_some : (x : List ℕ) (o : ℕ) (b : List ℕ) → 0 < length b → written x o b ≡ overlay x o b
+written_some x o b some = same_bytes _ _ len (λ p. at p (picks o (length b) (λ _. true) p))
+  where
+    grown : List ℕ
+    grown = resized x (max (length x) o)
+
+    len : length (written x o b) ≡ length (overlay x o b)
+    len = length-written x o b ∙ omega (arith, length-overlay_by x o b (λ _. true), reach_all o (length b) some)
+
+    at : (p : ℕ) → ((o ≤ p) × (p < o + length b) × (true ≡ true)) ⊎ (o ≤ p → p < o + length b → true ≡ false) → get_or (written x o b) p 0 ≡ get_or (overlay x o b) p 0
+    at p (inl (low, high, e)) = at_chosen grown o b (λ _. true) p low high refl ∙ sym (at_chosen x o b (λ _. true) p low high refl)
+    at p (inr isnt) = at_other grown o b (λ _. true) p isnt ∙ grown_bytes x (max (length x) o) p (omega arith) ∙ sym (at_other x o b (λ _. true) p isnt)
+
+all_written_some : (rs : List Run) (x : List ℕ) → AreSome rs → all_written x rs ≡ all_laid x rs
+all_written_some [] x some = refl
+all_written_some (r ∷ rs) x some = ap (λ (y : List ℕ). all_written y rs) (written_some x r.0 r.1 some.0) ∙ all_written_some rs (overlay x r.0 r.1) some.1
+
+module _ (live : List ℕ) (o : ℕ) (b : List ℕ) where
+  laid_some : (c : ℕ → Bool) → WritesSome o b live (overlay_by live o b c)
+  laid_some c = record { grown = length live; chosen = c; no_shorter = omega arith; no_longer = omega arith; is = ap (λ (x : List ℕ). overlay_by x o b c) (sym (resized_self live)) }
+
+  none_written : WritesSome o b live live
+  none_written = subst (λ (x : List ℕ). WritesSome o b live x) (none_chosen live o b) (laid_some (λ _. false))
+
+  all_bytes : WritesSome o b live (written live o b)
+  all_bytes = record { grown = max (length live) o; chosen = λ _. true; no_shorter = omega arith; no_longer = omega arith; is = refl }
+
+  runs_written : (c : List Bool) → WritesSome o b live (all_written live (runs o b c))
+  runs_written c = subst (λ (x : List ℕ). WritesSome o b live x) (sym (all_written_some (runs o b c) live (runs_some o b c) ∙ laid_runs o b c live)) (laid_some (picked c))
+
+done_written : (sync : Bool) (live : List ℕ) (o : ℕ) (b : List ℕ) → WritesSome o b live (live_written sync live o b)
+done_written true live o [] = none_written live o []
+done_written true live o (x ∷ b) = all_bytes live o (x ∷ b)
+done_written false live o b = all_bytes live o b
+
+by_fate_written : (fate : WriteFate) (sync : Bool) (live : List ℕ) (o : ℕ) (b : List ℕ) (answer : Option Refusal) → IsFound answer → WritesSome o b live (live_by fate sync live o b answer)
+by_fate_written Done sync live o b None found = done_written sync live o b
+by_fate_written Done sync live o b (Some (BlobMissing p n)) found = absurd (found p n refl)
+by_fate_written Done true live o b (Some r) found = none_written live o b
+by_fate_written Done false live o b (Some r) found = none_written live o b
+by_fate_written Unsynced sync live o b (Some Injected) found = all_bytes live o b
+by_fate_written (Failed chosen) sync live o b (Some Injected) found = runs_written live o b chosen
+by_fate_written (Failed chosen) sync live o b (Some (BlobMissing p n)) found = absurd (found p n refl)
+by_fate_written fate sync live o b answer found = none_written live o b
+
+pub live_laid : (config : Config) (stream : Stream) (sync : Bool) (live : List ℕ) (o : ℕ) (b : List ℕ) (answer : Option Refusal) → IsFound answer → WritesSome o b live (live_of_write config stream sync live o b answer)
+live_laid config stream sync live o b answer found =
+    cond_both (is_nothing sync b) live _ (λ x. WritesSome o b live x) (λ _. none_written live o b)
+    (λ _. cond_both (is_uncounted o b) live _ (λ x. WritesSome o b live x) (λ _. none_written live o b)
+    (λ _. by_fate_written (write_fate config sync o (length b) stream).0 sync live o b answer found))
+
+-- the tracked size
+
+write_sized : (size : ℕ) (live : List ℕ) (o : ℕ) (b : List ℕ) → size ≡ length live → max size (o + length b) ≡ length (written live o b)
+write_sized size live o b e = ap (λ k. max k (o + length b)) e ∙ sym (length-written live o b)
+
+runs_sized : (size : ℕ) (live : List ℕ) (rs : List Run) → size ≡ length live → size_of_runs size rs ≡ length (all_written live rs)
+runs_sized size live [] e = e
+runs_sized size live (r ∷ rs) e = runs_sized (max size (r.0 + length r.1)) (written live r.0 r.1) rs (write_sized size live r.0 r.1 e)
+
+done_sized : (sync : Bool) (size : ℕ) (live : List ℕ) (o : ℕ) (b : List ℕ) → is_nothing sync b ≡ false → size ≡ length live → max size (o + length b) ≡ length (live_written sync live o b)
+done_sized true size live o [] some e = absurd (false≢true (sym some))
+done_sized true size live o (x ∷ b) some e = write_sized size live o (x ∷ b) e
+done_sized false size live o b some e = write_sized size live o b e
+
+by_fate_sized : (fate : WriteFate) (sync : Bool) (size : ℕ) (live : List ℕ) (o : ℕ) (b : List ℕ) (answer : Option Refusal) → is_nothing sync b ≡ false → IsFound answer → size ≡ length live →
+    size_by fate size o b answer ≡ length (live_by fate sync live o b answer)
+by_fate_sized Done sync size live o b None some found e = done_sized sync size live o b some e
+by_fate_sized Done sync size live o b (Some (BlobMissing p n)) some found e = absurd (found p n refl)
+by_fate_sized Done true size live o b (Some r) some found e = e
+by_fate_sized Done false size live o b (Some r) some found e = e
+by_fate_sized Unsynced sync size live o b (Some Injected) some found e = write_sized size live o b e
+by_fate_sized (Failed chosen) sync size live o b (Some Injected) some found e = runs_sized size live (runs o b chosen) e
+by_fate_sized (Failed chosen) sync size live o b (Some (BlobMissing p n)) some found e = absurd (found p n refl)
+by_fate_sized fate sync size live o b answer some found e = e
+
+pub sized_after_write : (config : Config) (stream : Stream) (sync : Bool) (size : ℕ) (live : List ℕ) (o : ℕ) (b : List ℕ) (answer : Option Refusal) → IsFound answer → size ≡ length live →
+    size_of_write config stream sync size o b answer ≡ length (live_of_write config stream sync live o b answer)
+sized_after_write config stream sync size live o b answer found e = go (is_nothing sync b) (is_uncounted o b) refl
+  where
+    fate : WriteFate
+    fate = (write_fate config sync o (length b) stream).0
+
+    go : (nothing uncounted : Bool) → is_nothing sync b ≡ nothing → (if nothing then size else if uncounted then size else size_by fate size o b answer)
+        ≡ length (if nothing then live else if uncounted then live else live_by fate sync live o b answer)
+    go true uncounted some = e
+    go false true some = e
+    go false false some = by_fate_sized fate sync size live o b answer some found e
+
+pub sized_after_resize : (fate : ResizeFate) (size : ℕ) (live : List ℕ) (len : ℕ) (answer : Option Refusal) → size ≡ length live → size_of_resize fate size len answer ≡ length (live_of_resize fate live len answer)
+sized_after_resize (Resizes survives) size live len None e = sym (length-resized live len)
+sized_after_resize (Reaches reached) size live len (Some Injected) e = sym (length-resized live reached)
+sized_after_resize fate size live len answer e = e
