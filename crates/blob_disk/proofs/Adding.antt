@@ -1,0 +1,117 @@
+-- What a mutation that is recorded makes of the outcomes of a crash, and of the file.
+use Rattle.std.proofs.Common.{◌≡◌, ◌⊎◌, ℕ, List, length, Option, Some, None, Bool, true, ◌&&◌, refl, sym, ◌∙◌, ap, subst, inl, inr, arith, ◌==◌}
+use Rattle.std.proofs.Math.Logic.{∥∥₁_map, ∥∥₁_elim}
+use Rattle.std.proofs.lemmas.Bool.Decides.{nat_tests}
+use Rattle.std.proofs.lemmas.Option.{none-some, same_Some}
+use Rattle.std.specs.Prelude.{option_map, codes}
+use Rattle.blob_base.specs.Directory.{Directory, File, is_current, is_that}
+use Rattle.blob_base.specs.Files.{Files, all_logged}
+use Rattle.blob_base.specs.Log.{Entry, Choices, crashed}
+use Rattle.blob_base.specs.Pending.{Pending}
+use Rattle.blob_base.specs.Places.{Place}
+use Rattle.blob_base.specs.Stands.{replayed_at}
+use Rattle.blob_base.specs.Bytes.{resized}
+use Rattle.blob_disk.proofs.Crashes.{one_way}
+use Rattle.blob_disk.proofs.Laying.{cut_not, cut_to, mixed_over, mixed_some}
+use Rattle.blob_disk.proofs.Outcomes.{named_so, there_so, whole_so}
+use Rattle.blob_disk.specs.Outcomes.{MayLeave, Wrapper, Opened, Keeps, IsFile, IsStanding, IsTracked, IsNamed, IsThere, outcomes}
+use Rattle.blob_faulty.specs.Outcomes.{LaysSome, WritesSome}
+use Rattle.blob_faulty.specs.Wrapper.{Stands, inner_of, config_of, pending_of, inside}
+use Rattle.blob_memory.specs.Store.{directory, durable, live, place}
+use Rattle.sqlite_disk.specs.Disk.{Cut, Follows, Mixed, Torn}
+
+-- the handle is on its name's current incarnation
+is_self : (n : ℕ) → (n == n) ≡ true
+is_self n = grind (arith, nat_tests)
+
+pub current_now : {R : Type 0} (b : Opened) (w : Wrapper R) → IsNamed b w → IsThere b → is_current (directory (inner_of w)) (place (inside b)) ≡ true
+current_now b w named there =
+    ap (λ (o : Place). is_current (directory (inner_of w)) o) there
+    ∙ ap (λ (f : Option File). is_that f (place (inside b)).number 4096) named
+    ∙ ap (λ (t : Bool). t && true) (is_self (place (inside b)).number)
+
+-- an outcome after it is one before it with the mutation done
+pub follows : (P : List ℕ → List ℕ → Type 0) (es : List Entry) (x x' : List ℕ) (q q' : List Pending) (v v' : Option (List ℕ)) → P x x' → ((d : List ℕ) (t : Choices) → P d (crashed d es t)) →
+    ((t : Choices) → replayed_at t q' v' ≡ option_map (λ d. crashed d es t) (replayed_at t q v)) → Follows P (MayLeave x q v) (MayLeave x' q' v')
+follows P es x x' q q' v v' seen takes step c (inl e) = (x, inl refl, subst (λ (z : List ℕ). P x z) (sym e) seen)
+follows P es x x' q q' v v' seen takes step c (inr (t, e)) = here (replayed_at t q v) refl (sym (step t) ∙ e)
+  where
+    here : (r : Option (List ℕ)) → replayed_at t q v ≡ r → option_map (λ d. crashed d es t) r ≡ Some c → (d : List ℕ) × MayLeave x q v d × P d c
+    here None is h = absurd (none-some c h)
+    here (Some d) is h = (d, inr (t, is), subst (λ (z : List ℕ). P d z) (same_Some (crashed d es t) c h) (takes d t))
+
+-- the same of the file
+pub file_follows : {R : Type 0} (P : List ℕ → List ℕ → Type 0) (es : List Entry) (b b' : Opened) (w w' : Wrapper R) → IsStanding w → place (inside b') ≡ place (inside b) →
+    P (live (inside b)) (live (inside b')) → ((d : List ℕ) (t : Choices) → P d (crashed d es t)) →
+    ((f : Files) (t : Choices) → Stands (λ o. o) (directory (inner_of w)) (durable (inner_of w)) w f →
+    replayed_at t (pending_of (λ o. o) w' (place (inside b))) (durable (inner_of w') (place (inside b))) ≡ option_map (λ x. crashed x es t) (replayed_at t (pending_of (λ o. o) w (place (inside b))) (durable (inner_of w) (place (inside b))))) →
+    Follows P (outcomes b w) (outcomes b' w')
+file_follows P es b b' w w' standing at seen takes left =
+    follows P es (live (inside b)) (live (inside b')) (pending_of (λ (o : Place). o) w (place (inside b))) (pending_of (λ (o : Place). o) w' (place (inside b'))) (durable (inner_of w) (place (inside b))) (durable (inner_of w') (place (inside b'))) seen takes
+    (λ t. ap (λ (o : Place). replayed_at t (pending_of (λ (p : Place). p) w' o) (durable (inner_of w') o)) at ∙ ∥∥₁_elim standing (one_way _ _) (λ f. left f.0 t f.1))
+
+pub keeps_added : {R : Type 0} (es : List Entry) (b b' : Opened) (w w' : Wrapper R) → directory (inner_of w') ≡ directory (inner_of w) → place (inside b') ≡ place (inside b) → config_of w' ≡ config_of w → IsTracked b' →
+    ((f : Files) → Stands (λ o. o) (directory (inner_of w)) (durable (inner_of w)) w f → Stands (λ o. o) (directory (inner_of w')) (durable (inner_of w')) w' (all_logged f (place (inside b)) es)) → Keeps b w b' w'
+keeps_added es b b' w w' named at config tracked stands = record {
+  standing = λ s. ∥∥₁_map s (λ f. (all_logged f.0 (place (inside b)) es, stands f.0 f.1));
+  tracked = λ _. tracked;
+  directory = named;
+  place = at;
+  config = config;
+  named = named_so b b' w w' named at;
+  there = there_so b b' at;
+  whole = whole_so w w' config;
+}
+
+-- nothing was asked of the wrapper
+pub keeps_self : {R : Type 0} (b : Opened) (w : Wrapper R) → Keeps b w b w
+keeps_self b w = record { standing = λ s. s; tracked = λ h. h; directory = refl; place = refl; config = refl; named = λ h. h; there = λ h. h; whole = λ h. h }
+
+pub follows_self : {R : Type 0} (P : List ℕ → List ℕ → Type 0) (b : Opened) (w : Wrapper R) → ((x : List ℕ) → P x x) → Follows P (outcomes b w) (outcomes b w)
+follows_self P b w same c may = (c, may, same c)
+
+pub torn_follows : (at : ℕ) (bytes : List ℕ) (old new : List ℕ → Type 0) → Follows (Mixed at bytes) old new → Follows (Torn at (length bytes)) old new
+torn_follows at bytes old new mixed c may = let m = mixed c may in (m.0, m.1, m.2.torn)
+
+-- a write, by what it records
+pub record IsWritten {R : Type 0} (b b' : Opened) (w w' : Wrapper R) (offset : ℕ) (bytes : List ℕ) : Type 0 where
+  pub others : Mixed offset bytes (live (inside b)) (live (inside b'))
+  pub keeps : Keeps b w b' w'
+  pub crash : Follows (Mixed offset bytes) (outcomes b w) (outcomes b' w')
+
+pub wrote : {R : Type 0} (b b' : Opened) (w w' : Wrapper R) (es : List Entry) (offset : ℕ) (bytes : List ℕ) → IsStanding w →
+    directory (inner_of w') ≡ directory (inner_of w) → place (inside b') ≡ place (inside b) → config_of w' ≡ config_of w → IsTracked b' →
+    WritesSome offset bytes (live (inside b)) (live (inside b')) → ((t : Choices) → LaysSome offset bytes es t) →
+    ((f : Files) → Stands (λ o. o) (directory (inner_of w)) (durable (inner_of w)) w f → Stands (λ o. o) (directory (inner_of w')) (durable (inner_of w')) w' (all_logged f (place (inside b)) es)) →
+    ((f : Files) (t : Choices) → Stands (λ o. o) (directory (inner_of w)) (durable (inner_of w)) w f →
+    replayed_at t (pending_of (λ o. o) w' (place (inside b))) (durable (inner_of w') (place (inside b))) ≡ option_map (λ x. crashed x es t) (replayed_at t (pending_of (λ o. o) w (place (inside b))) (durable (inner_of w) (place (inside b))))) →
+    IsWritten b b' w w' offset bytes
+wrote b b' w w' es offset bytes standing named at config tracked some laid stands left = record {
+  others = mixed_some offset bytes (live (inside b)) (live (inside b')) some;
+  keeps = keeps_added es b b' w w' named at config tracked stands;
+  crash = file_follows (Mixed offset bytes) es b b' w w' standing at (mixed_some offset bytes (live (inside b)) (live (inside b')) some)
+      (λ d t. subst (λ (z : List ℕ). Mixed offset bytes d z) (sym ((laid t).1 d)) (mixed_over offset bytes (laid t).0 d)) left;
+}
+
+-- a resize, by what it records
+pub record IsResized {R : Type 0} (b b' : Opened) (w w' : Wrapper R) (len : ℕ) : Type 0 where
+  pub others : Cut len (live (inside b)) (live (inside b'))
+  pub keeps : Keeps b w b' w'
+  pub crash : Follows (Cut len) (outcomes b w) (outcomes b' w')
+
+either_cut : (len : ℕ) (x y : List ℕ) → (y ≡ x) ⊎ (y ≡ resized x len) → Cut len x y
+either_cut len x y (inl e) = subst (λ (z : List ℕ). Cut len x z) (sym e) (cut_not len x)
+either_cut len x y (inr e) = subst (λ (z : List ℕ). Cut len x z) (sym e) (cut_to len x)
+
+pub cut_so : {R : Type 0} (b b' : Opened) (w w' : Wrapper R) (es : List Entry) (len : ℕ) → IsStanding w →
+    directory (inner_of w') ≡ directory (inner_of w) → place (inside b') ≡ place (inside b) → config_of w' ≡ config_of w → IsTracked b' →
+    (live (inside b') ≡ live (inside b)) ⊎ (live (inside b') ≡ resized (live (inside b)) len) → ((t : Choices) (x : List ℕ) → (crashed x es t ≡ x) ⊎ (crashed x es t ≡ resized x len)) →
+    ((f : Files) → Stands (λ o. o) (directory (inner_of w)) (durable (inner_of w)) w f → Stands (λ o. o) (directory (inner_of w')) (durable (inner_of w')) w' (all_logged f (place (inside b)) es)) →
+    ((f : Files) (t : Choices) → Stands (λ o. o) (directory (inner_of w)) (durable (inner_of w)) w f →
+    replayed_at t (pending_of (λ o. o) w' (place (inside b))) (durable (inner_of w') (place (inside b))) ≡ option_map (λ x. crashed x es t) (replayed_at t (pending_of (λ o. o) w (place (inside b))) (durable (inner_of w) (place (inside b))))) →
+    IsResized b b' w w' len
+cut_so b b' w w' es len standing named at config tracked seen cut stands left = record {
+  others = either_cut len (live (inside b)) (live (inside b')) seen;
+  keeps = keeps_added es b b' w w' named at config tracked stands;
+  crash = file_follows (Cut len) es b b' w w' standing at (either_cut len (live (inside b)) (live (inside b')) seen) (λ d t. either_cut len d (crashed d es t) (cut t d)) left;
+}

@@ -1,0 +1,4 @@
+pub mod Adding
+pub mod Crashes
+pub mod Laying
+pub mod Outcomes

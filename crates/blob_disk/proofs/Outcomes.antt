@@ -1,0 +1,100 @@
+-- Steps of the proofs that a file over the wrapper is a disk.
+use Rattle.std.proofs.Common.{◌≡◌, ◌⊎◌, ℕ, List, [], Option, Some, None, Bool, true, false, refl, sym, ◌∙◌, ap, ap₂, subst, inl, inr, cond, rules}
+use Rattle.std.proofs.Math.Logic.{∥∥₁_map}
+use Rattle.std.proofs.lemmas.Bool.{cond-true}
+use Rattle.std.proofs.lemmas.Option.{none-some, same_Some}
+use Rattle.std.specs.Prelude.{option_map, codes}
+use Rattle.blob_base.specs.declared.layout.Layout.TheVariants.{V1}
+use Rattle.blob_base.specs.Directory.{Directory, Incarnation}
+use Rattle.blob_base.specs.Opening.{place_of}
+use Rattle.blob_base.specs.Durable.{Durable, with_at, changed}
+use Rattle.blob_base.specs.Log.{Choices}
+use Rattle.blob_base.specs.Pending.{Pending}
+use Rattle.blob_base.specs.Places.{Place, same_place}
+use Rattle.blob_base.specs.Stands.{replayed_at}
+use Rattle.blob_base.specs.SamePlace.{same_self}
+use Rattle.blob_disk.specs.Outcomes.{MayLeave, Wrapper, Opened, Keeps, IsStanding, IsTracked, IsNamed, IsThere, IsWhole, outcomes}
+use Rattle.blob_faulty.specs.declared.config.Config.{Config}
+use Rattle.blob_faulty.specs.Certain.{IsNever, partial_resizes}
+use Rattle.blob_faulty.specs.Wrapper.{Stands, KeepsRecords, inner_of, config_of, pending_of, inside}
+use Rattle.blob_base.specs.Files.{Files, synced}
+use Rattle.blob_faulty.specs.Lends.{with_config}
+use Rattle.blob_faulty.specs.Syncs.{Publishes}
+use Rattle.blob_memory.specs.Store.{directory, durable, live, place}
+
+pub at_place : {bytes bytes' : Durable} → bytes' ≡ bytes → (o : Place) → bytes' o ≡ bytes o
+at_place e o = ap (λ (g : Durable). g o) e
+
+-- nothing was recorded
+pub same_outcomes : (x x' : List ℕ) (q q' : List Pending) (b b' : Option (List ℕ)) → x' ≡ x → q' ≡ q → b' ≡ b → (c : List ℕ) → MayLeave x' q' b' c → MayLeave x q b c
+same_outcomes x x' q q' b b' ex eq eb c (inl e) = inl (e ∙ ex)
+same_outcomes x x' q q' b b' ex eq eb c (inr (t, e)) = inr (t, ap₂ (λ (p : List Pending) (d : Option (List ℕ)). replayed_at t p d) (sym eq) (sym eb) ∙ e)
+
+-- after a sync: nothing is pending, and the live bytes are durable
+all_live : (x : List ℕ) (b : Option (List ℕ)) (c : List ℕ) (t : Choices) → replayed_at t [] (option_map (λ _. x) b) ≡ Some c → c ≡ x
+all_live x None c t e = absurd (none-some c e)
+all_live x (Some y) c t e = sym (same_Some x c e)
+
+pub synced_outcomes : (x : List ℕ) (b : Option (List ℕ)) (c : List ℕ) → MayLeave x [] (option_map (λ _. x) b) c → c ≡ x
+synced_outcomes x b c (inl e) = e
+synced_outcomes x b c (inr (t, e)) = all_live x b c t e
+
+pub named_so : {R : Type 0} (b b' : Opened) (w w' : Wrapper R) → directory (inner_of w') ≡ directory (inner_of w) → place (inside b') ≡ place (inside b) → IsNamed b w → IsNamed b' w'
+named_so b b' w w' same at h = ap (λ (d : Directory). d.file (codes "disk") (codes "0")) same ∙ h ∙ ap (λ (o : Place). Some (Incarnation o.number V1 0)) (sym at)
+
+pub there_so : (b b' : Opened) → place (inside b') ≡ place (inside b) → IsThere b → IsThere b'
+there_so b b' at h = at ∙ h ∙ ap (λ (o : Place). place_of (codes "disk") (codes "0") o.number V1) (sym at)
+
+pub whole_so : {R : Type 0} (w w' : Wrapper R) → config_of w' ≡ config_of w → IsWhole w → IsWhole w'
+whole_so w w' config h = subst (λ (c : Config). IsNever (partial_resizes c.resize_rate)) (sym config) h
+
+-- a law of the wrapper: it stands for the same files where nothing was recorded
+abbrev pub KeptRecords : Type 0 → Type 0
+KeptRecords R = (names names' : Directory) (bytes bytes' : Durable) (old new : Wrapper R) (files : Files) → names' ≡ names → bytes' ≡ bytes → KeepsRecords (λ o. o) old new →
+    Stands (λ o. o) names bytes old files → Stands (λ o. o) names' bytes' new files
+
+-- nothing was recorded, as a step of the disk
+pub keeps_all : {R : Type 0} (b b' : Opened) (w w' : Wrapper R) → KeptRecords R → directory (inner_of w') ≡ directory (inner_of w) → durable (inner_of w') ≡ durable (inner_of w) →
+    KeepsRecords (λ o. o) w w' → place (inside b') ≡ place (inside b) → (IsTracked b → IsTracked b') → Keeps b w b' w'
+keeps_all b b' w w' kept named same k at tracked = record {
+  standing = λ s. ∥∥₁_map s (λ f. (f.0, kept (directory (inner_of w)) (directory (inner_of w')) (durable (inner_of w)) (durable (inner_of w')) w w' f.0 named same k f.1));
+  tracked = tracked;
+  directory = named;
+  place = at;
+  config = k.numbers.config;
+  named = named_so b b' w w' named at;
+  there = there_so b b' at;
+  whole = whole_so w w' k.numbers.config;
+}
+
+pub synced_at : (x x' : List ℕ) (lists lists' : Place → List Pending) (bytes bytes' : Durable) (o o' : Place) → x' ≡ x → o' ≡ o →
+    ((a : Place) → lists' a ≡ with_at lists o [] a) → bytes' ≡ changed bytes o (λ _. x) → (c : List ℕ) → MayLeave x' (lists' o') (bytes' o') c → c ≡ x
+synced_at x x' lists lists' bytes bytes' o o' ex eo el eb c m =
+    synced_outcomes x (bytes o) c (same_outcomes x x' [] (lists' o') (option_map (λ _. x) (bytes o)) (bytes' o') ex
+    (ap lists' eo ∙ el o ∙ cond-true (same_place o o) [] (lists o) (same_self o))
+    (ap bytes' eo ∙ at_place eb o ∙ cond-true (same_place o o) _ _ (same_self o)) c m)
+
+-- after a sync, as a step of the disk
+pub keeps_synced : {R : Type 0} (b b' : Opened) (w w' : Wrapper R) → directory (inner_of w') ≡ directory (inner_of w) →
+    Publishes (λ o. o) (directory (inner_of w)) (durable (inner_of w)) (durable (inner_of w')) w w' (place (inside b)) (live (inside b)) →
+    place (inside b') ≡ place (inside b) → config_of w' ≡ config_of w → (IsTracked b → IsTracked b') → Keeps b w b' w'
+keeps_synced b b' w w' named p at config tracked = record {
+  standing = λ s. ∥∥₁_map s (λ f. (synced f.0 (place (inside b)) (live (inside b)), subst (λ d. Stands (λ o. o) d (durable (inner_of w')) w' (synced f.0 (place (inside b)) (live (inside b)))) (sym named) (p f.0 f.1)));
+  tracked = tracked;
+  directory = named;
+  place = at;
+  config = config;
+  named = named_so b b' w w' named at;
+  there = there_so b b' at;
+  whole = whole_so w w' config;
+}
+
+-- another configuration
+pub configured_named : {R : Type 0} (b : Opened) (w w' : Wrapper R) (c : Config) → w' ≡ with_config w c → IsNamed b w → IsNamed b w'
+configured_named b w w' c set h = subst (λ z. IsNamed b z) (sym set) h
+
+pub configured_whole : {R : Type 0} (w w' : Wrapper R) (c : Config) → w' ≡ with_config w c → IsNever (partial_resizes c.resize_rate) → IsWhole w'
+configured_whole w w' c set h = subst (λ z. IsWhole z) (sym set) h
+
+pub configured_outcomes : {R : Type 0} (b : Opened) (w w' : Wrapper R) (c : Config) (x : List ℕ) → w' ≡ with_config w c → outcomes b w' x → outcomes b w x
+configured_outcomes b w w' c x set h = subst (λ z. outcomes b z x) set h

@@ -1,0 +1,30 @@
+use Rattle.std.proofs.Common.{List, ℕ, length, refl, sym, ◌∙◌, ap, subst, ◌≡◌, ◌⊎◌}
+use Rattle.std.proofs.lemmas.Result.{on_ok_weaker}
+use Rattle.blob_base.specs.Bytes.{resized}
+use Rattle.blob_base.proofs.Bytes.{length-resized}
+use Rattle.blob_base.specs.Refusals.{refused}
+use Rattle.blob_disk.proofs.Adding.{current_now, cut_so}
+use Rattle.blob_disk.proofs.calls.resize.Goals as goal
+use Rattle.blob_faulty.specs.Faults.{resize_fate}
+use Rattle.blob_faulty.specs.Recorded.{recorded_resize}
+use Rattle.blob_faulty.specs.Wrapper.{config_of, inside, rng_of, size_of}
+use Rattle.blob_memory.specs.Store.{live, place}
+
+pub returns : goal.returns
+returns g c =
+    let e = c.resize.ensures in
+    let b = c.args.blob.now in
+    let w = c.args.store.now in
+    let stream = g.R.Rng.stream (rng_of w) in
+    let answer = refused c.resize.result in
+    let fate = (resize_fate (config_of w).resize_rate (size_of b) c.args.len stream).0 in
+    let es = recorded_resize fate c.args.len answer in
+    let now = current_now b w c.requires.named c.requires.there in
+    let s = cut_so b c.resize.new.self w c.resize.new.store es c.args.len c.requires.standing e.directory e.place e.numbers.config
+    (e.size_after refl ∙ c.sizes.ensures.resizes fate (size_of b) (live (inside b)) c.args.len answer c.requires.tracked ∙ sym (ap (λ (x : List ℕ). length x) (e.live_after refl)))
+    (subst (λ (x : List ℕ). (x ≡ live (inside b)) ⊎ (x ≡ resized (live (inside b)) c.args.len)) (sym (e.live_after refl)) (c.live_bytes.ensures.resizes (config_of w).resize_rate (size_of b) c.args.len stream (live (inside b)) answer c.requires.whole))
+    (λ t x. c.entries.ensures.resizes (config_of w).resize_rate (size_of b) c.args.len stream answer t c.requires.whole x)
+    (λ f stands. c.recorded.ensures.stands w c.resize.new.store (place (inside b)) es f now e.directory stands (e.recorded_after refl))
+    (λ f t stands. c.recorded.ensures.left w c.resize.new.store (place (inside b)) es f t now e.directory stands (e.recorded_after refl))
+    in
+    record { len = on_ok_weaker c.resize.result (λ h. ap (λ (x : List ℕ). length x) h ∙ length-resized (live (inside b)) c.args.len) e.live; others = s.others; keeps = s.keeps; crash = s.crash }

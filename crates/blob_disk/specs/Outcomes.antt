@@ -1,0 +1,83 @@
+-- What a crash may leave of a file over the fault wrapper.
+use Rattle.std.specs.Prelude.{◌≡◌, ◌⊎◌, ℕ, List, Option, Some, None, length, codes}
+use Rattle.std.specs.Coded.{Coded-set, coded_ℕ, Unit-prop}
+use Rattle.blob_base.specs.declared.layout.Layout.TheVariants.{V1}
+use Rattle.blob_base.specs.Directory.{Incarnation}
+use Rattle.blob_base.specs.Opening.{place_of}
+use Rattle.blob_base.specs.Files.{Files}
+use Rattle.blob_base.specs.Log.{Choices}
+use Rattle.blob_base.specs.Pending.{Pending}
+use Rattle.blob_base.specs.Places.{Place}
+use Rattle.blob_base.specs.Rates.{Rate}
+use Rattle.blob_base.specs.Stands.{replayed_at}
+use Rattle.blob_faulty.specs.Certain.{IsNever, partial_resizes}
+use Rattle.blob_faulty.specs.Wrapper.{Stands, inner_of, config_of, pending_of, inside, size_of}
+use Rattle.blob_faulty.specs.declared.blob.Blob as faulty_blob
+use Rattle.blob_faulty.specs.declared.storage.Storage as faulty
+use Rattle.blob_memory.specs.Store.{directory, durable, live, place}
+use Rattle.blob_memory.specs.declared.blob.Blob as memory_blob
+use Rattle.blob_memory.specs.declared.storage.Storage as memory
+
+-- a wrapper over a memory store, and a handle on one of its blobs
+abbrev pub Wrapper : Type 0 → Type 0
+Wrapper R = faulty.Storage memory.Storage R Place
+
+abbrev pub Opened : Type 0
+Opened = faulty_blob.Blob memory_blob.Blob
+
+-- all that was written, as where the process alone dies, or what some choices keep of what is pending
+abbrev pub MayLeave : List ℕ → List Pending → Option (List ℕ) → List ℕ → Type 0
+MayLeave live pending durable c = (c ≡ live) ⊎ ((t : Choices) × (replayed_at t pending durable ≡ Some c))
+
+-- what a crash of the machine leaves of the blob that a handle is on, by some choices
+abbrev pub IsDrawn : {R : Type 0} → Opened → Wrapper R → List ℕ → Type 0
+IsDrawn b w c = (t : Choices) × (replayed_at t (pending_of (λ o. o) w (place (inside b))) (durable (inner_of w) (place (inside b))) ≡ Some c)
+
+-- or of the process alone
+abbrev pub outcomes : {R : Type 0} → Opened → Wrapper R → List ℕ → Type 0
+outcomes b w = MayLeave (live (inside b)) (pending_of (λ o. o) w (place (inside b))) (durable (inner_of w) (place (inside b)))
+
+-- the wrapper stands for some files
+abbrev pub IsStanding : {R : Type 0} → Wrapper R → Type 0
+IsStanding w = ∥ ((files : Files) × Stands (λ o. o) (directory (inner_of w)) (durable (inner_of w)) w files) ∥₁
+
+-- the size that the handle tracks is that of its live bytes
+abbrev pub IsTracked : Opened → Type 0
+IsTracked b = size_of b ≡ length (live (inside b))
+
+-- the disk's name has an incarnation of version 0, and the handle is on it
+abbrev pub IsNamed : {R : Type 0} → Opened → Wrapper R → Type 0
+IsNamed b w = (directory (inner_of w)).file (codes "disk") (codes "0") ≡ Some (Incarnation (place (inside b)).number V1 0)
+
+abbrev pub IsThere : Opened → Type 0
+IsThere b = place (inside b) ≡ place_of (codes "disk") (codes "0") (place (inside b)).number V1
+
+-- no resize fails in part
+abbrev pub IsWhole : {R : Type 0} → Wrapper R → Type 0
+IsWhole w = IsNever (partial_resizes (config_of w).resize_rate)
+
+never_prop : (rate : Option Rate) → IsProp (IsNever rate)
+never_prop None = Unit-prop
+never_prop (Some rate) = Coded-set coded_ℕ rate.numerator 0
+
+pub whole_prop : {R : Type 0} (w : Wrapper R) → IsProp (IsWhole w)
+whole_prop w = never_prop (partial_resizes (config_of w).resize_rate)
+
+-- a handle on the file's blob, which is current
+pub record IsFile {R : Type 0} (b : Opened) (w : Wrapper R) : Type 0 where
+  pub standing : IsStanding w
+  pub tracked : IsTracked b
+  pub named : IsNamed b w
+  pub there : IsThere b
+  pub whole : IsWhole w
+
+-- what a call leaves as it was
+pub record Keeps {R : Type 0} (b : Opened) (w : Wrapper R) (b' : Opened) (w' : Wrapper R) : Type 0 where
+  pub standing : IsStanding w → IsStanding w'
+  pub tracked : IsTracked b → IsTracked b'
+  pub directory : directory (inner_of w') ≡ directory (inner_of w)
+  pub place : place (inside b') ≡ place (inside b)
+  pub config : config_of w' ≡ config_of w
+  pub named : IsNamed b w → IsNamed b' w'
+  pub there : IsThere b → IsThere b'
+  pub whole : IsWhole w → IsWhole w'

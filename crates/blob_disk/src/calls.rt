@@ -1,0 +1,161 @@
+//! What a disk asks of the wrapper, each by what it makes of the outcomes of a crash.
+ghost use Rattle.std.specs.Prelude.{◌≡◌, ◌⊎◌, ◌≤◌, ◌<◌, ℕ, List, Some, false, length, OnOk, OnErr};
+ghost use Rattle.blob_base.specs.Bytes.{written};
+ghost use Rattle.blob_faulty.specs.Wrapper.{inside, inner_of, KeepsRecords};
+ghost use Rattle.blob_memory.specs.Store.{live, place, durable};
+ghost use Rattle.sqlite_disk.specs.Disk.{Holds, Only, Torn, Mixed, Cut, Follows, MoreFaults};
+ghost use Rattle.sqlite_disk.specs.Refusal.{is_no_room};
+ghost use Rattle.blob_disk.specs.Outcomes.{Keeps, IsFile, IsDrawn, IsNamed, IsThere, outcomes};
+
+use crate::{NAME, PARTITION};
+use blob_base::{Blob, Error, IoBufs, ReadOptions, Storage, WriteOptions};
+use blob_faulty::laws::current_handles::{found, live_bytes, sizes};
+use blob_faulty::laws::kept_records;
+use blob_faulty::laws::outcomes::{entries, recorded};
+use rand_core::Rng;
+use std::alloc::Global;
+use std::io;
+
+type Wrapper<R> = blob_faulty::Storage<blob_memory::Storage, R>;
+
+type Handle = blob_faulty::Blob<blob_memory::Blob>;
+
+/// Counts a call that failed, and says why.
+pub(crate) fn count(faults: &mut u64, error: Error) -> io::Error
+    ensures kind { is_no_room result ≡ false }
+    ensures more { MoreFaults faults.old faults.new }
+    ensures grows { faults.old ≤ faults.new }
+{
+    *faults = faults.saturating_add(1);
+    match error {
+        Error::Memory(_) => io::ErrorKind::OutOfMemory.into(),
+        _ => io::Error::other("a fault of the blob"),
+    }
+}
+
+/// The bytes at an offset.
+pub(crate) fn read<R: Rng>(
+    store: &mut Wrapper<R>,
+    blob: &Handle,
+    at: usize,
+    buf: &mut [u8],
+) -> Result<(), Error>
+    ensures bytes { OnOk result (Holds (live (inside blob.now)) at buf.new) }
+    ensures keeps { Keeps blob.now store.old blob.now store.new }
+    ensures crash { (c : List ℕ) → outcomes blob.now store.new c → outcomes blob.now store.old c }
+{
+    kept_records::<blob_memory::Storage, R>();
+    let read = blob.read_at(store, at as u64, buf.len(), ReadOptions {})?;
+    buf.copy_from_slice(&read.coalesce());
+    Ok(())
+}
+
+/// A plain write of bytes at an offset.
+fn write_bufs<R: Rng>(
+    store: &mut Wrapper<R>,
+    blob: &mut Handle,
+    at: usize,
+    bytes: IoBufs,
+) -> Result<(), Error>
+    requires { IsFile blob.old store.old }
+    ensures written { OnOk result (live (inside blob.new) ≡ written (live (inside blob.old)) at bytes) }
+    ensures others { Mixed at bytes (live (inside blob.old)) (live (inside blob.new)) }
+    ensures keeps { Keeps blob.old store.old blob.new store.new }
+    ensures crash { Follows (Mixed at bytes) (outcomes blob.old store.old) (outcomes blob.new store.new) }
+{
+    recorded::<blob_memory::Storage, R>();
+    entries();
+    found::<R>();
+    sizes();
+    live_bytes();
+    blob.write_at(store, at as u64, bytes, WriteOptions::default())
+}
+
+/// The same of borrowed bytes.
+pub(crate) fn write<R: Rng>(
+    store: &mut Wrapper<R>,
+    blob: &mut Handle,
+    alloc: Global,
+    at: usize,
+    bytes: &[u8],
+) -> Result<(), Error>
+    requires { IsFile blob.old store.old }
+    ensures written { OnOk result (0 < length bytes.now → Holds (live (inside blob.new)) at bytes.now) }
+    ensures others { Torn at (length bytes.now) (live (inside blob.old)) (live (inside blob.new)) }
+    ensures keeps { Keeps blob.old store.old blob.new store.new }
+    ensures mixed { Follows (Mixed at bytes.now) (outcomes blob.old store.old) (outcomes blob.new store.new) }
+    ensures crash { Follows (Torn at (length bytes.now)) (outcomes blob.old store.old) (outcomes blob.new store.new) }
+{
+    let bufs = IoBufs::from_vec(Vec::from_slice(alloc, bytes)?)?;
+    write_bufs(store, blob, at, bufs)
+}
+
+/// Makes the live bytes as long as `len`, or leaves them.
+pub(crate) fn resize<R: Rng>(
+    store: &mut Wrapper<R>,
+    blob: &mut Handle,
+    len: usize,
+) -> Result<(), Error>
+    requires { IsFile blob.old store.old }
+    ensures len { OnOk result (length (live (inside blob.new)) ≡ len) }
+    ensures others { Cut len (live (inside blob.old)) (live (inside blob.new)) }
+    ensures keeps { Keeps blob.old store.old blob.new store.new }
+    ensures crash { Follows (Cut len) (outcomes blob.old store.old) (outcomes blob.new store.new) }
+{
+    recorded::<blob_memory::Storage, R>();
+    entries();
+    sizes();
+    live_bytes();
+    blob.resize(store, len as u64)
+}
+
+/// Makes the live bytes durable.
+pub(crate) fn sync<R: Rng>(store: &mut Wrapper<R>, blob: &mut Handle) -> Result<(), Error>
+    ensures durable { OnOk result (Only (live (inside blob.old)) (outcomes blob.new store.new)) }
+    ensures keeps { Keeps blob.old store.old blob.new store.new }
+    ensures live { live (inside blob.new) ≡ live (inside blob.old) }
+    ensures crash { (c : List ℕ) → outcomes blob.new store.new c → outcomes blob.old store.old c }
+{
+    kept_records::<blob_memory::Storage, R>();
+    blob.sync(store)?;
+    Ok(())
+}
+
+/// Opens what is durable in the handle's place, or keeps the handle where it can't.
+fn reopen<R: Rng>(store: &mut Wrapper<R>, blob: &mut Handle) -> Result<(), Error>
+    requires named { IsNamed blob.old store.old }
+    requires there { IsThere blob.old }
+    ensures found { OnOk result (durable (inner_of store.old) (place (inside blob.old)) ≡ Some (live (inside blob.new))) }
+    ensures kept { OnErr result (live (inside blob.new) ≡ live (inside blob.old)) }
+    ensures live { (live (inside blob.new) ≡ live (inside blob.old)) ⊎ (durable (inner_of store.old) (place (inside blob.old)) ≡ Some (live (inside blob.new))) }
+    ensures durable { durable (inner_of store.new) ≡ durable (inner_of store.old) }
+    ensures records { KeepsRecords (λ o. o) store.old store.new }
+    ensures keeps { Keeps blob.old store.old blob.new store.new }
+{
+    kept_records::<blob_memory::Storage, R>();
+    match store.open(PARTITION, NAME) {
+        Ok((opened, _)) => {
+            *blob = opened;
+            Ok(())
+        }
+        Err(error) => Err(error),
+    }
+}
+
+/// Loses what is drawn of what was not synced, and opens what is left. Where memory runs out for either, all that was written
+/// stays, as where the process alone dies.
+pub(crate) fn lose<R: Rng>(store: &mut Wrapper<R>, blob: &mut Handle) -> Result<(), Error>
+    requires named { IsNamed blob.old store.old }
+    requires there { IsThere blob.old }
+    ensures lost { OnOk result (IsDrawn blob.old store.old (live (inside blob.new))) }
+    ensures kept { OnErr result (live (inside blob.new) ≡ live (inside blob.old)) }
+    ensures left { outcomes blob.old store.old (live (inside blob.new)) }
+    ensures keeps { Keeps blob.old store.old blob.new store.new }
+    ensures crash { (c : List ℕ) → outcomes blob.new store.new c → outcomes blob.old store.old c }
+{
+    kept_records::<blob_memory::Storage, R>();
+    match store.crash() {
+        Ok(_) => reopen(store, blob),
+        Err(error) => Err(error),
+    }
+}

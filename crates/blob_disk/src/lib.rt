@@ -1,0 +1,93 @@
+//! A database's file over the fault wrapper: writes, resizes, reads and syncs fail by its draws, and a crash keeps of what wasn't
+//! synced what the generator draws.
+//!
+//! A disk of the kit's databases (`sqlite_disk::Disk`) says what a read returns now and what a crash now may leave. Here that is
+//! the live bytes of the one blob, all of them, as where the process alone dies; or, for some choices, what its pending list
+//! replays to over its durable bytes.
+#![tactic(auto)]
+
+ghost use Rattle.std.specs.Prelude.{◌≡◌, ℕ, List, [], true, IfOk};
+ghost use Rattle.blob_faulty.specs.Certain.{IsNever, partial_resizes};
+ghost use Rattle.blob_disk.specs.Outcomes.{IsNamed, IsStanding, IsThere, IsTracked, IsWhole, whole_prop};
+
+mod calls;
+mod disk;
+pub mod laws;
+
+use blob_base::{Error, Storage};
+use blob_faulty::Config;
+use blob_faulty::laws::names::opens;
+use rand_core::Rng;
+use sqlite_disk::Disk;
+use std::alloc::Global;
+
+const PARTITION: &str = "disk";
+
+const NAME: &[u8] = b"0";
+
+/// A wrapper over a memory store of its own, and the handle on its one blob.
+///
+/// A resize either reaches the length that was asked for or changes nothing: the configuration's `partial_rate` is zero. A crash
+/// keeps a resize that failed in part as one to the length that it reached, also where the durable bytes are shorter than both
+/// lengths, and no resize of those to the length that was asked for leaves that (`laws::partial_resizes`). What a database is
+/// proved on has no such file.
+#[derive(Drop)]
+pub struct BlobDisk<R: Rng> {
+    store: blob_faulty::Storage<blob_memory::Storage, R>,
+    blob: blob_faulty::Blob<blob_memory::Blob>,
+    alloc: Global,
+    is_mixing: bool,
+    usable: bool,
+    faults: u64,
+    caught: u64,
+    ghost standing: { IsStanding store },
+    ghost tracked: { IsTracked blob },
+    ghost named: { IsNamed blob store },
+    ghost there: { IsThere blob },
+    ghost whole: { IsWhole store } by { whole_prop store },
+}
+
+impl<R: Rng + Drop> BlobDisk<R> {
+    /// An empty file, whose faults are drawn by these rates from here on. The open itself draws nothing.
+    ///
+    /// A disk that is mixing says that a crash leaves each byte of a write old or new, and so lets a database commit by one sync.
+    /// Each disk keeps that; one that doesn't say so is for databases that commit by two.
+    ///
+    /// # Errors
+    ///
+    /// Those of the open, by which nothing is injected.
+    pub fn new(alloc: Global, rng: R, config: Config, is_mixing: bool) -> Result<BlobDisk<R>, Error>
+        requires { IsNever (partial_resizes config.resize_rate) }
+        ensures empty { IfOk result (λ disk. ⟦<BlobDisk<R> as Disk>⟧.seen disk ≡ []) }
+        ensures usable { IfOk result (λ disk. ⟦<BlobDisk<R> as Disk>⟧.is_usable disk ≡ true) }
+        ensures mixing { IfOk result (λ disk. ⟦<BlobDisk<R> as Disk>⟧.is_mixing disk ≡ is_mixing) }
+    {
+        let memory = blob_memory::Storage::new(alloc);
+        let mut store = blob_faulty::Storage::new(alloc, memory, rng, Config::default());
+        opens::<blob_memory::Storage, R>();
+        let (blob, _) = store.open(PARTITION, NAME)?;
+        store.set_config(config);
+        Ok(BlobDisk {
+            store,
+            blob,
+            alloc,
+            is_mixing,
+            usable: true,
+            faults: 0,
+            caught: 0,
+        })
+    }
+}
+
+impl<R: Rng> BlobDisk<R> {
+    /// The rates of the faults from here on. The file stays, and what a crash may leave of it.
+    pub fn set_config(&mut self, config: Config)
+        requires { IsNever (partial_resizes config.resize_rate) }
+        ensures seen { ⟦<BlobDisk<R> as Disk>⟧.seen self.new ≡ ⟦<BlobDisk<R> as Disk>⟧.seen self.old }
+        ensures outcomes { (c : List ℕ) → ⟦<BlobDisk<R> as Disk>⟧.may_leave self.new c → ⟦<BlobDisk<R> as Disk>⟧.may_leave self.old c }
+        ensures usable { ⟦<BlobDisk<R> as Disk>⟧.is_usable self.new ≡ ⟦<BlobDisk<R> as Disk>⟧.is_usable self.old }
+        ensures mixing { ⟦<BlobDisk<R> as Disk>⟧.is_mixing self.new ≡ ⟦<BlobDisk<R> as Disk>⟧.is_mixing self.old }
+    {
+        self.store.set_config(config);
+    }
+}
