@@ -1,5 +1,7 @@
 -- What a crash needs to know of a write in order to draw for it.
-use Rattle.std.specs.Prelude.{ℕ, List, [], ◌∷◌, length, map}
+use Rattle.std.specs.Prelude.{◌≡◌, ℕ, ◌≤◌, Bool, List, [], ◌∷◌, length, map, vec_capacity}
+use Rattle.std.specs.declared.vec.Vec.{Vec}
+use Rattle.std.specs.declared.alloc.Global.{Global}
 use Rattle.rand_core.specs.Stream.{Stream}
 use Rattle.blob_base.specs.Draws.{Row, with_row, positions}
 use Rattle.blob_base.specs.Log.{Need}
@@ -34,3 +36,8 @@ rows_drawn s [] = ([], s)
 rows_drawn s (d ∷ ds) =
     let p = positions d.mode d.rate d.offset d.len s in
     with_row (d.number, p.0) (rows_drawn p.1 ds)
+
+-- an empty list of choices with room for so many
+pub record IsBlank (len : ℕ) (chosen : Vec Bool Global) : Type 0 where
+  pub none : chosen.items ≡ []
+  pub room : len ≤ vec_capacity chosen

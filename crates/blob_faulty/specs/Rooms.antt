@@ -1,5 +1,5 @@
 -- Room in a pending list for durable ranges that are still to be laid.
-use Rattle.std.specs.Prelude.{ℕ, ◌+◌, ◌≤◌, Bool, ◌&&◌, All, count_by, length, nat_lt, vec_len, vec_capacity}
+use Rattle.std.specs.Prelude.{ℕ, ◌+◌, ◌<◌, ◌≤◌, ◌^◌, [], ◌∷◌, Bool, ◌&&◌, All, count_by, length, nat_lt, vec_len, vec_capacity}
 use Rattle.std.specs.declared.vec.Vec.{Vec}
 use Rattle.std.specs.declared.alloc.Global.{Global}
 use Rattle.blob_base.specs.Holes.{Holes, AreApart}
@@ -30,3 +30,12 @@ HasRoomFor hs (entry.Marker k) = Unit {0}
 pub record HasRoomsFor (hs : Holes) (list : Vec Entry Global) : Type 0 where
   pub entries : vec_len list + length hs ≤ vec_capacity list
   pub holes : All (HasRoomFor hs) list.items
+
+-- a durable range of so many bytes can be cut out of what has this room
+pub record CanCut (start len : ℕ) (room : Holes → Type 0) : Type 0 where
+  pub fits : start + len < 2 ^ 64
+  pub room_for : room ((start, start + len) ∷ [])
+
+-- what had room for that range and for others has room for those
+abbrev pub KeepsRest : ℕ → ℕ → (Holes → Type 0) → (Holes → Type 0) → Type 0
+KeepsRest start len before after = (later : Holes) → before ((start, start + len) ∷ later) → after later

@@ -6,10 +6,10 @@ ghost use Rattle.blob_base.specs.Places.{Place};
 ghost use Rattle.blob_base.specs.Refusals.{IsMemory};
 ghost use Rattle.blob_base.specs.Stands.{replayed_at};
 ghost use Rattle.blob_faulty.specs.Lists.{held, held_by};
-ghost use Rattle.blob_faulty.specs.Replays.{widest_of_all, IsReady};
+ghost use Rattle.blob_faulty.specs.Replays.{widest_of_all, IsReady, KeepsRoom};
 ghost use Rattle.blob_faulty.specs.Rows.{table_of};
 ghost use Rattle.blob_faulty.specs.Wrapper.{KeepsNumbers, KeepsRecords, Stands, inner_of, rng_of, pending_of};
-ghost use Rattle.blob_memory.specs.Store.{directory, durable, HasCrashRoom};
+ghost use Rattle.blob_memory.specs.Store.{directory, durable};
 
 use crate::entries::{end, unmarked, widest};
 use crate::gather::gather;
@@ -41,8 +41,7 @@ fn reserve_list(
 ) -> Result<(), AllocError>
     ensures ready { OnOk result (IsReady inner.new (held_by (λ o. o) list.now)) }
     ensures durable { durable inner.new ≡ durable inner.old }
-    ensures directory { directory inner.new ≡ directory inner.old }
-    ensures room { (o : Place) (n : ℕ) → HasCrashRoom inner.old o n → HasCrashRoom inner.new o n }
+    ensures kept { KeepsRoom inner.old inner.new }
 {
     if !inner.is_current(&list.origin) {
         return Ok(());

@@ -4,7 +4,7 @@ ghost use Rattle.blob_base.specs.Holes.{Holes};
 ghost use Rattle.blob_base.specs.Pending.{cut_by, laid, has_barrier, finished, ends};
 ghost use Rattle.blob_faulty.specs.Marks.{marks_of};
 ghost use Rattle.blob_faulty.specs.Replays.{unmarked, widest};
-ghost use Rattle.blob_faulty.specs.Rooms.{AreWithin, HasRoomFor, HasRoomsFor};
+ghost use Rattle.blob_faulty.specs.Rooms.{AreWithin, HasRoomFor, HasRoomsFor, CanCut, KeepsRest};
 ghost use Rattle.blob_faulty.specs.Views.{view, views, pared_by};
 
 use crate::entry::{DurableRange, Entry};
@@ -44,10 +44,9 @@ pub fn reserve_ranges(
 
 /// Each write gives up what a durable range covers.
 fn cover_each(entries: &mut [Entry], start: u64, len: u64)
-    requires fits { start + len < 2 ^ 64 }
-    requires room { All (HasRoomFor ((start, start + len) ∷ [])) entries.old }
+    requires { CanCut start len (λ hs. All (HasRoomFor hs) entries.old) }
     ensures views { views entries.new ≡ map (pared_by start len) (views entries.old) }
-    ensures room { (later : Holes) → All (HasRoomFor ((start, start + len) ∷ later)) entries.old → All (HasRoomFor later) entries.new }
+    ensures room { KeepsRest start len (λ hs. All (HasRoomFor hs) entries.old) (λ hs. All (HasRoomFor hs) entries.new) }
 {
     for entry in entries.iter_mut() {
         entry.cover(start, len);
@@ -56,10 +55,9 @@ fn cover_each(entries: &mut [Entry], start: u64, len: u64)
 
 /// Each write of a vector gives up what a durable range covers.
 fn cover_writes(entries: &mut Vec<Entry>, start: u64, len: u64)
-    requires fits { start + len < 2 ^ 64 }
-    requires room { All (HasRoomFor ((start, start + len) ∷ [])) entries.old.items }
+    requires { CanCut start len (λ hs. All (HasRoomFor hs) entries.old.items) }
     ensures views { views entries.new.items ≡ map (pared_by start len) (views entries.old.items) }
-    ensures room { (later : Holes) → All (HasRoomFor ((start, start + len) ∷ later)) entries.old.items → All (HasRoomFor later) entries.new.items }
+    ensures room { KeepsRest start len (λ hs. All (HasRoomFor hs) entries.old.items) (λ hs. All (HasRoomFor hs) entries.new.items) }
     ensures capacity { vec_capacity entries.new ≡ vec_capacity entries.old }
     ensures len { vec_len entries.new ≡ vec_len entries.old }
 {
@@ -68,10 +66,9 @@ fn cover_writes(entries: &mut Vec<Entry>, start: u64, len: u64)
 
 /// Each write gives up what a durable range covers, and one that is covered wholly goes.
 fn cover_all(entries: &mut Vec<Entry>, start: u64, len: u64)
-    requires fits { start + len < 2 ^ 64 }
-    requires room { HasRoomsFor ((start, start + len) ∷ []) entries.old }
+    requires { CanCut start len (λ hs. HasRoomsFor hs entries.old) }
     ensures views { views entries.new.items ≡ cut_by start len (views entries.old.items) }
-    ensures room { (later : Holes) → HasRoomsFor ((start, start + len) ∷ later) entries.old → HasRoomsFor later entries.new }
+    ensures room { KeepsRest start len (λ hs. HasRoomsFor hs entries.old) (λ hs. HasRoomsFor hs entries.new) }
     ensures capacity { vec_capacity entries.old ≤ vec_capacity entries.new }
     ensures len { vec_len entries.new ≤ vec_len entries.old }
 {
@@ -105,12 +102,11 @@ pub fn push(entries: &mut Vec<Entry>, entry: Entry)
 /// A durable range: the writes give up what it covers, and it is queued where a crash would undo it. Only there its bytes
 /// have to be in `copy`.
 pub fn lay(entries: &mut Vec<Entry>, offset: u64, len: u64, copy: IoBufs)
-    requires fits { offset + len < 2 ^ 64 }
+    requires room { CanCut offset len (λ hs. HasRoomsFor hs entries.old) }
     requires copied { length copy ≤ len }
-    requires room { HasRoomsFor ((offset, offset + len) ∷ []) entries.old }
     ensures views { (bytes : List ℕ) → length bytes ≡ len → (has_barrier (views entries.old.items) ≡ true → copy ≡ bytes) → views entries.new.items ≡ laid offset bytes (views entries.old.items) }
     ensures marks { marks_of (views entries.new.items) ≡ marks_of (views entries.old.items) }
-    ensures room { (later : Holes) → HasRoomsFor ((offset, offset + len) ∷ later) entries.old → HasRoomsFor later entries.new }
+    ensures room { KeepsRest offset len (λ hs. HasRoomsFor hs entries.old) (λ hs. HasRoomsFor hs entries.new) }
 {
     let queued = has_barrier(entries.as_slice());
     cover_all(entries, offset, len);

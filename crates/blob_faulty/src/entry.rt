@@ -29,15 +29,14 @@ impl Entry {
     ghost use Rattle.blob_base.specs.Holes.{Holes};
     ghost use Rattle.blob_base.specs.Pending.{is_marker, is_barrier, is_mark, end_of};
     ghost use Rattle.blob_faulty.specs.Replays.{width};
-    ghost use Rattle.blob_faulty.specs.Rooms.{AreWithin, HasRoomFor};
+    ghost use Rattle.blob_faulty.specs.Rooms.{AreWithin, HasRoomFor, CanCut, KeepsRest};
     ghost use Rattle.blob_faulty.specs.Views.{view, pared_by, is_left};
 
     /// A write gives up what a durable range covers.
     pub fn cover(&mut self, start: u64, len: u64)
-        requires fits { start + len < 2 ^ 64 }
-        requires room { HasRoomFor ((start, start + len) ∷ []) self.old }
+        requires { CanCut start len (λ hs. HasRoomFor hs self.old) }
         ensures view { view self.new ≡ pared_by start len (view self.old) }
-        ensures room { (later : Holes) → HasRoomFor ((start, start + len) ∷ later) self.old → HasRoomFor later self.new }
+        ensures room { KeepsRest start len (λ hs. HasRoomFor hs self.old) (λ hs. HasRoomFor hs self.new) }
     {
         if let Entry::Write(write) = self {
             write.cover(start, len);

@@ -42,7 +42,7 @@ impl<O> Incarnation<O> {
     ghost use Rattle.blob_base.specs.Holes.{Holes};
     ghost use Rattle.blob_base.specs.Pending.{Marker, laid, finished, has_barrier, is_marker};
     ghost use Rattle.blob_faulty.specs.Lists.{Becomes, HasRoom};
-    ghost use Rattle.blob_faulty.specs.Rooms.{HasRoomsFor};
+    ghost use Rattle.blob_faulty.specs.Rooms.{HasRoomsFor, CanCut, KeepsRest};
     ghost use Rattle.blob_faulty.specs.Views.{view};
 
     /// Nothing is pending of it yet.
@@ -104,13 +104,12 @@ impl<O> Incarnation<O> {
 
     /// A durable range, where there is room for it. Only where it is queued its bytes have to be in `copy`.
     pub fn lay(&mut self, offset: u64, len: u64, copy: IoBufs)
-        requires fits { offset + len < 2 ^ 64 }
+        requires room { CanCut offset len (λ hs. HasRoomsFor hs self.old.entries) }
         requires copied { length copy ≤ len }
-        requires room { HasRoomsFor ((offset, offset + len) ∷ []) self.old.entries }
         ensures laid { (bytes : List ℕ) → length bytes ≡ len → (has_barrier (views self.old.entries.items) ≡ true → copy ≡ bytes) →
             Becomes self.old self.new (laid offset bytes (views self.old.entries.items)) }
         ensures origin { self.new.origin ≡ self.old.origin }
-        ensures room { (later : Holes) → HasRoomsFor ((offset, offset + len) ∷ later) self.old.entries → HasRoomsFor later self.new.entries }
+        ensures room { KeepsRest offset len (λ hs. HasRoomsFor hs self.old.entries) (λ hs. HasRoomsFor hs self.new.entries) }
     {
         entries::lay(&mut self.entries, offset, len, copy);
     }

@@ -7,6 +7,7 @@ ghost use Rattle.blob_base.specs.Holes.{Holes};
 ghost use Rattle.blob_base.specs.Order.{has_list};
 ghost use Rattle.blob_base.specs.Pending.{Marker, laid, finished, has_barrier, is_marker};
 ghost use Rattle.blob_base.specs.Refusals.{IsMemory};
+ghost use Rattle.blob_faulty.specs.Rooms.{CanCut, KeepsRest};
 ghost use Rattle.blob_faulty.specs.Views.{view};
 ghost use Rattle.blob_faulty.specs.Lists.{held, list_of, IsAt, HasRoomIn, IsRoomAt, HasRangesAt, SameLists, ChangesAt, AreDistinct, finished_in, AreNoted, has_ended};
 
@@ -17,7 +18,7 @@ use crate::room::Room;
 use blob_base::{Durable, Error, IoBufs};
 use std::alloc::{AllocError, Global};
 
-/// Pending lists, no two of one origin.
+/// Pending lists, no two of one origin. It is a type of its own for this fact alone, which the check keeps through each call.
 #[derive(Drop)]
 pub struct Distinct<O> {
     pub lists: Vec<Incarnation<O>>,
@@ -194,12 +195,11 @@ impl<S: Durable> Lists<S> {
     /// `copy`.
     pub fn lay(&mut self, i: usize, offset: u64, len: u64, copy: IoBufs)
         requires inside { i < vec_len self.old.all.lists }
-        requires fits { offset + len < 2 ^ 64 }
+        requires room { CanCut offset len (HasRangesAt self.old.all.lists.items i) }
         requires copied { length copy ≤ len }
-        requires room { HasRangesAt self.old.all.lists.items i ((offset, offset + len) ∷ []) }
         ensures lists { (o : Place) → IsAt (held S.place self.old.all.lists.items) i o → (bytes : List ℕ) → length bytes ≡ len → (has_barrier (list_of S.place self.old.all.lists.items o) ≡ true → copy ≡ bytes) → (a : Place) → list_of S.place self.new.all.lists.items a ≡ with_at (list_of S.place self.old.all.lists.items) o (laid offset bytes (list_of S.place self.old.all.lists.items o)) a }
         ensures at { (o : Place) → IsAt (held S.place self.old.all.lists.items) i o → IsAt (held S.place self.new.all.lists.items) i o }
-        ensures room { (later : Holes) → HasRangesAt self.old.all.lists.items i ((offset, offset + len) ∷ later) → HasRangesAt self.new.all.lists.items i later }
+        ensures room { KeepsRest offset len (HasRangesAt self.old.all.lists.items i) (HasRangesAt self.new.all.lists.items i) }
         ensures len { vec_len self.new.all.lists ≡ vec_len self.old.all.lists }
     {
         self.all.lists[i].lay(offset, len, copy);

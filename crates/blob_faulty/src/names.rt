@@ -71,8 +71,8 @@ impl<S: blob_base::Storage, R> Storage<S, R> {
 }
 
 impl<S: blob_base::Storage, R: Rng> Storage<S, R> {
-    /// Draws the remove rate, then removes the blob, or with no name the whole partition, and retires what is pending of the
-    /// incarnations that end by it. What is pending of incarnations that ended earlier stays, and changes no byte.
+    /// The trait's `remove` under a name of its own, which answers that it retired: draws the remove rate, then removes the
+    /// blob, or with no name the whole partition, and retires what is pending of the incarnations that end by it. What is pending of incarnations that ended earlier stays, and changes no byte.
     ///
     /// # Errors
     ///

@@ -11,7 +11,7 @@ ghost use Rattle.blob_base.specs.Runs.{picked};
 ghost use Rattle.blob_base.specs.Stands.{replayed_at};
 ghost use Rattle.blob_faulty.specs.Lists.{held, held_by, list_of};
 ghost use Rattle.blob_faulty.specs.Ranges.{ranges};
-ghost use Rattle.blob_faulty.specs.Replays.{width, widest, widest_of_all, IsReady};
+ghost use Rattle.blob_faulty.specs.Replays.{width, widest, widest_of_all, IsReady, KeepsRoom, KeepsRooms, CanReplay};
 ghost use Rattle.blob_faulty.specs.Rows.{rows_in, AreNumbered};
 ghost use Rattle.blob_faulty.specs.Views.{view, views};
 ghost use Rattle.blob_memory.specs.Store.{directory, durable, HasCrashRoom};
@@ -94,8 +94,7 @@ fn lay_chosen(
     requires counted { offset + length bytes.now + origin.now.start < 2 ^ 64 }
     requires room { HasCrashRoom inner.old origin.now (offset + length bytes.now) }
     ensures durable { durable inner.new ≡ changed (durable inner.old) origin.now (λ x. overlay_by x offset bytes.now (picked chosen.now)) }
-    ensures directory { directory inner.new ≡ directory inner.old }
-    ensures room { (o : Place) (n : ℕ) → HasCrashRoom inner.old o n → HasCrashRoom inner.new o n }
+    ensures kept { KeepsRoom inner.old inner.new }
 {
     inner.retain_write(origin, offset, bytes, chosen).unwrap();
 }
@@ -109,13 +108,9 @@ fn replay_entry(
     chosen: &mut Vec<bool>,
 )
     requires numbered { AreNumbered rows.now }
-    requires counted { end_of (view entry.now) + origin.now.start < 2 ^ 64 }
-    requires room { HasCrashRoom inner.old origin.now (end_of (view entry.now)) }
-    requires width { width (view entry.now) ≤ vec_capacity chosen.old }
+    requires room { CanReplay inner.old origin.now (end_of (view entry.now)) (width (view entry.now)) chosen.old }
     ensures durable { (o : Place) → durable inner.new o ≡ changed (durable inner.old) origin.now (λ x. replayed x (view entry.now) (chosen_by (rows_in rows.now))) o }
-    ensures directory { directory inner.new ≡ directory inner.old }
-    ensures room { (o : Place) (n : ℕ) → HasCrashRoom inner.old o n → HasCrashRoom inner.new o n }
-    ensures capacity { vec_capacity chosen.old ≤ vec_capacity chosen.new }
+    ensures kept { KeepsRooms inner.old inner.new chosen.old chosen.new }
 {
     match entry {
         Entry::Write(write) => {
@@ -141,13 +136,9 @@ fn replay_entries(
 )
     requires unmarked { has_marker (views entries.now) ≡ false }
     requires numbered { AreNumbered rows.now }
-    requires counted { ends (views entries.now) + origin.now.start < 2 ^ 64 }
-    requires room { HasCrashRoom inner.old origin.now (ends (views entries.now)) }
-    requires width { widest (views entries.now) ≤ vec_capacity chosen.old }
+    requires room { CanReplay inner.old origin.now (ends (views entries.now)) (widest (views entries.now)) chosen.old }
     ensures durable { (o : Place) → durable inner.new o ≡ changed (durable inner.old) origin.now (λ x. replay (views entries.now) (chosen_by (rows_in rows.now)) x) o }
-    ensures directory { directory inner.new ≡ directory inner.old }
-    ensures room { (o : Place) (n : ℕ) → HasCrashRoom inner.old o n → HasCrashRoom inner.new o n }
-    ensures capacity { vec_capacity chosen.old ≤ vec_capacity chosen.new }
+    ensures kept { KeepsRooms inner.old inner.new chosen.old chosen.new }
 {
     for entry in entries {
         replay_entry(inner, origin, entry, rows, chosen);
@@ -165,9 +156,7 @@ fn replay_list(
     requires ready { IsReady inner.old (held_by (λ o. o) list.now) }
     requires width { widest (views list.now.entries.items) ≤ vec_capacity chosen.old }
     ensures durable { (o : Place) → durable inner.new o ≡ changed (durable inner.old) list.now.origin (λ x. replay (views list.now.entries.items) (chosen_by (rows_in rows.now)) x) o }
-    ensures directory { directory inner.new ≡ directory inner.old }
-    ensures room { (o : Place) (n : ℕ) → HasCrashRoom inner.old o n → HasCrashRoom inner.new o n }
-    ensures capacity { vec_capacity chosen.old ≤ vec_capacity chosen.new }
+    ensures kept { KeepsRooms inner.old inner.new chosen.old chosen.new }
 {
     if !inner.is_current(&list.origin) {
         return;

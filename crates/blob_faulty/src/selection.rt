@@ -2,6 +2,7 @@
 ghost use Rattle.std.specs.Prelude.{◌≡◌, ◌<◌, ◌≤◌, ◌+◌, ◌%◌, ◌^◌, ◌||◌, ◌==◌, ◌++◌, List, [], true, false, length, replicate, if◌then◌else◌, IfOk, OnErr, vec_len, vec_capacity};
 ghost use Rattle.blob_base.specs.Draws.{front, each, sectors, positions};
 ghost use Rattle.blob_base.specs.Rates.{sampled};
+ghost use Rattle.blob_faulty.specs.Drawings.{IsBlank};
 ghost use Rattle.blob_faulty.specs.Modes.{mode_of};
 
 use crate::mode::PartialWriteMode;
@@ -11,8 +12,7 @@ use std::alloc::{AllocError, Global};
 
 /// Each byte by itself.
 fn draw_each<R: Rng>(chosen: &mut Vec<bool>, rate: Probability, len: usize, rng: &mut R)
-    requires none { chosen.old.items ≡ [] }
-    requires room { len ≤ vec_capacity chosen.old }
+    requires blank { IsBlank len chosen.old }
     ensures { (chosen.new.items, R.stream rng.new) ≡ each rate len (R.stream rng.old) }
 {
     for i in 0..len {
@@ -34,8 +34,7 @@ fn lose(chosen: &mut Vec<bool>, count: usize)
 
 /// Byte by byte up to the first that is lost.
 fn draw_front<R: Rng>(chosen: &mut Vec<bool>, rate: Probability, len: usize, rng: &mut R)
-    requires none { chosen.old.items ≡ [] }
-    requires room { len ≤ vec_capacity chosen.old }
+    requires blank { IsBlank len chosen.old }
     ensures { (chosen.new.items, R.stream rng.new) ≡ front rate len (R.stream rng.old) }
 {
     for i in 0..len {
@@ -77,8 +76,7 @@ fn draw_sectors<R: Rng>(
 )
     requires some { 0 < size }
     requires fits { offset + len < 2 ^ 64 }
-    requires none { chosen.old.items ≡ [] }
-    requires room { len ≤ vec_capacity chosen.old }
+    requires blank { IsBlank len chosen.old }
     ensures { (chosen.new.items, R.stream rng.new) ≡ sectors rate size offset true false len (R.stream rng.old) }
 {
     let mut last = false;

@@ -29,7 +29,7 @@ impl PendingWrite {
     ghost use Rattle.std.specs.Prelude.{◌≡◌, ◌-◌, ◌∷◌, [], min, max, not, OnOk};
     ghost use Rattle.blob_base.specs.Log.{has_bare};
     ghost use Rattle.blob_base.specs.Holes.{Holes, dug_by, need_in};
-    ghost use Rattle.blob_faulty.specs.Rooms.{AreWithin, HasHolesFor};
+    ghost use Rattle.blob_faulty.specs.Rooms.{AreWithin, HasHolesFor, CanCut, KeepsRest};
     ghost use Rattle.blob_faulty.specs.Views.{write_of};
 
     /// The position after its last byte.
@@ -41,11 +41,10 @@ impl PendingWrite {
 
     /// The overlap with a durable range joins the holes.
     pub fn cover(&mut self, start: u64, len: u64)
-        requires fits { start + len < 2 ^ 64 }
-        requires room { HasHolesFor ((start, start + len) ∷ []) self.old }
+        requires { CanCut start len (λ hs. HasHolesFor hs self.old) }
         ensures holes { ranges self.new.holes.items ≡ dug_by start len (write_of self.old) (ranges self.old.holes.items) }
         ensures write { write_of self.new ≡ write_of self.old }
-        ensures room { (later : Holes) → HasHolesFor ((start, start + len) ∷ later) self.old → HasHolesFor later self.new }
+        ensures room { KeepsRest start len (λ hs. HasHolesFor hs self.old) (λ hs. HasHolesFor hs self.new) }
     {
         let first = start.max(self.offset);
         let end = (start + len).min(self.end());

@@ -1,18 +1,17 @@
-use Rattle.std.proofs.Common.{◌≡◌, ◌≤◌, ℕ, drop, vec_capacity}
+use Rattle.std.proofs.Common.{◌≡◌, drop}
 use Rattle.blob_base.specs.Draws.{chosen_by}
 use Rattle.blob_base.specs.Order.{ArePlacesApart}
 use Rattle.blob_base.specs.Places.{Place}
 use Rattle.blob_base.specs.Stands.{replayed_at}
 use Rattle.blob_faulty.specs.Lists.{held, list_of}
+use Rattle.blob_faulty.specs.Replays.{KeepsRooms}
 use Rattle.blob_faulty.specs.Rows.{rows_in}
-use Rattle.blob_memory.specs.Store.{directory, durable, HasCrashRoom}
+use Rattle.blob_memory.specs.Store.{durable}
 use Rattle.blob_faulty.proofs.replay.replay_all.Given as goal
 
 abbrev pub invariant-loop-list : goal.invariant-loop-list
 invariant-loop-list l = record {
   apart : ArePlacesApart (held (λ o. o) l.lists) → ArePlacesApart (held (λ o. o) (drop l.list-index l.lists));
   durable : ArePlacesApart (held (λ o. o) l.lists) → (o : Place) → replayed_at (chosen_by (rows_in l.rows)) (list_of (λ o. o) (drop l.list-index l.lists) o) (durable l.inner o) ≡ replayed_at (chosen_by (rows_in l.rows)) (list_of (λ o. o) l.lists o) (durable l.fn.inner o);
-  room : (o : Place) (n : ℕ) → HasCrashRoom l.fn.inner o n → HasCrashRoom l.inner o n;
-  capacity : vec_capacity l.fn.chosen ≤ vec_capacity l.chosen;
-  directory : directory l.inner ≡ directory l.fn.inner;
+  kept : KeepsRooms l.fn.inner l.inner l.fn.chosen l.chosen;
 }

@@ -12,21 +12,19 @@ use Rattle.blob_faulty.proofs.Replaying.{changed_same, changed_twice, fits_less,
 use Rattle.blob_faulty.proofs.Unmarked.{views_at, none_after, replay_more}
 use Rattle.blob_faulty.proofs.replay.replay_entries.Goals as goal
 
-pub replay_entry-requires-clause-counted : goal.replay_entry-requires-clause-counted
-replay_entry-requires-clause-counted c =
-    let h : c.loop-entry.entry-index < length c.args.entries.now = omega arith in
-    omega (arith, end_in c.args.entries.now c.loop-entry.entry-index c.entry-item.result h, ap (λ (e : Entry). end_of (view e)) c.entry-item.is, c.requires.counted)
-
 pub replay_entry-requires-clause-room : goal.replay_entry-requires-clause-room
 replay_entry-requires-clause-room c =
     let h : c.loop-entry.entry-index < length c.args.entries.now = omega arith in
-    let small : end_of (view c.entry-item.result) ≤ ends (views c.args.entries.now) = omega (arith, end_in c.args.entries.now c.loop-entry.entry-index c.entry-item.result h, ap (λ (e : Entry). end_of (view e)) c.entry-item.is) in
-    c.loop-entry.invariant.room c.args.origin.now _ (fits_less (vec_at c.args.inner.now.contents c.args.origin.now) _ _ small c.requires.room)
-
-pub replay_entry-requires-clause-width : goal.replay_entry-requires-clause-width
-replay_entry-requires-clause-width c =
-    let h : c.loop-entry.entry-index < length c.args.entries.now = omega arith in
-    omega (arith, width_in c.args.entries.now c.loop-entry.entry-index c.entry-item.result h, ap (λ (e : Entry). width (view e)) c.entry-item.is, c.requires.width, c.loop-entry.invariant.capacity)
+    let end = end_in c.args.entries.now c.loop-entry.entry-index c.entry-item.result h in
+    let same_end = ap (λ (e : Entry). end_of (view e)) c.entry-item.is in
+    let wide = width_in c.args.entries.now c.loop-entry.entry-index c.entry-item.result h in
+    let same_width = ap (λ (e : Entry). width (view e)) c.entry-item.is in
+    let small : end_of (view c.entry-item.result) ≤ ends (views c.args.entries.now) = omega (arith, end, same_end) in
+    record {
+      counted = omega (arith, end, same_end, c.requires.room.counted);
+      room = c.loop-entry.invariant.kept.store.room c.args.origin.now _ (fits_less (vec_at c.args.inner.now.contents c.args.origin.now) _ _ small c.requires.room.room);
+      width = omega (arith, wide, same_width, c.requires.room.width, c.loop-entry.invariant.kept.capacity);
+    }
 
 pub loop-entry-preserved : goal.loop-entry-preserved
 loop-entry-preserved c =
@@ -44,7 +42,11 @@ loop-entry-preserved c =
       unmarked = (none_after (view e) later none).1;
       durable = λ a. changed_twice (durable c.loop-entry.inner) (durable c.replay_entry.new.inner) o (λ (x : List ℕ). replay later t x) (λ (x : List ℕ). replayed x (view e) t) a (c.replay_entry.ensures.durable a)
           ∙ changed_same (durable c.loop-entry.inner) o (λ (x : List ℕ). replay later t (replayed x (view e) t)) (λ (x : List ℕ). replay (views (drop i q)) t x) a (λ x. sym (step x)) ∙ c.loop-entry.invariant.durable a;
-      room = λ a n f. c.replay_entry.ensures.room a n (c.loop-entry.invariant.room a n f);
-      capacity = omega arith;
-      directory = c.replay_entry.ensures.directory ∙ c.loop-entry.invariant.directory;
+      kept = record {
+        store = record {
+          names = c.replay_entry.ensures.kept.store.names ∙ c.loop-entry.invariant.kept.store.names;
+          room = λ a n f. c.replay_entry.ensures.kept.store.room a n (c.loop-entry.invariant.kept.store.room a n f);
+        };
+        capacity = omega (arith, c.replay_entry.ensures.kept.capacity, c.loop-entry.invariant.kept.capacity);
+      };
     }

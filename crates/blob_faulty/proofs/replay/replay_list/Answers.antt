@@ -1,8 +1,8 @@
-use Rattle.std.proofs.Common.{◌≡◌, ◌∙◌, ap, List, arith}
+use Rattle.std.proofs.Common.{rules, ◌≡◌, ◌∙◌, ℕ, sym, ap, subst, List, arith}
 use Rattle.blob_base.specs.Draws.{chosen_by}
 use Rattle.blob_base.specs.Log.{Choices}
-use Rattle.blob_base.specs.Pending.{Pending, has_marker, replay}
-use Rattle.blob_memory.specs.Store.{durable}
+use Rattle.blob_base.specs.Pending.{Pending, has_marker, replay, ends}
+use Rattle.blob_memory.specs.Store.{durable, HasCrashRoom}
 use Rattle.blob_faulty.specs.declared.entry.Entry.{Entry}
 use Rattle.blob_faulty.specs.Replays.{unmarked, widest}
 use Rattle.blob_faulty.specs.Rows.{rows_in}
@@ -14,10 +14,17 @@ use Rattle.blob_faulty.proofs.replay.replay_list.Goals as goal
 pub replay_entries-requires-clause-unmarked : goal.replay_entries-requires-clause-unmarked
 replay_entries-requires-clause-unmarked c = ap has_marker c.unmarked-entries.ensures ∙ unmarked_none (views c.deref.result.now)
 
-pub replay_entries-requires-clause-width : goal.replay_entries-requires-clause-width
-replay_entries-requires-clause-width c =
-    let same : widest (views c.unmarked-entries.result.now) ≡ widest (unmarked (views c.args.list.now.entries.items)) = ap widest (c.unmarked-entries.ensures ∙ ap (λ (q : List Entry). unmarked (views q)) c.deref.ensures.value) in
-    omega (arith, widest_unmarked (views c.args.list.now.entries.items), same, c.requires.width)
+pub replay_entries-requires-clause-room : goal.replay_entries-requires-clause-room
+replay_entries-requires-clause-room c =
+    let same : views c.unmarked-entries.result.now ≡ unmarked (views c.args.list.now.entries.items) = c.unmarked-entries.ensures ∙ ap (λ (q : List Entry). unmarked (views q)) c.deref.ensures.value in
+    let wide : widest (views c.unmarked-entries.result.now) ≡ widest (unmarked (views c.args.list.now.entries.items)) = ap widest same in
+    let ready = c.requires.ready (search rules) in
+    let end = ap ends same in
+    record {
+      counted = omega (arith, end, ready.0);
+      room = subst (λ (n : ℕ). HasCrashRoom c.args.inner.now c.args.list.now.origin n) (sym end) ready.1;
+      width = omega (arith, widest_unmarked (views c.args.list.now.entries.items), wide, c.requires.width);
+    }
 
 pub returns-clause-durable : goal.returns-clause-durable
 returns-clause-durable c o =
