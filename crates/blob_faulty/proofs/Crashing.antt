@@ -1,5 +1,5 @@
 -- A crash of the wrapper, seen whole.
-use Rattle.std.proofs.Common.{◌≡◌, ℕ, List, [], sym, ◌∙◌, ap, subst}
+use Rattle.std.proofs.Common.{◌≡◌, List, [], sym, ◌∙◌, ap, subst}
 use Rattle.std.specs.List.Sorted.{IsPermutation, IsNonDecreasingBy}
 use Rattle.rand_core.specs.Stream.{Stream}
 use Rattle.blob_base.specs.Directory.{Directory}

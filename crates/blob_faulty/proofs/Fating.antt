@@ -43,14 +43,16 @@ of_failed chosen sync live size number offset bytes kept Injected never = absurd
 of_failed chosen sync live size number offset bytes kept _ never = record { live_left = spared live (runs offset bytes chosen) _ (λ o b. refl); size_left = refl; entries = refl }
 
 -- the refusal of what was done in the place of a write
-refused_by : {R : Type 0} (fate : WriteFate) (direct : Bool) (old new : View R) (sync : Bool) (offset : ℕ) (bytes : List ℕ) (effect : View R → Effect) (refusal : Refusal) →
+refused_by : {R : Type 0} (fate : WriteFate) (direct whole : Bool) (old new : View R) (sync : Bool) (offset : ℕ) (bytes : List ℕ) (effect : View R → Effect) (refusal : Refusal) →
     (direct ≡ true → Refused fate sync old.live old.size old.next_write offset bytes (retention old.config.write_rate) ((effect old).live (Some refusal)) refusal) →
-    Recorded direct old new effect (Some refusal) → WroteBy fate direct old new sync offset bytes (Some refusal)
-refused_by fate direct old new sync offset bytes effect refusal table w = record {
+    (fate ≢ Done) → (direct ≡ true → whole ≡ true) → Recorded direct whole old new effect (Some refusal) → WroteBy fate direct old new sync offset bytes (Some refusal)
+refused_by fate direct whole old new sync offset bytes effect refusal table other left w = record {
   done = λ ok. absurd (cc);
   live = λ d. (w.wrote.refused d refl).live ∙ sym (table d).live_left;
   size = λ d. (w.wrote.refused d refl).size ∙ sym (table d).size_left;
-  logs = λ d. subst (λ (es : List Entry). Logs old new es) (sym (table d).entries) (same_logs old new w.wrote.directory (w.wrote.refused d refl).durable (w.refused d refl));
+  logs = λ d. subst (λ (es : List Entry). Logs old new es) (sym (table d).entries) (same_logs old new w.wrote.directory (w.wrote.refused d refl).durable (w.refused (left d) refl));
+  recorded = λ ok. absurd (cc);
+  undone = λ is. absurd (other is);
   memory = w.wrote.memory;
   unrecorded = w.memory;
   stale = w.wrote.stale;
@@ -67,18 +69,18 @@ uninjected true inner refusal never (inr a) is = cc
 uninjected false inner refusal never (inr a) is = never (subst (λ (x : Refusal). inner (Some x)) is a)
 
 pub unsynced_refused : {R : Type 0} (direct : Bool) (old new : View R) (sync : Bool) (offset : ℕ) (bytes : List ℕ) (lacks : Bool) (inner : Allowed) (answer : Option Refusal) (refusal : Refusal) → answer ≡ Some refusal →
-    (direct ≡ true → inner (Some Injected) → ⊥) → or_memory (numbered lacks inner) answer → Recorded direct old new (plain offset bytes) answer → WroteBy Unsynced direct old new sync offset bytes (Some refusal)
+    (direct ≡ true → inner (Some Injected) → ⊥) → or_memory (numbered lacks inner) answer → Recorded direct true old new (plain offset bytes) answer → WroteBy Unsynced direct old new sync offset bytes (Some refusal)
 unsynced_refused {R} direct old new sync offset bytes lacks inner answer refusal is never allowed w =
-    refused_by Unsynced direct old new sync offset bytes (plain offset bytes) refusal
+    refused_by Unsynced direct true old new sync offset bytes (plain offset bytes) refusal
     (λ d. of_unsynced sync old.live old.size old.next_write offset bytes (retention old.config.write_rate) refusal (uninjected lacks inner refusal (never d) (subst (λ (a : Option Refusal). or_memory (numbered lacks inner) a) is allowed)))
-    (subst (λ (a : Option Refusal). Recorded direct old new (plain offset bytes) a) is w)
+    (λ is. cc) (λ _. refl) (subst (λ (a : Option Refusal). Recorded direct true old new (plain offset bytes) a) is w)
 
 pub failed_refused : {R : Type 0} (chosen : List Bool) (direct : Bool) (old new : View R) (sync : Bool) (offset : ℕ) (bytes : List ℕ) (answer : Option Refusal) (refusal : Refusal) → answer ≡ Some refusal →
-    (direct ≡ true → refusal ≢ Injected) → Recorded direct old new (laid_runs (runs offset bytes chosen)) answer → WroteBy (Failed chosen) direct old new sync offset bytes (Some refusal)
+    (direct ≡ true → refusal ≢ Injected) → Recorded direct direct old new (laid_runs (runs offset bytes chosen)) answer → WroteBy (Failed chosen) direct old new sync offset bytes (Some refusal)
 failed_refused chosen direct old new sync offset bytes answer refusal is never w =
-    refused_by (Failed chosen) direct old new sync offset bytes (laid_runs (runs offset bytes chosen)) refusal
+    refused_by (Failed chosen) direct direct old new sync offset bytes (laid_runs (runs offset bytes chosen)) refusal
     (λ d. of_failed chosen sync old.live old.size old.next_write offset bytes (retention old.config.write_rate) refusal (never d))
-    (subst (λ (a : Option Refusal). Recorded direct old new (laid_runs (runs offset bytes chosen)) a) is w)
+    (λ is. cc) (λ d. d) (subst (λ (a : Option Refusal). Recorded direct direct old new (laid_runs (runs offset bytes chosen)) a) is w)
 
 -- runs are refused by what the inner store refuses
 pub runs_uninjected : (writes : ℕ → List ℕ → Bool → Allowed) (reserves : ℕ → Allowed) (direct : Bool) (rs : List Run) (refusal : Refusal) → ((o : ℕ) (b : List ℕ) → writes o b true (Some Injected) → ⊥) → ((end : ℕ) → reserves end (Some Injected) → ⊥) →

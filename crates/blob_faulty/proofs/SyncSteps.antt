@@ -1,6 +1,6 @@
 -- What a sync, and a started one, make of the files that a wrapper stands for.
 use Rattle.std.proofs.Common.{◌≡◌, ◌++◌, ◌∷◌, [], ℕ, ◌+◌, List, refl}
-use Rattle.std.specs.Prelude.{Result, Ok, Err, OnOk, None}
+use Rattle.std.specs.Prelude.{Result, Ok, Err, OnOk, OnErr, IsSome, None}
 use Rattle.blob_base.specs.declared.error.Error.{Error}
 use Rattle.blob_base.specs.Directory.{Directory}
 use Rattle.blob_base.specs.Durable.{Durable, with_at, changed}
@@ -35,3 +35,11 @@ marker_starts place names bytes bytes' old new o live over lists write marker fi
 pub ok_of : {T A P : Type 0} (r : Result T Error) → OnOk r A → (refused r ≡ None → A → P) → OnOk r P
 ok_of (Ok x) a f = f refl a
 ok_of (Err e) a f = tt
+
+pub ok_by : {T P : Type 0} (r : Result T Error) → (refused r ≡ None → P) → OnOk r P
+ok_by (Ok x) h = h refl
+ok_by (Err e) h = tt
+
+pub err_by : {T P : Type 0} (r : Result T Error) → (IsSome (refused r) → P) → OnErr r P
+err_by (Ok x) h = tt
+err_by (Err e) h = h refl

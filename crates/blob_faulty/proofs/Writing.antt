@@ -80,7 +80,7 @@ logs_then old mid new e es place names first later files below s =
 
 -- the next of the runs that are left
 pub one_less : {R : Type 0} (direct : Bool) (old mid new : View R) (all : List Run) (r : Run) (left : List Run) (answer : Option Refusal) → answer ≡ None →
-    LeavesRuns old mid all (r ∷ left) → Recorded direct mid new (laid_runs (r ∷ [])) answer → LeavesRuns old new all left
+    LeavesRuns old mid all (r ∷ left) → Recorded direct true mid new (laid_runs (r ∷ [])) answer → LeavesRuns old new all left
 one_less direct old mid new all r left answer ok l w =
     let bytes = w.wrote.done ok in
     record {
@@ -97,7 +97,7 @@ one_less direct old mid new all r left answer ok l w =
 -- answered Ok, by the handle of a current incarnation
 done_now : {R : Type 0} (direct : Bool) (old new : View R) (effect : View R → Effect) → is_current old.directory old.place ≡ true →
     HasBytes new ((effect old).live None) (effect old).durable (effect old).size → Logs old new (effect old).entries →
-    new.directory ≡ old.directory → new.place ≡ old.place → new.config ≡ old.config → new.rng ≡ old.rng → Recorded direct old new effect None
+    new.directory ≡ old.directory → new.place ≡ old.place → new.config ≡ old.config → new.rng ≡ old.rng → Recorded direct direct old new effect None
 done_now direct old new effect now bytes logs directory place config rng = record {
   wrote = record {
     done = λ _. bytes;
@@ -115,15 +115,15 @@ done_now direct old new effect now bytes logs directory place config rng = recor
 }
 
 -- no run is left
-pub all_laid : {R : Type 0} (direct : Bool) (old new : View R) (all left : List Run) → is_current old.directory old.place ≡ true → left ≡ [] → LeavesRuns old new all left → Recorded direct old new (laid_runs all) None
+pub all_laid : {R : Type 0} (direct : Bool) (old new : View R) (all left : List Run) → is_current old.directory old.place ≡ true → left ≡ [] → LeavesRuns old new all left → Recorded direct direct old new (laid_runs all) None
 all_laid direct old new all left now none l =
     let d : LeavesRuns old new all [] = subst (λ (rs : List Run). LeavesRuns old new all rs) none l in
     done_now direct old new (laid_runs all) now (record { live = d.live; durable = d.durable; size = d.size }) (d.logs new (λ files below s. s)) l.directory l.place l.config l.rng
 
 -- a later run was refused, by a store that injects faults
-pub later_refused : {R : Type 0} (direct : Bool) (old mid new : View R) (all left : List Run) (effect one : View R → Effect) (answer : Option Refusal) → is_current old.directory old.place ≡ true → direct ≡ false →
-    LeavesRuns old mid all left → Recorded direct mid new one answer → Recorded direct old new effect (Some WriteFailed)
-later_refused direct old mid new all left effect one answer now indirect l w = record {
+pub later_refused : {R : Type 0} (direct whole : Bool) (old mid new : View R) (all left : List Run) (effect one : View R → Effect) (answer : Option Refusal) → is_current old.directory old.place ≡ true → direct ≡ false →
+    LeavesRuns old mid all left → Recorded direct whole mid new one answer → Recorded direct direct old new effect (Some WriteFailed)
+later_refused direct whole old mid new all left effect one answer now indirect l w = record {
   wrote = record {
     done = λ ok. absurd (cc);
     refused = λ d some. absurd (true≢false (sym d ∙ indirect));
@@ -140,8 +140,8 @@ later_refused direct old mid new all left effect one answer now indirect l w = r
 }
 
 -- there is none
-pub no_runs : {R : Type 0} (direct : Bool) (old : View R) (rs : List Run) → rs ≡ [] → Recorded direct old old (laid_runs rs) None
-no_runs direct old rs none = subst (λ (x : List Run). Recorded direct old old (laid_runs x) None) (sym none) (record {
+pub no_runs : {R : Type 0} (direct : Bool) (old : View R) (rs : List Run) → rs ≡ [] → Recorded direct direct old old (laid_runs rs) None
+no_runs direct old rs none = subst (λ (x : List Run). Recorded direct direct old old (laid_runs x) None) (sym none) (record {
   wrote = record {
     done = λ _. record { live = refl; durable = refl; size = refl };
     refused = λ _ some. absurd (cc);
@@ -160,18 +160,18 @@ no_runs direct old rs none = subst (λ (x : List Run). Recorded direct old old (
 -- a run and those behind it
 pub then_runs : {R T : Type 0} (direct : Bool) (old mid new : View R) (r : Run) (rs : List Run) (answer : Option Refusal) (result : Result T Error) → answer ≡ None →
     OnErr result (refused result ≡ Some WriteFailed) → OnErr result (direct ≡ false) → is_current old.directory old.place ≡ true →
-    Recorded direct old mid (laid_runs (r ∷ [])) answer → Recorded direct mid new (laid_runs rs) (refused result) → Recorded direct old new (laid_runs (r ∷ rs)) (refused result)
+    Recorded direct true old mid (laid_runs (r ∷ [])) answer → Recorded direct direct mid new (laid_runs rs) (refused result) → Recorded direct direct old new (laid_runs (r ∷ rs)) (refused result)
 then_runs {R} {T} direct old mid new r rs answer result ok failed indirect now first rest = go result failed indirect rest
   where
     left : LeavesRuns old mid (r ∷ rs) rs
     left = one_less direct old old mid (r ∷ rs) r rs answer ok (record { live = refl; durable = refl; size = refl; logs = λ later k. k; directory = refl; place = refl; config = refl; rng = refl }) first
 
-    go : (x : Result T Error) → OnErr x (refused x ≡ Some WriteFailed) → OnErr x (direct ≡ false) → Recorded direct mid new (laid_runs rs) (refused x) → Recorded direct old new (laid_runs (r ∷ rs)) (refused x)
+    go : (x : Result T Error) → OnErr x (refused x ≡ Some WriteFailed) → OnErr x (direct ≡ false) → Recorded direct direct mid new (laid_runs rs) (refused x) → Recorded direct direct old new (laid_runs (r ∷ rs)) (refused x)
     go (Ok x) never direct_too w =
         let bytes = w.wrote.done refl in
         done_now direct old new (laid_runs (r ∷ rs)) now (record { live = bytes.live ∙ left.live; durable = bytes.durable ∙ left.durable; size = bytes.size ∙ left.size }) (left.logs new (w.done refl))
         (w.wrote.directory ∙ left.directory) (w.wrote.place ∙ left.place) (w.config ∙ left.config) (w.rng ∙ left.rng)
-    go (Err e) is not_direct w = subst (λ (a : Option Refusal). Recorded direct old new (laid_runs (r ∷ rs)) a) (sym is) (later_refused direct old mid new (r ∷ rs) rs (laid_runs (r ∷ rs)) (laid_runs rs) _ now not_direct left w)
+    go (Err e) is not_direct w = subst (λ (a : Option Refusal). Recorded direct direct old new (laid_runs (r ∷ rs)) a) (sym is) (later_refused direct direct old mid new (r ∷ rs) rs (laid_runs (r ∷ rs)) (laid_runs rs) _ now not_direct left w)
 
 -- a step that changes nothing, and then a write
 logs_after : {R : Type 0} (old mid new : View R) (es : List Entry) → Unchanged old mid → Logs mid new es → Logs old new es
@@ -189,8 +189,8 @@ records_after old mid new u k = record {
   next_marker = k.next_marker ∙ u.next_marker;
 }
 
-pub runs_after : {R : Type 0} (direct : Bool) (old mid new : View R) (rs : List Run) (answer : Option Refusal) → Unchanged old mid → Recorded direct mid new (laid_runs rs) answer → Recorded direct old new (laid_runs rs) answer
-runs_after {R} direct old mid new rs answer u w = record {
+pub runs_after : {R : Type 0} (direct whole : Bool) (old mid new : View R) (rs : List Run) (answer : Option Refusal) → Unchanged old mid → Recorded direct whole mid new (laid_runs rs) answer → Recorded direct whole old new (laid_runs rs) answer
+runs_after {R} direct whole old mid new rs answer u w = record {
   wrote = record {
     done = λ ok. subst (λ (x : Effect). HasBytes new (x.live None) x.durable x.size) same (w.wrote.done ok);
     refused = λ d r. let x = w.wrote.refused d r in record { live = x.live ∙ ap (λ (l : List ℕ). live_of_runs l rs answer) u.bytes.live; durable = x.durable ∙ u.bytes.durable; size = x.size ∙ u.bytes.size };

@@ -19,7 +19,7 @@ use Rattle.blob_faulty.specs.declared.config.Config.{Config}
 use Rattle.blob_faulty.specs.declared.storage.Storage.{Storage}
 use Rattle.blob_faulty.specs.Lists.{held}
 use Rattle.blob_faulty.specs.Pieces.{first_after}
-use Rattle.blob_faulty.specs.Faults.{WriteFate, ResizeFate, retention}
+use Rattle.blob_faulty.specs.Faults.{WriteFate, Done, ResizeFate, retention}
 use Rattle.blob_faulty.specs.Recorded.{loose, size_of_runs, recorded_by, live_by, size_by, recorded_resize, live_of_resize, size_of_resize}
 
 -- a handle and its wrapper, over an inner store
@@ -97,11 +97,11 @@ pub record Wrote {R : Type 0} (direct : Bool) (old new : View R) (effect : View 
   pub directory : new.directory ≡ old.directory
   pub place : new.place ≡ old.place
 
--- the same, and what it recorded
-pub record Recorded {R : Type 0} (direct : Bool) (old new : View R) (effect : View R → Effect) (answer : Option Refusal) : Type 0 where
+-- the same, and what it recorded; `whole` where a refused one has recorded nothing, whatever the inner store
+pub record Recorded {R : Type 0} (direct whole : Bool) (old new : View R) (effect : View R → Effect) (answer : Option Refusal) : Type 0 where
   pub wrote : Wrote direct old new effect answer
   pub done : answer ≡ None → Logs old new (effect old).entries
-  pub refused : direct ≡ true → IsSome answer → SameRecords old new
+  pub refused : whole ≡ true → IsSome answer → SameRecords old new
   pub memory : answer ≡ Some Memory → SameRecords old new
   pub config : new.config ≡ old.config
   pub rng : new.rng ≡ old.rng
@@ -150,6 +150,9 @@ pub record WroteBy {R : Type 0} (fate : WriteFate) (direct : Bool) (old new : Vi
   pub live : direct ≡ true → new.live ≡ live_by fate sync old.live offset bytes answer
   pub size : direct ≡ true → new.size ≡ size_by fate old.size offset bytes answer
   pub logs : direct ≡ true → Logs old new (recorded_by fate (retention old.config.write_rate) old.next_write sync offset bytes answer)
+  -- by any store, what was done is recorded, and of a write that no draw fails nothing else is
+  pub recorded : answer ≡ None → Logs old new (recorded_by fate (retention old.config.write_rate) old.next_write sync offset bytes None)
+  pub undone : fate ≡ Done → IsSome answer → SameRecords old new
   -- refused for memory
   pub memory : answer ≡ Some Memory → HasBytes new old.live old.durable old.size
   pub unrecorded : answer ≡ Some Memory → SameRecords old new
@@ -227,7 +230,11 @@ module _ {S R O B : Type 0} (store : stores.Ghosts S O) (handle : handles.Ghosts
   Writes effect answer = Wrote handle.is_direct (seen store handle b w) (seen store handle b' w') effect answer
 
   abbrev pub Records : (View R → Effect) → Option Refusal → Type 0
-  Records effect answer = Recorded handle.is_direct (seen store handle b w) (seen store handle b' w') effect answer
+  Records effect answer = Recorded handle.is_direct true (seen store handle b w) (seen store handle b' w') effect answer
+
+  -- where a refusal may come behind runs that were laid
+  abbrev pub RecordsRuns : List Run → Option Refusal → Type 0
+  RecordsRuns rs answer = Recorded handle.is_direct handle.is_direct (seen store handle b w) (seen store handle b' w') (laid_runs rs) answer
 
   abbrev pub WritesBy : WriteFate → Bool → ℕ → List ℕ → Option Refusal → Type 0
   WritesBy fate sync offset bytes answer = WroteBy fate handle.is_direct (seen store handle b w) (seen store handle b' w') sync offset bytes answer

@@ -11,7 +11,7 @@ ghost use Rattle.blob_base.specs.Pending.{Marker};
 ghost use Rattle.blob_base.specs.Places.{Place};
 ghost use Rattle.blob_base.specs.Refusals.{Refusal, refused, Memory, IsMemory};
 ghost use Rattle.blob_faulty.specs.Answers.{or_memory, injected_or, allows_write as answers_write, allows_resize as answers_resize, allows_start};
-ghost use Rattle.blob_faulty.specs.Faults.{draw, resize_fate, after_write};
+ghost use Rattle.blob_faulty.specs.Faults.{Done, draw, write_fate, resize_fate, after_write};
 ghost use Rattle.blob_faulty.specs.Recorded.{recorded_write, recorded_resize, live_of_write, live_of_resize, size_of_write, size_of_resize};
 ghost use Rattle.blob_faulty.specs.Syncs.{Publishes, Starts};
 ghost use Rattle.blob_faulty.specs.Wrapper.{inner_of, rng_of, config_of, next_write_of, next_marker_of, pending_of, inside, size_of, KeepsRecords, KeepsNumbers, Adds};
@@ -162,6 +162,10 @@ impl<S: blob_base::Storage, R: Rng, B: blob_base::Blob<S>> blob_base::Blob<Stora
         // whatever is answered, over a store that injects nothing
         ensures recorded { B.is_direct ≡ true → Adds S.place (S.directory (inner_of store.old)) (S.durable (inner_of store.old)) (S.durable (inner_of store.new)) store.old store.new (B.place (inside self.old)) (recorded_write (config_of store.old) (next_write_of store.old) (R.stream (rng_of store.old)) (is_sync options) offset bytes (refused result)) }
         ensures live_after { B.is_direct ≡ true → B.live (inside self.new) ≡ live_of_write (config_of store.old) (R.stream (rng_of store.old)) (is_sync options) (B.live (inside self.old)) offset bytes (refused result) }
+        // answered Ok, over any store
+        ensures done { OnOk result (Adds S.place (S.directory (inner_of store.old)) (S.durable (inner_of store.old)) (S.durable (inner_of store.new)) store.old store.new (B.place (inside self.old)) (recorded_write (config_of store.old) (next_write_of store.old) (R.stream (rng_of store.old)) (is_sync options) offset bytes None)) }
+        // refused over any store, where no draw fails it
+        ensures refused { (write_fate (config_of store.old) (is_sync options) offset (length bytes) (R.stream (rng_of store.old))).0 ≡ Done → OnErr result (KeepsRecords S.place store.old store.new) }
         ensures size { B.is_direct ≡ true → size_of self.new ≡ size_of_write (config_of store.old) (R.stream (rng_of store.old)) (is_sync options) (size_of self.old) offset bytes (refused result) }
 
         // refused for memory

@@ -97,7 +97,7 @@ impl<B> Blob<B> {
     ghost use Rattle.blob_faulty.specs.Answers.{or_memory, allows_laid, allows_runs, last_end};
     ghost use Rattle.blob_faulty.specs.Lists.{HasRoomAt};
     ghost use Rattle.blob_faulty.specs.Pieces.{run_of, runs_in, extents, EndsWithin};
-    ghost use Rattle.blob_faulty.specs.Writes.{Records, Keeps, laid_runs};
+    ghost use Rattle.blob_faulty.specs.Writes.{RecordsRuns, Keeps};
 
     /// The runs behind the first, in rising order. A refused one is answered `WriteFailed`, and those before it stay
     /// laid.
@@ -112,7 +112,7 @@ impl<B> Blob<B> {
         requires room { HasRoomAt S.place store.old.lists.all.lists.items list (B.place self.old.inner) (extents (runs_in pieces.items)) }
         requires current { is_current (S.directory store.old.inner) (B.place self.old.inner) ≡ true }
         requires within { B.is_direct ≡ true → All (EndsWithin (B.room self.old.inner store.old.inner)) (runs_in pieces.items) }
-        ensures recorded { Records S.Durable B.Blob self.old store.old self.new store.new (laid_runs (runs_in pieces.items)) (refused result) }
+        ensures recorded { RecordsRuns S.Durable B.Blob self.old store.old self.new store.new (runs_in pieces.items) (refused result) }
         ensures failed { OnErr result (refused result ≡ Some WriteFailed) }
         ensures indirect { OnErr result (B.is_direct ≡ false) }
         ensures some { OnErr result (runs_in pieces.items ≢ []) }
@@ -147,7 +147,7 @@ impl<B> Blob<B> {
         requires room { HasRoomAt S.place store.old.lists.all.lists.items list (B.place self.old.inner) (extents (runs_in pieces.items)) }
         requires within { B.is_direct ≡ true → is_current (S.directory store.old.inner) (B.place self.old.inner) ≡ true → All (EndsWithin (B.room self.old.inner store.old.inner)) (runs_in pieces.items) }
         ensures allowed { allows_laid (B.allows_write self.old.inner store.old.inner) B.is_direct (runs_in pieces.items) (refused result) }
-        ensures recorded { Records S.Durable B.Blob self.old store.old self.new store.new (laid_runs (runs_in pieces.items)) (refused result) }
+        ensures recorded { RecordsRuns S.Durable B.Blob self.old store.old self.new store.new (runs_in pieces.items) (refused result) }
     {
         let mut pieces = pieces;
         let Some(first) = pieces.pop() else {
@@ -198,7 +198,7 @@ impl<B> Blob<B> {
         requires fits { offset + length bytes < 2 ^ 64 }
         requires sized { kept.now ≢ [] → length kept.now ≡ length bytes }
         ensures allowed { or_memory (allows_runs (B.allows_write self.old.inner store.old.inner) (B.allows_reserve self.old.inner store.old.inner) B.is_direct (runs offset bytes kept.now)) (refused result) }
-        ensures recorded { Records S.Durable B.Blob self.old store.old self.new store.new (laid_runs (runs offset bytes kept.now)) (refused result) }
+        ensures recorded { RecordsRuns S.Durable B.Blob self.old store.old self.new store.new (runs offset bytes kept.now) (refused result) }
     {
         if kept.is_empty() {
             return Ok(());

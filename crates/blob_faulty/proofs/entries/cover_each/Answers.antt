@@ -10,7 +10,7 @@ use Rattle.blob_faulty.proofs.entries.cover_each.Goals as goal
 pub cover-requires : goal.cover-requires
 cover-requires c =
     let i = c.loop-entry.entry-index in
-    record { fits = c.requires.fits; room_for = subst (λ (e : Entry). HasRoomFor ((c.args.start, c.args.start + c.args.len) ∷ []) e) (sym (c.loop-entry.invariant.later i c.entry-item.result (omega arith))) (c.requires.room_for i c.entry-item.result (omega arith)); }
+    record { fits = c.requires.fits; room_for = subst (λ (e : Entry). HasRoomFor ((c.args.start, c.args.start + c.args.len) ∷ []) e) (sym (c.loop-entry.invariant.later i c.entry-item.result (omega arith))) (c.requires.room_for i c.entry-item.result (omega arith)) }
 
 pub loop-entry-preserved : goal.loop-entry-preserved
 loop-entry-preserved c =

@@ -43,5 +43,5 @@ returns-clause-recorded g c =
     let old : View g.row.R.Denot = seen g.S.Durable g.B.Blob c.args.self.now c.args.store.now in
     let new : View g.row.R.Denot = seen g.S.Durable g.B.Blob c.lay_runs.new.self c.lay_runs.new.store in
     let same : runs_in c.in_ok-pieces.pieces.items ≡ runs c.args.offset c.args.bytes c.args.kept.now = first_of (search rules, grind (arith, common_steps)) in
-    subst (λ (rs : List Run). Recorded g.B.Blob.is_direct old new (laid_runs rs) (refused c.lay_runs.result)) same
-    (runs_after g.B.Blob.is_direct old _ new (runs_in c.in_ok-pieces.pieces.items) (refused c.lay_runs.result) c.reserve_runs.ensures.unchanged c.lay_runs.ensures.recorded)
+    subst (λ (rs : List Run). Recorded g.B.Blob.is_direct g.B.Blob.is_direct old new (laid_runs rs) (refused c.lay_runs.result)) same
+    (runs_after g.B.Blob.is_direct g.B.Blob.is_direct old _ new (runs_in c.in_ok-pieces.pieces.items) (refused c.lay_runs.result) c.reserve_runs.ensures.unchanged c.lay_runs.ensures.recorded)

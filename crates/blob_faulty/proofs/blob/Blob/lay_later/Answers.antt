@@ -27,7 +27,7 @@ returns-then-is_err-clause-indirect g c =
 
 pub returns-then-is_err-clause-recorded : goal.returns-then-is_err-clause-recorded
 returns-then-is_err-clause-recorded g c =
-    later_refused _ _ _ _ _ _ _ _ _ c.requires.current (returns-then-is_err-clause-indirect g c) c.loop-run.invariant.left c.lay_range.ensures.recorded
+    later_refused _ true _ _ _ _ _ _ _ _ c.requires.current (returns-then-is_err-clause-indirect g c) c.loop-run.invariant.left c.lay_range.ensures.recorded
 
 pub returns-then-is_err-clause-some : goal.returns-then-is_err-clause-some
 returns-then-is_err-clause-some g c none =

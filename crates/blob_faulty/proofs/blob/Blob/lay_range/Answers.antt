@@ -18,7 +18,7 @@ pub lay-requires-clause-room : goal.lay-requires-clause-room
 lay-requires-clause-room g c = record {
   fits = omega (arith, c.remaining-len.ensures);
   room_for = room_stays c.args.store.now.lists.all.lists.items c.write_unrecorded.new.store.lists.all.lists.items c.args.list c.args.offset c.remaining-len.result (length c.args.bytes) []
-    (ap (λ (w : Storage g.row.S.Denot g.row.R.Denot g.row.S-Origin.Denot). w.lists.all.lists.items) c.write_unrecorded.ensures.rest) c.remaining-len.ensures c.requires.room.ranges;
+      (ap (λ (w : Storage g.row.S.Denot g.row.R.Denot g.row.S-Origin.Denot). w.lists.all.lists.items) c.write_unrecorded.ensures.rest) c.remaining-len.ensures c.requires.room.ranges;
 }
 
 pub returns-clause-recorded : goal.returns-clause-recorded

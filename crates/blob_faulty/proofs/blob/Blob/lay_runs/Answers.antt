@@ -41,5 +41,5 @@ returns-clause-recorded g c =
     let e : runs_in c.args.pieces.items ≡ run_of c.in-Some.first ∷ runs_in c.pop.new.self.items = popped _ _ c.in-Some.first c.in-Some.ensures.items in
     let old : View g.row.R.Denot = seen g.S.Durable g.B.Blob c.args.self.now c.args.store.now in
     let new : View g.row.R.Denot = seen g.S.Durable g.B.Blob c.lay_later.new.self c.lay_later.new.store in
-    subst (λ (rs : List Run). Recorded g.B.Blob.is_direct old new (laid_runs rs) (refused c.lay_later.result)) (sym e)
+    subst (λ (rs : List Run). Recorded g.B.Blob.is_direct g.B.Blob.is_direct old new (laid_runs rs) (refused c.lay_later.result)) (sym e)
     (then_runs g.B.Blob.is_direct old _ new (run_of c.in-Some.first) (runs_in c.pop.new.self.items) None c.lay_later.result refl c.lay_later.ensures.failed c.lay_later.ensures.indirect now c.in_ok-lay_range.ensures.recorded c.lay_later.ensures.recorded)

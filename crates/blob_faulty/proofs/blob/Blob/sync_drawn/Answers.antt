@@ -1,5 +1,4 @@
-use Rattle.std.proofs.Common.{rules, ◌≡◌, [], subst, arith}
-use Rattle.std.proofs.lemmas.Grind.{common_steps}
+use Rattle.std.proofs.Common.{◌≡◌, [], subst}
 use Rattle.blob_base.specs.Durable.{with_at}
 use Rattle.blob_base.specs.Places.{Place}
 use Rattle.blob_faulty.specs.Lists.{list_of}

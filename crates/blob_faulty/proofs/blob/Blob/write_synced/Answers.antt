@@ -1,4 +1,4 @@
-use Rattle.std.proofs.Common.{rules, ℕ, ◌+◌, ◌∷◌, [], length, sym, subst, arith}
+use Rattle.std.proofs.Common.{rules, ℕ, true, ◌+◌, ◌∷◌, [], length, sym, subst, arith}
 use Rattle.std.proofs.lemmas.Grind.{common_steps}
 use Rattle.blob_base.specs.Refusals.{refused}
 use Rattle.blob_faulty.specs.Rooms.{AreWithin}
@@ -24,4 +24,4 @@ returns-clause-recorded g c =
     let mid : View g.row.R.Denot = seen g.S.Durable g.B.Blob (record c.args.self.now { list = c.in_ok-list.list }) c.room_for.new.store in
     let new : View g.row.R.Denot = seen g.S.Durable g.B.Blob c.lay_range.new.self c.lay_range.new.store in
     let room : Unchanged old mid = first_of (search rules, grind (arith, common_steps)) in
-    runs_after g.B.Blob.is_direct old mid new ((c.args.offset, c.args.bytes) ∷ []) (refused c.lay_range.result) room c.lay_range.ensures.recorded
+    runs_after g.B.Blob.is_direct true old mid new ((c.args.offset, c.args.bytes) ∷ []) (refused c.lay_range.result) room c.lay_range.ensures.recorded

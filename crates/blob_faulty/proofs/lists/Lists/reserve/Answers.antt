@@ -1,7 +1,5 @@
-use Rattle.std.proofs.Common.{rules, ◌≡◌, get_or, arith}
-use Rattle.std.specs.Prelude.{OnOk, Result, Ok, Err}
+use Rattle.std.proofs.Common.{rules, ◌≡◌, get_or}
 use Rattle.std.proofs.lemmas.Result.{on_ok_weaker}
-use Rattle.blob_faulty.specs.Lists.{HasRoomIn}
 use Rattle.blob_faulty.proofs.ListSteps.{held_same, room_in}
 use Rattle.blob_faulty.proofs.lists.Lists.reserve.Goals as goal
 
