@@ -85,6 +85,7 @@ impl<S: blob_base::Storage, R: Rng, B: blob_base::Blob<S>> blob_base::Blob<Stora
         ensures directory { S.directory (inner_of store.new) ≡ S.directory (inner_of store.old) }
         ensures durable { S.durable (inner_of store.new) ≡ S.durable (inner_of store.old) }
         ensures stream { R.stream (rng_of store.new) ≡ (draw (config_of store.old).read_rate (R.stream (rng_of store.old))).1 }
+        ensures unasked { (draw (config_of store.old).read_rate (R.stream (rng_of store.old))).0 ≡ true → inner_of store.new ≡ inner_of store.old }
         ensures unrecorded { KeepsRecords S.place store.old store.new }
     {
         if draws(store.config.read_rate, &mut store.rng) {
@@ -114,6 +115,7 @@ impl<S: blob_base::Storage, R: Rng, B: blob_base::Blob<S>> blob_base::Blob<Stora
         ensures directory { S.directory (inner_of store.new) ≡ S.directory (inner_of store.old) }
         ensures durable { S.durable (inner_of store.new) ≡ S.durable (inner_of store.old) }
         ensures stream { R.stream (rng_of store.new) ≡ (draw (config_of store.old).read_rate (R.stream (rng_of store.old))).1 }
+        ensures unasked { (draw (config_of store.old).read_rate (R.stream (rng_of store.old))).0 ≡ true → inner_of store.new ≡ inner_of store.old }
         ensures unrecorded { KeepsRecords S.place store.old store.new }
     {
         if draws(store.config.read_rate, &mut store.rng) {

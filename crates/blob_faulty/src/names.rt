@@ -181,6 +181,7 @@ impl<S: blob_base::Storage, R: Rng> blob_base::Storage for Storage<S, R> {
         ensures directory { S.directory (inner_of self.new) ≡ S.directory (inner_of self.old) }
         ensures durable { S.durable (inner_of self.new) ≡ S.durable (inner_of self.old) }
         ensures stream { R.stream (rng_of self.new) ≡ (draw (config_of self.old).scan_rate (R.stream (rng_of self.old))).1 }
+        ensures unasked { (draw (config_of self.old).scan_rate (R.stream (rng_of self.old))).0 ≡ true → inner_of self.new ≡ inner_of self.old }
         ensures unrecorded { KeepsRecords S.place self.old self.new }
         ensures files { Steps S.place S.directory S.durable self.old self.new (λ files. files) }
     {
