@@ -1,15 +1,21 @@
 //! Times the checksum over 64 MiB beside a byte table's, 100,000 resolutions of a region, and the memory store: its calls
 //! by name among few and among many names, small writes and reads of a large blob, and the digest of 64 MiB; and the
 //! wrapper over it, where many writes are pending. The times go to standard error.
+//!
+//! With the argument `script` it reads a script from standard input in place of these, and times its calls on a laboratory by
+//! kind, without the reading of lines and the printing of replies.
 #![tactic(auto)]
 
 mod byte_table;
+mod script;
 mod store;
 mod wrapper;
 
-use anyhow::Result;
+use anyhow::{Result, bail};
 use blob_base::{BlobVersion, Crc32, Header, Layout, resolve};
 use std::alloc::Global;
+use std::env;
+use std::io::BufReader;
 use std::time::{Clock, Instant};
 
 const RESOLUTIONS: u32 = 100_000;
@@ -22,22 +28,60 @@ const PENDING: [u32; 3] = [2_000, 4_000, 8_000];
 
 const CRASHED: [u32; 3] = [25_000, 50_000, 100_000];
 
+const IDLE: u32 = 100_000;
+
 fn main(rt: HostRuntime) -> Result<()> {
-    let bytes = noise(rt.alloc())?;
-    let start = Instant::now(&rt)?;
+    let mut args = env::args(&rt)?;
+    let _program = args.next();
+    match args.next() {
+        None => time_layers(&rt, rt.alloc()),
+        Some(word) if word.as_str() == "script" => time_script(&rt),
+        Some(_) => bail!("usage: blob_bench [script]"),
+    }
+}
+
+fn time_layers<R: Eprint + Clock>(rt: &R, alloc: Global) -> Result<()> {
+    let bytes = noise(alloc)?;
+    let start = Instant::now(rt)?;
     let by_bytes = byte_table::checksum(bytes.as_slice());
-    let byte_time = start.elapsed(&rt)?.as_micros();
-    let start = Instant::now(&rt)?;
+    let byte_time = start.elapsed(rt)?.as_micros();
+    let start = Instant::now(rt)?;
     let by_words = Crc32::checksum(bytes.as_slice());
-    let word_time = start.elapsed(&rt)?.as_micros();
+    let word_time = start.elapsed(rt)?.as_micros();
     eprintln!(rt; "checksum of 64 MiB: {by_words:08x} in {word_time} us")?;
     eprintln!(rt; "by a byte table:    {by_bytes:08x} in {byte_time} us")?;
-    let start = Instant::now(&rt)?;
-    let valid = resolutions(rt.alloc())?;
-    let time = start.elapsed(&rt)?.as_micros();
+    let start = Instant::now(rt)?;
+    let valid = resolutions(alloc)?;
+    let time = start.elapsed(rt)?.as_micros();
     eprintln!(rt; "{RESOLUTIONS} resolutions of a region, {valid} valid: {time} us")?;
-    time_store(&rt, rt.alloc(), bytes)?;
-    time_wrapper(&rt, rt.alloc())
+    time_store(rt, alloc, bytes)?;
+    time_wrapper(rt, alloc)
+}
+
+// The calls of a script, by kind.
+fn time_script<R: AllocGlobal + Input + Eprint + Clock>(rt: &R) -> Result<()> {
+    let mut reader = BufReader::new(rt.alloc(), rt.reader())?;
+    let script = script::read(rt.alloc(), &mut reader)?;
+    let times = script::run(rt, rt.alloc(), script)?;
+    let mut all = 0u128;
+    for kind in times.kinds.iter() {
+        let (name, calls, each) = (
+            kind.name,
+            kind.calls,
+            store::per_call(kind.time, kind.calls),
+        );
+        all = all.wrapping_add(kind.time);
+        eprintln!(rt; "{name}: {calls} calls, {each} ns a call")?;
+        if name == "crash" && times.drawn > 0 {
+            let (drawn, each) = (times.drawn, kind.time / u128::from(times.drawn));
+            eprintln!(rt; "crash: {drawn} writes drawn, {each} ns a write")?;
+        }
+    }
+    let (all, replies) = (all / 1000, times.replies);
+    eprintln!(rt; "all: {all} us; checksum of the replies: {replies:08x}")?;
+    let idle = script::idle(rt, IDLE)?;
+    eprintln!(rt; "reading the clock, which is in each call: {idle} ns")?;
+    Ok(())
 }
 
 // The memory store: by name, by bytes, and its digest.
