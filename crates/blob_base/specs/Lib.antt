@@ -8,6 +8,7 @@ pub mod Draws
 pub mod Durable
 pub mod Files
 pub mod Fronts
+pub mod HandleCalls
 pub mod Handles
 pub mod Header
 pub mod HeaderLaws
@@ -34,4 +35,5 @@ pub mod Runs
 pub mod SamePlace
 pub mod Stands
 pub mod Steps
+pub mod Values
 pub mod Versions

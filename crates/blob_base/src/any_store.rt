@@ -1,5 +1,5 @@
 // What the laws say of any store: callers that know nothing else of it.
-ghost use Rattle.std.specs.Prelude.{◌≡◌, ◌+◌, ◌≤◌, ℕ, List, [], true, false, Some, None, OnOk, OnErr, IfOk, length, option_copied};
+ghost use Rattle.std.specs.Prelude.{◌≡◌, ◌+◌, ◌<◌, ◌≤◌, ℕ, List, [], true, false, Some, None, OnOk, OnErr, IfOk, length, option_copied};
 ghost use Rattle.blob_base.specs.Bytes.{overlay, resized, written};
 ghost use Rattle.blob_base.specs.Callers.{InTurn, BeforeOrBetween};
 ghost use Rattle.blob_base.specs.Directory.{is_current};
@@ -98,4 +98,28 @@ pub fn write_within_room<S: Durable, B: Blob<S>>(
 {
     blob.reserve(store, end)?;
     Ok(blob.write_at(store, offset, bytes, synced))
+}
+
+/// A plain write within reserved room by a handle, a stale one too, of a store that injects nothing is done.
+pub fn plain_write_within_room<S: Durable, B: Blob<S>>(
+    store: &mut S,
+    blob: &mut B,
+    end: u64,
+    offset: u64,
+    bytes: IoBufs,
+    plain: WriteOptions,
+) -> Result<Result<(), Error>, Error>
+    requires plain { is_sync plain ≡ false }
+    requires direct { B.is_direct ≡ true }
+    requires some { 0 < offset + length bytes }
+    requires inside { offset + length bytes ≤ end }
+    ensures reserved { OnErr result (B.allows_reserve blob.old store.old end (refused result)) }
+    ensures done { IfOk result (λ done. done ≡ Ok tt) }
+    ensures live { OnOk result (B.live blob.new ≡ written (B.live blob.old) offset bytes) }
+    ensures err { OnErr result (B.live blob.new ≡ B.live blob.old) }
+    ensures durable { S.durable store.new ≡ S.durable store.old }
+    ensures directory { S.directory store.new ≡ S.directory store.old }
+{
+    blob.reserve(store, end)?;
+    Ok(blob.write_at(store, offset, bytes, plain))
 }

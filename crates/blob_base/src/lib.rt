@@ -25,6 +25,7 @@ pub mod resolution;
 pub mod sector_size;
 pub mod storage;
 mod stream_tables;
+pub mod value_laws;
 pub mod version;
 mod word_tables;
 

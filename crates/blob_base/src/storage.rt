@@ -7,7 +7,8 @@ ghost use Rattle.blob_base.specs.Durable.{Durable, changed, durable_without};
 ghost use Rattle.blob_base.specs.Live.{live_written, live_after};
 ghost use Rattle.blob_base.specs.Names.{AreNames};
 ghost use Rattle.blob_base.specs.Opening.{IsOpened, removed};
-ghost use Rattle.blob_base.specs.Handles.{outcome_of};
+ghost use Rattle.blob_base.specs.HandleCalls.{HandleCall, Read, Write, Resize, Sync, StartSync, Reserve};
+ghost use Rattle.blob_base.specs.Handles.{outcome_of, marker_of};
 ghost use Rattle.blob_base.specs.Options.{is_sync};
 ghost use Rattle.blob_base.specs.Places.{Place, same_place};
 ghost use Rattle.blob_base.specs.Refusals.{Refusal, refused, Memory, Injected, OffsetOverflow, IsMemory};
@@ -54,6 +55,10 @@ pub trait Durable {
 /// sizes are logical, in bytes: they count from behind the blob's header. It is stale once its incarnation isn't current any
 /// more, and no call of a stale handle changes a durable byte.
 ///
+/// The store that it is lent has to be the one that opened it, or one that was rebuilt from that store. At any other it stands
+/// for whatever incarnation has its name and number there, which the types don't rule out: a SYNC write through it may be
+/// answered Ok and change that store.
+///
 /// Each call may be refused with `Memory` in place of any other answer, and then changes nothing but a wrapper's generator. A
 /// wrapper adds `Injected`, before it asks the store inside; what else it may answer its own docs say. What each implementation
 /// refuses, in which order and with what it leaves, is in docs/BEHAVIOUR.md.
@@ -66,6 +71,9 @@ pub trait Blob<S: Durable> {
 
     // up to which logical end it can be written without memory
     ghost room: { Self → S → ℕ };
+
+    // up to which logical end its live bytes can be written without memory, by a stale handle too
+    ghost live_room: { Self → ℕ };
 
     // whether reserved room is kept, and a refused call changes no durable byte: so of a store that injects nothing
     ghost is_direct: { Bool };
@@ -83,6 +91,9 @@ pub trait Blob<S: Durable> {
 
     ghost allows_reserve: { Self → S → ℕ → Option Refusal → Type 0 };
 
+    // what else a call leaves, by the handle and the store at entry, its answer, and both after it: of what they keep besides files
+    ghost leaves: { HandleCall → Self → S → Option Refusal → Self → S → Type 0 };
+
     /// Reads exactly `len` live bytes at the logical `offset`, by a stale handle too. A read of no bytes is answered Ok up to the
     /// end of the live bytes, and refused behind it.
     ///
@@ -98,6 +109,7 @@ pub trait Blob<S: Durable> {
         options: ReadOptions,
     ) -> Result<IoBufsMut, Error>
         ensures allowed { allows_read self.now store.old offset len (refused result) }
+        ensures leaves { leaves (Read offset len) self.now store.old (refused result) self.now store.new }
         ensures within { OnOk result (offset + len ≤ length (live self.now)) }
         ensures bytes { IfOk result (λ read. read.bytes ≡ take len (drop offset (live self.now))) }
         ensures directory { S.directory store.new ≡ S.directory store.old }
@@ -120,6 +132,7 @@ pub trait Blob<S: Durable> {
     ) -> Result<IoBufsMut, Error>
         requires { len ≤ buf.capacity }
         ensures allowed { allows_read self.now store.old offset len (refused result) }
+        ensures leaves { leaves (Read offset len) self.now store.old (refused result) self.now store.new }
         ensures within { OnOk result (offset + len ≤ length (live self.now)) }
         ensures bytes { IfOk result (λ read. read.bytes ≡ take len (drop offset (live self.now))) }
         ensures buffer { IfOk result (λ read. buf.capacity ≤ read.capacity) }
@@ -146,11 +159,13 @@ pub trait Blob<S: Durable> {
         options: WriteOptions,
     ) -> Result<(), Error>
         ensures allowed { allows_write self.old store.old offset bytes (is_sync options) (refused result) }
+        ensures leaves { leaves (Write offset bytes (is_sync options)) self.old store.old (refused result) self.new store.new }
         ensures live { OnOk result (live self.new ≡ live_written (is_sync options) (live self.old) offset bytes) }
         ensures synced { OnOk result (is_sync options ≡ true → S.durable store.new ≡ changed (S.durable store.old) (place self.old) (λ x. overlay x offset bytes)) }
         ensures current { OnOk result (is_sync options ≡ true → bytes ≢ [] → is_current (S.directory store.old) (place self.old) ≡ true) }
         ensures plain { OnOk result (is_sync options ≡ false → S.durable store.new ≡ S.durable store.old) }
         ensures room { OnOk result (is_sync options ≡ true → room self.old store.old ≤ room self.new store.new) }
+        ensures live_room { live_room self.old ≤ live_room self.new }
 
         // a refusal
         ensures memory { IsMemory result → (live self.new ≡ live self.old) × (S.durable store.new ≡ S.durable store.old) }
@@ -170,6 +185,7 @@ pub trait Blob<S: Durable> {
     /// answer `Injected`, and has then perhaps reached a length between the old and the wanted one.
     fn resize(&mut self, store: &mut S, len: u64) -> Result<(), Error>
         ensures allowed { allows_resize self.old store.old len (refused result) }
+        ensures leaves { leaves (Resize len) self.old store.old (refused result) self.new store.new }
         ensures live { OnOk result (live self.new ≡ resized (live self.old) len) }
         ensures memory { IsMemory result → live self.new ≡ live self.old }
         ensures direct_live { is_direct ≡ true → OnErr result (live self.new ≡ live self.old) }
@@ -184,6 +200,7 @@ pub trait Blob<S: Durable> {
     /// `BlobMissing` by a stale handle; `Memory`. A wrapper may also answer `Injected`. No durable byte changes.
     fn sync(&mut self, store: &mut S) -> Result<(), Error>
         ensures allowed { allows_sync self.old store.old (refused result) }
+        ensures leaves { leaves Sync self.old store.old (refused result) self.new store.new }
         ensures synced { OnOk result (S.durable store.new ≡ changed (S.durable store.old) (place self.old) (λ _. live self.old)) }
         ensures current { OnOk result (is_current (S.directory store.old) (place self.old) ≡ true) }
         ensures err { OnErr result (S.durable store.new ≡ S.durable store.old) }
@@ -201,6 +218,9 @@ pub trait Blob<S: Durable> {
     /// The outcome may be what `sync` may answer, and of a wrapper `GenerationsExhausted`. No durable byte changes then.
     fn start_sync(&mut self, store: &mut S) -> Handle
         ensures allowed { allows_start_sync self.old store.old (refused (outcome_of result)) }
+        ensures leaves { leaves (StartSync (marker_of result)) self.old store.old (refused (outcome_of result)) self.new store.new }
+        ensures unmarked { IsSome (refused (outcome_of result)) → marker_of result ≡ None }
+        ensures direct_unmarked { is_direct ≡ true → marker_of result ≡ None }
         ensures synced { refused (outcome_of result) ≡ None → S.durable store.new ≡ changed (S.durable store.old) (place self.old) (λ _. live self.old) }
         ensures current { refused (outcome_of result) ≡ None → is_current (S.directory store.old) (place self.old) ≡ true }
         ensures err { IsSome (refused (outcome_of result)) → S.durable store.new ≡ S.durable store.old }
@@ -216,8 +236,11 @@ pub trait Blob<S: Durable> {
     /// `OffsetOverflow` where the end, with the header, can't be counted, which is tested first; `Memory`.
     fn reserve(&mut self, store: &mut S, end: u64) -> Result<(), Error>
         ensures allowed { allows_reserve self.old store.old end (refused result) }
+        ensures leaves { leaves (Reserve end) self.old store.old (refused result) self.new store.new }
         ensures room { is_direct ≡ true → is_current (S.directory store.old) (place self.old) ≡ true → OnOk result (end ≤ room self.new store.new) }
+        ensures live_room { is_direct ≡ true → OnOk result (end ≤ live_room self.new) }
         ensures kept { room self.old store.old ≤ room self.new store.new }
+        ensures live_kept { live_room self.old ≤ live_room self.new }
         ensures answers { (later : ℕ) (answer : Option Refusal) → allows_reserve self.new store.new later answer → allows_reserve self.old store.old later answer }
         ensures write_answers { (offset : ℕ) (bytes : List ℕ) (sync : Bool) (answer : Option Refusal) → allows_write self.new store.new offset bytes sync answer → allows_write self.old store.old offset bytes sync answer }
         ensures live { live self.new ≡ live self.old }
@@ -248,6 +271,9 @@ pub trait Blob<S: Durable> {
     // a store that injects nothing does a SYNC write by a current handle within its room
     ghost done_within: { (b : Self) (s : S) (offset : ℕ) (bytes : List ℕ) (r : Refusal) → is_direct ≡ true → is_current (S.directory s) (place b) ≡ true → offset + length bytes ≤ room b s → allows_write b s offset bytes true (Some r) → ⊥ };
 
+    // nor does it refuse a plain write within the room of its handle's live bytes
+    ghost plain_done_within: { (b : Self) (s : S) (offset : ℕ) (bytes : List ℕ) (r : Refusal) → is_direct ≡ true → 0 < offset + length bytes → offset + length bytes ≤ live_room b → allows_write b s offset bytes false (Some r) → ⊥ };
+
     // room is refused for an end past what can be counted, and for want of memory
     ghost reserve_refused: { (b : Self) (s : S) (end : ℕ) (r : Refusal) → allows_reserve b s end (Some r) → (r ≡ OffsetOverflow) ⊎ (r ≡ Memory) };
 }
@@ -272,6 +298,11 @@ pub trait Storage: Durable {
     ghost leaves_open: { Self → List ℕ → List ℕ → ℕ → ℕ → Option Refusal → Self → Type 0 };
 
     ghost leaves_remove: { Self → List ℕ → Option (List ℕ) → Option Refusal → Self → Type 0 };
+
+    ghost leaves_scan: { Self → List ℕ → Option Refusal → Self → Type 0 };
+
+    // by the marker that the finished handle carries
+    ghost leaves_finish: { Self → Option ℕ → Self → Type 0 };
 
     // what a handle that an open answers keeps of the size that is answered with it
     ghost keeps_size: { Self.Blob → ℕ → Type 0 };
@@ -341,6 +372,7 @@ pub trait Storage: Durable {
     /// `PartitionNameInvalid`, then `PartitionMissing`; `Memory`. A wrapper answers `Injected` before these.
     fn scan(&mut self, partition: &str) -> Result<Vec<Vec<u8>>, Error>
         ensures allowed { allows_scan self.old partition.now (refused result) }
+        ensures leaves { leaves_scan self.old partition.now (refused result) self.new }
         ensures names { IfOk result (λ names. AreNames (map (λ name. name.items) names.items) (λ name. is_some ((Self.directory self.old).file partition.now name))) }
         ensures there { OnOk result (IsTrue ((Self.directory self.old).has_partition partition.now)) }
         ensures directory { Self.directory self.new ≡ Self.directory self.old }
@@ -352,8 +384,12 @@ pub trait Storage: Durable {
     /// # Errors
     ///
     /// The outcome of the sync, and nothing of its own.
+    ///
+    /// The handle has to be one that a sync through this store answered. A marker is a number, so that at another wrapper
+    /// whatever stands up to its own marker of that number would be retired.
     fn finish(&mut self, handle: Handle) -> Result<(), Error>
         ensures outcome { refused result ≡ refused (outcome_of handle) }
+        ensures leaves { leaves_finish self.old (marker_of handle) self.new }
         ensures directory { Self.directory self.new ≡ Self.directory self.old }
         ensures durable { Self.durable self.new ≡ Self.durable self.old };
 }

@@ -79,11 +79,11 @@ module _ (p n : List ℕ) where
   not_refused false false true true o now e = cc
   not_refused false false false true o now e = cc
 
-  current_write : (d : Directory) (o : Place) (room offset : ℕ) (bytes : List ℕ) (sync : Bool) → is_current d o ≡ true → AllowsWrite d o room offset bytes sync gone → ⊥
+  current_write : (d : Directory) (o : Place) (room : Bool → ℕ) (offset : ℕ) (bytes : List ℕ) (sync : Bool) → is_current d o ≡ true → AllowsWrite d o room offset bytes sync gone → ⊥
   current_write d o room offset bytes sync now (inl h) = let e = h.0 in cc
   current_write d o room offset bytes sync now (inr e) = not_refused (is_idle sync bytes) (memory.is_uncounted (offset + o.start + length bytes)) sync (is_current d o) o now e
 
-pub current_found : (d : Directory) (o : Place) (room : ℕ) (direct : Bool) (config : Config) (next : ℕ) (stream : Stream) (offset : ℕ) (bytes : List ℕ) (sync : Bool) (answer : Option Refusal) → is_current d o ≡ true →
+pub current_found : (d : Directory) (o : Place) (room : Bool → ℕ) (direct : Bool) (config : Config) (next : ℕ) (stream : Stream) (offset : ℕ) (bytes : List ℕ) (sync : Bool) (answer : Option Refusal) → is_current d o ≡ true →
     allows_write (λ at b s. AllowsWrite d o room at b s) (λ end. OrMemory (end_refusal o end)) direct config next stream offset bytes sync answer → (p n : List ℕ) → answer ≡ Some (BlobMissing p n) → ⊥
 current_found d o room direct config next stream offset bytes sync answer now h p n e =
     not_missing p n (λ at b s. AllowsWrite d o room at b s) (λ end. OrMemory (end_refusal o end)) (λ at b s. current_write p n d o room at b s now) (no_end p n o) direct config next stream offset bytes sync

@@ -5,6 +5,7 @@ pub mod Certain
 pub mod Drawings
 pub mod Fates
 pub mod Faults
+pub mod HandleLeaves
 pub mod Lends
 pub mod Lists
 pub mod Marks

@@ -1,5 +1,5 @@
 -- What opens and removals leave of a wrapper, and what that makes of the files that it stands for.
-use Rattle.std.specs.Prelude.{◌≡◌, Bool, List, [], cond, Option, None, IsSome, MatchBool}
+use Rattle.std.specs.Prelude.{◌≡◌, ℕ, Bool, List, [], cond, Option, None, IsSome, MatchBool}
 use Rattle.rand_core.specs.Stream.{Stream}
 use Rattle.blob_base.specs.Directory.{Directory}
 use Rattle.blob_base.specs.Durable.{Durable}
@@ -9,7 +9,7 @@ use Rattle.blob_base.specs.Places.{Place}
 use Rattle.blob_base.specs.Refusals.{Refusal}
 use Rattle.blob_faulty.specs.declared.storage.Storage.{Storage}
 use Rattle.blob_faulty.specs.Faults.{draw}
-use Rattle.blob_faulty.specs.Wrapper.{inner_of, rng_of, config_of, pending_of, KeepsNumbers, KeepsRecords, Stands}
+use Rattle.blob_faulty.specs.Wrapper.{inner_of, rng_of, config_of, pending_of, finished_by, KeepsNumbers, KeepsRecords, Stands}
 
 -- pending lists, where those of some incarnations are retired
 abbrev pub emptied : (Place → Bool) → (Place → List Pending) → Place → List Pending
@@ -35,6 +35,22 @@ pub record RemoveLeaves {S R O : Type 0} (place : O → Place) (stream : R → S
   -- after a refusal the same is pending
   pub kept : IsSome answer → (o : Place) → pending_of place after o ≡ pending_of place before o
   pub numbers : KeepsNumbers before after
+
+-- a scan
+pub record ScanLeaves {S R O : Type 0} (place : O → Place) (stream : R → Stream) (before after : Storage S R O) : Type 0 where
+  -- one draw of the scan rate is taken
+  pub drawn : stream (rng_of after) ≡ (draw (config_of before).scan_rate (stream (rng_of before))).1
+  -- nothing is recorded and nothing retired
+  pub records : KeepsRecords place before after
+
+-- a started sync that is finished, by the marker that its handle carries
+pub record FinishLeaves {S R O : Type 0} (place : O → Place) (marker : Option ℕ) (before after : Storage S R O) : Type 0 where
+  -- it goes with what stands before it
+  pub finished : (o : Place) → pending_of place after o ≡ finished_by marker (pending_of place before o)
+  pub numbers : KeepsNumbers before after
+  -- nothing is drawn, and the inner store isn't asked
+  pub rng : rng_of after ≡ rng_of before
+  pub inner : inner_of after ≡ inner_of before
 
 -- whatever files a wrapper stood for, it now stands for what this step makes of them
 abbrev pub Steps : {S R O : Type 0} → (O → Place) → (S → Directory) → (S → Durable) → Storage S R O → Storage S R O → (Files → Files) → Type 0

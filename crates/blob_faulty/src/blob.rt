@@ -12,6 +12,7 @@ ghost use Rattle.blob_base.specs.Places.{Place};
 ghost use Rattle.blob_base.specs.Refusals.{Refusal, refused, Memory, IsMemory};
 ghost use Rattle.blob_faulty.specs.Answers.{or_memory, injected_or, allows_write as answers_write, allows_resize as answers_resize, allows_start};
 ghost use Rattle.blob_faulty.specs.Faults.{Done, draw, write_fate, resize_fate, after_write};
+ghost use Rattle.blob_faulty.specs.HandleLeaves.{HandleLeaves};
 ghost use Rattle.blob_faulty.specs.Recorded.{recorded_write, recorded_resize, live_of_write, live_of_resize, size_of_write, size_of_resize};
 ghost use Rattle.blob_faulty.specs.Syncs.{Publishes, Starts};
 ghost use Rattle.blob_faulty.specs.Wrapper.{inner_of, rng_of, config_of, next_write_of, next_marker_of, pending_of, inside, size_of, KeepsRecords, KeepsNumbers, Adds};
@@ -53,6 +54,8 @@ impl<S: blob_base::Storage, R: Rng, B: blob_base::Blob<S>> blob_base::Blob<Stora
     // a call of the wrapper may want memory of its own, and may be refused by a draw
     ghost room = { λ b s. 0 };
 
+    ghost live_room = { λ b. 0 };
+
     ghost is_direct = { false };
 
     ghost allows_read = { λ b s offset len. injected_or (draw s.config.read_rate (R.stream s.rng)).0 (B.allows_read b.inner s.inner offset len) };
@@ -66,6 +69,8 @@ impl<S: blob_base::Storage, R: Rng, B: blob_base::Blob<S>> blob_base::Blob<Stora
     ghost allows_start_sync = { λ b s. allows_start (draw s.config.sync_rate (R.stream s.rng)).0 s.next_marker (B.allows_start_sync b.inner s.inner) };
 
     ghost allows_reserve = { λ b s end. B.allows_reserve b.inner s.inner end };
+
+    ghost leaves = { λ call b before answer c after. HandleLeaves S.directory S.durable S.place B.place B.live R.stream B.is_direct call b before answer c after };
 
     /// Draws the read rate, then reads through the handle inside, current or stale. Records nothing.
     ///
@@ -329,6 +334,8 @@ impl<S: blob_base::Storage, R: Rng, B: blob_base::Blob<S>> blob_base::Blob<Stora
     ghost within_room = { λ b s offset bytes now fits h. write_empty (B.allows_write b.inner s.inner) (B.allows_reserve b.inner s.inner) B.is_direct s.config s.next_write (R.stream s.rng) offset bytes fits h };
 
     ghost done_within = { λ b s offset bytes r direct now fits h. absurd (false≢true direct) };
+
+    ghost plain_done_within = { λ b s offset bytes r direct some fits h. absurd (false≢true direct) };
 
     ghost reserve_refused = { λ b s end r h. B.reserve_refused b.inner s.inner end r h };
 }

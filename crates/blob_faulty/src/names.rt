@@ -10,7 +10,7 @@ ghost use Rattle.blob_base.specs.Places.{Place};
 ghost use Rattle.blob_base.specs.Refusals.{refused};
 ghost use Rattle.blob_faulty.specs.Answers.{injected_or};
 ghost use Rattle.blob_faulty.specs.Faults.{draw};
-ghost use Rattle.blob_faulty.specs.Names.{OpenLeaves, RemoveLeaves, Steps, emptied};
+ghost use Rattle.blob_faulty.specs.Names.{OpenLeaves, RemoveLeaves, ScanLeaves, FinishLeaves, Steps, emptied};
 ghost use Rattle.blob_faulty.specs.Wrapper.{inner_of, rng_of, config_of, pending_of, KeepsNumbers, KeepsRecords, finished_by, inside, size_of};
 
 use crate::blob::Blob;
@@ -118,6 +118,10 @@ impl<S: blob_base::Storage, R: Rng> blob_base::Storage for Storage<S, R> {
     ghost leaves_open = { λ before p n first last answer after. OpenLeaves S.place R.stream (S.leaves_open (inner_of before) p n first last answer) before after };
 
     ghost leaves_remove = { λ before p n answer after. RemoveLeaves S.place R.stream (S.leaves_remove (inner_of before) p n answer) answer (ends_by (S.directory (inner_of before)) p n) before after };
+
+    ghost leaves_scan = { λ before p answer after. ScanLeaves S.place R.stream before after };
+
+    ghost leaves_finish = { λ before marker after. FinishLeaves S.place marker before after };
 
     ghost keeps_size = { λ blob size. (size_of blob ≡ size) × S.keeps_size (inside blob) size };
 

@@ -38,7 +38,7 @@ same_held h h' live size p l s r i = record { place = p i; live = l i; size = s 
 
 -- A write.
 
-module _ (w w' : Wrapper) (h h' : Held) (room offset : ℕ) (bytes : List ℕ) (sync : Bool) (apart : (chosen : List Bool) → AreRunsApart offset (runs offset bytes chosen))
+module _ (w w' : Wrapper) (h h' : Held) (room : Bool → ℕ) (offset : ℕ) (bytes : List ℕ) (sync : Bool) (apart : (chosen : List Bool) → AreRunsApart offset (runs offset bytes chosen))
     (names : directory (store_of w') ≡ directory (store_of w)) (config : config_of w' ≡ config_of w) (place : h'.place ≡ h.place) (registration : h'.registration ≡ h.registration) where
   abbrev denial : Directory → ℕ → Option Refusal
   denial d next =

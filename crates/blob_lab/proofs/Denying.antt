@@ -51,7 +51,7 @@ then_denial first second before later f s answer (inr (none, a)) =
     let free : before ≡ None = sym (not_memory before (f None none)) in
     subst (λ (x : Option Refusal). OrMemory (or_then x later) answer) (sym free) (s free answer a)
 
-module _ (d : Directory) (o : Place) (room : ℕ) where
+module _ (d : Directory) (o : Place) (room : Bool → ℕ) where
   abbrev writes : ℕ → List ℕ → Bool → Allowed
   writes offset bytes sync answer = AllowsWrite d o room offset bytes sync answer
 

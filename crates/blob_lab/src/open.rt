@@ -48,11 +48,15 @@ impl<B> Blob<B> {
 }
 
 impl<S: Durable, B: blob_base::Blob<S>> blob_base::Blob<S> for Blob<B> {
+    ghost use Rattle.blob_lab.specs.Opens.{registration_of};
+
     ghost live = { λ b. B.live b.inner };
 
     ghost place = { λ b. B.place b.inner };
 
     ghost room = { λ b. B.room b.inner };
+
+    ghost live_room = { λ b. B.live_room b.inner };
 
     ghost is_direct = { B.is_direct };
 
@@ -68,6 +72,9 @@ impl<S: Durable, B: blob_base::Blob<S>> blob_base::Blob<S> for Blob<B> {
 
     ghost allows_reserve = { λ b. B.allows_reserve b.inner };
 
+    // what the store's own handle leaves; it stays the handle of the same open
+    ghost leaves = { λ call b before answer c after. B.leaves call b.inner before answer c.inner after × (registration_of c ≡ registration_of b) };
+
     ghost stale_refused = { λ b. B.stale_refused b.inner };
 
     ghost uninjected = { λ b. B.uninjected b.inner };
@@ -77,6 +84,8 @@ impl<S: Durable, B: blob_base::Blob<S>> blob_base::Blob<S> for Blob<B> {
     ghost within_room = { λ b. B.within_room b.inner };
 
     ghost done_within = { λ b. B.done_within b.inner };
+
+    ghost plain_done_within = { λ b. B.plain_done_within b.inner };
 
     ghost reserve_refused = { λ b. B.reserve_refused b.inner };
 

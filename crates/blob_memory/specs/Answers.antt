@@ -80,10 +80,11 @@ remove_refusal d p (Some n) = name_refusal d p n
 abbrev pub OrMemory : Option Refusal → Option Refusal → Type 0
 OrMemory expected answer = (answer ≡ Some Memory) ⊎ (answer ≡ expected)
 
--- whether a write may take memory: an idle one doesn't, nor a SYNC write by a current handle within its room
-abbrev pub may_grow : Directory → Place → ℕ → ℕ → List ℕ → Bool → Bool
-may_grow d o room offset bytes sync = not (is_idle sync bytes || (sync && is_current d o && nat_le (offset + length bytes) room))
+-- whether a write may take memory, by the room of a SYNC write and of a plain one: an idle one doesn't, nor one within its
+-- room, by any handle a plain one and by a current handle a SYNC write
+abbrev pub may_grow : Directory → Place → (Bool → ℕ) → ℕ → List ℕ → Bool → Bool
+may_grow d o room offset bytes sync = not (is_idle sync bytes || ((not sync || is_current d o) && nat_le (offset + length bytes) (room sync)))
 
-abbrev pub AllowsWrite : Directory → Place → ℕ → ℕ → List ℕ → Bool → Option Refusal → Type 0
+abbrev pub AllowsWrite : Directory → Place → (Bool → ℕ) → ℕ → List ℕ → Bool → Option Refusal → Type 0
 AllowsWrite d o room offset bytes sync answer =
     ((answer ≡ Some Memory) × IsTrue (may_grow d o room offset bytes sync)) ⊎ (answer ≡ write_refusal d o offset bytes sync)

@@ -3,6 +3,7 @@ pub mod Answers
 pub mod Contents
 pub mod Found
 pub mod Laws
+pub mod Leaves
 pub mod Listing
 pub mod Maps
 pub mod Numbers

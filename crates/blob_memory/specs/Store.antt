@@ -1,5 +1,5 @@
 -- A memory store and its handles, as the contracts of their calls see them.
-use Rattle.std.specs.Prelude.{ℕ, ◌-◌, ◌^◌, min, List, Option, None, Some, Vec, vec_capacity}
+use Rattle.std.specs.Prelude.{ℕ, ◌-◌, ◌^◌, min, Bool, true, false, List, Option, None, Some, Vec, vec_capacity}
 use Rattle.std.specs.Global.{Global}
 use Rattle.blob_base.specs.Audit.{Listed}
 use Rattle.blob_base.specs.Directory.{Directory}
@@ -32,9 +32,17 @@ abbrev pub room_in : ℕ → Option (Vec ℕ Global) → ℕ
 room_in capacity None = 0
 room_in capacity (Some v) = min capacity (vec_capacity v)
 
--- no further than can be counted behind the header
+-- how far live bytes reach without memory, no further than can be counted behind the header
+abbrev pub live_room : Blob → ℕ
+live_room b = min (2 ^ 64 - 1 - b.origin.start) (vec_capacity b.live)
+
 abbrev pub room : Blob → Storage → ℕ
-room b s = room_in (min (2 ^ 64 - 1 - b.origin.start) (vec_capacity b.live)) (vec_at s.contents b.origin)
+room b s = room_in (live_room b) (vec_at s.contents b.origin)
+
+-- the room of a SYNC write, and of a plain one
+abbrev pub room_for : Blob → Storage → Bool → ℕ
+room_for b s true = room b s
+room_for b s false = live_room b
 
 -- an incarnation isn't current, or its durable bytes can be so many without memory
 abbrev pub HasCrashRoom : Storage → Place → ℕ → Type 0

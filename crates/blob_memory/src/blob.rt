@@ -53,12 +53,14 @@ impl Blob {
 
 impl Blob {
     ghost use Rattle.blob_memory.specs.Answers.{AllowsWrite};
-    ghost use Rattle.blob_memory.specs.Store.{place, live, directory, durable, room};
+    ghost use Rattle.blob_memory.specs.Store.{place, live, directory, durable, live_room, room, room_for};
+    ghost use Rattle.blob_memory.specs.declared.storage.Storage.{Storage};
 
     /// Writes the live bytes alone.
     fn write_plain(&mut self, offset: u64, bytes: &IoBufs) -> Result<(), Error>
-        ensures allowed { (d : Directory) (room : ℕ) → AllowsWrite d (place self.old) room offset bytes.now false (refused result) }
+        ensures allowed { (s : Storage) → AllowsWrite (directory s) (place self.old) (room_for self.old s) offset bytes.now false (refused result) }
         ensures live { live self.new ≡ live_after false (live self.old) offset bytes.now (refused result) }
+        ensures room { live_room self.old ≤ live_room self.new }
         ensures place { place self.new ≡ place self.old }
     {
         let end = live::logical_end(self.origin.data_offset(), offset, bytes.remaining())?;
@@ -69,13 +71,14 @@ impl Blob {
 
     /// Writes the live bytes, and makes the range durable where the incarnation is current.
     fn write_sync(&mut self, store: &mut Storage, offset: u64, bytes: &IoBufs) -> Result<(), Error>
-        ensures allowed { AllowsWrite (directory store.old) (place self.old) (room self.old store.old) offset bytes.now true (refused result) }
+        ensures allowed { AllowsWrite (directory store.old) (place self.old) (room_for self.old store.old) offset bytes.now true (refused result) }
         ensures live { live self.new ≡ live_after true (live self.old) offset bytes.now (refused result) }
         ensures durable { OnOk result (durable store.new ≡ changed (durable store.old) (place self.old) (λ x. overlay x offset bytes.now)) }
         ensures current { OnOk result (bytes.now ≢ [] → is_current (directory store.old) (place self.old) ≡ true) }
         ensures stale { is_current (directory store.old) (place self.old) ≡ false → durable store.new ≡ durable store.old }
         ensures err { OnErr result (durable store.new ≡ durable store.old) }
         ensures room { OnOk result (room self.old store.old ≤ room self.new store.new) }
+        ensures live_room { live_room self.old ≤ live_room self.new }
         ensures directory { directory store.new ≡ directory store.old }
         ensures place { place self.new ≡ place self.old }
     {
@@ -99,9 +102,10 @@ impl Blob {
 }
 
 impl blob_base::Blob<Storage> for Blob {
-    ghost use Rattle.blob_memory.specs.AnswerLaws.{stale_refused, uninjected, resize_uninjected, done_within, reserve_refused, within_room};
+    ghost use Rattle.blob_memory.specs.AnswerLaws.{stale_refused, uninjected, resize_uninjected, done_within, plain_done_within, reserve_refused, within_room};
     ghost use Rattle.blob_memory.specs.Answers.{OrMemory, AllowsWrite, end_refusal, sync_refusal};
-    ghost use Rattle.blob_memory.specs.Store.{place, live, directory, durable, room};
+    ghost use Rattle.blob_memory.specs.Leaves.{Leaves};
+    ghost use Rattle.blob_memory.specs.Store.{place, live, directory, durable, live_room, room, room_for};
 
     ghost live = { live };
 
@@ -109,11 +113,13 @@ impl blob_base::Blob<Storage> for Blob {
 
     ghost room = { room };
 
+    ghost live_room = { live_room };
+
     ghost is_direct = { true };
 
     ghost allows_read = { λ b s offset len. OrMemory (read_refusal (place b) (live b) offset len) };
 
-    ghost allows_write = { λ b s offset bytes sync. AllowsWrite (directory s) (place b) (room b s) offset bytes sync };
+    ghost allows_write = { λ b s offset bytes sync. AllowsWrite (directory s) (place b) (room_for b s) offset bytes sync };
 
     ghost allows_resize = { λ b s len. OrMemory (end_refusal (place b) len) };
 
@@ -123,6 +129,8 @@ impl blob_base::Blob<Storage> for Blob {
 
     ghost allows_reserve = { λ b s end. OrMemory (end_refusal (place b) end) };
 
+    ghost leaves = { λ call b before answer c after. Leaves call before after };
+
     ghost stale_refused = { stale_refused };
 
     ghost uninjected = { uninjected };
@@ -130,6 +138,8 @@ impl blob_base::Blob<Storage> for Blob {
     ghost resize_uninjected = { resize_uninjected };
 
     ghost done_within = { done_within };
+
+    ghost plain_done_within = { plain_done_within };
 
     ghost reserve_refused = { reserve_refused };
 
@@ -170,6 +180,7 @@ impl blob_base::Blob<Storage> for Blob {
     ) -> Result<IoBufsMut, Error>
         requires { len ≤ buf.capacity }
         ensures allowed { refused result ≡ read_refusal (place self.now) (live self.now) offset len }
+        ensures leaves { store.new ≡ store.old }
         ensures within { OnOk result (offset + len ≤ length (live self.now)) }
         ensures bytes { IfOk result (λ read. read.bytes ≡ take len (drop offset (live self.now))) }
         ensures buffer { IfOk result (λ read. buf.capacity ≤ read.capacity) }

@@ -4,7 +4,7 @@ use blob_base::{BlobVersion, Layout};
 /// A blob that an open has accepted. Its header is kept as what it says, so no write can reach it.
 #[derive(Drop)]
 pub struct Held {
-    /// The incarnation's number, which no other incarnation has.
+    /// The incarnation's number, which no other incarnation of the store has.
     pub number: u64,
     pub layout: Layout,
     pub version: BlobVersion,

@@ -5,6 +5,9 @@ use std::alloc::{AllocError, Global};
 use std::marker::Model;
 
 /// The incarnation of a blob that a handle was opened on.
+///
+/// It names one incarnation of the store that answered it, and of those that are built of that store's snapshots. Another
+/// store has incarnations of the same names and numbers, so it says nothing there.
 #[derive(Drop)]
 pub struct Origin {
     partition: String,
@@ -92,7 +95,7 @@ impl Origin {
         self.name.as_slice()
     }
 
-    /// The number of the incarnation, which no other incarnation has.
+    /// The number of the incarnation, which no other incarnation of the same store has.
     pub fn generation(&self) -> u64
         ensures { result ≡ self.now.number }
     {

@@ -129,6 +129,10 @@ impl blob_base::Storage for Storage {
 
     ghost leaves_remove = { λ before p n answer after. Unit {0} };
 
+    ghost leaves_scan = { λ before p answer after. after ≡ before };
+
+    ghost leaves_finish = { λ before marker after. after ≡ before };
+
     ghost keeps_size = { λ blob size. Unit {0} };
 
     /// A current incarnation goes on under its number. A valid raw file of either layout becomes one with the bytes behind its

@@ -1,6 +1,6 @@
 use Rattle.std.proofs.Common.{◌≡◌, subst, arith}
 use Rattle.blob_memory.specs.Contents.{vec_at, Fits}
-use Rattle.blob_memory.specs.AnswerLaws.{answers_kept}
+use Rattle.blob_memory.specs.AnswerLaws.{answers_kept, both_rooms}
 use Rattle.blob_memory.specs.Store.{place, directory}
 use Rattle.blob_memory.proofs.Rooms.{room_kept, room_reached}
 use Rattle.blob_memory.proofs.blob.BlobBlobStorage.reserve.Goals as goal
@@ -9,7 +9,7 @@ pub returns-in_err-reserve_crash-clause-kept : goal.returns-in_err-reserve_crash
 returns-in_err-reserve_crash-clause-kept c = room_kept c.args.store.now.contents c.reserve_crash.new.self (place c.args.self.now) _ _ (omega (arith, c.make_room.ensures.capacity)) c.reserve_crash.ensures.directory c.reserve_crash.ensures.room
 
 pub returns-in_err-reserve_crash-clause-write_answers : goal.returns-in_err-reserve_crash-clause-write_answers
-returns-in_err-reserve_crash-clause-write_answers c = answers_kept (directory c.args.store.now) _ (place c.args.self.now) _ _ c.reserve_crash.ensures.directory (returns-in_err-reserve_crash-clause-kept c)
+returns-in_err-reserve_crash-clause-write_answers c = answers_kept (directory c.args.store.now) _ (place c.args.self.now) _ _ c.reserve_crash.ensures.directory (both_rooms _ _ (returns-in_err-reserve_crash-clause-kept c) (omega (arith, c.make_room.ensures.capacity)))
 
 pub returns-clause-room : goal.returns-clause-room
 returns-clause-room c = λ _ now.
@@ -21,4 +21,4 @@ pub returns-clause-kept : goal.returns-clause-kept
 returns-clause-kept c = room_kept c.args.store.now.contents c.reserve_crash.new.self (place c.args.self.now) _ _ (omega (arith, c.make_room.ensures.capacity)) c.reserve_crash.ensures.directory c.reserve_crash.ensures.room
 
 pub returns-clause-write_answers : goal.returns-clause-write_answers
-returns-clause-write_answers c = answers_kept (directory c.args.store.now) _ (place c.args.self.now) _ _ c.reserve_crash.ensures.directory (returns-clause-kept c)
+returns-clause-write_answers c = answers_kept (directory c.args.store.now) _ (place c.args.self.now) _ _ c.reserve_crash.ensures.directory (both_rooms _ _ (returns-clause-kept c) (omega (arith, c.make_room.ensures.capacity)))

@@ -1,6 +1,5 @@
 use Rattle.std.proofs.Common.{◌≡◌, ◌∙◌, sym, false}
 use Rattle.blob_base.specs.Options.{is_sync}
-use Rattle.blob_memory.specs.Store.{directory, room}
 use Rattle.std.proofs.lemmas.Result.{on_ok_weaker}
 use Rattle.blob_memory.proofs.blob.BlobBlobStorage.write_at.Goals as goal
 
@@ -10,7 +9,7 @@ returns-then-contains-clause-synced c = on_ok_weaker c.write_sync.result (λ h _
 pub returns-clause-allowed : goal.returns-clause-allowed
 returns-clause-allowed c =
     let plain : is_sync c.args.options ≡ false = sym c.contains.ensures ∙ c.if-contains.false in
-    rw plain (c.write_plain.ensures.allowed (directory c.args.store.now) (room c.args.self.now c.args.store.now))
+    rw plain (c.write_plain.ensures.allowed c.args.store.now)
 
 pub returns-clause-direct_live : goal.returns-clause-direct_live
 returns-clause-direct_live c =

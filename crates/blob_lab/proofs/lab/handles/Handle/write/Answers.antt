@@ -1,7 +1,7 @@
 use Rattle.std.proofs.Common.{◌≡◌, ◌≢◌, refl, List, ℕ, Bool, Some, None, subst}
 use Rattle.blob_base.specs.Options.{is_sync}
 use Rattle.blob_base.specs.Refusals.{Memory}
-use Rattle.blob_memory.specs.Store.{room}
+use Rattle.blob_memory.specs.Store.{room_for}
 use Rattle.blob_faulty.specs.Wrapper.{inside, inner_of as store_of}
 use Rattle.blob_lab.specs.Acts.{Write}
 use Rattle.blob_lab.specs.LabStands.{Asks}
@@ -27,7 +27,7 @@ returns-in-Ok-write_at c =
     let copied : c.in-Ok.copy ≡ c.args.bytes.now = c.in-Ok.ensures.ok in
     subst (λ (s : Bool). Asks w h (Write c.args.offset c.args.bytes.now s) Done w' h') c.options_of-options.ensures
     (subst (λ (b : List ℕ). Asks w h (Write c.args.offset b sync) Done w' h') copied
-    (write_done w w' h h' (room (inside c.args.self.now.blob) (store_of w)) c.args.offset c.in-Ok.copy sync (λ chosen. c.runs_are_choices.ensures.apart c.args.offset c.in-Ok.copy chosen) e.directory e.config e.place refl
+    (write_done w w' h h' (room_for (inside c.args.self.now.blob) (store_of w)) c.args.offset c.in-Ok.copy sync (λ chosen. c.runs_are_choices.ensures.apart c.args.offset c.in-Ok.copy chosen) e.directory e.config e.place refl
     e.allowed (e.stream not_refused) (e.recorded refl) (e.live_after refl) (e.size refl)))
 
 pub returns-in-Err-write_at : goal.returns-in-Err-write_at
@@ -41,5 +41,5 @@ returns-in-Err-write_at c =
     let copied : c.in-Ok.copy ≡ c.args.bytes.now = c.in-Ok.ensures.ok in
     subst (λ (s : Bool). Asks w h (Write c.args.offset c.args.bytes.now s) (Failed c.in-Err-write_at.e) w' h') c.options_of-options.ensures
     (subst (λ (b : List ℕ). Asks w h (Write c.args.offset b sync) (Failed c.in-Err-write_at.e) w' h') copied
-    (write_failed w w' h h' (room (inside c.args.self.now.blob) (store_of w)) c.args.offset c.in-Ok.copy sync (λ chosen. c.runs_are_choices.ensures.apart c.args.offset c.in-Ok.copy chosen) e.directory e.config e.place refl
+    (write_failed w w' h h' (room_for (inside c.args.self.now.blob) (store_of w)) c.args.offset c.in-Ok.copy sync (λ chosen. c.runs_are_choices.ensures.apart c.args.offset c.in-Ok.copy chosen) e.directory e.config e.place refl
     c.in-Err-write_at.e e.allowed e.stream (e.recorded refl) (e.live_after refl) (e.size refl)))
