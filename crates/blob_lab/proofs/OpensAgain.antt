@@ -1,5 +1,6 @@
 -- An open that was accepted, and the open of the same name in a rebuilt store.
-use Rattle.std.proofs.Common.{◌≡◌, inl, inr, ℕ, ◌-◌, ◌^◌, ◌≤◌, Bool, true, false, not, if◌then◌else◌, List, ◌++◌, length, Option, Some, None, refl, sym, ap, ◌∙◌, subst, ne_eqb}
+use Rattle.std.proofs.Common.{◌≡◌, inl, inr, ℕ, ◌-◌, ◌^◌, ◌<◌, ◌≤◌, ◌==◌, Bool, true, false, not, ◌&&◌, if◌then◌else◌, List, ◌++◌, length, Option, Some, None, is_some, is_none, refl, sym, ap, ◌∙◌, subst, ne_eqb}
+use Rattle.hex.specs.Hex.{encode_lower}
 use Rattle.std.proofs.lemmas.Bool.{false≢true, and_from, le-leb}
 use Rattle.std.proofs.lemmas.Option.{none-some}
 use Rattle.rand_core.specs.Stream.{Stream}
@@ -11,14 +12,14 @@ use Rattle.blob_base.specs.Header.{region}
 use Rattle.blob_base.specs.Opening.{Opening, Continues, Begins, Declines, opening, place_of}
 use Rattle.blob_base.specs.Parse.{every_layout}
 use Rattle.blob_base.specs.PartitionName.{is_partition_name}
-use Rattle.blob_base.specs.Refusals.{Refusal, BlobVersionMismatch, PartitionNameInvalid, GenerationsExhausted}
+use Rattle.blob_base.specs.Refusals.{Refusal, BlobAlreadyOpen, BlobVersionMismatch, PartitionNameInvalid, GenerationsExhausted}
 use Rattle.blob_base.specs.Resolve.{resolution}
 use Rattle.blob_base.specs.Versions.{is_in_range}
 use Rattle.blob_base.proofs.RawFiles.{raw_opens, raw_not_continues}
 use Rattle.blob_faulty.specs.Faults.{draw}
 use Rattle.blob_memory.specs.Answers.{opening_refusal, open_refusal}
 use Rattle.blob_lab.specs.declared.reply.Reply.TheVariants as reply
-use Rattle.blob_lab.specs.Accepted.{opened_name, IsKept, Accepts, IsToldOf}
+use Rattle.blob_lab.specs.Accepted.{opened_name, IsKept, Accepts, HasFileOf, IsCurrent, IsRaw, OpensAs, IsToldOf}
 use Rattle.blob_lab.specs.Acts.{Act, Configure, Open, OpenLoose, Admit, Close, Through, Finish, Remove, Scan, Crash, Reopen, act_of}
 use Rattle.blob_lab.specs.After.{after}
 use Rattle.blob_lab.specs.Answers.{Answers, answer, found, size_of, unless_denied, version_of}
@@ -119,45 +120,78 @@ module _ (v : State) (handle size : ℕ) (version : BlobVersion) (left : Stream)
   accepted Crash p n same a = absurd (none-some _ same)
   accepted Reopen p n same a = absurd (none-some _ same)
 
--- An open in a rebuilt store.
+-- An open of a name that isn't open.
 
 in_range : (first last version : ℕ) → first ≤ version → version ≤ last → is_in_range first last version ≡ true
 in_range first last version least greatest = and_from _ _ (le-leb first version least) (le-leb version last greatest)
 
-module _ (v : State) (rest : Stream) (p n : List ℕ) (first last version : ℕ) (accepts : Accepts v rest first last version) where
-  abbrev again : State
-  again = after v Reopen None rest
+module _ (v : State) (p n : List ℕ) (first last version : ℕ) (accepts : Accepts v v.stream first last version) (free : v.names.registered p n ≡ None) where
+  abbrev Told_as : ℕ → Type 0
+  Told_as size = (answer v (Open p n (Some (first, last)))).0 ≡ told.Opened (length v.handles) size version
+
+  undenied : open_refusal v.files.directory p n first last ≡ None → open_denial v p n first last ≡ None
+  undenied store =
+      ap (λ b. or_then (exhausted_if b) (or_then (loose_denial v p n first last) (open_already v.names p n)))
+      (ap (λ (o : Option ℕ). is_none o && (v.names.next == 2 ^ 64 - 1)) free ∙ ne_eqb v.names.next (2 ^ 64 - 1) accepts.registration)
+      ∙ ap (λ b. or_then (or_then (injected_if b) (open_refusal v.files.directory p n first last)) (open_already v.names p n)) accepts.uninjected
+      ∙ ap (λ r. or_then r (open_already v.names p n)) store
+      ∙ ap (λ (o : Option ℕ). if is_some o then Some (BlobAlreadyOpen p (encode_lower n)) else None) free
+
+  told_by : (o : Opening) → found v p n first last ≡ o → is_partition_name p ≡ true → opening_refusal o v.files.directory.next ≡ None → (answer v (Open p n (Some (first, last)))).0 ≡ told.Opened (length v.handles) (size_of v.files p n o) (version_of o)
+  told_by o finds valid later =
+      ap (λ r. unless_denied r (answers.opened v p n (first, last)))
+      (undenied (ap (λ b. if not b then Some (PartitionNameInvalid p) else opening_refusal (found v p n first last) v.files.directory.next) valid ∙ ap (λ x. opening_refusal x v.files.directory.next) finds ∙ later))
+      ∙ ap (λ x. told.Opened (length v.handles) (size_of v.files p n x) (version_of x)) finds
 
   -- of a raw file under a whole header
-  module _ (layout : Layout) (data_bytes : List ℕ) (raw : again.files.directory.file p n ≡ Some (Raw (region layout version ++ data_bytes))) where
-    finds : found again p n first last ≡ Begins layout version data_bytes
+  module _ (layout : Layout) (data_bytes : List ℕ) (raw : v.files.directory.file p n ≡ Some (Raw (region layout version ++ data_bytes))) where
+    finds : found v p n first last ≡ Begins layout version data_bytes
     finds =
         ap (λ (file : Option File). opening p n file first last) raw
         ∙ raw_opens p n layout version data_bytes first last accepts.fits
         ∙ ap (λ b. if b then Begins layout version data_bytes else Declines (BlobVersionMismatch first last version)) (in_range first last version accepts.least accepts.greatest)
 
-    store_accepts : is_partition_name p ≡ true → open_refusal again.files.directory p n first last ≡ None
-    store_accepts valid =
-        ap (λ b. if not b then Some (PartitionNameInvalid p) else opening_refusal (found again p n first last) v.files.directory.next) valid
-        ∙ ap (λ o. opening_refusal o v.files.directory.next) finds
-        ∙ ap (λ b. if b then Some GenerationsExhausted else None) (ne_eqb v.files.directory.next (2 ^ 64 - 1) accepts.incarnation)
+    opens_raw : is_partition_name p ≡ true → Told_as (length data_bytes)
+    opens_raw valid = told_by (Begins layout version data_bytes) finds valid (ap (λ b. if b then Some GenerationsExhausted else None) (ne_eqb v.files.directory.next (2 ^ 64 - 1) accepts.incarnation))
 
-    undenied : is_partition_name p ≡ true → open_denial again p n first last ≡ None
-    undenied valid =
-        ap (λ b. or_then (exhausted_if b) (or_then (or_then (injected_if (draw v.config.open_rate rest).0) (open_refusal again.files.directory p n first last)) None)) (ne_eqb v.names.next (2 ^ 64 - 1) accepts.registration)
-        ∙ ap (λ b. or_then (or_then (injected_if b) (open_refusal again.files.directory p n first last)) None) accepts.uninjected
-        ∙ ap (λ r. or_then r None) (store_accepts valid)
+  -- of a current incarnation
+  module _ (number : ℕ) (layout : Layout) (held : v.files.directory.file p n ≡ Some (Incarnation number layout version)) where
+    continues : found v p n first last ≡ Continues number layout version
+    continues =
+        ap (λ (file : Option File). opening p n file first last) held
+        ∙ ap (λ b. if b then Continues number layout version else Declines (BlobVersionMismatch first last version)) (in_range first last version accepts.least accepts.greatest)
 
-    opens_raw : is_partition_name p ≡ true → (answer again (Open p n (Some (first, last)))).0 ≡ told.Opened (length v.handles) (length data_bytes) version
-    opens_raw valid =
-        ap (λ r. unless_denied r (answers.opened again p n (first, last))) (undenied valid)
-        ∙ ap (λ o. told.Opened (length v.handles) (size_of again.files p n o) (version_of o)) finds
+    opens_current : is_partition_name p ≡ true → Told_as (length (durable_at v.files (place_of p n number layout)))
+    opens_current valid = told_by (Continues number layout version) continues valid refl
+
+  -- of any file of the version
+  pub opens_file : (size : ℕ) → is_partition_name p ≡ true → HasFileOf v.files p n version size → Told_as size
+  opens_file size valid (IsCurrent number layout held same) = opens_current number layout held valid ∙ ap (λ k. told.Opened (length v.handles) k version) (sym same)
+  opens_file size valid (IsRaw layout data_bytes raw same) = opens_raw layout data_bytes raw valid ∙ ap (λ k. told.Opened (length v.handles) k version) (sym same)
+
+  opens_as : (file : Option File) → is_partition_name p ≡ true → v.files.directory.file p n ≡ file → IsOf file version → OpensAs v p n first last version
+  opens_as None valid e is = absurd is
+  opens_as (Some (Raw bytes)) valid e (layout, data_bytes, same) =
+      let raw : v.files.directory.file p n ≡ Some (Raw (region layout version ++ data_bytes)) = e ∙ ap (λ x. Some (Raw x)) same in
+      record { size = length data_bytes; file = IsRaw layout data_bytes raw refl; told = opens_raw layout data_bytes raw valid }
+  opens_as (Some (Incarnation number layout of)) valid e is =
+      let held : v.files.directory.file p n ≡ Some (Incarnation number layout version) = e ∙ ap (λ x. Some (Incarnation number layout x)) is in
+      record { size = length (durable_at v.files (place_of p n number layout)); file = IsCurrent number layout held refl; told = opens_current number layout held valid }
+
+-- An open in a rebuilt store.
+
+module _ (v : State) (rest : Stream) (p n : List ℕ) (first last version : ℕ) (accepts : Accepts v rest first last version) where
+  abbrev again : State
+  again = after v Reopen None rest
+
+  accepts_again : Accepts again again.stream first last version
+  accepts_again = record { fits = accepts.fits; least = accepts.least; greatest = accepts.greatest; uninjected = accepts.uninjected; incarnation = accepts.incarnation; registration = accepts.registration }
 
   -- of any file of the version
   opens_of : is_partition_name p ≡ true → IsOf (v.files.directory.file p n) version → IsToldOf again p n version (answer again (Open p n (Some (first, last)))).0
   opens_of valid is =
       let (layout, data_bytes, raw) = of_again (durable_at v.files) p n (v.files.directory.file p n) version is in
-      record { layout = layout; behind = data_bytes; file = raw; told = opens_raw layout data_bytes raw valid }
+      record { layout = layout; behind = data_bytes; file = raw; told = opens_raw again p n first last version accepts_again refl layout data_bytes raw valid }
 
   -- of an incarnation
   module _ (number : ℕ) (layout : Layout) (held : v.files.directory.file p n ≡ Some (Incarnation number layout version)) where
@@ -165,16 +199,32 @@ module _ (v : State) (rest : Stream) (p n : List ℕ) (first last version : ℕ)
     raw_held = ap (λ (file : Option File). raw_again (durable_at v.files) p n file) held
 
     pub finds_held : found again p n first last ≡ Begins layout version (durable_at v.files (place_of p n number layout))
-    finds_held = finds layout (durable_at v.files (place_of p n number layout)) raw_held
+    finds_held = finds again p n first last version accepts_again refl layout (durable_at v.files (place_of p n number layout)) raw_held
 
     pub opens_held : is_partition_name p ≡ true → (answer again (Open p n (Some (first, last)))).0 ≡ told.Opened (length v.handles) (length (durable_at v.files (place_of p n number layout))) version
-    opens_held valid = opens_raw layout (durable_at v.files (place_of p n number layout)) raw_held valid
+    opens_held valid = opens_raw again p n first last version accepts_again refl layout (durable_at v.files (place_of p n number layout)) raw_held valid
 
--- what was opened and isn't removed opens again
-pub opens_kept : (v w : State) (p n : List ℕ) (version : BlobVersion) (first last : ℕ) (rest : Stream) → IsKept v p n version w → Accepts w rest first last version.0
-    → IsToldOf (after w Reopen None rest) p n version.0 (answer (after w Reopen None rest) (Open p n (Some (first, last)))).0
-opens_kept v w p n version first last rest kept accepts =
+-- What was opened and isn't removed.
+
+record StillOf (w : State) (p n : List ℕ) (version : ℕ) : Type 0 where
+  pub valid : is_partition_name p ≡ true
+  pub file : IsOf (w.files.directory.file p n) version
+
+kept_still : (v w : State) (p n : List ℕ) (version : BlobVersion) → version.0 < 2 ^ 16 → IsKept v p n version w → StillOf w p n version.0
+kept_still v w p n version fits kept =
     let (left, a, run) = kept.run in
     let first_open : IsOpened (after v (act_of kept.opening) None left).files.directory p n version.0 = accepted v kept.handle kept.size version left (act_of kept.opening) p n kept.opens a in
-    opens_of w rest p n first last version.0 accepts first_open.valid
-    (still_run (after v (act_of kept.opening) None left) kept.calls kept.replies w p n version.0 accepts.fits kept.keeps run first_open.file)
+    record { valid = first_open.valid; file = still_run (after v (act_of kept.opening) None left) kept.calls kept.replies w p n version.0 fits kept.keeps run first_open.file }
+
+-- it opens
+pub opens_kept : (v w : State) (p n : List ℕ) (version : BlobVersion) (first last : ℕ) → IsKept v p n version w → Accepts w w.stream first last version.0 → w.names.registered p n ≡ None → OpensAs w p n first last version.0
+opens_kept v w p n version first last kept accepts free =
+    let still = kept_still v w p n version accepts.fits kept in
+    opens_as w p n first last version.0 accepts free (w.files.directory.file p n) still.valid refl still.file
+
+-- and in a rebuilt store
+pub opens_rebuilt : (v w : State) (p n : List ℕ) (version : BlobVersion) (first last : ℕ) (rest : Stream) → IsKept v p n version w → Accepts w rest first last version.0
+    → IsToldOf (after w Reopen None rest) p n version.0 (answer (after w Reopen None rest) (Open p n (Some (first, last)))).0
+opens_rebuilt v w p n version first last rest kept accepts =
+    let still = kept_still v w p n version accepts.fits kept in
+    opens_of w rest p n first last version.0 accepts still.valid still.file

@@ -1,5 +1,5 @@
 -- An incarnation that isn't its name's current one never is again: a number isn't given twice.
-use Rattle.std.proofs.Common.{◌≡◌, ℕ, ◌+◌, ◌<◌, ◌≤◌, Bool, true, false, cond, ◌&&◌, List, [], ◌∷◌, Option, Some, None, refl, sym, ◌∙◌, subst, arith, ne_eqb, ◌==◌, ap, ⊎_elim, if◌then◌else◌}
+use Rattle.std.proofs.Common.{◌≡◌, ◌≢◌, ℕ, ◌+◌, ◌-◌, ◌^◌, ◌<◌, ◌≤◌, Bool, true, false, cond, ◌&&◌, List, [], ◌∷◌, Option, Some, None, refl, sym, ◌∙◌, subst, arith, ne_eqb, ◌==◌, ap, ⊎_elim, if◌then◌else◌}
 use Rattle.std.proofs.lemmas.Bool.{cond_both, and_left, eqb-true, false≢true, cases_Bool}
 use Rattle.std.specs.Str.{bytes_eq}
 use Rattle.rand_core.specs.Stream.{Stream}
@@ -18,7 +18,7 @@ use Rattle.blob_base.proofs.Durables.{others_logged, others_published}
 use Rattle.blob_lab.specs.Acts.{Ask, Read, Write, Resize, Size, Sync, StartSync, Act, Configure, Open, OpenLoose, Admit, Close, Through, Finish, Remove, Scan, Crash, Reopen}
 use Rattle.blob_lab.specs.After.{after, asked, begun, files_after, held_after, closed, finished, removed as removal, crashed, exclusively_opened, loosely_opened}
 use Rattle.blob_lab.specs.Answers.{kept_at}
-use Rattle.blob_lab.specs.Denials.{start_denial, sync_denial, injected_if, or_then}
+use Rattle.blob_lab.specs.Denials.{start_denial, sync_denial, injected_if, exhausted_if, or_then}
 use Rattle.blob_lab.specs.States.{State, Held, Started}
 
 -- each current incarnation has a number that was given
@@ -212,3 +212,19 @@ pub stale_sync : (v : State) (h : Held) → is_current v.files.directory h.place
 stale_sync v h stale undrawn =
     ap (λ b. or_then (injected_if b) (sync_refusal v.files.directory h.place)) undrawn
     ∙ ap (λ b. if b then None else Some (missing h.place)) stale
+
+pub stale_start : (v : State) (h : Held) → is_current v.files.directory h.place ≡ false → (draw v.config.sync_rate v.stream).0 ≡ false → v.files.next_marker ≢ 2 ^ 64 - 1 → start_denial v h ≡ Some (missing h.place)
+stale_start v h stale undrawn left =
+    ap (λ b. or_then (injected_if b) (or_then (exhausted_if (v.files.next_marker == 2 ^ 64 - 1)) (sync_refusal v.files.directory h.place))) undrawn
+    ∙ ap (λ b. or_then (exhausted_if b) (sync_refusal v.files.directory h.place)) (ne_eqb v.files.next_marker (2 ^ 64 - 1) left)
+    ∙ ap (λ b. if b then None else Some (missing h.place)) stale
+
+-- it begins nothing, whatever is drawn
+pub stale_begun : (v : State) (h : Held) (refusal : Option Refusal) → is_current v.files.directory h.place ≡ false → files_after v h StartSync refusal ≡ v.files
+stale_begun v h (Some refusal) stale = refl
+stale_begun v h None stale = go (draw v.config.sync_rate v.stream).0 (v.files.next_marker == 2 ^ 64 - 1) (is_current v.files.directory h.place) stale where
+  go : (drawn exhausted now : Bool) → now ≡ false → begun v.files h (or_then (injected_if drawn) (or_then (exhausted_if exhausted) (if now then None else Some (missing h.place)))) ≡ v.files
+  go true exhausted now e = refl
+  go false true now e = refl
+  go false false false e = refl
+  go false false true e = absurd (false≢true (sym e))

@@ -1,7 +1,7 @@
 //! What follows for the states of a laboratory, whatever calls came before. Each law is carried by a function that does
 //! nothing: its contract is the law.
 
-ghost use Rattle.std.specs.Prelude.{◌≡◌, ◌<◌, ◌≤◌, ◌++◌, ℕ, List, [], true, false, Option, Some, None, length};
+ghost use Rattle.std.specs.Prelude.{◌≡◌, ◌≢◌, ◌<◌, ◌≤◌, ◌-◌, ◌^◌, ◌++◌, ℕ, List, [], true, false, Option, Some, None, length};
 ghost use Rattle.rand_core.specs.Stream.{Stream};
 ghost use Rattle.blob_base.specs.Directory.{is_current};
 ghost use Rattle.blob_base.specs.Draws.{drawn, chosen_by};
@@ -12,10 +12,11 @@ ghost use Rattle.blob_base.specs.Refusals.{Refusal};
 ghost use Rattle.blob_faulty.specs.Faults.{draw};
 ghost use Rattle.blob_faulty.specs.declared.config.Config.{Config};
 ghost use Rattle.blob_memory.specs.Answers.{missing};
-ghost use Rattle.blob_lab.specs.Acts.{Act, Ask, Remove, Crash};
+ghost use Rattle.blob_lab.specs.Accepted.{removes};
+ghost use Rattle.blob_lab.specs.Acts.{Act, Ask, StartSync, Remove, Crash};
 ghost use Rattle.blob_lab.specs.After.{after, files_after};
 ghost use Rattle.blob_lab.specs.Answers.{answer};
-ghost use Rattle.blob_lab.specs.Denials.{sync_denial};
+ghost use Rattle.blob_lab.specs.Denials.{start_denial, sync_denial};
 ghost use Rattle.blob_lab.specs.Exclusive.{HoldNames, Sole};
 ghost use Rattle.blob_lab.specs.OpenNames.{Registration};
 ghost use Rattle.blob_lab.specs.Reached.{NoneLoose, Reached, ReachedExclusively};
@@ -40,9 +41,11 @@ pub fn crashes()
     ensures same { (v : State) (rest last : Stream) (o : Place) → durable_at (after (after v Crash None rest) Crash None last).files o ≡ durable_at (after v Crash None rest).files o }
 {}
 
-/// A removal leaves the base and the log of every incarnation that it doesn't end.
+/// A removal leaves the base and the log of every incarnation that it doesn't end, and the file of every name that it
+/// doesn't remove, a raw one too.
 pub fn removals()
     ensures base { (v : State) (partition : List ℕ) (name : Option (List ℕ)) (refusal : Option Refusal) (rest : Stream) (o : Place) → (after v (Remove partition name) refusal rest).files.base o ≡ v.files.base o }
+    ensures files { (v : State) (partition : List ℕ) (name : Option (List ℕ)) (refusal : Option Refusal) (rest : Stream) (p n : List ℕ) → removes (Remove partition name) refusal p n ≡ false → (after v (Remove partition name) refusal rest).files.directory.file p n ≡ v.files.directory.file p n }
     ensures log { (v : State) (partition : List ℕ) (name : Option (List ℕ)) (refusal : Option Refusal) (rest : Stream) (o : Place) → ends_by v.files.directory partition name o ≡ false → log_of (after v (Remove partition name) refusal rest).files.log o ≡ log_of v.files.log o }
 {}
 
@@ -59,12 +62,15 @@ pub fn stale_stays_stale()
 {}
 
 /// What is asked through a handle changes no directory, and no durable byte but those of its own incarnation. So a stale
-/// handle changes none; its sync is refused, with `BlobMissing` where nothing is injected.
+/// handle changes none; its sync is refused, with `BlobMissing` where nothing is injected. So is its started sync, where a
+/// number is left for a marker; whatever refuses that one, it begins nothing.
 pub fn asks()
     ensures directory { (v : State) (h : Held) (ask : Ask) (refusal : Option Refusal) → (files_after v h ask refusal).directory ≡ v.files.directory }
     ensures others { (v : State) (h : Held) (ask : Ask) (refusal : Option Refusal) (o : Place) → same_place h.place o ≡ false → durable_at (files_after v h ask refusal) o ≡ durable_at v.files o }
     ensures stale { (v : State) (h : Held) (ask : Ask) (refusal : Option Refusal) (o : Place) → is_current v.files.directory h.place ≡ false → is_current v.files.directory o ≡ true → durable_at (files_after v h ask refusal) o ≡ durable_at v.files o }
     ensures stale_sync { (v : State) (h : Held) → is_current v.files.directory h.place ≡ false → (draw v.config.sync_rate v.stream).0 ≡ false → sync_denial v h ≡ Some (missing h.place) }
+    ensures stale_start { (v : State) (h : Held) → is_current v.files.directory h.place ≡ false → (draw v.config.sync_rate v.stream).0 ≡ false → v.files.next_marker ≢ 2 ^ 64 - 1 → start_denial v h ≡ Some (missing h.place) }
+    ensures stale_begun { (v : State) (h : Held) (refusal : Option Refusal) → is_current v.files.directory h.place ≡ false → files_after v h StartSync refusal ≡ v.files }
 {}
 
 /// Where calls lead to whose opens are all exclusive, a current incarnation has one open handle at most, and the name of

@@ -25,6 +25,9 @@ use std::collections::BTreeSet;
 /// The latest open of each name, and what the closed ones left.
 ///
 /// A name has at most one live open. It is live until its generation is closed.
+///
+/// Generations, their numbers, tokens and keys belong to the registry that gave them; at another one they may stand for
+/// another open's. A key that a call takes beside a number or a token is that of its generation.
 #[derive(Drop)]
 pub struct Pending {
     pub(crate) names: Names<Entry>,
@@ -180,6 +183,9 @@ impl Pending {
     /// Settles a token once all work of its open is done. Takes no memory.
     ///
     /// Where the token is the one that the name has settling, debt is added if `dirty`, and a given failure is retained.
+    ///
+    /// The key has to be that of the generation that was released for the token. Under another key the token counts as settled
+    /// and is gone, while its own name goes on settling: no later open of that name is released until the name is forgotten.
     pub fn settle(
         &mut self,
         key: &(String, Vec<u8>),

@@ -1,4 +1,4 @@
-use Rattle.blob_lab.proofs.Stale.{asked_directory, other_asked, stale_asked, stale_sync}
+use Rattle.blob_lab.proofs.Stale.{asked_directory, other_asked, stale_asked, stale_sync, stale_start, stale_begun}
 use Rattle.blob_lab.proofs.laws.asks.Goals as goal
 
 pub returns-clause-directory : goal.returns-clause-directory
@@ -12,3 +12,9 @@ returns-clause-stale c = stale_asked
 
 pub returns-clause-stale_sync : goal.returns-clause-stale_sync
 returns-clause-stale_sync c = stale_sync
+
+pub returns-clause-stale_start : goal.returns-clause-stale_start
+returns-clause-stale_start c = stale_start
+
+pub returns-clause-stale_begun : goal.returns-clause-stale_begun
+returns-clause-stale_begun c = stale_begun

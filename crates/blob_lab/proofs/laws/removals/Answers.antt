@@ -1,4 +1,4 @@
-use Rattle.blob_lab.proofs.LabLaws.{removed_base, removed_log}
+use Rattle.blob_lab.proofs.LabLaws.{removed_base, removed_log, removed_file}
 use Rattle.blob_lab.proofs.laws.removals.Goals as goal
 
 pub returns-clause-base : goal.returns-clause-base
@@ -6,3 +6,6 @@ returns-clause-base c = removed_base
 
 pub returns-clause-log : goal.returns-clause-log
 returns-clause-log c = removed_log
+
+pub returns-clause-files : goal.returns-clause-files
+returns-clause-files c = removed_file

@@ -1,4 +1,4 @@
-use Rattle.blob_lab.proofs.OpensAgain.{finds_held, opens_held, opens_kept}
+use Rattle.blob_lab.proofs.OpensAgain.{finds_held, opens_held, opens_rebuilt}
 use Rattle.blob_lab.proofs.ReachedStates.{reached_valid}
 use Rattle.blob_lab.proofs.laws.rebuilt_stores.accepted_names_open_again.Goals as goal
 
@@ -10,4 +10,4 @@ returns-clause-told c v rest p n first last version number layout reached accept
     opens_held v rest p n first last version accepts number layout held (reached_valid v p n number layout version reached held)
 
 pub returns-clause-kept : goal.returns-clause-kept
-returns-clause-kept c = opens_kept
+returns-clause-kept c = opens_rebuilt
