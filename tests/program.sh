@@ -104,6 +104,46 @@ printf 'open p 62\n# x\nread 0 0\n' >"$work/in"
 run "$top/blobcrash" <"$work/in"
 expect 'a bad line' 2 "opened 0 0 0$line" 'line 3: bad call'
 
+# Line by line over pipes: each reply comes before the next line is sent. An answer has ten seconds.
+# ask NAME REPLY LINES: sends the lines, of which the last has a reply.
+ask() {
+    printf '%s\n' "$3" >&4
+    timeout 10 head -n 1 <&3 >"$work/out"
+    status=$?
+    : >"$work/err"
+    expect "$1" 0 "$2$line" ''
+}
+mkfifo "$work/to" "$work/from"
+"$top/blobcrash" <"$work/to" >"$work/from" 2>"$work/asked.err" &
+asked=$!
+exec 4>"$work/to" 3<"$work/from"
+ask 'the first line is answered at once' 'opened 0 0 0' 'open p 62'
+ask 'a later one too' 'ok' 'write 0 0 6162'
+ask 'behind an empty line and a comment' 'size 2' "$line# a comment${line}size 0"
+ask 'a crash' 'crashed' 'crash'
+printf 'size 0\nsize ' >&4
+timeout 10 head -n 1 <&3 >"$work/out"
+status=$?
+expect 'the front of a line keeps no reply back' 0 "size 2$line" ''
+ask 'the rest of that line' 'size 2' '0'
+printf 'size 0\n# a comment\n\n' >&4
+timeout 10 head -n 1 <&3 >"$work/out"
+status=$?
+expect 'a comment keeps no reply back' 0 "size 2$line" ''
+exec 4>&-
+wait "$asked"
+status=$?
+exec 3<&-
+: >"$work/out"
+cp "$work/asked.err" "$work/err"
+expect 'the end of the talk' 0 '' ''
+
+# Many lines at once.
+{ echo 'open p 62'; yes 'size 0' | head -n 199999; } >"$work/in"
+run "$top/blobcrash" <"$work/in"
+[ "$(sort "$work/out" | uniq -c | tr -s ' ')" = " 1 opened 0 0 0$line 199999 size 0" ] && : >"$work/out"
+expect '200,000 lines' 0 '' ''
+
 # Streams that fail.
 echo >"$work/in"
 run "$top/blobcrash" resolve </

@@ -1,5 +1,5 @@
 ghost use Rattle.std.specs.Prelude.{◌≡◌, ◌⊎◌, ℕ, List, ◌∷◌, true, IfSome, IfErr, OnOk};
-ghost use Rattle.std.specs.Io.KnownBytes.{Appends};
+ghost use Rattle.std.specs.Io.KnownBytes.{Appends, Keeps};
 ghost use Rattle.blob_lab.specs.declared.reply.Reply.{Reply};
 ghost use Rattle.blob_lab.specs.Acts.{act_of};
 ghost use Rattle.blob_lab.specs.Endings.{is_of_script, is_cut};
@@ -8,20 +8,25 @@ ghost use Rattle.blob_lab.specs.Reading.{IsReadOut};
 ghost use Rattle.blob_lab.specs.ScriptReading.{Begins};
 ghost use Rattle.blob_lab.specs.Scripts.{Script, Prints, PrintsUpTo, PrintsBefore, PrintsFront, lines_of, no_script, printed_reply, script_of, with_lines};
 
+mod ahead;
 mod lines;
 
 use crate::script::print_reply;
 use crate::{Call, Ending, Lab};
+pub use ahead::Ahead;
+use ahead::has_call;
 use blob_faulty::Config;
 use lines::{Lines, Preamble};
 use std::alloc::Global;
-use std::io::{BufRead, Write};
+use std::io::Write;
 
-/// Runs a script: reads its lines, and writes the reply to each call as a line before the next one is read.
+/// Runs a script: reads its lines, and writes the reply to each call as a line before the next one is read. Where none of the
+/// lines that lie ready has a reply, the writer is flushed before more is read: whoever sends a line at a time gets each reply
+/// before the next line is due.
 ///
 /// The writer is flushed at the end, so that `Done` says that every reply was handed on, and so that the replies before a
 /// failure stand before what is told of it. Where that flush fails too, the run ends as `OutputFailed`.
-pub fn run_script<R: BufRead, W: Write>(alloc: Global, reader: &mut R, writer: &mut W) -> Ending
+pub fn run_script<R: Ahead, W: Write>(alloc: Global, reader: &mut R, writer: &mut W) -> Ending
     ensures ending { is_of_script result ≡ true }
     ensures read { result ≡ Ending.Done → IsReadOut (R.remaining reader.old) (R.remaining reader.new) }
     ensures done { result ≡ Ending.Done → IfSome (R.remaining reader.old)
@@ -43,7 +48,7 @@ pub fn run_script<R: BufRead, W: Write>(alloc: Global, reader: &mut R, writer: &
     }
 }
 
-fn run_lines<R: BufRead, W: Write>(
+fn run_lines<R: Ahead, W: Write>(
     alloc: Global,
     reader: &mut R,
     writer: &mut W,
@@ -69,7 +74,7 @@ fn run_lines<R: BufRead, W: Write>(
     ran
 }
 
-fn answer_calls<R: BufRead, W: Write>(
+fn answer_calls<R: Ahead, W: Write>(
     alloc: Global,
     lab: &mut Lab,
     first: Call,
@@ -87,7 +92,7 @@ fn answer_calls<R: BufRead, W: Write>(
     let mut text = String::new(alloc);
     let mut call = first;
     'calls: for _ in 0..u64::MAX {
-        answer(lab, &call, &mut text, writer)?;
+        answer(lab, &call, &mut text, reader, writer)?;
         call = match lines.next_call(reader)? {
             Some(next) => next,
             None => return Ok(()),
@@ -96,11 +101,12 @@ fn answer_calls<R: BufRead, W: Write>(
     Err(Ending::InputFailed)
 }
 
-/// Runs a call and writes its reply, in a text that is used again for each.
-fn answer<W: Write>(
+/// Runs a call and writes its reply, in a text that is used again for each. The reply is handed on before reading waits.
+fn answer<R: Ahead, W: Write>(
     lab: &mut Lab,
     call: &Call,
     text: &mut String,
+    reader: &R,
     writer: &mut W,
 ) -> Result<(), Ending>
     ensures answered { OnOk result ((reply : Reply)
@@ -114,6 +120,20 @@ fn answer<W: Write>(
         return Err(Ending::NoMemory);
     }
     match writer.write_all(text.as_bytes()) {
+        Ok(()) => hand_on(reader, writer),
+        Err(_) => Err(Ending::OutputFailed),
+    }
+}
+
+/// Flushes the writer where no whole line lies ready that has a reply, so that reading on may wait.
+fn hand_on<R: Ahead, W: Write>(reader: &R, writer: &mut W) -> Result<(), Ending>
+    ensures kept { Keeps (W.contents writer.old) (W.contents writer.new) }
+    ensures cut { IfErr result (λ ending. ending ≡ Ending.OutputFailed) }
+{
+    if has_call(reader.ready()) {
+        return Ok(());
+    }
+    match writer.flush() {
         Ok(()) => Ok(()),
         Err(_) => Err(Ending::OutputFailed),
     }
