@@ -1,6 +1,7 @@
 #!/bin/sh
-# The examples: each examples/NAME.script prints NAME.out to the byte, and each command on the pages what stands below it there.
-# The last line is `N passed, M failed`.
+# The examples: each examples/NAME.script prints NAME.out to the byte; the log in Python keeps its promise over 1,000 seeds, and
+# breaks it where it forgets its sync, which is shown by a short script and what it prints; each command on the pages prints
+# what stands below it there, and their Python runs. The last line is `N passed, M failed`.
 set -u
 
 top=$(CDPATH='' cd -- "$(dirname -- "$0")/.." && pwd -P)
@@ -37,14 +38,25 @@ for script in "$top"/examples/*.script; do
 done
 
 if ! python3 -c 'import sys; sys.exit(sys.version_info < (3, 8))' 2>/dev/null; then
-    echo "examples.sh: there is no Python from 3.8 on, so the commands of the pages aren't run"
+    echo "examples.sh: there is no Python from 3.8 on, so the log in Python and the commands of the pages aren't run"
     echo "$passed passed, $failed failed"
     [ "$failed" -eq 0 ]
     exit
 fi
 
+python3 "$top/examples/seeds.py" 1000 >"$work/kept"
+ok 'the log keeps its promise over 1,000 seeds' grep -qx '1000 seeds, none fails' "$work/kept"
+
+python3 "$top/examples/seeds.py" 1000 --forget-sync >"$work/broken"
+ok 'a log that forgets its sync is caught' [ $? -eq 1 ]
+ok 'its seed is told' grep -q '^seed [0-9]*: ' "$work/broken"
+sed -n '2,/^$/p' "$work/broken" | sed 1d >"$work/short"
+python3 "$top/examples/log.py" --judge <"$work/short"
+ok 'its short script shows the fault' [ $? -eq 1 ]
+ok 'what it prints is shown' grep -q '^crashed .*0' "$work/broken"
+
 cd "$top" || exit 1
-for page in README.md; do
+for page in README.md docs/GUIDE.md; do
     ok "the commands of $page" python3 tests/pages.py "$page"
 done
 

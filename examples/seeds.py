@@ -1,0 +1,56 @@
+#!/usr/bin/env python3
+"""Runs `log.py` over many seeds, on all processors.
+
+    seeds.py COUNT [--forget-sync]
+
+Where one fails: how many, the first of them, its script cut down to the lines that it takes, and what that prints. Status 1 then.
+"""
+
+import functools
+import multiprocessing
+import os
+import subprocess
+import sys
+import tempfile
+
+import blobcrash
+import log
+
+
+def build():
+    """Builds the program once, and lets all runs start it without asking whether it is built."""
+    if "BLOBCRASH" not in os.environ:
+        subprocess.run([blobcrash.program()], stdin=subprocess.DEVNULL, check=True)
+        os.environ["BLOBCRASH"] = os.path.join(blobcrash.TOP, "out", "blobcrash")
+
+
+def show(seed, reason, script):
+    """Prints a failure, cut down, and its replies: behind `crashed` which bytes of each write were kept."""
+    with tempfile.NamedTemporaryFile("w+", suffix=".script") as file:
+        file.write("\n".join(script) + "\n")
+        file.flush()
+        shrink = os.path.join(blobcrash.TOP, "tools", "shrink")
+        judge = [sys.executable, os.path.abspath(log.__file__), "--judge"]
+        left = subprocess.run([sys.executable, shrink, file.name, *judge], stdout=subprocess.PIPE, text=True, check=True).stdout
+    print(f"seed {seed}: {reason}; {len(script)} lines, of which it takes {len(left.splitlines())}:")
+    print(left)
+    sys.stdout.flush()
+    subprocess.run([blobcrash.program()], input=left, text=True, check=True)
+
+
+def main(arguments):
+    count, forgets_sync = int(arguments[0]), "--forget-sync" in arguments
+    build()
+    with multiprocessing.Pool() as pool:
+        broken = pool.map(functools.partial(log.broken_script, forgets_sync=forgets_sync), range(count), chunksize=8)
+    failing = [seed for seed in range(count) if broken[seed] is not None]
+    if not failing:
+        print(f"{count} seeds, none fails")
+        return 0
+    print(f"{count} seeds, {len(failing)} fail")
+    show(failing[0], *broken[failing[0]])
+    return 1
+
+
+if __name__ == "__main__":
+    sys.exit(main(sys.argv[1:]))
