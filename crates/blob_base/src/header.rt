@@ -165,8 +165,11 @@ impl Header {
 
 // The sizes that the format has, by numbers that stand in the code too.
 const _: () = prove!(Header::PRELUDE_SIZE == 8);
+
 const _: () = prove!(Header::EXTENSION_SIZE == 4);
+
 const _: () = prove!(Header::PARSE_LEN == 12);
+
 const _: () = prove!(Header::MAGIC_LENGTH == 4);
 
 fn header_of(raw: &[u8]) -> Header

@@ -95,6 +95,7 @@ impl Probability {
 }
 
 const _: () = prove!(Probability::ZERO.numerator == 0 && Probability::ZERO.denominator == 1);
+
 const _: () = prove!(Probability::ONE.numerator == 1 && Probability::ONE.denominator == 1);
 
 impl PartialEq for Probability {
