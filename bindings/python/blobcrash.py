@@ -3,7 +3,7 @@
 A `Store` holds blobs by partition and name. Writes are chosen to fail, a crash keeps only some of the bytes that weren't
 synced, and `reopen` builds the store anew from what is durable:
 
-    with Store(seed=7) as store:
+    with Store(words=[random.getrandbits(64) for _ in range(1000)]) as store:
         store.configure("write", 0, 1, 1, 2, "subset")
         log = store.open("wal", b"0")
         log.write(0, b"record")
@@ -15,7 +15,8 @@ synced, and `reopen` builds the store anew from what is durable:
         assert log.read(0, 6) == b"record"
 
 There are two ways to the layer, with the same replies: in-process through the library (`Library`, which `Store` takes
-unless it is told otherwise), and by pipe through the program (`Program`). Each is an object with
+unless it is told otherwise), and by pipe through the program (`Program`), which wants a program that answers each line
+before the next one is sent; one that hands its replies on at the end leaves it waiting. Each is an object with
 
     call(line: bytes) -> bytes          one line of a script in, its reply out, both without a line feed
     read(handle, offset, length)        bytes, or the reply line that came instead, as `Reply`
@@ -195,17 +196,16 @@ class Blob:
 class Store:
     """A store with its faults, its open handles and its started syncs.
 
-    `images` are raw blobs that lie there from the start: partition, name and bytes each. `words` are the first words of the
-    generator, after which it gives zeros; with a `seed` the generator goes on for good. `settings` are what `configure`
-    takes, one tuple each. `way` makes the way to the layer from the text of the preamble.
+    `images` are raw blobs that lie there from the start: partition, name and bytes each. `words` are the words of the
+    generator by which the faults are drawn, 64 bits each; after them it gives zeros. `settings` are what `configure` takes,
+    one tuple each. `way` makes the way to the layer from the text of the preamble.
     """
 
-    def __init__(self, *, images=(), words=(), seed=None, settings=(), way=None):
+    def __init__(self, *, images=(), words=(), settings=(), way=None):
         lines = [f"image {partition} {_hex(name)} {_hex(data)}\n" for partition, name, data in images]
+        words = list(words)
         if words:
             lines.append("words " + " ".join(str(word) for word in words) + "\n")
-        if seed is not None:
-            lines.append(f"seed {seed}\n")
         lines += ["config " + " ".join(str(word) for word in setting) + "\n" for setting in settings]
         self._way = (way or Library)("".join(lines).encode())
 

@@ -1,0 +1,22 @@
+#!/bin/sh
+# Times calls in-process from C, Rust and Python, for each language whose compiler is there. It prints to standard
+# error, and no test runs it. The seconds that each figure takes may be given in place of 0.5.
+set -eu
+
+top=$(CDPATH='' cd -- "$(dirname -- "$0")/.." && pwd -P)
+work=$(mktemp -d)
+trap 'rm -rf "$work"' EXIT
+seconds=${1:-0.5}
+
+sh "$top/bindings/build.sh"
+compiler=${CC:-cc}
+if command -v "$compiler" >/dev/null; then
+    "$compiler" -std=c11 -O2 -I"$top/bindings/c" -o "$work/times" "$top/bindings/c/times.c" "$top/out/libblobcrash.a"
+    "$work/times" "$seconds"
+fi
+if command -v cargo >/dev/null && command -v "$compiler" >/dev/null; then
+    (cd "$top/bindings/rust" && CARGO_TARGET_DIR=$top/out/rust cargo run --release --offline --quiet --example times -- "$seconds")
+fi
+if command -v python3 >/dev/null && [ -f "$top/out/libblobcrash.so" ]; then
+    PYTHONDONTWRITEBYTECODE=1 python3 "$top/bindings/python/times.py" "$seconds"
+fi

@@ -1,0 +1,51 @@
+#!/bin/sh
+# Builds the library for programs in other languages, which proves it first: out/libblobcrash.a for C and Rust, and where
+# there is a C compiler out/libblobcrash.so for Python. Each is one file that needs the C library alone. It does nothing where
+# they are newer than every source.
+set -eu
+
+top=$(CDPATH='' cd -- "$(dirname -- "$0")/.." && pwd -P)
+out=$top/out
+rt=$(command -v rt) || rt=/opt/rattle/bin/rt
+if [ ! -x "$rt" ]; then
+    echo "build.sh: the Rattle toolchain is missing: there is no rt on PATH, and no /opt/rattle/bin/rt" >&2
+    exit 127
+fi
+compiler=${CC:-cc}
+command -v "$compiler" >/dev/null || compiler=
+
+# Whether a file is there, and no source has changed since that build began.
+is_built() {
+    [ -f "$1" ] && [ -z "$(cd "$top" && find crates.txt crates -name out -prune -o -newer "$1" \
+        \( -name crates.txt -o -name '*.rt' -o -name '*.antt' \) -print | head -n 1)" ]
+}
+
+if is_built "$out/libblobcrash.a" && { [ -z "$compiler" ] || is_built "$out/libblobcrash.so"; }; then
+    exit 0
+fi
+mkdir -p "$out"
+: >"$out/bindings.began"
+echo "build.sh: building the library, which proves it first (some minutes on first use)" >&2
+if ! (cd "$top/crates/blob_c" && exec "$rt" lib) </dev/null >"$out/bindings.log" 2>&1; then
+    cat "$out/bindings.log" >&2
+    echo "build.sh: the build failed" >&2
+    exit 1
+fi
+
+# What the library allocates with: a part of the toolchain that is linked in.
+library=$top/crates/blob_c/out/libblob_c.a
+kit=$(CDPATH='' cd -- "$(dirname -- "$(readlink -f "$rt")")/.." && pwd -P)
+heap=$kit/c/liblibc_c.a
+
+rm -f "$out/libblobcrash.a.new"
+printf 'create %s\naddlib %s\naddlib %s\nsave\nend\n' "$out/libblobcrash.a.new" "$library" "$heap" | ar -M
+touch -r "$out/bindings.began" "$out/libblobcrash.a.new"
+mv -f "$out/libblobcrash.a.new" "$out/libblobcrash.a"
+
+if [ -n "$compiler" ]; then
+    echo '{ global: blobcrash_*; local: *; };' >"$out/libblobcrash.map"
+    "$compiler" -shared -o "$out/libblobcrash.so.new" -Wl,--version-script="$out/libblobcrash.map" \
+        -Wl,--whole-archive "$library" -Wl,--no-whole-archive "$heap"
+    touch -r "$out/bindings.began" "$out/libblobcrash.so.new"
+    mv -f "$out/libblobcrash.so.new" "$out/libblobcrash.so"
+fi

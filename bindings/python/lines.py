@@ -1,0 +1,52 @@
+"""Runs a script from standard input through the library, a line at a time, or with `--whole` at once, or with `--by-pipe`
+through the program: its replies are the program's (docs/FORMATS.md), and so is its exit status."""
+
+import sys
+
+from blobcrash import BadLine, Library, Program, run
+
+
+def is_preamble(line):
+    word = next((token for token in line.split(b" ") if token), b"#")
+    return word.startswith(b"#") or word in (b"image", b"words")
+
+
+def bad_line(number):
+    print(f"line {number}: bad call", file=sys.stderr)
+    return 2
+
+
+def by_lines(script, way):
+    lines = script.split(b"\n")
+    if lines[-1] == b"":
+        lines.pop()
+    first = next((at for at, line in enumerate(lines) if not is_preamble(line)), len(lines))
+    try:
+        layer = way(b"".join(line + b"\n" for line in lines[:first]))
+    except BadLine as bad:
+        return bad_line(bad.line)
+    for number, line in enumerate(lines[first:], first + 1):
+        try:
+            reply = layer.call(line)
+        except BadLine:
+            return bad_line(number)
+        if reply:
+            sys.stdout.buffer.write(reply + b"\n")
+    layer.close()
+    return 0
+
+
+def whole(script):
+    try:
+        sys.stdout.buffer.write(run(script))
+    except BadLine as bad:
+        sys.stdout.buffer.write(bad.replies)
+        return bad_line(bad.line)
+    return 0
+
+
+if __name__ == "__main__":
+    script = sys.stdin.buffer.read()
+    if "--whole" in sys.argv:
+        sys.exit(whole(script))
+    sys.exit(by_lines(script, Program if "--by-pipe" in sys.argv else Library))

@@ -1,0 +1,137 @@
+/// A probability as a fraction of whole numbers, from 0 to 1.
+#[derive(Clone, Copy, Debug, PartialEq, Eq)]
+pub struct Probability {
+    numerator: u64,
+    denominator: u64,
+}
+
+impl Probability {
+    pub const ZERO: Probability = Probability {
+        numerator: 0,
+        denominator: 1,
+    };
+    pub const ONE: Probability = Probability {
+        numerator: 1,
+        denominator: 1,
+    };
+
+    /// None where the denominator is 0 or the numerator is greater.
+    pub const fn new(numerator: u64, denominator: u64) -> Option<Probability> {
+        if denominator == 0 || numerator > denominator {
+            return None;
+        }
+        Some(Probability {
+            numerator,
+            denominator,
+        })
+    }
+
+    fn words(self) -> String {
+        format!("{} {}", self.numerator, self.denominator)
+    }
+}
+
+/// Which submitted bytes of a write survive together.
+#[derive(Clone, Copy, Debug, PartialEq, Eq)]
+pub enum PartialWriteMode {
+    /// Bytes from the beginning of the write until the first omitted byte.
+    Prefix,
+    /// Each byte by itself.
+    Subset,
+    /// Sectors of this size in bytes, 1 at least, counted from the blob's first byte.
+    Sectors(u64),
+}
+
+/// Which writes fail, and which of their bytes survive: of a failed write, and of one that wasn't synced at a crash.
+#[derive(Clone, Copy, Debug, PartialEq, Eq)]
+pub struct WriteConfig {
+    pub failure_rate: Probability,
+    pub retention_rate: Probability,
+    pub mode: PartialWriteMode,
+}
+
+/// Which resizes fail, and which failed ones leave a size between the two.
+#[derive(Clone, Copy, Debug, PartialEq, Eq)]
+pub struct ResizeConfig {
+    /// That a resize fails; also, drawn once more, that one that wasn't synced survives a crash.
+    pub failure_rate: Probability,
+    /// That a failed resize leaves a size between.
+    pub partial_rate: Probability,
+}
+
+/// Which calls fail, and how often. What isn't set doesn't fail, and keeps nothing.
+#[derive(Clone, Copy, Debug, Default, PartialEq, Eq)]
+pub struct Config {
+    pub open_rate: Option<Probability>,
+    pub read_rate: Option<Probability>,
+    pub write_rate: Option<WriteConfig>,
+    pub sync_rate: Option<Probability>,
+    pub resize_rate: Option<ResizeConfig>,
+    pub remove_rate: Option<Probability>,
+    pub scan_rate: Option<Probability>,
+}
+
+impl Config {
+    pub fn open(mut self, rate: Probability) -> Config {
+        self.open_rate = Some(rate);
+        self
+    }
+
+    pub fn read(mut self, rate: Probability) -> Config {
+        self.read_rate = Some(rate);
+        self
+    }
+
+    pub fn write(mut self, writes: WriteConfig) -> Config {
+        self.write_rate = Some(writes);
+        self
+    }
+
+    pub fn sync(mut self, rate: Probability) -> Config {
+        self.sync_rate = Some(rate);
+        self
+    }
+
+    pub fn resize(mut self, resizes: ResizeConfig) -> Config {
+        self.resize_rate = Some(resizes);
+        self
+    }
+
+    pub fn remove(mut self, rate: Probability) -> Config {
+        self.remove_rate = Some(rate);
+        self
+    }
+
+    pub fn scan(mut self, rate: Probability) -> Config {
+        self.scan_rate = Some(rate);
+        self
+    }
+
+    /// The lines that make this configuration of one that sets nothing.
+    pub(crate) fn lines(&self) -> Vec<String> {
+        let mut lines = Vec::new();
+        for (word, rate) in [
+            ("open", self.open_rate),
+            ("read", self.read_rate),
+            ("sync", self.sync_rate),
+            ("remove", self.remove_rate),
+            ("scan", self.scan_rate),
+        ] {
+            lines.extend(rate.map(|rate| format!("config {word} {}", rate.words())));
+        }
+        lines.extend(self.write_rate.map(|writes| {
+            let (failure, retention) = (writes.failure_rate.words(), writes.retention_rate.words());
+            let mode = match writes.mode {
+                PartialWriteMode::Prefix => "prefix".to_owned(),
+                PartialWriteMode::Subset => "subset".to_owned(),
+                PartialWriteMode::Sectors(size) => format!("sectors {size}"),
+            };
+            format!("config write {failure} {retention} {mode}")
+        }));
+        lines.extend(self.resize_rate.map(|resizes| {
+            let (failure, partial) = (resizes.failure_rate.words(), resizes.partial_rate.words());
+            format!("config resize {failure} {partial}")
+        }));
+        lines
+    }
+}

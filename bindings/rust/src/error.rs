@@ -1,0 +1,167 @@
+use std::fmt;
+
+/// Why a call was refused. The storage's refusals have the names of their replies (`docs/FORMATS.md`).
+///
+/// The first two texts of a `Blob` variant are the partition as it was given and the blob's name in lower-case hex.
+#[derive(Clone, Debug, PartialEq, Eq)]
+#[non_exhaustive]
+pub enum Error {
+    /// An offset, with the header and the length, lies past what can be counted.
+    OffsetOverflow,
+    /// A read goes past the bytes that are there.
+    BlobInsufficientLength,
+    /// The partition's name is empty, or has other than ASCII letters, digits, `-` and `_`.
+    PartitionNameInvalid(String),
+    PartitionMissing(String),
+    BlobMissing(String, String),
+    BlobAlreadyOpen(String, String),
+    /// The header isn't one that a creation writes; the third text is the reason.
+    BlobCorrupt(String, String, String),
+    BlobLayoutMismatch {
+        expected: (String, String),
+        found: String,
+    },
+    BlobVersionMismatch {
+        expected: (u16, u16),
+        found: u16,
+    },
+    Closed,
+    ReadFailed,
+    WriteFailed,
+    /// A fault that was chosen by a draw.
+    Injected,
+    /// The store found no memory for the call: nothing has changed but the generator.
+    Memory,
+    GenerationsExhausted,
+    /// No open handle, or no unfinished sync, has this number.
+    NoHandle,
+    /// The range of versions is empty.
+    EmptyRange,
+    /// The library found no memory: no call was made, or its reply can't be told.
+    OutOfMemory,
+    /// This line isn't one of a script, or may not stand there: no call was made.
+    BadLine(String),
+    /// A reply that this crate doesn't know.
+    Unknown(String),
+}
+
+impl Error {
+    /// The error of a reply line that begins with `error`.
+    pub(crate) fn of(line: &str) -> Error {
+        Error::parsed(line).unwrap_or_else(|| Error::Unknown(line.to_owned()))
+    }
+
+    fn parsed(line: &str) -> Option<Error> {
+        let mut fields = line.splitn(5, ' ');
+        if fields.next()? != "error" {
+            return None;
+        }
+        let name = fields.next()?;
+        let mut field = || fields.next().map(str::to_owned);
+        Some(match name {
+            "OffsetOverflow" => Error::OffsetOverflow,
+            "BlobInsufficientLength" => Error::BlobInsufficientLength,
+            "PartitionNameInvalid" => Error::PartitionNameInvalid(field()?),
+            "PartitionMissing" => Error::PartitionMissing(field()?),
+            "BlobMissing" => Error::BlobMissing(field()?, field()?),
+            "BlobAlreadyOpen" => Error::BlobAlreadyOpen(field()?, field()?),
+            "BlobCorrupt" => Error::BlobCorrupt(field()?, field()?, field()?),
+            "BlobLayoutMismatch" => Error::BlobLayoutMismatch {
+                expected: (field()?, field()?),
+                found: field()?,
+            },
+            "BlobVersionMismatch" => Error::BlobVersionMismatch {
+                expected: (field()?.parse().ok()?, field()?.parse().ok()?),
+                found: field()?.parse().ok()?,
+            },
+            "Closed" => Error::Closed,
+            "ReadFailed" => Error::ReadFailed,
+            "WriteFailed" => Error::WriteFailed,
+            "Injected" => Error::Injected,
+            "Memory" => Error::Memory,
+            "GenerationsExhausted" => Error::GenerationsExhausted,
+            "NoHandle" => Error::NoHandle,
+            "EmptyRange" => Error::EmptyRange,
+            _ => return None,
+        })
+    }
+}
+
+impl fmt::Display for Error {
+    fn fmt(&self, f: &mut fmt::Formatter<'_>) -> fmt::Result {
+        match self {
+            Error::OffsetOverflow => f.write_str("offset overflow"),
+            Error::BlobInsufficientLength => f.write_str("blob insufficient length"),
+            Error::PartitionNameInvalid(partition) => {
+                write!(f, "partition name invalid: {partition}")
+            }
+            Error::PartitionMissing(partition) => write!(f, "partition missing: {partition}"),
+            Error::BlobMissing(partition, name) => write!(f, "blob missing: {partition}/{name}"),
+            Error::BlobAlreadyOpen(partition, name) => {
+                write!(f, "blob already open: {partition}/{name}")
+            }
+            Error::BlobCorrupt(partition, name, reason) => {
+                write!(f, "blob corrupt: {partition}/{name} reason: {reason}")
+            }
+            Error::BlobLayoutMismatch {
+                expected: (first, last),
+                found,
+            } => write!(
+                f,
+                "blob layout mismatch: expected {first}..={last}, found {found}"
+            ),
+            Error::BlobVersionMismatch {
+                expected: (first, last),
+                found,
+            } => write!(
+                f,
+                "blob version mismatch: expected {first}..={last}, found {found}"
+            ),
+            Error::Closed => f.write_str("closed"),
+            Error::ReadFailed => f.write_str("read failed"),
+            Error::WriteFailed => f.write_str("write failed"),
+            Error::Injected => f.write_str("injected storage fault"),
+            Error::Memory | Error::OutOfMemory => f.write_str("out of memory"),
+            Error::GenerationsExhausted => f.write_str("generations exhausted"),
+            Error::NoHandle => f.write_str("no handle of this number"),
+            Error::EmptyRange => f.write_str("empty range of versions"),
+            Error::BadLine(line) => write!(f, "bad line: {line}"),
+            Error::Unknown(line) => write!(f, "unknown reply: {line}"),
+        }
+    }
+}
+
+impl std::error::Error for Error {}
+
+#[cfg(test)]
+mod tests {
+    use super::Error;
+
+    #[test]
+    fn replies_are_parsed() {
+        let text = str::to_owned;
+        let already = Error::BlobAlreadyOpen(text("partition"), text("626c6f62"));
+        let version = Error::BlobVersionMismatch {
+            expected: (3, 7),
+            found: 10,
+        };
+        let corrupt = Error::BlobCorrupt(
+            text("image"),
+            text("626c6f62"),
+            text("invalid header checksum"),
+        );
+        for (line, error) in [
+            ("error Injected", Error::Injected),
+            ("error BlobAlreadyOpen partition 626c6f62", already),
+            ("error BlobVersionMismatch 3 7 10", version),
+            (
+                "error BlobCorrupt image 626c6f62 invalid header checksum",
+                corrupt,
+            ),
+            ("error Frob", Error::Unknown(text("error Frob"))),
+            ("ok", Error::Unknown(text("ok"))),
+        ] {
+            assert_eq!(Error::of(line), error);
+        }
+    }
+}

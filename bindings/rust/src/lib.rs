@@ -1,0 +1,42 @@
+//! A storage layer for tests of crash recovery.
+//!
+//! A [`Store`] holds blobs by partition and name. Writes are chosen to fail, a crash keeps only some of the bytes that
+//! weren't synced, and [`Store::reopen`] builds the store anew from what is durable.
+//!
+//! ```
+//! use blobcrash::{Config, PartialWriteMode, Probability, Store, WriteConfig, WriteOptions};
+//!
+//! # fn main() -> Result<(), blobcrash::Error> {
+//! let store = Store::builder()
+//!     .config(Config::default().write(WriteConfig {
+//!         failure_rate: Probability::ZERO,
+//!         retention_rate: Probability::new(1, 2).unwrap(),
+//!         mode: PartialWriteMode::Subset,
+//!     }))
+//!     .open()?;
+//! let (log, _) = store.open("wal", b"0")?;
+//! log.write_at(0, b"record", WriteOptions::SYNC)?;
+//! log.write_at(6, b"another", WriteOptions::default())?;
+//! store.crash()?;
+//! store.reopen()?;
+//! let (log, size) = store.open("wal", b"0")?;
+//! assert!(size >= 6);
+//! assert_eq!(log.read_at(0, 6)?, b"record");
+//! # Ok(())
+//! # }
+//! ```
+//!
+//! The layer itself is proved; this crate, which only talks to it, is tested. A store belongs to one thread: it is neither
+//! `Send` nor `Sync`.
+
+mod blob;
+mod config;
+mod error;
+mod library;
+mod store;
+
+pub use blob::{Blob, StartedSync, WriteOptions};
+pub use config::{Config, PartialWriteMode, Probability, ResizeConfig, WriteConfig};
+pub use error::Error;
+pub use library::{ScriptError, run_script};
+pub use store::{Builder, Selections, Store};

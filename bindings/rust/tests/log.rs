@@ -1,0 +1,157 @@
+//! A log with recovery, tested over crashes: a file to copy and to change.
+//!
+//! The log acknowledges a record once it is synced. Whatever fails and wherever it crashes, recovery has to find each
+//! acknowledged record, in order, and may find one more: the record that was being appended.
+use blobcrash::{
+    Blob, Config, Error, PartialWriteMode, Probability, ResizeConfig, Store, WriteConfig,
+    WriteOptions,
+};
+
+/// Records one after another: the length of the payload, a checksum, and the payload.
+struct Log {
+    blob: Blob,
+    end: u64,
+    /// The planted bug: a record is acknowledged before it is durable.
+    forgets_sync: bool,
+}
+
+const HEAD: usize = 12;
+
+impl Log {
+    /// Opens the log, cuts off what no append finished, and answers the records.
+    fn recover(store: &Store, forgets_sync: bool) -> Result<(Log, Vec<Vec<u8>>), Error> {
+        let (blob, size) = store.open("wal", b"log")?;
+        let bytes = blob.read_at(0, size as usize)?;
+        let mut records = Vec::new();
+        let mut end = 0;
+        while let Some(payload) = record_at(&bytes, end) {
+            end += HEAD + payload.len();
+            records.push(payload.to_vec());
+        }
+        if end < bytes.len() {
+            blob.resize(end as u64)?;
+            blob.sync()?;
+        }
+        let end = end as u64;
+        let log = Log {
+            blob,
+            end,
+            forgets_sync,
+        };
+        Ok((log, records))
+    }
+
+    /// Appends a record. Once this is answered `Ok` it must never be lost.
+    fn append(&mut self, payload: &[u8]) -> Result<(), Error> {
+        let mut record = (payload.len() as u32).to_le_bytes().to_vec();
+        record.extend(checksum(self.end, payload).to_le_bytes());
+        record.extend(payload);
+        self.blob
+            .write_at(self.end, &record, WriteOptions::default())?;
+        if !self.forgets_sync {
+            self.blob.sync()?;
+        }
+        self.end += record.len() as u64;
+        Ok(())
+    }
+}
+
+/// The payload of a whole record at this offset.
+fn record_at(bytes: &[u8], offset: usize) -> Option<&[u8]> {
+    let head = bytes.get(offset..offset + HEAD)?;
+    let len = u32::from_le_bytes(head[..4].try_into().ok()?) as usize;
+    let sum = u64::from_le_bytes(head[4..].try_into().ok()?);
+    let payload = bytes.get(offset + HEAD..)?.get(..len)?;
+    (sum == checksum(offset as u64, payload)).then_some(payload)
+}
+
+/// FNV-1a of the offset and the payload, so that no front of zeros and no older record passes for this one.
+fn checksum(offset: u64, payload: &[u8]) -> u64 {
+    let bytes = offset
+        .to_le_bytes()
+        .into_iter()
+        .chain(payload.iter().copied());
+    bytes.fold(0xcbf2_9ce4_8422_2325, |sum, byte| {
+        (sum ^ u64::from(byte)).wrapping_mul(0x100_0000_01b3)
+    })
+}
+
+/// What the store's draws go by: more words than a life takes.
+fn words(seed: u64) -> Vec<u64> {
+    let mut state = seed;
+    let next = || {
+        state = state.wrapping_add(0x9e37_79b9_7f4a_7c15);
+        let word = (state ^ (state >> 30)).wrapping_mul(0xbf58_476d_1ce4_e5b9);
+        let word = (word ^ (word >> 27)).wrapping_mul(0x94d0_49bb_1331_11eb);
+        Some(word ^ (word >> 31))
+    };
+    std::iter::from_fn(next).take(4096).collect()
+}
+
+/// One life of a log: sixteen crashes. Answers how many records were acknowledged, or what was lost.
+fn live(seed: u64, forgets_sync: bool) -> Result<usize, String> {
+    let one_in = |n| Probability::new(1, n).unwrap();
+    let faults = Config::default()
+        .write(WriteConfig {
+            failure_rate: one_in(16),
+            retention_rate: one_in(2),
+            mode: PartialWriteMode::Subset,
+        })
+        .sync(one_in(16))
+        .resize(ResizeConfig {
+            failure_rate: one_in(16),
+            partial_rate: one_in(2),
+        });
+    let builder = Store::builder().words(&words(seed)).config(faults);
+    let store = builder.open().map_err(|error| error.to_string())?;
+    let mut acknowledged: Vec<Vec<u8>> = Vec::new();
+    let mut unanswered: Option<Vec<u8>> = None;
+    for round in 0..16_u64 {
+        // A recovery that a fault cuts short is one more crash.
+        if let Ok((mut log, records)) = Log::recover(&store, forgets_sync) {
+            let (known, more) = records.split_at(acknowledged.len().min(records.len()));
+            if known != acknowledged {
+                return Err(format!(
+                    "seed {seed}, crash {round}: {} records were acknowledged, and {} are left of them",
+                    acknowledged.len(),
+                    known.len()
+                ));
+            }
+            if !more.is_empty() && more != unanswered.as_slice() {
+                return Err(format!(
+                    "seed {seed}, crash {round}: a record that nobody wrote"
+                ));
+            }
+            acknowledged = records;
+            unanswered = None;
+            for number in 0..8_u64 {
+                let length = (seed + 5 * round + 3 * number) % 40;
+                let payload = vec![(16 * round + number) as u8; length as usize];
+                if log.append(&payload).is_err() {
+                    unanswered = Some(payload);
+                    break;
+                }
+                acknowledged.push(payload);
+            }
+        }
+        store.crash().map_err(|error| error.to_string())?;
+        store.reopen().map_err(|error| error.to_string())?;
+    }
+    Ok(acknowledged.len())
+}
+
+#[test]
+fn what_was_acknowledged_is_recovered() {
+    let mut records = 0;
+    for seed in 0..200 {
+        records += live(seed, false).unwrap();
+    }
+    // A test of crashes that finds nothing to lose says nothing.
+    assert!(records > 5_000, "{records} records in 200 lives");
+}
+
+#[test]
+fn a_forgotten_sync_is_found() {
+    let found = (0..200).find_map(|seed| live(seed, true).err()).unwrap();
+    assert!(found.contains("are left of them"), "{found}");
+}

@@ -1,0 +1,153 @@
+//! The laboratory for programs in other languages: a whole script at once, or a session and one call after another.
+//!
+//! The header `bindings/c/blobcrash.h` says what callers owe: no check reaches them.
+#![tactic(auto)]
+
+ghost use Rattle.std.specs.Prelude.{◌≡◌, ◌⊎◌, ◌<◌, Some, None, IsSome, IfSome, [], take, length};
+ghost use Rattle.blob_lab.specs.Scripts.{Prints, PrintsBefore, no_script, lines_of, script_of};
+ghost use Rattle.blob_c.specs.Preambles.{BreaksAt, IsMadeOf};
+ghost use Rattle.blob_c.specs.Sessions.{AnswersLine, AnswersRead, AnswersWrite, OnHeld, TellsAgain, held};
+
+mod kept;
+mod loose;
+mod preamble;
+mod ran;
+mod script;
+mod session;
+
+use preamble::RefusedPreamble;
+use ran::{BAD_LINE, CLOSED, DONE, NO_MEMORY, NO_ROOM, Ran, ScriptRan};
+use session::Session;
+use std::alloc::Global;
+
+/// Runs a script, and writes its replies to the front of `replies`, a line each.
+///
+/// `BAD_LINE` tells the line's number, and writes the replies before it. `NO_ROOM` writes nothing and tells how much room
+/// is wanted; `NO_MEMORY` writes nothing.
+#[unsafe(no_mangle)]
+pub extern "C" fn blobcrash_run(alloc: Global, script: &[u8], replies: &mut [u8]) -> ScriptRan
+    ensures done { result.status ≡ DONE → Prints (script_of (lines_of script.now)) (Some []) (Some (take result.len replies.new)) }
+    ensures bad_line { result.status ≡ BAD_LINE → PrintsBefore no_script 1 result.line (lines_of script.now) (Some []) (Some (take result.len replies.new)) }
+    ensures no_room { result.status ≡ NO_ROOM → length replies.old < result.len }
+{
+    script::run(alloc, script, replies)
+}
+
+/// Opens a session with a preamble: the lines of a script that are images, words and settings, in this order. What the
+/// session held before is ended.
+///
+/// `BAD_LINE` tells the number of a line that may not stand there. It and `NO_MEMORY` change nothing.
+#[unsafe(no_mangle)]
+pub extern "C" fn blobcrash_open(alloc: Global, session: &mut Session, preamble: &[u8]) -> ScriptRan
+    ensures done { result.status ≡ DONE → IsSome (held session.new) × IfSome (held session.new) (λ k. IsMadeOf k (lines_of preamble.now)) }
+    ensures bad_line { result.status ≡ BAD_LINE → BreaksAt (lines_of preamble.now) result.line × (held session.new ≡ held session.old) }
+    ensures no_memory { result.status ≡ NO_MEMORY → held session.new ≡ held session.old }
+    ensures status { (result.status ≡ DONE) ⊎ (result.status ≡ BAD_LINE) ⊎ (result.status ≡ NO_MEMORY) }
+{
+    let kept = match preamble::start(alloc, preamble) {
+        Ok(kept) => kept,
+        Err(RefusedPreamble::BadLine(line)) => {
+            return ScriptRan {
+                status: BAD_LINE,
+                len: 0,
+                line,
+            };
+        }
+        Err(RefusedPreamble::NoMemory) => return ScriptRan::stopped(NO_MEMORY),
+    };
+    let Ok(kept) = Box::new(alloc, kept) else {
+        return ScriptRan::stopped(NO_MEMORY);
+    };
+    session.close(alloc);
+    *session = Session::of(kept);
+    ScriptRan::stopped(DONE)
+}
+
+/// Makes the call that a line says, and writes its reply to the front of `reply`, without a line's end. An empty line and
+/// a comment are answered with no bytes.
+///
+/// `NO_ROOM` and `UNPRINTED`: the call was made, and `blobcrash_reply` tells its reply. `BAD_LINE` and `NO_MEMORY` change
+/// nothing; a call that was refused memory is `DONE`, and its reply says so.
+#[unsafe(no_mangle)]
+pub extern "C" fn blobcrash_call(
+    alloc: Global,
+    session: &mut Session,
+    line: &[u8],
+    reply: &mut [u8],
+) -> Ran
+    ensures { OnHeld (held session.old) (held session.new) (λ k k'. AnswersLine k k' line.now result reply.old reply.new) (result.status ≡ CLOSED) }
+{
+    let Some(mut kept) = session.take(alloc) else {
+        return Ran::stopped(CLOSED);
+    };
+    let ran = kept.call(alloc, line, reply);
+    *session = Session::of(kept);
+    ran
+}
+
+/// Writes the reply to the last call once more, as often as it is asked for.
+#[unsafe(no_mangle)]
+pub extern "C" fn blobcrash_reply(alloc: Global, session: &mut Session, reply: &mut [u8]) -> Ran
+    ensures { OnHeld (held session.old) (held session.new) (λ k k'. TellsAgain k k' result reply.old reply.new) (result.status ≡ CLOSED) }
+{
+    let Some(mut kept) = session.take(alloc) else {
+        return Ran::stopped(CLOSED);
+    };
+    let ran = kept.tell(reply);
+    *session = Session::of(kept);
+    ran
+}
+
+/// Writes bytes through a handle, with `sync` as a SYNC write: the call `write` or `writes`, without text.
+///
+/// `OTHER_REPLY`: the reply isn't `ok`, and `blobcrash_reply` tells it.
+#[unsafe(no_mangle)]
+pub extern "C" fn blobcrash_write(
+    alloc: Global,
+    session: &mut Session,
+    handle: usize,
+    offset: u64,
+    bytes: &[u8],
+    sync: bool,
+) -> u32
+    ensures { OnHeld (held session.old) (held session.new) (λ k k'. AnswersWrite k k' handle offset bytes.now sync result) (result ≡ CLOSED) }
+{
+    let Some(mut kept) = session.take(alloc) else {
+        return CLOSED;
+    };
+    let status = kept.write(alloc, handle, offset, bytes, sync);
+    *session = Session::of(kept);
+    status
+}
+
+/// Fills `into` with bytes that are read through a handle: the call `read`, without text.
+///
+/// `OTHER_REPLY`: the reply isn't these bytes, `into` is as it was, and `blobcrash_reply` tells the reply.
+#[unsafe(no_mangle)]
+pub extern "C" fn blobcrash_read(
+    alloc: Global,
+    session: &mut Session,
+    handle: usize,
+    offset: u64,
+    into: &mut [u8],
+) -> u32
+    ensures { OnHeld (held session.old) (held session.new) (λ k k'. AnswersRead k k' handle offset result into.old into.new) (result ≡ CLOSED) }
+{
+    let Some(mut kept) = session.take(alloc) else {
+        return CLOSED;
+    };
+    let status = kept.read(handle, offset, into);
+    *session = Session::of(kept);
+    status
+}
+
+/// Closes a session, and ends what it held. A closed one stays closed.
+#[unsafe(no_mangle)]
+pub extern "C" fn blobcrash_close(alloc: Global, session: &mut Session)
+    ensures { held session.new ≡ None }
+{
+    session.close(alloc)
+}
+
+#[cfg(test)]
+mod tests;

@@ -1,0 +1,130 @@
+// What a session is opened with: the lines of a script before its calls, and settings.
+ghost use Rattle.std.specs.Prelude.{◌≡◌, ◌==◌, ◌<◌, ℕ, ◌∷◌, [], Some, IfSome, IfNone, IfOk, OnOk, All, length, position};
+ghost use Rattle.blob_lab.specs.Scripts.{Script, lines_of, no_script, with_line};
+ghost use Rattle.blob_c.specs.Preambles.{AreSettings, BreaksAt, IsMadeOf, IsNoSetting, IsSetting, Says};
+
+use crate::kept::{Kept, copy_of};
+use blob_faulty::Config;
+use blob_lab::Lab;
+use blob_lab::script::{Line, RefusedLine, read_line};
+use std::alloc::Global;
+
+/// What the lines so far have said.
+#[derive(Drop)]
+pub(crate) struct Preamble {
+    images: Vec<(String, Vec<u8>, Vec<u8>)>,
+    words: Vec<u64>,
+    config: Config,
+    /// Whether there was a setting, after which images and words don't come any more.
+    is_configured: bool,
+}
+
+/// Why a text opens no session.
+pub(crate) enum RefusedPreamble {
+    /// This line, counted from 1, may not stand there.
+    BadLine(u64),
+    NoMemory,
+}
+
+impl Preamble {
+    fn new(alloc: Global) -> Preamble
+        ensures { Says result no_script }
+    {
+        Preamble {
+            images: Vec::new(alloc),
+            words: Vec::new(alloc),
+            config: Config::default(),
+            is_configured: false,
+        }
+    }
+
+    /// Adds what a line says.
+    fn add(&mut self, alloc: Global, line: &[u8]) -> Result<(), RefusedLine>
+        ensures ok { OnOk result ((s : Script) → Says self.old s → (t : Script) × (with_line s line.now ≡ Some t) × Says self.new t × (All IsSetting s.calls → All IsSetting t.calls)) }
+        ensures bad { result ≡ Err RefusedLine.BadCall → (s : Script) → Says self.old s → IsNoSetting s line.now }
+    {
+        match read_line(alloc, line)? {
+            Line::Blank => {}
+            Line::Configure(setting) => {
+                self.config = setting.apply(copy_of(&self.config));
+                self.is_configured = true;
+            }
+            Line::Call(_) => return Err(RefusedLine::BadCall),
+            Line::Image {
+                partition,
+                name,
+                bytes,
+            } => {
+                if self.is_configured {
+                    return Err(RefusedLine::BadCall);
+                }
+                self.images.push((partition, name, bytes))?;
+            }
+            Line::Words(words) => {
+                if self.is_configured {
+                    return Err(RefusedLine::BadCall);
+                }
+                self.words.extend_from_slice(&words)?;
+            }
+        }
+        Ok(())
+    }
+}
+
+/// A laboratory of the text's images, words and settings.
+pub(crate) fn start(alloc: Global, text: &[u8]) -> Result<Kept, RefusedPreamble>
+    ensures ok { IfOk result (λ kept. IsMadeOf kept (lines_of text.now)) }
+    ensures bad { (number : ℕ) → result ≡ Err (RefusedPreamble.BadLine number) → BreaksAt (lines_of text.now) number }
+{
+    let Preamble {
+        images,
+        words,
+        config,
+        is_configured: _,
+    } = read(alloc, text)?;
+    let settings = copy_of(&config);
+    match Lab::new(images, words, config) {
+        Ok(lab) => Ok(Kept::new(alloc, lab, settings)),
+        Err(_) => Err(RefusedPreamble::NoMemory),
+    }
+}
+
+fn read(alloc: Global, text: &[u8]) -> Result<Preamble, RefusedPreamble>
+    ensures ok { IfOk result (λ preamble. (s : Script) × AreSettings (lines_of text.now) s × Says preamble s) }
+    ensures bad { (number : ℕ) → result ≡ Err (RefusedPreamble.BadLine number) → BreaksAt (lines_of text.now) number }
+{
+    let mut preamble = Preamble::new(alloc);
+    let mut rest = text;
+    let mut number = 0u64;
+    'lines: while let Some((line, others)) = first_line(rest) {
+        number += 1;
+        match preamble.add(alloc, line) {
+            Ok(()) => {}
+            Err(RefusedLine::BadCall) => return Err(RefusedPreamble::BadLine(number)),
+            Err(RefusedLine::NoMemory) => return Err(RefusedPreamble::NoMemory),
+        }
+        rest = others;
+    }
+    Ok(preamble)
+}
+
+/// What stands before the first line feed, and what behind it; nothing of no bytes.
+fn first_line(text: &[u8]) -> Option<(&[u8], &[u8])>
+    ensures line { IfSome result (λ parts. lines_of text.now ≡ parts.0.now ∷ lines_of parts.1.now) }
+    ensures shorter { IfSome result (λ parts. length parts.1.now < length text.now) }
+    ensures none { IfNone result (text.now ≡ []) }
+{
+    if text.is_empty() {
+        return None;
+    }
+    match line_feed(text) {
+        Some(at) => Some((&text[..at], &text[at + 1..])),
+        None => Some((text, &[])),
+    }
+}
+
+fn line_feed(text: &[u8]) -> Option<usize>
+    ensures { result ≡ position (λ byte. byte == 10) text.now }
+{
+    text.iter().position(|byte| *byte == b'\n')
+}

@@ -1,0 +1,36 @@
+// A whole script at once.
+ghost use Rattle.std.specs.Prelude.{◌≡◌, ◌<◌, Some, [], take, length};
+ghost use Rattle.blob_lab.specs.Scripts.{Prints, PrintsBefore, no_script, lines_of, script_of};
+
+use crate::ran::{BAD_LINE, DONE, ENDLESS, NO_MEMORY, NO_ROOM, ScriptRan};
+use blob_lab::Ending;
+use blob_lab::run_script::run_script;
+use std::alloc::Global;
+
+/// Runs a script, and copies what it prints where there is room for it. Where there is none, `len` says how much is wanted.
+pub(crate) fn run(alloc: Global, script: &[u8], replies: &mut [u8]) -> ScriptRan
+    ensures done { result.status ≡ DONE → Prints (script_of (lines_of script.now)) (Some []) (Some (take result.len replies.new)) }
+    ensures bad_line { result.status ≡ BAD_LINE → PrintsBefore no_script 1 result.line (lines_of script.now) (Some []) (Some (take result.len replies.new)) }
+    ensures no_room { result.status ≡ NO_ROOM → length replies.old < result.len }
+{
+    let mut reader = script;
+    let mut printed = Vec::new(alloc);
+    let ending = run_script(alloc, &mut reader, &mut printed);
+    let (status, line) = match ending {
+        Ending::Done => (DONE, 0),
+        Ending::BadCall(line) => (BAD_LINE, line),
+        Ending::InputFailed => return ScriptRan::stopped(ENDLESS),
+        // A list is a writer that fails for want of memory alone.
+        _ => return ScriptRan::stopped(NO_MEMORY),
+    };
+    let len = printed.len();
+    if len > replies.len() {
+        return ScriptRan {
+            status: NO_ROOM,
+            len,
+            line,
+        };
+    }
+    replies[..len].copy_from_slice(&printed);
+    ScriptRan { status, len, line }
+}
