@@ -96,6 +96,11 @@ if command -v python3 >/dev/null && [ -f "$top/out/libblobcrash.so" ]; then
     answers 'Python, line by line' run_python "$top/bindings/python/lines.py"
     answers 'Python, at once' run_python "$top/bindings/python/lines.py" --whole
     lives Python run_python "$top/bindings/python/log.py"
+    # The log of examples/, which is written for the program by a pipe; on both where the program is built.
+    program=$top/out/blobcrash
+    [ -x "$program" ] || { program= && echo "bindings.sh: left out: the log of examples/ on both, for want of out/blobcrash"; }
+    run_python "$top/tests/in_process.py" ${program:+"$program"} >"$work/out" 2>"$work/err"
+    tell $? 'Python: the log of examples/'
 else
     echo "bindings.sh: left out: Python, for want of python3 or of a C compiler, $compiler, which makes its library"
 fi

@@ -1,44 +1,34 @@
-"""A storage layer for tests of crash recovery.
+"""A store that crashes, for tests of recovery, in this process: the library that `sh bindings/build.sh` builds.
 
-A `Store` holds blobs by partition and name. Writes are chosen to fail, a crash keeps only some of the bytes that weren't
-synced, and `reopen` builds the store anew from what is durable:
-
-    with Store(words=[random.getrandbits(64) for _ in range(1000)]) as store:
-        store.configure("write", 0, 1, 1, 2, "subset")
-        log = store.open("wal", b"0")
+    with Store(seed=7) as store:
+        store.configure("write 0 1 1 2 subset")
+        log, size = store.open("wal", b"0")
         log.write(0, b"record")
         log.sync()
         log.write(6, b"another")
         store.crash()
         store.reopen()
-        log = store.open("wal", b"0")       # log.opened_size is 6 at least
+        log, size = store.open("wal", b"0")       # 6 bytes at least
         assert log.read(0, 6) == b"record"
 
-There are two ways to the layer, with the same replies: in-process through the library (`Library`, which `Store` takes
-unless it is told otherwise), and by pipe through the program (`Program`), which wants a program that answers each line
-before the next one is sent; one that hands its replies on at the end leaves it waiting. Each is an object with
-
-    call(line: bytes) -> bytes          one line of a script in, its reply out, both without a line feed
-    read(handle, offset, length)        bytes, or the reply line that came instead, as `Reply`
-    write(handle, offset, data, sync)   None, or the reply line that came instead, as `Reply`
-    close()
-
-and everything else is the same class `Store`. The surface: `Store.open`, `open_loose`, `admit`, `remove`, `scan`, `crash`,
-`reopen`, `configure`, `finish`, `call`, `close`; `Blob.read`, `write`, `resize`, `size`, `sync`, `start_sync`, `close`.
-
-A refused call raises an `Error`, of a subclass with the name of its reply: `error BlobMissing p 62` is `BlobMissing`, whose
-`fields` are `("p", "62")`. A store belongs to one thread.
+`examples/blobcrash.py` has the same surface over the program, by a pipe: a test that is written for one runs on the other. A
+call that is refused raises the error that is named like its reply: `error BlobMissing p 62` is `BlobMissing`, whose `fields`
+are `("p", "62")`. `store.script` has all lines that were asked: a script that does the same again. The lines and replies are
+those of docs/FORMATS.md. A store belongs to one thread.
 """
 
 import ctypes
 import os
-import subprocess
+import random
 from typing import NamedTuple
 
-__all__ = ["Store", "Blob", "Library", "Program", "run", "Error", "BadLine", "LibraryMissing"]
+__all__ = ["Store", "Blob", "Library", "run", "StorageError", "BadLine", "LibraryMissing"]
+
+# How many words a seed gives; behind them come zeros, for which whatever is drawn is true.
+WORDS = 256
 
 
-class Error(Exception):
+class StorageError(Exception):
     """A call was refused. `reply` is the whole reply line, `fields` its words behind the error's name."""
 
     def __init__(self, reply):
@@ -47,71 +37,71 @@ class Error(Exception):
         self.fields = tuple(reply.split(" ", 4)[2:])
 
 
-class OffsetOverflow(Error):
+class OffsetOverflow(StorageError):
     """An offset, with the header and the length, lies past what can be counted."""
 
 
-class BlobInsufficientLength(Error):
+class BlobInsufficientLength(StorageError):
     """A read goes past the bytes that are there."""
 
 
-class PartitionNameInvalid(Error):
+class PartitionNameInvalid(StorageError):
     """A partition's name is empty, or has other than ASCII letters, digits, `-` and `_`."""
 
 
-class PartitionMissing(Error):
+class PartitionMissing(StorageError):
     pass
 
 
-class BlobMissing(Error):
+class BlobMissing(StorageError):
     pass
 
 
-class BlobAlreadyOpen(Error):
+class BlobAlreadyOpen(StorageError):
     pass
 
 
-class BlobCorrupt(Error):
+class BlobCorrupt(StorageError):
     """A header isn't one that a creation writes."""
 
 
-class BlobLayoutMismatch(Error):
+class BlobLayoutMismatch(StorageError):
     pass
 
 
-class BlobVersionMismatch(Error):
+class BlobVersionMismatch(StorageError):
     pass
 
 
-class Closed(Error):
+class Closed(StorageError):
     pass
 
 
-class ReadFailed(Error):
+class ReadFailed(StorageError):
     pass
 
 
-class WriteFailed(Error):
+class WriteFailed(StorageError):
     pass
 
 
-class Injected(Error):
+class Injected(StorageError):
     """A fault that was chosen by a draw."""
 
 
-class Memory(Error):
+class Memory(StorageError):
     """The store found no memory for the call. Nothing has changed but the generator."""
 
 
-class GenerationsExhausted(Error):
+class GenerationsExhausted(StorageError):
     pass
 
 
-class NoHandle(Error):
+class NoHandle(StorageError):
     """No open handle, or no unfinished sync, has this number."""
 
 
-class EmptyRange(Error):
+class EmptyRange(StorageError):
     """The range of versions is empty."""
 
 
@@ -127,12 +117,12 @@ class LibraryMissing(OSError):
     """The library isn't built: `sh bindings/build.sh`, or name another one in `BLOBCRASH_LIBRARY`."""
 
 
-_errors = {error.__name__: error for error in Error.__subclasses__()}
+_errors = {error.__name__: error for error in StorageError.__subclasses__()}
 
 
 def _refusal(reply):
     """The error of a reply line that begins with `error`."""
-    return _errors.get(reply.split(" ")[1], Error)(reply)
+    return _errors.get(reply.split(" ")[1], StorageError)(reply)
 
 
 def _hex(data):
@@ -149,20 +139,13 @@ class Reply(NamedTuple):
     line: str
 
 
-class Opened(NamedTuple):
-    handle: int
-    size: int
-    version: int
-
-
 class Blob:
     """An open handle. Once the store is reopened it is stale: what it still writes isn't durable."""
 
-    def __init__(self, store, opened):
+    def __init__(self, store, handle, version):
         self._store = store
-        self.handle = opened.handle
-        self.opened_size = opened.size
-        self.version = opened.version
+        self.handle = handle
+        self.version = version
 
     def read(self, offset, length):
         """Bytes at a logical offset."""
@@ -174,40 +157,43 @@ class Blob:
 
     def resize(self, length):
         """Cuts or lengthens the blob to a logical length."""
-        self._store._done(f"resize {self.handle} {length}")
+        self._store.call(f"resize {self.handle} {length}")
 
     def size(self):
         """The size that the handle tracks, in bytes."""
-        return int(self._store._words(f"size {self.handle}")[1])
+        return int(self._store.call(f"size {self.handle}")[1])
 
     def sync(self):
         """Makes the handle's bytes durable."""
-        self._store._done(f"sync {self.handle}")
+        self._store.call(f"sync {self.handle}")
 
     def start_sync(self):
         """Begins to do so. The number that is answered is for `Store.finish`, which tells how it went."""
-        return int(self._store._words(f"startsync {self.handle}")[1])
+        return int(self._store.call(f"startsync {self.handle}")[1])
 
     def close(self):
         """Closes the handle."""
-        self._store._done(f"close {self.handle}")
+        self._store.call(f"close {self.handle}")
 
 
 class Store:
     """A store with its faults, its open handles and its started syncs.
 
-    `images` are raw blobs that lie there from the start: partition, name and bytes each. `words` are the words of the
-    generator by which the faults are drawn, 64 bits each; after them it gives zeros. `settings` are what `configure` takes,
-    one tuple each. `way` makes the way to the layer from the text of the preamble.
+    What is kept and what fails is drawn from the seed, or from these `words` of 64 bits each, or without them from zeros.
+    `images` are raw blobs that lie there from the start: partition, name and bytes each. `settings` are what `configure`
+    takes.
     """
 
-    def __init__(self, *, images=(), words=(), settings=(), way=None):
-        lines = [f"image {partition} {_hex(name)} {_hex(data)}\n" for partition, name, data in images]
+    def __init__(self, seed=None, *, words=(), images=(), settings=()):
         words = list(words)
+        if seed is not None:
+            chance = random.Random(seed)
+            words += [chance.getrandbits(64) for _ in range(WORDS)]
+        self._lines = [f"image {partition} {_hex(name)} {_hex(data)}" for partition, name, data in images]
         if words:
-            lines.append("words " + " ".join(str(word) for word in words) + "\n")
-        lines += ["config " + " ".join(str(word) for word in setting) + "\n" for setting in settings]
-        self._way = (way or Library)("".join(lines).encode())
+            self._lines.append("words " + " ".join(str(word) for word in words))
+        self._lines += [f"config {setting}" for setting in settings]
+        self._layer = Library("".join(line + "\n" for line in self._lines).encode())
 
     def __enter__(self):
         return self
@@ -217,14 +203,28 @@ class Store:
 
     def close(self):
         """Ends the store. Nothing may be asked of it, or of its blobs, any more."""
-        self._way.close()
+        self._layer.close()
+
+    @property
+    def script(self):
+        """All lines that were asked, and notes."""
+        return [line if isinstance(line, str) else _line(*line) for line in self._lines]
+
+    def note(self, text):
+        """Adds a comment to the script."""
+        self._lines.append(f"# {text}")
 
     def call(self, line):
-        """Makes the call of any line of a script, and answers its reply line, of a refused call too."""
-        return self._way.call(line.encode()).decode()
+        """Makes the call of any line of a script, and answers the words of its reply."""
+        self._lines.append(line)
+        words = self._layer.call(line.encode()).decode().split()
+        if words and words[0] == "error":
+            raise _refusal(" ".join(words))
+        return words
 
     def open(self, partition, name, versions=None):
-        """Opens a blob, or creates it. A name that is open is refused; what an earlier handle left pending is retired."""
+        """Opens a blob, or creates it, and answers its handle and its size in bytes. A name that is open is refused; what an
+        earlier handle left pending is retired."""
         return self._open("open", partition, name, versions)
 
     def open_loose(self, partition, name, versions=None):
@@ -233,59 +233,60 @@ class Store:
 
     def admit(self, partition, name):
         """Retires what is pending of a blob: no crash lays it down any more."""
-        self._done(f"admit {partition} {_hex(name)}")
+        self.call(f"admit {partition} {_hex(name)}")
 
     def finish(self, started):
         """Tells how a started sync went."""
-        self._done(f"finish {started}")
+        self.call(f"finish {started}")
 
     def remove(self, partition, name=None):
         """Removes a blob, or with no name the partition."""
-        self._done(f"remove {partition}" + ("" if name is None else f" {_hex(name)}"))
+        self.call(f"remove {partition}" + ("" if name is None else f" {_hex(name)}"))
 
     def scan(self, partition):
         """The names of a partition, sorted by their bytes."""
-        return [_unhex(name) for name in self._words(f"scan {partition}")[1:]]
+        return [_unhex(name) for name in self.call(f"scan {partition}")[1:]]
 
     def crash(self):
-        """Loses what wasn't durable, but for what the draws keep: for each write that was drawn for its number and, byte by
-        byte, whether it was kept."""
-        rows = (row.split(":") for row in self._words("crash")[1:])
-        return [(int(number), [kept == "1" for kept in choices]) for number, choices in rows]
+        """Loses what isn't durable, but for what is drawn: pairs of a write's number and its choices, `1` for a byte that is
+        kept."""
+        return [(int(row.split(":")[0]), row.split(":")[1]) for row in self.call("crash")[1:]]
 
     def reopen(self):
         """Builds the store anew from what is durable. All handles are stale, all names closed."""
-        self._done("reopen")
+        self.call("reopen")
 
-    def configure(self, *setting):
-        """Sets one rate, as `configure("sync", 1, 10)` or `configure("write", 1, 8, 1, 2, "sectors", 512)`."""
-        self._done("config " + " ".join(str(word) for word in setting))
+    def configure(self, setting):
+        """Sets a rate, as in `write 1 100 1 2 sectors 512`, or with `clear` none."""
+        self.call(f"config {setting}")
 
     def _open(self, word, partition, name, versions):
         line = f"{word} {partition} {_hex(name)}"
         if versions is not None:
             line += f" {versions[0]} {versions[1]}"
-        return Blob(self, Opened(*(int(number) for number in self._words(line)[1:])))
-
-    def _words(self, line):
-        words = self.call(line).split(" ")
-        if words[0] == "error":
-            raise _refusal(" ".join(words))
-        return words
-
-    def _done(self, line):
-        self._words(line)
+        handle, size, version = (int(number) for number in self.call(line)[1:])
+        return Blob(self, handle, version), size
 
     def _read(self, handle, offset, length):
-        found = self._way.read(handle, offset, length)
+        self._lines.append((handle, offset, length))
+        found = self._layer.read(handle, offset, length)
         if isinstance(found, Reply):
             raise _refusal(found.line)
         return found
 
     def _write(self, handle, offset, data, sync):
-        found = self._way.write(handle, offset, data, sync)
+        data = bytes(data)
+        self._lines.append((handle, offset, data, sync))
+        found = self._layer.write(handle, offset, data, sync)
         if found is not None:
             raise _refusal(found.line)
+
+
+def _line(handle, offset, what, sync=None):
+    """The line of a read, or of a write."""
+    if sync is None:
+        return f"read {handle} {offset} {what}"
+    return f"{'writes' if sync else 'write'} {handle} {offset} {_hex(what)}"
 
 
 # What the library answers: bindings/c/blobcrash.h.
@@ -396,54 +397,6 @@ class Library:
             ran = self._functions.blobcrash_reply(self._at, self._room, len(self._room))
         _check(ran.status, "")
         return ctypes.string_at(self._room, ran.len)
-
-
-class Program:
-    """The layer by pipe: a run of the program, which answers each line before it is sent the next."""
-
-    def __init__(self, preamble=b"", program=None):
-        here = os.path.dirname(os.path.abspath(__file__))
-        program = program or os.environ.get("BLOBCRASH_PROGRAM", os.path.join(here, "..", "..", "blobcrash"))
-        self._process = subprocess.Popen(
-            [program], stdin=subprocess.PIPE, stdout=subprocess.PIPE, stderr=subprocess.PIPE, bufsize=0
-        )
-        self._replies = os.fdopen(os.dup(self._process.stdout.fileno()), "rb", 65536)
-        for line in preamble.splitlines(keepends=True):
-            self._process.stdin.write(line)
-            if line.startswith(b"config"):
-                self._next(line)
-
-    def call(self, line):
-        if b"\n" in line:
-            raise BadLine("bad call: " + line.decode(errors="replace"))
-        if not line.strip(b" ") or line.lstrip(b" ").startswith(b"#"):
-            return b""
-        self._process.stdin.write(line + b"\n")
-        return self._next(line)
-
-    def read(self, handle, offset, length):
-        reply = self.call(b"read %d %d %d" % (handle, offset, length)).decode()
-        return _unhex(reply[6:]) if reply.startswith("bytes ") else Reply(reply)
-
-    def write(self, handle, offset, data, sync=False):
-        word = "writes" if sync else "write"
-        reply = self.call(f"{word} {handle} {offset} {_hex(data)}".encode()).decode()
-        return None if reply == "ok" else Reply(reply)
-
-    def close(self):
-        if self._process.stdin.closed:
-            return
-        self._process.stdin.close()
-        self._replies.close()
-        self._process.stdout.close()
-        self._process.stderr.close()
-        self._process.wait()
-
-    def _next(self, line):
-        reply = self._replies.readline()
-        if not reply:
-            raise BadLine(self._process.stderr.read().decode().strip() or line.decode(errors="replace"))
-        return reply[:-1]
 
 
 def run(script):

@@ -1,9 +1,9 @@
-"""Runs a script from standard input through the library, a line at a time, or with `--whole` at once, or with `--by-pipe`
-through the program: its replies are the program's (docs/FORMATS.md), and so is its exit status."""
+"""Runs a script from standard input through the library, a line at a time, or with `--whole` at once: its
+replies are the program's (docs/FORMATS.md), and so is its exit status."""
 
 import sys
 
-from blobcrash import BadLine, Library, Program, run
+from blobcrash import BadLine, Library, run
 
 
 def is_preamble(line):
@@ -16,13 +16,13 @@ def bad_line(number):
     return 2
 
 
-def by_lines(script, way):
+def by_lines(script):
     lines = script.split(b"\n")
     if lines[-1] == b"":
         lines.pop()
     first = next((at for at, line in enumerate(lines) if not is_preamble(line)), len(lines))
     try:
-        layer = way(b"".join(line + b"\n" for line in lines[:first]))
+        layer = Library(b"".join(line + b"\n" for line in lines[:first]))
     except BadLine as bad:
         return bad_line(bad.line)
     for number, line in enumerate(lines[first:], first + 1):
@@ -49,4 +49,4 @@ if __name__ == "__main__":
     script = sys.stdin.buffer.read()
     if "--whole" in sys.argv:
         sys.exit(whole(script))
-    sys.exit(by_lines(script, Program if "--by-pipe" in sys.argv else Library))
+    sys.exit(by_lines(script))

@@ -3,9 +3,9 @@
 The log acknowledges a record once it is synced. Whatever fails and wherever it crashes, recovery has to find each
 acknowledged record, in order, and may find one more: the record that was being appended.
 
-    log.py [forget-sync] [by-pipe]
+    log.py [forget-sync]
 
-lives through 200 logs, one a seed; by pipe through 10. With `forget-sync` a record is acknowledged before it is durable,
+lives through 200 logs, one a seed. With `forget-sync` a record is acknowledged before it is durable,
 which has to be found: the first life that loses a record is told, with status 1.
 """
 
@@ -13,7 +13,7 @@ import random
 import struct
 import sys
 
-from blobcrash import Error, Library, Program, Store
+from blobcrash import StorageError, Store
 
 HEAD = struct.Struct("<IQ")
 
@@ -40,10 +40,10 @@ class Log:
 
     def __init__(self, store, forgets_sync):
         """Opens the log, and cuts off what no append finished. `records` are those that it found."""
-        self.blob = store.open("wal", b"log")
+        self.blob, size = store.open("wal", b"log")
         self.forgets_sync = forgets_sync
         self.records, self.end = [], 0
-        data = self.blob.read(0, self.blob.opened_size)
+        data = self.blob.read(0, size)
         while (payload := record_at(data, self.end)) is not None:
             self.records.append(payload)
             self.end += HEAD.size + len(payload)
@@ -70,17 +70,17 @@ class Lost(Exception):
     pass
 
 
-SETTINGS = [("write", 1, 16, 1, 2, "subset"), ("sync", 1, 16), ("resize", 1, 16, 1, 2)]
+SETTINGS = ["write 1 16 1 2 subset", "sync 1 16", "resize 1 16 1 2"]
 
 
-def live(seed, forgets_sync, way):
+def live(seed, forgets_sync):
     """One life of a log: sixteen crashes. Answers how many records were acknowledged."""
     acknowledged, unanswered = [], None
-    with Store(words=words(seed), settings=SETTINGS, way=way) as store:
+    with Store(words=words(seed), settings=SETTINGS) as store:
         for crash in range(16):
             try:
                 log = Log(store, forgets_sync)
-            except Error:
+            except StorageError:
                 log = None  # a recovery that a fault cuts short is one more crash
             if log is not None:
                 left, more = log.records[: len(acknowledged)], log.records[len(acknowledged) :]
@@ -95,7 +95,7 @@ def live(seed, forgets_sync, way):
                     payload = bytes([16 * crash + number]) * ((seed + 5 * crash + 3 * number) % 40)
                     try:
                         log.append(payload)
-                    except Error:
+                    except StorageError:
                         unanswered = payload
                         break
                     acknowledged.append(payload)
@@ -105,14 +105,12 @@ def live(seed, forgets_sync, way):
 
 
 def main():
-    forgets_sync, by_pipe = "forget-sync" in sys.argv, "by-pipe" in sys.argv
-    way, lives = (Program, 10) if by_pipe else (Library, 200)
     try:
-        records = sum(live(seed, forgets_sync, way) for seed in range(lives))
+        records = sum(live(seed, "forget-sync" in sys.argv) for seed in range(200))
     except Lost as lost:
         print(lost)
         return 1
-    print(f"{records} records in {lives} lives, none was lost")
+    print(f"{records} records in 200 lives, none was lost")
     return 0
 
 

@@ -20,7 +20,7 @@ def tell(name, calls, once):
 
 def times(name):
     with Store() as store:
-        blob = store.open("p", b"b")
+        blob, _ = store.open("p", b"b")
         tell(f"{name}, size", 1, lambda _: blob.size())
         for length in (8, 512, 4096):
             block = bytes(7 * i % 256 for i in range(length))
