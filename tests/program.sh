@@ -80,8 +80,8 @@ run "$top/blobcrash" resolve <"$work/in"
 expect 'a region without its last byte' 0 "create$line" ''
 
 # Arguments.
-usage='usage: blobcrash [resolve]'
-for words in 'resolve resolve' 'resolve --' 'Resolve' '--help'; do
+usage='usage: blobcrash [resolve|help|version]'
+for words in 'resolve resolve' 'resolve --' 'Resolve' '--version' 'help help'; do
     # shellcheck disable=SC2086
     run "$top/blobcrash" $words </dev/null
     expect "arguments '$words'" 2 '' "$usage"
@@ -92,6 +92,17 @@ run "$top/blobcrash" 'resolve ' </dev/null
 expect 'an argument with a space' 2 '' "$usage"
 run "$top/blobcrash" "$(printf '\377')" </dev/null
 expect 'an argument that is not UTF-8' 2 '' "$usage"
+
+# Help, and the version with the toolchain that the program is built with.
+for word in help --help; do
+    run "$top/blobcrash" "$word" </dev/null
+    [ "$(head -n 1 "$work/out")" = "$usage" ] && grep -q '^  blobcrash resolve  ' "$work/out" && : >"$work/out"
+    expect "$word" 0 '' ''
+done
+run "$top/blobcrash" version </dev/null
+kit=$("$(command -v rt || echo /opt/rattle/bin/rt)" version | cut -d ' ' -f 1)
+release=$(sed -n 's/^## \([0-9.]*\),.*/\1/p' "$top/CHANGELOG.md" | head -n 1)
+expect 'the version' 0 "blobcrash $release, proved with $kit$line" ''
 
 # Scripts.
 run "$top/blobcrash" </dev/null

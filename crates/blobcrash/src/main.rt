@@ -8,6 +8,18 @@ use std::env;
 use std::io::{self, BufReader, BufWriter, ErrorKind};
 use std::process::ExitCode;
 
+/// The release, and the toolchain that it is proved and built with.
+const VERSION: &str = "blobcrash 0.2.0, proved with rattle-kit-13b";
+
+const HELP: &str = "usage: blobcrash [resolve|help|version]
+
+  blobcrash          runs the script on standard input, one call a line, and prints the reply to each
+  blobcrash resolve  reads a line of hex, the bytes of a blob, and prints what an open makes of them
+  blobcrash help     prints this, as --help does
+  blobcrash version  prints the release and the toolchain that it is proved with
+
+docs/FORMATS.md has the lines, the replies and the exit statuses.";
+
 fn main(rt: HostRuntime) -> ExitCode {
     let ending = match env::args(&rt) {
         Ok(args) => run(&rt, args),
@@ -28,8 +40,24 @@ fn run<T: AllocGlobal + Input + Print>(rt: &T, mut args: env::Args) -> Ending {
     let is_more = args.next().is_some();
     match word {
         None => run_input(rt),
-        Some(word) if word.as_str() == "resolve" && !is_more => resolve_input(rt),
+        Some(word) if !is_more => run_word(rt, word.as_str()),
+        Some(_) => Ending::Usage,
+    }
+}
+
+fn run_word<T: AllocGlobal + Input + Print>(rt: &T, word: &str) -> Ending {
+    match word {
+        "resolve" => resolve_input(rt),
+        "help" | "--help" => print_line(rt, HELP),
+        "version" => print_line(rt, VERSION),
         _ => Ending::Usage,
+    }
+}
+
+fn print_line<T: Print>(rt: &T, text: &str) -> Ending {
+    match println!(rt; "{text}") {
+        Ok(()) => Ending::Done,
+        Err(_) => Ending::OutputFailed,
     }
 }
 
