@@ -76,3 +76,11 @@ begins_within p n (Some (Incarnation k l v)) first last layout version live some
 pub opened_within : (d : Directory) (f : Durable) (d' : Directory) (f' : Durable) (p n : List ℕ) (first last : ℕ) (place : Place) (live : List ℕ) (version : ℕ) → first ≤ last → IsOpened d f d' f' p n first last place live version → (first ≤ version) × (version ≤ last)
 opened_within d f d' f' p n first last place live version some (Continued number layout e at is same bytes) = continues_within p n (d.file p n) first last number layout version e
 opened_within d f d' f' p n first last place live version some (Begun layout e at same bytes) = begins_within p n (d.file p n) first last layout version live some e
+
+-- an open for one version answers that
+pub one_version : (d : Directory) (f : Durable) (d' : Directory) (f' : Durable) (p n : List ℕ) (first last wanted : ℕ) (place : Place) (live : List ℕ) (version : ℕ) → first ≡ wanted → last ≡ wanted → IsOpened d f d' f' p n first last place live version → IsOpened d f d' f' p n wanted wanted place live wanted
+one_version d f d' f' p n first last wanted place live version start end opened =
+    let o = subst (λ (a : ℕ). IsOpened d f d' f' p n wanted a place live version) end (subst (λ (a : ℕ). IsOpened d f d' f' p n a last place live version) start opened) in
+    let within = opened_within d f d' f' p n wanted wanted place live version (omega arith) o in
+    let is : version ≡ wanted = omega (arith, within.0, within.1) in
+    subst (λ (v : ℕ). IsOpened d f d' f' p n wanted wanted place live v) is o

@@ -16,10 +16,12 @@ pub mod Gathering
 pub mod HoleRoom
 pub mod Laying
 pub mod Leaving
+pub mod Keeping
 pub mod ListSteps
 pub mod Marking
 pub mod Naming
 pub mod Pushing
+pub mod Recording
 pub mod RoomSteps
 pub mod Queued
 pub mod Replaying
@@ -30,4 +32,5 @@ pub mod SpanSteps
 pub mod SyncSteps
 pub mod Taking
 pub mod Unmarked
+pub mod Unreached
 pub mod Writing

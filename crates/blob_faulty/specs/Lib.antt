@@ -1,3 +1,4 @@
+pub mod Admitted
 pub mod AnswerLaws
 pub mod Answers
 pub mod Cells
@@ -6,6 +7,7 @@ pub mod Drawings
 pub mod Fates
 pub mod Faults
 pub mod HandleLeaves
+pub mod Keeps
 pub mod Lends
 pub mod Lists
 pub mod Marks

@@ -1,9 +1,10 @@
 //! What is pending of a name is retired.
-ghost use Rattle.std.specs.Prelude.{◌≡◌, Some, filter, not};
+ghost use Rattle.std.specs.Prelude.{◌≡◌, ℕ, List, Some, filter, not};
 ghost use Rattle.blob_base.specs.Directory.{current};
 ghost use Rattle.blob_base.specs.Files.{Files, admitted, ends_by};
 ghost use Rattle.blob_base.specs.Places.{Place};
 ghost use Rattle.blob_base.specs.Stands.{retired};
+ghost use Rattle.blob_faulty.specs.Keeps.{Keeps};
 ghost use Rattle.blob_faulty.specs.Wrapper.{KeepsNumbers, Stands, inner_of, rng_of, pending_of};
 ghost use Rattle.blob_memory.specs.Store.{directory, durable};
 
@@ -47,6 +48,7 @@ impl<R> Storage<blob_memory::Storage, R> {
         ensures inner { inner_of self.new ≡ inner_of self.old }
         ensures rng { rng_of self.new ≡ rng_of self.old }
         ensures numbers { KeepsNumbers self.old self.new }
+        ensures keeps { (o : Place) (bytes : List ℕ) → Keeps self.old o bytes → Keeps self.new o bytes }
     {
         drop_current(&mut self.lists.all.lists, &self.inner, partition, name);
         Retired { _private: () }

@@ -1,10 +1,11 @@
 //! The crash: what isn't durable is kept or lost by the generator's choices.
-ghost use Rattle.std.specs.Prelude.{◌≡◌, ℕ, [], All, OnOk, OnErr, IfOk};
+ghost use Rattle.std.specs.Prelude.{◌≡◌, ℕ, List, [], All, OnOk, OnErr, IfOk};
 ghost use Rattle.blob_base.specs.Draws.{drawn, chosen_by};
 ghost use Rattle.blob_base.specs.Files.{Files, all_needs, after_crash};
 ghost use Rattle.blob_base.specs.Places.{Place};
 ghost use Rattle.blob_base.specs.Refusals.{IsMemory};
 ghost use Rattle.blob_base.specs.Stands.{replayed_at};
+ghost use Rattle.blob_faulty.specs.Keeps.{Keeps};
 ghost use Rattle.blob_faulty.specs.Lists.{held, held_by};
 ghost use Rattle.blob_faulty.specs.Replays.{widest_of_all, IsReady, KeepsRoom};
 ghost use Rattle.blob_faulty.specs.Rows.{table_of};
@@ -87,6 +88,7 @@ impl<R: Rng> Storage<blob_memory::Storage, R> {
         ensures records { OnErr result (KeepsRecords (λ o. o) self.old self.new) }
         ensures directory { directory (inner_of self.new) ≡ directory (inner_of self.old) }
         ensures numbers { KeepsNumbers self.old self.new }
+        ensures keeps { (o : Place) (bytes : List ℕ) → Keeps self.old o bytes → Keeps self.new o bytes }
     {
         let alloc = *self.lists.all.lists.allocator();
         let draws = gather(alloc, &self.lists.all.lists)?;

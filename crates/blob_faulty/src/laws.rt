@@ -12,8 +12,10 @@ ghost use Rattle.blob_faulty.specs.Faults.{write_failure, retention, is_nothing,
 ghost use Rattle.blob_faulty.specs.Wrapper.{inner_of, config_of, next_write_of, next_marker_of, inside, KeepsRecords, Stands};
 
 pub mod current_handles;
+pub mod keeps;
 pub mod names;
 pub mod outcomes;
+pub mod recorded;
 
 use crate::blob::Blob;
 use crate::storage::Storage;

@@ -17,6 +17,7 @@ pub mod laws;
 pub mod lists;
 pub mod mode;
 pub mod names;
+mod open_admitted;
 mod replay;
 mod resizes;
 mod retired;

@@ -3,6 +3,7 @@ ghost use Rattle.std.specs.Prelude.{◌≡◌, ℕ, List, [], Some};
 ghost use Rattle.std.specs.Borrow.{sem};
 ghost use Rattle.blob_base.specs.Files.{wrapped};
 ghost use Rattle.blob_base.specs.Places.{Place};
+ghost use Rattle.blob_faulty.specs.Keeps.{found_in};
 ghost use Rattle.blob_faulty.specs.Lends.{LendsConfig, with_config};
 ghost use Rattle.blob_faulty.specs.Names.{Steps};
 ghost use Rattle.blob_faulty.specs.Wrapper.{inner_of, rng_of, config_of, next_write_of, next_marker_of, pending_of, Stands};
@@ -39,6 +40,7 @@ impl<S: Durable, R> Storage<S, R> {
         ensures next_write { next_write_of result ≡ 0 }
         ensures next_marker { next_marker_of result ≡ 0 }
         ensures files { (bytes : Place → List ℕ) → ((o : Place) (x : List ℕ) → S.durable inner o ≡ Some x → bytes o ≡ x) → Stands S.place (S.directory inner) (S.durable inner) result (wrapped (S.directory inner) bytes 0 0) }
+        ensures represents { Stands S.place (S.directory (inner_of result)) (S.durable (inner_of result)) result (wrapped (S.directory inner) (found_in (S.durable inner)) 0 0) }
     {
         Storage::new_numbered(alloc, inner, rng, config, 0, 0)
     }
@@ -60,6 +62,7 @@ impl<S: Durable, R> Storage<S, R> {
         ensures next_write { next_write_of result ≡ next_write }
         ensures next_marker { next_marker_of result ≡ next_marker }
         ensures files { (bytes : Place → List ℕ) → ((o : Place) (x : List ℕ) → S.durable inner o ≡ Some x → bytes o ≡ x) → Stands S.place (S.directory inner) (S.durable inner) result (wrapped (S.directory inner) bytes next_write next_marker) }
+        ensures represents { Stands S.place (S.directory (inner_of result)) (S.durable (inner_of result)) result (wrapped (S.directory inner) (found_in (S.durable inner)) next_write next_marker) }
     {
         Storage {
             inner,

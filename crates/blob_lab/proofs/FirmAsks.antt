@@ -17,7 +17,7 @@ use Rattle.blob_lab.specs.Fixed.{Byte, is_on, asks_for, reaches_through}
 use Rattle.blob_lab.specs.States.{State, Held}
 use Rattle.blob_lab.proofs.Firm.{IsFirm, Now, Behind, IsLive, at, live_set, place_on}
 use Rattle.blob_lab.proofs.Stale.{asked_directory, place_after}
-use Rattle.blob_lab.proofs.Unreached.{write_out, write_has, write_grows, IsAbove, reached_above, resize_out, resize_has, resize_counts}
+use Rattle.blob_faulty.proofs.Unreached.{write_out, write_has, write_grows, IsAbove, reached_above, resize_out, resize_has, resize_counts}
 
 pub held_live : (v : State) (h : Held) (ask : Ask) (refusal : Option Refusal) (b : Byte) → asks_for ask b ≡ false → IsLive b h → IsLive b (held_after v h ask refusal)
 held_live v h (Write offset bytes sync) refusal b out l = record {

@@ -50,7 +50,6 @@ pub mod Telling
 pub mod ThroughHandles
 pub mod Tokens
 mod ToldRefusals
-pub mod Unreached
 mod ValidOpens
 pub mod WordLists
 pub mod WorkedLines

@@ -1,4 +1,4 @@
-use Rattle.std.proofs.Common.{not, ◌≡◌, ◌≢◌, ◌∙◌, List, Some, ap, subst, sym}
+use Rattle.std.proofs.Common.{not, ◌≡◌, ◌≢◌, ◌∙◌, List, Some, refl, ap, subst, sym}
 use Rattle.std.proofs.lemmas.List.Kept.{AllPairs-filter}
 use Rattle.std.specs.List.{filter}
 use Rattle.blob_base.specs.Files.{ends_by}
@@ -9,6 +9,7 @@ use Rattle.blob_memory.specs.Store.{directory, durable}
 use Rattle.blob_faulty.specs.declared.incarnation.Incarnation.{Incarnation}
 use Rattle.blob_faulty.specs.Lists.{held, AreDistinct}
 use Rattle.blob_faulty.proofs.Admitting.{admits_current}
+use Rattle.blob_faulty.proofs.Keeping.{keeps_admitted}
 use Rattle.blob_faulty.proofs.ListSteps.{held_filter, held_at_filter}
 use Rattle.blob_faulty.proofs.admit.Storage+blob_memory+Storage+R.admit.Given.{Over}
 use Rattle.blob_faulty.proofs.admit.Storage+blob_memory+Storage+R.admit.Goals as goal
@@ -28,3 +29,6 @@ pub invariant_of-self : goal.invariant_of-self
 invariant_of-self g c = record {
   distinct = subst (λ (is : List (Incarnation Place)). AreDistinct is) (sym c.drop_current.ensures) (AllPairs-filter (λ a b. a.origin ≢ b.origin) _ c.args.self.now.lists.all.lists.items c.args.self.now.lists.all.distinct);
 }
+
+pub returns-clause-keeps : goal.returns-clause-keeps
+returns-clause-keeps g c o bytes k = keeps_admitted (λ (a : Place). a) directory durable c.args.self.now _ o bytes refl k c.args.partition.now c.args.name.now (returns-clause-stands g c)

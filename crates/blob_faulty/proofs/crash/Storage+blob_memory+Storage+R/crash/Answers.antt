@@ -1,13 +1,15 @@
-use Rattle.std.proofs.Common.{◌≡◌, ◌∙◌, ap, sym, subst, List, ℕ, Bool, Vec, All}
+use Rattle.std.proofs.Common.{◌≡◌, ◌∙◌, ap, sym, subst, List, ℕ, Bool, Vec, All, ◌<◌, Some, refl}
 use Rattle.std.specs.Global.{Global}
 use Rattle.std.specs.List.Sorted.{IsPermutation}
 use Rattle.rand_core.specs.Stream.{Stream}
+use Rattle.blob_base.specs.Directory.{Directory, current}
 use Rattle.blob_base.specs.Draws.{Row, chosen_by}
 use Rattle.blob_base.specs.Durable.{Durable}
 use Rattle.blob_base.specs.Log.{Choices}
 use Rattle.blob_base.specs.Order.{ArePlacesApart, waiting_of_all}
 use Rattle.blob_base.specs.Places.{Place}
 use Rattle.blob_base.specs.Stands.{replayed_at}
+use Rattle.blob_base.proofs.FileSteps.{stands_same}
 use Rattle.blob_memory.specs.Store.{directory, durable}
 use Rattle.blob_faulty.specs.declared.draw.Draw.{Draw}
 use Rattle.blob_faulty.specs.declared.incarnation.Incarnation.{Incarnation}
@@ -17,6 +19,7 @@ use Rattle.blob_faulty.specs.Replays.{IsReady}
 use Rattle.blob_faulty.specs.Rows.{rows_in, table_of, AreNumbered}
 use Rattle.blob_faulty.proofs.Distinct.{apart_of}
 use Rattle.blob_faulty.proofs.Crashing.{crash_rows, crash_stands}
+use Rattle.blob_faulty.proofs.Keeping.{keeps_crashed}
 use Rattle.blob_faulty.proofs.Rowing.{rows_rise}
 use Rattle.blob_faulty.proofs.crash.Storage+blob_memory+Storage+R.crash.Goals as goal
 
@@ -53,3 +56,18 @@ pub returns-clause-stands : goal.returns-clause-stands
 returns-clause-stands g c files f =
     crash_stands (λ (o : Place). o) (directory c.args.self.now.inner) (directory c.replay_all.new.inner) (durable c.args.self.now.inner) (durable c.replay_all.new.inner) c.args.self.now _ (chosen_by (table_of c.new.result))
     (c.replay_all.ensures.directory ∙ c.reserve_all.ensures.directory) (λ a. ap (λ (is : List (Incarnation Place)). list_of (λ (o : Place). o) is a) c.clear.ensures.items) (returns-clause-durable g c) files f
+
+pub returns-in_err-reserve_all-clause-keeps : goal.returns-in_err-reserve_all-clause-keeps
+returns-in_err-reserve_all-clause-keeps g c o bytes k =
+    let w = c.in_err-reserve_all.ensures in
+    record {
+      files = k.files;
+      stands = stands_same _ _ _ _ _ _ _ _ k.files w.directory (λ a. ap (λ (f : Durable). f a) w.durable) (λ a. refl) k.stands;
+      here = subst (λ (d : Directory). current d o.partition o.name ≡ Some o) (sym w.directory) k.here;
+      given = subst (λ (d : Directory). o.number < d.next) (sym w.directory) k.given;
+      fixed = k.fixed;
+    }
+
+pub returns-clause-keeps : goal.returns-clause-keeps
+returns-clause-keeps g c o bytes k =
+    keeps_crashed (λ (a : Place). a) directory durable c.args.self.now _ o bytes (c.replay_all.ensures.directory ∙ c.reserve_all.ensures.directory) k (chosen_by (table_of c.new.result)) (returns-clause-stands g c)

@@ -1,0 +1,41 @@
+-- What a SYNC write that is answered Ok records: itself, whole.
+use Rattle.std.proofs.Common.{◌≡◌, inl, inr, ℕ, ◌<◌, List, [], ◌∷◌, Bool, true, false, Option, Some, None, refl, length, arith, if◌then◌else◌}
+use Rattle.std.specs.Prelude.{is_some, MatchBool}
+use Rattle.std.proofs.lemmas.Bool.{false≢true}
+use Rattle.rand_core.specs.Stream.{Stream}
+use Rattle.blob_base.specs.Log.{Kept}
+use Rattle.blob_base.specs.Modes.{Mode}
+use Rattle.blob_base.specs.Rates.{Rate}
+use Rattle.blob_base.specs.Refusals.{Refusal, Injected, OffsetOverflow}
+use Rattle.blob_base.specs.Runs.{runs}
+use Rattle.blob_faulty.specs.declared.config.Config.{Config}
+use Rattle.blob_faulty.specs.Answers.{Allowed, allows_write, allows_fate, allows_runs, or_memory, numbered, injected_for, lacks_number}
+use Rattle.blob_faulty.specs.Faults.{WriteFate, Done, Unsynced, Failed, write_fate, retention, is_nothing, is_uncounted}
+use Rattle.blob_faulty.specs.Recorded.{kept, recorded_by, recorded_write}
+
+-- an Ok is no fault in place of one
+no_fault : (inner : Allowed) → injected_for inner None → ⊥
+no_fault inner (inl h) = let e = h.0 in cc
+no_fault inner (inr h) = absurd (false≢true h.0)
+
+no_numbered : (b : Bool) (inner : Allowed) → numbered b (injected_for inner) None → ⊥
+no_numbered true inner e = cc
+no_numbered false inner h = no_fault inner h
+
+module _ (writes : ℕ → List ℕ → Bool → Allowed) (reserves : ℕ → Allowed) (direct : Bool) where
+  by_fate : (t : Bool) (fate : WriteFate) (retained : Bool) (rate : Option (Mode × Rate)) (next at y : ℕ) (ys : List ℕ)
+      → MatchBool t (None ≡ Some OffsetOverflow) (or_memory (allows_fate fate writes reserves direct retained next true at (y ∷ ys)) None)
+      → (if t then [] else recorded_by fate rate next true at (y ∷ ys) None) ≡ Kept at (y ∷ ys) ∷ []
+  by_fate true fate retained rate next at y ys h = cc
+  by_fate false Done retained rate next at y ys h = refl
+  by_fate false Unsynced retained rate next at y ys (inl e) = cc
+  by_fate false Unsynced retained rate next at y ys (inr h) = absurd (no_numbered (lacks_number retained next (y ∷ ys)) (writes at (y ∷ ys) false) h)
+  by_fate false (Failed chosen) retained rate next at y ys (inl e) = cc
+  by_fate false (Failed chosen) retained rate next at y ys (inr h) = absurd (no_fault (allows_runs writes reserves direct (runs at (y ∷ ys) chosen)) h)
+
+  pub recorded_whole : (config : Config) (next : ℕ) (stream : Stream) (at : ℕ) (bytes : List ℕ)
+      → allows_write writes reserves direct config next stream at bytes true None
+      → recorded_write config next stream true at bytes None ≡ kept at bytes
+  recorded_whole config next stream at [] h = refl
+  recorded_whole config next stream at (y ∷ ys) h =
+      by_fate (is_uncounted at (y ∷ ys)) (write_fate config true at (length (y ∷ ys)) stream).0 (is_some (retention config.write_rate)) (retention config.write_rate) next at y ys h

@@ -1,0 +1,40 @@
+-- Records as bytes, one frame after another, and the records that bytes begin with.
+use Rattle.std.specs.Prelude.{ℕ, zero, suc, ◌+◌, ◌^◌, ◌<◌, Bool, ◌&&◌, List, [], ◌∷◌, ◌++◌, length, take, drop, nat_le, nat_eq, if◌then◌else◌}
+use Rattle.std.specs.Int.{w32, to_be_bytes, from_be_bytes}
+use Rattle.std.specs.List.{flat_map}
+use Rattle.blob_base.specs.Checksum.{crc32c}
+
+-- a record's length and its checksum in four bytes each, the high one first, and the record
+unfoldable pub frame : List ℕ → List ℕ
+frame entry = to_be_bytes w32 (length entry) ++ to_be_bytes w32 (crc32c entry) ++ entry
+
+abbrev pub frames : List (List ℕ) → List ℕ
+frames records = flat_map frame records
+
+-- what bytes would tell as the first frame: its record's length, its checksum, its record
+unfoldable pub length_told : List ℕ → ℕ
+length_told bytes = from_be_bytes w32 bytes
+
+unfoldable pub sum_told : List ℕ → ℕ
+sum_told bytes = from_be_bytes w32 (drop 4 bytes)
+
+abbrev pub payload : List ℕ → List ℕ
+payload bytes = take (length_told bytes) (drop 8 bytes)
+
+-- whether bytes begin with a whole frame whose checksum holds
+abbrev pub is_frame : List ℕ → Bool
+is_frame bytes = nat_le 8 (length bytes) && nat_le (8 + length_told bytes) (length bytes) && nat_eq (crc32c (payload bytes)) (sum_told bytes)
+
+-- the records of at most n frames
+abbrev pub scan_to : ℕ → List ℕ → List (List ℕ)
+scan_to zero bytes = []
+scan_to (suc n) bytes = if is_frame bytes then payload bytes ∷ scan_to n (drop (8 + length_told bytes) bytes) else []
+
+-- the records that bytes begin with: up to the first frame that is cut short or whose checksum fails
+unfoldable pub scan : List ℕ → List (List ℕ)
+scan bytes = scan_to (length bytes) bytes
+
+-- records whose lengths four bytes hold
+abbrev pub AreShort : List (List ℕ) → Type 0
+AreShort [] = Unit {0}
+AreShort (r ∷ rs) = (length r < 2 ^ 32) × AreShort rs

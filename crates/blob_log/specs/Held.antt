@@ -1,0 +1,39 @@
+-- What it is for a log to hold records, and for sessions of a log to survive.
+use Rattle.std.specs.Prelude.{◌≡◌, ℕ, List, [], ◌∷◌, ◌++◌, Bool, if◌then◌else◌, map, zip, All, Vec, length}
+use Rattle.std.specs.Global.{Global}
+use Rattle.blob_base.specs.Fronts.{BeginsWith}
+use Rattle.blob_base.specs.Places.{Place}
+use Rattle.blob_faulty.specs.Keeps.{OverMemory, Keeps}
+use Rattle.blob_faulty.specs.Wrapper.{inside}
+use Rattle.blob_memory.specs.Store.{place}
+use Rattle.blob_log.specs.declared.log.Log.{Log}
+use Rattle.blob_log.specs.declared.sessions.Session.{Session}
+use Rattle.blob_log.specs.Frames.{frames, AreShort}
+
+-- the incarnation of a log's blob
+abbrev pub place_of : Log → Place
+place_of log = place (inside log.blob)
+
+-- the wrapper keeps these records at the front of the log's blob, and the next frame goes right behind them
+pub record Holds {R : Type 0} (log : Log) (store : OverMemory R) (records : List (List ℕ)) : Type 0 where
+  pub kept : Keeps store (place_of log) (frames records)
+  pub short : AreShort records
+  pub end : log.end ≡ length (frames records)
+
+-- the bytes of a list of records
+abbrev pub items_of : List (Vec ℕ Global) → List (List ℕ)
+items_of records = map (λ r. r.items) records
+
+-- those of some records whose appends were answered Ok, in order, by these answers
+abbrev pub acknowledged : List Bool → List (List ℕ) → List (List ℕ)
+acknowledged [] records = []
+acknowledged (b ∷ answers) [] = []
+acknowledged (b ∷ answers) (r ∷ records) = if b then r ∷ acknowledged answers records else acknowledged answers records
+
+-- what a session found, and behind it what it was acknowledged
+abbrev pub trusted : Session × Vec (Vec ℕ Global) Global → List (List ℕ)
+trusted (session, records) = items_of session.before.items ++ acknowledged session.answers.items (items_of records.items)
+
+-- of each of these sessions, which were asked to append these records, that is a front of what is found in the end
+abbrev pub Survive : List Session → List (Vec (Vec ℕ Global) Global) → List (List ℕ) → Type 0
+Survive sessions asked after = All (λ s. BeginsWith (trusted s) after) (zip sessions asked)

@@ -1,0 +1,72 @@
+//! Frames: the bytes of a record in a log, and the records that bytes begin with.
+ghost use Rattle.std.specs.Prelude.{◌≡◌, ◌<◌, ◌≤◌, ◌+◌, ◌^◌, ℕ, true, false, MatchOption, IfOk, OnOk, OnErr, length, map, List, ◌++◌, slice_index};
+ghost use Rattle.std.specs.Int.{w32, from_be_bytes};
+ghost use Rattle.blob_base.specs.Fronts.{BeginsWith};
+ghost use Rattle.blob_log.specs.Frames.{AreShort, frame, frames, payload, is_frame, scan};
+
+use blob_base::Crc32;
+use std::alloc::{AllocError, Global};
+
+/// The frame of a record: its length and its checksum in four bytes each, and the record.
+#[tactic(auto, using(std::proofs::lemmas::Grind::common_steps), unfolding(crate::specs::Frames::frame))]
+pub fn frame_of(alloc: Global, entry: &[u8]) -> Result<Vec<u8>, AllocError>
+    requires { length entry.now < 2 ^ 32 }
+    ensures { IfOk result (λ bytes. bytes.items ≡ frame entry.now) }
+{
+    let len = entry.len() as u32;
+    let mut bytes = Vec::with_capacity(alloc, 8)?;
+    bytes.extend_from_slice(&len.to_be_bytes())?;
+    bytes.extend_from_slice(&Crc32::checksum(entry).to_be_bytes())?;
+    bytes.extend_from_slice(entry)?;
+    Ok(bytes)
+}
+
+// The number that the first four bytes are, the high one first.
+fn number(bytes: &[u8]) -> u32
+    requires { 4 ≤ length bytes.now }
+    ensures { result ≡ from_be_bytes w32 bytes.now }
+{
+    u32::from_be_bytes([bytes[0], bytes[1], bytes[2], bytes[3]])
+}
+
+/// The record that the bytes begin with, where a whole frame is there and its checksum holds.
+#[tactic(auto, using(crate::proofs::Scans::frame_tests), unfolding(crate::specs::Frames::length_told, crate::specs::Frames::sum_told))]
+pub fn first(bytes: &[u8]) -> Option<&[u8]>
+    ensures { MatchOption result (is_frame bytes.now ≡ false) (λ entry. (is_frame bytes.now ≡ true) × (entry.now ≡ payload bytes.now)) }
+{
+    if bytes.len() < 8 {
+        return None;
+    }
+    let len = number(bytes) as usize;
+    let sum = number(&bytes[4..]);
+    if bytes.len() - 8 < len {
+        return None;
+    }
+    let entry = &bytes[8..8 + len];
+    if Crc32::checksum(entry) != sum {
+        return None;
+    }
+    Some(entry)
+}
+
+/// The records that the bytes begin with, and where the last one's frame ends.
+pub fn scan(alloc: Global, bytes: &[u8]) -> Result<(Vec<Vec<u8>>, usize), AllocError>
+    ensures records { IfOk result (λ found. map (λ r. r.items) found.0.items ≡ scan bytes.now) }
+    ensures end { IfOk result (λ found. found.1 ≡ length (frames (scan bytes.now))) }
+    ensures front { OnOk result (BeginsWith (frames (scan bytes.now)) bytes.now) }
+    ensures short { OnOk result (AreShort (scan bytes.now)) }
+{
+    let mut records = Vec::new(alloc);
+    let mut end = 0;
+    while let Some(entry) = first(&bytes[end..]) {
+        records.push(Vec::from_slice(alloc, entry)?)?;
+        end += 8 + entry.len();
+    }
+    Ok((records, end))
+}
+
+/// What was written comes back, whatever stands behind it; and what comes back was written, where all are bytes.
+pub fn scans_find_frames()
+    ensures again { (rs : List (List ℕ)) (rest : List ℕ) → AreShort rs → scan (frames rs ++ rest) ≡ rs ++ scan rest }
+    ensures front { (bytes : List ℕ) → ((i : ℕ) → slice_index bytes i < 256) → BeginsWith (frames (scan bytes)) bytes }
+{}

@@ -1,0 +1,12 @@
+//! A log over the fault wrapper: every record whose append was answered Ok is found again after any crash.
+#![tactic(auto)]
+
+pub mod frame;
+pub mod log;
+#[cfg(test)]
+mod seeds;
+pub mod sessions;
+#[cfg(test)]
+mod tests;
+
+pub use log::Log;

@@ -1,0 +1,87 @@
+//! A log of records in one blob of a fault wrapper.
+ghost use Rattle.std.specs.Prelude.{◌≡◌, ◌<◌, ◌^◌, ◌++◌, ◌∷◌, [], List, ℕ, OnOk, OnErr, IfOk, length};
+ghost use Rattle.blob_base.specs.Files.{Files};
+ghost use Rattle.blob_base.specs.Fronts.{BeginsWith};
+ghost use Rattle.blob_base.specs.Opened.{IsNamed};
+ghost use Rattle.blob_base.specs.Places.{Place};
+ghost use Rattle.blob_base.specs.Refusals.{OffsetOverflow, refused};
+ghost use Rattle.blob_faulty.specs.Keeps.{IsFor, Keeps};
+ghost use Rattle.blob_log.specs.Frames.{AreShort, frames};
+ghost use Rattle.blob_log.specs.Held.{Holds, place_of, items_of};
+
+use crate::frame::{frame_of, scan};
+use blob_base::laws::opens::accepted_opens;
+use blob_base::{Blob, Error, IoBufs, ReadOptions, WriteOptions};
+use blob_faulty::laws::keeps::{unrecorded_calls, writes};
+use rand_core::Rng;
+use std::alloc::Global;
+
+/// A fault wrapper over the memory store.
+pub type Store<R> = blob_faulty::Storage<blob_memory::Storage, R>;
+
+/// An open log, and where its next frame goes.
+#[derive(Drop)]
+pub struct Log {
+    alloc: Global,
+    blob: blob_faulty::Blob<blob_memory::Blob>,
+    end: u64,
+}
+
+impl Log {
+    /// Writes the record's frame behind those that the log holds, durable at once. Answered Ok, the log holds the record too.
+    ///
+    /// # Errors
+    ///
+    /// `OffsetOverflow` where the record has 2^32 bytes or more, and else what the wrapper's SYNC write is refused for. The
+    /// log holds what it held, and the next frame goes to the same place: over whatever a failed write left there.
+    pub fn append<R: Rng>(&mut self, store: &mut Store<R>, entry: &[u8]) -> Result<(), Error>
+        ensures acknowledged { OnOk result ((records : List (List ℕ)) → Holds self.old store.old records → Holds self.new store.new (records ++ entry.now ∷ [])) }
+        ensures refused { OnErr result ((records : List (List ℕ)) → Holds self.old store.old records → Holds self.new store.new records) }
+        ensures place { place_of self.new ≡ place_of self.old }
+    {
+        writes::<blob_memory::Storage, R, blob_memory::Blob>();
+        if entry.len() > u32::MAX as usize {
+            return Err(Error::OffsetOverflow);
+        }
+        let bytes = IoBufs::from_vec(frame_of(self.alloc, entry)?)?;
+        let Some(end) = self.end.checked_add(bytes.remaining() as u64) else {
+            return Err(Error::OffsetOverflow);
+        };
+        self.blob
+            .write_at(store, self.end, bytes, WriteOptions::SYNC)?;
+        self.end = end;
+        Ok(())
+    }
+
+    /// Opens the log: the records that its blob begins with, up to the first frame that is cut short or whose checksum fails.
+    /// All records that were kept of it come first. The log holds what is answered, which no crash can take from it.
+    ///
+    /// # Errors
+    ///
+    /// What the wrapper's open and read are refused for. What was kept still is.
+    pub fn recover<R: Rng>(
+        alloc: Global,
+        store: &mut Store<R>,
+        partition: &str,
+        name: &[u8],
+    ) -> Result<(Log, Vec<Vec<u8>>), Error>
+        ensures held { IfOk result (λ r. (files : Files) → IsFor store.old files → Holds r.0 store.new (items_of r.1.items)) }
+        ensures found { IfOk result (λ r. (o : Place) (records : List (List ℕ)) → IsNamed o partition.now name.now → AreShort records → Keeps store.old o (frames records) → (place_of r.0 ≡ o) × BeginsWith records (items_of r.1.items)) }
+        ensures keeps { (o : Place) (bytes : List ℕ) → Keeps store.old o bytes → Keeps store.new o bytes }
+        ensures named { IfOk result (λ r. IsNamed (place_of r.0) partition.now name.now) }
+    {
+        accepted_opens();
+        unrecorded_calls::<blob_memory::Storage, R>();
+        let (blob, size) = store.open_admitted(partition, name)?;
+        let bytes = blob
+            .read_at(store, 0, size as usize, ReadOptions::default())?
+            .coalesce();
+        let (records, end) = scan(alloc, &bytes)?;
+        let log = Log {
+            alloc,
+            blob,
+            end: end as u64,
+        };
+        Ok((log, records))
+    }
+}

@@ -1,0 +1,80 @@
+//! A log through crashes: what was acknowledged is found again.
+ghost use Rattle.std.specs.Prelude.{◌≡◌, ◌++◌, List, ℕ, IfOk};
+ghost use Rattle.blob_base.specs.Files.{Files};
+ghost use Rattle.blob_faulty.specs.Keeps.{IsFor};
+ghost use Rattle.blob_log.specs.Held.{Holds, Survive, place_of, items_of, acknowledged};
+
+use crate::log::{Log, Store};
+use blob_base::Error;
+use blob_faulty::Config;
+use rand_core::Rng;
+use std::alloc::{AllocError, Global};
+
+/// What a session of a log found when it opened it, and which of its appends were answered Ok.
+#[derive(Drop)]
+pub struct Session {
+    pub before: Vec<Vec<u8>>,
+    pub answers: Vec<bool>,
+}
+
+/// Appends the records one after another, whatever is answered, and says which were answered Ok.
+fn append_all<R: Rng>(
+    alloc: Global,
+    log: &mut Log,
+    store: &mut Store<R>,
+    entries: &[Vec<u8>],
+) -> Result<Vec<bool>, AllocError>
+    ensures held { IfOk result (λ answers. (records : List (List ℕ)) → Holds log.old store.old records → Holds log.new store.new (records ++ acknowledged answers.items (items_of entries.now))) }
+    ensures place { place_of log.new ≡ place_of log.old }
+{
+    let mut answers = Vec::with_capacity(alloc, entries.len())?;
+    for entry in entries {
+        answers.push(log.append(store, entry).is_ok())?;
+    }
+    Ok(answers)
+}
+
+/// Opens the log and, for each list of records, appends them, crashes, and opens what is left. Of each session all that it
+/// found and all that was answered Ok, in order, is at the front of what is found in the end, whatever the wrapper's faults,
+/// its generator and what it held before.
+///
+/// # Errors
+///
+/// What an open, a read or a crash is refused for, and `Memory`.
+pub fn sessions_survive<R: Rng>(
+    alloc: Global,
+    store: &mut Store<R>,
+    partition: &str,
+    name: &[u8],
+    sessions: &[Vec<Vec<u8>>],
+) -> Result<(Vec<Session>, Vec<Vec<u8>>), Error>
+    ensures { IfOk result (λ r. (files : Files) → IsFor store.old files → Survive r.0.items sessions.now (items_of r.1.items)) }
+{
+    let (mut log, mut before) = Log::recover(alloc, store, partition, name)?;
+    let mut done = Vec::with_capacity(alloc, sessions.len())?;
+    for entries in sessions {
+        let answers = append_all(alloc, &mut log, store, entries)?;
+        store.crash()?;
+        let (again, after) = Log::recover(alloc, store, partition, name)?;
+        done.push(Session { before, answers })?;
+        log = again;
+        before = after;
+    }
+    Ok((done, before))
+}
+
+/// The same over a new store.
+pub fn sessions_survive_anew<R: Rng + Drop>(
+    alloc: Global,
+    rng: R,
+    config: Config,
+    partition: &str,
+    name: &[u8],
+    sessions: &[Vec<Vec<u8>>],
+) -> Result<(Vec<Session>, Vec<Vec<u8>>), Error>
+    ensures { IfOk result (λ r. Survive r.0.items sessions.now (items_of r.1.items)) }
+{
+    let memory = blob_memory::Storage::new(alloc);
+    let mut store = blob_faulty::Storage::new(alloc, memory, rng, config);
+    sessions_survive(alloc, &mut store, partition, name, sessions)
+}
