@@ -2,6 +2,8 @@
 #![tactic(auto)]
 
 #[cfg(test)]
+mod any_store;
+#[cfg(test)]
 mod calls;
 #[cfg(test)]
 mod ends;
@@ -11,6 +13,8 @@ mod headers;
 mod images;
 #[cfg(test)]
 mod incarnations;
+#[cfg(test)]
+mod large;
 #[cfg(test)]
 mod names;
 #[cfg(test)]
