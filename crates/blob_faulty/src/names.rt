@@ -125,8 +125,10 @@ impl<S: blob_base::Storage, R: Rng> blob_base::Storage for Storage<S, R> {
 
     ghost keeps_size = { λ blob size. (size_of blob ≡ size) × S.keeps_size (inside blob) size };
 
-    /// Draws the open rate, then opens in the store inside. The handle's size is the one that is answered. Nothing that is pending
-    /// is retired by it: over a memory store `admit` does that.
+    /// Draws the open rate, then opens in the store inside. The handle's size is the one that is answered.
+    ///
+    /// Alone it fixes nothing: what is pending of the blob stays so, and a later crash may replay it over what the handle found.
+    /// Over a memory store `admit` behind it retires that, and `open_versioned_admitted` does both.
     ///
     /// # Errors
     ///

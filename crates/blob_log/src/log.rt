@@ -3,9 +3,12 @@ ghost use Rattle.std.specs.Prelude.{◌≡◌, ◌<◌, ◌^◌, ◌++◌, ◌�
 ghost use Rattle.blob_base.specs.Files.{Files};
 ghost use Rattle.blob_base.specs.Fronts.{BeginsWith};
 ghost use Rattle.blob_base.specs.Opened.{IsNamed};
+ghost use Rattle.blob_base.specs.Opening.{IsOpened};
 ghost use Rattle.blob_base.specs.Places.{Place};
 ghost use Rattle.blob_base.specs.Refusals.{OffsetOverflow, refused};
 ghost use Rattle.blob_faulty.specs.Keeps.{IsFor, Keeps};
+ghost use Rattle.blob_faulty.specs.Wrapper.{inner_of, inside};
+ghost use Rattle.blob_memory.specs.Store.{directory, durable, place, live};
 ghost use Rattle.blob_log.specs.Frames.{AreShort, frames};
 ghost use Rattle.blob_log.specs.Held.{Holds, place_of, items_of};
 
@@ -25,6 +28,21 @@ pub struct Log {
     alloc: Global,
     blob: blob_faulty::Blob<blob_memory::Blob>,
     end: u64,
+}
+
+/// Opens the log's blob so that what the handle finds stays: no crash takes it.
+fn open_blob<R: Rng>(
+    store: &mut Store<R>,
+    partition: &str,
+    name: &[u8],
+) -> Result<(blob_faulty::Blob<blob_memory::Blob>, u64), Error>
+    ensures opened { IfOk result (λ r. IsOpened (directory (inner_of store.old)) (durable (inner_of store.old)) (directory (inner_of store.new)) (durable (inner_of store.new)) partition.now name.now 0 0 (place (inside r.0)) (live (inside r.0)) 0) }
+    ensures size { IfOk result (λ r. r.1 ≡ length (live (inside r.0))) }
+    ensures fixed { IfOk result (λ r. (files : Files) → IsFor store.old files → Keeps store.new (place (inside r.0)) (live (inside r.0))) }
+    ensures found { IfOk result (λ r. (o : Place) (bytes : List ℕ) → IsNamed o partition.now name.now → Keeps store.old o bytes → (place (inside r.0) ≡ o) × BeginsWith bytes (live (inside r.0))) }
+    ensures keeps { (o : Place) (bytes : List ℕ) → Keeps store.old o bytes → Keeps store.new o bytes }
+{
+    store.open_admitted(partition, name)
 }
 
 impl Log {
@@ -72,7 +90,7 @@ impl Log {
     {
         accepted_opens();
         unrecorded_calls::<blob_memory::Storage, R>();
-        let (blob, size) = store.open_admitted(partition, name)?;
+        let (blob, size) = open_blob(store, partition, name)?;
         let bytes = blob
             .read_at(store, 0, size as usize, ReadOptions::default())?
             .coalesce();

@@ -15,17 +15,17 @@ whole x y n long is = grind (arith, common_steps)
 pub returns-in_err-read_at-clause-keeps : goal.returns-in_err-read_at-clause-keeps
 returns-in_err-read_at-clause-keeps g c = λ o bytes k.
     let w = c.in_err-read_at.ensures in
-    c.unrecorded_calls.ensures.keeps c.open_admitted.new.self c.read_at.new.store o bytes w.directory w.durable w.unrecorded (c.in_ok-blob.ensures.keeps o bytes k)
+    c.unrecorded_calls.ensures.keeps c.open_blob.new.store c.read_at.new.store o bytes w.directory w.durable w.unrecorded (c.in_ok-blob.ensures.keeps o bytes k)
 
 pub returns-in_err-records-clause-keeps : goal.returns-in_err-records-clause-keeps
 returns-in_err-records-clause-keeps g c = λ o bytes k.
     let w = c.in_ok-read_at.ensures in
-    c.unrecorded_calls.ensures.keeps c.open_admitted.new.self c.read_at.new.store o bytes w.directory w.durable w.unrecorded (c.in_ok-blob.ensures.keeps o bytes k)
+    c.unrecorded_calls.ensures.keeps c.open_blob.new.store c.read_at.new.store o bytes w.directory w.durable w.unrecorded (c.in_ok-blob.ensures.keeps o bytes k)
 
 pub returns-clause-keeps : goal.returns-clause-keeps
 returns-clause-keeps g c = λ o bytes k.
     let w = c.in_ok-read_at.ensures in
-    c.unrecorded_calls.ensures.keeps c.open_admitted.new.self c.read_at.new.store o bytes w.directory w.durable w.unrecorded (c.in_ok-blob.ensures.keeps o bytes k)
+    c.unrecorded_calls.ensures.keeps c.open_blob.new.store c.read_at.new.store o bytes w.directory w.durable w.unrecorded (c.in_ok-blob.ensures.keeps o bytes k)
 
 pub returns-clause-found : goal.returns-clause-found
 returns-clause-found g c = λ o records named short k.
@@ -42,7 +42,7 @@ returns-clause-held g c = λ files stands.
     let w = c.in_ok-read_at.ensures in
     let bytes = live (inside c.in_ok-blob.blob) in
     let o = place (inside c.in_ok-blob.blob) in
-    let k = c.unrecorded_calls.ensures.keeps c.open_admitted.new.self c.read_at.new.store o bytes w.directory w.durable w.unrecorded (c.in_ok-blob.ensures.fixed files stands) in
+    let k = c.unrecorded_calls.ensures.keeps c.open_blob.new.store c.read_at.new.store o bytes w.directory w.durable w.unrecorded (c.in_ok-blob.ensures.fixed files stands) in
     let read : c.coalesce-bytes.result.items ≡ bytes = whole bytes _ c.in_ok-blob.size c.in_ok-blob.ensures.size (c.coalesce-bytes.ensures.bytes ∙ w.bytes) in
     let s = c.in_ok-records.ensures in
     holds_scanned (record { alloc = c.args.alloc; blob = c.in_ok-blob.blob; end = c.in_ok-records.end }) c.read_at.new.store c.deref.result.now (items_of c.in_ok-records.records.items)
