@@ -1,0 +1,76 @@
+//! A disk whose sync does nothing and says that it did.
+use sqlite_disk::{Disk, Tally};
+use std::io;
+
+/// As a disk it says that a crash leaves what was written, synced or not. So it keeps the contract of a disk, and is none that
+/// crashes (`Crash`): what a crash leaves of it is another thing than it says.
+#[derive(Drop)]
+pub struct Lying<D: Disk> {
+    pub inner: D,
+}
+
+impl<D: Disk> Disk for Lying<D> {
+    ghost use Rattle.std.specs.Prelude.{◌≡◌, false, refl};
+
+    ghost seen = { λ d. D.Disk.seen d.inner };
+
+    ghost may_leave = { λ d c. c ≡ D.Disk.seen d.inner };
+
+    ghost is_usable = { λ d. D.Disk.is_usable d.inner };
+
+    ghost faults = { λ d. D.Disk.faults d.inner };
+
+    ghost tally_of = { λ d. D.Disk.tally_of d.inner };
+
+    ghost is_clean = { λ d. D.Disk.is_clean d.inner };
+
+    ghost key_of = { λ d. D.Disk.key_of d.inner };
+
+    ghost is_fair = { λ d. D.Disk.is_fair d.inner };
+
+    ghost is_rotten = { λ d. D.Disk.is_rotten d.inner };
+
+    ghost fair_if_clean = { λ d. D.Disk.fair_if_clean d.inner };
+
+    ghost seen_may_stay = { λ _. refl };
+
+    fn mixes(&self) -> bool {
+        false
+    }
+
+    fn key(&self) -> u64 {
+        self.inner.key()
+    }
+
+    fn tally(&self) -> Tally {
+        self.inner.tally()
+    }
+
+    fn may_be_used(&self) -> bool {
+        self.inner.may_be_used()
+    }
+
+    fn len(&mut self) -> io::Result<usize> {
+        self.inner.len()
+    }
+
+    fn read_at(&mut self, at: usize, buf: &mut [u8]) -> io::Result<()> {
+        self.inner.read_at(at, buf)
+    }
+
+    fn read_checked(&mut self, key: u64, want: u64, at: usize, buf: &mut [u8]) -> io::Result<()> {
+        self.inner.read_checked(key, want, at, buf)
+    }
+
+    fn write_at(&mut self, at: usize, bytes: &[u8]) -> io::Result<()> {
+        self.inner.write_at(at, bytes)
+    }
+
+    fn set_len(&mut self, len: usize) -> io::Result<()> {
+        self.inner.set_len(len)
+    }
+
+    fn sync(&mut self) -> io::Result<()> {
+        Ok(())
+    }
+}

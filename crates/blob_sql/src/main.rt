@@ -1,0 +1,115 @@
+//! A database of the kit on disks that fail: by each seed its log and its file crash again and again, and each transaction that
+//! was answered has to be there, and each that failed whole or not at all.
+//!
+//!     blob_sql [--lie] FIRST LAST
+//!
+//! The seeds are those from FIRST up to LAST, which is not among them. A line tells what happened in each mode; a line before it
+//! tells of each wrong row. With `--lie` a sync does nothing and says that it did, and rows have to be wrong.
+//! Exit statuses: 0 where no row was wrong, 1 where one was, 2 for other arguments, 3 where the run could not be done.
+#![tactic(auto)]
+
+mod counts;
+mod file;
+mod lying;
+mod mode;
+mod state;
+mod transaction;
+mod trial;
+
+use anyhow::Result;
+use counts::{Counts, add};
+use mode::{MODES, Mode};
+use std::alloc::Global;
+use std::env;
+use std::process::ExitCode;
+
+#[derive(Clone, Copy)]
+struct Seeds {
+    first: u64,
+    last: u64,
+    is_lying: bool,
+}
+
+fn number(word: Option<String>) -> Option<u64> {
+    word.and_then(|word| word.parse::<u64>().ok())
+}
+
+/// What is asked for, if the arguments say it.
+fn asked(mut args: env::Args) -> Option<Seeds> {
+    let _program = args.next();
+    let mut word = args.next();
+    let is_lying = match &word {
+        Some(text) => text.as_str() == "--lie",
+        None => false,
+    };
+    if is_lying {
+        word = args.next();
+    }
+    let first = number(word)?;
+    let last = number(args.next())?;
+    if args.next().is_some() {
+        return None;
+    }
+    Some(Seeds {
+        first,
+        last,
+        is_lying,
+    })
+}
+
+/// A line of the table.
+fn print_row<R: Print>(rt: &R, mode: &Mode, counts: &Counts) -> Result<()> {
+    let (name, syncs) = (mode.name, mode.syncs());
+    let (commits, failed, refused) = (counts.commits, counts.failed, counts.refused);
+    let (crashes, doubt, kept, wrong) = (counts.crashes, counts.doubt, counts.kept, counts.wrong);
+    print!(rt; "{name:<9} {syncs:<5} {commits:>8} {failed:>8} {refused:>8} ")?;
+    println!(rt; "{crashes:>8} {doubt:>8} {kept:>8} {wrong:>8}")?;
+    Ok(())
+}
+
+/// One mode over all seeds. A line tells of each seed that found a wrong row.
+fn run<R: Print>(rt: &R, alloc: Global, mode: &Mode, seeds: Seeds) -> Result<Counts> {
+    let mut counts = Counts::default();
+    for seed in seeds.first..seeds.last {
+        if let Some(wrong) = trial::run(alloc, seed, mode, seeds.is_lying, &mut counts)? {
+            add(&mut counts.wrong);
+            let (name, syncs) = (mode.name, mode.syncs());
+            println!(rt; "{name}, {syncs}: seed {seed}: {wrong}")?;
+        }
+    }
+    print_row(rt, mode, &counts)?;
+    Ok(counts)
+}
+
+/// The table. Whether a row was wrong.
+fn run_all<R: Print>(rt: &R, alloc: Global, seeds: Seeds) -> Result<bool> {
+    let mut is_wrong = false;
+    println!(rt; "mode      syncs  commits   failed  refused  crashes    doubt     kept    wrong")?;
+    for mode in &MODES {
+        if seeds.is_lying && mode.is_fused {
+            continue;
+        }
+        let counts = run(rt, alloc, mode, seeds)?;
+        is_wrong = is_wrong || counts.wrong > 0;
+    }
+    Ok(is_wrong)
+}
+
+fn main(rt: HostRuntime) -> ExitCode {
+    let seeds = match env::args(&rt) {
+        Ok(args) => asked(args),
+        Err(_) => None,
+    };
+    let Some(seeds) = seeds else {
+        let _ = eprintln!(rt; "usage: blob_sql [--lie] FIRST LAST");
+        return ExitCode::from(2);
+    };
+    match run_all(&rt, rt.alloc(), seeds) {
+        Ok(false) => ExitCode::from(0),
+        Ok(true) => ExitCode::from(1),
+        Err(error) => {
+            let _ = eprintln!(rt; "blob_sql: {error}");
+            ExitCode::from(3)
+        }
+    }
+}

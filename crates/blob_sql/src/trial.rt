@@ -1,0 +1,245 @@
+//! One seed: a database is filled, its files crash, it is opened again, and its rows are compared.
+ghost use Rattle.std.specs.Prelude.{◌≡◌};
+ghost use Rattle.blob_faulty.specs.Certain.{IsNever, partial_resizes};
+
+use crate::counts::{Counts, add};
+use crate::file::{BlobFile, Crashing};
+use crate::lying::Lying;
+use crate::mode::{Faults, Mode, below};
+use crate::state::{State, read};
+use crate::transaction::fill;
+use anyhow::Result;
+use blob_disk::BlobDisk;
+use blob_faulty::Config;
+use rand_core::{Rng, SeedableRng};
+use rand_xoshiro::Xoshiro256PlusPlus;
+use sqlite::{Connection, FileStore, Files, Options};
+use sqlite_disk::{Crash, Disk, Fuse};
+use std::alloc::Global;
+
+/// How often the machine stops, before a last time without faults.
+const ROUNDS: u64 = 3;
+
+/// Small numbers, so that transactions spill and the log is copied into the file.
+fn options(rng: &mut Xoshiro256PlusPlus) -> Options {
+    let mut options = Options::new(rng.next_u64());
+    options.cache_pages = 1 + below(rng, 8) as usize;
+    options.spill_pages = 1 + below(rng, 4) as usize;
+    options.checkpoint_frames = 4 + below(rng, 32) as usize;
+    options
+}
+
+/// An open, or the files as they were left. Files of which a sync has failed can't be opened before a crash.
+fn open<D: Disk + Drop>(
+    alloc: Global,
+    files: Files<D>,
+    rng: &mut Xoshiro256PlusPlus,
+) -> Result<Connection<FileStore<D>>, Files<D>> {
+    let (is_log_usable, is_db_usable) = (files.log.may_be_used(), files.db.may_be_used());
+    if !is_log_usable || !is_db_usable {
+        return Err(files);
+    }
+    match Connection::open_files(alloc, files, options(rng)) {
+        Ok(conn) => Ok(conn),
+        Err((_, left)) => Err(left.into_files()),
+    }
+}
+
+fn close<D: Disk + Drop>(conn: Connection<FileStore<D>>) -> Files<D> {
+    conn.into_store().close()
+}
+
+/// Both files lose what wasn't durable.
+fn crash<D: Crashing>(files: &mut Files<D>, log: Config, db: Config)
+    requires log { IsNever (partial_resizes log.resize_rate) }
+    requires db { IsNever (partial_resizes db.resize_rate) }
+{
+    files.log.crash_to(log);
+    files.db.crash_to(db);
+}
+
+/// An open that may be refused once: behind another crash nothing fails.
+fn open_again<D: Crashing + Drop>(
+    alloc: Global,
+    files: Files<D>,
+    rng: &mut Xoshiro256PlusPlus,
+    counts: &mut Counts,
+) -> Result<Connection<FileStore<D>>, Files<D>> {
+    match open(alloc, files, rng) {
+        Ok(conn) => Ok(conn),
+        Err(mut left) => {
+            add(&mut counts.refused);
+            add(&mut counts.crashes);
+            crash(&mut left, Config::default(), Config::default());
+            open(alloc, left, rng)
+        }
+    }
+}
+
+/// Whether the rows are those that were committed, and then some transactions. Where a read fails nothing is known.
+fn go_on<D: Disk + Drop>(
+    alloc: Global,
+    conn: &mut Connection<FileStore<D>>,
+    rng: &mut Xoshiro256PlusPlus,
+    state: &mut State,
+    counts: &mut Counts,
+) -> Result<bool> {
+    let Ok(found) = read(alloc, conn) else {
+        return Ok(true);
+    };
+    if !state.takes(found, counts) {
+        return Ok(false);
+    }
+    fill(alloc, conn, rng, state, counts)?;
+    Ok(true)
+}
+
+fn wrong(alloc: Global, state: &State) -> Result<Option<String>> {
+    let rows = match &state.rows {
+        Some(rows) => rows.len(),
+        None => 0,
+    };
+    Ok(Some(format!(in alloc; "other rows than were committed, now {rows}")?))
+}
+
+fn unopened(alloc: Global) -> Result<Option<String>> {
+    Ok(Some(String::from_str(alloc, "the database can't be opened")?))
+}
+
+/// What was wrong, if anything was.
+fn rounds<D: Crashing + Drop>(
+    alloc: Global,
+    mut files: Files<D>,
+    faults: Faults,
+    rng: &mut Xoshiro256PlusPlus,
+    counts: &mut Counts,
+) -> Result<Option<String>> {
+    let mut state = State::new();
+    for _ in 0..ROUNDS {
+        let (log, db) = (faults.config(rng), faults.config(rng));
+        add(&mut counts.crashes);
+        crash(&mut files, log, db);
+        let Ok(mut conn) = open_again(alloc, files, rng, counts) else {
+            return unopened(alloc);
+        };
+        if !go_on(alloc, &mut conn, rng, &mut state, counts)? {
+            return wrong(alloc, &state);
+        }
+        files = close(conn);
+    }
+    add(&mut counts.crashes);
+    crash(&mut files, Config::default(), Config::default());
+    ends(alloc, files, rng, &mut state, counts)
+}
+
+/// The rows once more, where nothing fails.
+fn ends<D: Disk + Drop>(
+    alloc: Global,
+    files: Files<D>,
+    rng: &mut Xoshiro256PlusPlus,
+    state: &mut State,
+    counts: &mut Counts,
+) -> Result<Option<String>> {
+    let Ok(mut conn) = open(alloc, files, rng) else {
+        return unopened(alloc);
+    };
+    let Ok(found) = read(alloc, &mut conn) else {
+        return unopened(alloc);
+    };
+    if !state.takes(found, counts) {
+        return wrong(alloc, state);
+    }
+    Ok(None)
+}
+
+fn disk(
+    alloc: Global,
+    rng: &mut Xoshiro256PlusPlus,
+    config: Config,
+    is_mixing: bool,
+) -> Result<BlobFile>
+    requires { IsNever (partial_resizes config.resize_rate) }
+{
+    let draws = Xoshiro256PlusPlus::seed_from_u64(rng.next_u64());
+    Ok(BlobDisk::new(alloc, draws, config, is_mixing)?)
+}
+
+/// Files that fail from some call on, as where the machine stops.
+fn fused_files(
+    alloc: Global,
+    mode: &Mode,
+    rng: &mut Xoshiro256PlusPlus,
+) -> Result<Files<Fuse<BlobFile>>> {
+    let (log, db) = (mode.faults.config(rng), mode.faults.config(rng));
+    let log = disk(alloc, rng, log, mode.is_mixing)?;
+    let db = disk(alloc, rng, db, mode.is_mixing)?;
+    Ok(Files {
+        log: Fuse::new(log, below(rng, 150)),
+        db: Fuse::new(db, below(rng, 60)),
+    })
+}
+
+/// The files behind a first open and its transactions.
+fn filled<D: Disk + Drop>(
+    alloc: Global,
+    files: Files<D>,
+    rng: &mut Xoshiro256PlusPlus,
+    state: &mut State,
+    counts: &mut Counts,
+) -> Result<Files<D>> {
+    match open(alloc, files, rng) {
+        Ok(mut conn) => {
+            fill(alloc, &mut conn, rng, state, counts)?;
+            Ok(close(conn))
+        }
+        Err(left) => {
+            add(&mut counts.refused);
+            Ok(left)
+        }
+    }
+}
+
+/// Both files crash.
+fn crash_fused<D: Crash>(files: &mut Files<D>) {
+    files.log.crash();
+    files.db.crash();
+}
+
+/// A run of files that fail from some call on, over a crash.
+fn fused(
+    alloc: Global,
+    mode: &Mode,
+    rng: &mut Xoshiro256PlusPlus,
+    counts: &mut Counts,
+) -> Result<Option<String>> {
+    let files = fused_files(alloc, mode, rng)?;
+    let mut state = State::new();
+    let mut files = filled(alloc, files, rng, &mut state, counts)?;
+    add(&mut counts.crashes);
+    crash_fused(&mut files);
+    ends(alloc, files, rng, &mut state, counts)
+}
+
+/// What was wrong, if anything was.
+pub fn run(
+    alloc: Global,
+    seed: u64,
+    mode: &Mode,
+    is_lying: bool,
+    counts: &mut Counts,
+) -> Result<Option<String>> {
+    let mut rng = Xoshiro256PlusPlus::seed_from_u64(seed);
+    if mode.is_fused {
+        return fused(alloc, mode, &mut rng, counts);
+    }
+    let log = disk(alloc, &mut rng, Config::default(), mode.is_mixing)?;
+    let db = disk(alloc, &mut rng, Config::default(), mode.is_mixing)?;
+    if is_lying {
+        let files = Files {
+            log: Lying { inner: log },
+            db: Lying { inner: db },
+        };
+        return rounds(alloc, files, mode.faults, &mut rng, counts);
+    }
+    rounds(alloc, Files { log, db }, mode.faults, &mut rng, counts)
+}

@@ -1,0 +1,48 @@
+#!/bin/sh
+# A database of the toolchain on disks that fail (crates/blob_sql): 300 seeds of each mode, of which no row may be wrong, and
+# then with a sync that does nothing, of which rows have to be wrong in every mode.
+# SEEDS gives another number of seeds. The last line is `N passed, M failed`.
+set -u
+
+top=$(CDPATH='' cd -- "$(dirname -- "$0")/.." && pwd -P)
+work=$(mktemp -d)
+trap 'rm -rf "$work"' EXIT
+passed=0
+failed=0
+program=$("$top/tools/built" blob_sql) || {
+    echo "sql.sh: blob_sql can't be built"
+    echo "0 passed, 1 failed"
+    exit 1
+}
+
+# check NAME CONDITION..: one test.
+check() {
+    name=$1
+    shift
+    if "$@"; then
+        passed=$((passed + 1))
+    else
+        failed=$((failed + 1))
+        echo "sql.sh: $name"
+        head -n 40 "$work/out"
+    fi
+}
+
+"$program" 0 "${SEEDS:-300}" >"$work/out"
+status=$?
+cat "$work/out"
+check 'no row is wrong' [ "$status" -eq 0 ]
+check 'every mode has a line' [ "$(grep -c ' \(one\|two\) ' "$work/out")" -eq 18 ]
+check 'every mode commits' [ "$(awk '/ (one|two) / && $3 > 0 && $6 > 0' "$work/out" | wc -l)" -eq 18 ]
+
+"$program" --lie 0 20 >"$work/out"
+status=$?
+check 'a sync that does nothing is found' [ "$status" -eq 1 ]
+check 'in every mode' [ "$(awk '/ (one|two) / && NF == 9 && $9 > 0' "$work/out" | wc -l)" -eq 16 ]
+
+"$program" 1 >"$work/out" 2>&1
+status=$?
+check 'other arguments are refused' [ "$status" -eq 2 ]
+
+echo "$passed passed, $failed failed"
+[ "$failed" -eq 0 ]
