@@ -145,7 +145,9 @@ mod tests {
     fn one_piece_is_moved(rt: HostRuntime) -> Result<(), Fail> {
         let mut piece = Vec::with_capacity(rt.alloc(), 100)?;
         piece.push(7)?;
-        let bytes = IoBufs::from_vec(piece)?.coalesce()?;
+        let bufs = IoBufs::from_vec(piece)?;
+        assert_eq!(rt; bufs.pieces().len(), 1);
+        let bytes = bufs.coalesce()?;
         assert_eq!(rt; bytes.as_slice(), [7].as_slice());
         assert_eq!(rt; bytes.capacity(), 100);
         Ok(())

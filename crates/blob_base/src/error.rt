@@ -87,3 +87,6 @@ impl<T: Drop> From<AllocFailed<T>> for Error {
         Error::Memory(AllocError)
     }
 }
+
+#[cfg(test)]
+mod tests;

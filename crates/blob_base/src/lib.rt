@@ -5,6 +5,8 @@ pub mod any_store;
 pub mod buffers;
 pub mod buffers_mut;
 pub mod checksum;
+#[cfg(test)]
+mod creation_tests;
 pub mod error;
 pub mod handle;
 pub mod header;
