@@ -8,16 +8,13 @@
         store.crash()
         store.reopen()
 
-A call that is refused raises the error that is named like its reply. `store.script` has all lines that were sent, the words of
-the generator first: a script that does the same again. The lines and replies are those of docs/FORMATS.md.
+A call that is refused raises the error that is named like its reply. `store.script` has all lines that were sent, the seed first: a
+script that does the same again. The lines and replies are those of docs/FORMATS.md.
 """
 
 import os
-import random
 import subprocess
 
-# How many words a seed gives; behind them come zeros, for which whatever is drawn is true.
-WORDS = 256
 TOP = os.path.dirname(os.path.dirname(os.path.abspath(__file__)))
 
 
@@ -56,14 +53,14 @@ _ERRORS = {error.__name__: error for error in StorageError.__subclasses__()}
 
 
 class Store:
-    """One run of the program. What is kept and what fails is drawn from the seed, or without one from zeros."""
+    """One run of the program. What is kept and what fails is drawn from the seed, a number below 2^64, or without one from zeros,
+    for which whatever is drawn is true."""
 
     def __init__(self, seed=None):
         self.script = []
         self._run = subprocess.Popen([program()], stdin=subprocess.PIPE, stdout=subprocess.PIPE, text=True)
         if seed is not None:
-            chance = random.Random(seed)
-            self._send("words " + " ".join(str(chance.getrandbits(64)) for _ in range(WORDS)))
+            self._send(f"seed {seed}")
 
     def __enter__(self):
         return self

@@ -73,7 +73,7 @@ struct blobcrash_script_ran {
 
 /*
  * Opens a session. The preamble is the lines of a script that stand before its calls, and settings: `image P NAME HEX`,
- * `words W ..`, and then `config ..`; none is a preamble too. What the session held before is ended.
+ * `words W ..`, `seed N`, and then `config ..`; none is a preamble too. What the session held before is ended.
  *
  * DONE; BAD_LINE with the number of a line that may not stand there; NO_MEMORY. The last two change nothing.
  */

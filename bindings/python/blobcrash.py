@@ -19,13 +19,9 @@ those of docs/FORMATS.md. A store belongs to one thread.
 
 import ctypes
 import os
-import random
 from typing import NamedTuple
 
 __all__ = ["Store", "Blob", "Library", "run", "StorageError", "BadLine", "LibraryMissing"]
-
-# How many words a seed gives; behind them come zeros, for which whatever is drawn is true.
-WORDS = 256
 
 
 class StorageError(Exception):
@@ -179,19 +175,19 @@ class Blob:
 class Store:
     """A store with its faults, its open handles and its started syncs.
 
-    What is kept and what fails is drawn from the seed, or from these `words` of 64 bits each, or without them from zeros.
+    What is kept and what fails is drawn from these `words` of 64 bits each, and behind them from the seed, a number below 2^64,
+    or without one from zeros, for which whatever is drawn is true.
     `images` are raw blobs that lie there from the start: partition, name and bytes each. `settings` are what `configure`
     takes.
     """
 
     def __init__(self, seed=None, *, words=(), images=(), settings=()):
         words = list(words)
-        if seed is not None:
-            chance = random.Random(seed)
-            words += [chance.getrandbits(64) for _ in range(WORDS)]
         self._lines = [f"image {partition} {_hex(name)} {_hex(data)}" for partition, name, data in images]
         if words:
             self._lines.append("words " + " ".join(str(word) for word in words))
+        if seed is not None:
+            self._lines.append(f"seed {seed}")
         self._lines += [f"config {setting}" for setting in settings]
         self._layer = Library("".join(line + "\n" for line in self._lines).encode())
 

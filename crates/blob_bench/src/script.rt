@@ -15,6 +15,7 @@ use std::time::{Clock, Instant};
 pub struct Script {
     images: Vec<(String, Vec<u8>, Vec<u8>)>,
     words: Vec<u64>,
+    seed: Option<u64>,
     calls: Vec<Call>,
 }
 
@@ -40,6 +41,7 @@ pub fn read<R: BufRead>(alloc: Global, reader: &mut R) -> Result<Script> {
     let mut script = Script {
         images: Vec::new(alloc),
         words: Vec::new(alloc),
+        seed: None,
         calls: Vec::new(alloc),
     };
     let mut config = Config::default();
@@ -62,6 +64,7 @@ pub fn read<R: BufRead>(alloc: Global, reader: &mut R) -> Result<Script> {
                 },
             ) => script.images.push((partition, name, bytes))?,
             Ok(Line::Words(words)) => script.words.extend_from_slice(&words)?,
+            Ok(Line::Seed(seed)) => script.seed = Some(seed),
             Ok(Line::Configure(setting)) => {
                 config = setting.apply(config);
                 script.calls.push(Call::Configure(config.clone()?))?;
@@ -78,9 +81,13 @@ pub fn run(clock: &impl Clock, alloc: Global, script: Script) -> Result<Times> {
     let Script {
         images,
         words,
+        seed,
         calls,
     } = script;
-    let mut lab = Lab::new(images, words, Config::default())?;
+    let mut lab = match seed {
+        None => Lab::new(images, words, Config::default())?,
+        Some(seed) => Lab::seeded(images, words, seed, Config::default())?,
+    };
     let times = apply_all(clock, alloc, &mut lab, &calls);
     lab.end();
     times

@@ -1,19 +1,20 @@
 -- What one more line makes of a preamble.
-use Rattle.std.proofs.Common.{◌≡◌, ◌≢◌, ℕ, suc, ◌+◌, ◌≤◌, List, [], ◌∷◌, ◌++◌, All, Option, Some, None, true, option_and_then, Vec, String, string_bytes, length, refl, sym, ap, ◌∙◌, append_assoc, arith}
+use Rattle.std.proofs.Common.{◌≡◌, ℕ, ◌+◌, ◌≤◌, List, [], ◌∷◌, ◌++◌, All, Some, None, true, option_and_then, Vec, String, string_bytes, length, refl, sym, ap, ◌∙◌, append_assoc, arith}
 use Rattle.std.proofs.lemmas.List.{length_push, map-append}
 use Rattle.std.proofs.lemmas.List.Elements.{All-push}
 use Rattle.std.specs.Global.{Global}
 use Rattle.blob_lab.specs.declared.script.setting.Setting.{Setting}
 use Rattle.blob_lab.specs.Acts as acts
 use Rattle.blob_lab.specs.Acts.{Act}
-use Rattle.blob_lab.specs.Lines.{Image, Words, Configure, line_of}
-use Rattle.blob_lab.specs.Scripts.{Script, no_script, lines_of, with_call, before_calls, with_said, with_line, with_lines}
+use Rattle.blob_lab.specs.Lines.{Image, Given, Seed, Configure, line_of}
+use Rattle.blob_lab.specs.Scripts.{Script, no_script, lines_of, with_call, before_calls, unseeded, with_said, with_line}
+use Rattle.blob_lab.specs.Scripted.{behind_seeded}
 use Rattle.blob_lab.specs.Settings.{configured}
 use Rattle.blob_lab.specs.States as states
 use Rattle.blob_lab.specs.Tables.{images_of}
 use Rattle.blob_lab.proofs.ScriptSteps.{more_lines, one_line}
 use Rattle.blob_c.specs.declared.preamble.Preamble.{Preamble}
-use Rattle.blob_c.specs.Preambles.{IsSetting, AreSettings, IsNoSetting, BreaksAt, Says, IsReadTo}
+use Rattle.blob_c.specs.Preambles.{IsSetting, IsNoSetting, BreaksAt, Says, IsReadTo}
 
 -- a line adds to what was said
 abbrev pub Adds : Script → List ℕ → Preamble → Type 0
@@ -23,15 +24,15 @@ is_some : (xs : List Act) (x : Act) → xs ++ x ∷ [] ≡ [] → ⊥
 is_some [] x e = cc
 is_some (y ∷ ys) x e = cc
 
-pub adds_setting : (p q : Preamble) (line : List ℕ) (setting : Setting) → line_of line ≡ Some (Configure setting) → q.images ≡ p.images → q.words ≡ p.words → q.config ≡ configured p.config setting → q.is_configured ≡ true
+pub adds_setting : (p q : Preamble) (line : List ℕ) (setting : Setting) → line_of line ≡ Some (Configure setting) → q.images ≡ p.images → q.words ≡ p.words → q.seed ≡ p.seed → q.config ≡ configured p.config setting → q.is_configured ≡ true
     → (s : Script) → Says p s → Adds s line q
-adds_setting p q line setting says images words config set s said =
+adds_setting p q line setting says images words seed config set s said =
     let d = configured s.config setting in (
       with_call (record s { config = d }) (acts.Configure d),
       ap (option_and_then (with_said s)) says,
       record {
         images = ap (λ is. images_of is.items) images ∙ said.images;
-        words = ap (λ ws. ws.items) words ∙ said.words;
+        words = ap (λ ws. record { given = ws.items; seed = q.seed }) words ∙ ap (λ n. record { given = p.words.items; seed = n }) seed ∙ said.words;
         config = config ∙ ap (λ c. configured c setting) said.config;
         none = λ not. absurd (not set);
         some = λ _. is_some s.calls (acts.Configure d);
@@ -40,14 +41,14 @@ adds_setting p q line setting says images words config set s said =
     )
 
 pub adds_image : (p q : Preamble) (line : List ℕ) (partition : String Global) (name bytes : Vec ℕ Global) → line_of line ≡ Some (Image (string_bytes partition) name.items bytes.items) → (p.is_configured ≡ true → ⊥)
-    → q.images.items ≡ p.images.items ++ (partition, name, bytes) ∷ [] → q.words ≡ p.words → q.config ≡ p.config → q.is_configured ≡ p.is_configured → (s : Script) → Says p s → Adds s line q
-adds_image p q line partition name bytes says not images words config same s said =
+    → q.images.items ≡ p.images.items ++ (partition, name, bytes) ∷ [] → q.words ≡ p.words → q.seed ≡ p.seed → q.config ≡ p.config → q.is_configured ≡ p.is_configured → (s : Script) → Says p s → Adds s line q
+adds_image p q line partition name bytes says not images words seed config same s said =
     let none = said.none not in let i : states.Image = (string_bytes partition, name.items, bytes.items) in let t : Script = record s { images = s.images ++ i ∷ [] } in (
       t,
       ap (option_and_then (with_said s)) says ∙ ap (λ calls. before_calls calls t) none,
       record {
         images = ap images_of images ∙ map-append (λ j. (string_bytes j.0, j.1.items, j.2.items)) p.images.items ((partition, name, bytes) ∷ []) ∙ ap (λ is. is ++ i ∷ []) said.images;
-        words = ap (λ ws. ws.items) words ∙ said.words;
+        words = ap (λ ws. record { given = ws.items; seed = q.seed }) words ∙ ap (λ n. record { given = p.words.items; seed = n }) seed ∙ said.words;
         config = config ∙ said.config;
         none = λ _. none;
         some = λ set. absurd (not (sym same ∙ set));
@@ -55,18 +56,34 @@ adds_image p q line partition name bytes says not images words config same s sai
       λ all. all,
     )
 
-pub adds_words : (p q : Preamble) (line : List ℕ) (more : List ℕ) → line_of line ≡ Some (Words more) → (p.is_configured ≡ true → ⊥)
-    → q.words.items ≡ p.words.items ++ more → q.images ≡ p.images → q.config ≡ p.config → q.is_configured ≡ p.is_configured → (s : Script) → Says p s → Adds s line q
-adds_words p q line more says not words images config same s said =
-    let none = said.none not in let t : Script = record s { words = s.words ++ more } in (
+pub adds_words : (p q : Preamble) (line : List ℕ) (more : List ℕ) → line_of line ≡ Some (Given more) → (p.is_configured ≡ true → ⊥)
+    → q.words.items ≡ p.words.items ++ more → q.seed ≡ p.seed → q.images ≡ p.images → q.config ≡ p.config → q.is_configured ≡ p.is_configured → (s : Script) → Says p s → Adds s line q
+adds_words p q line more says not words seed images config same s said =
+    let none = said.none not in let t : Script = record s { words = record { given = s.words.given ++ more; seed = s.words.seed } } in (
       t,
       ap (option_and_then (with_said s)) says ∙ ap (λ calls. before_calls calls t) none,
       record {
         images = ap (λ is. images_of is.items) images ∙ said.images;
-        words = words ∙ ap (λ ws. ws ++ more) said.words;
+        words = ap (λ l. record { given = l; seed = q.seed }) words ∙ ap (λ n. record { given = p.words.items ++ more; seed = n }) seed ∙ ap (λ w. record { given = w.given ++ more; seed = w.seed }) said.words;
         config = config ∙ said.config;
         none = λ _. none;
         some = λ set. absurd (not (sym same ∙ set));
+      },
+      λ all. all,
+    )
+
+pub adds_seed : (p q : Preamble) (line : List ℕ) (seed : ℕ) → line_of line ≡ Some (Seed seed) → (p.is_configured ≡ true → ⊥) → p.seed ≡ None → q.seed ≡ Some seed
+    → q.images ≡ p.images → q.words ≡ p.words → q.config ≡ p.config → q.is_configured ≡ p.is_configured → (s : Script) → Says p s → Adds s line q
+adds_seed p q line seed says not first set images words config same s said =
+    let none = said.none not in let t : Script = record s { words = behind_seeded s.words.given seed } in (
+      t,
+      ap (option_and_then (with_said s)) says ∙ ap (λ calls. option_and_then (unseeded s.words.seed) (before_calls calls t)) none ∙ ap (λ n. unseeded n t) (ap (λ w. w.seed) (sym said.words) ∙ first),
+      record {
+        images = ap (λ is. images_of is.items) images ∙ said.images;
+        words = ap (λ ws. record { given = ws.items; seed = q.seed }) words ∙ ap (λ n. record { given = p.words.items; seed = n }) set ∙ ap (λ w. behind_seeded w.given seed) said.words;
+        config = config ∙ said.config;
+        none = λ _. none;
+        some = λ late. absurd (not (sym same ∙ late));
       },
       λ all. all,
     )

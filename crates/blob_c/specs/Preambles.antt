@@ -1,5 +1,5 @@
 -- What a session is opened with: a script that makes no call but settings.
-use Rattle.std.specs.Prelude.{◌≡◌, ◌≢◌, ◌⊎◌, ℕ, suc, List, [], ◌∷◌, ◌++◌, All, Bool, true, length, Option, Some, None}
+use Rattle.std.specs.Prelude.{◌≡◌, ◌≢◌, ◌⊎◌, ℕ, suc, List, [], ◌∷◌, ◌++◌, All, true, length, Some, None}
 use Rattle.blob_lab.specs.Acts as acts
 use Rattle.blob_lab.specs.Acts.{Act}
 use Rattle.blob_lab.specs.LabStands.{StandsFor}
@@ -45,7 +45,7 @@ pub record IsMadeOf (k : Kept) (lines : List (List ℕ)) : Type 0 where
 -- what was kept of the lines so far
 pub record Says (p : Preamble) (s : Script) : Type 0 where
   pub images : images_of p.images.items ≡ s.images
-  pub words : p.words.items ≡ s.words
+  pub words : record { given = p.words.items; seed = p.seed } ≡ s.words
   pub config : p.config ≡ s.config
   pub none : p.is_configured ≢ true → s.calls ≡ []
   pub some : p.is_configured ≡ true → s.calls ≢ []

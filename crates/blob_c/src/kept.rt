@@ -141,7 +141,7 @@ impl Kept {
             Line::Call(call) => Ok(Some(call)),
             Line::Configure(setting) => Ok(Some(self.configure(setting))),
             Line::Blank => Ok(None),
-            Line::Image { .. } | Line::Words(_) => Err(RefusedLine::BadCall),
+            Line::Image { .. } | Line::Words(_) | Line::Seed(_) => Err(RefusedLine::BadCall),
         }
     }
 

@@ -33,7 +33,7 @@ pub extern "C" fn blobcrash_run(alloc: Global, script: &[u8], replies: &mut [u8]
     script::run(alloc, script, replies)
 }
 
-/// Opens a session with a preamble: the lines of a script that are images, words and settings, in this order. What the
+/// Opens a session with a preamble: the lines of a script that are images, words, a seed and settings, the settings last. What the
 /// session held before is ended.
 ///
 /// `BAD_LINE` tells the number of a line that may not stand there. It and `NO_MEMORY` change nothing.

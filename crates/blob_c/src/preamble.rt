@@ -1,9 +1,13 @@
 // What a session is opened with: the lines of a script before its calls, and settings.
 ghost use Rattle.std.specs.Prelude.{◌≡◌, ◌==◌, ◌<◌, ℕ, ◌∷◌, [], Some, IfSome, IfNone, IfOk, OnOk, All, length, position};
+ghost use Rattle.blob_lab.specs.LabStands.{StandsFor};
 ghost use Rattle.blob_lab.specs.Scripts.{Script, lines_of, no_script, with_line};
+ghost use Rattle.blob_lab.specs.States.{start};
+ghost use Rattle.blob_lab.specs.Tables.{images_of};
 ghost use Rattle.blob_c.specs.Preambles.{AreSettings, BreaksAt, IsMadeOf, IsNoSetting, IsSetting, Says};
 
 use crate::kept::{Kept, copy_of};
+use blob_base::Error;
 use blob_faulty::Config;
 use blob_lab::Lab;
 use blob_lab::script::{Line, RefusedLine, read_line};
@@ -14,8 +18,9 @@ use std::alloc::Global;
 pub(crate) struct Preamble {
     images: Vec<(String, Vec<u8>, Vec<u8>)>,
     words: Vec<u64>,
+    seed: Option<u64>,
     config: Config,
-    /// Whether there was a setting, after which images and words don't come any more.
+    /// Whether there was a setting, after which images, words and a seed don't come any more.
     is_configured: bool,
 }
 
@@ -33,6 +38,7 @@ impl Preamble {
         Preamble {
             images: Vec::new(alloc),
             words: Vec::new(alloc),
+            seed: None,
             config: Config::default(),
             is_configured: false,
         }
@@ -66,12 +72,21 @@ impl Preamble {
                 }
                 self.words.extend_from_slice(&words)?;
             }
+            Line::Seed(seed) => {
+                if self.is_configured {
+                    return Err(RefusedLine::BadCall);
+                }
+                if self.seed.is_some() {
+                    return Err(RefusedLine::BadCall);
+                }
+                self.seed = Some(seed);
+            }
         }
         Ok(())
     }
 }
 
-/// A laboratory of the text's images, words and settings.
+/// A laboratory of the text's images, words, seed and settings.
 pub(crate) fn start(alloc: Global, text: &[u8]) -> Result<Kept, RefusedPreamble>
     ensures ok { IfOk result (λ kept. IsMadeOf kept (lines_of text.now)) }
     ensures bad { (number : ℕ) → result ≡ Err (RefusedPreamble.BadLine number) → BreaksAt (lines_of text.now) number }
@@ -79,13 +94,28 @@ pub(crate) fn start(alloc: Global, text: &[u8]) -> Result<Kept, RefusedPreamble>
     let Preamble {
         images,
         words,
+        seed,
         config,
         is_configured: _,
     } = read(alloc, text)?;
     let settings = copy_of(&config);
-    match Lab::new(images, words, config) {
+    match laboratory(images, words, seed, config) {
         Ok(lab) => Ok(Kept::new(alloc, lab, settings)),
         Err(_) => Err(RefusedPreamble::NoMemory),
+    }
+}
+
+fn laboratory(
+    images: Vec<(String, Vec<u8>, Vec<u8>)>,
+    words: Vec<u64>,
+    seed: Option<u64>,
+    config: Config,
+) -> Result<Lab, Error>
+    ensures { IfOk result (λ lab. StandsFor lab (start (images_of images.items) (record { given = words.items; seed = seed }) config)) }
+{
+    match seed {
+        None => Lab::new(images, words, config),
+        Some(seed) => Lab::seeded(images, words, seed, config),
     }
 }
 

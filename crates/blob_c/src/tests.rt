@@ -107,18 +107,20 @@ fn bad_lines_change_nothing(rt: HostRuntime) -> Result<(), Fail> {
         blobcrash_open(alloc, &mut session, b"image p 62 43574943000000056162").status,
         DONE
     );
-    let rows: [(&[u8], u64); 4] = [
+    let rows: [(&[u8], u64); 6] = [
         (b"frob", 1),
         (b"\nopen p 62\n", 2),
         (b"words 1\nconfig clear\nwords 1\n", 3),
         (b"config clear\n\n# \xff\n", 3),
+        (b"seed 1\nwords 1\nseed 1\n", 3),
+        (b"config clear\nseed 1\n", 2),
     ];
     for (preamble, line) in rows {
         let ran = blobcrash_open(alloc, &mut session, preamble);
         assert_eq!(rt; ran.status, BAD_LINE, "of {preamble:?}");
         assert_eq!(rt; ran.line, line, "of {preamble:?}");
     }
-    let lines: [&[u8]; 4] = [b"frob", b"words 1", b"image p 62 -", b"\xff"];
+    let lines: [&[u8]; 5] = [b"frob", b"words 1", b"seed 1", b"image p 62 -", b"\xff"];
     for line in lines {
         let ran = blobcrash_call(alloc, &mut session, line, &mut []);
         assert_eq!(rt; ran.status, BAD_LINE, "of {line:?}");

@@ -22,6 +22,7 @@ use Rattle.blob_lab.specs.Exclusive.{HoldNames, Sole}
 use Rattle.blob_lab.specs.OpenNames.{OpenNames}
 use Rattle.blob_lab.specs.Reached.{is_loose, NoneLoose, ReachedExclusively}
 use Rattle.blob_lab.specs.Runs.{Run}
+use Rattle.blob_lab.specs.Scripted.{Words}
 use Rattle.blob_lab.specs.States.{State, Held, Started, Image, start, held_on, empty_directory, with_image, with_images}
 use Rattle.blob_lab.specs.Told.{refused_by}
 use Rattle.blob_lab.proofs.ExclusiveSteps.{AreExclusive, IsNew, aged, closed_one, put_back, ended_names, added}
@@ -49,7 +50,7 @@ no_incarnations [] d none o = none o
 no_incarnations (image ∷ images) d none o =
     no_incarnations images (with_image d image) (λ a. with_file_stale d.file image.0 image.1 a.partition a.name (Some (Raw image.2)) a.number a.start refl (none a)) o
 
-pub exclusive_start : (images : List Image) (words : List ℕ) (config : Config) → Exclusive (start images words config)
+pub exclusive_start : (images : List Image) (words : Words) (config : Config) → Exclusive (start images words config)
 exclusive_start images words config = record {
   opens = λ i h here now. absurd (none-some h here);
   below = λ i h r here by. absurd (none-some h here);

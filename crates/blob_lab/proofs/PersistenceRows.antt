@@ -14,6 +14,7 @@ use Rattle.blob_lab.specs.After.{after}
 use Rattle.blob_lab.specs.Answers.{answer}
 use Rattle.blob_lab.specs.Fixed.{Byte, reaches, Fixes, HasDurably}
 use Rattle.blob_lab.specs.Settings.{cleared}
+use Rattle.blob_lab.specs.Scripted.{only}
 use Rattle.blob_lab.specs.States.{State, start}
 use Rattle.blob_lab.specs.Told as told
 
@@ -40,7 +41,7 @@ done v act = after v act None (answer v act).1
 -- Bytes that stay.
 
 abbrev written : State
-written = done (done (start [] (0 ∷ 18446744073709551615 ∷ []) cleared) opens) (Through 0 (Write 0 (97 ∷ 98 ∷ 99 ∷ []) false))
+written = done (done (start [] (only (0 ∷ 18446744073709551615 ∷ [])) cleared) opens) (Through 0 (Write 0 (97 ∷ 98 ∷ 99 ∷ []) false))
 
 -- a sync fixes what is live
 sync_fixes : Fixes written (Through 0 Sync) None (byte 0 97)
@@ -115,7 +116,7 @@ open_fixes = (refl, (omega arith, refl))
 -- no call reached it.
 
 abbrev first : State
-first = done (done (done (start [] [] cleared) opens) (Through 0 (Write 0 (97 ∷ []) false))) (Through 0 Sync)
+first = done (done (done (start [] (only []) cleared) opens) (Through 0 (Write 0 (97 ∷ []) false))) (Through 0 Sync)
 
 abbrev both : State
 both = done first (OpenLoose partition name (Some (0, 0)))

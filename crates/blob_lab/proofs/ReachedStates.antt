@@ -24,6 +24,7 @@ use Rattle.blob_lab.specs.Answers.{Answers, IsAnswer, answer, through, may_grow,
 use Rattle.blob_lab.specs.OpenNames.{Registration}
 use Rattle.blob_lab.specs.Reached.{Reached}
 use Rattle.blob_lab.specs.Runs.{Run}
+use Rattle.blob_lab.specs.Scripted.{Words}
 use Rattle.blob_lab.specs.States.{State, Held, Started, Image, empty_directory, with_image, with_images, start, held_on}
 use Rattle.blob_lab.specs.Told as told
 use Rattle.blob_lab.specs.Told.{refused_by}
@@ -232,7 +233,7 @@ holds_run v (call ∷ calls) [] w h run = absurd run
 holds_run v (call ∷ calls) (reply ∷ replies) w h (left, a, run) =
     holds_run (after v (act_of call) (refused_by reply) left) calls replies w (holds_after v (act_of call) reply left h a) run
 
-holds_start : (images : List Image) (words : List ℕ) (config : Config) → Holds (start images words config)
+holds_start : (images : List Image) (words : Words) (config : Config) → Holds (start images words config)
 holds_start images words config = record {
   valid = valid_images empty_directory images (λ p n. tt);
   given = (exclusive_start images words config).current;

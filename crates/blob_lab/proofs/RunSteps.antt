@@ -1,5 +1,5 @@
 -- Runs of a laboratory, one call after another, and what they reach.
-use Rattle.std.proofs.Common.{◌≡◌, ℕ, false, List, [], ◌∷◌, ◌++◌, refl, sym, ap, subst}
+use Rattle.std.proofs.Common.{◌≡◌, false, List, [], ◌∷◌, ◌++◌, refl, sym, ap, subst}
 use Rattle.std.proofs.lemmas.List.Elements.{All-nil, All-append}
 use Rattle.rand_core.specs.Stream.{Stream}
 use Rattle.blob_faulty.specs.declared.config.Config.{Config}
@@ -10,6 +10,7 @@ use Rattle.blob_lab.specs.After.{after}
 use Rattle.blob_lab.specs.Answers.{Answers}
 use Rattle.blob_lab.specs.Reached.{is_loose, NoneLoose, Reached, ReachedExclusively}
 use Rattle.blob_lab.specs.Runs.{Run}
+use Rattle.blob_lab.specs.Scripted.{Words}
 use Rattle.blob_lab.specs.States.{State, Image, start}
 use Rattle.blob_lab.specs.Told.{refused_by}
 
@@ -33,7 +34,7 @@ run_append (c ∷ calls) (r ∷ replies) more rest v w u (left, answers, run) ne
 
 -- where calls lead from a state that was reached is reached too
 
-pub reached_start : (images : List Image) (words : List ℕ) (config : Config) → ReachedExclusively (start images words config)
+pub reached_start : (images : List Image) (words : Words) (config : Config) → ReachedExclusively (start images words config)
 reached_start images words config = (images, words, config, [], [], All-nil (λ c. is_loose (act_of c) ≡ false), refl)
 
 pub reached_more : (v w : State) (calls : List Call) (replies : List Reply) → Reached v → Run v calls replies w → Reached w

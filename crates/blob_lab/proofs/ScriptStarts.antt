@@ -12,17 +12,19 @@ use Rattle.blob_lab.specs.Acts.{Act}
 use Rattle.blob_lab.specs.LabStands.{StandsFor}
 use Rattle.blob_lab.specs.ScriptReading.{OfLines, TakesCall, TakesBadCall, Begins, preamble_of}
 use Rattle.blob_lab.specs.Scripts.{Script, IsPrinted, Prints, PrintsFront, PrintsBefore, PrintsUpTo, lines_of, no_script, script_of, with_lines}
+use Rattle.blob_lab.specs.Scripted.{only}
 use Rattle.blob_lab.specs.Settings.{cleared}
 use Rattle.blob_lab.specs.States.{start}
 use Rattle.blob_lab.specs.Tables.{images_of}
 use Rattle.blob_lab.proofs.ScriptRuns.{unsaid}
 use Rattle.blob_lab.proofs.ScriptSteps.{more_lines, one_line}
 
-pub empty_preamble : (p : Preamble) (config : Config) → p.images.items ≡ [] → p.words.items ≡ [] → config ≡ cleared → preamble_of p config ≡ no_script
-empty_preamble p config images words same =
-    ap (λ is. record { images = images_of is; words = p.words.items; config = config; calls = [] }) images
-    ∙ ap (λ ws. record { images = []; words = ws; config = config; calls = [] }) words
-    ∙ ap (λ c. record { images = []; words = []; config = c; calls = [] }) same
+pub empty_preamble : (p : Preamble) (config : Config) → p.images.items ≡ [] → p.words.items ≡ [] → p.seed ≡ None → config ≡ cleared → preamble_of p config ≡ no_script
+empty_preamble p config images words seed same =
+    ap (λ is. record { images = images_of is; words = record { given = p.words.items; seed = p.seed }; config = config; calls = [] }) images
+    ∙ ap (λ ws. record { images = []; words = record { given = ws; seed = p.seed }; config = config; calls = [] }) words
+    ∙ ap (λ n. record { images = []; words = record { given = []; seed = n }; config = config; calls = [] }) seed
+    ∙ ap (λ c. record { images = []; words = only []; config = c; calls = [] }) same
 
 -- No call is answered.
 

@@ -14,7 +14,8 @@ use Rattle.blob_lab.specs.Acts as acts
 use Rattle.blob_lab.specs.Acts.{Act, act_of}
 use Rattle.blob_lab.specs.Lines.{Said, Configure, Call, line_of, said_by}
 use Rattle.blob_lab.specs.ScriptReading.{OfLines, TakesLine, TakesCall, TakesBadCall, preamble_of}
-use Rattle.blob_lab.specs.Scripts.{Script, lines_of, with_call, before_calls, with_said, with_line, with_lines}
+use Rattle.blob_lab.specs.Scripts.{Script, lines_of, with_call, before_calls, unseeded, with_said, with_line, with_lines}
+use Rattle.blob_lab.specs.Scripted.{behind_seeded}
 use Rattle.blob_lab.specs.Settings.{configured}
 use Rattle.blob_lab.specs.Tables.{images_of}
 
@@ -37,18 +38,36 @@ said_setting s setting before after asked same whole kept =
 
 -- images and words, where there is no call
 
-pub said_image : (a b : Preamble) (config : Config) (partition : String Global) (name bytes : Vec ℕ Global) → b.images.items ≡ a.images.items ++ (partition, name, bytes) ∷ [] → b.words.items ≡ a.words.items
+pub said_image : (a b : Preamble) (config : Config) (partition : String Global) (name bytes : Vec ℕ Global) → b.images.items ≡ a.images.items ++ (partition, name, bytes) ∷ [] → b.words.items ≡ a.words.items → b.seed ≡ a.seed
     → with_said (preamble_of a config) (said_by (line.Image partition name bytes)) ≡ Some (preamble_of b config)
-said_image a b config partition name bytes images words =
-    ap (λ ws. Some (record { images = images_of a.images.items ++ (string_bytes partition, name.items, bytes.items) ∷ []; words = ws; config = config; calls = [] })) (sym words)
-    ∙ ap (λ is. Some (record { images = is; words = b.words.items; config = config; calls = [] }))
+said_image a b config partition name bytes images words seed =
+    ap (λ ws. Some (record { images = images_of a.images.items ++ (string_bytes partition, name.items, bytes.items) ∷ []; words = record { given = ws; seed = a.seed }; config = config; calls = [] })) (sym words)
+    ∙ ap (λ n. Some (record { images = images_of a.images.items ++ (string_bytes partition, name.items, bytes.items) ∷ []; words = record { given = b.words.items; seed = n }; config = config; calls = [] })) (sym seed)
+    ∙ ap (λ is. Some (record { images = is; words = record { given = b.words.items; seed = b.seed }; config = config; calls = [] }))
     (sym (map-append (λ i. (string_bytes i.0, i.1.items, i.2.items)) a.images.items ((partition, name, bytes) ∷ [])) ∙ ap images_of (sym images))
 
-pub said_words : (a b : Preamble) (config : Config) (words : Vec ℕ Global) → b.images.items ≡ a.images.items → b.words.items ≡ a.words.items ++ words.items
+pub said_words : (a b : Preamble) (config : Config) (words : Vec ℕ Global) → b.images.items ≡ a.images.items → b.words.items ≡ a.words.items ++ words.items → b.seed ≡ a.seed
     → with_said (preamble_of a config) (said_by (line.Words words)) ≡ Some (preamble_of b config)
-said_words a b config words images more =
-    ap (λ ws. Some (record { images = images_of a.images.items; words = ws; config = config; calls = [] })) (sym more)
-    ∙ ap (λ is. Some (record { images = images_of is; words = b.words.items; config = config; calls = [] })) (sym images)
+said_words a b config words images more seed =
+    ap (λ ws. Some (record { images = images_of a.images.items; words = record { given = ws; seed = a.seed }; config = config; calls = [] })) (sym more)
+    ∙ ap (λ n. Some (record { images = images_of a.images.items; words = record { given = b.words.items; seed = n }; config = config; calls = [] })) (sym seed)
+    ∙ ap (λ is. Some (record { images = images_of is; words = record { given = b.words.items; seed = b.seed }; config = config; calls = [] })) (sym images)
+
+-- the first seed
+
+pub said_seed : (a b : Preamble) (config : Config) (seed : ℕ) → a.seed ≡ None → b.images.items ≡ a.images.items → b.words.items ≡ a.words.items → b.seed ≡ Some seed
+    → with_said (preamble_of a config) (said_by (line.Seed seed)) ≡ Some (preamble_of b config)
+said_seed a b config seed none images words some =
+    ap (λ n. option_and_then (unseeded n) (Some (record { images = images_of a.images.items; words = behind_seeded a.words.items seed; config = config; calls = [] }))) none
+    ∙ ap (λ ws. Some (record { images = images_of a.images.items; words = behind_seeded ws seed; config = config; calls = [] })) (sym words)
+    ∙ ap (λ n. Some (record { images = images_of a.images.items; words = record { given = b.words.items; seed = n }; config = config; calls = [] })) (sym some)
+    ∙ ap (λ is. Some (record { images = images_of is; words = record { given = b.words.items; seed = b.seed }; config = config; calls = [] })) (sym images)
+
+-- and a second one
+pub none_behind_seed : (seed : Option ℕ) (s : Option Script) → seed ≢ None → option_and_then (unseeded seed) s ≡ None
+none_behind_seed None s some = absurd (some refl)
+none_behind_seed (Some n) None some = refl
+none_behind_seed (Some n) (Some s) some = refl
 
 -- and behind one
 pub none_behind_calls : (calls : List Act) (s : Script) → calls ≢ [] → before_calls calls s ≡ None

@@ -7,7 +7,7 @@ use lib.Utf8.{encode}
 use Rattle.blob_faulty.specs.declared.mode.PartialWriteMode.TheVariants.{Sectors}
 use Rattle.blob_lab.specs.declared.script.setting.Setting.TheVariants as setting
 use Rattle.blob_lab.specs.Acts as act
-use Rattle.blob_lab.specs.Lines.{Said, Blank, Words, Configure, Call, line_of}
+use Rattle.blob_lab.specs.Lines.{Said, Blank, Given, Seed, Configure, Call, line_of}
 
 abbrev says : List ℕ → Said → Type 0
 says line said = line_of line ≡ Some said
@@ -45,7 +45,11 @@ config : says (codes "config write 0 1 1 1 sectors 512")
 unfolding is_utf8 chars encode decode_pairs
 config = refl
 
-words : says (codes "words 1 max") (Words (1 ∷ 18446744073709551615 ∷ []))
+seed : says (codes "seed 18446744073709551615") (Seed 18446744073709551615)
+unfolding is_utf8 chars encode decode_pairs
+seed = refl
+
+words : says (codes "words 1 max") (Given (1 ∷ 18446744073709551615 ∷ []))
 unfolding is_utf8 chars encode decode_pairs
 words = refl
 

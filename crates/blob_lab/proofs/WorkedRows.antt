@@ -15,7 +15,7 @@ use Rattle.blob_faulty.specs.declared.mode.PartialWriteMode.TheVariants.{Prefix}
 use Rattle.blob_lab.specs.Acts.{Act, Open, Configure, Through, Read, Write, Sync, Crash, Reopen}
 use Rattle.blob_lab.specs.After.{after}
 use Rattle.blob_lab.specs.Answers.{answer}
-use Rattle.blob_lab.specs.Scripted.{scripted}
+use Rattle.blob_lab.specs.Scripted.{scripted, only}
 use Rattle.blob_lab.specs.Settings.{cleared}
 use Rattle.blob_lab.specs.States.{State, start}
 use Rattle.blob_lab.specs.Told as told
@@ -33,13 +33,13 @@ abbrev retaining : Config
 retaining = record cleared { write_rate = Some (record { failure_rate = record { numerator = 0; denominator = 1 }; retention_rate = record { numerator = 1; denominator = 1 }; mode = Prefix }) }
 
 abbrev done : State → Act → State
-done v act = after v act None (scripted [])
+done v act = after v act None (scripted ([], None))
 
 abbrev opened : State
-opened = done (done (start [] [] cleared) (Configure retaining)) opens
+opened = done (done (start [] (only []) cleared) (Configure retaining)) opens
 
 -- the first open begins the blob
-first_open : (answer (start [] [] cleared) opens).0 ≡ told.Opened 0 0 0
+first_open : (answer (start [] (only []) cleared) opens).0 ≡ told.Opened 0 0 0
 first_open = refl
 
 -- a second one is refused

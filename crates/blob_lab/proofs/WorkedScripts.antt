@@ -6,6 +6,7 @@ use Rattle.hex.specs.Hex.{decode_pairs}
 use lib.Utf8.{encode}
 use Rattle.blob_lab.specs.Acts.{Close, Configure, Reopen}
 use Rattle.blob_lab.specs.Scripts.{lines_of, no_script, script_of}
+use Rattle.blob_lab.specs.Scripted.{only, behind_seeded}
 use Rattle.blob_lab.specs.Settings.{cleared}
 
 no_line : lines_of [] ≡ []
@@ -24,11 +25,11 @@ unfolding is_utf8 chars encode decode_pairs
 blank_lines = refl
 
 words_and_calls : script_of (codes "words 7" ∷ codes "close 0" ∷ codes "reopen" ∷ [])
-    ≡ Some (record { images = []; words = 7 ∷ []; config = cleared; calls = Close 0 ∷ Reopen ∷ [] })
+    ≡ Some (record { images = []; words = only (7 ∷ []); config = cleared; calls = Close 0 ∷ Reopen ∷ [] })
 unfolding is_utf8 chars encode decode_pairs
 words_and_calls = refl
 
-setting_is_a_call : script_of (codes "config clear" ∷ []) ≡ Some (record { images = []; words = []; config = cleared; calls = Configure cleared ∷ [] })
+setting_is_a_call : script_of (codes "config clear" ∷ []) ≡ Some (record { images = []; words = only []; config = cleared; calls = Configure cleared ∷ [] })
 unfolding is_utf8 chars encode decode_pairs
 setting_is_a_call = refl
 
@@ -36,6 +37,19 @@ setting_is_a_call = refl
 words_too_late : script_of (codes "close 0" ∷ codes "words 7" ∷ []) ≡ None
 unfolding is_utf8 chars encode decode_pairs
 words_too_late = refl
+
+-- one seed, among the words, and no second one
+seed_and_words : script_of (codes "words 7" ∷ codes "seed 042" ∷ codes "words 8" ∷ []) ≡ Some (record { images = []; words = behind_seeded (7 ∷ 8 ∷ []) 42; config = cleared; calls = [] })
+unfolding is_utf8 chars encode decode_pairs
+seed_and_words = refl
+
+second_seed : script_of (codes "seed 1" ∷ codes "seed 1" ∷ []) ≡ None
+unfolding is_utf8 chars encode decode_pairs
+second_seed = refl
+
+seed_too_late : script_of (codes "close 0" ∷ codes "seed 1" ∷ []) ≡ None
+unfolding is_utf8 chars encode decode_pairs
+seed_too_late = refl
 
 bad_call : script_of (codes "close 0" ∷ codes "frob" ∷ []) ≡ None
 unfolding is_utf8 chars encode decode_pairs

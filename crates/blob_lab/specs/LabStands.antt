@@ -1,5 +1,5 @@
 -- What it is for a laboratory to stand for a state, and for a call to be one of it.
-use Rattle.std.specs.Prelude.{◌≡◌, ◌<◌, ℕ, List, true, Option, Some}
+use Rattle.std.specs.Prelude.{◌≡◌, ◌<◌, List, true, Option, Some}
 use Rattle.rand_core.specs.Stream.{Stream}
 use Rattle.blob_base.specs.Files.{Files}
 use Rattle.blob_base.specs.Places.{Place}
@@ -13,14 +13,14 @@ use Rattle.blob_lab.specs.Acts.{Act, Ask, StartSync}
 use Rattle.blob_lab.specs.After.{after, files_after, held_after, syncs_after}
 use Rattle.blob_lab.specs.Answers.{Answers, IsAnswer, through}
 use Rattle.blob_lab.specs.Opens.{names_of}
-use Rattle.blob_lab.specs.Scripted.{scripted}
+use Rattle.blob_lab.specs.Scripted.{Left, scripted}
 use Rattle.blob_lab.specs.States.{State, Held, Started, AreGiven}
 use Rattle.blob_lab.specs.Tables.{handles_of, syncs_of}
 use Rattle.blob_lab.specs.Told.{refused_by}
 
--- the wrapper of a laboratory, whose generator is seen as the words that are left
+-- the wrapper of a laboratory, whose generator is seen as what is left of its words
 abbrev pub Wrapper : Type 0
-Wrapper = faulty.Storage memory.Storage (List ℕ) Place
+Wrapper = faulty.Storage memory.Storage Left Place
 
 abbrev pub stream_of : Wrapper → Stream
 stream_of w = scripted (rng_of w)

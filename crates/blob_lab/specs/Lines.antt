@@ -6,7 +6,7 @@ use Rattle.blob_lab.specs.declared.script.line.Line.TheVariants as line
 use Rattle.blob_lab.specs.declared.script.setting.Setting.{Setting}
 use Rattle.blob_lab.specs.Acts.{Act, act_of}
 use Rattle.blob_lab.specs.CallLines.{call}
-use Rattle.blob_lab.specs.Forms.{Form, ◌>>=◌, gives, whole, beside, text, hex, words}
+use Rattle.blob_lab.specs.Forms.{Form, ◌>>=◌, gives, whole, beside, text, hex, digits, words}
 use Rattle.blob_lab.specs.SettingLines.{setting}
 use Rattle.blob_lab.specs.Tokens.{tokens}
 
@@ -16,14 +16,17 @@ pub data Said : Type 0 where
   -- partition, name and bytes of a raw image
   Image : List ℕ → List ℕ → List ℕ → Said
   -- further words of the generator
-  Words : List ℕ → Said
+  Given : List ℕ → Said
+  -- the seed of the words behind them
+  Seed : ℕ → Said
   Configure : Setting → Said
   Call : Act → Said
 
 abbrev pub said_by : Line → Said
 said_by line.Blank = Blank
 said_by (line.Image partition name bytes) = Image (string_bytes partition) name.items bytes.items
-said_by (line.Words words) = Words words.items
+said_by (line.Words words) = Given words.items
+said_by (line.Seed seed) = Seed seed
 said_by (line.Configure setting) = Configure setting
 said_by (line.Call asked) = Call (act_of asked)
 
@@ -31,7 +34,8 @@ said_by (line.Call asked) = Call (act_of asked)
 abbrev pub statements : List (List ℕ × Form Said)
 statements =
     (codes "image", do partition ← text; name ← hex; bytes ← hex; gives (Image partition name bytes))
-    ∷ (codes "words", do read ← words; gives (Words read))
+    ∷ (codes "words", do read ← words; gives (Given read))
+    ∷ (codes "seed", do read ← digits; gives (Seed read))
     ∷ (codes "config", do set ← setting; gives (Configure set))
     ∷ []
 

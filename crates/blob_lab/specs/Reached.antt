@@ -1,10 +1,11 @@
 -- Which states calls lead to, from a laboratory that was just made.
-use Rattle.std.specs.Prelude.{◌≡◌, ℕ, List, Bool, true, false, All}
+use Rattle.std.specs.Prelude.{◌≡◌, List, Bool, true, false, All}
 use Rattle.blob_faulty.specs.declared.config.Config.{Config}
 use Rattle.blob_lab.specs.declared.call.Call.{Call}
 use Rattle.blob_lab.specs.declared.reply.Reply.{Reply}
 use Rattle.blob_lab.specs.Acts.{Act, OpenLoose, act_of}
 use Rattle.blob_lab.specs.Runs.{Run}
+use Rattle.blob_lab.specs.Scripted.{Words}
 use Rattle.blob_lab.specs.States.{State, Image, start}
 
 -- an open that isn't exclusive
@@ -17,8 +18,8 @@ NoneLoose calls = All (λ call. is_loose (act_of call) ≡ false) calls
 
 -- by any calls
 abbrev pub Reached : State → Type 0
-Reached v = (images : List Image) × (words : List ℕ) × (config : Config) × (calls : List Call) × (replies : List Reply) × Run (start images words config) calls replies v
+Reached v = (images : List Image) × (words : Words) × (config : Config) × (calls : List Call) × (replies : List Reply) × Run (start images words config) calls replies v
 
 -- by calls whose opens are all exclusive
 abbrev pub ReachedExclusively : State → Type 0
-ReachedExclusively v = (images : List Image) × (words : List ℕ) × (config : Config) × (calls : List Call) × (replies : List Reply) × NoneLoose calls × Run (start images words config) calls replies v
+ReachedExclusively v = (images : List Image) × (words : Words) × (config : Config) × (calls : List Call) × (replies : List Reply) × NoneLoose calls × Run (start images words config) calls replies v

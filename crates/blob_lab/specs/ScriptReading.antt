@@ -52,4 +52,4 @@ pub record Begins (lab : Lab) (s : Script) (line : List ℕ) (act : Act) (config
 
 -- what the lines of a preamble have made
 abbrev pub preamble_of : Preamble → Config → Script
-preamble_of preamble config = record { images = images_of preamble.images.items; words = preamble.words.items; config = config; calls = [] }
+preamble_of preamble config = record { images = images_of preamble.images.items; words = record { given = preamble.words.items; seed = preamble.seed }; config = config; calls = [] }

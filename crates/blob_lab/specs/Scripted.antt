@@ -1,13 +1,40 @@
--- Given words as a stream.
-use Rattle.std.specs.Prelude.{ℕ, List, [], ◌∷◌}
+-- Given words as a stream, and what comes behind them.
+use Rattle.std.specs.Prelude.{ℕ, List, [], ◌∷◌, Option, Some, None, option_map}
 use Rattle.rand_core.specs.Stream.{Stream}
 use Rattle.rand_core.specs.Steps.{stream_of, steps_u64_low}
+use Rattle.rand_xoshiro.specs.SplitMix64.{splitmix_seed}
+use Rattle.rand_xoshiro.specs.Xoshiro256.{of_seed, plus_plus}
 
--- the next word, and the words left after it
-abbrev pub next_of : List ℕ → ℕ × List ℕ
-next_of [] = (0, [])
-next_of (w ∷ ws) = (w, ws)
+-- the words that are left, and behind them xoshiro256++ in a state, or else zeros for good
+abbrev pub Left : Type 0
+Left = List ℕ × Option (List ℕ)
 
--- these words in order, and then zeros for good; a draw of 32 bits is the low half of one word
-abbrev pub scripted : List ℕ → Stream
+-- the next word, and what is left after it
+abbrev pub next_of : Left → ℕ × Left
+next_of (w ∷ ws, behind) = (w, (ws, behind))
+next_of ([], None) = (0, ([], None))
+next_of ([], Some state) = ((plus_plus state).0, ([], Some (plus_plus state).1))
+
+-- a draw of 32 bits is the low half of one word
+abbrev pub scripted : Left → Stream
 scripted = stream_of (steps_u64_low next_of)
+
+-- the state that a seed gives
+abbrev pub state_of : ℕ → List ℕ
+state_of seed = of_seed (splitmix_seed 32 seed)
+
+-- the words that a script gives, and the seed of those behind them
+pub record Words : Type 0 where
+  pub given : List ℕ
+  pub seed : Option ℕ
+
+abbrev pub drawn_from : Words → Stream
+drawn_from words = scripted (words.given, option_map state_of words.seed)
+
+-- these words, and zeros for good
+abbrev pub only : List ℕ → Words
+only given = record { given = given; seed = None }
+
+-- these words, and behind them those of a seed
+abbrev pub behind_seeded : List ℕ → ℕ → Words
+behind_seeded given seed = record { given = given; seed = Some seed }

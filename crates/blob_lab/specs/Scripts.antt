@@ -10,9 +10,10 @@ use Rattle.blob_lab.specs.declared.ending.Ending.TheVariants.{BadCall, InputFail
 use Rattle.blob_lab.specs.declared.reply.Reply.{Reply}
 use Rattle.blob_lab.specs.Acts as acts
 use Rattle.blob_lab.specs.Acts.{Act, act_of}
-use Rattle.blob_lab.specs.Lines.{Said, Blank, Image, Words, Configure, Call, line_of}
+use Rattle.blob_lab.specs.Lines.{Said, Blank, Image, Given, Seed, Configure, Call, line_of}
 use Rattle.blob_lab.specs.Replies.{reply_line}
 use Rattle.blob_lab.specs.Runs.{Run}
+use Rattle.blob_lab.specs.Scripted.{Words, only, behind_seeded}
 use Rattle.blob_lab.specs.Settings.{cleared, configured}
 use Rattle.blob_lab.specs.States as states
 use Rattle.blob_lab.specs.States.{State, start}
@@ -33,13 +34,13 @@ lines_of (byte ∷ bytes) = if byte == 10 then [] ∷ lines_of bytes else with_b
 
 pub record Script : Type 0 where
   pub images : List states.Image
-  pub words : List ℕ
+  pub words : Words
   -- what the settings so far have made of no rates
   pub config : Config
   pub calls : List Act
 
 abbrev pub no_script : Script
-no_script = record { images = []; words = []; config = cleared; calls = [] }
+no_script = record { images = []; words = only []; config = cleared; calls = [] }
 
 abbrev pub with_call : Script → Act → Script
 with_call s act = record s { calls = s.calls ++ act ∷ [] }
@@ -49,11 +50,17 @@ abbrev pub before_calls : List Act → Script → Option Script
 before_calls [] s = Some s
 before_calls (act ∷ acts) s = None
 
--- a line that says this: images and words come before the calls, and a setting is a call with the whole configuration so far
+-- while there is no seed
+abbrev pub unseeded : Option ℕ → Script → Option Script
+unseeded None s = Some s
+unseeded (Some seed) s = None
+
+-- a line that says this: images, words and one seed come before the calls, and a setting is a call with the whole configuration so far
 abbrev pub with_said : Script → Said → Option Script
 with_said s Blank = Some s
 with_said s (Image p n bytes) = before_calls s.calls (record s { images = s.images ++ (p, n, bytes) ∷ [] })
-with_said s (Words words) = before_calls s.calls (record s { words = s.words ++ words })
+with_said s (Given words) = before_calls s.calls (record s { words = record { given = s.words.given ++ words; seed = s.words.seed } })
+with_said s (Seed seed) = option_and_then (unseeded s.words.seed) (before_calls s.calls (record s { words = behind_seeded s.words.given seed }))
 with_said s (Configure setting) = Some (with_call (record s { config = configured s.config setting }) (acts.Configure (configured s.config setting)))
 with_said s (Call act) = Some (with_call s act)
 

@@ -7,7 +7,7 @@ use Rattle.blob_base.specs.Places.{Place}
 use Rattle.blob_base.specs.Refusals.{Refusal}
 use Rattle.blob_faulty.specs.declared.config.Config.{Config}
 use Rattle.blob_lab.specs.OpenNames.{OpenNames, Registration, none_open}
-use Rattle.blob_lab.specs.Scripted.{scripted}
+use Rattle.blob_lab.specs.Scripted.{Words, drawn_from}
 
 -- an open handle
 pub record Held : Type 0 where
@@ -56,15 +56,18 @@ abbrev pub with_images : Directory → List Image → Directory
 with_images d [] = d
 with_images d (i ∷ is) = with_images (with_image d i) is
 
-abbrev pub start : List Image → List ℕ → Config → State
-start images words config = record {
+abbrev pub start_on : List Image → Stream → Config → State
+start_on images stream config = record {
   files = wrapped (with_images empty_directory images) (λ o. []) 0 0;
   config = config;
-  stream = scripted words;
+  stream = stream;
   names = none_open 0;
   handles = [];
   syncs = [];
 }
+
+abbrev pub start : List Image → Words → Config → State
+start images words config = start_on images (drawn_from words) config
 
 -- every handle's incarnation has a number that was given
 abbrev pub AreGiven : ℕ → List (Option Held) → Type 0

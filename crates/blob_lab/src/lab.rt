@@ -6,7 +6,8 @@ ghost use Rattle.blob_lab.specs.Fixed.{Persists};
 ghost use Rattle.blob_lab.specs.LabStands.{StandsFor, Performs, wrapper_of};
 ghost use Rattle.blob_lab.specs.Reached.{NoneLoose, ReachedExclusively};
 ghost use Rattle.blob_lab.specs.Runs.{Run};
-ghost use Rattle.blob_lab.specs.States.{State, start};
+ghost use Rattle.blob_lab.specs.Scripted.{behind_seeded, only, scripted};
+ghost use Rattle.blob_lab.specs.States.{State, start, start_on};
 ghost use Rattle.blob_lab.specs.Tables.{images_of};
 
 mod asking;
@@ -40,13 +41,38 @@ pub type Wrapper = blob_faulty::Storage<blob_memory::Storage, ScriptedRng>;
 
 impl Lab {
     /// A laboratory over these raw images (partition, name and bytes), set in order before the store is wrapped. The
-    /// generator has these words. The only error is `Memory`.
+    /// generator has these words, and behind them zeros. The only error is `Memory`.
     pub fn new(
         images: Vec<(String, Vec<u8>, Vec<u8>)>,
         words: Vec<u64>,
         config: Config,
     ) -> Result<Lab, Error>
-        ensures stands { IfOk result (λ lab. StandsFor lab (start (images_of images.items) words.items config)) }
+        ensures stands { IfOk result (λ lab. StandsFor lab (start (images_of images.items) (only words.items) config)) }
+        ensures memory { OnErr result (IsMemory result) }
+    {
+        Lab::drawing(images, ScriptedRng::new(words), config)
+    }
+
+    /// The same with a generator that has the words of `Xoshiro256PlusPlus::seed_from_u64(seed)` behind the given ones. The
+    /// only error is `Memory`.
+    pub fn seeded(
+        images: Vec<(String, Vec<u8>, Vec<u8>)>,
+        words: Vec<u64>,
+        seed: u64,
+        config: Config,
+    ) -> Result<Lab, Error>
+        ensures stands { IfOk result (λ lab. StandsFor lab (start (images_of images.items) (behind_seeded words.items seed) config)) }
+        ensures memory { OnErr result (IsMemory result) }
+    {
+        Lab::drawing(images, ScriptedRng::seeded(words, seed), config)
+    }
+
+    fn drawing(
+        images: Vec<(String, Vec<u8>, Vec<u8>)>,
+        rng: ScriptedRng,
+        config: Config,
+    ) -> Result<Lab, Error>
+        ensures stands { IfOk result (λ lab. StandsFor lab (start_on (images_of images.items) (scripted rng) config)) }
         ensures memory { OnErr result (IsMemory result) }
     {
         let alloc = *images.allocator();
@@ -54,7 +80,6 @@ impl Lab {
         for (partition, name, bytes) in images {
             store.set_raw_blob(&partition, &name, bytes)?;
         }
-        let rng = ScriptedRng::new(words);
         Ok(Lab {
             wrapper: blob_faulty::Storage::new(alloc, store, rng, config),
             opens: Opens::new(alloc),

@@ -21,6 +21,7 @@ ghost use Rattle.blob_lab.specs.Exclusive.{HoldNames, Sole};
 ghost use Rattle.blob_lab.specs.OpenNames.{Registration};
 ghost use Rattle.blob_lab.specs.Reached.{NoneLoose, Reached, ReachedExclusively};
 ghost use Rattle.blob_lab.specs.Runs.{Run};
+ghost use Rattle.blob_lab.specs.Scripted.{Words};
 ghost use Rattle.blob_lab.specs.States.{State, Held, Image, held_on, start};
 ghost use Rattle.blob_lab.specs.Told as told;
 ghost use Rattle.blob_lab.specs.declared.call.Call.{Call};
@@ -84,7 +85,7 @@ pub fn opens_are_exclusive()
 /// where no call of either is an open that isn't exclusive. A laboratory that was just made is reached so.
 pub fn runs_go_on()
     ensures runs { (v w u : State) (calls more : List Call) (replies rest : List Reply) → Run v calls replies w → Run w more rest u → Run v (calls ++ more) (replies ++ rest) u }
-    ensures start { (images : List Image) (words : List ℕ) (config : Config) → ReachedExclusively (start images words config) }
+    ensures start { (images : List Image) (words : Words) (config : Config) → ReachedExclusively (start images words config) }
     ensures reached { (v w : State) (calls : List Call) (replies : List Reply) → Reached v → Run v calls replies w → Reached w }
     ensures exclusively { (v w : State) (calls : List Call) (replies : List Reply) → ReachedExclusively v → NoneLoose calls → Run v calls replies w → ReachedExclusively w }
 {}

@@ -15,7 +15,6 @@ use crate::script::print_reply;
 use crate::{Call, Ending, Lab};
 pub use ahead::Ahead;
 use ahead::has_call;
-use blob_faulty::Config;
 use lines::{Lines, Preamble};
 use std::alloc::Global;
 use std::io::Write;
@@ -65,8 +64,7 @@ fn run_lines<R: Ahead, W: Write>(
     let Some(first) = lines.first_call(reader, &mut preamble)? else {
         return Ok(());
     };
-    let Preamble { images, words } = preamble;
-    let Ok(mut lab) = Lab::new(images, words, Config::default()) else {
+    let Ok(mut lab) = preamble.into_lab() else {
         return Err(Ending::NoMemory);
     };
     let ran = answer_calls(alloc, &mut lab, first, &mut lines, reader, writer);

@@ -1,37 +1,54 @@
-//! A generator whose words are given.
-ghost use Rattle.std.specs.Prelude.{◌≡◌, List, ℕ};
-ghost use Rattle.blob_lab.specs.Scripted.{next_of, scripted};
+//! A generator whose first words are given.
+ghost use Rattle.std.specs.Prelude.{◌≡◌};
+ghost use Rattle.blob_lab.specs.Scripted.{next_of, scripted, state_of};
 
 use rand_core::utils::NextWord;
-use rand_core::{Rng, utils};
+use rand_core::{Rng, SeedableRng, utils};
+use rand_xoshiro::Xoshiro256PlusPlus;
 use std::marker::Model;
 
-/// The given words in order, and then zeros for good.
+/// The given words in order, and then zeros for good, or the words of a seed.
 ///
 /// `next_u32` takes one word and answers its low 32 bits; `fill_bytes` takes a word for each 8 bytes, little-endian.
 #[derive(Drop)]
 pub struct ScriptedRng {
     words: Vec<u64>,
     at: usize,
+    behind: Option<Xoshiro256PlusPlus>,
 }
 
 impl Model for ScriptedRng {
-    ghost use Rattle.std.specs.Prelude.{List, ℕ, drop, length, ◌≤◌};
+    ghost use Rattle.std.specs.Prelude.{drop, length, ◌≤◌};
+    ghost use Rattle.blob_lab.specs.Scripted.{Left};
 
-    // the words that are left
-    ghost Value = { List ℕ };
+    ghost Value = { Left };
 
-    ghost view = { λ rng. drop rng.at rng.words.items };
+    ghost view = { λ rng. (drop rng.at rng.words.items, rng.behind) };
 
     ghost invariant = { λ rng. rng.at ≤ length rng.words.items };
 }
 
 impl ScriptedRng {
-    /// A generator of these words.
+    /// A generator of these words, and of zeros behind them.
     pub fn new(words: Vec<u64>) -> ScriptedRng
-        ensures { result ≡ words.items }
+        ensures { result ≡ (words.items, None) }
     {
-        ScriptedRng { words, at: 0 }
+        ScriptedRng {
+            words,
+            at: 0,
+            behind: None,
+        }
+    }
+
+    /// A generator of these words, and of those of `Xoshiro256PlusPlus::seed_from_u64` behind them.
+    pub fn seeded(words: Vec<u64>, seed: u64) -> ScriptedRng
+        ensures { result ≡ (words.items, Some (state_of seed)) }
+    {
+        ScriptedRng {
+            words,
+            at: 0,
+            behind: Some(Xoshiro256PlusPlus::seed_from_u64(seed)),
+        }
     }
 }
 
@@ -42,9 +59,11 @@ impl NextWord<u64> for ScriptedRng {
         if self.at < self.words.len() {
             let word = self.words[self.at];
             self.at += 1;
-            word
-        } else {
-            0
+            return word;
+        }
+        match &mut self.behind {
+            Some(rng) => rng.next_word(),
+            None => 0,
         }
     }
 }
@@ -65,3 +84,6 @@ impl Rng for ScriptedRng {
         utils::fill_bytes_via_u64(self, dst)
     }
 }
+
+#[cfg(test)]
+mod tests;

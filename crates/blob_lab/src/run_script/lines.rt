@@ -4,15 +4,19 @@ ghost use Rattle.std.specs.Io.BufRead.{strip_last};
 ghost use Rattle.std.specs.Io.Iter.{u64_saturate};
 ghost use Rattle.blob_lab.specs.Acts.{act_of};
 ghost use Rattle.blob_lab.specs.Endings.{is_cut};
+ghost use Rattle.blob_lab.specs.LabStands.{StandsFor};
 ghost use Rattle.blob_lab.specs.Lines.{said_by};
 ghost use Rattle.blob_lab.specs.Reading.{StaysKnown, IsReadOut};
 ghost use Rattle.blob_lab.specs.ScriptReading.{OfLines, TakesLine, TakesCall, TakesBadCall, preamble_of};
 ghost use Rattle.blob_lab.specs.Scripts.{Script, with_lines};
 ghost use Rattle.blob_lab.specs.Settings.{cleared, configured};
+ghost use Rattle.blob_lab.specs.States.{start};
+ghost use Rattle.blob_lab.specs.Tables.{images_of};
 
 use crate::script::setting::copy_of;
 use crate::script::{Line, RefusedLine, Setting, read_line};
-use crate::{Call, Ending};
+use crate::{Call, Ending, Lab};
+use blob_base::Error;
 use blob_faulty::Config;
 use std::alloc::Global;
 use std::io::{BufRead, ErrorKind};
@@ -22,16 +26,34 @@ use std::io::{BufRead, ErrorKind};
 pub(crate) struct Preamble {
     pub(crate) images: Vec<(String, Vec<u8>, Vec<u8>)>,
     pub(crate) words: Vec<u64>,
+    pub(crate) seed: Option<u64>,
 }
 
 impl Preamble {
     pub(crate) fn new(alloc: Global) -> Preamble
         ensures images { result.images.items ≡ [] }
         ensures words { result.words.items ≡ [] }
+        ensures seed { result.seed ≡ None }
     {
         Preamble {
             images: Vec::new(alloc),
             words: Vec::new(alloc),
+            seed: None,
+        }
+    }
+
+    /// The laboratory that these lines make. The only error is `Memory`.
+    pub(crate) fn into_lab(self) -> Result<Lab, Error>
+        ensures { IfOk result (λ lab. StandsFor lab (start (images_of self.images.items) (record { given = self.words.items; seed = self.seed }) cleared)) }
+    {
+        let Preamble {
+            images,
+            words,
+            seed,
+        } = self;
+        match seed {
+            None => Lab::new(images, words, Config::default()),
+            Some(seed) => Lab::seeded(images, words, seed, Config::default()),
         }
     }
 }
@@ -90,6 +112,12 @@ impl Lines {
                     let added = preamble.words.extend_from_slice(&words);
                     added.map_err(|_| Ending::NoMemory)?;
                 }
+                Line::Seed(seed) => {
+                    if preamble.seed.is_some() {
+                        return Err(Ending::BadCall(self.number));
+                    }
+                    preamble.seed = Some(seed);
+                }
                 Line::Configure(setting) => return Ok(Some(self.configure(setting))),
                 Line::Call(call) => return Ok(Some(call)),
             }
@@ -114,7 +142,9 @@ impl Lines {
             };
             match line {
                 Line::Blank => {}
-                Line::Image { .. } | Line::Words(_) => return Err(Ending::BadCall(self.number)),
+                Line::Image { .. } | Line::Words(_) | Line::Seed(_) => {
+                    return Err(Ending::BadCall(self.number));
+                }
                 Line::Configure(setting) => return Ok(Some(self.configure(setting))),
                 Line::Call(call) => return Ok(Some(call)),
             }

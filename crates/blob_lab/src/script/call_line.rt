@@ -111,7 +111,7 @@ fn name(alloc: Global, tokens: &mut Tokens) -> Result<Option<Vec<u8>>, RefusedLi
 }
 
 /// The number of the next token.
-fn digits(tokens: &mut Tokens) -> Result<u64, RefusedLine>
+pub(crate) fn digits(tokens: &mut Tokens) -> Result<u64, RefusedLine>
     ensures ok { IfOk result (λ read. digits tokens.old ≡ Some (read, tokens.new)) }
     ensures bad { result ≡ Err RefusedLine.BadCall → digits tokens.old ≡ None }
 {

@@ -4,7 +4,7 @@ ghost use Rattle.blob_lab.specs.Forms.{words};
 ghost use Rattle.blob_lab.specs.Lines.{line_of, said_by, statement};
 
 use crate::Call;
-use crate::script::call_line::{call, hex, text};
+use crate::script::call_line::{call, digits, hex, text};
 use crate::script::setting::read_setting;
 use crate::script::token::{Tokens, number};
 use crate::script::{RefusedLine, Setting};
@@ -23,6 +23,8 @@ pub enum Line {
     },
     /// Further words of the generator. Only in the preamble.
     Words(Vec<u64>),
+    /// The seed of the words behind the given ones. Only in the preamble, and once.
+    Seed(u64),
     /// A change of the configuration, after which the whole of it is handed to `Call::Configure`.
     Configure(Setting),
     Call(Call),
@@ -65,6 +67,7 @@ fn said(alloc: Global, word: &str, tokens: &mut Tokens) -> Result<Line, RefusedL
             bytes: hex(alloc, tokens)?,
         }),
         "words" => Ok(Line::Words(words(alloc, tokens)?)),
+        "seed" => Ok(Line::Seed(digits(tokens)?)),
         "config" => read_setting(tokens)
             .map(Line::Configure)
             .ok_or(RefusedLine::BadCall),

@@ -93,6 +93,7 @@ fn preamble_and_settings_are_read(rt: HostRuntime) -> Result<(), Fail> {
             "Ok(Image { partition: \"a/b\", name: [], bytes: [] })",
         ),
         ("words 0 max 07", "Ok(Words([0, 18446744073709551615, 7]))"),
+        ("seed 042", "Ok(Seed(42))"),
         (
             "config open 1 2",
             "Ok(Configure(Open(Probability { numerator: 1, denominator: 2 })))",

@@ -11,7 +11,7 @@ use Rattle.blob_lab.proofs.run_script.run_lines.Goals as goal
 use Rattle.blob_lab.proofs.run_script.run_lines.Goals.{After-new-preamble}
 
 same : (g : _) (c : After-new-preamble g) → preamble_of c.new-preamble.result c.new-lines.result.config ≡ no_script
-same g c = empty_preamble c.new-preamble.result c.new-lines.result.config c.new-preamble.ensures.images c.new-preamble.ensures.words c.new-lines.ensures.config
+same g c = empty_preamble c.new-preamble.result c.new-lines.result.config c.new-preamble.ensures.images c.new-preamble.ensures.words c.new-preamble.ensures.seed c.new-lines.ensures.config
 
 one : (g : _) (c : After-new-preamble g) → c.new-lines.result.number + 1 ≡ 1
 one g c = omega (arith, c.new-lines.ensures.number)
@@ -29,14 +29,14 @@ returns-in_default-clause-all g c =
     no_call (preamble_of c.new-preamble.result c.new-lines.result.config) (same g new) (c.new-lines.result.number + 1) (one g new) (preamble_of c.first_call.new.preamble c.new-lines.result.config) refl
     (g.W.Write.contents c.args.writer.now) (g.R.Read.remaining c.args.reader.now) (g.R.Read.remaining c.first_call.new.reader) (search rules)
 
-pub returns-in_default-new-clause-front : goal.returns-in_default-new-clause-front
-returns-in_default-new-clause-front g c = no_laboratory (g.R.Read.remaining c.args.reader.now) (g.W.Write.contents c.args.writer.now)
+pub returns-in_default-into_lab-clause-front : goal.returns-in_default-into_lab-clause-front
+returns-in_default-into_lab-clause-front g c = no_laboratory (g.R.Read.remaining c.args.reader.now) (g.W.Write.contents c.args.writer.now)
 
 pub returns-clause-all : goal.returns-clause-all
 returns-clause-all g c =
     let new = (goal.at.returns-clause-all g c).After-new-preamble in
     let t = preamble_of c.first_call.new.preamble c.new-lines.result.config in
-    let stands : StandsFor c.in-Ok.lab (start t.images t.words cleared) = search rules in
+    let stands : StandsFor c.in-Ok.lab (start t.images t.words cleared) = c.in-Ok.ensures in
     on_ok_weaker c.answer_calls-ran.result
     (all_lines (preamble_of c.new-preamble.result c.new-lines.result.config) (same g new) (c.new-lines.result.number + 1) (one g new) t refl (g.W.Write.contents c.args.writer.now)
     c.first_call.new.self.number (act_of c.in-Some.first) c.first_call.new.self.config c.in-Ok.lab stands (g.W.Write.contents c.answer_calls-ran.new.writer)
@@ -47,7 +47,7 @@ pub returns-clause-front : goal.returns-clause-front
 returns-clause-front g c =
     let new = (goal.at.returns-clause-front g c).After-new-preamble in
     let t = preamble_of c.first_call.new.preamble c.new-lines.result.config in
-    let stands : StandsFor c.in-Ok.lab (start t.images t.words cleared) = search rules in
+    let stands : StandsFor c.in-Ok.lab (start t.images t.words cleared) = c.in-Ok.ensures in
     IfErr-weaker c.answer_calls-ran.result _ _
     (λ ending. front_lines (preamble_of c.new-preamble.result c.new-lines.result.config) (same g new) (c.new-lines.result.number + 1) (one g new) t refl (g.W.Write.contents c.args.writer.now)
     c.first_call.new.self.number (act_of c.in-Some.first) c.first_call.new.self.config c.in-Ok.lab stands (g.W.Write.contents c.answer_calls-ran.new.writer)

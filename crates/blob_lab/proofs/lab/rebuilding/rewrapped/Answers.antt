@@ -1,4 +1,4 @@
-use Rattle.std.proofs.Common.{◌≡◌, ◌∙◌, [], None, ap}
+use Rattle.std.proofs.Common.{◌≡◌, ◌∙◌, [], ap}
 use Rattle.std.specs.Prelude.{unwrap_or}
 use Rattle.blob_base.specs.Files.{directory_again}
 use Rattle.blob_faulty.specs.Wrapper.{inner_of as store_of}

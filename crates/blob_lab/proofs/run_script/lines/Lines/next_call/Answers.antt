@@ -1,7 +1,7 @@
-use Rattle.std.proofs.Common.{rules, ◌+◌, Some, None, inl, inr, refl, ap, ◌∙◌}
+use Rattle.std.proofs.Common.{rules, option_and_then, ◌+◌, Some, None, inl, inr, refl, ap, ◌∙◌}
 use Rattle.blob_lab.specs.Acts.{act_of}
 use Rattle.blob_lab.specs.Lines.{Blank, Configure, Call, said_by}
-use Rattle.blob_lab.specs.Scripts.{with_said}
+use Rattle.blob_lab.specs.Scripts.{unseeded, with_said}
 use Rattle.blob_lab.proofs.ScriptSteps.{line_more, line_call, line_bad, lines_over, said_call, said_setting, none_behind_calls}
 use Rattle.blob_lab.proofs.run_script.lines.Lines.next_call.Goals as goal
 
@@ -29,7 +29,10 @@ returns-in-Image-clause-bad g c = λ number is s some.
     (c.lines.invariant.blank s) (search rules)
     (elim c.in-Image.is [
       | inl (p, n, bytes, e) ↦ ap (λ l. with_said s (said_by l)) e ∙ none_behind_calls s.calls _ some
-      | inr (words, e) ↦ ap (λ l. with_said s (said_by l)) e ∙ none_behind_calls s.calls _ some
+      | inr more ↦ elim more [
+        | inl (words, e) ↦ ap (λ l. with_said s (said_by l)) e ∙ none_behind_calls s.calls _ some
+        | inr (seed, e) ↦ ap (λ l. with_said s (said_by l)) e ∙ ap (option_and_then (unseeded s.words.seed)) (none_behind_calls s.calls _ some)
+      ]
     ])
     (search rules)
 

@@ -3,7 +3,7 @@ use Rattle.blob_base.specs.Places.{Place}
 use Rattle.blob_lab.specs.States.{empty_directory, with_images}
 use Rattle.blob_lab.specs.Tables.{images_of}
 use Rattle.blob_memory.specs.Store.{directory, durable}
-use Rattle.blob_lab.proofs.lab.Lab.new.Given as goal
+use Rattle.blob_lab.proofs.lab.Lab.drawing.Given as goal
 
 abbrev pub invariant-loop-partition : goal.invariant-loop-partition
 invariant-loop-partition l = record {

@@ -14,7 +14,7 @@ use Rattle.blob_lab.specs.LabStands.{Wrapper, IsFor}
 use Rattle.blob_lab.specs.Scripted.{scripted}
 use Rattle.blob_lab.specs.States.{Image, empty_directory, with_image, with_images}
 use Rattle.blob_lab.specs.Tables.{images_of}
-use Rattle.blob_lab.proofs.lab.Lab.new.Goals as goal
+use Rattle.blob_lab.proofs.lab.Lab.drawing.Goals as goal
 
 -- the last image is set on what the earlier ones made
 set_last : (d : Directory) (is : List Image) (i : Image) → with_images d (is ++ i ∷ []) ≡ with_image (with_images d is) i
@@ -59,7 +59,7 @@ returns-clause-stands c =
       wrapper = record {
         files = made_for c.new.result c.loop-partition.store _ c.new.ensures.inner (inv.directory ∙ ap (λ (is : List (String Global × Vec ℕ Global × Vec ℕ Global)). with_images empty_directory (images_of is)) all) (c.new.ensures.files (λ o. []) (nothing_durable (durable c.loop-partition.store) inv.durable));
         config = c.new.ensures.config;
-        stream = ap scripted (c.new.ensures.rng ∙ c.new-rng.ensures);
+        stream = ap scripted c.new.ensures.rng;
       };
       names = c.new-2.ensures;
       handles = c.new-3.ensures;
