@@ -1,6 +1,6 @@
 -- What a caller may be answered that makes two calls, one after the other.
 use Rattle.std.specs.Prelude.{◌≡◌, ◌⊎◌, Option, Some, None}
-use Rattle.blob_base.specs.Refusals.{Refusal}
+use Rattle.blob_header.specs.Refusals.{Refusal}
 
 -- The first call's refusal; or else an answer of the second, by a handle and a store as the first left them.
 pub data InTurn {B S : Type 0} (first : Option Refusal → Type 0) (left : B → S → Type 0) (second : B → S → Option Refusal → Type 0) : Option Refusal → Type 0 where

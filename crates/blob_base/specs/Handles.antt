@@ -1,6 +1,6 @@
 -- What the handle of a started sync carries.
 use Rattle.std.specs.Prelude.{ℕ, Option, Result}
-use Rattle.blob_base.specs.declared.error.Error.{Error}
+use Rattle.blob_header.specs.declared.error.Error.{Error}
 use Rattle.blob_base.specs.declared.handle.Handle.{Handle}
 
 -- what the sync answers

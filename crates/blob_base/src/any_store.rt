@@ -1,15 +1,16 @@
 // What the laws say of any store: callers that know nothing else of it.
 ghost use Rattle.std.specs.Prelude.{◌≡◌, ◌+◌, ◌<◌, ◌≤◌, ℕ, List, [], true, false, Some, None, OnOk, OnErr, IfOk, length, option_copied};
-ghost use Rattle.blob_base.specs.Bytes.{overlay, resized, written};
+ghost use Rattle.blob_model.specs.Bytes.{overlay, resized, written};
 ghost use Rattle.blob_base.specs.Callers.{InTurn, BeforeOrBetween};
-ghost use Rattle.blob_base.specs.Directory.{is_current};
-ghost use Rattle.blob_base.specs.Durable.{changed, durable_without};
-ghost use Rattle.blob_base.specs.Live.{live_written};
+ghost use Rattle.blob_model.specs.Directory.{is_current};
+ghost use Rattle.blob_model.specs.Durable.{changed, durable_without};
+ghost use Rattle.blob_model.specs.Live.{live_written};
 ghost use Rattle.blob_base.specs.Options.{is_sync};
-ghost use Rattle.blob_base.specs.Opening.{removed};
-ghost use Rattle.blob_base.specs.Refusals.{refused, IsMemory};
+ghost use Rattle.blob_model.specs.Opening.{removed};
+ghost use Rattle.blob_header.specs.Refusals.{refused, IsMemory};
 
-use crate::{Blob, Durable, Error, IoBufs, Storage, WriteOptions};
+use crate::{Blob, Durable, IoBufs, Storage, WriteOptions};
+use blob_header::Error;
 
 /// A plain write and a sync: the written bytes are durable, and of other incarnations nothing changed.
 pub fn write_and_sync<S: Durable, B: Blob<S>>(

@@ -1,8 +1,8 @@
 ghost use Rattle.std.specs.Prelude.{◌≡◌, ◌<◌, ◌≤◌, ◌+◌, ◌↔◌, IsTrue, List, ℕ, [], ◌++◌, length, OnOk, OnErr, IfOk};
 ghost use Rattle.std.specs.List.{flat_map};
-ghost use Rattle.blob_base.specs.Refusals.{refused, OffsetOverflow, IsMemory};
+ghost use Rattle.blob_header.specs.Refusals.{refused, OffsetOverflow, IsMemory};
 
-use crate::error::Error;
+use blob_header::error::Error;
 use std::alloc::Global;
 use std::marker::Model;
 

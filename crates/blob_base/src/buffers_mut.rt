@@ -1,7 +1,7 @@
 ghost use Rattle.std.specs.Prelude.{◌≡◌, ◌≤◌, [], length, IsTrue, ◌↔◌, IfOk, OnErr, vec_capacity};
-ghost use Rattle.blob_base.specs.Refusals.{IsMemory};
+ghost use Rattle.blob_header.specs.Refusals.{IsMemory};
 
-use crate::error::Error;
+use blob_header::error::Error;
 use std::alloc::Global;
 use std::marker::Model;
 

@@ -1,7 +1,7 @@
 ghost use Rattle.std.specs.Prelude.{◌≡◌};
 ghost use Rattle.blob_base.specs.Handles.{outcome_of, marker_of};
 
-use crate::error::Error;
+use blob_header::error::Error;
 
 /// A started sync: what it answers, and the number of a wrapper's marker where it carries one.
 ///

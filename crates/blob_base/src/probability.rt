@@ -1,7 +1,7 @@
 ghost use Rattle.std.specs.Prelude.{◌≡◌, ◌<◌, ◌≤◌, ◌↔◌, IsTrue, IsSome, IfSome};
 ghost use Rattle.std.proofs.Common.{rules};
 ghost use Rattle.std.specs.Cmp.Rules.{comparing};
-ghost use Rattle.blob_base.specs.Rates.{sampled, same_rate};
+ghost use Rattle.blob_model.specs.Rates.{sampled, same_rate};
 
 use rand_core::Rng;
 use std::marker::Model;
@@ -16,7 +16,7 @@ pub struct Probability {
 
 impl Model for Probability {
     ghost use Rattle.std.specs.Prelude.{◌<◌, ◌≤◌};
-    ghost use Rattle.blob_base.specs.Rates.{Rate};
+    ghost use Rattle.blob_model.specs.Rates.{Rate};
 
     ghost Value = { Rate };
 
@@ -79,7 +79,7 @@ impl Probability {
 
     /// One draw. A rate of zero is never true and a rate of one always, and neither takes a word;
     /// another takes one word `w` of 64 bits and is true where `w * denominator < numerator * 2^64`.
-    #[tactic(auto, unfolding(crate::specs::Rates::sampled))]
+    #[tactic(auto, unfolding(blob_model::specs::Rates::sampled))]
     pub fn sample<R: Rng>(&self, rng: &mut R) -> bool
         ensures { (result, R.stream rng.new) ≡ sampled self.now (R.stream rng.old) }
     {

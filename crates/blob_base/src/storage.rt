@@ -1,21 +1,20 @@
 // The storage traits, with what every store keeps.
 ghost use Rattle.std.specs.Prelude.{◌≡◌, ◌≢◌, ◌⊎◌, ◌+◌, ◌≤◌, ◌<◌, ◌^◌, ◌↔◌, ℕ, List, [], Bool, true, false, Option, Some, None, is_some, IsSome, IsTrue, OnOk, OnErr, IfOk, length, take, drop, map, option_copied};
 ghost use Rattle.std.specs.Range.{range_inclusive_start, range_inclusive_end, range_inclusive_exhausted};
-ghost use Rattle.blob_base.specs.Bytes.{overlay, resized};
-ghost use Rattle.blob_base.specs.Directory.{Directory, is_current};
-ghost use Rattle.blob_base.specs.Durable.{Durable, changed, durable_without};
-ghost use Rattle.blob_base.specs.Live.{live_written, live_after};
+ghost use Rattle.blob_model.specs.Bytes.{overlay, resized};
+ghost use Rattle.blob_model.specs.Directory.{Directory, is_current};
+ghost use Rattle.blob_model.specs.Durable.{Durable, changed, durable_without};
+ghost use Rattle.blob_model.specs.Live.{live_written, live_after};
 ghost use Rattle.blob_base.specs.Names.{AreNames};
-ghost use Rattle.blob_base.specs.Opening.{IsOpened, removed};
+ghost use Rattle.blob_model.specs.Opening.{IsOpened, removed};
 ghost use Rattle.blob_base.specs.HandleCalls.{HandleCall, Read, Write, Resize, Sync, StartSync, Reserve};
 ghost use Rattle.blob_base.specs.Handles.{outcome_of, marker_of};
 ghost use Rattle.blob_base.specs.Options.{is_sync};
-ghost use Rattle.blob_base.specs.Places.{Place, same_place};
-ghost use Rattle.blob_base.specs.Refusals.{Refusal, refused, Memory, Injected, OffsetOverflow, IsMemory};
+ghost use Rattle.blob_model.specs.Places.{Place, same_place};
+ghost use Rattle.blob_header.specs.Refusals.{Refusal, refused, Memory, Injected, OffsetOverflow, IsMemory};
 
-use crate::{
-    BlobVersion, DEFAULT_BLOB_VERSION, Error, Handle, IoBufs, IoBufsMut, ReadOptions, WriteOptions,
-};
+use crate::{Handle, IoBufs, IoBufsMut, ReadOptions, WriteOptions};
+use blob_header::{BlobVersion, DEFAULT_BLOB_VERSION, Error};
 use std::ops::RangeInclusive;
 
 /// What keeps bytes through a crash, by incarnation: one life of a name, from the open that created or accepted its blob to its

@@ -3,15 +3,15 @@
 
 ghost use Rattle.std.specs.Prelude.{◌≡◌};
 ghost use Rattle.std.specs.Ordering.{nat_cmp};
-ghost use Rattle.blob_base.specs.Header.{layout_number};
+ghost use Rattle.blob_header.specs.Header.{layout_number};
 ghost use Rattle.blob_base.specs.Values.{IsSameness};
 
-use crate::header::Header;
-use crate::layout::Layout;
 use crate::options::WriteOptions;
 use crate::probability::Probability;
 use crate::sector_size::SectorSize;
-use crate::version::BlobVersion;
+use blob_header::header::Header;
+use blob_header::layout::Layout;
+use blob_header::version::BlobVersion;
 
 /// Layouts and versions are ordered as their numbers.
 pub fn orders()

@@ -1,9 +1,9 @@
 -- What a session is opened with: a script that makes no call but settings.
 use Rattle.std.specs.Prelude.{◌≡◌, ◌≢◌, ◌⊎◌, ℕ, suc, List, [], ◌∷◌, ◌++◌, All, true, length, Some, None}
-use Rattle.blob_lab.specs.Acts as acts
-use Rattle.blob_lab.specs.Acts.{Act}
+use Rattle.blob_calls.specs.Acts as acts
+use Rattle.blob_calls.specs.Acts.{Act}
 use Rattle.blob_lab.specs.LabStands.{StandsFor}
-use Rattle.blob_lab.specs.Lines.{Call, line_of}
+use Rattle.blob_calls.specs.Lines.{Call, line_of}
 use Rattle.blob_lab.specs.Scripts.{Script, no_script, lines_of, with_line, with_lines}
 use Rattle.blob_lab.specs.States.{start}
 use Rattle.blob_lab.specs.Tables.{images_of}

@@ -1,16 +1,16 @@
 -- What a session holds, and what its calls do to that.
 use Rattle.std.specs.Prelude.{◌≡◌, ◌≢◌, ◌⊎◌, ◌<◌, ℕ, List, [], Bool, length, take, Option, Some, None, IfSome, MatchOption}
-use Rattle.blob_faulty.specs.declared.config.Config.{Config}
-use Rattle.blob_lab.specs.declared.script.setting.Setting.{Setting}
-use Rattle.blob_lab.specs.declared.reply.Reply.{Reply}
-use Rattle.blob_lab.specs.declared.reply.Reply.TheVariants as replies
-use Rattle.blob_lab.specs.Acts as acts
-use Rattle.blob_lab.specs.Acts.{Act, Through, Read, Write}
+use Rattle.blob_faults.specs.declared.config.Config.{Config}
+use Rattle.blob_calls.specs.declared.script.setting.Setting.{Setting}
+use Rattle.blob_calls.specs.declared.reply.Reply.{Reply}
+use Rattle.blob_calls.specs.declared.reply.Reply.TheVariants as replies
+use Rattle.blob_calls.specs.Acts as acts
+use Rattle.blob_calls.specs.Acts.{Act, Through, Read, Write}
 use Rattle.blob_lab.specs.LabStands.{Performs}
-use Rattle.blob_lab.specs.Lines.{Blank, Configure, Call, line_of}
-use Rattle.blob_lab.specs.Replies.{reply_line}
+use Rattle.blob_calls.specs.Lines.{Blank, Configure, Call, line_of}
+use Rattle.blob_calls.specs.Replies.{reply_line}
 use Rattle.blob_lab.specs.Scripts.{Script, with_line}
-use Rattle.blob_lab.specs.Settings.{configured}
+use Rattle.blob_calls.specs.Settings.{configured}
 use Rattle.blob_c.specs.declared.kept.Kept.{Kept}
 use Rattle.blob_c.specs.declared.session.Session.{Session}
 use Rattle.blob_c.specs.declared.ran.Ran.{Ran}

@@ -1,8 +1,8 @@
 // A laboratory with what its lines need beside it.
 ghost use Rattle.std.specs.Prelude.{◌≡◌, Some, None, IfSome, IfNone, IfOk, OnErr};
-ghost use Rattle.blob_lab.specs.Acts.{act_of};
-ghost use Rattle.blob_lab.specs.Lines.{Blank, line_of};
-ghost use Rattle.blob_lab.specs.Settings.{configured};
+ghost use Rattle.blob_calls.specs.Acts.{act_of};
+ghost use Rattle.blob_calls.specs.Lines.{Blank, line_of};
+ghost use Rattle.blob_calls.specs.Settings.{configured};
 ghost use Rattle.blob_c.specs.Sessions.{AnswersLine, AnswersRead, AnswersWrite, Asks, IsNoCall, Makes, TellsAgain};
 
 use crate::ran::{BAD_LINE, DONE, NO_MEMORY, NO_ROOM, OTHER_REPLY, Ran, UNPRINTED};

@@ -4,13 +4,13 @@ use Rattle.std.proofs.Math.Logic.{∥∥₁_map, ∥∥₁_elim}
 use Rattle.std.proofs.lemmas.Bool.Decides.{nat_tests}
 use Rattle.std.proofs.lemmas.Option.{none-some, same_Some}
 use Rattle.std.specs.Prelude.{option_map, codes}
-use Rattle.blob_base.specs.Directory.{Directory, File, is_current, is_that}
-use Rattle.blob_base.specs.Files.{Files, all_logged}
-use Rattle.blob_base.specs.Log.{Entry, Choices, crashed}
-use Rattle.blob_base.specs.Pending.{Pending}
-use Rattle.blob_base.specs.Places.{Place}
-use Rattle.blob_base.specs.Stands.{replayed_at}
-use Rattle.blob_base.specs.Bytes.{resized}
+use Rattle.blob_model.specs.Directory.{Directory, File, is_current, is_that}
+use Rattle.blob_model.specs.Files.{Files, all_logged}
+use Rattle.blob_model.specs.Log.{Entry, Choices, crashed}
+use Rattle.blob_model.specs.Pending.{Pending}
+use Rattle.blob_model.specs.Places.{Place}
+use Rattle.blob_model.specs.Stands.{replayed_at}
+use Rattle.blob_model.specs.Bytes.{resized}
 use Rattle.blob_disk.proofs.Crashes.{one_way}
 use Rattle.blob_disk.proofs.Laying.{cut_not, cut_to, mixed_over, mixed_some}
 use Rattle.blob_disk.proofs.Outcomes.{named_so, there_so, whole_so}

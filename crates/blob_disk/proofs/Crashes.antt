@@ -1,18 +1,18 @@
 -- What a crash and the open behind it leave.
 use Rattle.std.proofs.Common.{◌≡◌, ◌⊎◌, ℕ, List, [], Option, Some, None, Bool, true, false, refl, sym, ◌∙◌, ap, subst, inl, inr}
 use Rattle.std.proofs.Math.Logic.{∥∥₁_map, ∥∥₁_elim}
-use Rattle.blob_base.specs.declared.layout.Layout.{Layout}
-use Rattle.blob_base.specs.Directory.{Directory, Incarnation, place_made}
-use Rattle.blob_base.specs.Durable.{Durable}
-use Rattle.blob_base.specs.Log.{Choices}
-use Rattle.blob_base.specs.Opening.{Opening, Continues, Begins, opening, place_of, IsOpened, Continued, Begun}
-use Rattle.blob_base.specs.Pending.{Pending}
-use Rattle.blob_base.specs.Places.{Place}
-use Rattle.blob_base.specs.Stands.{replayed_at}
+use Rattle.blob_header.specs.declared.layout.Layout.{Layout}
+use Rattle.blob_model.specs.Directory.{Directory, Incarnation, place_made}
+use Rattle.blob_model.specs.Durable.{Durable}
+use Rattle.blob_model.specs.Log.{Choices}
+use Rattle.blob_model.specs.Opening.{Opening, Continues, Begins, opening, place_of, IsOpened, Continued, Begun}
+use Rattle.blob_model.specs.Pending.{Pending}
+use Rattle.blob_model.specs.Places.{Place}
+use Rattle.blob_model.specs.Stands.{replayed_at}
 use Rattle.std.specs.Prelude.{codes}
 use Rattle.std.specs.Coded.{Coded-set, coded_option, coded_ℕ}
 use base.Stored.{coded_list}
-use Rattle.blob_base.specs.declared.layout.Layout.TheVariants.{V1}
+use Rattle.blob_header.specs.declared.layout.Layout.TheVariants.{V1}
 use Rattle.blob_disk.specs.Outcomes.{MayLeave, Opened, Wrapper, IsNamed, IsThere}
 use Rattle.blob_faulty.specs.Wrapper.{inner_of, inside}
 use Rattle.blob_memory.specs.Store.{directory, durable, place}

@@ -4,20 +4,20 @@ use Rattle.std.proofs.Math.Logic.{∥∥₁_map}
 use Rattle.std.proofs.lemmas.Bool.{cond-true}
 use Rattle.std.proofs.lemmas.Option.{none-some, same_Some}
 use Rattle.std.specs.Prelude.{option_map, codes}
-use Rattle.blob_base.specs.declared.layout.Layout.TheVariants.{V1}
-use Rattle.blob_base.specs.Directory.{Directory, Incarnation}
-use Rattle.blob_base.specs.Opening.{place_of}
-use Rattle.blob_base.specs.Durable.{Durable, with_at, changed}
-use Rattle.blob_base.specs.Log.{Choices}
-use Rattle.blob_base.specs.Pending.{Pending}
-use Rattle.blob_base.specs.Places.{Place, same_place}
-use Rattle.blob_base.specs.Stands.{replayed_at}
-use Rattle.blob_base.specs.SamePlace.{same_self}
+use Rattle.blob_header.specs.declared.layout.Layout.TheVariants.{V1}
+use Rattle.blob_model.specs.Directory.{Directory, Incarnation}
+use Rattle.blob_model.specs.Opening.{place_of}
+use Rattle.blob_model.specs.Durable.{Durable, with_at, changed}
+use Rattle.blob_model.specs.Log.{Choices}
+use Rattle.blob_model.specs.Pending.{Pending}
+use Rattle.blob_model.specs.Places.{Place, same_place}
+use Rattle.blob_model.specs.Stands.{replayed_at}
+use Rattle.blob_model.specs.SamePlace.{same_self}
 use Rattle.blob_disk.specs.Outcomes.{MayLeave, Wrapper, Opened, Keeps, IsStanding, IsTracked, IsNamed, IsThere, IsWhole, outcomes}
-use Rattle.blob_faulty.specs.declared.config.Config.{Config}
+use Rattle.blob_faults.specs.declared.config.Config.{Config}
 use Rattle.blob_faulty.specs.Certain.{IsNever, partial_resizes}
 use Rattle.blob_faulty.specs.Wrapper.{Stands, KeepsRecords, inner_of, config_of, pending_of, inside}
-use Rattle.blob_base.specs.Files.{Files, synced}
+use Rattle.blob_model.specs.Files.{Files, synced}
 use Rattle.blob_faulty.specs.Lends.{with_config}
 use Rattle.blob_faulty.specs.Syncs.{Publishes}
 use Rattle.blob_memory.specs.Store.{directory, durable, live, place}

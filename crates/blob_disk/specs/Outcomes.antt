@@ -1,15 +1,15 @@
 -- What a crash may leave of a file over the fault wrapper.
 use Rattle.std.specs.Prelude.{◌≡◌, ◌⊎◌, ℕ, List, Option, Some, None, length, codes}
 use Rattle.std.specs.Coded.{Coded-set, coded_ℕ, Unit-prop}
-use Rattle.blob_base.specs.declared.layout.Layout.TheVariants.{V1}
-use Rattle.blob_base.specs.Directory.{Incarnation}
-use Rattle.blob_base.specs.Opening.{place_of}
-use Rattle.blob_base.specs.Files.{Files}
-use Rattle.blob_base.specs.Log.{Choices}
-use Rattle.blob_base.specs.Pending.{Pending}
-use Rattle.blob_base.specs.Places.{Place}
-use Rattle.blob_base.specs.Rates.{Rate}
-use Rattle.blob_base.specs.Stands.{replayed_at}
+use Rattle.blob_header.specs.declared.layout.Layout.TheVariants.{V1}
+use Rattle.blob_model.specs.Directory.{Incarnation}
+use Rattle.blob_model.specs.Opening.{place_of}
+use Rattle.blob_model.specs.Files.{Files}
+use Rattle.blob_model.specs.Log.{Choices}
+use Rattle.blob_model.specs.Pending.{Pending}
+use Rattle.blob_model.specs.Places.{Place}
+use Rattle.blob_model.specs.Rates.{Rate}
+use Rattle.blob_model.specs.Stands.{replayed_at}
 use Rattle.blob_faulty.specs.Certain.{IsNever, partial_resizes}
 use Rattle.blob_faulty.specs.Wrapper.{Stands, inner_of, config_of, pending_of, inside, size_of}
 use Rattle.blob_faulty.specs.declared.blob.Blob as faulty_blob

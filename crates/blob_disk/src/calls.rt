@@ -1,6 +1,6 @@
 //! What a disk asks of the wrapper, each by what it makes of the outcomes of a crash.
 ghost use Rattle.std.specs.Prelude.{◌≡◌, ◌⊎◌, ◌≤◌, ◌<◌, ℕ, List, Some, false, length, OnOk, OnErr};
-ghost use Rattle.blob_base.specs.Bytes.{written};
+ghost use Rattle.blob_model.specs.Bytes.{written};
 ghost use Rattle.blob_faulty.specs.Wrapper.{inside, inner_of, KeepsRecords};
 ghost use Rattle.blob_memory.specs.Store.{live, place, durable};
 ghost use Rattle.sqlite_disk.specs.Disk.{Holds, Only, Torn, Mixed, Cut, Follows, MoreFaults};

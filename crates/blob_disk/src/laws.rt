@@ -1,6 +1,6 @@
 //! What a resize that fails in part would leave.
 ghost use Rattle.std.specs.Prelude.{◌≡◌, ℕ, List, length};
-ghost use Rattle.blob_base.specs.Bytes.{resized};
+ghost use Rattle.blob_model.specs.Bytes.{resized};
 ghost use Rattle.sqlite_disk.specs.Disk.{Cut};
 
 /// A resize of 100 live bytes to 50 that reaches 70 is kept by a crash as one to 70. Of 20 durable bytes it leaves 70, and no

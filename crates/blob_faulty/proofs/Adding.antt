@@ -1,21 +1,21 @@
 -- What a wrapper's calls add to the logs of the files that it stands for.
 use Rattle.std.proofs.Common.{◌≡◌, ◌≢◌, ℕ, ◌<◌, Bool, true, false, List, [], ◌∷◌, length, Option, Some, None, cond, refl, sym, ap, subst, arith}
 use Rattle.std.specs.Prelude.{Result, Ok, Err, OnOk, option_map}
-use Rattle.blob_base.specs.Places.{Place, same_place}
-use Rattle.blob_base.specs.Directory.{Directory}
-use Rattle.blob_base.specs.Durable.{Durable, changed}
-use Rattle.blob_base.specs.Bytes.{overlay, reach}
-use Rattle.blob_base.specs.Files.{Files}
-use Rattle.blob_base.specs.Log.{Loose, Kept}
-use Rattle.blob_base.specs.Modes.{Mode}
-use Rattle.blob_base.specs.Rates.{Rate}
-use Rattle.blob_base.specs.Pending.{Pending}
-use Rattle.blob_base.specs.Stands.{StandsFor}
-use Rattle.blob_base.proofs.Bytes.{same_bytes, length-overlay_by, at_other}
-use Rattle.blob_base.proofs.FileSteps.{stands_same}
+use Rattle.blob_model.specs.Places.{Place, same_place}
+use Rattle.blob_model.specs.Directory.{Directory}
+use Rattle.blob_model.specs.Durable.{Durable, changed}
+use Rattle.blob_model.specs.Bytes.{overlay, reach}
+use Rattle.blob_model.specs.Files.{Files}
+use Rattle.blob_model.specs.Log.{Loose, Kept}
+use Rattle.blob_model.specs.Modes.{Mode}
+use Rattle.blob_model.specs.Rates.{Rate}
+use Rattle.blob_model.specs.Pending.{Pending}
+use Rattle.blob_model.specs.Stands.{StandsFor}
+use Rattle.blob_model.proofs.Bytes.{same_bytes, length-overlay_by, at_other}
+use Rattle.blob_model.proofs.FileSteps.{stands_same}
 use Rattle.blob_faulty.specs.declared.storage.Storage.{Storage}
-use Rattle.blob_faulty.specs.Faults.{is_nothing}
-use Rattle.blob_faulty.specs.Recorded.{loose, kept}
+use Rattle.blob_faults.specs.Faults.{is_nothing}
+use Rattle.blob_faults.specs.Recorded.{loose, kept}
 use Rattle.blob_faulty.specs.Wrapper.{pending_of, KeepsRecords, Stands}
 
 -- StandsFor at other numbers

@@ -3,11 +3,12 @@ use Rattle.std.proofs.Common.{◌≡◌, ⊎_elim, ℕ, Bool, true, false, ◌&&
 use Rattle.std.proofs.lemmas.Bool.{cases_Bool}
 use Rattle.std.specs.Str.{bytes_eq}
 use Rattle.std.specs.Cmp.Lexicographic.{bytes_decides}
-use Rattle.blob_base.specs.Directory.{Directory, File, Raw, Incarnation, data_start, place_in, current, is_that, is_current}
-use Rattle.blob_base.specs.Files.{ends_by}
-use Rattle.blob_base.specs.Pending.{Pending}
-use Rattle.blob_base.specs.Places.{Place, same_place}
-use Rattle.blob_base.specs.Stands.{retired}
+use Rattle.blob_model.specs.Directory.{Directory, File, Raw, Incarnation, place_in, current, is_that, is_current}
+use Rattle.blob_header.specs.Header.{data_start}
+use Rattle.blob_model.specs.Files.{ends_by}
+use Rattle.blob_model.specs.Pending.{Pending}
+use Rattle.blob_model.specs.Places.{Place, same_place}
+use Rattle.blob_model.specs.Stands.{retired}
 
 -- whether that is the place
 abbrev is_place : Option Place → Place → Bool

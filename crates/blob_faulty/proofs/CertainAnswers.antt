@@ -4,16 +4,16 @@ use Rattle.std.specs.Prelude.{is_some, MatchBool, ◌↔◌}
 use Rattle.std.proofs.lemmas.Bool.{cond-true, cond-false}
 use Rattle.std.proofs.lemmas.Bool.Decides.{nat_tests}
 use Rattle.rand_core.specs.Stream.{Stream}
-use Rattle.blob_base.specs.Modes.{Mode}
-use Rattle.blob_base.specs.Rates.{Rate, sampled}
-use Rattle.blob_base.specs.Refusals.{Refusal, OffsetOverflow, Injected}
-use Rattle.blob_base.specs.Runs.{runs}
-use Rattle.blob_faulty.specs.declared.config.Config.{Config}
-use Rattle.blob_faulty.specs.declared.config.ResizeConfig.{ResizeConfig}
+use Rattle.blob_model.specs.Modes.{Mode}
+use Rattle.blob_model.specs.Rates.{Rate, sampled}
+use Rattle.blob_header.specs.Refusals.{Refusal, OffsetOverflow, Injected}
+use Rattle.blob_model.specs.Runs.{runs}
+use Rattle.blob_faults.specs.declared.config.Config.{Config}
+use Rattle.blob_faults.specs.declared.config.ResizeConfig.{ResizeConfig}
 use Rattle.blob_faulty.specs.AnswerLaws.{injected_none, numbered_none, memory_none, uncounted_none}
 use Rattle.blob_faulty.specs.Answers.{Allowed, injected_or, injected_for, or_memory, numbered, lacks_number, allows_runs, allows_done, allows_fate, allows_write, allows_resize, allows_start}
 use Rattle.blob_faulty.specs.Certain.{IsNever, IsAlways, resize_failure}
-use Rattle.blob_faulty.specs.Faults.{draw, write_failure, retention, WriteFate, Done, Unsynced, Failed, failed, not_failed, synced_or_not, write_fate, is_nothing, is_uncounted, ResizeFate, Resizes, Stays, Reaches, partly, resize_fate, size_between}
+use Rattle.blob_faults.specs.Faults.{draw, write_failure, retention, WriteFate, Done, Unsynced, Failed, failed, not_failed, synced_or_not, write_fate, is_nothing, is_uncounted, ResizeFate, Resizes, Stays, Reaches, partly, resize_fate, size_between}
 
 -- The draws.
 

@@ -1,7 +1,7 @@
 -- Ends of the runs of a failed write.
 use Rattle.std.proofs.Common.{◌≡◌, ℕ, zero, suc, ◌+◌, ◌≤◌, Bool, List, [], ◌∷◌, ◌++◌, length, map, reverse, get_or, All, refl, sym, ◌∙◌, ap, arith}
 use Rattle.std.proofs.lemmas.List.{reverse-append, map-append}
-use Rattle.blob_base.specs.Runs.{Run, runs, AreRunsApart}
+use Rattle.blob_model.specs.Runs.{Run, runs, AreRunsApart}
 use Rattle.blob_faulty.specs.declared.write_runs.Piece.{Piece}
 use Rattle.blob_faulty.specs.Answers.{last_end}
 use Rattle.blob_faulty.specs.Pieces.{run_of, runs_in, EndsWithin}

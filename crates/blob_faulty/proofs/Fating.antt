@@ -2,17 +2,17 @@
 use Rattle.std.proofs.Common.{◌≡◌, ◌≢◌, ◌⊎◌, ⊎_elim, ℕ, ◌+◌, ◌^◌, ◌<◌, Bool, true, false, cond, List, [], ◌∷◌, length, Option, Some, inl, inr, refl, sym, ◌∙◌, ap, subst, arith}
 use Rattle.std.proofs.lemmas.Bool.{cond-false, le-ltb}
 use Rattle.rand_core.specs.Stream.{Stream}
-use Rattle.blob_base.specs.Live.{live_after}
-use Rattle.blob_base.specs.Log.{Entry}
-use Rattle.blob_base.specs.Modes.{Mode}
-use Rattle.blob_base.specs.Rates.{Rate}
-use Rattle.blob_base.specs.Refusals.{Refusal, OffsetOverflow, BlobMissing, Injected, Memory}
-use Rattle.blob_base.specs.Runs.{Run, runs}
-use Rattle.blob_faulty.specs.declared.config.Config.{Config}
+use Rattle.blob_model.specs.Live.{live_after}
+use Rattle.blob_model.specs.Log.{Entry}
+use Rattle.blob_model.specs.Modes.{Mode}
+use Rattle.blob_model.specs.Rates.{Rate}
+use Rattle.blob_header.specs.Refusals.{Refusal, OffsetOverflow, BlobMissing, Injected, Memory}
+use Rattle.blob_model.specs.Runs.{Run, runs}
+use Rattle.blob_faults.specs.declared.config.Config.{Config}
 use Rattle.blob_faulty.specs.Answers.{Allowed, or_memory, numbered, allows_laid, allows_runs, last_end}
-use Rattle.blob_faulty.specs.Faults.{WriteFate, Done, Unsynced, Failed, write_fate, retention, is_nothing, is_uncounted}
+use Rattle.blob_faults.specs.Faults.{WriteFate, Done, Unsynced, Failed, write_fate, retention, is_nothing, is_uncounted}
 use Rattle.blob_faulty.specs.Pieces.{first_after}
-use Rattle.blob_faulty.specs.Recorded.{recorded_by, recorded_write, first_written, live_by, size_by}
+use Rattle.blob_faults.specs.Recorded.{recorded_by, recorded_write, first_written, live_by, size_by}
 use Rattle.blob_faulty.specs.Writes.{View, Effect, Logs, Recorded, WroteBy, plain, laid_runs, live_of_runs}
 use Rattle.blob_faulty.proofs.Adding.{nothing_not}
 use Rattle.blob_faulty.proofs.Writing.{same_logs}

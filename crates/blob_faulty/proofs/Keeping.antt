@@ -5,25 +5,25 @@ use Rattle.std.proofs.lemmas.List.{get_or_append_left, get_or-append_right}
 use Rattle.std.proofs.lemmas.List.Prefix.{front_from_reads}
 use Rattle.std.specs.Cmp.Lexicographic.{bytes_decides}
 use Rattle.std.specs.Str.{bytes_eq}
-use Rattle.blob_base.specs.declared.layout.Layout.{Layout}
-use Rattle.blob_base.specs.Directory.{Directory, File, Incarnation, current, place_in, place_made, directory_made, with_file}
-use Rattle.blob_base.specs.Durable.{Durable}
-use Rattle.blob_base.specs.Files.{Files, all_logged, after_crash, after_open, admitted, admitted_at, made, opened, log_of}
-use Rattle.blob_base.specs.Fronts.{BeginsWith}
-use Rattle.blob_base.specs.Log.{Entry, Kept, Choices}
-use Rattle.blob_base.specs.Opened.{IsNamed}
-use Rattle.blob_base.specs.Opening.{Opening, Continues, Begins, opening, IsOpened, Continued, Begun}
-use Rattle.blob_base.specs.Persistence.{HasByte, IsFixed, AreFixed, any_touches}
-use Rattle.blob_base.specs.Places.{Place, same_place}
-use Rattle.blob_base.specs.SamePlace.{same_place_exact}
-use Rattle.blob_base.proofs.Bytes.{lies_below}
-use Rattle.blob_base.proofs.FileSteps.{durable_is}
-use Rattle.blob_base.proofs.Opened.{not_begun}
-use Rattle.blob_base.proofs.Persistence.{fixed_all, fixed_by_write, fixed_by_open, fixed_crashed, fixed_admitted, fixed_beside}
+use Rattle.blob_header.specs.declared.layout.Layout.{Layout}
+use Rattle.blob_model.specs.Directory.{Directory, File, Incarnation, current, place_in, place_made, directory_made, with_file}
+use Rattle.blob_model.specs.Durable.{Durable}
+use Rattle.blob_model.specs.Files.{Files, all_logged, after_crash, after_open, admitted, admitted_at, made, opened, log_of}
+use Rattle.blob_header.specs.Fronts.{BeginsWith}
+use Rattle.blob_model.specs.Log.{Entry, Kept, Choices}
+use Rattle.blob_model.specs.Opened.{IsNamed}
+use Rattle.blob_model.specs.Opening.{Opening, Continues, Begins, opening, IsOpened, Continued, Begun}
+use Rattle.blob_model.specs.Persistence.{HasByte, IsFixed, AreFixed, any_touches}
+use Rattle.blob_model.specs.Places.{Place, same_place}
+use Rattle.blob_model.specs.SamePlace.{same_place_exact}
+use Rattle.blob_model.proofs.Bytes.{lies_below}
+use Rattle.blob_model.proofs.FileSteps.{durable_is}
+use Rattle.blob_model.proofs.Opened.{not_begun}
+use Rattle.blob_model.proofs.Persistence.{fixed_all, fixed_by_write, fixed_by_open, fixed_crashed, fixed_admitted, fixed_beside}
 use Rattle.blob_faulty.specs.declared.storage.Storage.{Storage}
 use Rattle.blob_faulty.specs.Keeps.{KeepsBytes}
 use Rattle.blob_faulty.specs.Names.{Steps}
-use Rattle.blob_faulty.specs.Recorded.{kept}
+use Rattle.blob_faults.specs.Recorded.{kept}
 use Rattle.blob_faulty.specs.Wrapper.{Adds, Stands, inner_of}
 
 -- another name's incarnation

@@ -4,21 +4,21 @@ use Rattle.std.specs.Prelude.{is_some}
 use Rattle.std.proofs.lemmas.Bool.{cond_both, cases_lt, false≢true}
 use Rattle.std.proofs.lemmas.List.{get_or_past}
 use Rattle.rand_core.specs.Stream.{Stream}
-use Rattle.blob_base.specs.Bytes.{overlay_by, overlay, resized, written, lies, reach}
-use Rattle.blob_base.specs.Live.{live_written, live_after, all_written}
-use Rattle.blob_base.specs.Log.{Entry, Choices, crashed}
-use Rattle.blob_base.specs.Modes.{Mode}
-use Rattle.blob_base.specs.Rates.{Rate, sampled}
-use Rattle.blob_base.specs.Refusals.{Refusal, BlobMissing, Injected}
-use Rattle.blob_base.specs.Runs.{Run, runs, kept_runs, all_laid, picked}
-use Rattle.blob_base.proofs.Bytes.{length-overlay_by, length-resized, reach_all, at_other, at_chosen, at_resized, past_resized, same_bytes, none_chosen, picks}
-use Rattle.blob_base.proofs.Runs.{AreSome, laid_runs, runs_some}
-use Rattle.blob_faulty.specs.declared.config.Config.{Config}
-use Rattle.blob_faulty.specs.declared.config.ResizeConfig.{ResizeConfig}
+use Rattle.blob_model.specs.Bytes.{overlay_by, overlay, resized, written, lies, reach}
+use Rattle.blob_model.specs.Live.{live_written, live_after, all_written}
+use Rattle.blob_model.specs.Log.{Entry, Choices, crashed}
+use Rattle.blob_model.specs.Modes.{Mode}
+use Rattle.blob_model.specs.Rates.{Rate, sampled}
+use Rattle.blob_header.specs.Refusals.{Refusal, BlobMissing, Injected}
+use Rattle.blob_model.specs.Runs.{Run, runs, kept_runs, all_laid, picked}
+use Rattle.blob_model.proofs.Bytes.{length-overlay_by, length-resized, reach_all, at_other, at_chosen, at_resized, past_resized, same_bytes, none_chosen, picks}
+use Rattle.blob_model.proofs.Runs.{AreSome, laid_runs, runs_some}
+use Rattle.blob_faults.specs.declared.config.Config.{Config}
+use Rattle.blob_faults.specs.declared.config.ResizeConfig.{ResizeConfig}
 use Rattle.blob_faulty.specs.Certain.{IsNever, partial_resizes}
-use Rattle.blob_faulty.specs.Faults.{WriteFate, Done, Unsynced, Failed, ResizeFate, Resizes, Stays, Reaches, write_fate, resize_fate, partly, size_between, retention, is_nothing, is_uncounted}
+use Rattle.blob_faults.specs.Faults.{WriteFate, Done, Unsynced, Failed, ResizeFate, Resizes, Stays, Reaches, write_fate, resize_fate, partly, size_between, retention, is_nothing, is_uncounted}
 use Rattle.blob_faulty.specs.Outcomes.{LaysSome, WritesSome}
-use Rattle.blob_faulty.specs.Recorded.{loose, kept, recorded_by, recorded_write, recorded_resize, live_by, live_of_write, live_of_resize, size_by, size_of_write, size_of_resize, size_of_runs}
+use Rattle.blob_faults.specs.Recorded.{loose, kept, recorded_by, recorded_write, recorded_resize, live_by, live_of_write, live_of_resize, size_by, size_of_write, size_of_resize, size_of_runs}
 use Rattle.blob_faulty.proofs.CertainAnswers.{never_drawn}
 
 -- What a crash lays of a recorded write.

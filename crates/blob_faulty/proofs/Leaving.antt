@@ -2,15 +2,15 @@
 use Rattle.std.proofs.Common.{◌≡◌, ℕ, ◌<◌, List, [], ◌∷◌, Option, Some, None, refl, sym, ◌∙◌, ap}
 use Rattle.std.specs.Prelude.{option_map, is_some}
 use Rattle.std.proofs.lemmas.Bool.{cond-true}
-use Rattle.blob_base.specs.Directory.{Directory}
-use Rattle.blob_base.specs.Durable.{Durable}
-use Rattle.blob_base.specs.Files.{Files, logged, all_logged, crashed_at}
-use Rattle.blob_base.specs.Log.{Entry, Choices, crashed}
-use Rattle.blob_base.specs.Pending.{Pending}
-use Rattle.blob_base.specs.Places.{Place, same_place}
-use Rattle.blob_base.specs.SamePlace.{same_self}
-use Rattle.blob_base.specs.Stands.{StandsAt, replayed_at}
-use Rattle.blob_base.proofs.Durables.{crashed_logged}
+use Rattle.blob_model.specs.Directory.{Directory}
+use Rattle.blob_model.specs.Durable.{Durable}
+use Rattle.blob_model.specs.Files.{Files, logged, all_logged, crashed_at}
+use Rattle.blob_model.specs.Log.{Entry, Choices, crashed}
+use Rattle.blob_model.specs.Pending.{Pending}
+use Rattle.blob_model.specs.Places.{Place, same_place}
+use Rattle.blob_model.specs.SamePlace.{same_self}
+use Rattle.blob_model.specs.Stands.{StandsAt, replayed_at}
+use Rattle.blob_model.proofs.Durables.{crashed_logged}
 use Rattle.blob_faulty.specs.declared.storage.Storage.{Storage}
 use Rattle.blob_faulty.specs.Wrapper.{Adds, Stands, pending_of}
 

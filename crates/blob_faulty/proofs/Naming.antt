@@ -1,15 +1,15 @@
 -- What opens, removals and finished syncs make of the files that a wrapper stands for.
 use Rattle.std.proofs.Common.{◌≡◌, ℕ, List, Option, Some, None, sym, ap, subst, refl}
 use Rattle.std.specs.Prelude.{is_some}
-use Rattle.blob_base.specs.Places.{Place}
-use Rattle.blob_base.specs.Directory.{Directory, is_current}
-use Rattle.blob_base.specs.Durable.{Durable, durable_without}
-use Rattle.blob_base.specs.Files.{after_open, after_remove, ends_by}
-use Rattle.blob_base.specs.Opening.{IsOpened, removed}
-use Rattle.blob_base.specs.Stands.{StandsFor}
-use Rattle.blob_base.proofs.FileSteps.{stands_same, stands_done}
-use Rattle.blob_base.proofs.NameSteps.{stands_opened, stands_removed}
-use Rattle.blob_faulty.specs.declared.lists.Lists.{Lists}
+use Rattle.blob_model.specs.Places.{Place}
+use Rattle.blob_model.specs.Directory.{Directory, is_current}
+use Rattle.blob_model.specs.Durable.{Durable, durable_without}
+use Rattle.blob_model.specs.Files.{after_open, after_remove, ends_by}
+use Rattle.blob_model.specs.Opening.{IsOpened, removed}
+use Rattle.blob_model.specs.Stands.{StandsFor}
+use Rattle.blob_model.proofs.FileSteps.{stands_same, stands_done}
+use Rattle.blob_model.proofs.NameSteps.{stands_opened, stands_removed}
+use Rattle.blob_faults.specs.declared.lists.Lists.{Lists}
 use Rattle.blob_faulty.specs.declared.storage.Storage.{Storage}
 use Rattle.blob_faulty.specs.Names.{Steps, emptied}
 use Rattle.blob_faulty.specs.Wrapper.{inner_of, config_of, pending_of, next_write_of, next_marker_of, KeepsNumbers, KeepsRecords, finished_by}

@@ -1,8 +1,8 @@
 -- Lists that are changed at one place, after room was made for it.
 use Rattle.std.proofs.Common.{◌≡◌, List, cond, ◌∙◌, ap, ap₂}
-use Rattle.blob_base.specs.Durable.{with_at}
-use Rattle.blob_base.specs.Pending.{Pending}
-use Rattle.blob_base.specs.Places.{Place, same_place}
+use Rattle.blob_model.specs.Durable.{with_at}
+use Rattle.blob_model.specs.Pending.{Pending}
+use Rattle.blob_model.specs.Places.{Place, same_place}
 
 pub after_room : (f g h : Place → List Pending) (p o : Place) (x : List Pending → List Pending) → ((a : Place) → g a ≡ f a) → ((a : Place) → h a ≡ with_at g p (x (g p)) a) → p ≡ o → (a : Place) → h a ≡ with_at f o (x (f o)) a
 after_room f g h p o x room new here a =

@@ -4,27 +4,28 @@ use Rattle.std.specs.Prelude.{option_map, is_some, nat_le, Result, Ok, OnOk}
 use Rattle.std.proofs.lemmas.Bool.{cases_Bool, cases_eq, cond-true, cond-false, and_parts, leb-true, ltb-true, le-leb, lt-ltb}
 use Rattle.std.proofs.lemmas.Bool.Decides.{nat_tests}
 use Rattle.std.proofs.lemmas.List.{get_or-replicate, get_or-set_same, get_or-set_other, get_or_default, at_drop_more}
-use Rattle.blob_base.specs.Bytes.{overlay_by, overlay, between, reach}
-use Rattle.blob_base.specs.Directory.{Directory, is_current}
-use Rattle.blob_base.specs.Durable.{Durable, changed}
-use Rattle.blob_base.specs.Holes.{Holes, in_holes, need_in}
-use Rattle.blob_base.specs.Log.{Choices, Write}
-use Rattle.blob_base.specs.Order.{Held, held_at, has_list}
-use Rattle.blob_base.specs.Pending.{Pending, has_marker, replay, taken, end_of, ends}
-use Rattle.blob_base.specs.Places.{Place, same_place}
-use Rattle.blob_base.specs.Runs.{picked}
-use Rattle.blob_base.specs.SamePlace.{same_place_exact}
-use Rattle.blob_base.specs.Stands.{replayed_at}
-use Rattle.blob_base.proofs.Agrees.{overlay_same}
-use Rattle.blob_base.proofs.Bytes.{lies_in, reach_below}
+use Rattle.blob_model.specs.Bytes.{overlay_by, overlay, between, reach}
+use Rattle.blob_model.specs.Directory.{Directory, is_current}
+use Rattle.blob_model.specs.Durable.{Durable, changed}
+use Rattle.blob_model.specs.Holes.{Holes, in_holes, need_in}
+use Rattle.blob_model.specs.Log.{Choices, Write}
+use Rattle.blob_model.specs.Order.{Held, held_at, has_list}
+use Rattle.blob_model.specs.Pending.{Pending, has_marker, replay, taken, end_of, ends}
+use Rattle.blob_model.specs.Places.{Place, same_place}
+use Rattle.blob_model.specs.Runs.{picked}
+use Rattle.blob_model.specs.SamePlace.{same_place_exact}
+use Rattle.blob_model.specs.Stands.{replayed_at}
+use Rattle.blob_model.proofs.Agrees.{overlay_same}
+use Rattle.blob_model.proofs.Bytes.{lies_in, reach_below}
 use Rattle.blob_memory.specs.declared.storage.Storage.{Storage}
 use Rattle.blob_memory.specs.Contents.{Fits}
 use Rattle.blob_memory.specs.Store.{directory, HasCrashRoom}
-use Rattle.blob_faulty.specs.declared.entry.Entry.{Entry}
-use Rattle.blob_faulty.specs.declared.incarnation.Incarnation.{Incarnation}
-use Rattle.blob_faulty.specs.Lists.{held, held_by}
-use Rattle.blob_faulty.specs.Replays.{width, widest, widest_of_all, unmarked, IsReady}
-use Rattle.blob_faulty.specs.Views.{view, views}
+use Rattle.blob_faults.specs.declared.entry.Entry.{Entry}
+use Rattle.blob_faults.specs.declared.incarnation.Incarnation.{Incarnation}
+use Rattle.blob_faults.specs.Lists.{held, held_by}
+use Rattle.blob_faults.specs.Replays.{width, widest, widest_of_all, unmarked}
+use Rattle.blob_faulty.specs.Ready.{IsReady}
+use Rattle.blob_faults.specs.Views.{view, views}
 
 -- what a call ensures where it answered Ok
 pub ok_is : {T E P : Type 0} (r : Result T E) (x : T) → r ≡ Ok x → OnOk r P → P

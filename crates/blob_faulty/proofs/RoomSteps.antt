@@ -1,11 +1,11 @@
 -- Room is made in a list, the inner store does the call, and an entry goes into the room.
 use Rattle.std.proofs.Common.{◌≡◌, ◌++◌, ◌∷◌, [], ℕ, refl, sym, ◌∙◌, ap, subst}
-use Rattle.blob_base.specs.Durable.{with_at}
-use Rattle.blob_base.specs.Pending.{Pending}
-use Rattle.blob_base.specs.Places.{Place}
-use Rattle.blob_faulty.specs.declared.lists.Lists.{Lists}
+use Rattle.blob_model.specs.Durable.{with_at}
+use Rattle.blob_model.specs.Pending.{Pending}
+use Rattle.blob_model.specs.Places.{Place}
+use Rattle.blob_faults.specs.declared.lists.Lists.{Lists}
 use Rattle.blob_faulty.specs.declared.storage.Storage.{Storage}
-use Rattle.blob_faulty.specs.Lists.{held, list_of, IsAt}
+use Rattle.blob_faults.specs.Lists.{held, list_of, IsAt}
 use Rattle.blob_faulty.specs.Wrapper.{pending_of, next_write_of, next_marker_of, config_of, KeepsNumbers}
 use Rattle.blob_faulty.proofs.Pushing.{after_room}
 

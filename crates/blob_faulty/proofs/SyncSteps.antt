@@ -1,13 +1,13 @@
 -- What a sync, and a started one, make of the files that a wrapper stands for.
 use Rattle.std.proofs.Common.{◌≡◌, ◌++◌, ◌∷◌, [], ℕ, ◌+◌, List, refl}
 use Rattle.std.specs.Prelude.{Result, Ok, Err, OnOk, OnErr, IsSome, None}
-use Rattle.blob_base.specs.declared.error.Error.{Error}
-use Rattle.blob_base.specs.Directory.{Directory}
-use Rattle.blob_base.specs.Durable.{Durable, with_at, changed}
-use Rattle.blob_base.specs.Pending.{Marker}
-use Rattle.blob_base.specs.Places.{Place}
-use Rattle.blob_base.specs.Refusals.{refused}
-use Rattle.blob_base.proofs.FileSteps.{stands_synced, stands_begun}
+use Rattle.blob_header.specs.declared.error.Error.{Error}
+use Rattle.blob_model.specs.Directory.{Directory}
+use Rattle.blob_model.specs.Durable.{Durable, with_at, changed}
+use Rattle.blob_model.specs.Pending.{Marker}
+use Rattle.blob_model.specs.Places.{Place}
+use Rattle.blob_header.specs.Refusals.{refused}
+use Rattle.blob_model.proofs.FileSteps.{stands_synced, stands_begun}
 use Rattle.blob_faulty.specs.declared.storage.Storage.{Storage}
 use Rattle.blob_faulty.specs.Syncs.{Publishes, Starts}
 use Rattle.blob_faulty.specs.Wrapper.{pending_of, next_write_of, next_marker_of}

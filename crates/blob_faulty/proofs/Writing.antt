@@ -1,26 +1,26 @@
 -- Steps of writes, on what is seen of a handle and its wrapper.
 use Rattle.std.proofs.Common.{◌≡◌, ℕ, ◌+◌, ◌<◌, Bool, true, false, true≢false, List, [], ◌∷◌, ◌++◌, length, Option, Some, None, refl, sym, ◌∙◌, ap, ap₂, subst, arith}
 use Rattle.std.specs.Prelude.{Result, Ok, Err, OnErr}
-use Rattle.blob_base.specs.Bytes.{overlay, written}
-use Rattle.blob_base.specs.Directory.{Directory, is_current}
-use Rattle.blob_base.specs.Durable.{Durable, with_at, changed}
-use Rattle.blob_base.specs.Files.{Files, logged, all_logged}
-use Rattle.blob_base.specs.Log.{Entry, Loose, Kept, Resized, Write, need_of}
-use Rattle.blob_base.specs.Live.{live_written, all_written}
-use Rattle.blob_base.specs.Order.{held_at}
-use Rattle.blob_base.specs.Pending.{Waiting, Cut, laid}
-use Rattle.blob_base.specs.Places.{Place}
-use Rattle.blob_base.specs.Refusals.{Refusal, WriteFailed, refused}
-use Rattle.blob_base.specs.declared.error.Error.{Error}
+use Rattle.blob_model.specs.Bytes.{overlay, written}
+use Rattle.blob_model.specs.Directory.{Directory, is_current}
+use Rattle.blob_model.specs.Durable.{Durable, with_at, changed}
+use Rattle.blob_model.specs.Files.{Files, logged, all_logged}
+use Rattle.blob_model.specs.Log.{Entry, Loose, Kept, Resized, Write, need_of}
+use Rattle.blob_model.specs.Live.{live_written, all_written}
+use Rattle.blob_model.specs.Order.{held_at}
+use Rattle.blob_model.specs.Pending.{Waiting, Cut, laid}
+use Rattle.blob_model.specs.Places.{Place}
+use Rattle.blob_header.specs.Refusals.{Refusal, WriteFailed, refused}
+use Rattle.blob_header.specs.declared.error.Error.{Error}
 use Rattle.blob_base.specs.declared.storage.Durable as stores
 use Rattle.blob_base.specs.declared.storage.Blob as handles
-use Rattle.blob_base.specs.Runs.{Run, kept_runs}
-use Rattle.blob_base.specs.Stands.{StandsFor}
-use Rattle.blob_base.proofs.FileSteps.{stands_plain, stands_cut, stands_range, stands_same}
+use Rattle.blob_model.specs.Runs.{Run, kept_runs}
+use Rattle.blob_model.specs.Stands.{StandsFor}
+use Rattle.blob_model.proofs.FileSteps.{stands_plain, stands_cut, stands_range, stands_same}
 use Rattle.blob_faulty.proofs.Adding.{at_each}
 use Rattle.blob_faulty.specs.declared.blob.Blob.{Blob}
 use Rattle.blob_faulty.specs.declared.storage.Storage.{Storage}
-use Rattle.blob_faulty.specs.Recorded.{size_of_runs}
+use Rattle.blob_faults.specs.Recorded.{size_of_runs}
 use Rattle.blob_faulty.specs.Wrapper.{pending_of, Stands, Adds}
 use Rattle.blob_faulty.specs.Writes.{View, seen, IsFor, Logs, SameRecords, HasBytes, Unchanged, Effect, Recorded, LeavesRuns, durable_written, all_changed, live_of_runs, laid_runs}
 

@@ -1,12 +1,12 @@
 -- What an open that is admitted at once leaves of a wrapper.
 use Rattle.std.specs.Prelude.{◌≡◌, ℕ, List, Option, None, IsSome, MatchBool}
 use Rattle.rand_core.specs.Stream.{Stream}
-use Rattle.blob_base.specs.Directory.{Directory, current}
-use Rattle.blob_base.specs.Places.{Place}
-use Rattle.blob_base.specs.Refusals.{Refusal}
-use Rattle.blob_base.specs.Stands.{retired}
+use Rattle.blob_model.specs.Directory.{Directory, current}
+use Rattle.blob_model.specs.Places.{Place}
+use Rattle.blob_header.specs.Refusals.{Refusal}
+use Rattle.blob_model.specs.Stands.{retired}
 use Rattle.blob_faulty.specs.declared.storage.Storage.{Storage}
-use Rattle.blob_faulty.specs.Faults.{draw}
+use Rattle.blob_faults.specs.Faults.{draw}
 use Rattle.blob_faulty.specs.Wrapper.{inner_of, rng_of, config_of, pending_of, KeepsNumbers}
 
 -- by its answer and what its open may leave of the inner store

@@ -1,10 +1,10 @@
 -- What a wrapper's calls may answer, from what their draws come to and what the inner store's calls may answer.
 use Rattle.std.specs.Prelude.{◌≡◌, ◌≢◌, ◌⊎◌, ℕ, ◌+◌, ◌-◌, ◌^◌, Bool, true, false, ◌&&◌, List, [], ◌∷◌, length, Option, Some, None, is_some, IsSome, MatchBool, ◌==◌}
 use Rattle.rand_core.specs.Stream.{Stream}
-use Rattle.blob_base.specs.Refusals.{Refusal, Memory, Injected, OffsetOverflow, WriteFailed, GenerationsExhausted}
-use Rattle.blob_base.specs.Runs.{Run, runs}
-use Rattle.blob_faulty.specs.declared.config.Config.{Config}
-use Rattle.blob_faulty.specs.Faults.{WriteFate, Done, Unsynced, Failed, ResizeFate, Resizes, Stays, Reaches, write_fate, retention, is_nothing, is_uncounted}
+use Rattle.blob_header.specs.Refusals.{Refusal, Memory, Injected, OffsetOverflow, WriteFailed, GenerationsExhausted}
+use Rattle.blob_model.specs.Runs.{Run, runs}
+use Rattle.blob_faults.specs.declared.config.Config.{Config}
+use Rattle.blob_faults.specs.Faults.{WriteFate, Done, Unsynced, Failed, ResizeFate, Resizes, Stays, Reaches, write_fate, retention, is_nothing, is_uncounted}
 
 -- which answers a call may have: a refusal, or none for Ok
 abbrev pub Allowed : Type 1

@@ -1,7 +1,7 @@
 -- Rates whose draws are certain.
 use Rattle.std.specs.Prelude.{◌≡◌, ◌<◌, Option, Some, None}
-use Rattle.blob_base.specs.Rates.{Rate}
-use Rattle.blob_faulty.specs.declared.config.ResizeConfig.{ResizeConfig}
+use Rattle.blob_model.specs.Rates.{Rate}
+use Rattle.blob_faults.specs.declared.config.ResizeConfig.{ResizeConfig}
 
 -- not set, or zero
 abbrev pub IsNever : Option Rate → Type 0

@@ -1,16 +1,16 @@
 -- What a call through a handle leaves of it and of its wrapper besides files.
 use Rattle.std.specs.Prelude.{◌≡◌, ◌≢◌, ℕ, ◌+◌, Bool, true, List, [], ◌∷◌, ◌++◌, Option, Some, None, IsSome}
 use Rattle.rand_core.specs.Stream.{Stream}
-use Rattle.blob_base.specs.Directory.{Directory}
-use Rattle.blob_base.specs.Durable.{Durable, with_at}
+use Rattle.blob_model.specs.Directory.{Directory}
+use Rattle.blob_model.specs.Durable.{Durable, with_at}
 use Rattle.blob_base.specs.HandleCalls.{HandleCall, Read, Write, Resize, Sync, StartSync, Reserve}
-use Rattle.blob_base.specs.Pending.{Marker}
-use Rattle.blob_base.specs.Places.{Place}
-use Rattle.blob_base.specs.Refusals.{Refusal, Memory}
+use Rattle.blob_model.specs.Pending.{Marker}
+use Rattle.blob_model.specs.Places.{Place}
+use Rattle.blob_header.specs.Refusals.{Refusal, Memory}
 use Rattle.blob_faulty.specs.declared.storage.Storage.{Storage}
 use Rattle.blob_faulty.specs.declared.blob.Blob.{Blob}
-use Rattle.blob_faulty.specs.Faults.{draw, ResizeFate, resize_fate, after_write}
-use Rattle.blob_faulty.specs.Recorded.{recorded_write, recorded_resize, live_of_write, live_of_resize, size_of_write, size_of_resize}
+use Rattle.blob_faults.specs.Faults.{draw, ResizeFate, resize_fate, after_write}
+use Rattle.blob_faults.specs.Recorded.{recorded_write, recorded_resize, live_of_write, live_of_resize, size_of_write, size_of_resize}
 use Rattle.blob_faulty.specs.Syncs.{Publishes, Starts}
 use Rattle.blob_faulty.specs.Wrapper.{inner_of, rng_of, config_of, next_write_of, next_marker_of, pending_of, inside, size_of, KeepsNumbers, KeepsRecords, Adds}
 

@@ -1,10 +1,10 @@
 -- Bytes that a wrapper keeps: no crash can lose them.
 use Rattle.std.specs.Prelude.{◌≡◌, ℕ, ◌<◌, List, [], Some, unwrap_or}
-use Rattle.blob_base.specs.Directory.{Directory, current}
-use Rattle.blob_base.specs.Durable.{Durable}
-use Rattle.blob_base.specs.Files.{Files}
-use Rattle.blob_base.specs.Persistence.{AreFixed}
-use Rattle.blob_base.specs.Places.{Place}
+use Rattle.blob_model.specs.Directory.{Directory, current}
+use Rattle.blob_model.specs.Durable.{Durable}
+use Rattle.blob_model.specs.Files.{Files}
+use Rattle.blob_model.specs.Persistence.{AreFixed}
+use Rattle.blob_model.specs.Places.{Place}
 use Rattle.blob_faulty.specs.declared.storage.Storage.{Storage}
 use Rattle.blob_faulty.specs.Wrapper.{Stands, inner_of}
 use Rattle.blob_memory.specs.Store.{directory, durable}

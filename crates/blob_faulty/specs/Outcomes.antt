@@ -1,10 +1,10 @@
 -- What a crash may leave of an incarnation, by its durable bytes and what is pending of it.
 use Rattle.std.specs.Prelude.{◌≡◌, ℕ, ◌≤◌, max, Bool, List, length, Option}
-use Rattle.blob_base.specs.Bytes.{overlay_by, resized}
-use Rattle.blob_base.specs.Durable.{Durable}
-use Rattle.blob_base.specs.Log.{Entry, Choices, crashed}
-use Rattle.blob_base.specs.Places.{Place}
-use Rattle.blob_base.specs.Stands.{replayed_at}
+use Rattle.blob_model.specs.Bytes.{overlay_by, resized}
+use Rattle.blob_model.specs.Durable.{Durable}
+use Rattle.blob_model.specs.Log.{Entry, Choices, crashed}
+use Rattle.blob_model.specs.Places.{Place}
+use Rattle.blob_model.specs.Stands.{replayed_at}
 use Rattle.blob_faulty.specs.declared.storage.Storage.{Storage}
 use Rattle.blob_faulty.specs.Wrapper.{inner_of, pending_of}
 

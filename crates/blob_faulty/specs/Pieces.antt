@@ -1,9 +1,9 @@
 -- Runs of a failed write that are still to be laid.
 use Rattle.std.specs.Prelude.{ℕ, ◌+◌, ◌≤◌, true, List, [], ◌∷◌, length, map, reverse, Option}
-use Rattle.blob_base.specs.Holes.{Holes}
-use Rattle.blob_base.specs.Live.{live_after}
-use Rattle.blob_base.specs.Refusals.{Refusal}
-use Rattle.blob_base.specs.Runs.{Run}
+use Rattle.blob_model.specs.Holes.{Holes}
+use Rattle.blob_model.specs.Live.{live_after}
+use Rattle.blob_header.specs.Refusals.{Refusal}
+use Rattle.blob_model.specs.Runs.{Run}
 use Rattle.blob_faulty.specs.declared.write_runs.Piece.{Piece}
 
 abbrev pub run_of : Piece → Run

@@ -1,9 +1,9 @@
 -- What a sync makes of the files that a wrapper stands for.
 use Rattle.std.specs.Prelude.{ℕ, ◌<◌, List}
-use Rattle.blob_base.specs.Directory.{Directory}
-use Rattle.blob_base.specs.Durable.{Durable}
-use Rattle.blob_base.specs.Files.{Files, synced, started}
-use Rattle.blob_base.specs.Places.{Place}
+use Rattle.blob_model.specs.Directory.{Directory}
+use Rattle.blob_model.specs.Durable.{Durable}
+use Rattle.blob_model.specs.Files.{Files, synced, started}
+use Rattle.blob_model.specs.Places.{Place}
 use Rattle.blob_faulty.specs.declared.storage.Storage.{Storage}
 use Rattle.blob_faulty.specs.Wrapper.{Stands}
 

@@ -1,16 +1,16 @@
 -- A wrapper, seen as its inner store, its configuration, and what it has recorded.
 use Rattle.std.specs.Prelude.{◌≡◌, ℕ, ◌<◌, List, Option, Some, None}
-use Rattle.blob_base.specs.Directory.{Directory}
-use Rattle.blob_base.specs.Durable.{Durable}
-use Rattle.blob_base.specs.Files.{Files, all_logged}
-use Rattle.blob_base.specs.Log.{Entry}
-use Rattle.blob_base.specs.Pending.{Pending, finished}
-use Rattle.blob_base.specs.Places.{Place}
-use Rattle.blob_base.specs.Stands.{StandsFor}
-use Rattle.blob_faulty.specs.declared.config.Config.{Config}
+use Rattle.blob_model.specs.Directory.{Directory}
+use Rattle.blob_model.specs.Durable.{Durable}
+use Rattle.blob_model.specs.Files.{Files, all_logged}
+use Rattle.blob_model.specs.Log.{Entry}
+use Rattle.blob_model.specs.Pending.{Pending, finished}
+use Rattle.blob_model.specs.Places.{Place}
+use Rattle.blob_model.specs.Stands.{StandsFor}
+use Rattle.blob_faults.specs.declared.config.Config.{Config}
 use Rattle.blob_faulty.specs.declared.storage.Storage.{Storage}
 use Rattle.blob_faulty.specs.declared.blob.Blob.{Blob}
-use Rattle.blob_faulty.specs.Lists.{list_of}
+use Rattle.blob_faults.specs.Lists.{list_of}
 
 abbrev pub inner_of : {S R O : Type 0} → Storage S R O → S
 inner_of w = w.inner

@@ -1,26 +1,26 @@
 -- What a write makes of a handle and of the wrapper that it is used with.
 use Rattle.std.specs.Prelude.{◌≡◌, ℕ, ◌<◌, ◌+◌, max, Bool, true, false, List, [], ◌∷◌, length, Option, Some, None, IsSome}
-use Rattle.blob_base.specs.Bytes.{overlay, resized}
-use Rattle.blob_base.specs.Directory.{Directory, is_current}
-use Rattle.blob_base.specs.Durable.{Durable, changed, with_at}
-use Rattle.blob_base.specs.Files.{Files, all_logged}
-use Rattle.blob_base.specs.Live.{live_after, live_written, all_written}
-use Rattle.blob_base.specs.Log.{Entry}
-use Rattle.blob_base.specs.Order.{Held, held_at}
-use Rattle.blob_base.specs.Pending.{Pending}
-use Rattle.blob_base.specs.Places.{Place}
-use Rattle.blob_base.specs.Refusals.{Refusal, Memory}
-use Rattle.blob_base.specs.Runs.{Run, kept_runs}
-use Rattle.blob_base.specs.Stands.{StandsFor}
+use Rattle.blob_model.specs.Bytes.{overlay, resized}
+use Rattle.blob_model.specs.Directory.{Directory, is_current}
+use Rattle.blob_model.specs.Durable.{Durable, changed, with_at}
+use Rattle.blob_model.specs.Files.{Files, all_logged}
+use Rattle.blob_model.specs.Live.{live_after, live_written, all_written}
+use Rattle.blob_model.specs.Log.{Entry}
+use Rattle.blob_model.specs.Order.{Held, held_at}
+use Rattle.blob_model.specs.Pending.{Pending}
+use Rattle.blob_model.specs.Places.{Place}
+use Rattle.blob_header.specs.Refusals.{Refusal, Memory}
+use Rattle.blob_model.specs.Runs.{Run, kept_runs}
+use Rattle.blob_model.specs.Stands.{StandsFor}
 use Rattle.blob_base.specs.declared.storage.Durable as stores
 use Rattle.blob_base.specs.declared.storage.Blob as handles
 use Rattle.blob_faulty.specs.declared.blob.Blob.{Blob}
-use Rattle.blob_faulty.specs.declared.config.Config.{Config}
+use Rattle.blob_faults.specs.declared.config.Config.{Config}
 use Rattle.blob_faulty.specs.declared.storage.Storage.{Storage}
-use Rattle.blob_faulty.specs.Lists.{held}
+use Rattle.blob_faults.specs.Lists.{held}
 use Rattle.blob_faulty.specs.Pieces.{first_after}
-use Rattle.blob_faulty.specs.Faults.{WriteFate, Done, ResizeFate, retention}
-use Rattle.blob_faulty.specs.Recorded.{loose, size_of_runs, recorded_by, live_by, size_by, recorded_resize, live_of_resize, size_of_resize}
+use Rattle.blob_faults.specs.Faults.{WriteFate, Done, ResizeFate, retention}
+use Rattle.blob_faults.specs.Recorded.{loose, size_of_runs, recorded_by, live_by, size_by, recorded_resize, live_of_resize, size_of_resize}
 
 -- a handle and its wrapper, over an inner store
 pub record View (R : Type 0) : Type 0 where

@@ -1,17 +1,17 @@
 //! What is pending of a name is retired.
 ghost use Rattle.std.specs.Prelude.{◌≡◌, ℕ, List, Some, filter, not};
-ghost use Rattle.blob_base.specs.Directory.{current};
-ghost use Rattle.blob_base.specs.Files.{Files, admitted, ends_by};
-ghost use Rattle.blob_base.specs.Places.{Place};
-ghost use Rattle.blob_base.specs.Stands.{retired};
+ghost use Rattle.blob_model.specs.Directory.{current};
+ghost use Rattle.blob_model.specs.Files.{Files, admitted, ends_by};
+ghost use Rattle.blob_model.specs.Places.{Place};
+ghost use Rattle.blob_model.specs.Stands.{retired};
 ghost use Rattle.blob_faulty.specs.Keeps.{Keeps};
 ghost use Rattle.blob_faulty.specs.Wrapper.{KeepsNumbers, Stands, inner_of, rng_of, pending_of};
 ghost use Rattle.blob_memory.specs.Store.{directory, durable};
 
-use crate::incarnation::Incarnation;
 use crate::retired::Retired;
 use crate::storage::Storage;
 use blob_base::Durable;
+use blob_faults::incarnation::Incarnation;
 use blob_memory::Origin;
 
 /// Whether an origin names the current incarnation of the name.

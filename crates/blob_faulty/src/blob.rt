@@ -1,26 +1,26 @@
 //! A handle of the wrapper.
 ghost use Rattle.std.specs.Prelude.{◌≡◌, ◌≢◌, ◌+◌, ◌≤◌, ◌++◌, ◌∷◌, List, ℕ, [], Bool, true, false, Option, Some, None, IsSome, OnOk, OnErr, IfOk, length, take, drop};
 ghost use Rattle.std.proofs.lemmas.Bool.{false≢true};
-ghost use Rattle.blob_base.specs.Bytes.{overlay, resized};
-ghost use Rattle.blob_base.specs.Directory.{is_current};
-ghost use Rattle.blob_base.specs.Durable.{changed, with_at};
+ghost use Rattle.blob_model.specs.Bytes.{overlay, resized};
+ghost use Rattle.blob_model.specs.Directory.{is_current};
+ghost use Rattle.blob_model.specs.Durable.{changed, with_at};
 ghost use Rattle.blob_base.specs.Handles.{outcome_of, marker_of};
-ghost use Rattle.blob_base.specs.Live.{live_written};
+ghost use Rattle.blob_model.specs.Live.{live_written};
 ghost use Rattle.blob_base.specs.Options.{is_sync};
-ghost use Rattle.blob_base.specs.Pending.{Marker};
-ghost use Rattle.blob_base.specs.Places.{Place};
-ghost use Rattle.blob_base.specs.Refusals.{Refusal, refused, Memory, IsMemory};
+ghost use Rattle.blob_model.specs.Pending.{Marker};
+ghost use Rattle.blob_model.specs.Places.{Place};
+ghost use Rattle.blob_header.specs.Refusals.{Refusal, refused, Memory, IsMemory};
 ghost use Rattle.blob_faulty.specs.Answers.{or_memory, injected_or, allows_write as answers_write, allows_resize as answers_resize, allows_start};
-ghost use Rattle.blob_faulty.specs.Faults.{Done, draw, write_fate, resize_fate, after_write};
+ghost use Rattle.blob_faults.specs.Faults.{Done, draw, write_fate, resize_fate, after_write};
 ghost use Rattle.blob_faulty.specs.HandleLeaves.{HandleLeaves};
-ghost use Rattle.blob_faulty.specs.Recorded.{recorded_write, recorded_resize, live_of_write, live_of_resize, size_of_write, size_of_resize};
+ghost use Rattle.blob_faults.specs.Recorded.{recorded_write, recorded_resize, live_of_write, live_of_resize, size_of_write, size_of_resize};
 ghost use Rattle.blob_faulty.specs.Syncs.{Publishes, Starts};
 ghost use Rattle.blob_faulty.specs.Wrapper.{inner_of, rng_of, config_of, next_write_of, next_marker_of, pending_of, inside, size_of, KeepsRecords, KeepsNumbers, Adds};
 ghost use Rattle.blob_faulty.specs.AnswerLaws.{write_none, write_empty};
 
-use crate::faults::{draw_resize, draw_write, draws};
 use crate::storage::Storage;
 use blob_base::{Error, Handle, IoBufs, IoBufsMut, ReadOptions, WriteOptions};
+use blob_faults::faults::{draw_resize, draw_write, draws};
 use rand_core::Rng;
 
 /// A handle on a blob through the wrapper, which tracks the size that the wrapper last knew.

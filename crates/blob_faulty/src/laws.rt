@@ -1,14 +1,14 @@
 //! What a wrapper's handles may answer where their draws are certain, and what a call that records nothing keeps.
 ghost use Rattle.std.specs.Prelude.{◌≡◌, ◌<◌, ◌-◌, ◌^◌, ◌↔◌, ℕ, List, Bool, true, false, Option, Some, None, is_some};
-ghost use Rattle.blob_base.specs.Directory.{Directory};
-ghost use Rattle.blob_base.specs.Durable.{Durable};
-ghost use Rattle.blob_base.specs.Files.{Files};
-ghost use Rattle.blob_base.specs.Refusals.{Refusal, Injected};
+ghost use Rattle.blob_model.specs.Directory.{Directory};
+ghost use Rattle.blob_model.specs.Durable.{Durable};
+ghost use Rattle.blob_model.specs.Files.{Files};
+ghost use Rattle.blob_header.specs.Refusals.{Refusal, Injected};
 ghost use Rattle.blob_faulty.specs.declared.blob.Blob.{Blob};
 ghost use Rattle.blob_faulty.specs.declared.storage.Storage.{Storage};
 ghost use Rattle.blob_faulty.specs.Answers.{or_memory, lacks_number};
 ghost use Rattle.blob_faulty.specs.Certain.{IsNever, IsAlways, resize_failure};
-ghost use Rattle.blob_faulty.specs.Faults.{write_failure, retention, is_nothing, is_uncounted};
+ghost use Rattle.blob_faults.specs.Faults.{write_failure, retention, is_nothing, is_uncounted};
 ghost use Rattle.blob_faulty.specs.Wrapper.{inner_of, config_of, next_write_of, next_marker_of, inside, KeepsRecords, Stands};
 
 pub mod current_handles;

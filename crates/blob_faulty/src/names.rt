@@ -1,23 +1,23 @@
 //! Opens, removals, scans and finished syncs of the wrapper.
 ghost use Rattle.std.specs.Prelude.{◌≡◌, ◌≤◌, ℕ, Bool, true, false, Option, Some, None, is_some, IsTrue, OnOk, OnErr, IfOk, length, map, option_copied};
 ghost use Rattle.std.specs.Range.{range_inclusive_start, range_inclusive_end, range_inclusive_exhausted};
-ghost use Rattle.blob_base.specs.Durable.{durable_without};
-ghost use Rattle.blob_base.specs.Files.{after_open, after_remove, ends_by};
+ghost use Rattle.blob_model.specs.Durable.{durable_without};
+ghost use Rattle.blob_model.specs.Files.{after_open, after_remove, ends_by};
 ghost use Rattle.blob_base.specs.Handles.{outcome_of, marker_of};
 ghost use Rattle.blob_base.specs.Names.{AreNames};
-ghost use Rattle.blob_base.specs.Opening.{IsOpened, removed};
-ghost use Rattle.blob_base.specs.Places.{Place};
-ghost use Rattle.blob_base.specs.Refusals.{refused};
+ghost use Rattle.blob_model.specs.Opening.{IsOpened, removed};
+ghost use Rattle.blob_model.specs.Places.{Place};
+ghost use Rattle.blob_header.specs.Refusals.{refused};
 ghost use Rattle.blob_faulty.specs.Answers.{injected_or};
-ghost use Rattle.blob_faulty.specs.Faults.{draw};
+ghost use Rattle.blob_faults.specs.Faults.{draw};
 ghost use Rattle.blob_faulty.specs.Names.{OpenLeaves, RemoveLeaves, ScanLeaves, FinishLeaves, Steps, emptied};
 ghost use Rattle.blob_faulty.specs.Wrapper.{inner_of, rng_of, config_of, pending_of, KeepsNumbers, KeepsRecords, finished_by, inside, size_of};
 
 use crate::blob::Blob;
-use crate::faults::draws;
 use crate::retired::Retired;
 use crate::storage::Storage;
 use blob_base::{BlobVersion, Error, Handle};
+use blob_faults::faults::draws;
 use rand_core::Rng;
 use std::ops::RangeInclusive;
 

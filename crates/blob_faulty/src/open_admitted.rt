@@ -1,15 +1,15 @@
 //! Opens that are admitted at once.
 ghost use Rattle.std.specs.Prelude.{◌≡◌, ◌≤◌, false, ℕ, List, OnOk, OnErr, IfOk, length};
 ghost use Rattle.std.specs.Range.{range_inclusive_start, range_inclusive_end, range_inclusive_exhausted};
-ghost use Rattle.blob_base.specs.Files.{Files, after_open, admitted};
-ghost use Rattle.blob_base.specs.Fronts.{BeginsWith};
-ghost use Rattle.blob_base.specs.Opened.{IsNamed};
-ghost use Rattle.blob_base.specs.Opening.{IsOpened};
-ghost use Rattle.blob_base.specs.Places.{Place};
-ghost use Rattle.blob_base.specs.Refusals.{refused};
+ghost use Rattle.blob_model.specs.Files.{Files, after_open, admitted};
+ghost use Rattle.blob_header.specs.Fronts.{BeginsWith};
+ghost use Rattle.blob_model.specs.Opened.{IsNamed};
+ghost use Rattle.blob_model.specs.Opening.{IsOpened};
+ghost use Rattle.blob_model.specs.Places.{Place};
+ghost use Rattle.blob_header.specs.Refusals.{refused};
 ghost use Rattle.blob_faulty.specs.Admitted.{AdmittedOpenLeaves};
 ghost use Rattle.blob_faulty.specs.Answers.{injected_or};
-ghost use Rattle.blob_faulty.specs.Faults.{draw};
+ghost use Rattle.blob_faults.specs.Faults.{draw};
 ghost use Rattle.blob_faulty.specs.Keeps.{IsFor, Keeps};
 ghost use Rattle.blob_faulty.specs.Names.{Steps};
 ghost use Rattle.blob_faulty.specs.Wrapper.{inner_of, rng_of, config_of, inside, size_of};

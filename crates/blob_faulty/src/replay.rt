@@ -1,28 +1,29 @@
 //! What a crash makes of the durable bytes. Where there is room for it, no memory is taken.
 ghost use Rattle.std.specs.Prelude.{◌≡◌, ◌<◌, ◌≤◌, ◌+◌, ◌^◌, ℕ, true, false, not, ◌&&◌, length, replicate, slice_index_or, vec_capacity, All};
-ghost use Rattle.blob_base.specs.Bytes.{between, overlay_by};
-ghost use Rattle.blob_base.specs.Draws.{chosen_by};
-ghost use Rattle.blob_base.specs.Durable.{changed};
-ghost use Rattle.blob_base.specs.Holes.{in_holes};
-ghost use Rattle.blob_base.specs.Order.{ArePlacesApart};
-ghost use Rattle.blob_base.specs.Pending.{has_marker, replay, replayed, end_of, ends};
-ghost use Rattle.blob_base.specs.Places.{Place};
-ghost use Rattle.blob_base.specs.Runs.{picked};
-ghost use Rattle.blob_base.specs.Stands.{replayed_at};
-ghost use Rattle.blob_faulty.specs.Lists.{held, held_by, list_of};
-ghost use Rattle.blob_faulty.specs.Ranges.{ranges};
-ghost use Rattle.blob_faulty.specs.Replays.{width, widest, widest_of_all, IsReady, KeepsRoom, KeepsRooms, CanReplay};
-ghost use Rattle.blob_faulty.specs.Rows.{rows_in, AreNumbered};
-ghost use Rattle.blob_faulty.specs.Views.{view, views};
+ghost use Rattle.blob_model.specs.Bytes.{between, overlay_by};
+ghost use Rattle.blob_model.specs.Draws.{chosen_by};
+ghost use Rattle.blob_model.specs.Durable.{changed};
+ghost use Rattle.blob_model.specs.Holes.{in_holes};
+ghost use Rattle.blob_model.specs.Order.{ArePlacesApart};
+ghost use Rattle.blob_model.specs.Pending.{has_marker, replay, replayed, end_of, ends};
+ghost use Rattle.blob_model.specs.Places.{Place};
+ghost use Rattle.blob_model.specs.Runs.{picked};
+ghost use Rattle.blob_model.specs.Stands.{replayed_at};
+ghost use Rattle.blob_faults.specs.Lists.{held, held_by, list_of};
+ghost use Rattle.blob_faults.specs.Ranges.{ranges};
+ghost use Rattle.blob_faults.specs.Replays.{width, widest, widest_of_all};
+ghost use Rattle.blob_faulty.specs.Ready.{IsReady, KeepsRoom, KeepsRooms, CanReplay};
+ghost use Rattle.blob_faults.specs.Rows.{rows_in, AreNumbered};
+ghost use Rattle.blob_faults.specs.Views.{view, views};
 ghost use Rattle.blob_memory.specs.Store.{directory, durable, HasCrashRoom};
 
-use crate::entries::unmarked;
-use crate::entry::Entry;
-use crate::holes::Hole;
-use crate::incarnation::Incarnation;
-use crate::rows::choices_in;
-use crate::write::PendingWrite;
 use blob_base::{Durable, IoBufs};
+use blob_faults::entries::unmarked;
+use blob_faults::entry::Entry;
+use blob_faults::holes::Hole;
+use blob_faults::incarnation::Incarnation;
+use blob_faults::rows::choices_in;
+use blob_faults::write::PendingWrite;
 use blob_memory::Origin;
 
 /// A row's choices for so many bytes, none past its end.

@@ -1,18 +1,18 @@
 //! How a resize goes to the inner blob, and what it records.
 ghost use Rattle.std.specs.Prelude.{◌≡◌, [], ◌∷◌};
-ghost use Rattle.blob_base.specs.Log.{Resized};
-ghost use Rattle.blob_base.specs.Refusals.{refused};
+ghost use Rattle.blob_model.specs.Log.{Resized};
+ghost use Rattle.blob_header.specs.Refusals.{refused};
 ghost use Rattle.blob_faulty.specs.Answers.{or_memory, allows_resize};
-ghost use Rattle.blob_faulty.specs.Fates.{resize_fate_of};
+ghost use Rattle.blob_faults.specs.Fates.{resize_fate_of};
 ghost use Rattle.blob_faulty.specs.Wrapper.{KeepsNumbers};
 ghost use Rattle.blob_faulty.specs.Writes.{Writes, Records, ResizesBy, cut};
 
 use crate::blob::Blob;
-use crate::entry::Entry;
-use crate::faults::ResizeFate;
-use crate::room::Room;
 use crate::storage::Storage;
 use blob_base::Error;
+use blob_faults::entry::Entry;
+use blob_faults::faults::ResizeFate;
+use blob_faults::room::Room;
 
 impl<B> Blob<B> {
     /// A resize of which nothing is recorded.

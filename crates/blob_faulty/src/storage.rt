@@ -1,16 +1,16 @@
 //! The wrapper of a store.
 ghost use Rattle.std.specs.Prelude.{◌≡◌, ℕ, List, [], Some};
 ghost use Rattle.std.specs.Borrow.{sem};
-ghost use Rattle.blob_base.specs.Files.{wrapped};
-ghost use Rattle.blob_base.specs.Places.{Place};
+ghost use Rattle.blob_model.specs.Files.{wrapped};
+ghost use Rattle.blob_model.specs.Places.{Place};
 ghost use Rattle.blob_faulty.specs.Keeps.{found_in};
 ghost use Rattle.blob_faulty.specs.Lends.{LendsConfig, with_config};
 ghost use Rattle.blob_faulty.specs.Names.{Steps};
 ghost use Rattle.blob_faulty.specs.Wrapper.{inner_of, rng_of, config_of, next_write_of, next_marker_of, pending_of, Stands};
 
-use crate::config::Config;
-use crate::lists::Lists;
 use blob_base::Durable;
+use blob_faults::config::Config;
+use blob_faults::lists::Lists;
 use rand_core::Rng;
 use std::alloc::Global;
 

@@ -1,15 +1,15 @@
 //! How a sync goes to the inner blob, and what it retires.
 ghost use Rattle.std.specs.Prelude.{◌≡◌, ◌<◌, ◌+◌, ◌-◌, ◌^◌, ◌++◌, [], ◌∷◌, OnOk, IfOk};
-ghost use Rattle.blob_base.specs.Pending.{Marker};
-ghost use Rattle.blob_base.specs.Refusals.{refused};
+ghost use Rattle.blob_model.specs.Pending.{Marker};
+ghost use Rattle.blob_header.specs.Refusals.{refused};
 ghost use Rattle.blob_faulty.specs.Answers.{or_memory};
 ghost use Rattle.blob_faulty.specs.Wrapper.{pending_of};
 ghost use Rattle.blob_faulty.specs.Writes.{Syncs, Retires};
 
 use crate::blob::Blob;
-use crate::room::Room;
 use crate::storage::Storage;
 use blob_base::Error;
+use blob_faults::room::Room;
 
 impl<B> Blob<B> {
     /// A sync of the inner blob. Done, it retires what is pending of its incarnation.

@@ -2,11 +2,11 @@
 ghost use Rattle.std.specs.Prelude.{◌≡◌, ◌<◌, ◌+◌, ◌^◌, length};
 
 use crate::blob::Blob;
-use crate::room::Room;
-use crate::runs::Span;
 use crate::storage::Storage;
 use blob_base::laws::overlays::runs_are_choices;
 use blob_base::{Error, IoBufs, WriteOptions};
+use blob_faults::room::Room;
+use blob_faults::runs::Span;
 
 /// A run of a write's bytes, and their copy for the pending list.
 #[derive(Drop)]
@@ -21,11 +21,11 @@ pub struct Piece {
 
 impl Piece {
     ghost use Rattle.std.specs.Prelude.{◌≤◌, List, ℕ, [], All, IfOk, OnErr};
-    ghost use Rattle.blob_base.specs.Refusals.{IsMemory};
-    ghost use Rattle.blob_base.specs.Runs.{runs};
+    ghost use Rattle.blob_header.specs.Refusals.{IsMemory};
+    ghost use Rattle.blob_model.specs.Runs.{runs};
     ghost use Rattle.blob_faulty.specs.Answers.{last_end};
     ghost use Rattle.blob_faulty.specs.Pieces.{run_of, runs_in, first_start};
-    ghost use Rattle.blob_faulty.specs.Spans.{piece, pieces, ends_by};
+    ghost use Rattle.blob_faults.specs.Spans.{piece, pieces, ends_by};
 
     /// A span of the bytes of a write at `offset`.
     fn of(offset: u64, bytes: &Vec<u8>, span: Span) -> Result<Piece, Error>
@@ -91,11 +91,11 @@ impl Piece {
 
 impl<B> Blob<B> {
     ghost use Rattle.std.specs.Prelude.{◌≢◌, ◌≤◌, ℕ, List, [], Bool, true, false, Option, Some, OnOk, OnErr, IfOk, All};
-    ghost use Rattle.blob_base.specs.Directory.{is_current};
-    ghost use Rattle.blob_base.specs.Refusals.{Refusal, refused, WriteFailed};
-    ghost use Rattle.blob_base.specs.Runs.{runs, AreRunsApart};
+    ghost use Rattle.blob_model.specs.Directory.{is_current};
+    ghost use Rattle.blob_header.specs.Refusals.{Refusal, refused, WriteFailed};
+    ghost use Rattle.blob_model.specs.Runs.{runs, AreRunsApart};
     ghost use Rattle.blob_faulty.specs.Answers.{or_memory, allows_laid, allows_runs, last_end};
-    ghost use Rattle.blob_faulty.specs.Lists.{HasRoomAt};
+    ghost use Rattle.blob_faults.specs.Lists.{HasRoomAt};
     ghost use Rattle.blob_faulty.specs.Pieces.{run_of, runs_in, extents, EndsWithin};
     ghost use Rattle.blob_faulty.specs.Writes.{RecordsRuns, Keeps};
 

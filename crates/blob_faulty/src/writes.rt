@@ -1,25 +1,25 @@
 //! How a write goes to the inner blob, and what it records.
 ghost use Rattle.std.specs.Prelude.{◌≡◌, ◌≢◌, ◌≤◌, ◌<◌, ◌+◌, ◌-◌, ◌^◌, ◌++◌, ◌∷◌, [], true, false, Some, is_some, OnOk, OnErr, IfOk, vec_len, length};
-ghost use Rattle.blob_base.specs.Holes.{Holes};
+ghost use Rattle.blob_model.specs.Holes.{Holes};
 ghost use Rattle.blob_base.specs.Options.{is_sync};
-ghost use Rattle.blob_base.specs.Refusals.{refused, IsMemory};
+ghost use Rattle.blob_header.specs.Refusals.{refused, IsMemory};
 ghost use Rattle.blob_faulty.specs.Answers.{or_memory, numbered, lacks_number, allows_fate};
-ghost use Rattle.blob_base.specs.Log.{need_of};
-ghost use Rattle.blob_base.specs.Pending.{Waiting, has_barrier};
-ghost use Rattle.blob_faulty.specs.Faults.{issued, retention};
-ghost use Rattle.blob_faulty.specs.Lists.{HasRoomIn, IsRoomAt, HasRoomAt, SameLists, ChangesAt};
+ghost use Rattle.blob_model.specs.Log.{need_of};
+ghost use Rattle.blob_model.specs.Pending.{Waiting, has_barrier};
+ghost use Rattle.blob_faults.specs.Faults.{issued, retention};
+ghost use Rattle.blob_faults.specs.Lists.{HasRoomIn, IsRoomAt, HasRoomAt, SameLists, ChangesAt};
 ghost use Rattle.blob_faulty.specs.Wrapper.{pending_of};
 ghost use Rattle.blob_faulty.specs.Writes.{Writes, Records, WritesBy, unrecorded, plain, laid_runs};
-ghost use Rattle.blob_faulty.specs.Fates.{write_fate_of, IsSized};
+ghost use Rattle.blob_faults.specs.Fates.{write_fate_of, IsSized};
 
 use crate::blob::Blob;
-use crate::config::WriteConfig;
-use crate::entry::Entry;
-use crate::faults::{WriteFate, retained};
-use crate::room::Room;
 use crate::storage::Storage;
-use crate::write::PendingWrite;
 use blob_base::{Error, IoBufs, WriteOptions};
+use blob_faults::config::WriteConfig;
+use blob_faults::entry::Entry;
+use blob_faults::faults::{WriteFate, retained};
+use blob_faults::room::Room;
+use blob_faults::write::PendingWrite;
 
 impl<S: blob_base::Storage, R> Storage<S, R> {
     /// Records a write that a crash may lose, where there is room for it, and takes a number for it.

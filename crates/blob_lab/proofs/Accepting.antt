@@ -5,24 +5,24 @@ use Rattle.std.specs.Str.{bytes_eq}
 use Rattle.std.specs.Cmp.Lexicographic.{bytes_decides}
 use Rattle.std.proofs.lemmas.Bool.{cond_both, cond-false, false≢true}
 use Rattle.rand_core.specs.Stream.{Stream}
-use Rattle.blob_base.specs.declared.layout.Layout.{Layout}
-use Rattle.blob_base.specs.Directory.{Directory, File, Raw, Incarnation}
-use Rattle.blob_base.specs.Files.{Files, opened, after_open, raw_again, durable_at}
-use Rattle.blob_base.specs.Header.{region}
-use Rattle.blob_base.specs.Opening.{Opening, Continues, Begins, Declines, opening, place_of, removed}
-use Rattle.blob_base.specs.Places.{Place}
-use Rattle.blob_base.specs.Refusals.{Refusal, BlobAlreadyOpen, BlobVersionMismatch}
-use Rattle.blob_base.specs.Versions.{is_in_range}
-use Rattle.blob_base.proofs.RawFiles.{raw_opens}
-use Rattle.blob_lab.specs.declared.call.Call.{Call}
-use Rattle.blob_lab.specs.declared.reply.Reply.{Reply}
+use Rattle.blob_header.specs.declared.layout.Layout.{Layout}
+use Rattle.blob_model.specs.Directory.{Directory, File, Raw, Incarnation}
+use Rattle.blob_model.specs.Files.{Files, opened, after_open, raw_again, durable_at}
+use Rattle.blob_header.specs.Header.{region}
+use Rattle.blob_model.specs.Opening.{Opening, Continues, Begins, Declines, opening, place_of, removed}
+use Rattle.blob_model.specs.Places.{Place}
+use Rattle.blob_header.specs.Refusals.{Refusal, BlobAlreadyOpen, BlobVersionMismatch}
+use Rattle.blob_header.specs.Versions.{is_in_range}
+use Rattle.blob_model.proofs.RawFiles.{raw_opens}
+use Rattle.blob_calls.specs.declared.call.Call.{Call}
+use Rattle.blob_calls.specs.declared.reply.Reply.{Reply}
 use Rattle.blob_lab.specs.Accepted.{removes}
-use Rattle.blob_lab.specs.Acts.{Ask, Act, Configure, Open, OpenLoose, Admit, Close, Through, Finish, Remove, Scan, Crash, Reopen, act_of}
+use Rattle.blob_calls.specs.Acts.{Ask, Act, Configure, Open, OpenLoose, Admit, Close, Through, Finish, Remove, Scan, Crash, Reopen, act_of}
 use Rattle.blob_lab.specs.After.{after, asked, closed, finished, removed as removal, crashed, exclusively_opened, loosely_opened}
 use Rattle.blob_lab.specs.Answers.{found, kept_at, version_of}
 use Rattle.blob_lab.specs.Runs.{Run}
 use Rattle.blob_lab.specs.States.{State, Held, Started}
-use Rattle.blob_lab.specs.Told.{refused_by}
+use Rattle.blob_calls.specs.Told.{refused_by}
 use Rattle.blob_lab.proofs.Stale.{asked_directory, admitted_directory}
 
 -- Files of a version.

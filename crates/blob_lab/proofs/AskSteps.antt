@@ -1,28 +1,28 @@
 -- What is asked of a handle, from what the wrapper promises of its own call.
 use Rattle.std.proofs.Common.{◌≡◌, ℕ, ◌<◌, List, true, Option, Some, None, refl, sym, ◌∙◌, subst, take, drop}
-use Rattle.blob_base.specs.Directory.{Directory}
-use Rattle.blob_base.specs.Durable.{Durable}
-use Rattle.blob_base.specs.Files.{Files}
-use Rattle.blob_base.specs.Pending.{Pending}
-use Rattle.blob_base.specs.Places.{Place}
-use Rattle.blob_base.specs.Refusals.{Refusal, refusal_of}
-use Rattle.blob_base.specs.Stands as base
-use Rattle.blob_base.specs.declared.error.Error.{Error}
+use Rattle.blob_model.specs.Directory.{Directory}
+use Rattle.blob_model.specs.Durable.{Durable}
+use Rattle.blob_model.specs.Files.{Files}
+use Rattle.blob_model.specs.Pending.{Pending}
+use Rattle.blob_model.specs.Places.{Place}
+use Rattle.blob_header.specs.Refusals.{Refusal, refusal_of}
+use Rattle.blob_model.specs.Stands as base
+use Rattle.blob_header.specs.declared.error.Error.{Error}
 use Rattle.blob_faulty.specs.Answers.{injected_or}
-use Rattle.blob_faulty.specs.Faults.{draw}
+use Rattle.blob_faults.specs.Faults.{draw}
 use Rattle.blob_faulty.specs.Wrapper.{KeepsRecords, config_of, inner_of as store_of, pending_of, next_write_of, next_marker_of}
 use Rattle.blob_memory.specs.Answers.{OrMemory, read_refusal}
 use Rattle.blob_memory.specs.Store.{directory, durable}
-use Rattle.blob_lab.specs.declared.reply.Reply.{Reply}
-use Rattle.blob_lab.specs.declared.reply.Reply.TheVariants.{Failed}
-use Rattle.blob_lab.specs.Acts.{Ask, Read}
+use Rattle.blob_calls.specs.declared.reply.Reply.{Reply}
+use Rattle.blob_calls.specs.declared.reply.Reply.TheVariants.{Failed}
+use Rattle.blob_calls.specs.Acts.{Ask, Read}
 use Rattle.blob_lab.specs.After.{files_after, held_after}
 use Rattle.blob_lab.specs.Answers.{IsAnswer, through}
 use Rattle.blob_lab.specs.Denials.{or_then, injected_if}
 use Rattle.blob_lab.specs.LabStands.{Wrapper, Wraps, IsFor, Asks, stream_of}
 use Rattle.blob_lab.specs.States.{State, Held}
-use Rattle.blob_lab.specs.Told as told
-use Rattle.blob_lab.specs.Told.{Tells, refused_by}
+use Rattle.blob_calls.specs.Told as told
+use Rattle.blob_calls.specs.Told.{Tells, refused_by}
 use Rattle.blob_lab.proofs.Denying.{drawn_denial, not_memory}
 use Rattle.blob_lab.proofs.Telling.{done_answers, failed_answers}
 

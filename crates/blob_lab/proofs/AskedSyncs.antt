@@ -1,24 +1,24 @@
 -- What is asked of a handle by a sync, from what the wrapper promises of it.
 use Rattle.std.proofs.Common.{◌≡◌, ◌≢◌, ℕ, ◌<◌, ◌-◌, ◌^◌, ◌==◌, ◌++◌, inr, inl, List, [], ◌∷◌, Bool, true, false, Option, Some, None, refl, sym, ap, ◌∙◌, subst, length, ⊎_elim}
 use Rattle.std.specs.Prelude.{IsSome}
-use Rattle.blob_base.specs.Directory.{Directory}
-use Rattle.blob_base.specs.Files.{Files, synced, started}
-use Rattle.blob_base.specs.Refusals.{Refusal, Memory, refusal_of}
-use Rattle.blob_base.specs.declared.error.Error.{Error}
+use Rattle.blob_model.specs.Directory.{Directory}
+use Rattle.blob_model.specs.Files.{Files, synced, started}
+use Rattle.blob_header.specs.Refusals.{Refusal, Memory, refusal_of}
+use Rattle.blob_header.specs.declared.error.Error.{Error}
 use Rattle.blob_faulty.specs.Answers.{injected_or, or_memory, allows_start}
-use Rattle.blob_faulty.specs.Faults.{draw}
+use Rattle.blob_faults.specs.Faults.{draw}
 use Rattle.blob_faulty.specs.Wrapper.{Stands, KeepsRecords, config_of, inner_of as store_of, next_marker_of}
 use Rattle.blob_memory.specs.Answers.{OrMemory, sync_refusal}
 use Rattle.blob_memory.specs.Store.{directory, durable}
-use Rattle.blob_lab.specs.declared.reply.Reply.{Reply}
-use Rattle.blob_lab.specs.declared.reply.Reply.TheVariants.{Done, Failed, Started}
-use Rattle.blob_lab.specs.Acts.{Sync}
+use Rattle.blob_calls.specs.declared.reply.Reply.{Reply}
+use Rattle.blob_calls.specs.declared.reply.Reply.TheVariants.{Done, Failed, Started}
+use Rattle.blob_calls.specs.Acts.{Sync}
 use Rattle.blob_lab.specs.After.{begun}
 use Rattle.blob_lab.specs.Denials.{or_then, injected_if, exhausted_if, sync_denial, start_denial}
 use Rattle.blob_lab.specs.LabStands.{IsFor, Wrapper, Wraps, Asks, Starts, stream_of}
 use Rattle.blob_lab.specs.States as states
 use Rattle.blob_lab.specs.States.{State, Held}
-use Rattle.blob_lab.specs.Told as told
+use Rattle.blob_calls.specs.Told as told
 use Rattle.blob_lab.proofs.AskSteps.{as_of, as_seen, asks_by, stands_kept}
 use Rattle.blob_lab.proofs.Denying.{drawn_denial, numbered_denial, memory_denial, not_memory}
 use Rattle.blob_lab.proofs.Telling.{done_answers, failed_answers}

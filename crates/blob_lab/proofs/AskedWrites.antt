@@ -1,27 +1,27 @@
 -- What is asked of a handle by a write and by a resize, from what the wrapper promises of them.
 use Rattle.std.proofs.Common.{inl, [], false, refl, ap, ◌≡◌, ◌≢◌, ℕ, ◌<◌, inr, List, Bool, true, Option, Some, None, sym, ◌∙◌, subst, length, if◌then◌else◌}
 use Rattle.std.specs.Prelude.{is_some}
-use Rattle.blob_base.specs.Directory.{Directory}
-use Rattle.blob_base.specs.Files.{Files, all_logged}
-use Rattle.blob_base.specs.Log.{Entry}
-use Rattle.blob_base.specs.Places.{Place}
-use Rattle.blob_base.specs.Refusals.{Refusal, Memory, OffsetOverflow, refusal_of}
-use Rattle.blob_base.specs.Runs.{runs, AreRunsApart}
-use Rattle.blob_base.specs.declared.error.Error.{Error}
+use Rattle.blob_model.specs.Directory.{Directory}
+use Rattle.blob_model.specs.Files.{Files, all_logged}
+use Rattle.blob_model.specs.Log.{Entry}
+use Rattle.blob_model.specs.Places.{Place}
+use Rattle.blob_header.specs.Refusals.{Refusal, Memory, OffsetOverflow, refusal_of}
+use Rattle.blob_model.specs.Runs.{runs, AreRunsApart}
+use Rattle.blob_header.specs.declared.error.Error.{Error}
 use Rattle.blob_faulty.specs.Answers.{allows_write, allows_fate, allows_resize, injected_for}
-use Rattle.blob_base.specs.Modes.{Mode}
-use Rattle.blob_base.specs.Rates.{Rate}
-use Rattle.blob_faulty.specs.Faults.{WriteFate, Done, Unsynced, Failed, ResizeFate, Resizes, Stays, Reaches, write_fate, resize_fate, retention, is_nothing, is_uncounted, after_write}
-use Rattle.blob_faulty.specs.Recorded.{recorded_by, live_by, size_by, recorded_write, recorded_resize, live_of_write, live_of_resize, size_of_write, size_of_resize}
+use Rattle.blob_model.specs.Modes.{Mode}
+use Rattle.blob_model.specs.Rates.{Rate}
+use Rattle.blob_faults.specs.Faults.{WriteFate, Done, Unsynced, Failed, ResizeFate, Resizes, Stays, Reaches, write_fate, resize_fate, retention, is_nothing, is_uncounted, after_write}
+use Rattle.blob_faults.specs.Recorded.{recorded_by, live_by, size_by, recorded_write, recorded_resize, live_of_write, live_of_resize, size_of_write, size_of_resize}
 use Rattle.blob_faulty.specs.Wrapper.{Stands, Adds, config_of, inner_of as store_of, next_write_of}
 use Rattle.blob_memory.specs.Answers.{OrMemory, AllowsWrite, end_refusal}
 use Rattle.blob_memory.specs.Store.{directory, durable}
-use Rattle.blob_lab.specs.declared.reply.Reply.TheVariants as reply
-use Rattle.blob_lab.specs.Acts.{Write, Resize}
+use Rattle.blob_calls.specs.declared.reply.Reply.TheVariants as reply
+use Rattle.blob_calls.specs.Acts.{Write, Resize}
 use Rattle.blob_lab.specs.Denials.{fate_denial, write_denial, reaching_denial, or_injected}
 use Rattle.blob_lab.specs.LabStands.{IsFor, Wrapper, Wraps, Asks, stream_of}
 use Rattle.blob_lab.specs.States.{State, Held}
-use Rattle.blob_lab.specs.Told as told
+use Rattle.blob_calls.specs.Told as told
 use Rattle.blob_lab.proofs.AskSteps.{as_of, asks_by}
 use Rattle.blob_lab.proofs.Denying.{counted_denial, fate_denied, injected_denial, memory_denial, not_memory}
 use Rattle.blob_lab.proofs.Telling.{done_answers, failed_answers}

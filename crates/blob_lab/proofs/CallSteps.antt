@@ -4,22 +4,22 @@ use Rattle.std.specs.Prelude.{slice_get}
 use Rattle.std.proofs.lemmas.List.{set-get_or}
 use Rattle.std.proofs.lemmas.List.Elements.{All-set}
 use Rattle.std.proofs.lemmas.Option.{get_or_from_slice_get}
-use Rattle.blob_base.specs.Files.{Files}
+use Rattle.blob_model.specs.Files.{Files}
 use Rattle.blob_faulty.specs.Wrapper.{config_of}
 use Rattle.blob_lab.specs.declared.lab.Lab.{Lab}
-use Rattle.blob_lab.specs.declared.reply.Reply.{Reply}
-use Rattle.blob_lab.specs.declared.reply.Reply.TheVariants as reply
-use Rattle.blob_lab.specs.Acts.{Close, Finish, Through, Size}
+use Rattle.blob_calls.specs.declared.reply.Reply.{Reply}
+use Rattle.blob_calls.specs.declared.reply.Reply.TheVariants as reply
+use Rattle.blob_calls.specs.Acts.{Close, Finish, Through, Size}
 use Rattle.blob_lab.specs.After as after
 use Rattle.blob_lab.specs.After.{unregistered, asked}
 use Rattle.blob_lab.specs.Answers as answers
 use Rattle.blob_lab.specs.Answers.{through, kept_at, unless_denied}
 use Rattle.blob_lab.specs.LabStands.{IsFor, StandsFor, Performs, Wrapper, stream_of}
-use Rattle.blob_lab.specs.Opens.{names_of}
+use Rattle.blob_opens.specs.Opens.{names_of}
 use Rattle.blob_lab.specs.States.{Held, Started, AreGiven}
 use Rattle.blob_lab.specs.Tables.{handles_of, syncs_of}
-use Rattle.blob_lab.specs.Told as told
-use Rattle.blob_lab.specs.Told.{Tells}
+use Rattle.blob_calls.specs.Told as told
+use Rattle.blob_calls.specs.Told.{Tells}
 use Rattle.blob_lab.proofs.Performing.{state_of, performs, stands_same, filled}
 
 module _ (lab lab' : Lab) (number : ℕ) (same : lab'.wrapper ≡ lab.wrapper) (syncs : syncs_of lab'.syncs ≡ syncs_of lab.syncs) where

@@ -3,12 +3,12 @@ use Rattle.std.proofs.Common.{◌≡◌, ℕ, ◌+◌, ◌≤◌, ◌<◌, suc, 
 use Rattle.std.specs.Prelude.{MatchBool}
 use Rattle.std.proofs.lemmas.Bool.{false≢true}
 use Rattle.std.proofs.lemmas.Bool.Decides.{nat_tests}
-use Rattle.blob_base.specs.Directory.{Directory, is_current}
-use Rattle.blob_base.specs.Places.{Place}
-use Rattle.blob_base.specs.Refusals.{Refusal, Memory, Injected, OffsetOverflow}
-use Rattle.blob_base.specs.Runs.{Run, runs, AreRunsApart}
+use Rattle.blob_model.specs.Directory.{Directory, is_current}
+use Rattle.blob_model.specs.Places.{Place}
+use Rattle.blob_header.specs.Refusals.{Refusal, Memory, Injected, OffsetOverflow}
+use Rattle.blob_model.specs.Runs.{Run, runs, AreRunsApart}
 use Rattle.blob_faulty.specs.Answers.{Allowed, injected_or, injected_for, or_memory, numbered, lacks_number, last_end, one_then, allows_laid, allows_runs, allows_fate}
-use Rattle.blob_faulty.specs.Faults.{WriteFate, Done, Unsynced, Failed}
+use Rattle.blob_faults.specs.Faults.{WriteFate, Done, Unsynced, Failed}
 use Rattle.blob_memory.specs.Answers.{OrMemory, AllowsWrite, write_refusal, end_refusal, sync_refusal, is_uncounted, missing}
 use Rattle.blob_lab.specs.Denials.{or_then, injected_if, exhausted_if, or_injected, runs_denial, fate_denial}
 

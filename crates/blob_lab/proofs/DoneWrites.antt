@@ -4,22 +4,22 @@ use Rattle.std.specs.Prelude.{is_some}
 use Rattle.std.proofs.lemmas.Bool.{false≢true}
 use Rattle.std.proofs.lemmas.Option.{none-some}
 use Rattle.rand_core.specs.Stream.{Stream}
-use Rattle.blob_base.specs.Bytes.{written}
-use Rattle.blob_base.specs.Directory.{Directory}
-use Rattle.blob_base.specs.Log.{Kept}
-use Rattle.blob_base.specs.Places.{Place}
-use Rattle.blob_base.specs.Refusals.{Refusal, Memory, OffsetOverflow}
-use Rattle.blob_base.specs.Runs.{runs}
+use Rattle.blob_model.specs.Bytes.{written}
+use Rattle.blob_model.specs.Directory.{Directory}
+use Rattle.blob_model.specs.Log.{Kept}
+use Rattle.blob_model.specs.Places.{Place}
+use Rattle.blob_header.specs.Refusals.{Refusal, Memory, OffsetOverflow}
+use Rattle.blob_model.specs.Runs.{runs}
 use Rattle.blob_faulty.specs.Answers.{lacks_number}
-use Rattle.blob_faulty.specs.Faults.{WriteFate, Done, Unsynced, Failed, write_fate, retention, is_nothing, is_uncounted}
-use Rattle.blob_faulty.specs.Recorded.{recorded_by, recorded_write, live_by, live_of_write, size_by, size_of_write}
-use Rattle.blob_lab.specs.declared.reply.Reply.{Reply}
-use Rattle.blob_lab.specs.Acts.{Write}
+use Rattle.blob_faults.specs.Faults.{WriteFate, Done, Unsynced, Failed, write_fate, retention, is_nothing, is_uncounted}
+use Rattle.blob_faults.specs.Recorded.{recorded_by, recorded_write, live_by, live_of_write, size_by, size_of_write}
+use Rattle.blob_calls.specs.declared.reply.Reply.{Reply}
+use Rattle.blob_calls.specs.Acts.{Write}
 use Rattle.blob_lab.specs.Answers.{IsAnswer, through}
 use Rattle.blob_lab.specs.Denials.{or_then, or_injected, exhausted_if, runs_denial, fate_denial, write_denial}
 use Rattle.blob_lab.specs.States.{State, Held}
-use Rattle.blob_lab.specs.Told as told
-use Rattle.blob_lab.specs.Told.{refused_by}
+use Rattle.blob_calls.specs.Told as told
+use Rattle.blob_calls.specs.Told.{refused_by}
 use Rattle.blob_lab.proofs.ToldRefusals.{denied}
 
 -- why its fate is no other

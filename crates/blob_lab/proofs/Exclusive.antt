@@ -5,26 +5,27 @@ use Rattle.std.proofs.lemmas.Bool.{and_from, false≢true, eq-eqb}
 use Rattle.std.proofs.lemmas.List.Elements.{All-nil, All-head, All-tail}
 use Rattle.std.proofs.lemmas.Option.{none-some, same_Some}
 use Rattle.rand_core.specs.Stream.{Stream}
-use Rattle.blob_base.specs.Directory.{Directory, File, Raw, Incarnation, data_start, current, place_in, is_current, is_that}
-use Rattle.blob_base.specs.Files.{Files, admitted, after_open, reopened}
-use Rattle.blob_base.specs.Opening.{place_of}
-use Rattle.blob_base.specs.Places.{Place}
-use Rattle.blob_base.specs.Refusals.{Refusal, Memory, BlobAlreadyOpen}
-use Rattle.blob_base.specs.SamePlace.{same_place_exact}
-use Rattle.blob_faulty.specs.declared.config.Config.{Config}
-use Rattle.blob_lab.specs.declared.call.Call.{Call}
-use Rattle.blob_lab.specs.declared.reply.Reply.{Reply}
-use Rattle.blob_lab.specs.Acts.{Ask, Write, Resize, Accepted, Act, Configure, Open, OpenLoose, Admit, Close, Through, Finish, Remove, Scan, Crash, Reopen, act_of}
+use Rattle.blob_model.specs.Directory.{Directory, File, Raw, Incarnation, current, place_in, is_current, is_that}
+use Rattle.blob_header.specs.Header.{data_start}
+use Rattle.blob_model.specs.Files.{Files, admitted, after_open, reopened}
+use Rattle.blob_model.specs.Opening.{place_of}
+use Rattle.blob_model.specs.Places.{Place}
+use Rattle.blob_header.specs.Refusals.{Refusal, Memory, BlobAlreadyOpen}
+use Rattle.blob_model.specs.SamePlace.{same_place_exact}
+use Rattle.blob_faults.specs.declared.config.Config.{Config}
+use Rattle.blob_calls.specs.declared.call.Call.{Call}
+use Rattle.blob_calls.specs.declared.reply.Reply.{Reply}
+use Rattle.blob_calls.specs.Acts.{Ask, Write, Resize, Accepted, Act, Configure, Open, OpenLoose, Admit, Close, Through, Finish, Remove, Scan, Crash, Reopen, act_of}
 use Rattle.blob_lab.specs.After.{after, asked, closed, finished, removed as removal, crashed, exclusively_opened, held_after, rebuilt}
 use Rattle.blob_lab.specs.Answers.{Answers, kept_at, opened}
 use Rattle.blob_lab.specs.Denials.{or_then, exhausted_if, is_unnumbered, loose_denial, open_already, open_denial}
 use Rattle.blob_lab.specs.Exclusive.{HoldNames, Sole}
-use Rattle.blob_lab.specs.OpenNames.{OpenNames}
+use Rattle.blob_opens.specs.OpenNames.{OpenNames}
 use Rattle.blob_lab.specs.Reached.{is_loose, NoneLoose, ReachedExclusively}
 use Rattle.blob_lab.specs.Runs.{Run}
 use Rattle.blob_lab.specs.Scripted.{Words}
 use Rattle.blob_lab.specs.States.{State, Held, Started, Image, start, held_on, empty_directory, with_image, with_images}
-use Rattle.blob_lab.specs.Told.{refused_by}
+use Rattle.blob_calls.specs.Told.{refused_by}
 use Rattle.blob_lab.proofs.ExclusiveSteps.{AreExclusive, IsNew, aged, closed_one, put_back, ended_names, added}
 use Rattle.blob_lab.proofs.Stale.{ages, asked_directory, none_current, place_after, with_file_stale}
 use Rattle.blob_lab.proofs.ToldRefusals.{denied}

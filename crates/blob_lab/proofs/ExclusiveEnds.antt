@@ -1,21 +1,21 @@
 -- Refused exclusive opens, by what the registry of open names says of them.
 use Rattle.std.proofs.Common.{◌≡◌, ℕ, List, Option, Some, sym, ap, subst}
-use Rattle.blob_base.specs.Files.{Files, after_open}
-use Rattle.blob_base.specs.Opening.{IsOpened}
-use Rattle.blob_base.specs.Places.{Place}
-use Rattle.blob_base.specs.Refusals.{Refusal, refusal_of, Memory, BlobAlreadyOpen, GenerationsExhausted}
-use Rattle.blob_base.specs.declared.error.Error.{Error}
+use Rattle.blob_model.specs.Files.{Files, after_open}
+use Rattle.blob_model.specs.Opening.{IsOpened}
+use Rattle.blob_model.specs.Places.{Place}
+use Rattle.blob_header.specs.Refusals.{Refusal, refusal_of, Memory, BlobAlreadyOpen, GenerationsExhausted}
+use Rattle.blob_header.specs.declared.error.Error.{Error}
 use Rattle.hex.specs.Hex.{encode_lower}
 use Rattle.blob_faulty.specs.Names.{OpenLeaves}
 use Rattle.blob_faulty.specs.Wrapper.{config_of, inner_of as store_of}
 use Rattle.blob_memory.specs.Store.{directory, durable}
 use Rattle.blob_lab.specs.declared.lab.Lab.{Lab}
-use Rattle.blob_lab.specs.declared.reply.Reply.TheVariants as reply
-use Rattle.blob_lab.specs.Acts.{Open}
+use Rattle.blob_calls.specs.declared.reply.Reply.TheVariants as reply
+use Rattle.blob_calls.specs.Acts.{Open}
 use Rattle.blob_lab.specs.LabStands.{IsFor, Performs, Wrapper, stream_of}
-use Rattle.blob_lab.specs.OpenNames as names
-use Rattle.blob_lab.specs.OpenNames.{OpenAnswer}
-use Rattle.blob_lab.specs.Opens.{names_of, IsMade}
+use Rattle.blob_opens.specs.OpenNames as names
+use Rattle.blob_opens.specs.OpenNames.{OpenAnswer}
+use Rattle.blob_opens.specs.Opens.{names_of, IsMade}
 use Rattle.blob_lab.specs.Scripted.{scripted}
 use Rattle.blob_lab.specs.States.{AreGiven}
 use Rattle.blob_lab.specs.Tables.{handles_of, syncs_of}

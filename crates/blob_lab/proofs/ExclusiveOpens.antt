@@ -4,32 +4,32 @@ use Rattle.std.specs.Prelude.{is_none, is_some, not}
 use Rattle.std.proofs.lemmas.Bool.Decides.{nat_tests}
 use Rattle.hex.specs.Hex.{encode_lower}
 use Rattle.rand_core.specs.Stream.{Stream}
-use Rattle.blob_base.specs.Directory.{Directory, File, Raw, Incarnation}
-use Rattle.blob_base.specs.Files.{Files, after_open, admitted}
-use Rattle.blob_base.specs.Opening.{Continues, Declines, IsOpened, opening, opening_raw}
-use Rattle.blob_base.specs.Parse.{Failure, InvalidMagic, UnsupportedLayoutVersion, LayoutMismatch, VersionMismatch, InvalidChecksum, InvalidPadding, Truncated, every_layout}
-use Rattle.blob_base.specs.PartitionName.{is_partition_name}
-use Rattle.blob_base.specs.Places.{Place}
-use Rattle.blob_base.specs.Refusals.{Refusal, refusal_of, BlobAlreadyOpen, GenerationsExhausted, Memory, PartitionNameInvalid, BlobVersionMismatch}
-use Rattle.blob_base.specs.Resolve.{resolution, refusal_for}
-use Rattle.blob_base.specs.Versions.{is_in_range}
-use Rattle.blob_base.specs.declared.error.Error.{Error}
-use Rattle.blob_base.specs.declared.version.BlobVersion.{BlobVersion}
+use Rattle.blob_model.specs.Directory.{Directory, File, Raw, Incarnation}
+use Rattle.blob_model.specs.Files.{Files, after_open, admitted}
+use Rattle.blob_model.specs.Opening.{Continues, Declines, IsOpened, opening, opening_raw}
+use Rattle.blob_header.specs.Parse.{Failure, InvalidMagic, UnsupportedLayoutVersion, LayoutMismatch, VersionMismatch, InvalidChecksum, InvalidPadding, Truncated, every_layout}
+use Rattle.blob_header.specs.PartitionName.{is_partition_name}
+use Rattle.blob_model.specs.Places.{Place}
+use Rattle.blob_header.specs.Refusals.{Refusal, refusal_of, BlobAlreadyOpen, GenerationsExhausted, Memory, PartitionNameInvalid, BlobVersionMismatch}
+use Rattle.blob_header.specs.Resolve.{resolution, refusal_for}
+use Rattle.blob_header.specs.Versions.{is_in_range}
+use Rattle.blob_header.specs.declared.error.Error.{Error}
+use Rattle.blob_header.specs.declared.version.BlobVersion.{BlobVersion}
 use Rattle.std.specs.Prelude.{Result, Ok, Err}
-use Rattle.blob_faulty.specs.Faults.{draw}
+use Rattle.blob_faults.specs.Faults.{draw}
 use Rattle.blob_faulty.specs.Wrapper.{config_of, inner_of as store_of}
 use Rattle.blob_memory.specs.Answers.{OrMemory, open_refusal, opening_refusal}
 use Rattle.blob_memory.specs.Store.{directory, durable}
 use Rattle.blob_lab.specs.declared.lab.Lab.{Lab}
-use Rattle.blob_lab.specs.declared.reply.Reply.TheVariants as reply
-use Rattle.blob_lab.specs.Acts.{Open}
+use Rattle.blob_calls.specs.declared.reply.Reply.TheVariants as reply
+use Rattle.blob_calls.specs.Acts.{Open}
 use Rattle.blob_lab.specs.After.{exclusively_opened}
 use Rattle.blob_lab.specs.Answers.{opened, left_of_open, IsAnswer, unless_denied}
 use Rattle.blob_lab.specs.Denials.{or_then, injected_if, exhausted_if, is_unnumbered, open_denial}
 use Rattle.blob_lab.specs.LabStands.{IsFor, StandsFor, Performs, Wrapper, stream_of}
-use Rattle.blob_lab.specs.OpenNames as names
-use Rattle.blob_lab.specs.OpenNames.{OpenNames, OpenAnswer, Accepted, Held, Declined, NoMemory, NoNumber, IsExhausted}
-use Rattle.blob_lab.specs.Opens.{names_of}
+use Rattle.blob_opens.specs.OpenNames as names
+use Rattle.blob_opens.specs.OpenNames.{OpenNames, OpenAnswer, Accepted, Held, Declined, NoMemory, NoNumber, IsExhausted}
+use Rattle.blob_opens.specs.Opens.{names_of}
 use Rattle.blob_lab.specs.States as states
 use Rattle.blob_lab.specs.States.{State, AreGiven}
 use Rattle.blob_lab.specs.Tables.{handles_of, syncs_of}

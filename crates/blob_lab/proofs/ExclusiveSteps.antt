@@ -5,14 +5,14 @@ use Rattle.std.specs.Str.{bytes_eq}
 use Rattle.std.proofs.lemmas.Bool.{cond_both, false≢true, true_from_ne_false}
 use Rattle.std.proofs.lemmas.List.Elements.{All-set, All-push, All-weaker}
 use Rattle.std.proofs.lemmas.Option.{none-some, same_Some}
-use Rattle.blob_base.specs.Directory.{Directory, File, is_current, is_that}
-use Rattle.blob_base.specs.Opening.{removed}
-use Rattle.blob_base.specs.Places.{Place}
+use Rattle.blob_model.specs.Directory.{Directory, File, is_current, is_that}
+use Rattle.blob_model.specs.Opening.{removed}
+use Rattle.blob_model.specs.Places.{Place}
 use Rattle.blob_lab.specs.After.{unregistered}
 use Rattle.blob_lab.specs.Answers.{kept_at}
 use Rattle.blob_lab.specs.Exclusive.{IsOpenBy}
-use Rattle.blob_lab.specs.Names.{with_at}
-use Rattle.blob_lab.specs.OpenNames.{OpenNames, Registration, opened, closed, ended, unless_number}
+use Rattle.blob_names.specs.Names.{with_at}
+use Rattle.blob_opens.specs.OpenNames.{OpenNames, Registration, opened, closed, ended, unless_number}
 use Rattle.blob_lab.specs.States.{Held, AreGiven}
 use Rattle.blob_lab.proofs.Performing.{given_at}
 use Rattle.blob_lab.proofs.Slots.{kept_set, kept_emptied, kept_push}

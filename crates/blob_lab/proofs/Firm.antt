@@ -4,17 +4,17 @@ use Rattle.std.specs.Prelude.{option_map}
 use Rattle.std.specs.Cmp.Lexicographic.{bytes_decides}
 use Rattle.std.specs.Str.{bytes_eq}
 use Rattle.std.proofs.lemmas.Bool.{and_parts, and_from, eqb-true, eq-eqb, false≢true}
-use Rattle.blob_base.specs.declared.layout.Layout.{Layout}
-use Rattle.blob_base.specs.Directory.{Directory, File, Raw, Incarnation, data_start, current, is_that, is_current}
-use Rattle.blob_base.specs.Files.{Files, durable_at}
-use Rattle.blob_base.specs.Header.{region}
-use Rattle.blob_base.specs.Opening.{place_of}
-use Rattle.blob_base.specs.Persistence.{HasByte, IsFixed}
-use Rattle.blob_base.specs.Places.{Place, same_place}
-use Rattle.blob_base.specs.SamePlace.{same_place_exact}
+use Rattle.blob_header.specs.declared.layout.Layout.{Layout}
+use Rattle.blob_model.specs.Directory.{Directory, File, Raw, Incarnation, current, is_that, is_current}
+use Rattle.blob_header.specs.Header.{data_start, region}
+use Rattle.blob_model.specs.Files.{Files, durable_at}
+use Rattle.blob_model.specs.Opening.{place_of}
+use Rattle.blob_model.specs.Persistence.{HasByte, IsFixed}
+use Rattle.blob_model.specs.Places.{Place, same_place}
+use Rattle.blob_model.specs.SamePlace.{same_place_exact}
 use Rattle.blob_lab.specs.Answers.{kept_at}
 use Rattle.blob_lab.specs.Fixed.{Byte, is_of, is_on, HasIn, Has}
-use Rattle.blob_lab.specs.OpenNames.{Registration}
+use Rattle.blob_opens.specs.OpenNames.{Registration}
 use Rattle.blob_lab.specs.States.{State, Held, held_on}
 use Rattle.blob_lab.proofs.Slots.{kept_set, kept_push}
 

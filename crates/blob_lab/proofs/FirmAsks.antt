@@ -1,15 +1,15 @@
 -- What leaves a fixed byte of a name: calls through a handle that don't reach it.
 use Rattle.std.proofs.Common.{◌≡◌, ℕ, ◌<◌, min, true, false, Option, Some, None, sym, ap, ◌∙◌, subst, set, arith, ⊎_elim}
 use Rattle.std.proofs.lemmas.Bool.{leb-false, and_cases, true≢false}
-use Rattle.blob_base.specs.Directory.{Directory}
-use Rattle.blob_base.specs.Files.{Files}
-use Rattle.blob_base.specs.Persistence.{HasByte, IsFixed}
-use Rattle.blob_base.specs.Places.{Place, same_place}
-use Rattle.blob_base.specs.Refusals.{Refusal}
-use Rattle.blob_base.proofs.Persistence.{fixed_all, fixed_published, fixed_started}
-use Rattle.blob_faulty.specs.Faults.{resize_fate}
-use Rattle.blob_faulty.specs.Recorded.{recorded_write, recorded_resize}
-use Rattle.blob_lab.specs.Acts.{Ask, Read, Write, Resize, Size, Sync, StartSync}
+use Rattle.blob_model.specs.Directory.{Directory}
+use Rattle.blob_model.specs.Files.{Files}
+use Rattle.blob_model.specs.Persistence.{HasByte, IsFixed}
+use Rattle.blob_model.specs.Places.{Place, same_place}
+use Rattle.blob_header.specs.Refusals.{Refusal}
+use Rattle.blob_model.proofs.Persistence.{fixed_all, fixed_published, fixed_started}
+use Rattle.blob_faults.specs.Faults.{resize_fate}
+use Rattle.blob_faults.specs.Recorded.{recorded_write, recorded_resize}
+use Rattle.blob_calls.specs.Acts.{Ask, Read, Write, Resize, Size, Sync, StartSync}
 use Rattle.blob_lab.specs.After.{begun, files_after, held_after}
 use Rattle.blob_lab.specs.Answers.{kept_at}
 use Rattle.blob_lab.specs.Denials.{start_denial}
@@ -17,7 +17,7 @@ use Rattle.blob_lab.specs.Fixed.{Byte, is_on, asks_for, reaches_through}
 use Rattle.blob_lab.specs.States.{State, Held}
 use Rattle.blob_lab.proofs.Firm.{IsFirm, Now, Behind, IsLive, at, live_set, place_on}
 use Rattle.blob_lab.proofs.Stale.{asked_directory, place_after}
-use Rattle.blob_faulty.proofs.Unreached.{write_out, write_has, write_grows, IsAbove, reached_above, resize_out, resize_has, resize_counts}
+use Rattle.blob_faults.proofs.Unreached.{write_out, write_has, write_grows, IsAbove, reached_above, resize_out, resize_has, resize_counts}
 
 pub held_live : (v : State) (h : Held) (ask : Ask) (refusal : Option Refusal) (b : Byte) → asks_for ask b ≡ false → IsLive b h → IsLive b (held_after v h ask refusal)
 held_live v h (Write offset bytes sync) refusal b out l = record {

@@ -3,20 +3,20 @@ use Rattle.std.proofs.Common.{◌≡◌, ℕ, ◌<◌, ◌≤◌, ◌++◌, ◌&
 use Rattle.std.specs.Int.{to_be_bytes, w16, w32}
 use Rattle.std.specs.Str.{bytes_eq}
 use Rattle.std.proofs.lemmas.Bool.{cases_Bool, false≢true}
-use Rattle.blob_base.specs.declared.layout.Layout.{Layout}
-use Rattle.blob_base.specs.declared.layout.Layout.TheVariants.{V0, V1}
-use Rattle.blob_base.specs.Checksum.{crc32c}
-use Rattle.blob_base.specs.Directory.{File, Raw, Incarnation, place_made}
-use Rattle.blob_base.specs.Files.{Files, log_of, made, opened, after_open}
-use Rattle.blob_base.specs.Header.{region, prelude, magic_of, layout_number}
-use Rattle.blob_base.specs.Opening.{Opening, Continues, Begins, Declines, opening}
-use Rattle.blob_base.specs.Persistence.{HasByte}
-use Rattle.blob_base.specs.Places.{Place, same_place}
-use Rattle.blob_base.specs.Refusals.{Refusal, BlobVersionMismatch}
-use Rattle.blob_base.specs.SamePlace.{same_place_exact}
-use Rattle.blob_base.specs.Versions.{is_in_range}
-use Rattle.blob_base.proofs.Persistence.{fixed_beside, fixed_made}
-use Rattle.blob_base.proofs.RawFiles.{raw_opens}
+use Rattle.blob_header.specs.declared.layout.Layout.{Layout}
+use Rattle.blob_header.specs.declared.layout.Layout.TheVariants.{V0, V1}
+use Rattle.blob_header.specs.Checksum.{crc32c}
+use Rattle.blob_model.specs.Directory.{File, Raw, Incarnation, place_made}
+use Rattle.blob_model.specs.Files.{Files, log_of, made, opened, after_open}
+use Rattle.blob_header.specs.Header.{region, prelude, magic_of, layout_number}
+use Rattle.blob_model.specs.Opening.{Opening, Continues, Begins, Declines, opening}
+use Rattle.blob_model.specs.Persistence.{HasByte}
+use Rattle.blob_model.specs.Places.{Place, same_place}
+use Rattle.blob_header.specs.Refusals.{Refusal, BlobVersionMismatch}
+use Rattle.blob_model.specs.SamePlace.{same_place_exact}
+use Rattle.blob_header.specs.Versions.{is_in_range}
+use Rattle.blob_model.proofs.Persistence.{fixed_beside, fixed_made}
+use Rattle.blob_model.proofs.RawFiles.{raw_opens}
 use Rattle.blob_lab.specs.Answers.{kept_at}
 use Rattle.blob_lab.specs.Fixed.{Byte, is_of}
 use Rattle.blob_lab.specs.States.{Held}

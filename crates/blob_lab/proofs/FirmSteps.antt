@@ -1,11 +1,11 @@
 -- A fixed byte of a name stays by every call that doesn't reach it.
 use Rattle.std.proofs.Common.{◌≡◌, ℕ, ◌<◌, ◌≤◌, List, [], false, Option, Some, None, refl}
 use Rattle.rand_core.specs.Stream.{Stream}
-use Rattle.blob_base.specs.Draws.{chosen_by, drawn}
-use Rattle.blob_base.specs.Files.{log_of, all_needs, after_open, admitted}
-use Rattle.blob_base.specs.Places.{Place}
-use Rattle.blob_base.specs.Refusals.{Refusal, BlobAlreadyOpen}
-use Rattle.blob_lab.specs.Acts.{Ask, Accepted, Act, Configure, Open, OpenLoose, Admit, Close, Through, Finish, Remove, Scan, Crash, Reopen}
+use Rattle.blob_model.specs.Draws.{chosen_by, drawn}
+use Rattle.blob_model.specs.Files.{log_of, all_needs, after_open, admitted}
+use Rattle.blob_model.specs.Places.{Place}
+use Rattle.blob_header.specs.Refusals.{Refusal, BlobAlreadyOpen}
+use Rattle.blob_calls.specs.Acts.{Ask, Accepted, Act, Configure, Open, OpenLoose, Admit, Close, Through, Finish, Remove, Scan, Crash, Reopen}
 use Rattle.blob_lab.specs.After.{after, asked, exclusively_opened, loosely_opened, closed, finished, removed, crashed}
 use Rattle.blob_lab.specs.Answers.{kept_at}
 use Rattle.blob_lab.specs.Fixed.{Byte, reaches, reaches_through}

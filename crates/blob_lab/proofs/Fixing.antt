@@ -3,18 +3,18 @@ use Rattle.std.proofs.Common.{◌≡◌, ℕ, ◌<◌, List, true, false, Option
 use Rattle.std.proofs.lemmas.Bool.{and_parts, cond-true, false≢true, cases_Bool}
 use Rattle.std.proofs.lemmas.Option.{same_Some}
 use Rattle.rand_core.specs.Stream.{Stream}
-use Rattle.blob_base.specs.declared.layout.Layout.{Layout}
-use Rattle.blob_base.specs.Directory.{Directory, File, Raw, Incarnation, current, place_in, is_that, is_current}
-use Rattle.blob_base.specs.Files.{Files, all_logged, published, admitted, admitted_at, after_open, durable_at}
-use Rattle.blob_base.specs.Log.{Entry}
-use Rattle.blob_base.specs.Persistence.{HasByte, IsFixed}
-use Rattle.blob_base.specs.Places.{Place, same_place}
-use Rattle.blob_base.specs.Refusals.{Refusal}
-use Rattle.blob_base.specs.SamePlace.{same_place_exact, same_self, same_back}
-use Rattle.blob_base.proofs.Durables.{durable_published}
-use Rattle.blob_base.proofs.Persistence.{fixed_by_write, new_written, fixed_by_sync, fixed_by_start, fixed_by_open}
-use Rattle.blob_lab.specs.declared.reply.Reply.{Reply}
-use Rattle.blob_lab.specs.Acts.{Ask, Read, Write, Resize, Size, Sync, StartSync, Accepted, Act, Open, Through}
+use Rattle.blob_header.specs.declared.layout.Layout.{Layout}
+use Rattle.blob_model.specs.Directory.{Directory, File, Raw, Incarnation, current, place_in, is_that, is_current}
+use Rattle.blob_model.specs.Files.{Files, all_logged, published, admitted, admitted_at, after_open, durable_at}
+use Rattle.blob_model.specs.Log.{Entry}
+use Rattle.blob_model.specs.Persistence.{HasByte, IsFixed}
+use Rattle.blob_model.specs.Places.{Place, same_place}
+use Rattle.blob_header.specs.Refusals.{Refusal}
+use Rattle.blob_model.specs.SamePlace.{same_place_exact, same_self, same_back}
+use Rattle.blob_model.proofs.Durables.{durable_published}
+use Rattle.blob_model.proofs.Persistence.{fixed_by_write, new_written, fixed_by_sync, fixed_by_start, fixed_by_open}
+use Rattle.blob_calls.specs.declared.reply.Reply.{Reply}
+use Rattle.blob_calls.specs.Acts.{Ask, Read, Write, Resize, Size, Sync, StartSync, Accepted, Act, Open, Through}
 use Rattle.blob_lab.specs.After.{after, asked, begun, files_after, held_after, exclusively_opened}
 use Rattle.blob_lab.specs.Answers.{asks_memory, Answers, IsAnswer, through, kept_at}
 use Rattle.blob_lab.specs.Denials.{write_denial, start_denial}
@@ -22,7 +22,7 @@ use Rattle.blob_lab.specs.Exclusive.{Sole}
 use Rattle.blob_lab.specs.Fixed.{Byte, is_of, is_on, HasIn, HasDurably, Submits, FixesThrough, Fixes}
 use Rattle.blob_lab.specs.Reached.{ReachedExclusively}
 use Rattle.blob_lab.specs.States.{State, Held}
-use Rattle.blob_lab.specs.Told.{refused_by}
+use Rattle.blob_calls.specs.Told.{refused_by}
 use Rattle.blob_lab.proofs.ReachedStates.{current_sized}
 use Rattle.blob_lab.proofs.Exclusive.{Exclusive, sole, fresh, reached_exclusive}
 use Rattle.blob_lab.proofs.Firm.{IsFirm, Now, Behind, IsLive, AreLive, at, of_parts, on_file, on_place, current_at, firm_held}

@@ -2,25 +2,25 @@
 use Rattle.std.proofs.Common.{◌≡◌, ℕ, ◌<◌, ◌≤◌, ◌++◌, List, [], ◌∷◌, false, Option, Some, None, refl, subst, arith}
 use Rattle.std.proofs.lemmas.List.Elements.{All-head, All-tail}
 use Rattle.rand_core.specs.Stream.{Stream}
-use Rattle.blob_base.specs.Directory.{current}
-use Rattle.blob_base.specs.Files.{Files, log_of, logged, all_logged, published, admitted, admitted_at, opened, after_open, after_remove, ends_by, durable_at}
-use Rattle.blob_base.specs.Log.{Entry}
-use Rattle.blob_base.specs.Opening.{Opening, Continues, Begins, Declines, opening}
-use Rattle.blob_base.specs.Places.{Place, same_place}
-use Rattle.blob_base.specs.Refusals.{Refusal, BlobAlreadyOpen}
-use Rattle.blob_base.proofs.FileSteps.{log_push_at, log_without, still_fresh, still_none}
-use Rattle.blob_faulty.specs.Faults.{resize_fate}
-use Rattle.blob_faulty.specs.Recorded.{recorded_write, recorded_resize}
-use Rattle.blob_lab.specs.declared.call.Call.{Call}
-use Rattle.blob_lab.specs.declared.reply.Reply.{Reply}
-use Rattle.blob_lab.specs.Acts.{Ask, Read, Write, Resize, Size, Sync, StartSync, Accepted, Act, Configure, Open, OpenLoose, Admit, Close, Through, Finish, Remove, Scan, Crash, Reopen, act_of}
+use Rattle.blob_model.specs.Directory.{current}
+use Rattle.blob_model.specs.Files.{Files, log_of, logged, all_logged, published, admitted, admitted_at, opened, after_open, after_remove, ends_by, durable_at}
+use Rattle.blob_model.specs.Log.{Entry}
+use Rattle.blob_model.specs.Opening.{Opening, Continues, Begins, Declines, opening}
+use Rattle.blob_model.specs.Places.{Place, same_place}
+use Rattle.blob_header.specs.Refusals.{Refusal, BlobAlreadyOpen}
+use Rattle.blob_model.proofs.FileSteps.{log_push_at, log_without, still_fresh, still_none}
+use Rattle.blob_faults.specs.Faults.{resize_fate}
+use Rattle.blob_faults.specs.Recorded.{recorded_write, recorded_resize}
+use Rattle.blob_calls.specs.declared.call.Call.{Call}
+use Rattle.blob_calls.specs.declared.reply.Reply.{Reply}
+use Rattle.blob_calls.specs.Acts.{Ask, Read, Write, Resize, Size, Sync, StartSync, Accepted, Act, Configure, Open, OpenLoose, Admit, Close, Through, Finish, Remove, Scan, Crash, Reopen, act_of}
 use Rattle.blob_lab.specs.After.{after, asked, begun, files_after, exclusively_opened, loosely_opened, closed, finished, removed, crashed}
 use Rattle.blob_lab.specs.Answers.{kept_at}
 use Rattle.blob_lab.specs.Denials.{start_denial}
 use Rattle.blob_lab.specs.Reached.{is_loose, NoneLoose, ReachedExclusively}
 use Rattle.blob_lab.specs.Runs.{Run}
 use Rattle.blob_lab.specs.States.{State, Held, Started, start}
-use Rattle.blob_lab.specs.Told.{refused_by}
+use Rattle.blob_calls.specs.Told.{refused_by}
 use Rattle.blob_lab.proofs.Exclusive.{Exclusive, exclusive_start, exclusive_after}
 use Rattle.blob_lab.proofs.Performing.{given_at}
 

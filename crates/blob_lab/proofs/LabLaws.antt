@@ -3,12 +3,12 @@ use Rattle.std.proofs.Common.{◌≡◌, ℕ, Bool, true, false, ◌&&◌, cond,
 use Rattle.std.proofs.lemmas.Bool.{cond-false, false≢true}
 use Rattle.std.specs.Str.{bytes_eq}
 use Rattle.rand_core.specs.Stream.{Stream}
-use Rattle.blob_base.specs.Files.{log_of, ends_by}
-use Rattle.blob_base.specs.Places.{Place}
-use Rattle.blob_base.specs.Refusals.{Refusal}
-use Rattle.blob_base.proofs.Durables.{log_removed}
+use Rattle.blob_model.specs.Files.{log_of, ends_by}
+use Rattle.blob_model.specs.Places.{Place}
+use Rattle.blob_header.specs.Refusals.{Refusal}
+use Rattle.blob_model.proofs.Durables.{log_removed}
 use Rattle.blob_lab.specs.Accepted.{removes}
-use Rattle.blob_lab.specs.Acts.{Remove, Crash}
+use Rattle.blob_calls.specs.Acts.{Remove, Crash}
 use Rattle.blob_lab.specs.After.{after}
 use Rattle.blob_lab.specs.States.{State}
 

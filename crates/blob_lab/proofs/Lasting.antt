@@ -4,28 +4,28 @@ use Rattle.std.specs.Prelude.{option_map}
 use Rattle.std.proofs.lemmas.List.Elements.{All-nil, All-cons, All-head, All-tail}
 use Rattle.std.proofs.lemmas.Option.{none-some, same_Some}
 use Rattle.rand_core.specs.Stream.{Stream}
-use Rattle.blob_base.specs.Directory.{Directory, Incarnation, current, place_in}
-use Rattle.blob_base.specs.Files.{Files, opened, after_open, admitted, durable_at}
-use Rattle.blob_base.specs.Opening.{Opening, Continues, Begins, Declines, opening, place_of}
-use Rattle.blob_base.specs.Persistence.{HasByte}
-use Rattle.blob_base.specs.Places.{Place}
-use Rattle.blob_base.specs.Refusals.{Refusal, Memory}
-use Rattle.blob_faulty.specs.Faults.{draw}
+use Rattle.blob_model.specs.Directory.{Directory, Incarnation, current, place_in}
+use Rattle.blob_model.specs.Files.{Files, opened, after_open, admitted, durable_at}
+use Rattle.blob_model.specs.Opening.{Opening, Continues, Begins, Declines, opening, place_of}
+use Rattle.blob_model.specs.Persistence.{HasByte}
+use Rattle.blob_model.specs.Places.{Place}
+use Rattle.blob_header.specs.Refusals.{Refusal, Memory}
+use Rattle.blob_faults.specs.Faults.{draw}
 use Rattle.blob_memory.specs.Answers.{opening_refusal, open_refusal}
-use Rattle.blob_lab.specs.declared.call.Call.{Call}
-use Rattle.blob_lab.specs.declared.reply.Reply.{Reply}
-use Rattle.blob_lab.specs.declared.reply.Reply.TheVariants as reply
-use Rattle.blob_lab.specs.Acts.{Accepted, Act, Open, act_of}
+use Rattle.blob_calls.specs.declared.call.Call.{Call}
+use Rattle.blob_calls.specs.declared.reply.Reply.{Reply}
+use Rattle.blob_calls.specs.declared.reply.Reply.TheVariants as reply
+use Rattle.blob_calls.specs.Acts.{Accepted, Act, Open, act_of}
 use Rattle.blob_lab.specs.After.{after}
 use Rattle.blob_lab.specs.Answers as answers
 use Rattle.blob_lab.specs.Answers.{Answers, IsAnswer, kept_at, unless_denied}
 use Rattle.blob_lab.specs.Denials.{or_then, injected_if, exhausted_if, is_unnumbered, loose_denial, open_already, open_denial}
 use Rattle.blob_lab.specs.Fixed.{Byte, is_of, Opens, Lasts, Persists}
-use Rattle.blob_lab.specs.OpenNames.{Registration}
+use Rattle.blob_opens.specs.OpenNames.{Registration}
 use Rattle.blob_lab.specs.Reached.{is_loose, NoneLoose, ReachedExclusively}
 use Rattle.blob_lab.specs.Runs.{Run}
 use Rattle.blob_lab.specs.States.{State, Held, held_on}
-use Rattle.blob_lab.specs.Told.{Tells, refused_by}
+use Rattle.blob_calls.specs.Told.{Tells, refused_by}
 use Rattle.blob_lab.proofs.Exclusive.{reached_exclusive, or_then_none}
 use Rattle.blob_lab.proofs.Firm.{IsFirm, Now, Behind, at, of_parts, firm_has}
 use Rattle.blob_lab.proofs.FirmSteps.{HasFirm, IsSound, firm_after}

@@ -1,4 +1,11 @@
 mod Accepting
+mod LabLaws
+mod OpensAgain
+mod ReachedStates
+mod Sizes
+mod Stale
+mod ToldRefusals
+mod ValidOpens
 pub mod AskSteps
 pub mod AskedSyncs
 pub mod AskedWrites
@@ -16,42 +23,24 @@ pub mod FirmOpens
 pub mod FirmSteps
 pub mod Fixing
 pub mod FreshLogs
-pub mod Keeping
-mod LabLaws
 pub mod Lasting
 pub mod LooseOpens
-pub mod Maps
 pub mod NamedCalls
-pub mod Numbers
 pub mod OpenEnds
-pub mod OpenHistory
-pub mod OpenNames
 pub mod OpenSteps
 pub mod Opened
-mod OpensAgain
 pub mod Performing
 pub mod PersistenceRows
-mod ReachedStates
 pub mod Reading
 pub mod Rebuilding
-pub mod Recreation
 pub mod RunSteps
-pub mod SaidLines
 pub mod ScriptLines
 pub mod ScriptRuns
 pub mod ScriptStarts
 pub mod ScriptSteps
-mod Sizes
 pub mod Slots
-mod Stale
-pub mod Steps
 pub mod TableSteps
 pub mod Telling
 pub mod ThroughHandles
-pub mod Tokens
-mod ToldRefusals
-mod ValidOpens
-pub mod WordLists
-pub mod WorkedLines
 pub mod WorkedRows
 pub mod WorkedScripts

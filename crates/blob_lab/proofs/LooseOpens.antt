@@ -1,31 +1,31 @@
 -- Opens of the wrapper alone.
 use Rattle.std.proofs.Common.{◌≡◌, ℕ, ◌++◌, List, [], ◌∷◌, Option, Some, None, refl, sym, ap, ◌∙◌, subst, length}
 use Rattle.std.specs.Prelude.{option_map}
-use Rattle.blob_base.specs.Directory.{Directory, current}
-use Rattle.blob_base.specs.Durable.{Durable}
-use Rattle.blob_base.specs.Files.{Files, after_open}
-use Rattle.blob_base.specs.Opening.{IsOpened, opening}
-use Rattle.blob_base.specs.Places.{Place}
-use Rattle.blob_base.specs.Refusals.{Refusal, refusal_of}
-use Rattle.blob_base.specs.declared.error.Error.{Error}
-use Rattle.blob_base.specs.declared.version.BlobVersion.{BlobVersion}
-use Rattle.blob_base.proofs.NameSteps.{read_by_open}
+use Rattle.blob_model.specs.Directory.{Directory, current}
+use Rattle.blob_model.specs.Durable.{Durable}
+use Rattle.blob_model.specs.Files.{Files, after_open}
+use Rattle.blob_model.specs.Opening.{IsOpened, opening}
+use Rattle.blob_model.specs.Places.{Place}
+use Rattle.blob_header.specs.Refusals.{Refusal, refusal_of}
+use Rattle.blob_header.specs.declared.error.Error.{Error}
+use Rattle.blob_header.specs.declared.version.BlobVersion.{BlobVersion}
+use Rattle.blob_model.proofs.NameSteps.{read_by_open}
 use Rattle.blob_faulty.specs.Answers.{injected_or}
-use Rattle.blob_faulty.specs.Faults.{draw}
+use Rattle.blob_faults.specs.Faults.{draw}
 use Rattle.blob_faulty.specs.Wrapper.{config_of, inner_of as store_of}
 use Rattle.blob_memory.specs.Answers.{OrMemory, open_refusal}
 use Rattle.blob_memory.specs.Store.{directory, durable}
 use Rattle.blob_lab.specs.declared.lab.Lab.{Lab}
-use Rattle.blob_lab.specs.declared.reply.Reply.TheVariants as reply
-use Rattle.blob_lab.specs.Acts.{OpenLoose}
+use Rattle.blob_calls.specs.declared.reply.Reply.TheVariants as reply
+use Rattle.blob_calls.specs.Acts.{OpenLoose}
 use Rattle.blob_lab.specs.Answers.{opened, size_of, version_of}
 use Rattle.blob_lab.specs.Denials.{or_then, injected_if, loose_denial}
 use Rattle.blob_lab.specs.LabStands.{IsFor, StandsFor, Performs, Wrapper, stream_of}
-use Rattle.blob_lab.specs.OpenNames.{Registration}
-use Rattle.blob_lab.specs.Opens.{names_of}
+use Rattle.blob_opens.specs.OpenNames.{Registration}
+use Rattle.blob_opens.specs.Opens.{names_of}
 use Rattle.blob_lab.specs.States.{Held, AreGiven, held_on}
 use Rattle.blob_lab.specs.Tables.{handles_of, syncs_of}
-use Rattle.blob_lab.specs.Told.{Tells}
+use Rattle.blob_calls.specs.Told.{Tells}
 use Rattle.blob_lab.proofs.Denying.{drawn_denial, not_memory}
 use Rattle.blob_lab.proofs.OpenSteps.{held_opened, size_found, version_found, given_opened}
 use Rattle.blob_lab.proofs.Opened.{current_opened}

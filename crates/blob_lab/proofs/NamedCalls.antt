@@ -2,31 +2,31 @@
 use Rattle.std.proofs.Common.{◌≡◌, ℕ, inl, inr, List, Option, Some, None, refl, sym, ap, ◌∙◌, subst, map}
 use Rattle.std.specs.Prelude.{is_some}
 use Rattle.rand_core.specs.Stream.{Stream}
-use Rattle.blob_base.specs.Directory.{Directory}
-use Rattle.blob_base.specs.Draws.{Row, drawn, chosen_by}
-use Rattle.blob_base.specs.Files.{Files, admitted, after_remove, after_crash, reopened, all_needs}
-use Rattle.blob_base.specs.Refusals.{Refusal, Memory, refusal_of}
-use Rattle.blob_base.specs.declared.error.Error.{Error}
-use Rattle.blob_base.proofs.NameSteps.{next_removed}
+use Rattle.blob_model.specs.Directory.{Directory}
+use Rattle.blob_model.specs.Draws.{Row, drawn, chosen_by}
+use Rattle.blob_model.specs.Files.{Files, admitted, after_remove, after_crash, reopened, all_needs}
+use Rattle.blob_header.specs.Refusals.{Refusal, Memory, refusal_of}
+use Rattle.blob_header.specs.declared.error.Error.{Error}
+use Rattle.blob_model.proofs.NameSteps.{next_removed}
 use Rattle.blob_faulty.specs.Answers.{injected_or}
-use Rattle.blob_faulty.specs.Faults.{draw}
+use Rattle.blob_faults.specs.Faults.{draw}
 use Rattle.blob_faulty.specs.Wrapper.{config_of, inner_of as store_of}
-use Rattle.blob_faulty.specs.declared.config.Config.{Config}
+use Rattle.blob_faults.specs.declared.config.Config.{Config}
 use Rattle.blob_memory.specs.Answers.{OrMemory, remove_refusal, partition_refusal}
 use Rattle.blob_memory.specs.Store.{directory}
 use Rattle.blob_lab.specs.declared.lab.Lab.{Lab}
-use Rattle.blob_lab.specs.declared.reply.Reply.{Reply}
-use Rattle.blob_lab.specs.declared.reply.Reply.TheVariants as reply
-use Rattle.blob_lab.specs.Acts.{Configure, Admit, Remove, Scan, Crash, Reopen}
+use Rattle.blob_calls.specs.declared.reply.Reply.{Reply}
+use Rattle.blob_calls.specs.declared.reply.Reply.TheVariants as reply
+use Rattle.blob_calls.specs.Acts.{Configure, Admit, Remove, Scan, Crash, Reopen}
 use Rattle.blob_lab.specs.Denials.{or_then, injected_if, remove_denial, scan_denial}
 use Rattle.blob_lab.specs.After as after
 use Rattle.blob_lab.specs.LabStands.{IsFor, StandsFor, Performs, stream_of}
-use Rattle.blob_lab.specs.OpenNames.{ended, none_open}
-use Rattle.blob_lab.specs.Opens.{names_of}
+use Rattle.blob_opens.specs.OpenNames.{ended, none_open}
+use Rattle.blob_opens.specs.Opens.{names_of}
 use Rattle.blob_lab.specs.States.{AreGiven}
 use Rattle.blob_lab.specs.Tables.{handles_of, syncs_of}
-use Rattle.blob_lab.specs.Told as told
-use Rattle.blob_lab.specs.Told.{Tells, refused_by}
+use Rattle.blob_calls.specs.Told as told
+use Rattle.blob_calls.specs.Told.{Tells, refused_by}
 use Rattle.blob_lab.proofs.Denying.{drawn_denial, not_memory}
 use Rattle.blob_lab.proofs.Performing.{state_of, performs}
 use Rattle.blob_lab.proofs.Stale.{admitted_directory}

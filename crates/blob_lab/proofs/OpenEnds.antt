@@ -1,16 +1,16 @@
 -- Opens that the wrapper isn't asked for, and what an accepted one was answered.
 use Rattle.std.proofs.Common.{◌≡◌, ℕ, ◌<◌, ◌-◌, ◌^◌, inl, inr, List, Option, Some, None, refl, sym, ap, subst}
-use Rattle.blob_base.specs.Refusals.{Refusal, Memory, refusal_of}
-use Rattle.blob_base.specs.declared.error.Error.{Error}
+use Rattle.blob_header.specs.Refusals.{Refusal, Memory, refusal_of}
+use Rattle.blob_header.specs.declared.error.Error.{Error}
 use Rattle.blob_lab.specs.declared.lab.Lab.{Lab}
-use Rattle.blob_lab.specs.declared.reply.Reply.{Reply}
-use Rattle.blob_lab.specs.declared.reply.Reply.TheVariants as reply
-use Rattle.blob_lab.specs.Acts.{Accepted, Open, OpenLoose}
+use Rattle.blob_calls.specs.declared.reply.Reply.{Reply}
+use Rattle.blob_calls.specs.declared.reply.Reply.TheVariants as reply
+use Rattle.blob_calls.specs.Acts.{Accepted, Open, OpenLoose}
 use Rattle.blob_faulty.specs.Wrapper.{config_of}
 use Rattle.blob_lab.specs.LabStands.{IsFor, Performs, Wrapper}
-use Rattle.blob_lab.specs.OpenNames as names
-use Rattle.blob_lab.specs.OpenNames.{OpenNames, OpenAnswer}
-use Rattle.blob_lab.specs.Opens.{names_of}
+use Rattle.blob_opens.specs.OpenNames as names
+use Rattle.blob_opens.specs.OpenNames.{OpenNames, OpenAnswer}
+use Rattle.blob_opens.specs.Opens.{names_of}
 use Rattle.blob_lab.specs.Tables.{handles_of, syncs_of}
 use Rattle.blob_lab.proofs.ExclusiveOpens.{exclusive_memory}
 use Rattle.blob_lab.proofs.Performing.{performs, stands_same}

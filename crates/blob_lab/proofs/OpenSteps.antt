@@ -2,19 +2,19 @@
 use Rattle.std.proofs.Common.{◌≡◌, ℕ, ◌<◌, ◌++◌, List, [], ◌∷◌, Option, Some, None, IfSome, sym, ap, ◌∙◌, subst, length}
 use Rattle.std.specs.Prelude.{is_some, option_map}
 use Rattle.std.proofs.lemmas.List.Elements.{All-push, All-weaker}
-use Rattle.blob_base.specs.Directory.{Directory, current}
-use Rattle.blob_base.specs.Durable.{Durable}
-use Rattle.blob_base.specs.Files.{Files, durable_at, log_of}
-use Rattle.blob_base.specs.Opening.{opening, IsOpened, Continued, Begun}
-use Rattle.blob_base.specs.Places.{Place}
-use Rattle.blob_base.specs.Stands.{StandsAt}
-use Rattle.blob_base.proofs.NameSteps.{read_by_open}
+use Rattle.blob_model.specs.Directory.{Directory, current}
+use Rattle.blob_model.specs.Durable.{Durable}
+use Rattle.blob_model.specs.Files.{Files, durable_at, log_of}
+use Rattle.blob_model.specs.Opening.{opening, IsOpened, Continued, Begun}
+use Rattle.blob_model.specs.Places.{Place}
+use Rattle.blob_model.specs.Stands.{StandsAt}
+use Rattle.blob_model.proofs.NameSteps.{read_by_open}
 use Rattle.blob_faulty.specs.Wrapper.{inner_of as store_of, pending_of}
 use Rattle.blob_memory.specs.Laws.{currents, given}
 use Rattle.blob_memory.specs.Store.{directory, durable}
 use Rattle.blob_lab.specs.Answers.{size_of, version_of}
 use Rattle.blob_lab.specs.LabStands.{IsFor, Wrapper}
-use Rattle.blob_lab.specs.OpenNames.{Registration}
+use Rattle.blob_opens.specs.OpenNames.{Registration}
 use Rattle.blob_lab.specs.States.{Held, AreGiven, held_on}
 use Rattle.blob_lab.proofs.Opened.{next_opened}
 

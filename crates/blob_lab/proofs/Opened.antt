@@ -3,16 +3,16 @@ use Rattle.std.proofs.Common.{◌≡◌, ℕ, ◌<◌, ◌+◌, List, Bool, true
 use Rattle.std.proofs.lemmas.Bool.{cond-true}
 use Rattle.std.specs.Cmp.Lexicographic.{bytes_decides}
 use Rattle.std.specs.Str.{bytes_eq}
-use Rattle.blob_base.specs.declared.layout.Layout.{Layout}
-use Rattle.blob_base.specs.Directory.{Directory, File, Raw, Incarnation, place_in, current, with_file}
-use Rattle.blob_base.specs.Durable.{Durable}
-use Rattle.blob_base.specs.Opening.{Continues, Declines, opening, place_of, IsOpened, Continued, Begun}
-use Rattle.blob_base.specs.Parse.{every_layout}
-use Rattle.blob_base.specs.Places.{Place}
-use Rattle.blob_base.specs.Refusals.{Refusal}
-use Rattle.blob_base.specs.Resolve.{resolution}
-use Rattle.blob_base.specs.Versions.{is_in_range}
-use Rattle.blob_base.proofs.RawFiles.{raw_not_continues}
+use Rattle.blob_header.specs.declared.layout.Layout.{Layout}
+use Rattle.blob_model.specs.Directory.{Directory, File, Raw, Incarnation, place_in, current, with_file}
+use Rattle.blob_model.specs.Durable.{Durable}
+use Rattle.blob_model.specs.Opening.{Continues, Declines, opening, place_of, IsOpened, Continued, Begun}
+use Rattle.blob_header.specs.Parse.{every_layout}
+use Rattle.blob_model.specs.Places.{Place}
+use Rattle.blob_header.specs.Refusals.{Refusal}
+use Rattle.blob_header.specs.Resolve.{resolution}
+use Rattle.blob_header.specs.Versions.{is_in_range}
+use Rattle.blob_model.proofs.RawFiles.{raw_not_continues}
 
 in_range : (b : Bool) (p n : List ℕ) (k : ℕ) (l : Layout) (w : ℕ) (r : Refusal) (number : ℕ) (layout : Layout) (version : ℕ) → (if b then Continues k l w else Declines r) ≡ Continues number layout version → place_of p n k l ≡ place_of p n number layout
 in_range true p n k l w r number layout version e =

@@ -4,30 +4,30 @@ use Rattle.hex.specs.Hex.{encode_lower}
 use Rattle.std.proofs.lemmas.Bool.{false≢true, and_from, le-leb}
 use Rattle.std.proofs.lemmas.Option.{none-some}
 use Rattle.rand_core.specs.Stream.{Stream}
-use Rattle.blob_base.specs.declared.layout.Layout.{Layout}
-use Rattle.blob_base.specs.declared.version.BlobVersion.{BlobVersion}
-use Rattle.blob_base.specs.Directory.{Directory, File, Raw, Incarnation}
-use Rattle.blob_base.specs.Files.{Files, opened, after_open, raw_again, durable_at}
-use Rattle.blob_base.specs.Header.{region}
-use Rattle.blob_base.specs.Opening.{Opening, Continues, Begins, Declines, opening, place_of}
-use Rattle.blob_base.specs.Parse.{every_layout}
-use Rattle.blob_base.specs.PartitionName.{is_partition_name}
-use Rattle.blob_base.specs.Refusals.{Refusal, BlobAlreadyOpen, BlobVersionMismatch, PartitionNameInvalid, GenerationsExhausted}
-use Rattle.blob_base.specs.Resolve.{resolution}
-use Rattle.blob_base.specs.Versions.{is_in_range}
-use Rattle.blob_base.proofs.RawFiles.{raw_opens, raw_not_continues}
-use Rattle.blob_faulty.specs.Faults.{draw}
+use Rattle.blob_header.specs.declared.layout.Layout.{Layout}
+use Rattle.blob_header.specs.declared.version.BlobVersion.{BlobVersion}
+use Rattle.blob_model.specs.Directory.{Directory, File, Raw, Incarnation}
+use Rattle.blob_model.specs.Files.{Files, opened, after_open, raw_again, durable_at}
+use Rattle.blob_header.specs.Header.{region}
+use Rattle.blob_model.specs.Opening.{Opening, Continues, Begins, Declines, opening, place_of}
+use Rattle.blob_header.specs.Parse.{every_layout}
+use Rattle.blob_header.specs.PartitionName.{is_partition_name}
+use Rattle.blob_header.specs.Refusals.{Refusal, BlobAlreadyOpen, BlobVersionMismatch, PartitionNameInvalid, GenerationsExhausted}
+use Rattle.blob_header.specs.Resolve.{resolution}
+use Rattle.blob_header.specs.Versions.{is_in_range}
+use Rattle.blob_model.proofs.RawFiles.{raw_opens, raw_not_continues}
+use Rattle.blob_faults.specs.Faults.{draw}
 use Rattle.blob_memory.specs.Answers.{opening_refusal, open_refusal}
-use Rattle.blob_lab.specs.declared.reply.Reply.TheVariants as reply
+use Rattle.blob_calls.specs.declared.reply.Reply.TheVariants as reply
 use Rattle.blob_lab.specs.Accepted.{opened_name, IsKept, Accepts, HasFileOf, IsCurrent, IsRaw, OpensAs, IsToldOf}
-use Rattle.blob_lab.specs.Acts.{Act, Configure, Open, OpenLoose, Admit, Close, Through, Finish, Remove, Scan, Crash, Reopen, act_of}
+use Rattle.blob_calls.specs.Acts.{Act, Configure, Open, OpenLoose, Admit, Close, Through, Finish, Remove, Scan, Crash, Reopen, act_of}
 use Rattle.blob_lab.specs.After.{after}
 use Rattle.blob_lab.specs.Answers.{Answers, answer, found, size_of, unless_denied, version_of}
 use Rattle.blob_lab.specs.Answers as answers
 use Rattle.blob_lab.specs.Denials.{or_then, injected_if, exhausted_if, open_denial, loose_denial, is_unnumbered, open_already}
 use Rattle.blob_lab.specs.States.{State}
-use Rattle.blob_lab.specs.Told as told
-use Rattle.blob_lab.specs.Told.{Told, Tells}
+use Rattle.blob_calls.specs.Told as told
+use Rattle.blob_calls.specs.Told.{Told, Tells}
 use Rattle.blob_lab.proofs.Accepting.{IsOf, of_again, still_run}
 use Rattle.blob_lab.proofs.Exclusive.{or_then_none}
 use Rattle.blob_lab.proofs.Opened.{with_file_here}

@@ -2,19 +2,19 @@
 use Rattle.std.proofs.Common.{◌≡◌, ℕ, ◌<◌, List, Option, Some, None, IfSome, refl, sym, ap, subst}
 use Rattle.std.specs.Prelude.{slice_get, option_and_then}
 use Rattle.std.proofs.lemmas.Option.{get_or_from_slice_get, slice_get_within}
-use Rattle.blob_base.specs.Files.{Files}
+use Rattle.blob_model.specs.Files.{Files}
 use Rattle.blob_faulty.specs.Wrapper.{Stands, config_of, inner_of as store_of}
 use Rattle.blob_memory.specs.Store.{directory, durable}
 use Rattle.blob_lab.specs.declared.lab.Lab.{Lab}
-use Rattle.blob_lab.specs.declared.reply.Reply.{Reply}
-use Rattle.blob_lab.specs.Acts.{Act}
+use Rattle.blob_calls.specs.declared.reply.Reply.{Reply}
+use Rattle.blob_calls.specs.Acts.{Act}
 use Rattle.blob_lab.specs.After.{after}
 use Rattle.blob_lab.specs.Answers.{Answers, kept_at}
 use Rattle.blob_lab.specs.LabStands.{StandsFor, Performs, Wrapper, stream_of}
-use Rattle.blob_lab.specs.Opens.{names_of}
+use Rattle.blob_opens.specs.Opens.{names_of}
 use Rattle.blob_lab.specs.States.{State, Held, AreGiven}
 use Rattle.blob_lab.specs.Tables.{handles_of, syncs_of}
-use Rattle.blob_lab.specs.Told.{refused_by}
+use Rattle.blob_calls.specs.Told.{refused_by}
 
 -- the state that a laboratory is seen as, of some files
 abbrev pub state_of : Lab → Files → State

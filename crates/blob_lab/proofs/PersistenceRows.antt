@@ -3,20 +3,20 @@ use Rattle.std.proofs.Common.{◌≡◌, ◌≤◌, ◌<◌, ℕ, List, [], ◌�
 use Rattle.std.specs.Prelude.{codes}
 use Rattle.rand_core.specs.Steps.{stream_of}
 use Rattle.rand_core.specs.Stream.{next_u64}
-use Rattle.blob_base.specs.Bytes.{overlay_by, resized}
-use Rattle.blob_base.specs.Draws.{front}
-use Rattle.blob_base.specs.Rates.{sampled}
-use Rattle.blob_base.specs.Refusals.{Injected}
-use Rattle.blob_faulty.specs.declared.config.Config.{Config}
-use Rattle.blob_faulty.specs.declared.mode.PartialWriteMode.TheVariants.{Prefix}
-use Rattle.blob_lab.specs.Acts.{Act, Open, OpenLoose, Configure, Close, Through, Read, Write, Resize, Sync, StartSync, Crash, Remove}
+use Rattle.blob_model.specs.Bytes.{overlay_by, resized}
+use Rattle.blob_model.specs.Draws.{front}
+use Rattle.blob_model.specs.Rates.{sampled}
+use Rattle.blob_header.specs.Refusals.{Injected}
+use Rattle.blob_faults.specs.declared.config.Config.{Config}
+use Rattle.blob_faults.specs.declared.mode.PartialWriteMode.TheVariants.{Prefix}
+use Rattle.blob_calls.specs.Acts.{Act, Open, OpenLoose, Configure, Close, Through, Read, Write, Resize, Sync, StartSync, Crash, Remove}
 use Rattle.blob_lab.specs.After.{after}
 use Rattle.blob_lab.specs.Answers.{answer}
 use Rattle.blob_lab.specs.Fixed.{Byte, reaches, Fixes, HasDurably}
-use Rattle.blob_lab.specs.Settings.{cleared}
+use Rattle.blob_calls.specs.Settings.{cleared}
 use Rattle.blob_lab.specs.Scripted.{only}
 use Rattle.blob_lab.specs.States.{State, start}
-use Rattle.blob_lab.specs.Told as told
+use Rattle.blob_calls.specs.Told as told
 
 abbrev partition : List ℕ
 partition = codes "p"

@@ -8,26 +8,26 @@ use Rattle.std.proofs.lemmas.Bool.{cond_both, cases_Bool, false≢true}
 use Rattle.std.proofs.lemmas.Option.{IfSome_then, get_or_from_slice_get, slice_get_within}
 use Rattle.std.proofs.lemmas.List.Elements.{All-nil, All-push, All-set, All-weaker}
 use Rattle.rand_core.specs.Stream.{Stream}
-use Rattle.blob_base.specs.declared.layout.Layout.{Layout}
-use Rattle.blob_base.specs.Directory.{Directory, File, Raw, Incarnation, current, is_current, with_file}
-use Rattle.blob_base.specs.Files.{Files, opened, after_open, admitted, raw_again, durable_at}
-use Rattle.blob_base.specs.Opening.{Opening, Continues, Begins, Declines, opening, removed}
-use Rattle.blob_base.specs.PartitionName.{is_partition_name}
-use Rattle.blob_base.specs.Places.{Place}
-use Rattle.blob_base.specs.Refusals.{Refusal, BlobAlreadyOpen}
-use Rattle.blob_faulty.specs.declared.config.Config.{Config}
-use Rattle.blob_lab.specs.declared.call.Call.{Call}
-use Rattle.blob_lab.specs.declared.reply.Reply.{Reply}
-use Rattle.blob_lab.specs.Acts.{Ask, Size, Act, Configure, Open, OpenLoose, Admit, Close, Through, Finish, Remove, Scan, Crash, Reopen, act_of}
+use Rattle.blob_header.specs.declared.layout.Layout.{Layout}
+use Rattle.blob_model.specs.Directory.{Directory, File, Raw, Incarnation, current, is_current, with_file}
+use Rattle.blob_model.specs.Files.{Files, opened, after_open, admitted, raw_again, durable_at}
+use Rattle.blob_model.specs.Opening.{Opening, Continues, Begins, Declines, opening, removed}
+use Rattle.blob_header.specs.PartitionName.{is_partition_name}
+use Rattle.blob_model.specs.Places.{Place}
+use Rattle.blob_header.specs.Refusals.{Refusal, BlobAlreadyOpen}
+use Rattle.blob_faults.specs.declared.config.Config.{Config}
+use Rattle.blob_calls.specs.declared.call.Call.{Call}
+use Rattle.blob_calls.specs.declared.reply.Reply.{Reply}
+use Rattle.blob_calls.specs.Acts.{Ask, Size, Act, Configure, Open, OpenLoose, Admit, Close, Through, Finish, Remove, Scan, Crash, Reopen, act_of}
 use Rattle.blob_lab.specs.After.{after, asked, files_after, held_after, closed, finished}
 use Rattle.blob_lab.specs.Answers.{Answers, IsAnswer, answer, through, may_grow, kept_at}
-use Rattle.blob_lab.specs.OpenNames.{Registration}
+use Rattle.blob_opens.specs.OpenNames.{Registration}
 use Rattle.blob_lab.specs.Reached.{Reached}
 use Rattle.blob_lab.specs.Runs.{Run}
 use Rattle.blob_lab.specs.Scripted.{Words}
 use Rattle.blob_lab.specs.States.{State, Held, Started, Image, empty_directory, with_image, with_images, start, held_on}
-use Rattle.blob_lab.specs.Told as told
-use Rattle.blob_lab.specs.Told.{refused_by}
+use Rattle.blob_calls.specs.Told as told
+use Rattle.blob_calls.specs.Told.{refused_by}
 use Rattle.blob_lab.proofs.Exclusive.{current_of, exclusive_start}
 use Rattle.blob_lab.proofs.Sizes.{asked_sized}
 use Rattle.blob_lab.proofs.Stale.{AreCurrentGiven, Ages, ages, asked_directory, admitted_directory, place_after}

@@ -1,12 +1,12 @@
 -- A store that is rebuilt from a snapshot, and wrapped anew.
 use Rattle.std.proofs.Common.{◌≡◌, ℕ, List, [], true, Some, None, Option, refl, sym, ◌∙◌, subst}
 use Rattle.std.specs.Prelude.{unwrap_or, is_some}
-use Rattle.blob_base.specs.Directory.{Directory, is_current}
-use Rattle.blob_base.specs.Durable.{Durable}
-use Rattle.blob_base.specs.Files.{Files, directory_again, reopened}
-use Rattle.blob_base.specs.Pending.{Pending}
-use Rattle.blob_base.specs.Places.{Place}
-use Rattle.blob_base.specs.Stands.{StandsFor}
+use Rattle.blob_model.specs.Directory.{Directory, is_current}
+use Rattle.blob_model.specs.Durable.{Durable}
+use Rattle.blob_model.specs.Files.{Files, directory_again, reopened}
+use Rattle.blob_model.specs.Pending.{Pending}
+use Rattle.blob_model.specs.Places.{Place}
+use Rattle.blob_model.specs.Stands.{StandsFor}
 use Rattle.blob_faulty.specs.Wrapper.{inner_of as store_of, pending_of, next_write_of, next_marker_of}
 use Rattle.blob_memory.specs.Laws.{currents}
 use Rattle.blob_memory.specs.Store.{directory, durable}

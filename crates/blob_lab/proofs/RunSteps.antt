@@ -2,17 +2,17 @@
 use Rattle.std.proofs.Common.{◌≡◌, false, List, [], ◌∷◌, ◌++◌, refl, sym, ap, subst}
 use Rattle.std.proofs.lemmas.List.Elements.{All-nil, All-append}
 use Rattle.rand_core.specs.Stream.{Stream}
-use Rattle.blob_faulty.specs.declared.config.Config.{Config}
-use Rattle.blob_lab.specs.declared.call.Call.{Call}
-use Rattle.blob_lab.specs.declared.reply.Reply.{Reply}
-use Rattle.blob_lab.specs.Acts.{act_of}
+use Rattle.blob_faults.specs.declared.config.Config.{Config}
+use Rattle.blob_calls.specs.declared.call.Call.{Call}
+use Rattle.blob_calls.specs.declared.reply.Reply.{Reply}
+use Rattle.blob_calls.specs.Acts.{act_of}
 use Rattle.blob_lab.specs.After.{after}
 use Rattle.blob_lab.specs.Answers.{Answers}
 use Rattle.blob_lab.specs.Reached.{is_loose, NoneLoose, Reached, ReachedExclusively}
 use Rattle.blob_lab.specs.Runs.{Run}
 use Rattle.blob_lab.specs.Scripted.{Words}
 use Rattle.blob_lab.specs.States.{State, Image, start}
-use Rattle.blob_lab.specs.Told.{refused_by}
+use Rattle.blob_calls.specs.Told.{refused_by}
 
 -- one more call at the end of a run
 pub run_more : (w : State) (calls : List Call) (replies : List Reply) (v : State) (call : Call) (reply : Reply) (left : Stream) → Run v calls replies w → Answers w (act_of call) reply left

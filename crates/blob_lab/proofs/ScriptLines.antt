@@ -3,7 +3,7 @@ use Rattle.std.proofs.Common.{◌≡◌, ℕ, suc, ◌==◌, List, [], ◌∷◌
 use Rattle.std.proofs.Math.Numerals.{sub-one}
 use Rattle.std.proofs.lemmas.Bool.{lt-ltb}
 use Rattle.std.specs.Io.BufRead.{DropsThrough, take_through, drop_through, strip_last, first_piece}
-use Rattle.blob_lab.specs.Lines.{Said, line_of}
+use Rattle.blob_calls.specs.Lines.{Said, line_of}
 use Rattle.blob_lab.specs.ScriptReading.{OfLines, TakesLine}
 use Rattle.blob_lab.specs.Scripts.{with_byte, lines_of}
 

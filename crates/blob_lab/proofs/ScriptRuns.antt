@@ -5,17 +5,17 @@ use Rattle.std.proofs.lemmas.List.{flat_map_more, map-append}
 use Rattle.std.proofs.Math.ListN.{length-append}
 use Rattle.std.specs.Io.Iter.{u64_saturate}
 use Rattle.std.specs.Io.KnownBytes.{Appends}
-use Rattle.blob_faulty.specs.declared.config.Config.{Config}
-use Rattle.blob_lab.specs.declared.call.Call.{Call}
+use Rattle.blob_faults.specs.declared.config.Config.{Config}
+use Rattle.blob_calls.specs.declared.call.Call.{Call}
 use Rattle.blob_lab.specs.declared.ending.Ending.{Ending}
 use Rattle.blob_lab.specs.declared.ending.Ending.TheVariants.{Done, InputFailed, OutputFailed, BadCall, BadImage, Usage, NoMemory}
 use Rattle.blob_lab.specs.declared.lab.Lab.{Lab}
-use Rattle.blob_lab.specs.declared.reply.Reply.{Reply}
-use Rattle.blob_lab.specs.Acts.{Act, act_of}
+use Rattle.blob_calls.specs.declared.reply.Reply.{Reply}
+use Rattle.blob_calls.specs.Acts.{Act, act_of}
 use Rattle.blob_lab.specs.LabStands.{StandsFor, Performs}
 use Rattle.blob_lab.specs.ScriptReading.{OfLines, AddsCall, TakesCall, TakesBadCall, Begins}
 use Rattle.blob_lab.specs.Scripts.{Script, Answered, Prints, PrintsFront, PrintsBefore, PrintsUpTo, printed_reply, lines_of, with_call, with_lines}
-use Rattle.blob_lab.specs.Settings.{cleared}
+use Rattle.blob_calls.specs.Settings.{cleared}
 use Rattle.blob_lab.specs.States.{State, start}
 use Rattle.blob_lab.proofs.RunSteps.{run_more}
 use Rattle.blob_lab.proofs.ScriptSteps.{TakesFront, more_lines, one_line}

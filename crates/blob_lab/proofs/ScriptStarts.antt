@@ -3,17 +3,17 @@ use Rattle.std.proofs.Common.{◌≡◌, ℕ, ◌+◌, List, [], ◌∷◌, ◌+
 use Rattle.std.proofs.KnownBytes.{Appends-nil}
 use Rattle.std.proofs.Math.ListN.{length-append}
 use Rattle.std.specs.Io.Iter.{u64_saturate}
-use Rattle.blob_faulty.specs.declared.config.Config.{Config}
+use Rattle.blob_faults.specs.declared.config.Config.{Config}
 use Rattle.blob_lab.specs.declared.ending.Ending.{Ending}
 use Rattle.blob_lab.specs.declared.ending.Ending.TheVariants.{Done, InputFailed, OutputFailed, BadCall, BadImage, Usage, NoMemory}
 use Rattle.blob_lab.specs.declared.lab.Lab.{Lab}
 use Rattle.blob_lab.specs.declared.run_script.lines.Preamble.{Preamble}
-use Rattle.blob_lab.specs.Acts.{Act}
+use Rattle.blob_calls.specs.Acts.{Act}
 use Rattle.blob_lab.specs.LabStands.{StandsFor}
 use Rattle.blob_lab.specs.ScriptReading.{OfLines, TakesCall, TakesBadCall, Begins, preamble_of}
 use Rattle.blob_lab.specs.Scripts.{Script, IsPrinted, Prints, PrintsFront, PrintsBefore, PrintsUpTo, lines_of, no_script, script_of, with_lines}
 use Rattle.blob_lab.specs.Scripted.{only}
-use Rattle.blob_lab.specs.Settings.{cleared}
+use Rattle.blob_calls.specs.Settings.{cleared}
 use Rattle.blob_lab.specs.States.{start}
 use Rattle.blob_lab.specs.Tables.{images_of}
 use Rattle.blob_lab.proofs.ScriptRuns.{unsaid}

@@ -4,19 +4,19 @@ use Rattle.std.proofs.lemmas.List.{append-nil, map-append}
 use Rattle.std.proofs.Math.ListN.{length-append}
 use Rattle.std.specs.Global.{Global}
 use Rattle.std.specs.Io.Iter.{u64_saturate}
-use Rattle.blob_faulty.specs.declared.config.Config.{Config}
-use Rattle.blob_lab.specs.declared.call.Call.{Call as LabCall}
-use Rattle.blob_lab.specs.declared.call.Call.TheVariants as call
+use Rattle.blob_faults.specs.declared.config.Config.{Config}
+use Rattle.blob_calls.specs.declared.call.Call.{Call as LabCall}
+use Rattle.blob_calls.specs.declared.call.Call.TheVariants as call
 use Rattle.blob_lab.specs.declared.run_script.lines.Preamble.{Preamble}
-use Rattle.blob_lab.specs.declared.script.line.Line.TheVariants as line
-use Rattle.blob_lab.specs.declared.script.setting.Setting.{Setting}
-use Rattle.blob_lab.specs.Acts as acts
-use Rattle.blob_lab.specs.Acts.{Act, act_of}
-use Rattle.blob_lab.specs.Lines.{Said, Configure, Call, line_of, said_by}
+use Rattle.blob_calls.specs.declared.script.line.Line.TheVariants as line
+use Rattle.blob_calls.specs.declared.script.setting.Setting.{Setting}
+use Rattle.blob_calls.specs.Acts as acts
+use Rattle.blob_calls.specs.Acts.{Act, act_of}
+use Rattle.blob_calls.specs.Lines.{Said, Configure, Call, line_of, said_by}
 use Rattle.blob_lab.specs.ScriptReading.{OfLines, TakesLine, TakesCall, TakesBadCall, preamble_of}
 use Rattle.blob_lab.specs.Scripts.{Script, lines_of, with_call, before_calls, unseeded, with_said, with_line, with_lines}
 use Rattle.blob_lab.specs.Scripted.{behind_seeded}
-use Rattle.blob_lab.specs.Settings.{configured}
+use Rattle.blob_calls.specs.Settings.{configured}
 use Rattle.blob_lab.specs.Tables.{images_of}
 
 -- One line.

@@ -3,26 +3,26 @@ use Rattle.std.proofs.Common.{◌≡◌, inl, inr, ℕ, ◌+◌, max, Bool, true
 use Rattle.std.specs.Prelude.{is_some}
 use Rattle.std.proofs.lemmas.Bool.{false≢true}
 use Rattle.rand_core.specs.Stream.{Stream}
-use Rattle.blob_base.specs.Bytes.{written, resized}
-use Rattle.blob_base.specs.Directory.{Directory, is_current}
-use Rattle.blob_base.specs.Live.{live_written, all_written}
-use Rattle.blob_base.specs.Places.{Place}
-use Rattle.blob_base.specs.Refusals.{Refusal, BlobMissing, Injected, OffsetOverflow}
-use Rattle.blob_base.specs.Runs.{Run, runs}
-use Rattle.blob_base.proofs.Bytes.{length-overlay_by, length-resized, reach_all}
+use Rattle.blob_model.specs.Bytes.{written, resized}
+use Rattle.blob_model.specs.Directory.{Directory, is_current}
+use Rattle.blob_model.specs.Live.{live_written, all_written}
+use Rattle.blob_model.specs.Places.{Place}
+use Rattle.blob_header.specs.Refusals.{Refusal, BlobMissing, Injected, OffsetOverflow}
+use Rattle.blob_model.specs.Runs.{Run, runs}
+use Rattle.blob_model.proofs.Bytes.{length-overlay_by, length-resized, reach_all}
 use Rattle.blob_faulty.specs.Answers.{lacks_number, last_end}
-use Rattle.blob_faulty.specs.Faults.{WriteFate, Done, Unsynced, Failed, ResizeFate, Resizes, Stays, Reaches, write_fate, resize_fate, retention, is_nothing, is_uncounted}
-use Rattle.blob_faulty.specs.Recorded.{live_by, live_of_resize, size_of_runs, size_by, size_of_resize}
+use Rattle.blob_faults.specs.Faults.{WriteFate, Done, Unsynced, Failed, ResizeFate, Resizes, Stays, Reaches, write_fate, resize_fate, retention, is_nothing, is_uncounted}
+use Rattle.blob_faults.specs.Recorded.{live_by, live_of_resize, size_of_runs, size_by, size_of_resize}
 use Rattle.blob_memory.specs.Answers.{write_refusal, end_refusal, sync_refusal, missing, is_idle}
 use Rattle.blob_memory.specs.Answers as memory
-use Rattle.blob_lab.specs.declared.reply.Reply.{Reply}
-use Rattle.blob_lab.specs.Acts.{Ask, Read, Write, Resize, Size, Sync, StartSync}
+use Rattle.blob_calls.specs.declared.reply.Reply.{Reply}
+use Rattle.blob_calls.specs.Acts.{Ask, Read, Write, Resize, Size, Sync, StartSync}
 use Rattle.blob_lab.specs.After.{held_after}
 use Rattle.blob_lab.specs.Answers.{IsAnswer, unless_denied, through}
 use Rattle.blob_lab.specs.Denials.{or_then, exhausted_if, or_injected, runs_denial, fate_denial, write_denial}
 use Rattle.blob_lab.specs.States.{State, Held}
-use Rattle.blob_lab.specs.Told as told
-use Rattle.blob_lab.specs.Told.{refused_by}
+use Rattle.blob_calls.specs.Told as told
+use Rattle.blob_calls.specs.Told.{refused_by}
 use Rattle.blob_lab.proofs.ToldRefusals.{denied}
 
 -- A current handle isn't answered that its blob is missing.

@@ -3,19 +3,20 @@ use Rattle.std.proofs.Common.{◌≡◌, ◌≢◌, ℕ, ◌+◌, ◌-◌, ◌^�
 use Rattle.std.proofs.lemmas.Bool.{cond_both, and_left, eqb-true, false≢true, cases_Bool}
 use Rattle.std.specs.Str.{bytes_eq}
 use Rattle.rand_core.specs.Stream.{Stream}
-use Rattle.blob_base.specs.declared.layout.Layout.{Layout}
-use Rattle.blob_base.specs.Directory.{Directory, File, Raw, Incarnation, data_start, current, is_that, is_current, with_file, directory_made}
-use Rattle.blob_base.specs.Files.{Files, opened, after_open, admitted, admitted_at, all_logged, logged, raw_again, reopened, durable_at}
-use Rattle.blob_base.specs.Log.{Entry}
-use Rattle.blob_base.specs.Opening.{Opening, Continues, Begins, Declines, opening, removed}
-use Rattle.blob_base.specs.Places.{Place, same_place}
-use Rattle.blob_base.specs.Refusals.{Refusal, BlobAlreadyOpen}
-use Rattle.blob_faulty.specs.Faults.{draw, resize_fate}
-use Rattle.blob_faulty.specs.Recorded.{recorded_write, recorded_resize}
+use Rattle.blob_header.specs.declared.layout.Layout.{Layout}
+use Rattle.blob_model.specs.Directory.{Directory, File, Raw, Incarnation, current, is_that, is_current, with_file, directory_made}
+use Rattle.blob_header.specs.Header.{data_start}
+use Rattle.blob_model.specs.Files.{Files, opened, after_open, admitted, admitted_at, all_logged, logged, raw_again, reopened, durable_at}
+use Rattle.blob_model.specs.Log.{Entry}
+use Rattle.blob_model.specs.Opening.{Opening, Continues, Begins, Declines, opening, removed}
+use Rattle.blob_model.specs.Places.{Place, same_place}
+use Rattle.blob_header.specs.Refusals.{Refusal, BlobAlreadyOpen}
+use Rattle.blob_faults.specs.Faults.{draw, resize_fate}
+use Rattle.blob_faults.specs.Recorded.{recorded_write, recorded_resize}
 use Rattle.blob_memory.specs.Answers.{missing, sync_refusal}
-use Rattle.blob_base.specs.SamePlace.{parts, same_place_exact}
-use Rattle.blob_base.proofs.Durables.{others_logged, others_published}
-use Rattle.blob_lab.specs.Acts.{Ask, Read, Write, Resize, Size, Sync, StartSync, Act, Configure, Open, OpenLoose, Admit, Close, Through, Finish, Remove, Scan, Crash, Reopen}
+use Rattle.blob_model.specs.SamePlace.{parts, same_place_exact}
+use Rattle.blob_model.proofs.Durables.{others_logged, others_published}
+use Rattle.blob_calls.specs.Acts.{Ask, Read, Write, Resize, Size, Sync, StartSync, Act, Configure, Open, OpenLoose, Admit, Close, Through, Finish, Remove, Scan, Crash, Reopen}
 use Rattle.blob_lab.specs.After.{after, asked, begun, files_after, held_after, closed, finished, removed as removal, crashed, exclusively_opened, loosely_opened}
 use Rattle.blob_lab.specs.Answers.{kept_at}
 use Rattle.blob_lab.specs.Denials.{start_denial, sync_denial, injected_if, exhausted_if, or_then}

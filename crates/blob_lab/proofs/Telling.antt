@@ -1,13 +1,13 @@
 -- Replies that tell an answer.
 use Rattle.std.proofs.Common.{◌≡◌, ◌≢◌, ◌⊎◌, inl, inr, true, Option, Some, None, refl, subst, ⊎_elim}
 use Rattle.rand_core.specs.Stream.{Stream}
-use Rattle.blob_base.specs.declared.error.Error.{Error}
-use Rattle.blob_base.specs.Refusals.{Refusal, Memory, refusal_of}
+use Rattle.blob_header.specs.declared.error.Error.{Error}
+use Rattle.blob_header.specs.Refusals.{Refusal, Memory, refusal_of}
 use Rattle.blob_memory.specs.Answers.{OrMemory}
-use Rattle.blob_lab.specs.declared.reply.Reply.{Reply}
-use Rattle.blob_lab.specs.declared.reply.Reply.TheVariants.{Failed}
+use Rattle.blob_calls.specs.declared.reply.Reply.{Reply}
+use Rattle.blob_calls.specs.declared.reply.Reply.TheVariants.{Failed}
 use Rattle.blob_lab.specs.Answers.{IsAnswer, unless_denied}
-use Rattle.blob_lab.specs.Told.{Told, Tells}
+use Rattle.blob_calls.specs.Told.{Told, Tells}
 
 -- whether memory was wanted
 pub memory_or_not : (answer : Option Refusal) → (answer ≡ Some Memory) ⊎ (answer ≢ Some Memory)

@@ -1,20 +1,20 @@
 -- Calls through a handle, from what is asked of the handle and the wrapper.
 use Rattle.std.proofs.Common.{◌≡◌, ℕ, ◌<◌, inr, List, set, Bool, true, Option, Some, None, IfSome, refl, sym, ap, ◌∙◌, subst}
 use Rattle.std.proofs.lemmas.List.Elements.{All-set}
-use Rattle.blob_base.specs.Directory.{Directory}
-use Rattle.blob_base.specs.Places.{Place}
-use Rattle.blob_base.specs.Refusals.{Refusal}
+use Rattle.blob_model.specs.Directory.{Directory}
+use Rattle.blob_model.specs.Places.{Place}
+use Rattle.blob_header.specs.Refusals.{Refusal}
 use Rattle.blob_lab.specs.declared.lab.Lab.{Lab}
-use Rattle.blob_lab.specs.declared.reply.Reply.{Reply}
-use Rattle.blob_lab.specs.declared.reply.Reply.TheVariants.{NoHandle}
-use Rattle.blob_lab.specs.Acts.{Ask, StartSync, Through}
+use Rattle.blob_calls.specs.declared.reply.Reply.{Reply}
+use Rattle.blob_calls.specs.declared.reply.Reply.TheVariants.{NoHandle}
+use Rattle.blob_calls.specs.Acts.{Ask, StartSync, Through}
 use Rattle.blob_lab.specs.After.{asked, files_after, held_after, syncs_after}
 use Rattle.blob_lab.specs.Answers.{IsAnswer, through, asks_memory, kept_at}
 use Rattle.blob_lab.specs.LabStands.{StandsFor, Performs, Asks, Starts, stream_of}
-use Rattle.blob_lab.specs.Opens.{names_of}
+use Rattle.blob_opens.specs.Opens.{names_of}
 use Rattle.blob_lab.specs.States.{State, Held, AreGiven}
 use Rattle.blob_lab.specs.Tables.{handles_of, syncs_of}
-use Rattle.blob_lab.specs.Told.{refused_by}
+use Rattle.blob_calls.specs.Told.{refused_by}
 use Rattle.blob_lab.proofs.Performing.{state_of, performs, stands_same, given_at}
 use Rattle.blob_lab.proofs.Stale.{asked_directory, place_after}
 

@@ -1,11 +1,11 @@
 -- What a reply refused, by what it tells.
 use Rattle.std.proofs.Common.{◌≡◌, Option, Some, None, refl, ap, ◌∙◌}
-use Rattle.blob_base.specs.Refusals.{Refusal}
-use Rattle.blob_lab.specs.declared.reply.Reply.{Reply}
-use Rattle.blob_lab.specs.declared.reply.Reply.TheVariants as reply
+use Rattle.blob_header.specs.Refusals.{Refusal}
+use Rattle.blob_calls.specs.declared.reply.Reply.{Reply}
+use Rattle.blob_calls.specs.declared.reply.Reply.TheVariants as reply
 use Rattle.blob_lab.specs.Answers.{unless_denied}
-use Rattle.blob_lab.specs.Told as told
-use Rattle.blob_lab.specs.Told.{Told, Tells, refused_by}
+use Rattle.blob_calls.specs.Told as told
+use Rattle.blob_calls.specs.Told.{Told, Tells, refused_by}
 
 abbrev pub refused_in : Told → Option Refusal
 refused_in (told.Failed refusal) = Some refusal

@@ -2,18 +2,18 @@
 use Rattle.std.proofs.Common.{◌≡◌, inl, inr, ⊎_elim, ℕ, Bool, true, false, not, List, Option, Some, None, refl, sym, ap, ◌∙◌, if◌then◌else◌}
 use Rattle.std.proofs.lemmas.Bool.{cases_Bool, false≢true}
 use Rattle.rand_core.specs.Stream.{Stream}
-use Rattle.blob_base.specs.Opening.{opening}
-use Rattle.blob_base.specs.PartitionName.{is_partition_name}
-use Rattle.blob_base.specs.Refusals.{Refusal, BlobAlreadyOpen, PartitionNameInvalid}
-use Rattle.blob_faulty.specs.Faults.{draw}
+use Rattle.blob_model.specs.Opening.{opening}
+use Rattle.blob_header.specs.PartitionName.{is_partition_name}
+use Rattle.blob_header.specs.Refusals.{Refusal, BlobAlreadyOpen, PartitionNameInvalid}
+use Rattle.blob_faults.specs.Faults.{draw}
 use Rattle.blob_memory.specs.Answers.{opening_refusal}
-use Rattle.blob_lab.specs.declared.reply.Reply.{Reply}
-use Rattle.blob_lab.specs.Acts.{Open, OpenLoose}
+use Rattle.blob_calls.specs.declared.reply.Reply.{Reply}
+use Rattle.blob_calls.specs.Acts.{Open, OpenLoose}
 use Rattle.blob_lab.specs.Answers as answers
 use Rattle.blob_lab.specs.Answers.{Answers}
 use Rattle.blob_lab.specs.Denials.{or_then, injected_if, exhausted_if, open_denial, loose_denial, is_unnumbered, open_already}
 use Rattle.blob_lab.specs.States.{State}
-use Rattle.blob_lab.specs.Told.{refused_by}
+use Rattle.blob_calls.specs.Told.{refused_by}
 use Rattle.blob_lab.proofs.ToldRefusals.{denied}
 
 -- the open of the store was done: it was accepted, or refused because the name is open

@@ -2,23 +2,23 @@
 use Rattle.std.proofs.Common.{◌≡◌, ℕ, List, [], ◌∷◌, true, false, Some, None, refl}
 use Rattle.std.specs.Prelude.{codes}
 use Rattle.hex.specs.Hex.{encode_lower}
-use Rattle.blob_base.specs.Bytes.{overlay_by, resized}
-use Rattle.blob_base.specs.Checksum.{crc32c, register_of, low_bits, with_bit}
-use Rattle.blob_base.specs.Draws.{front}
-use Rattle.blob_base.specs.Header.{region}
-use Rattle.blob_base.specs.Parse.{page_failure}
-use Rattle.blob_base.specs.Rates.{sampled}
-use Rattle.blob_base.specs.Refusals.{BlobAlreadyOpen}
-use Rattle.blob_base.specs.Resolve.{resolution, is_torn}
-use Rattle.blob_faulty.specs.declared.config.Config.{Config}
-use Rattle.blob_faulty.specs.declared.mode.PartialWriteMode.TheVariants.{Prefix}
-use Rattle.blob_lab.specs.Acts.{Act, Open, Configure, Through, Read, Write, Sync, Crash, Reopen}
+use Rattle.blob_model.specs.Bytes.{overlay_by, resized}
+use Rattle.blob_header.specs.Checksum.{crc32c, register_of, low_bits, with_bit}
+use Rattle.blob_model.specs.Draws.{front}
+use Rattle.blob_header.specs.Header.{region}
+use Rattle.blob_header.specs.Parse.{page_failure}
+use Rattle.blob_model.specs.Rates.{sampled}
+use Rattle.blob_header.specs.Refusals.{BlobAlreadyOpen}
+use Rattle.blob_header.specs.Resolve.{resolution, is_torn}
+use Rattle.blob_faults.specs.declared.config.Config.{Config}
+use Rattle.blob_faults.specs.declared.mode.PartialWriteMode.TheVariants.{Prefix}
+use Rattle.blob_calls.specs.Acts.{Act, Open, Configure, Through, Read, Write, Sync, Crash, Reopen}
 use Rattle.blob_lab.specs.After.{after}
 use Rattle.blob_lab.specs.Answers.{answer}
 use Rattle.blob_lab.specs.Scripted.{scripted, only}
-use Rattle.blob_lab.specs.Settings.{cleared}
+use Rattle.blob_calls.specs.Settings.{cleared}
 use Rattle.blob_lab.specs.States.{State, start}
-use Rattle.blob_lab.specs.Told as told
+use Rattle.blob_calls.specs.Told as told
 
 abbrev partition : List ℕ
 partition = codes "p"

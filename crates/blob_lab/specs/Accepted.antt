@@ -3,22 +3,22 @@ use Rattle.std.specs.Prelude.{◌≡◌, ◌≢◌, ℕ, ◌-◌, ◌^◌, ◌<�
 use Rattle.std.specs.List.{AllZip}
 use Rattle.std.specs.Str.{bytes_eq}
 use Rattle.rand_core.specs.Stream.{Stream}
-use Rattle.blob_base.specs.declared.layout.Layout.{Layout}
-use Rattle.blob_base.specs.declared.version.BlobVersion.{BlobVersion}
-use Rattle.blob_base.specs.Directory.{Raw, Incarnation}
-use Rattle.blob_base.specs.Files.{Files, durable_at}
-use Rattle.blob_base.specs.Header.{region}
-use Rattle.blob_base.specs.Opening.{place_of}
-use Rattle.blob_base.specs.Refusals.{Refusal}
-use Rattle.blob_faulty.specs.Faults.{draw}
-use Rattle.blob_lab.specs.declared.call.Call.{Call}
-use Rattle.blob_lab.specs.declared.reply.Reply.{Reply}
-use Rattle.blob_lab.specs.declared.reply.Reply.TheVariants as reply
-use Rattle.blob_lab.specs.Acts.{Act, Open, OpenLoose, Remove, act_of}
+use Rattle.blob_header.specs.declared.layout.Layout.{Layout}
+use Rattle.blob_header.specs.declared.version.BlobVersion.{BlobVersion}
+use Rattle.blob_model.specs.Directory.{Raw, Incarnation}
+use Rattle.blob_model.specs.Files.{Files, durable_at}
+use Rattle.blob_header.specs.Header.{region}
+use Rattle.blob_model.specs.Opening.{place_of}
+use Rattle.blob_header.specs.Refusals.{Refusal}
+use Rattle.blob_faults.specs.Faults.{draw}
+use Rattle.blob_calls.specs.declared.call.Call.{Call}
+use Rattle.blob_calls.specs.declared.reply.Reply.{Reply}
+use Rattle.blob_calls.specs.declared.reply.Reply.TheVariants as reply
+use Rattle.blob_calls.specs.Acts.{Act, Open, OpenLoose, Remove, act_of}
 use Rattle.blob_lab.specs.Answers.{answer}
 use Rattle.blob_lab.specs.Runs.{Run}
 use Rattle.blob_lab.specs.States.{State}
-use Rattle.blob_lab.specs.Told.{Told, Opened, refused_by}
+use Rattle.blob_calls.specs.Told.{Told, Opened, refused_by}
 
 -- partition and name of what a call opens
 abbrev pub opened_name : Act → Option (List ℕ × List ℕ)

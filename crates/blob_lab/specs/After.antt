@@ -1,17 +1,17 @@
 -- What a call leaves of a laboratory, by what it refused.
 use Rattle.std.specs.Prelude.{ℕ, List, [], ◌∷◌, ◌++◌, map, set, Option, Some, None, option_map}
 use Rattle.rand_core.specs.Stream.{Stream}
-use Rattle.blob_base.specs.Directory.{current}
-use Rattle.blob_base.specs.Draws.{chosen_by, drawn}
-use Rattle.blob_base.specs.Files.{Files, all_logged, synced, started, admitted, after_open, after_remove, after_crash, reopened, all_needs}
-use Rattle.blob_base.specs.Refusals.{Refusal, BlobAlreadyOpen}
-use Rattle.blob_faulty.specs.Faults.{resize_fate}
-use Rattle.blob_faulty.specs.Recorded.{recorded_write, recorded_resize, live_of_write, live_of_resize, size_of_write, size_of_resize}
-use Rattle.blob_lab.specs.Acts.{Ask, Write, Resize, Sync, StartSync, Accepted, Act, Configure, Open, OpenLoose, Admit, Close, Through, Finish, Remove, Scan, Crash, Reopen}
+use Rattle.blob_model.specs.Directory.{current}
+use Rattle.blob_model.specs.Draws.{chosen_by, drawn}
+use Rattle.blob_model.specs.Files.{Files, all_logged, synced, started, admitted, after_open, after_remove, after_crash, reopened, all_needs}
+use Rattle.blob_header.specs.Refusals.{Refusal, BlobAlreadyOpen}
+use Rattle.blob_faults.specs.Faults.{resize_fate}
+use Rattle.blob_faults.specs.Recorded.{recorded_write, recorded_resize, live_of_write, live_of_resize, size_of_write, size_of_resize}
+use Rattle.blob_calls.specs.Acts.{Ask, Write, Resize, Sync, StartSync, Accepted, Act, Configure, Open, OpenLoose, Admit, Close, Through, Finish, Remove, Scan, Crash, Reopen}
 use Rattle.blob_lab.specs.Answers.{kept_at}
 use Rattle.blob_lab.specs.Denials.{start_denial}
-use Rattle.blob_lab.specs.OpenNames as names
-use Rattle.blob_lab.specs.OpenNames.{OpenNames, Registration, none_open}
+use Rattle.blob_opens.specs.OpenNames as names
+use Rattle.blob_opens.specs.OpenNames.{OpenNames, Registration, none_open}
 use Rattle.blob_lab.specs.States.{State, Held, Started, held_on}
 
 -- Through a handle.

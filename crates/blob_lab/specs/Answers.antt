@@ -1,17 +1,17 @@
 -- What a call of a laboratory is told, and what its draws leave of the generator's stream.
 use Rattle.std.specs.Prelude.{◌≡◌, ◌⊎◌, ℕ, Bool, true, false, if◌then◌else◌, List, length, take, drop, Option, Some, None, is_some, slice_get, option_and_then, IsTrue}
 use Rattle.rand_core.specs.Stream.{Stream}
-use Rattle.blob_base.specs.Draws.{drawn}
-use Rattle.blob_base.specs.Files.{Files, all_needs, durable_at}
-use Rattle.blob_base.specs.Opening.{Opening, Continues, Begins, Declines, opening, place_of}
-use Rattle.blob_base.specs.Refusals.{Refusal, Memory}
-use Rattle.blob_faulty.specs.Faults.{draw, after_write, resize_fate}
-use Rattle.blob_lab.specs.declared.reply.Reply.{Reply}
-use Rattle.blob_lab.specs.Acts.{Ask, Read, Write, Resize, Size, Sync, StartSync, Accepted, Act, Configure, Open, OpenLoose, Admit, Close, Through, Finish, Remove, Scan, Crash, Reopen}
+use Rattle.blob_model.specs.Draws.{drawn}
+use Rattle.blob_model.specs.Files.{Files, all_needs, durable_at}
+use Rattle.blob_model.specs.Opening.{Opening, Continues, Begins, Declines, opening, place_of}
+use Rattle.blob_header.specs.Refusals.{Refusal, Memory}
+use Rattle.blob_faults.specs.Faults.{draw, after_write, resize_fate}
+use Rattle.blob_calls.specs.declared.reply.Reply.{Reply}
+use Rattle.blob_calls.specs.Acts.{Ask, Read, Write, Resize, Size, Sync, StartSync, Accepted, Act, Configure, Open, OpenLoose, Admit, Close, Through, Finish, Remove, Scan, Crash, Reopen}
 use Rattle.blob_lab.specs.Denials.{is_unnumbered, read_denial, write_denial, resize_denial, sync_denial, open_denial, loose_denial, remove_denial, scan_denial}
 use Rattle.blob_lab.specs.States.{State, Held, Started}
-use Rattle.blob_lab.specs.Told as told
-use Rattle.blob_lab.specs.Told.{Told, Tells, refused_by}
+use Rattle.blob_calls.specs.Told as told
+use Rattle.blob_calls.specs.Told.{Told, Tells, refused_by}
 
 -- an answer: what is told, and what is left of the stream
 abbrev pub Answer : Type 0

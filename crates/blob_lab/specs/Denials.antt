@@ -1,14 +1,14 @@
 -- Why a call of a laboratory is refused, by its state: the first refusal whose condition holds, or none.
 use Rattle.std.specs.Prelude.{ℕ, ◌-◌, ◌^◌, ◌==◌, Bool, true, false, ◌&&◌, if◌then◌else◌, List, [], ◌∷◌, length, Option, Some, None, is_some, is_none}
 use Rattle.hex.specs.Hex.{encode_lower}
-use Rattle.blob_base.specs.Directory.{Directory}
-use Rattle.blob_base.specs.Places.{Place}
-use Rattle.blob_base.specs.Refusals.{Refusal, OffsetOverflow, BlobAlreadyOpen, Injected, GenerationsExhausted}
-use Rattle.blob_base.specs.Runs.{Run, runs}
+use Rattle.blob_model.specs.Directory.{Directory}
+use Rattle.blob_model.specs.Places.{Place}
+use Rattle.blob_header.specs.Refusals.{Refusal, OffsetOverflow, BlobAlreadyOpen, Injected, GenerationsExhausted}
+use Rattle.blob_model.specs.Runs.{Run, runs}
 use Rattle.blob_faulty.specs.Answers.{lacks_number, last_end}
-use Rattle.blob_faulty.specs.Faults.{WriteFate, Done, Unsynced, Failed, ResizeFate, Resizes, Stays, Reaches, draw, retention, write_fate, resize_fate, is_nothing, is_uncounted}
+use Rattle.blob_faults.specs.Faults.{WriteFate, Done, Unsynced, Failed, ResizeFate, Resizes, Stays, Reaches, draw, retention, write_fate, resize_fate, is_nothing, is_uncounted}
 use Rattle.blob_memory.specs.Answers.{read_refusal, write_refusal, end_refusal, sync_refusal, open_refusal, partition_refusal, remove_refusal}
-use Rattle.blob_lab.specs.OpenNames.{OpenNames}
+use Rattle.blob_opens.specs.OpenNames.{OpenNames}
 use Rattle.blob_lab.specs.States.{State, Held}
 
 -- the first of two that holds

@@ -1,9 +1,9 @@
 -- What exclusive opens keep: a current incarnation has one handle, and its name is open by that handle.
 use Rattle.std.specs.Prelude.{◌≡◌, ℕ, true, Option, Some}
-use Rattle.blob_base.specs.Directory.{is_current}
-use Rattle.blob_base.specs.Places.{Place, same_place}
+use Rattle.blob_model.specs.Directory.{is_current}
+use Rattle.blob_model.specs.Places.{Place, same_place}
 use Rattle.blob_lab.specs.Answers.{kept_at}
-use Rattle.blob_lab.specs.OpenNames.{OpenNames, Registration}
+use Rattle.blob_opens.specs.OpenNames.{OpenNames, Registration}
 use Rattle.blob_lab.specs.States.{State, Held}
 
 -- an incarnation's name is open, by the open of this registration

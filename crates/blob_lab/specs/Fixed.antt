@@ -2,23 +2,23 @@
 use Rattle.std.specs.Prelude.{◌≡◌, ◌≤◌, ◌<◌, ◌+◌, ◌-◌, ℕ, List, [], ◌∷◌, ◌++◌, Bool, true, false, ◌&&◌, Option, Some, None, length, slice_index, nat_le}
 use Rattle.std.specs.Str.{bytes_eq}
 use Rattle.rand_core.specs.Stream.{Stream}
-use Rattle.blob_base.specs.declared.layout.Layout.{Layout}
-use Rattle.blob_base.specs.Bytes.{lies}
-use Rattle.blob_base.specs.Directory.{Directory, File, Raw, Incarnation, is_current}
-use Rattle.blob_base.specs.Files.{Files, durable_at}
-use Rattle.blob_base.specs.Header.{region}
-use Rattle.blob_base.specs.Opening.{place_of}
-use Rattle.blob_base.specs.Persistence.{HasByte}
-use Rattle.blob_base.specs.Refusals.{Refusal}
-use Rattle.blob_lab.specs.declared.call.Call.{Call}
-use Rattle.blob_lab.specs.declared.reply.Reply.{Reply}
-use Rattle.blob_lab.specs.declared.reply.Reply.TheVariants.{Opened}
-use Rattle.blob_lab.specs.Acts.{Ask, Write, Resize, Sync, StartSync, Act, Open, Through, Remove, act_of}
+use Rattle.blob_header.specs.declared.layout.Layout.{Layout}
+use Rattle.blob_model.specs.Bytes.{lies}
+use Rattle.blob_model.specs.Directory.{Directory, File, Raw, Incarnation, is_current}
+use Rattle.blob_model.specs.Files.{Files, durable_at}
+use Rattle.blob_header.specs.Header.{region}
+use Rattle.blob_model.specs.Opening.{place_of}
+use Rattle.blob_model.specs.Persistence.{HasByte}
+use Rattle.blob_header.specs.Refusals.{Refusal}
+use Rattle.blob_calls.specs.declared.call.Call.{Call}
+use Rattle.blob_calls.specs.declared.reply.Reply.{Reply}
+use Rattle.blob_calls.specs.declared.reply.Reply.TheVariants.{Opened}
+use Rattle.blob_calls.specs.Acts.{Ask, Write, Resize, Sync, StartSync, Act, Open, Through, Remove, act_of}
 use Rattle.blob_lab.specs.After.{after, exclusively_opened}
 use Rattle.blob_lab.specs.Answers.{Answers, kept_at}
 use Rattle.blob_lab.specs.Denials.{start_denial}
 use Rattle.blob_lab.specs.States.{State, Held}
-use Rattle.blob_lab.specs.Told.{refused_by}
+use Rattle.blob_calls.specs.Told.{refused_by}
 
 -- a byte of a blob: partition, name, its position behind the header, and its value
 pub record Byte : Type 0 where

@@ -1,22 +1,22 @@
 -- What it is for a laboratory to stand for a state, and for a call to be one of it.
 use Rattle.std.specs.Prelude.{◌≡◌, ◌<◌, List, true, Option, Some}
 use Rattle.rand_core.specs.Stream.{Stream}
-use Rattle.blob_base.specs.Files.{Files}
-use Rattle.blob_base.specs.Places.{Place}
+use Rattle.blob_model.specs.Files.{Files}
+use Rattle.blob_model.specs.Places.{Place}
 use Rattle.blob_faulty.specs.Wrapper.{Stands, inner_of as store_of, rng_of, config_of}
 use Rattle.blob_faulty.specs.declared.storage.Storage as faulty
 use Rattle.blob_memory.specs.Store.{directory, durable}
 use Rattle.blob_memory.specs.declared.storage.Storage as memory
 use Rattle.blob_lab.specs.declared.lab.Lab.{Lab}
-use Rattle.blob_lab.specs.declared.reply.Reply.{Reply}
-use Rattle.blob_lab.specs.Acts.{Act, Ask, StartSync}
+use Rattle.blob_calls.specs.declared.reply.Reply.{Reply}
+use Rattle.blob_calls.specs.Acts.{Act, Ask, StartSync}
 use Rattle.blob_lab.specs.After.{after, files_after, held_after, syncs_after}
 use Rattle.blob_lab.specs.Answers.{Answers, IsAnswer, through}
-use Rattle.blob_lab.specs.Opens.{names_of}
+use Rattle.blob_opens.specs.Opens.{names_of}
 use Rattle.blob_lab.specs.Scripted.{Left, scripted}
 use Rattle.blob_lab.specs.States.{State, Held, Started, AreGiven}
 use Rattle.blob_lab.specs.Tables.{handles_of, syncs_of}
-use Rattle.blob_lab.specs.Told.{refused_by}
+use Rattle.blob_calls.specs.Told.{refused_by}
 
 -- the wrapper of a laboratory, whose generator is seen as what is left of its words
 abbrev pub Wrapper : Type 0

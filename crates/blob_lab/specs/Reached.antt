@@ -1,9 +1,9 @@
 -- Which states calls lead to, from a laboratory that was just made.
 use Rattle.std.specs.Prelude.{◌≡◌, List, Bool, true, false, All}
-use Rattle.blob_faulty.specs.declared.config.Config.{Config}
-use Rattle.blob_lab.specs.declared.call.Call.{Call}
-use Rattle.blob_lab.specs.declared.reply.Reply.{Reply}
-use Rattle.blob_lab.specs.Acts.{Act, OpenLoose, act_of}
+use Rattle.blob_faults.specs.declared.config.Config.{Config}
+use Rattle.blob_calls.specs.declared.call.Call.{Call}
+use Rattle.blob_calls.specs.declared.reply.Reply.{Reply}
+use Rattle.blob_calls.specs.Acts.{Act, OpenLoose, act_of}
 use Rattle.blob_lab.specs.Runs.{Run}
 use Rattle.blob_lab.specs.Scripted.{Words}
 use Rattle.blob_lab.specs.States.{State, Image, start}

@@ -4,13 +4,13 @@ use Rattle.std.specs.Fmt.{decimal}
 use Rattle.std.specs.Io.KnownBytes.{Appends}
 use Rattle.hex.specs.declared.error.FromHexError.{FromHexError}
 use Rattle.hex.specs.Hex.{decode_of}
-use Rattle.blob_base.specs.declared.layout.Layout.TheVariants.{V0, V1}
-use Rattle.blob_base.specs.declared.version.BlobVersion.{BlobVersion}
-use Rattle.blob_base.specs.declared.error.Error.{Error}
-use Rattle.blob_base.specs.Parse.{Accepted}
-use Rattle.blob_base.specs.Refusals.{Refusal, Memory, refusal_of}
-use Rattle.blob_base.specs.ReplyLines.{refusal_line}
-use Rattle.blob_base.specs.Resolve.{refusing, resolution}
+use Rattle.blob_header.specs.declared.layout.Layout.TheVariants.{V0, V1}
+use Rattle.blob_header.specs.declared.version.BlobVersion.{BlobVersion}
+use Rattle.blob_header.specs.declared.error.Error.{Error}
+use Rattle.blob_header.specs.Parse.{Accepted}
+use Rattle.blob_header.specs.Refusals.{Refusal, Memory, refusal_of}
+use Rattle.blob_header.specs.ReplyLines.{refusal_line}
+use Rattle.blob_header.specs.Resolve.{refusing, resolution}
 
 -- size, version and data offset; `create` for a blob that is still to be created; or why it is refused
 abbrev pub resolution_line : Result (Option (ℕ × BlobVersion × ℕ)) Refusal → List ℕ

@@ -1,10 +1,10 @@
 -- Runs of a laboratory.
 use Rattle.std.specs.Prelude.{◌≡◌, List, [], ◌∷◌}
 use Rattle.rand_core.specs.Stream.{Stream}
-use Rattle.blob_lab.specs.declared.call.Call.{Call}
-use Rattle.blob_lab.specs.declared.reply.Reply.{Reply}
-use Rattle.blob_lab.specs.Acts.{act_of}
-use Rattle.blob_lab.specs.Told.{refused_by}
+use Rattle.blob_calls.specs.declared.call.Call.{Call}
+use Rattle.blob_calls.specs.declared.reply.Reply.{Reply}
+use Rattle.blob_calls.specs.Acts.{act_of}
+use Rattle.blob_calls.specs.Told.{refused_by}
 use Rattle.blob_lab.specs.Answers.{Answers}
 use Rattle.blob_lab.specs.After.{after}
 use Rattle.blob_lab.specs.States.{State}

@@ -1,14 +1,14 @@
 -- How the lines of a script are read, where the bytes that a reader has left are known.
 use Rattle.std.specs.Prelude.{◌≡◌, ℕ, ◌+◌, List, [], ◌∷◌, ◌++◌, length, Option, Some, None}
 use Rattle.std.specs.Io.Iter.{u64_saturate}
-use Rattle.blob_faulty.specs.declared.config.Config.{Config}
+use Rattle.blob_faults.specs.declared.config.Config.{Config}
 use Rattle.blob_lab.specs.declared.lab.Lab.{Lab}
 use Rattle.blob_lab.specs.declared.run_script.lines.Preamble.{Preamble}
-use Rattle.blob_lab.specs.Acts.{Act}
+use Rattle.blob_calls.specs.Acts.{Act}
 use Rattle.blob_lab.specs.LabStands.{StandsFor}
-use Rattle.blob_lab.specs.Lines.{Said, line_of}
+use Rattle.blob_calls.specs.Lines.{Said, line_of}
 use Rattle.blob_lab.specs.Scripts.{Script, lines_of, with_call, with_line, with_lines}
-use Rattle.blob_lab.specs.Settings.{cleared}
+use Rattle.blob_calls.specs.Settings.{cleared}
 use Rattle.blob_lab.specs.States.{start}
 use Rattle.blob_lab.specs.Tables.{images_of}
 

@@ -3,18 +3,18 @@ use Rattle.std.specs.Prelude.{◌≡◌, ℕ, ◌+◌, List, [], ◌∷◌, ◌+
 use Rattle.std.specs.List.{flat_map}
 use Rattle.std.specs.Io.Iter.{u64_saturate}
 use Rattle.std.specs.Io.KnownBytes.{Appends}
-use Rattle.blob_faulty.specs.declared.config.Config.{Config}
-use Rattle.blob_lab.specs.declared.call.Call.{Call as LabCall}
+use Rattle.blob_faults.specs.declared.config.Config.{Config}
+use Rattle.blob_calls.specs.declared.call.Call.{Call as LabCall}
 use Rattle.blob_lab.specs.declared.ending.Ending.{Ending}
 use Rattle.blob_lab.specs.declared.ending.Ending.TheVariants.{BadCall, InputFailed, NoMemory}
-use Rattle.blob_lab.specs.declared.reply.Reply.{Reply}
-use Rattle.blob_lab.specs.Acts as acts
-use Rattle.blob_lab.specs.Acts.{Act, act_of}
-use Rattle.blob_lab.specs.Lines.{Said, Blank, Image, Given, Seed, Configure, Call, line_of}
-use Rattle.blob_lab.specs.Replies.{reply_line}
+use Rattle.blob_calls.specs.declared.reply.Reply.{Reply}
+use Rattle.blob_calls.specs.Acts as acts
+use Rattle.blob_calls.specs.Acts.{Act, act_of}
+use Rattle.blob_calls.specs.Lines.{Said, Blank, Image, Given, Seed, Configure, Call, line_of}
+use Rattle.blob_calls.specs.Replies.{reply_line}
 use Rattle.blob_lab.specs.Runs.{Run}
 use Rattle.blob_lab.specs.Scripted.{Words, only, behind_seeded}
-use Rattle.blob_lab.specs.Settings.{cleared, configured}
+use Rattle.blob_calls.specs.Settings.{cleared, configured}
 use Rattle.blob_lab.specs.States as states
 use Rattle.blob_lab.specs.States.{State, start}
 

@@ -1,12 +1,12 @@
 -- What a laboratory is seen as: files, and what is kept beside them.
 use Rattle.std.specs.Prelude.{◌<◌, ℕ, List, [], ◌∷◌, true, false, All, Option, Some, None, length, IfSome}
 use Rattle.rand_core.specs.Stream.{Stream}
-use Rattle.blob_base.specs.Directory.{Directory, Raw, with_file, with_partition}
-use Rattle.blob_base.specs.Files.{Files, wrapped, durable_at}
-use Rattle.blob_base.specs.Places.{Place}
-use Rattle.blob_base.specs.Refusals.{Refusal}
-use Rattle.blob_faulty.specs.declared.config.Config.{Config}
-use Rattle.blob_lab.specs.OpenNames.{OpenNames, Registration, none_open}
+use Rattle.blob_model.specs.Directory.{Directory, Raw, with_file, with_partition}
+use Rattle.blob_model.specs.Files.{Files, wrapped, durable_at}
+use Rattle.blob_model.specs.Places.{Place}
+use Rattle.blob_header.specs.Refusals.{Refusal}
+use Rattle.blob_faults.specs.declared.config.Config.{Config}
+use Rattle.blob_opens.specs.OpenNames.{OpenNames, Registration, none_open}
 use Rattle.blob_lab.specs.Scripted.{Words, drawn_from}
 
 -- an open handle

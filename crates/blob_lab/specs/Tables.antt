@@ -2,7 +2,7 @@
 use Rattle.std.specs.Prelude.{ℕ, ◌+◌, ◌≤◌, List, map, Option, option_map, Vec, String, vec_len, vec_capacity, string_bytes}
 use Rattle.std.specs.Global.{Global}
 use Rattle.blob_base.specs.Handles.{outcome_of}
-use Rattle.blob_base.specs.Refusals.{refused}
+use Rattle.blob_header.specs.Refusals.{refused}
 use Rattle.blob_base.specs.declared.handle.Handle as base
 use Rattle.blob_faulty.specs.Wrapper.{inside, size_of}
 use Rattle.blob_memory.specs.Store.{place, live}

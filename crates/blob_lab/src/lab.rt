@@ -1,7 +1,7 @@
 //! The laboratory: a faulty memory store, its open handles and started syncs, and calls as data.
 ghost use Rattle.std.specs.Prelude.{◌≡◌, IfOk, OnErr};
-ghost use Rattle.blob_base.specs.Refusals.{IsMemory};
-ghost use Rattle.blob_lab.specs.Acts.{Configure, act_of};
+ghost use Rattle.blob_header.specs.Refusals.{IsMemory};
+ghost use Rattle.blob_calls.specs.Acts.{Configure, act_of};
 ghost use Rattle.blob_lab.specs.Fixed.{Persists};
 ghost use Rattle.blob_lab.specs.LabStands.{StandsFor, Performs, wrapper_of};
 ghost use Rattle.blob_lab.specs.Reached.{NoneLoose, ReachedExclusively};
@@ -17,10 +17,12 @@ mod opening;
 mod rebuilding;
 pub mod syncs;
 
-use crate::script::setting::copy_of;
-use crate::{Call, Opens, Reply, ScriptedRng};
+use crate::ScriptedRng;
 use blob_base::Error;
+use blob_calls::script::setting::copy_of;
+use blob_calls::{Call, Reply};
 use blob_faulty::Config;
+use blob_opens::Opens;
 use handles::Handles;
 use std::alloc::Global;
 use syncs::Syncs;

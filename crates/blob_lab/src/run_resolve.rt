@@ -2,7 +2,7 @@ ghost use Rattle.std.specs.Prelude.{true, ◌≡◌, ◌++◌, ◌∷◌, [], On
 ghost use Rattle.std.specs.Io.KnownBytes.{Appends, Keeps};
 ghost use Rattle.std.specs.Io.BufRead.{DropsThrough, first_piece};
 ghost use Rattle.hex.specs.Hex.{decode_of};
-ghost use Rattle.blob_base.specs.Resolve.{Answers};
+ghost use Rattle.blob_header.specs.Resolve.{Answers};
 ghost use Rattle.blob_lab.specs.Endings.{is_of_resolve};
 ghost use Rattle.blob_lab.specs.ResolveReplies.{AnswersLine, by_refusal, resolution_line, resolved_image};
 

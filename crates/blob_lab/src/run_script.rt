@@ -1,7 +1,7 @@
 ghost use Rattle.std.specs.Prelude.{◌≡◌, ◌⊎◌, ℕ, List, ◌∷◌, true, IfSome, IfErr, OnOk};
 ghost use Rattle.std.specs.Io.KnownBytes.{Appends, Keeps};
-ghost use Rattle.blob_lab.specs.declared.reply.Reply.{Reply};
-ghost use Rattle.blob_lab.specs.Acts.{act_of};
+ghost use Rattle.blob_calls.specs.declared.reply.Reply.{Reply};
+ghost use Rattle.blob_calls.specs.Acts.{act_of};
 ghost use Rattle.blob_lab.specs.Endings.{is_of_script, is_cut};
 ghost use Rattle.blob_lab.specs.LabStands.{Performs};
 ghost use Rattle.blob_lab.specs.Reading.{IsReadOut};
@@ -11,10 +11,11 @@ ghost use Rattle.blob_lab.specs.Scripts.{Script, Prints, PrintsUpTo, PrintsBefor
 mod ahead;
 mod lines;
 
-use crate::script::print_reply;
-use crate::{Call, Ending, Lab};
+use crate::{Ending, Lab};
 pub use ahead::Ahead;
 use ahead::has_call;
+use blob_calls::Call;
+use blob_calls::script::print_reply;
 use lines::{Lines, Preamble};
 use std::alloc::Global;
 use std::io::Write;

@@ -1,7 +1,7 @@
 -- What a log holds after an append and after a scan.
 use Rattle.std.proofs.Common.{◌≡◌, ℕ, ◌^◌, ◌<◌, List, [], ◌∷◌, ◌++◌, sym, ap, ◌∙◌, subst, length, append-nil, append_assoc}
-use Rattle.blob_base.specs.Fronts.{BeginsWith}
-use Rattle.blob_base.specs.Places.{Place}
+use Rattle.blob_header.specs.Fronts.{BeginsWith}
+use Rattle.blob_model.specs.Places.{Place}
 use Rattle.blob_faulty.specs.Keeps.{OverMemory, Keeps}
 use Rattle.blob_log.specs.declared.log.Log.{Log}
 use Rattle.blob_log.specs.Frames.{frame, frames, scan, AreShort}

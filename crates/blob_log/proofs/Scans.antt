@@ -6,8 +6,8 @@ use Rattle.std.proofs.lemmas.Bool.Decides.{nat_tests}
 use Rattle.std.proofs.lemmas.Grind.{common_steps}
 use Rattle.std.proofs.lemmas.Nat.{be_bytes_4, from_be_bytes-to_be_bytes_4}
 use Rattle.std.specs.Int.{w32, to_be_bytes, from_be_bytes}
-use Rattle.blob_base.specs.Checksum.{crc32c}
-use Rattle.blob_base.specs.Fronts.{BeginsWith}
+use Rattle.blob_header.specs.Checksum.{crc32c}
+use Rattle.blob_header.specs.Fronts.{BeginsWith}
 use Rattle.blob_log.specs.Frames.{frame, frames, length_told, sum_told, payload, is_frame, scan_to, scan, AreShort}
 
 abbrev pub IsShort : List ℕ → Type 0

@@ -4,7 +4,7 @@ use Rattle.std.specs.Global.{Global}
 use Rattle.std.specs.Prelude.{All, Vec, Result, Ok, Err, OnOk, OnErr, is_ok, zip}
 use Rattle.std.proofs.lemmas.List.{get_or-map, length-map}
 use Rattle.std.proofs.lemmas.List.Elements.{All-push, All-weaker}
-use Rattle.blob_base.specs.Fronts.{BeginsWith}
+use Rattle.blob_header.specs.Fronts.{BeginsWith}
 use Rattle.blob_log.specs.declared.sessions.Session.{Session}
 use Rattle.blob_log.specs.Held.{Survive, items_of, acknowledged, trusted}
 

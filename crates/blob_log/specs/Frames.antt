@@ -2,7 +2,7 @@
 use Rattle.std.specs.Prelude.{ℕ, zero, suc, ◌+◌, ◌^◌, ◌<◌, Bool, ◌&&◌, List, [], ◌∷◌, ◌++◌, length, take, drop, nat_le, nat_eq, if◌then◌else◌}
 use Rattle.std.specs.Int.{w32, to_be_bytes, from_be_bytes}
 use Rattle.std.specs.List.{flat_map}
-use Rattle.blob_base.specs.Checksum.{crc32c}
+use Rattle.blob_header.specs.Checksum.{crc32c}
 
 -- a record's length and its checksum in four bytes each, the high one first, and the record
 unfoldable pub frame : List ℕ → List ℕ

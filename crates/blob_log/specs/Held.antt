@@ -1,8 +1,8 @@
 -- What it is for a log to hold records, and for sessions of a log to survive.
 use Rattle.std.specs.Prelude.{◌≡◌, ℕ, List, [], ◌∷◌, ◌++◌, Bool, if◌then◌else◌, map, zip, All, Vec, length}
 use Rattle.std.specs.Global.{Global}
-use Rattle.blob_base.specs.Fronts.{BeginsWith}
-use Rattle.blob_base.specs.Places.{Place}
+use Rattle.blob_header.specs.Fronts.{BeginsWith}
+use Rattle.blob_model.specs.Places.{Place}
 use Rattle.blob_faulty.specs.Keeps.{OverMemory, Keeps}
 use Rattle.blob_faulty.specs.Wrapper.{inside}
 use Rattle.blob_memory.specs.Store.{place}

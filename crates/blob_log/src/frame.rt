@@ -1,7 +1,7 @@
 //! Frames: the bytes of a record in a log, and the records that bytes begin with.
 ghost use Rattle.std.specs.Prelude.{◌≡◌, ◌<◌, ◌≤◌, ◌+◌, ◌^◌, ℕ, true, false, MatchOption, IfOk, OnOk, OnErr, length, map, List, ◌++◌, slice_index};
 ghost use Rattle.std.specs.Int.{w32, from_be_bytes};
-ghost use Rattle.blob_base.specs.Fronts.{BeginsWith};
+ghost use Rattle.blob_header.specs.Fronts.{BeginsWith};
 ghost use Rattle.blob_log.specs.Frames.{AreShort, frame, frames, payload, is_frame, scan};
 
 use blob_base::Crc32;

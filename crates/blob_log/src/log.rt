@@ -1,11 +1,11 @@
 //! A log of records in one blob of a fault wrapper.
 ghost use Rattle.std.specs.Prelude.{◌≡◌, ◌<◌, ◌^◌, ◌++◌, ◌∷◌, [], List, ℕ, OnOk, OnErr, IfOk, length};
-ghost use Rattle.blob_base.specs.Files.{Files};
-ghost use Rattle.blob_base.specs.Fronts.{BeginsWith};
-ghost use Rattle.blob_base.specs.Opened.{IsNamed};
-ghost use Rattle.blob_base.specs.Opening.{IsOpened};
-ghost use Rattle.blob_base.specs.Places.{Place};
-ghost use Rattle.blob_base.specs.Refusals.{OffsetOverflow, refused};
+ghost use Rattle.blob_model.specs.Files.{Files};
+ghost use Rattle.blob_header.specs.Fronts.{BeginsWith};
+ghost use Rattle.blob_model.specs.Opened.{IsNamed};
+ghost use Rattle.blob_model.specs.Opening.{IsOpened};
+ghost use Rattle.blob_model.specs.Places.{Place};
+ghost use Rattle.blob_header.specs.Refusals.{OffsetOverflow, refused};
 ghost use Rattle.blob_faulty.specs.Keeps.{IsFor, Keeps};
 ghost use Rattle.blob_faulty.specs.Wrapper.{inner_of, inside};
 ghost use Rattle.blob_memory.specs.Store.{directory, durable, place, live};

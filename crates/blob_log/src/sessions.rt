@@ -1,6 +1,6 @@
 //! A log through crashes: what was acknowledged is found again.
 ghost use Rattle.std.specs.Prelude.{◌≡◌, ◌++◌, List, ℕ, IfOk};
-ghost use Rattle.blob_base.specs.Files.{Files};
+ghost use Rattle.blob_model.specs.Files.{Files};
 ghost use Rattle.blob_faulty.specs.Keeps.{IsFor};
 ghost use Rattle.blob_log.specs.Held.{Holds, Survive, place_of, items_of, acknowledged};
 

@@ -2,20 +2,19 @@
 use Rattle.std.proofs.Common.{◌≡◌, ℕ, ◌<◌, ◌≤◌, ◌^◌, ◌∙◌, ⊎_elim, true, cond, List, ◌++◌, length, drop, get_or, Option, Some, None, Result, Ok, Err, refl, sym, ap, arith, length-append}
 use Rattle.std.specs.Prelude.{option_map}
 use Rattle.std.proofs.lemmas.Bool.{lt-ltb, le-leb, and_from, false≢true}
-use Rattle.blob_base.specs.declared.error.Error.{Error}
-use Rattle.blob_base.specs.declared.version.BlobVersion.{BlobVersion}
-use Rattle.blob_base.specs.declared.layout.Layout.{Layout}
-use Rattle.blob_base.specs.Directory.{data_start}
-use Rattle.blob_base.specs.Header.{region}
-use Rattle.blob_base.specs.HeaderLaws.{HasHeader}
-use Rattle.blob_base.specs.Parse.{Accepted, Failure, VersionMismatch, every_layout}
-use Rattle.blob_base.specs.Versions.{is_in_range}
-use Rattle.blob_base.specs.Resolve.{resolution, refusing, Answers}
-use Rattle.blob_base.specs.Refusals.{Refusal}
-use Rattle.blob_base.proofs.Headers.{has_header}
-use Rattle.blob_base.proofs.NoneSide.{length_region}
-use Rattle.blob_base.proofs.RawFiles.{drop_region}
-use Rattle.blob_base.proofs.Reopening.{reopens, reopened_all}
+use Rattle.blob_header.specs.declared.error.Error.{Error}
+use Rattle.blob_header.specs.declared.version.BlobVersion.{BlobVersion}
+use Rattle.blob_header.specs.declared.layout.Layout.{Layout}
+use Rattle.blob_header.specs.Header.{data_start, region}
+use Rattle.blob_header.specs.HeaderLaws.{HasHeader}
+use Rattle.blob_header.specs.Parse.{Accepted, Failure, VersionMismatch, every_layout}
+use Rattle.blob_header.specs.Versions.{is_in_range}
+use Rattle.blob_header.specs.Resolve.{resolution, refusing, Answers}
+use Rattle.blob_header.specs.Refusals.{Refusal}
+use Rattle.blob_header.proofs.Headers.{has_header}
+use Rattle.blob_header.proofs.NoneSide.{length_region}
+use Rattle.blob_model.proofs.RawFiles.{drop_region}
+use Rattle.blob_header.proofs.Reopening.{reopens, reopened_all}
 use Rattle.blob_memory.specs.declared.contents.Contents.{Contents}
 use Rattle.blob_memory.specs.declared.item.Item.{Item}
 use Rattle.blob_memory.specs.declared.item.Item.TheVariants.{Raw, Held}

@@ -4,20 +4,20 @@ use Rattle.std.proofs.lemmas.Bool.{le-ltb, lt-ltb, eq-eqb}
 use Rattle.std.proofs.lemmas.Option.{none-some}
 use Rattle.std.specs.Cmp.Lexicographic.{bytes_decides}
 use Rattle.std.specs.Str.{bytes_eq}
-use Rattle.blob_base.specs.Directory as directory
-use Rattle.blob_base.specs.Header.{region}
-use Rattle.blob_base.specs.Directory.{File, Directory, with_file}
-use Rattle.blob_base.specs.declared.layout.Layout.{Layout}
-use Rattle.blob_base.specs.declared.version.BlobVersion.{BlobVersion}
-use Rattle.blob_base.specs.Files.{raw_again}
+use Rattle.blob_model.specs.Directory as directory
+use Rattle.blob_header.specs.Header.{region, data_start}
+use Rattle.blob_model.specs.Directory.{File, Directory, with_file}
+use Rattle.blob_header.specs.declared.layout.Layout.{Layout}
+use Rattle.blob_header.specs.declared.version.BlobVersion.{BlobVersion}
+use Rattle.blob_model.specs.Files.{raw_again}
 use Rattle.std.specs.Prelude.{unwrap_or}
 use Rattle.blob_memory.specs.declared.contents.Contents.{Contents}
 use Rattle.blob_memory.specs.Numbers.{number_of}
 use Rattle.blob_memory.specs.declared.item.Item.{Item}
 use Rattle.blob_memory.specs.Partitions.{with_item, without_partition}
-use Rattle.blob_base.specs.Directory.{place_in, data_start}
-use Rattle.blob_base.specs.Durable.{Durable, with_at, durable_without}
-use Rattle.blob_base.specs.Places.{Place}
+use Rattle.blob_model.specs.Directory.{place_in}
+use Rattle.blob_model.specs.Durable.{Durable, with_at, durable_without}
+use Rattle.blob_model.specs.Places.{Place}
 use Rattle.blob_memory.specs.declared.item.Item.TheVariants.{Raw, Held}
 use Rattle.blob_memory.specs.declared.item.Held as held
 use Rattle.blob_memory.specs.Contents.{file_of, file_when, vec_in, items_of, IsUnder}

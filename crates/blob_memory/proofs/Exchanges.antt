@@ -4,11 +4,11 @@ use Rattle.std.proofs.lemmas.Bool.{false≢true, and_parts}
 use Rattle.std.proofs.lemmas.Bool.Decides.{nat_tests}
 use Rattle.std.specs.Cmp.Lexicographic.{bytes_decides}
 use Rattle.std.specs.Str.{bytes_eq}
-use Rattle.blob_base.specs.Directory.{data_start}
-use Rattle.blob_base.specs.Durable.{Durable, with_at, changed}
-use Rattle.blob_base.specs.SamePlace.{same_place_exact}
+use Rattle.blob_header.specs.Header.{data_start}
+use Rattle.blob_model.specs.Durable.{Durable, with_at, changed}
+use Rattle.blob_model.specs.SamePlace.{same_place_exact}
 use Rattle.std.specs.Prelude.{option_map, vec_capacity}
-use Rattle.blob_base.specs.Places.{Place, same_place}
+use Rattle.blob_model.specs.Places.{Place, same_place}
 use Rattle.blob_memory.specs.declared.item.Item.{Item}
 use Rattle.blob_memory.specs.declared.item.Item.TheVariants.{Raw, Held}
 use Rattle.blob_memory.specs.declared.item.Held as held

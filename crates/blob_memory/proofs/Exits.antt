@@ -2,8 +2,8 @@
 use Rattle.std.proofs.Common.{◌≡◌, sym, None, Result, Ok, Err}
 use Rattle.std.specs.Prelude.{OnOk}
 use Rattle.std.proofs.lemmas.Option.{none-some}
-use Rattle.blob_base.specs.declared.error.Error.{Error}
-use Rattle.blob_base.specs.Refusals.{refused}
+use Rattle.blob_header.specs.declared.error.Error.{Error}
+use Rattle.blob_header.specs.Refusals.{refused}
 
 module _ {T : Type 0} where
   -- what holds of an Ok holds where nothing was refused

@@ -1,10 +1,10 @@
 -- What is fed to a checksum, piece by piece.
 use Rattle.std.proofs.Common.{◌≡◌, ℕ, List, [], ◌∷◌, ◌++◌, replicate, refl, sym, ap, ◌∙◌, append_assoc, append-nil}
 use Rattle.std.specs.Int.{to_be_bytes, w32}
-use Rattle.blob_base.specs.declared.layout.Layout.TheVariants.{V0, V1}
-use Rattle.blob_base.specs.Audit.{Listed, piece_of, pieces_of}
-use Rattle.blob_base.specs.Checksum.{crc32c}
-use Rattle.blob_base.specs.Header.{prelude, region}
+use Rattle.blob_header.specs.declared.layout.Layout.TheVariants.{V0, V1}
+use Rattle.blob_memory.specs.Audit.{Listed, piece_of, pieces_of}
+use Rattle.blob_header.specs.Checksum.{crc32c}
+use Rattle.blob_header.specs.Header.{prelude, region}
 
 pub fed_none : (before : List ℕ) (p : List ℕ) (v : ℕ) → p ≡ prelude V0 v → before ++ p ≡ before ++ region V0 v
 unfolding region

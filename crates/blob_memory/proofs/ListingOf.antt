@@ -17,7 +17,7 @@ use Rattle.std.proofs.lemmas.Map.Keys.{IsDistinct-from_sorted}
 use Rattle.std.proofs.lemmas.Cmp.{tied_itself, nat_list_cmp_total}
 use Rattle.std.proofs.lemmas.Map.Text.{is_eq-slice_cmp}
 use Rattle.std.proofs.lemmas.Map.Views.{lookup-from_Contains, Contains-from_lookup}
-use Rattle.blob_base.specs.Audit.{Listed, listed_cmp, IsListing}
+use Rattle.blob_memory.specs.Audit.{Listed, listed_cmp, IsListing}
 use Rattle.blob_memory.specs.declared.item.Item.{Item}
 use Rattle.blob_memory.specs.Listing.{Names, raw_bytes, raw_in, listed, listing_in, listing_all, AreOrdered, AreOrderedNames, AreAllOrdered}
 use Rattle.blob_memory.specs.Maps.{found, below}

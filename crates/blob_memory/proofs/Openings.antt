@@ -4,25 +4,25 @@ use Rattle.std.specs.Prelude.{if◌then◌else◌}
 use Rattle.std.proofs.lemmas.Bool.{false≢true}
 use Rattle.std.specs.Range.{range_inclusive_start, range_inclusive_end}
 use Rattle.std.specs.declared.ops.RangeInclusive.{RangeInclusive}
-use Rattle.blob_base.specs.declared.layout.Layout.{Layout}
-use Rattle.blob_base.specs.declared.layout.Layout.TheVariants.{V0, V1}
-use Rattle.blob_base.specs.declared.version.BlobVersion.{BlobVersion}
-use Rattle.blob_base.specs.Directory.{data_start, Raw}
-use Rattle.blob_base.specs.Header.{region}
-use Rattle.blob_base.specs.HeaderLaws.{HasHeader}
-use Rattle.blob_base.specs.Opening.{Opening, Continues, Begins, Declines, opening, opening_raw, layout_from}
-use Rattle.blob_base.specs.Parse.{Accepted, Failure, InvalidChecksum, accepted, every_layout}
-use Rattle.blob_base.specs.Refusals.{Refusal, BlobVersionMismatch, IsMemoryError, refusal_of}
-use Rattle.blob_base.specs.declared.error.Error.{Error}
-use Rattle.blob_base.specs.Resolve.{resolution, refusing, Answers}
-use Rattle.blob_base.specs.Versions.{is_in_range}
-use Rattle.blob_base.proofs.NoneSide.{length_region}
-use Rattle.blob_base.proofs.RawFiles.{from_start, raw_opens}
+use Rattle.blob_header.specs.declared.layout.Layout.{Layout}
+use Rattle.blob_header.specs.declared.layout.Layout.TheVariants.{V0, V1}
+use Rattle.blob_header.specs.declared.version.BlobVersion.{BlobVersion}
+use Rattle.blob_model.specs.Directory.{Raw}
+use Rattle.blob_header.specs.Header.{data_start, region}
+use Rattle.blob_header.specs.HeaderLaws.{HasHeader}
+use Rattle.blob_model.specs.Opening.{Opening, Continues, Begins, Declines, opening, opening_raw, layout_from}
+use Rattle.blob_header.specs.Parse.{Accepted, Failure, InvalidChecksum, accepted, every_layout}
+use Rattle.blob_header.specs.Refusals.{Refusal, BlobVersionMismatch, IsMemoryError, refusal_of}
+use Rattle.blob_header.specs.declared.error.Error.{Error}
+use Rattle.blob_header.specs.Resolve.{resolution, refusing, Answers}
+use Rattle.blob_header.specs.Versions.{is_in_range}
+use Rattle.blob_header.proofs.NoneSide.{length_region}
+use Rattle.blob_model.proofs.RawFiles.{from_start, raw_opens}
 use Rattle.blob_memory.specs.declared.item.Held.{Held}
-use Rattle.blob_base.specs.Directory.{directory_made, place_made}
-use Rattle.blob_base.specs.Durable.{with_at}
-use Rattle.blob_base.specs.Opening.{IsOpened, Continued, Begun, place_of}
-use Rattle.blob_base.specs.Places.{Place}
+use Rattle.blob_model.specs.Directory.{directory_made, place_made}
+use Rattle.blob_model.specs.Durable.{with_at}
+use Rattle.blob_model.specs.Opening.{IsOpened, Continued, Begun, place_of}
+use Rattle.blob_model.specs.Places.{Place}
 use Rattle.blob_memory.specs.declared.contents.Contents.{Contents}
 use Rattle.blob_memory.specs.declared.found.Found.{Found}
 use Rattle.blob_memory.specs.Contents.{file_when, directory_of, durable_of}

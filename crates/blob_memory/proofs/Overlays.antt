@@ -2,9 +2,9 @@
 use Rattle.std.proofs.Common.{[], ◌≡◌, ⊎_elim, ℕ, ◌+◌, ◌-◌, ◌<◌, ◌≤◌, max, Bool, true, false, List, ◌++◌, length, get_or, take, drop, set, replicate, refl, sym, ◌∙◌, ap, arith, ◌≢◌, true≢false, ◌&&◌, ltb, length-append, length-take, length-drop, length-set, get_or-set_same, get_or-set_other}
 use Rattle.std.proofs.lemmas.Bool.{cases_lt, cases_eq, le-ltb, lt-ltb, and_parts, and_from, and_left, and_right}
 use Rattle.std.proofs.lemmas.List.{get_or_past, get_or_append_left, get_or-append_right, get_or-take, get_or-drop, get_or-replicate, length-replicate}
-use Rattle.blob_base.proofs.Agrees.{alike, overlay_same}
-use Rattle.blob_base.specs.Bytes.{reach, overlay_by, overlay, resized}
-use Rattle.blob_base.proofs.Bytes.{above_chosen, reach_below, length-overlay_by, at_chosen, at_other, length-resized, at_resized, past_resized, same_bytes, none_chosen, picks}
+use Rattle.blob_model.proofs.Agrees.{alike, overlay_same}
+use Rattle.blob_model.specs.Bytes.{reach, overlay_by, overlay, resized}
+use Rattle.blob_model.proofs.Bytes.{above_chosen, reach_below, length-overlay_by, at_chosen, at_other, length-resized, at_resized, past_resized, same_bytes, none_chosen, picks}
 
 -- the choices of the first n bytes
 abbrev pub first : ℕ → (ℕ → Bool) → ℕ → Bool

@@ -3,10 +3,10 @@ use Rattle.std.proofs.Common.{◌≡◌, ℕ, ◌+◌, ◌-◌, ◌<◌, ◌≤�
 use Rattle.std.proofs.lemmas.Grind.{flat_map-append}
 use Rattle.std.proofs.lemmas.List.{take_more, get_or-take, get_or-drop, take-append-drop, drop_all, take_all}
 use Rattle.std.specs.List.{flat_map, slice_range}
-use Rattle.blob_base.specs.Bytes.{overlay, overlay_by, reach}
-use Rattle.blob_base.specs.Runs.{picked}
-use Rattle.blob_base.proofs.Agrees.{overlay_same}
-use Rattle.blob_base.proofs.Bytes.{reach_below, above_chosen, length-overlay_by}
+use Rattle.blob_model.specs.Bytes.{overlay, overlay_by, reach}
+use Rattle.blob_model.specs.Runs.{picked}
+use Rattle.blob_model.proofs.Agrees.{overlay_same}
+use Rattle.blob_model.proofs.Bytes.{reach_below, above_chosen, length-overlay_by}
 use Rattle.blob_memory.proofs.Overlays.{overlay_more}
 
 -- all bytes of the pieces

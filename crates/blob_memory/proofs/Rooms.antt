@@ -2,9 +2,9 @@
 use Rattle.std.proofs.Common.{◌≡◌, ℕ, ◌≤◌, List, Bool, true, false, cond, Option, Some, None, Vec, Global, is_some, refl, sym, ap, ◌∙◌, arith}
 use Rattle.std.specs.Prelude.{option_map, vec_capacity}
 use Rattle.std.proofs.lemmas.Bool.{false≢true}
-use Rattle.blob_base.specs.Directory.{Directory, is_current}
-use Rattle.blob_base.specs.Durable.{Durable, changed}
-use Rattle.blob_base.specs.Places.{Place, same_place}
+use Rattle.blob_model.specs.Directory.{Directory, is_current}
+use Rattle.blob_model.specs.Durable.{Durable, changed}
+use Rattle.blob_model.specs.Places.{Place, same_place}
 use Rattle.blob_memory.specs.declared.contents.Contents.{Contents}
 use Rattle.blob_memory.specs.Contents.{directory_of, vec_at, items_of, Fits}
 use Rattle.blob_memory.specs.Store.{room_in}

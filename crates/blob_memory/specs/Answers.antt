@@ -1,11 +1,11 @@
 -- What each call answers at a state: the refusal that comes first, or none for Ok.
 use Rattle.std.specs.Prelude.{◌≡◌, ◌⊎◌, ℕ, ◌+◌, ◌-◌, ◌^◌, ◌==◌, nat_lt, nat_le, Bool, true, false, not, ◌&&◌, ◌||◌, if◌then◌else◌, List, [], ◌∷◌, length, Option, Some, None, is_none, IsTrue}
 use Rattle.hex.specs.Hex.{encode_lower}
-use Rattle.blob_base.specs.Directory.{Directory, is_current}
-use Rattle.blob_base.specs.Opening.{Opening, Continues, Begins, Declines, opening}
-use Rattle.blob_base.specs.PartitionName.{is_partition_name}
-use Rattle.blob_base.specs.Places.{Place}
-use Rattle.blob_base.specs.Refusals.{Refusal, OffsetOverflow, BlobInsufficientLength, PartitionNameInvalid, PartitionMissing, BlobMissing, GenerationsExhausted, Memory}
+use Rattle.blob_model.specs.Directory.{Directory, is_current}
+use Rattle.blob_model.specs.Opening.{Opening, Continues, Begins, Declines, opening}
+use Rattle.blob_header.specs.PartitionName.{is_partition_name}
+use Rattle.blob_model.specs.Places.{Place}
+use Rattle.blob_header.specs.Refusals.{Refusal, OffsetOverflow, BlobInsufficientLength, PartitionNameInvalid, PartitionMissing, BlobMissing, GenerationsExhausted, Memory}
 
 -- a raw offset that no `usize` is
 abbrev pub is_uncounted : ℕ → Bool

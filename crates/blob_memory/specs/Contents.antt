@@ -1,13 +1,13 @@
 -- What a memory store holds, by names and by places.
 use Rattle.std.specs.Prelude.{◌≡◌, ℕ, ◌≤◌, List, [], ◌++◌, drop, length, Bool, true, false, cond, not, ◌&&◌, ◌==◌, nat_lt, Option, None, Some, Vec, vec_capacity}
 use Rattle.std.specs.Global.{Global}
-use Rattle.blob_base.specs.declared.layout.Layout.{Layout}
-use Rattle.blob_base.specs.declared.version.BlobVersion.{BlobVersion}
-use Rattle.blob_base.specs.Places.{Place}
-use Rattle.blob_base.specs.Directory as directory
-use Rattle.blob_base.specs.Directory.{File, Directory, data_start, with_file, with_partition}
-use Rattle.blob_base.specs.Durable.{Durable}
-use Rattle.blob_base.specs.Header.{region}
+use Rattle.blob_header.specs.declared.layout.Layout.{Layout}
+use Rattle.blob_header.specs.declared.version.BlobVersion.{BlobVersion}
+use Rattle.blob_model.specs.Places.{Place}
+use Rattle.blob_model.specs.Directory as directory
+use Rattle.blob_model.specs.Directory.{File, Directory, with_file, with_partition}
+use Rattle.blob_header.specs.Header.{data_start, region}
+use Rattle.blob_model.specs.Durable.{Durable}
 use Rattle.blob_memory.specs.declared.item.Item.{Item}
 use Rattle.blob_memory.specs.declared.item.Item.TheVariants.{Raw, Held}
 use Rattle.blob_memory.specs.declared.item.Held as held

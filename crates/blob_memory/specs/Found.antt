@@ -1,9 +1,10 @@
 -- What an open finds, against its definition.
 use Rattle.std.specs.Prelude.{◌≡◌, ◌≤◌, ℕ, List, [], Bool, true, false, Option, None, Some, length, drop}
-use Rattle.blob_base.specs.declared.layout.Layout.{Layout}
-use Rattle.blob_base.specs.declared.version.BlobVersion.{BlobVersion}
-use Rattle.blob_base.specs.Directory.{data_start, current}
-use Rattle.blob_base.specs.Opening.{Opening, Continues, Begins, place_of}
+use Rattle.blob_header.specs.declared.layout.Layout.{Layout}
+use Rattle.blob_header.specs.declared.version.BlobVersion.{BlobVersion}
+use Rattle.blob_model.specs.Directory.{current}
+use Rattle.blob_header.specs.Header.{data_start}
+use Rattle.blob_model.specs.Opening.{Opening, Continues, Begins, place_of}
 use Rattle.blob_memory.specs.declared.contents.Contents.{Contents}
 use Rattle.blob_memory.specs.declared.found.Found.{Found}
 use Rattle.blob_memory.specs.Contents.{directory_of, durable_of, item_of, IsUnder, logical_of}

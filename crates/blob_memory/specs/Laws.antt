@@ -3,8 +3,9 @@ use Rattle.std.specs.Prelude.{◌≡◌, ℕ, ◌<◌, Bool, true, false, cond, 
 use Rattle.std.proofs.Common.{refl, arith}
 use Rattle.std.proofs.lemmas.Bool.{false≢true, and_parts}
 use Rattle.std.proofs.lemmas.Bool.Decides.{nat_tests}
-use Rattle.blob_base.specs.Directory.{data_start, is_that, is_current}
-use Rattle.blob_base.specs.Places.{Place}
+use Rattle.blob_model.specs.Directory.{is_that, is_current}
+use Rattle.blob_header.specs.Header.{data_start}
+use Rattle.blob_model.specs.Places.{Place}
 use Rattle.blob_memory.specs.declared.contents.Contents.{Contents}
 use Rattle.blob_memory.specs.declared.item.Item.{Item}
 use Rattle.blob_memory.specs.declared.item.Item.TheVariants.{Raw, Held}

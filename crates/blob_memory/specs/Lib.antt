@@ -1,5 +1,6 @@
 pub mod AnswerLaws
 pub mod Answers
+pub mod Audit
 pub mod Contents
 pub mod Found
 pub mod Laws

@@ -7,15 +7,15 @@ use Rattle.std.specs.Cmp.Lexicographic.{slice_cmp}
 use Rattle.std.specs.Ordering.{nat_cmp}
 use Rattle.std.specs.String.{string_bytes}
 use Rattle.std.specs.declared.string.String.{String}
-use Rattle.blob_base.specs.Audit.{Listed}
-use Rattle.blob_base.specs.declared.version.BlobVersion.{BlobVersion}
-use Rattle.blob_base.specs.Directory as directory
-use Rattle.blob_base.specs.Directory.{Directory, File}
-use Rattle.blob_base.specs.Durable.{Durable}
-use Rattle.blob_base.specs.Files.{raw_again}
-use Rattle.blob_base.specs.Header.{region}
-use Rattle.blob_base.specs.Parse.{Failure, every_layout}
-use Rattle.blob_base.specs.Resolve.{resolution}
+use Rattle.blob_memory.specs.Audit.{Listed}
+use Rattle.blob_header.specs.declared.version.BlobVersion.{BlobVersion}
+use Rattle.blob_model.specs.Directory as directory
+use Rattle.blob_model.specs.Directory.{Directory, File}
+use Rattle.blob_model.specs.Durable.{Durable}
+use Rattle.blob_model.specs.Files.{raw_again}
+use Rattle.blob_header.specs.Header.{region}
+use Rattle.blob_header.specs.Parse.{Failure, every_layout}
+use Rattle.blob_header.specs.Resolve.{resolution}
 use Rattle.blob_memory.specs.declared.contents.Contents.{Contents}
 use Rattle.blob_memory.specs.declared.item.Item.{Item}
 use Rattle.blob_memory.specs.declared.item.Item.TheVariants.{Raw, Held}

@@ -1,10 +1,10 @@
 -- A memory store and its handles, as the contracts of their calls see them.
 use Rattle.std.specs.Prelude.{ℕ, ◌-◌, ◌^◌, min, Bool, true, false, List, Option, None, Some, Vec, vec_capacity}
 use Rattle.std.specs.Global.{Global}
-use Rattle.blob_base.specs.Audit.{Listed}
-use Rattle.blob_base.specs.Directory.{Directory}
-use Rattle.blob_base.specs.Durable.{Durable}
-use Rattle.blob_base.specs.Places.{Place}
+use Rattle.blob_memory.specs.Audit.{Listed}
+use Rattle.blob_model.specs.Directory.{Directory}
+use Rattle.blob_model.specs.Durable.{Durable}
+use Rattle.blob_model.specs.Places.{Place}
 use Rattle.blob_memory.specs.declared.storage.Storage.{Storage}
 use Rattle.blob_memory.specs.declared.blob.Blob.{Blob}
 use Rattle.blob_memory.specs.declared.snapshot.Snapshot.{Snapshot}

@@ -1,9 +1,9 @@
 // The checksum over all blobs, fed piece by piece.
 ghost use Rattle.std.specs.Prelude.{◌≡◌, ◌++◌, List, ℕ, codes};
-ghost use Rattle.blob_base.specs.Audit.{pieces_of, audit, IsListing};
-ghost use Rattle.blob_base.specs.Checksum.{crc32c};
-ghost use Rattle.blob_base.specs.Header.{region};
-ghost use Rattle.blob_base.specs.Register.{Holds};
+ghost use Rattle.blob_memory.specs.Audit.{pieces_of, audit, IsListing};
+ghost use Rattle.blob_header.specs.Checksum.{crc32c};
+ghost use Rattle.blob_header.specs.Header.{region};
+ghost use Rattle.blob_header.specs.Register.{Holds};
 ghost use Rattle.blob_memory.specs.Listing.{raw_bytes, raw_in, listing_in, listing_all, AreOrdered, AreOrderedNames, AreAllOrdered};
 
 use crate::item::Item;

@@ -1,10 +1,10 @@
 //! A handle on a blob of the memory store.
 ghost use Rattle.std.specs.Prelude.{◌≡◌, ℕ, ◌≤◌, ◌+◌, ◌≢◌, [], true, false, None, OnOk, IfOk, OnErr, length, take, drop, vec_capacity};
-ghost use Rattle.blob_base.specs.Bytes.{overlay, resized, written};
-ghost use Rattle.blob_base.specs.Directory.{Directory, is_current};
-ghost use Rattle.blob_base.specs.Durable.{changed};
-ghost use Rattle.blob_base.specs.Live.{live_after};
-ghost use Rattle.blob_base.specs.Refusals.{refused, refusal_of, IsMemory};
+ghost use Rattle.blob_model.specs.Bytes.{overlay, resized, written};
+ghost use Rattle.blob_model.specs.Directory.{Directory, is_current};
+ghost use Rattle.blob_model.specs.Durable.{changed};
+ghost use Rattle.blob_model.specs.Live.{live_after};
+ghost use Rattle.blob_header.specs.Refusals.{refused, refusal_of, IsMemory};
 ghost use Rattle.blob_memory.specs.Answers.{missing, read_refusal};
 
 use crate::origin::Origin;

@@ -1,10 +1,11 @@
 // What an open finds of a name's file.
 ghost use Rattle.std.specs.Prelude.{◌≡◌, ◌≤◌, ◌<◌, ◌^◌, ◌⊎◌, List, ℕ, [], None, Some, true, false, IfOk, IfErr, OnErr, length, drop};
 ghost use Rattle.std.specs.Range.{range_inclusive_start, range_inclusive_end};
-ghost use Rattle.blob_base.specs.Directory.{Raw, data_start};
-ghost use Rattle.blob_base.specs.Opening.{opening, Begins, Declines, layout_from};
-ghost use Rattle.blob_base.specs.Refusals.{refusal_of, IsMemory, IsMemoryError};
-ghost use Rattle.blob_base.specs.Versions.{is_in_range};
+ghost use Rattle.blob_model.specs.Directory.{Raw};
+ghost use Rattle.blob_header.specs.Header.{data_start};
+ghost use Rattle.blob_model.specs.Opening.{opening, Begins, Declines, layout_from};
+ghost use Rattle.blob_header.specs.Refusals.{refusal_of, IsMemory, IsMemoryError};
+ghost use Rattle.blob_header.specs.Versions.{is_in_range};
 
 use crate::item::Held;
 use blob_base::header_laws::resolved_has_header;

@@ -1,9 +1,9 @@
 //! Blobs as they lie on the disk, by name, and the checksum over all of them.
 ghost use Rattle.std.specs.Prelude.{◌≡◌, Some, IsSome, IsOk, OnOk, OnErr, IfOk};
-ghost use Rattle.blob_base.specs.Audit.{IsListing, audit};
-ghost use Rattle.blob_base.specs.Checksum.{crc32c};
-ghost use Rattle.blob_base.specs.Durable.{durable_without};
-ghost use Rattle.blob_base.specs.Refusals.{IsMemory};
+ghost use Rattle.blob_memory.specs.Audit.{IsListing, audit};
+ghost use Rattle.blob_header.specs.Checksum.{crc32c};
+ghost use Rattle.blob_model.specs.Durable.{durable_without};
+ghost use Rattle.blob_header.specs.Refusals.{IsMemory};
 ghost use Rattle.blob_memory.specs.Contents.{directory_raw, items_of};
 ghost use Rattle.blob_memory.specs.Listing.{raw_blob_of, logical_blob_of};
 

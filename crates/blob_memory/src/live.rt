@@ -1,7 +1,7 @@
 // The live bytes of a handle.
 ghost use Rattle.std.specs.Prelude.{◌≡◌, ◌≤◌, ◌<◌, ◌+◌, ◌^◌, ℕ, None, Some, OnOk, IfOk, OnErr, length, if◌then◌else◌, vec_capacity};
-ghost use Rattle.blob_base.specs.Bytes.{written};
-ghost use Rattle.blob_base.specs.Refusals.{refused, OffsetOverflow, IsMemory};
+ghost use Rattle.blob_model.specs.Bytes.{written};
+ghost use Rattle.blob_header.specs.Refusals.{refused, OffsetOverflow, IsMemory};
 ghost use Rattle.blob_memory.specs.Answers.{is_uncounted};
 
 use crate::overlay;

@@ -17,7 +17,7 @@ pub struct Origin {
 }
 
 impl Model for Origin {
-    ghost use Rattle.blob_base.specs.Places.{Place};
+    ghost use Rattle.blob_model.specs.Places.{Place};
     ghost use Rattle.std.specs.String.{string_bytes};
 
     ghost Value = { Place };
@@ -26,8 +26,8 @@ impl Model for Origin {
 }
 
 impl PartialEq for Origin {
-    ghost use Rattle.blob_base.specs.Places.{same_place};
-    ghost use Rattle.blob_base.specs.SamePlace.{same_place_laws};
+    ghost use Rattle.blob_model.specs.Places.{same_place};
+    ghost use Rattle.blob_model.specs.SamePlace.{same_place_laws};
 
     ghost eq = { same_place };
 
@@ -43,7 +43,7 @@ impl PartialEq for Origin {
 }
 
 impl Eq for Origin {
-    ghost use Rattle.blob_base.specs.SamePlace.{same_place_equiv};
+    ghost use Rattle.blob_model.specs.SamePlace.{same_place_equiv};
 
     ghost laws = { same_place_equiv };
 }

@@ -1,8 +1,8 @@
 // What a write and a resize make of a vector of bytes. Room is taken first; the rest takes no memory.
 ghost use Rattle.std.specs.Prelude.{◌≡◌, ◌≤◌, ◌<◌, ◌+◌, ◌^◌, length, max, drop, true, IsOk, OnOk, OnErr, vec_capacity};
 ghost use Rattle.std.specs.List.{flat_map, list_all};
-ghost use Rattle.blob_base.specs.Bytes.{overlay, overlay_by, reach, resized};
-ghost use Rattle.blob_base.specs.Runs.{picked};
+ghost use Rattle.blob_model.specs.Bytes.{overlay, overlay_by, reach, resized};
+ghost use Rattle.blob_model.specs.Runs.{picked};
 
 use blob_base::IoBufs;
 use std::alloc::AllocError;

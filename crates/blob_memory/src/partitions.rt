@@ -1,8 +1,8 @@
 // A table from partition and name to item.
 ghost use Rattle.std.specs.Prelude.{◌≡◌, List, ℕ, None, Some, true, false, IsSome, IsOk, OnOk, OnErr, IfOk, is_some, map, option_copied};
-ghost use Rattle.blob_base.specs.Directory.{with_partition};
-ghost use Rattle.blob_base.specs.Audit.{audit, IsListing};
-ghost use Rattle.blob_base.specs.Checksum.{crc32c};
+ghost use Rattle.blob_model.specs.Directory.{with_partition};
+ghost use Rattle.blob_memory.specs.Audit.{audit, IsListing};
+ghost use Rattle.blob_header.specs.Checksum.{crc32c};
 ghost use Rattle.blob_memory.specs.Listing.{listing_of, raw_at};
 ghost use Rattle.blob_base.specs.Names.{AreNames};
 ghost use Rattle.blob_memory.specs.Maps.{found};

@@ -1,10 +1,10 @@
 //! What a crash keeps of mutations that weren't made durable.
 ghost use Rattle.std.specs.Prelude.{◌≡◌, ◌+◌, ◌<◌, ◌^◌, ℕ, OnOk, OnErr, IsOk, length};
-ghost use Rattle.blob_base.specs.Bytes.{overlay_by, reach, resized};
-ghost use Rattle.blob_base.specs.Durable.{changed};
-ghost use Rattle.blob_base.specs.Places.{Place};
-ghost use Rattle.blob_base.specs.Refusals.{refused};
-ghost use Rattle.blob_base.specs.Runs.{picked};
+ghost use Rattle.blob_model.specs.Bytes.{overlay_by, reach, resized};
+ghost use Rattle.blob_model.specs.Durable.{changed};
+ghost use Rattle.blob_model.specs.Places.{Place};
+ghost use Rattle.blob_header.specs.Refusals.{refused};
+ghost use Rattle.blob_model.specs.Runs.{picked};
 ghost use Rattle.blob_memory.specs.Answers.{OrMemory, range_refusal, end_refusal};
 
 use crate::blob::Blob;

@@ -1,6 +1,6 @@
 //! A store's contents, taken out as a crash of the process would leave them.
 ghost use Rattle.std.specs.Prelude.{◌≡◌, ℕ, List, [], false, None, unwrap_or};
-ghost use Rattle.blob_base.specs.Files.{directory_again};
+ghost use Rattle.blob_model.specs.Files.{directory_again};
 
 use crate::contents::Contents;
 use crate::storage::Storage;

@@ -1,8 +1,8 @@
 //! The memory store.
 ghost use Rattle.std.specs.Prelude.{◌≡◌, ◌<◌, ◌≤◌, ℕ, true, false, None, length, OnOk, IfOk};
 ghost use Rattle.hex.specs.Hex.{encode_lower};
-ghost use Rattle.blob_base.specs.PartitionName.{is_partition_name};
-ghost use Rattle.blob_base.specs.Refusals.{refused, refusal_of, BlobMissing};
+ghost use Rattle.blob_header.specs.PartitionName.{is_partition_name};
+ghost use Rattle.blob_header.specs.Refusals.{refused, refusal_of, BlobMissing};
 ghost use Rattle.blob_memory.specs.Answers.{OrMemory, partition_refusal};
 ghost use Rattle.blob_memory.specs.Store.{place, live};
 
@@ -24,7 +24,7 @@ pub struct Storage {
 }
 
 impl Durable for Storage {
-    ghost use Rattle.blob_base.specs.Places.{same_place};
+    ghost use Rattle.blob_model.specs.Places.{same_place};
     ghost use Rattle.blob_memory.specs.Store.{directory, durable};
     ghost use Rattle.blob_memory.specs.Laws.{currents, given};
 

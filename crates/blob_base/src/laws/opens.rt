@@ -1,11 +1,11 @@
 //! What an accepted open leaves, in any store.
 
 ghost use Rattle.std.specs.Prelude.{◌≡◌, ◌<◌, ◌≤◌, ℕ, List, Some};
-ghost use Rattle.blob_base.specs.Directory.{Directory, current};
-ghost use Rattle.blob_base.specs.Durable.{Durable};
-ghost use Rattle.blob_base.specs.Opened.{IsNamed, GoesOn};
-ghost use Rattle.blob_base.specs.Opening.{IsOpened};
-ghost use Rattle.blob_base.specs.Places.{Place};
+ghost use Rattle.blob_model.specs.Directory.{Directory, current};
+ghost use Rattle.blob_model.specs.Durable.{Durable};
+ghost use Rattle.blob_model.specs.Opened.{IsNamed, GoesOn};
+ghost use Rattle.blob_model.specs.Opening.{IsOpened};
+ghost use Rattle.blob_model.specs.Places.{Place};
 
 use crate::Durable as Shows;
 

@@ -1,21 +1,21 @@
 //! What a handle on its name's current incarnation may rely on.
 ghost use Rattle.std.specs.Prelude.{◌≡◌, ◌⊎◌, ℕ, List, Bool, true, Option, Some, length};
-ghost use Rattle.blob_base.specs.Bytes.{resized};
-ghost use Rattle.blob_base.specs.Directory.{is_current};
-ghost use Rattle.blob_base.specs.Places.{Place};
-ghost use Rattle.blob_base.specs.Refusals.{Refusal, BlobMissing};
+ghost use Rattle.blob_model.specs.Bytes.{resized};
+ghost use Rattle.blob_model.specs.Directory.{is_current};
+ghost use Rattle.blob_model.specs.Places.{Place};
+ghost use Rattle.blob_header.specs.Refusals.{Refusal, BlobMissing};
 ghost use Rattle.blob_memory.specs.Store.{directory, place};
 ghost use Rattle.blob_memory.specs.declared.blob.Blob as memory_blob;
 ghost use Rattle.blob_memory.specs.declared.storage.Storage as memory;
 ghost use Rattle.rand_core.specs.Stream.{Stream};
 ghost use Rattle.blob_faulty.specs.declared.blob.Blob.{Blob};
-ghost use Rattle.blob_faulty.specs.declared.config.Config.{Config};
-ghost use Rattle.blob_faulty.specs.declared.config.ResizeConfig.{ResizeConfig};
+ghost use Rattle.blob_faults.specs.declared.config.Config.{Config};
+ghost use Rattle.blob_faults.specs.declared.config.ResizeConfig.{ResizeConfig};
 ghost use Rattle.blob_faulty.specs.declared.storage.Storage.{Storage};
 ghost use Rattle.blob_faulty.specs.Certain.{IsNever, partial_resizes};
-ghost use Rattle.blob_faulty.specs.Faults.{ResizeFate, resize_fate};
+ghost use Rattle.blob_faults.specs.Faults.{ResizeFate, resize_fate};
 ghost use Rattle.blob_faulty.specs.Outcomes.{WritesSome};
-ghost use Rattle.blob_faulty.specs.Recorded.{live_of_write, live_of_resize, size_of_write, size_of_resize};
+ghost use Rattle.blob_faults.specs.Recorded.{live_of_write, live_of_resize, size_of_write, size_of_resize};
 ghost use Rattle.blob_faulty.specs.Wrapper.{inner_of, inside};
 
 use crate::blob::Blob;

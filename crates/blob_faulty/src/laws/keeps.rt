@@ -1,13 +1,13 @@
 //! The bytes that a wrapper keeps, through calls that are known by their contracts.
 
 ghost use Rattle.std.specs.Prelude.{◌≡◌, ◌≤◌, ◌++◌, ℕ, List, Bool, true, Option, None, length};
-ghost use Rattle.blob_base.specs.Fronts.{BeginsWith};
-ghost use Rattle.blob_base.specs.Places.{Place};
-ghost use Rattle.blob_base.specs.Refusals.{Refusal};
+ghost use Rattle.blob_header.specs.Fronts.{BeginsWith};
+ghost use Rattle.blob_model.specs.Places.{Place};
+ghost use Rattle.blob_header.specs.Refusals.{Refusal};
 ghost use Rattle.blob_faulty.specs.declared.blob.Blob.{Blob};
 ghost use Rattle.blob_faulty.specs.declared.storage.Storage.{Storage};
 ghost use Rattle.blob_faulty.specs.Keeps.{KeepsBytes};
-ghost use Rattle.blob_faulty.specs.Recorded.{recorded_write};
+ghost use Rattle.blob_faults.specs.Recorded.{recorded_write};
 ghost use Rattle.blob_faulty.specs.Wrapper.{Adds, KeepsRecords, inner_of, rng_of, config_of, next_write_of, inside};
 
 use crate::blob::Blob;

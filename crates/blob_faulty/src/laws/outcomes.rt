@@ -1,19 +1,19 @@
 //! What a crash may leave after a mutation, by what it might have left before it.
 ghost use Rattle.std.specs.Prelude.{◌≡◌, ◌⊎◌, ℕ, List, Bool, true, Option, option_map};
-ghost use Rattle.blob_base.specs.Bytes.{resized};
-ghost use Rattle.blob_base.specs.Directory.{is_current};
-ghost use Rattle.blob_base.specs.Files.{Files, all_logged};
-ghost use Rattle.blob_base.specs.Log.{Entry, Choices, crashed};
-ghost use Rattle.blob_base.specs.Places.{Place};
-ghost use Rattle.blob_base.specs.Refusals.{Refusal};
+ghost use Rattle.blob_model.specs.Bytes.{resized};
+ghost use Rattle.blob_model.specs.Directory.{is_current};
+ghost use Rattle.blob_model.specs.Files.{Files, all_logged};
+ghost use Rattle.blob_model.specs.Log.{Entry, Choices, crashed};
+ghost use Rattle.blob_model.specs.Places.{Place};
+ghost use Rattle.blob_header.specs.Refusals.{Refusal};
 ghost use Rattle.rand_core.specs.Stream.{Stream};
-ghost use Rattle.blob_faulty.specs.declared.config.Config.{Config};
-ghost use Rattle.blob_faulty.specs.declared.config.ResizeConfig.{ResizeConfig};
+ghost use Rattle.blob_faults.specs.declared.config.Config.{Config};
+ghost use Rattle.blob_faults.specs.declared.config.ResizeConfig.{ResizeConfig};
 ghost use Rattle.blob_faulty.specs.declared.storage.Storage.{Storage};
 ghost use Rattle.blob_faulty.specs.Certain.{IsNever, partial_resizes};
-ghost use Rattle.blob_faulty.specs.Faults.{resize_fate};
+ghost use Rattle.blob_faults.specs.Faults.{resize_fate};
 ghost use Rattle.blob_faulty.specs.Outcomes.{left_of, LaysSome};
-ghost use Rattle.blob_faulty.specs.Recorded.{recorded_write, recorded_resize};
+ghost use Rattle.blob_faults.specs.Recorded.{recorded_write, recorded_resize};
 ghost use Rattle.blob_faulty.specs.Wrapper.{inner_of, Adds, Stands};
 
 use blob_base::Storage as Inner;

@@ -2,13 +2,13 @@
 
 ghost use Rattle.std.specs.Prelude.{◌≡◌, ℕ, List, Bool, true, false, Option, None, length};
 ghost use Rattle.rand_core.specs.Stream.{Stream};
-ghost use Rattle.blob_base.specs.Bytes.{lies};
-ghost use Rattle.blob_base.specs.Persistence.{HasByte, any_touches};
-ghost use Rattle.blob_base.specs.Refusals.{Refusal};
+ghost use Rattle.blob_model.specs.Bytes.{lies};
+ghost use Rattle.blob_model.specs.Persistence.{HasByte, any_touches};
+ghost use Rattle.blob_header.specs.Refusals.{Refusal};
 ghost use Rattle.blob_faulty.specs.declared.blob.Blob.{Blob};
-ghost use Rattle.blob_faulty.specs.declared.config.Config.{Config};
+ghost use Rattle.blob_faults.specs.declared.config.Config.{Config};
 ghost use Rattle.blob_faulty.specs.declared.storage.Storage.{Storage};
-ghost use Rattle.blob_faulty.specs.Recorded.{kept, recorded_write, live_of_write};
+ghost use Rattle.blob_faults.specs.Recorded.{kept, recorded_write, live_of_write};
 ghost use Rattle.blob_faulty.specs.Wrapper.{rng_of, config_of, next_write_of};
 
 use crate::blob::Blob;

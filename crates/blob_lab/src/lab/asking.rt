@@ -2,17 +2,17 @@
 ghost use Rattle.std.specs.Prelude.{◌≡◌, ◌≢◌, Some, IfOk, OnErr};
 ghost use Rattle.std.specs.Bool.{OnTrue, OnFalse};
 ghost use Rattle.blob_base.specs.Options.{is_sync};
-ghost use Rattle.blob_base.specs.Refusals.{IsMemory, Memory, refused};
-ghost use Rattle.blob_lab.specs.Acts.{Read, Write, Resize, Size, Sync, StartSync, Through, Finish};
+ghost use Rattle.blob_header.specs.Refusals.{IsMemory, Memory, refused};
+ghost use Rattle.blob_calls.specs.Acts.{Read, Write, Resize, Size, Sync, StartSync, Through, Finish};
 ghost use Rattle.blob_lab.specs.LabStands.{Asks, Starts, Performs};
 ghost use Rattle.blob_lab.specs.Tables.{held_by, syncs_of};
 
-use crate::Reply;
 use crate::lab::handles::Handle;
 use crate::lab::syncs::Syncs;
 use crate::lab::{Lab, Wrapper};
 use blob_base::laws::overlays::runs_are_choices;
 use blob_base::{Blob, Error, IoBufs, ReadOptions, Storage, WriteOptions};
+use blob_calls::Reply;
 use std::alloc::{AllocError, Global};
 
 /// A copy of a write's bytes. The only error is `Memory`.

@@ -1,11 +1,12 @@
 // Calls by name, but for opens.
 ghost use Rattle.std.specs.Prelude.{option_map, option_copied};
-ghost use Rattle.blob_lab.specs.Acts.{Admit, Remove, Scan};
+ghost use Rattle.blob_calls.specs.Acts.{Admit, Remove, Scan};
 ghost use Rattle.blob_lab.specs.LabStands.{Performs};
 
+use crate::ScriptedRng;
 use crate::lab::Lab;
-use crate::{Reply, ScriptedRng};
 use blob_base::Storage;
+use blob_calls::Reply;
 use blob_faulty::laws::names::removals;
 
 impl Lab {

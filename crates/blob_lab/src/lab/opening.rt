@@ -1,13 +1,14 @@
 // Opens, and closes.
 ghost use Rattle.std.specs.Prelude.{◌≡◌, ◌≤◌, false, Some, None, IfSome, IfNone};
 ghost use Rattle.std.specs.Range.{range_inclusive_start, range_inclusive_end, range_inclusive_exhausted};
-ghost use Rattle.blob_lab.specs.Acts.{Open, OpenLoose, Close, accepted};
+ghost use Rattle.blob_calls.specs.Acts.{Open, OpenLoose, Close, accepted};
 ghost use Rattle.blob_lab.specs.LabStands.{Performs};
 
+use crate::ScriptedRng;
 use crate::lab::Lab;
 use crate::lab::handles::Handle;
-use crate::{Reply, ScriptedRng};
 use blob_base::{BlobVersion, Storage};
+use blob_calls::Reply;
 use blob_faulty::laws::names::opens;
 use std::ops::RangeInclusive;
 

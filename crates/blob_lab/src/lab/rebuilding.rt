@@ -1,13 +1,14 @@
 // Crashes, and the wrapper taken apart and made again.
 ghost use Rattle.std.specs.Prelude.{◌≡◌};
-ghost use Rattle.blob_base.specs.Files.{Files, reopened};
+ghost use Rattle.blob_model.specs.Files.{Files, reopened};
 ghost use Rattle.blob_faulty.specs.Wrapper.{config_of};
-ghost use Rattle.blob_lab.specs.Acts.{Crash, Reopen};
+ghost use Rattle.blob_calls.specs.Acts.{Crash, Reopen};
 ghost use Rattle.blob_lab.specs.LabStands.{IsFor, Performs, stream_of};
 
+use crate::ScriptedRng;
 use crate::lab::{Lab, Wrapper};
-use crate::{Reply, ScriptedRng};
 use blob_base::laws::files::snapshots;
+use blob_calls::Reply;
 use blob_faulty::Config;
 use std::alloc::Global;
 use std::mem;

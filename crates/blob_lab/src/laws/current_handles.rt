@@ -1,12 +1,12 @@
 //! What holds of the handles on current incarnations, in each state that calls lead to.
 
 ghost use Rattle.std.specs.Prelude.{◌≡◌, ℕ, true, Some, length};
-ghost use Rattle.blob_base.specs.Directory.{is_current};
-ghost use Rattle.blob_lab.specs.Acts.{Through, Size};
+ghost use Rattle.blob_model.specs.Directory.{is_current};
+ghost use Rattle.blob_calls.specs.Acts.{Through, Size};
 ghost use Rattle.blob_lab.specs.Answers.{answer, kept_at};
 ghost use Rattle.blob_lab.specs.Reached.{Reached};
 ghost use Rattle.blob_lab.specs.States.{State, Held};
-ghost use Rattle.blob_lab.specs.Told as told;
+ghost use Rattle.blob_calls.specs.Told as told;
 
 /// A handle on its name's current incarnation tracks the length of its live bytes, and tells it when it is asked.
 ///

@@ -5,8 +5,8 @@ ghost use Rattle.blob_lab.specs.Fixed.{Persists};
 ghost use Rattle.blob_lab.specs.Reached.{NoneLoose, ReachedExclusively};
 ghost use Rattle.blob_lab.specs.Runs.{Run};
 ghost use Rattle.blob_lab.specs.States.{State};
-ghost use Rattle.blob_lab.specs.declared.call.Call.{Call};
-ghost use Rattle.blob_lab.specs.declared.reply.Reply.{Reply};
+ghost use Rattle.blob_calls.specs.declared.call.Call.{Call};
+ghost use Rattle.blob_calls.specs.declared.reply.Reply.{Reply};
 
 /// Where every open is exclusive, a byte that a sync, a started sync, a SYNC write or an open fixed keeps its value: at every
 /// point of the calls after it it is durable, in the live bytes of each handle on its blob, and in those that each later open

@@ -2,19 +2,19 @@
 
 ghost use Rattle.std.specs.Prelude.{◌≡◌, ℕ, true, List, Some, None, length};
 ghost use Rattle.rand_core.specs.Stream.{Stream};
-ghost use Rattle.blob_base.specs.Directory.{Incarnation};
-ghost use Rattle.blob_base.specs.Files.{durable_at};
-ghost use Rattle.blob_base.specs.Opening.{Begins, place_of};
-ghost use Rattle.blob_base.specs.PartitionName.{is_partition_name};
-ghost use Rattle.blob_base.specs.declared.layout.Layout.{Layout};
-ghost use Rattle.blob_base.specs.declared.version.BlobVersion.{BlobVersion};
+ghost use Rattle.blob_model.specs.Directory.{Incarnation};
+ghost use Rattle.blob_model.specs.Files.{durable_at};
+ghost use Rattle.blob_model.specs.Opening.{Begins, place_of};
+ghost use Rattle.blob_header.specs.PartitionName.{is_partition_name};
+ghost use Rattle.blob_header.specs.declared.layout.Layout.{Layout};
+ghost use Rattle.blob_header.specs.declared.version.BlobVersion.{BlobVersion};
 ghost use Rattle.blob_lab.specs.Accepted.{IsKept, Accepts, HasFileOf, OpensAs, IsToldOf};
-ghost use Rattle.blob_lab.specs.Acts.{Open, Reopen};
+ghost use Rattle.blob_calls.specs.Acts.{Open, Reopen};
 ghost use Rattle.blob_lab.specs.After.{after};
 ghost use Rattle.blob_lab.specs.Answers.{answer, found};
 ghost use Rattle.blob_lab.specs.Reached.{Reached};
 ghost use Rattle.blob_lab.specs.States.{State};
-ghost use Rattle.blob_lab.specs.Told as told;
+ghost use Rattle.blob_calls.specs.Told as told;
 
 /// A name that an open accepted and that no call removed since opens again, in whatever state calls have led to, refused
 /// removals, crashes and rebuilds anywhere among them: for versions that hold its own, where the name isn't open, nothing is

@@ -2,21 +2,22 @@
 ghost use Rattle.std.specs.Prelude.{◌≡◌, ◌≢◌, ℕ, ◌+◌, [], true, IfSome, IfNone, IfOk, IfErr, OnOk};
 ghost use Rattle.std.specs.Io.BufRead.{strip_last};
 ghost use Rattle.std.specs.Io.Iter.{u64_saturate};
-ghost use Rattle.blob_lab.specs.Acts.{act_of};
+ghost use Rattle.blob_calls.specs.Acts.{act_of};
 ghost use Rattle.blob_lab.specs.Endings.{is_cut};
 ghost use Rattle.blob_lab.specs.LabStands.{StandsFor};
-ghost use Rattle.blob_lab.specs.Lines.{said_by};
+ghost use Rattle.blob_calls.specs.Lines.{said_by};
 ghost use Rattle.blob_lab.specs.Reading.{StaysKnown, IsReadOut};
 ghost use Rattle.blob_lab.specs.ScriptReading.{OfLines, TakesLine, TakesCall, TakesBadCall, preamble_of};
 ghost use Rattle.blob_lab.specs.Scripts.{Script, with_lines};
-ghost use Rattle.blob_lab.specs.Settings.{cleared, configured};
+ghost use Rattle.blob_calls.specs.Settings.{cleared, configured};
 ghost use Rattle.blob_lab.specs.States.{start};
 ghost use Rattle.blob_lab.specs.Tables.{images_of};
 
-use crate::script::setting::copy_of;
-use crate::script::{Line, RefusedLine, Setting, read_line};
-use crate::{Call, Ending, Lab};
+use crate::{Ending, Lab};
 use blob_base::Error;
+use blob_calls::Call;
+use blob_calls::script::setting::copy_of;
+use blob_calls::script::{Line, RefusedLine, Setting, read_line};
 use blob_faulty::Config;
 use std::alloc::Global;
 use std::io::{BufRead, ErrorKind};

@@ -1,8 +1,9 @@
 // Incarnations that begin with what a file has, and all that end at once.
 ghost use Rattle.std.specs.Prelude.{◌≡◌, ◌≤◌, ◌<◌, ◌-◌, ◌^◌, List, ℕ, [], None, Some, false, length, unwrap_or};
-ghost use Rattle.blob_base.specs.Directory.{data_start, directory_made, place_made};
-ghost use Rattle.blob_base.specs.Durable.{with_at};
-ghost use Rattle.blob_base.specs.Files.{directory_again};
+ghost use Rattle.blob_model.specs.Directory.{directory_made, place_made};
+ghost use Rattle.blob_header.specs.Header.{data_start};
+ghost use Rattle.blob_model.specs.Durable.{with_at};
+ghost use Rattle.blob_model.specs.Files.{directory_again};
 ghost use Rattle.blob_memory.specs.Contents.{directory_of, durable_of, item_of, IsUnder, logical_from, logical_of, IsFrom};
 ghost use Rattle.blob_memory.specs.Listing.{listing_at};
 

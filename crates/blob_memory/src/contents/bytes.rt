@@ -1,11 +1,11 @@
 // The durable bytes of incarnations.
 ghost use Rattle.std.specs.Prelude.{◌≡◌, ◌≤◌, ◌+◌, ◌<◌, ◌^◌, ℕ, Some, IsSome, IsOk, OnOk, OnErr, length, max, option_copied, is_some};
 ghost use Rattle.std.specs.List.{flat_map};
-ghost use Rattle.blob_base.specs.Bytes.{overlay, overlay_by, reach, resized};
-ghost use Rattle.blob_base.specs.Directory.{is_current};
-ghost use Rattle.blob_base.specs.Durable.{with_at, changed};
-ghost use Rattle.blob_base.specs.Places.{Place};
-ghost use Rattle.blob_base.specs.Runs.{picked};
+ghost use Rattle.blob_model.specs.Bytes.{overlay, overlay_by, reach, resized};
+ghost use Rattle.blob_model.specs.Directory.{is_current};
+ghost use Rattle.blob_model.specs.Durable.{with_at, changed};
+ghost use Rattle.blob_model.specs.Places.{Place};
+ghost use Rattle.blob_model.specs.Runs.{picked};
 ghost use Rattle.blob_memory.specs.Contents.{directory_of, durable_of, vec_at, Fits};
 
 use super::Contents;

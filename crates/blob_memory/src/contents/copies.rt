@@ -1,7 +1,7 @@
 // Copies of a name's bytes.
 ghost use Rattle.std.specs.Prelude.{◌≡◌, ◌≤◌, ℕ, List, None, Some, OnErr, IfOk, option_map, drop, length};
 ghost use Rattle.std.specs.Option.{ForSome};
-ghost use Rattle.blob_base.specs.Refusals.{IsMemory};
+ghost use Rattle.blob_header.specs.Refusals.{IsMemory};
 ghost use Rattle.blob_memory.specs.Contents.{directory_of, durable_of, items_of};
 ghost use Rattle.blob_memory.specs.Listing.{raw_bytes, logical_found, raw_blob_of, logical_blob_of};
 

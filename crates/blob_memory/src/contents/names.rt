@@ -1,12 +1,12 @@
 // Contents by partition and name.
 ghost use Rattle.std.specs.Prelude.{◌≡◌, ◌<◌, ◌+◌, ◌-◌, ◌^◌, List, ℕ, None, Some, true, false, IsSome, is_some, is_none, IsTrue, IsOk, OnOk, OnErr, IfOk, map, option_copied};
-ghost use Rattle.blob_base.specs.Places.{Place};
-ghost use Rattle.blob_base.specs.Directory.{Raw, current, place_made, directory_made, directory_without, directory_less};
-ghost use Rattle.blob_base.specs.Audit.{audit, IsListing};
-ghost use Rattle.blob_base.specs.Checksum.{crc32c};
+ghost use Rattle.blob_model.specs.Places.{Place};
+ghost use Rattle.blob_model.specs.Directory.{Raw, current, place_made, directory_made, directory_without, directory_less};
+ghost use Rattle.blob_memory.specs.Audit.{audit, IsListing};
+ghost use Rattle.blob_header.specs.Checksum.{crc32c};
 ghost use Rattle.blob_base.specs.Names.{AreNames};
 ghost use Rattle.blob_memory.specs.Listing.{listing_at, raw_blob_of};
-ghost use Rattle.blob_base.specs.Durable.{with_at, is_under, durable_without};
+ghost use Rattle.blob_model.specs.Durable.{with_at, is_under, durable_without};
 ghost use Rattle.blob_memory.specs.Partitions.{item_at, is_there};
 ghost use Rattle.blob_memory.specs.Contents.{directory_raw, directory_of, durable_of, vec_at, without};
 

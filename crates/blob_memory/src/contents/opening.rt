@@ -1,10 +1,10 @@
 // What opens find in the contents, and the incarnations that they begin.
 ghost use Rattle.std.specs.Prelude.{◌≡◌, ◌⊎◌, ◌-◌, ◌^◌, ◌==◌, List, ℕ, None, Some, IfOk, IfErr, OnOk, OnErr, if◌then◌else◌};
 ghost use Rattle.std.specs.Range.{range_inclusive_start, range_inclusive_end};
-ghost use Rattle.blob_base.specs.Directory.{directory_made, place_made};
-ghost use Rattle.blob_base.specs.Durable.{with_at};
-ghost use Rattle.blob_base.specs.Opening.{opening, Declines};
-ghost use Rattle.blob_base.specs.Refusals.{refused, refusal_of, GenerationsExhausted, IsMemoryError};
+ghost use Rattle.blob_model.specs.Directory.{directory_made, place_made};
+ghost use Rattle.blob_model.specs.Durable.{with_at};
+ghost use Rattle.blob_model.specs.Opening.{opening, Declines};
+ghost use Rattle.blob_header.specs.Refusals.{refused, refusal_of, GenerationsExhausted, IsMemoryError};
 ghost use Rattle.blob_memory.specs.Answers.{OrMemory};
 ghost use Rattle.blob_memory.specs.Contents.{directory_of, durable_of, is_ended};
 ghost use Rattle.blob_memory.specs.Found.{IsFound, opening_of};

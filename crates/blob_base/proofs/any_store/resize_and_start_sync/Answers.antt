@@ -1,7 +1,7 @@
 use Rattle.std.proofs.Common.{rules, ◌≡◌, inl, inr, refl, sym, ◌∙◌, subst, Option, Some, None, IsSome, Result, Ok, Err, OnOk, OnErr}
-use Rattle.blob_base.specs.declared.error.Error.{Error}
+use Rattle.blob_header.specs.declared.error.Error.{Error}
 use Rattle.blob_base.specs.Callers.{First, Second}
-use Rattle.blob_base.specs.Refusals.{Refusal, refused, refusal_of}
+use Rattle.blob_header.specs.Refusals.{Refusal, refused, refusal_of}
 use Rattle.blob_base.proofs.any_store.resize_and_start_sync.Goals as goal
 
 pub returns-in_err-resize-clause-answer : goal.returns-in_err-resize-clause-answer

@@ -1,9 +1,9 @@
 use Rattle.std.proofs.Common.{rules, ◌≡◌, inl, inr, sym, ◌∙◌, subst, Bool, Some, None, Result, Ok, Err, OnOk, OnErr}
-use Rattle.blob_base.specs.declared.error.Error.{Error}
+use Rattle.blob_header.specs.declared.error.Error.{Error}
 use Rattle.blob_base.specs.Callers.{First, Second}
-use Rattle.blob_base.specs.Durable.{Durable, durable_without}
-use Rattle.blob_base.specs.Live.{live_written}
-use Rattle.blob_base.specs.Refusals.{Refusal, refused, refusal_of}
+use Rattle.blob_model.specs.Durable.{Durable, durable_without}
+use Rattle.blob_model.specs.Live.{live_written}
+use Rattle.blob_header.specs.Refusals.{Refusal, refused, refusal_of}
 use Rattle.blob_base.proofs.any_store.write_and_remove.Goals as goal
 
 pub returns-in_err-write_at-clause-answer : goal.returns-in_err-write_at-clause-answer

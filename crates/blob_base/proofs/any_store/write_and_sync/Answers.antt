@@ -1,7 +1,7 @@
 use Rattle.std.proofs.Common.{rules, ◌≡◌, subst, Bool, Some, None}
 use Rattle.blob_base.specs.Callers.{First, Second}
-use Rattle.blob_base.specs.Live.{live_written}
-use Rattle.blob_base.specs.Refusals.{refused, refusal_of}
+use Rattle.blob_model.specs.Live.{live_written}
+use Rattle.blob_header.specs.Refusals.{refused, refusal_of}
 use Rattle.blob_base.proofs.any_store.write_and_sync.Goals as goal
 
 pub returns-in_err-write_at-clause-answer : goal.returns-in_err-write_at-clause-answer

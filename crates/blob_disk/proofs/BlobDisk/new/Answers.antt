@@ -2,10 +2,10 @@ use Rattle.std.proofs.Common.{◌≡◌, ◌∙◌, ap, sym, List, ℕ, [], Opti
 use Rattle.std.proofs.lemmas.Grind.{merely}
 use Rattle.std.proofs.lemmas.Option.{none-some}
 use Rattle.std.specs.Prelude.{codes}
-use Rattle.blob_base.specs.Directory.{Directory}
-use Rattle.blob_base.specs.Durable.{Durable}
-use Rattle.blob_base.specs.Files.{Files, wrapped, after_open}
-use Rattle.blob_base.specs.Places.{Place}
+use Rattle.blob_model.specs.Directory.{Directory}
+use Rattle.blob_model.specs.Durable.{Durable}
+use Rattle.blob_model.specs.Files.{Files, wrapped, after_open}
+use Rattle.blob_model.specs.Places.{Place}
 use Rattle.blob_disk.proofs.Crashes.{first_open}
 use Rattle.blob_disk.proofs.BlobDisk.new.Goals as goal
 use Rattle.blob_disk.proofs.Outcomes.{configured_named, configured_whole}

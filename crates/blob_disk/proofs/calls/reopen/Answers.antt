@@ -1,6 +1,6 @@
 use Rattle.std.proofs.Common.{inr, sym, ◌∙◌, ap, List, ℕ, length, refl}
 use Rattle.std.specs.Prelude.{codes}
-use Rattle.blob_base.specs.Places.{Place}
+use Rattle.blob_model.specs.Places.{Place}
 use Rattle.blob_disk.proofs.Crashes.{opens_again}
 use Rattle.blob_disk.proofs.Outcomes.{keeps_all}
 use Rattle.blob_disk.proofs.calls.reopen.Goals as goal

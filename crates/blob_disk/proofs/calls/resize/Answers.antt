@@ -1,12 +1,12 @@
 use Rattle.std.proofs.Common.{List, ℕ, length, refl, sym, ◌∙◌, ap, subst, ◌≡◌, ◌⊎◌}
 use Rattle.std.proofs.lemmas.Result.{on_ok_weaker}
-use Rattle.blob_base.specs.Bytes.{resized}
-use Rattle.blob_base.proofs.Bytes.{length-resized}
-use Rattle.blob_base.specs.Refusals.{refused}
+use Rattle.blob_model.specs.Bytes.{resized}
+use Rattle.blob_model.proofs.Bytes.{length-resized}
+use Rattle.blob_header.specs.Refusals.{refused}
 use Rattle.blob_disk.proofs.Adding.{current_now, cut_so}
 use Rattle.blob_disk.proofs.calls.resize.Goals as goal
-use Rattle.blob_faulty.specs.Faults.{resize_fate}
-use Rattle.blob_faulty.specs.Recorded.{recorded_resize}
+use Rattle.blob_faults.specs.Faults.{resize_fate}
+use Rattle.blob_faults.specs.Recorded.{recorded_resize}
 use Rattle.blob_faulty.specs.Wrapper.{config_of, inside, rng_of, size_of}
 use Rattle.blob_memory.specs.Store.{live, place}
 

@@ -1,7 +1,7 @@
 use Rattle.std.proofs.Common.{inl, sym, ◌∙◌, ap, List, ℕ, length}
-use Rattle.blob_base.specs.Durable.{Durable}
-use Rattle.blob_base.specs.Pending.{Pending}
-use Rattle.blob_base.specs.Places.{Place}
+use Rattle.blob_model.specs.Durable.{Durable}
+use Rattle.blob_model.specs.Pending.{Pending}
+use Rattle.blob_model.specs.Places.{Place}
 use Rattle.blob_disk.proofs.Outcomes.{at_place, keeps_all, keeps_synced, same_outcomes, synced_at}
 use Rattle.blob_disk.proofs.calls.sync.Goals as goal
 use Rattle.blob_faulty.specs.Wrapper.{inner_of, inside, pending_of}

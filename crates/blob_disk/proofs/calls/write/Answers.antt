@@ -1,6 +1,6 @@
 use Rattle.std.proofs.Common.{List, ℕ, length, ◌<◌, sym, ◌∙◌, subst}
 use Rattle.std.proofs.lemmas.Result.{on_ok_weaker}
-use Rattle.blob_base.specs.Bytes.{written}
+use Rattle.blob_model.specs.Bytes.{written}
 use Rattle.blob_disk.proofs.Adding.{follows_self, torn_follows}
 use Rattle.blob_disk.proofs.Laying.{holds_written, mixed_not}
 use Rattle.blob_disk.proofs.calls.write.Goals as goal

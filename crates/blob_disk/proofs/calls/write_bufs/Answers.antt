@@ -1,13 +1,13 @@
 use Rattle.std.proofs.Common.{List, ℕ, length, refl, sym, ◌∙◌, ap, subst}
 use Rattle.std.proofs.lemmas.Result.{on_ok_weaker}
 use Rattle.blob_base.specs.declared.options.WriteOptions.{WriteOptions}
-use Rattle.blob_base.specs.Live.{live_written}
+use Rattle.blob_model.specs.Live.{live_written}
 use Rattle.blob_base.specs.Options.{is_sync}
-use Rattle.blob_base.specs.Refusals.{refused}
+use Rattle.blob_header.specs.Refusals.{refused}
 use Rattle.blob_disk.proofs.Adding.{current_now, wrote}
 use Rattle.blob_disk.proofs.calls.write_bufs.Goals as goal
 use Rattle.blob_faulty.specs.Outcomes.{WritesSome}
-use Rattle.blob_faulty.specs.Recorded.{recorded_write}
+use Rattle.blob_faults.specs.Recorded.{recorded_write}
 use Rattle.blob_faulty.specs.Wrapper.{config_of, inside, next_write_of, rng_of, size_of}
 use Rattle.blob_memory.specs.Store.{live, place}
 

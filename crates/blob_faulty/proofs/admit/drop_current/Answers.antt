@@ -1,6 +1,6 @@
 use Rattle.std.proofs.Common.{rules, not, Some}
 use Rattle.std.proofs.lemmas.Fn.{filter_same}
-use Rattle.blob_base.specs.Files.{ends_by}
+use Rattle.blob_model.specs.Files.{ends_by}
 use Rattle.blob_memory.specs.Store.{directory}
 use Rattle.blob_faulty.proofs.admit.drop_current.Goals as goal
 

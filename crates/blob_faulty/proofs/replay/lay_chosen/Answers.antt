@@ -1,5 +1,5 @@
 use Rattle.std.proofs.Common.{arith, length}
-use Rattle.blob_base.specs.Runs.{picked}
+use Rattle.blob_model.specs.Runs.{picked}
 use Rattle.blob_memory.specs.Contents.{vec_at}
 use Rattle.blob_faulty.proofs.Replaying.{fits_less, reach_within, ok_is}
 use Rattle.blob_faulty.proofs.replay.lay_chosen.Goals as goal

@@ -1,12 +1,12 @@
 use Rattle.std.proofs.Common.{◌≡◌, ◌<◌, ◌+◌, ◌∙◌, ap, sym, subst, List, ◌∷◌, drop, length, arith}
-use Rattle.blob_base.specs.Draws.{chosen_by}
-use Rattle.blob_base.specs.Log.{Choices}
-use Rattle.blob_base.specs.Order.{Held, held_at, ArePlacesApart}
-use Rattle.blob_base.specs.Places.{Place}
-use Rattle.blob_base.specs.Stands.{replayed_at}
+use Rattle.blob_model.specs.Draws.{chosen_by}
+use Rattle.blob_model.specs.Log.{Choices}
+use Rattle.blob_model.specs.Order.{Held, held_at, ArePlacesApart}
+use Rattle.blob_model.specs.Places.{Place}
+use Rattle.blob_model.specs.Stands.{replayed_at}
 use Rattle.blob_memory.specs.Store.{durable}
-use Rattle.blob_faulty.specs.Lists.{held, held_by}
-use Rattle.blob_faulty.specs.Rows.{rows_in}
+use Rattle.blob_faults.specs.Lists.{held, held_by}
+use Rattle.blob_faults.specs.Rows.{rows_in}
 use Rattle.blob_faulty.proofs.Replaying.{replay_first, widest_in, held_more}
 use Rattle.blob_faulty.proofs.replay.replay_all.Goals as goal
 

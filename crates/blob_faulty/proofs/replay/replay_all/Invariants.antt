@@ -1,11 +1,11 @@
 use Rattle.std.proofs.Common.{◌≡◌, drop}
-use Rattle.blob_base.specs.Draws.{chosen_by}
-use Rattle.blob_base.specs.Order.{ArePlacesApart}
-use Rattle.blob_base.specs.Places.{Place}
-use Rattle.blob_base.specs.Stands.{replayed_at}
-use Rattle.blob_faulty.specs.Lists.{held, list_of}
-use Rattle.blob_faulty.specs.Replays.{KeepsRooms}
-use Rattle.blob_faulty.specs.Rows.{rows_in}
+use Rattle.blob_model.specs.Draws.{chosen_by}
+use Rattle.blob_model.specs.Order.{ArePlacesApart}
+use Rattle.blob_model.specs.Places.{Place}
+use Rattle.blob_model.specs.Stands.{replayed_at}
+use Rattle.blob_faults.specs.Lists.{held, list_of}
+use Rattle.blob_faulty.specs.Ready.{KeepsRooms}
+use Rattle.blob_faults.specs.Rows.{rows_in}
 use Rattle.blob_memory.specs.Store.{durable}
 use Rattle.blob_faulty.proofs.replay.replay_all.Given as goal
 

@@ -1,15 +1,15 @@
 use Rattle.std.proofs.Common.{◌≡◌, ◌<◌, ◌≤◌, ◌+◌, ◌∙◌, ap, sym, List, ◌∷◌, ℕ, false, drop, length, get_or, arith}
-use Rattle.blob_base.specs.Draws.{chosen_by}
-use Rattle.blob_base.specs.Log.{Choices}
-use Rattle.blob_base.specs.Pending.{Pending, has_marker, replay, replayed, end_of, ends}
+use Rattle.blob_model.specs.Draws.{chosen_by}
+use Rattle.blob_model.specs.Log.{Choices}
+use Rattle.blob_model.specs.Pending.{Pending, has_marker, replay, replayed, end_of, ends}
 use Rattle.blob_memory.specs.Contents.{vec_at}
 use Rattle.blob_memory.specs.Store.{durable}
-use Rattle.blob_faulty.specs.declared.entry.Entry.{Entry}
-use Rattle.blob_faulty.specs.Replays.{width}
-use Rattle.blob_faulty.specs.Rows.{rows_in}
-use Rattle.blob_faulty.specs.Views.{view, views}
+use Rattle.blob_faults.specs.declared.entry.Entry.{Entry}
+use Rattle.blob_faults.specs.Replays.{width}
+use Rattle.blob_faults.specs.Rows.{rows_in}
+use Rattle.blob_faults.specs.Views.{view, views}
 use Rattle.blob_faulty.proofs.Replaying.{changed_same, changed_twice, fits_less, end_in, width_in}
-use Rattle.blob_faulty.proofs.Unmarked.{views_at, none_after, replay_more}
+use Rattle.blob_faults.proofs.Unmarked.{views_at, none_after, replay_more}
 use Rattle.blob_faulty.proofs.replay.replay_entries.Goals as goal
 
 pub replay_entry-requires-clause-room : goal.replay_entry-requires-clause-room

@@ -1,11 +1,11 @@
 use Rattle.std.proofs.Common.{◌≡◌, drop, false}
-use Rattle.blob_base.specs.Draws.{chosen_by}
-use Rattle.blob_base.specs.Durable.{changed}
-use Rattle.blob_base.specs.Pending.{has_marker, replay}
-use Rattle.blob_base.specs.Places.{Place}
-use Rattle.blob_faulty.specs.Replays.{KeepsRooms}
-use Rattle.blob_faulty.specs.Rows.{rows_in}
-use Rattle.blob_faulty.specs.Views.{views}
+use Rattle.blob_model.specs.Draws.{chosen_by}
+use Rattle.blob_model.specs.Durable.{changed}
+use Rattle.blob_model.specs.Pending.{has_marker, replay}
+use Rattle.blob_model.specs.Places.{Place}
+use Rattle.blob_faulty.specs.Ready.{KeepsRooms}
+use Rattle.blob_faults.specs.Rows.{rows_in}
+use Rattle.blob_faults.specs.Views.{views}
 use Rattle.blob_memory.specs.Store.{durable}
 use Rattle.blob_faulty.proofs.replay.replay_entries.Given as goal
 

@@ -1,16 +1,16 @@
 use Rattle.std.proofs.Common.{rules, ◌≡◌, ◌<◌, ◌+◌, ◌∙◌, ap, sym, List, ℕ, Bool, not, ◌&&◌, false, true, replicate, length, get_or}
-use Rattle.blob_base.specs.Bytes.{overlay_by, resized}
-use Rattle.blob_base.specs.Draws.{chosen_by}
-use Rattle.blob_base.specs.Durable.{Durable, changed}
-use Rattle.blob_base.specs.Holes.{in_holes}
-use Rattle.blob_base.specs.Log.{Choices}
-use Rattle.blob_base.specs.Pending.{replayed}
-use Rattle.blob_base.specs.Runs.{picked}
+use Rattle.blob_model.specs.Bytes.{overlay_by, resized}
+use Rattle.blob_model.specs.Draws.{chosen_by}
+use Rattle.blob_model.specs.Durable.{Durable, changed}
+use Rattle.blob_model.specs.Holes.{in_holes}
+use Rattle.blob_model.specs.Log.{Choices}
+use Rattle.blob_model.specs.Pending.{replayed}
+use Rattle.blob_model.specs.Runs.{picked}
 use Rattle.blob_memory.specs.Store.{durable}
-use Rattle.blob_faulty.specs.declared.entry.Entry.{Entry}
-use Rattle.blob_faulty.specs.Ranges.{ranges}
-use Rattle.blob_faulty.specs.Rows.{rows_in}
-use Rattle.blob_faulty.specs.Views.{view, write_of}
+use Rattle.blob_faults.specs.declared.entry.Entry.{Entry}
+use Rattle.blob_faults.specs.Ranges.{ranges}
+use Rattle.blob_faults.specs.Rows.{rows_in}
+use Rattle.blob_faults.specs.Views.{view, write_of}
 use Rattle.blob_faulty.proofs.Replaying.{changed_same, masked, all_of, ok_is}
 use Rattle.blob_faulty.proofs.replay.replay_entry.Goals as goal
 

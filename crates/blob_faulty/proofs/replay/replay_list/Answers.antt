@@ -1,14 +1,14 @@
 use Rattle.std.proofs.Common.{rules, ◌≡◌, ◌∙◌, ℕ, sym, ap, subst, List, arith}
-use Rattle.blob_base.specs.Draws.{chosen_by}
-use Rattle.blob_base.specs.Log.{Choices}
-use Rattle.blob_base.specs.Pending.{Pending, has_marker, replay, ends}
+use Rattle.blob_model.specs.Draws.{chosen_by}
+use Rattle.blob_model.specs.Log.{Choices}
+use Rattle.blob_model.specs.Pending.{Pending, has_marker, replay, ends}
 use Rattle.blob_memory.specs.Store.{durable, HasCrashRoom}
-use Rattle.blob_faulty.specs.declared.entry.Entry.{Entry}
-use Rattle.blob_faulty.specs.Replays.{unmarked, widest}
-use Rattle.blob_faulty.specs.Rows.{rows_in}
-use Rattle.blob_faulty.specs.Views.{views}
+use Rattle.blob_faults.specs.declared.entry.Entry.{Entry}
+use Rattle.blob_faults.specs.Replays.{unmarked, widest}
+use Rattle.blob_faults.specs.Rows.{rows_in}
+use Rattle.blob_faults.specs.Views.{views}
 use Rattle.blob_faulty.proofs.Replaying.{changed_same, widest_unmarked}
-use Rattle.blob_faulty.proofs.Unmarked.{unmarked_none, unmarked_replays}
+use Rattle.blob_faults.proofs.Unmarked.{unmarked_none, unmarked_replays}
 use Rattle.blob_faulty.proofs.replay.replay_list.Goals as goal
 
 pub replay_entries-requires-clause-unmarked : goal.replay_entries-requires-clause-unmarked

@@ -1,6 +1,6 @@
 use Rattle.std.proofs.Common.{◌≡◌, ◌<◌, ◌+◌, ℕ, length, drop, get_or, not, ◌&&◌, false}
-use Rattle.blob_base.specs.Holes.{in_holes}
-use Rattle.blob_faulty.specs.Ranges.{ranges}
+use Rattle.blob_model.specs.Holes.{in_holes}
+use Rattle.blob_faults.specs.Ranges.{ranges}
 use Rattle.blob_faulty.proofs.replay.uncover_all.Given as goal
 
 abbrev pub invariant-loop-hole : goal.invariant-loop-hole

@@ -1,5 +1,5 @@
 use Rattle.std.proofs.Common.{rules, ◌≡◌, ◌+◌, ◌∷◌, ℕ, List, inl, inr, ap, Err}
-use Rattle.blob_lab.specs.Acts.{act_of}
+use Rattle.blob_calls.specs.Acts.{act_of}
 use Rattle.blob_lab.specs.ScriptReading.{OfLines, Begins}
 use Rattle.blob_lab.specs.Scripts.{Script}
 use Rattle.blob_lab.proofs.ScriptRuns.{Settled, begins, settles, awaits_next, prints_all, prints_awaiting, unread, unanswered}

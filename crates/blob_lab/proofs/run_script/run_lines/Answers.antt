@@ -1,10 +1,10 @@
 use Rattle.std.proofs.Common.{rules, ◌≡◌, ◌+◌, refl, ap, Err, arith}
 use Rattle.std.proofs.lemmas.Result.{on_ok_weaker, IfErr-weaker}
-use Rattle.blob_lab.specs.Acts.{act_of}
+use Rattle.blob_calls.specs.Acts.{act_of}
 use Rattle.blob_lab.specs.LabStands.{StandsFor}
 use Rattle.blob_lab.specs.ScriptReading.{preamble_of}
 use Rattle.blob_lab.specs.Scripts.{no_script}
-use Rattle.blob_lab.specs.Settings.{cleared}
+use Rattle.blob_calls.specs.Settings.{cleared}
 use Rattle.blob_lab.specs.States.{start}
 use Rattle.blob_lab.proofs.ScriptStarts.{empty_preamble, no_laboratory, no_call, no_first, all_lines, front_lines}
 use Rattle.blob_lab.proofs.run_script.run_lines.Goals as goal

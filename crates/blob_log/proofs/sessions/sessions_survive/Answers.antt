@@ -1,9 +1,9 @@
 use Rattle.std.proofs.Common.{ℕ, List, [], ◌∷◌, ◌++◌, ◌∙◌, length, ap, sym, subst, arith, length-append}
 use Rattle.std.specs.Global.{Global}
 use Rattle.std.specs.Prelude.{Vec}
-use Rattle.blob_base.specs.Places.{Place}
-use Rattle.blob_base.specs.Opened.{IsNamed}
-use Rattle.blob_base.specs.Fronts.{BeginsWith}
+use Rattle.blob_model.specs.Places.{Place}
+use Rattle.blob_model.specs.Opened.{IsNamed}
+use Rattle.blob_header.specs.Fronts.{BeginsWith}
 use Rattle.blob_log.specs.declared.sessions.Session.{Session}
 use Rattle.blob_log.specs.Held.{items_of, acknowledged, place_of}
 use Rattle.blob_log.proofs.Surviving.{survive_more}

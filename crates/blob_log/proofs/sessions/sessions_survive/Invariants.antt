@@ -1,6 +1,6 @@
 use Rattle.std.proofs.Common.{◌≡◌, length}
-use Rattle.blob_base.specs.Files.{Files}
-use Rattle.blob_base.specs.Opened.{IsNamed}
+use Rattle.blob_model.specs.Files.{Files}
+use Rattle.blob_model.specs.Opened.{IsNamed}
 use Rattle.blob_faulty.specs.Keeps.{IsFor}
 use Rattle.blob_log.specs.Held.{Holds, Survive, place_of, items_of}
 use Rattle.blob_log.proofs.sessions.sessions_survive.Given as goal

@@ -1,8 +1,8 @@
 use Rattle.std.proofs.Common.{◌≡◌, ◌∙◌, ◌++◌, subst, sym, ap, refl}
 use Rattle.std.specs.Int.{to_be_bytes, w16, w32}
-use Rattle.blob_base.specs.Checksum.{crc32c}
-use Rattle.blob_base.specs.Header.{prelude, region}
-use Rattle.blob_base.specs.Register.{Holds}
+use Rattle.blob_header.specs.Checksum.{crc32c}
+use Rattle.blob_header.specs.Header.{prelude, region}
+use Rattle.blob_header.specs.Register.{Holds}
 use Rattle.blob_memory.proofs.Fed.{fed_none, fed_one}
 use Rattle.blob_memory.proofs.audit.feed_header.Goals as goal
 

@@ -3,8 +3,8 @@ use Rattle.blob_memory.specs.declared.item.Item.{Item}
 use Rattle.std.specs.Prelude.{map}
 use Rattle.std.specs.Map.Iter.{deref_pair}
 use Rattle.std.proofs.lemmas.List.{map-append}
-use Rattle.blob_base.specs.Audit.{pieces_of, piece_of}
-use Rattle.blob_base.specs.Register.{Holds}
+use Rattle.blob_memory.specs.Audit.{pieces_of, piece_of}
+use Rattle.blob_header.specs.Register.{Holds}
 use Rattle.blob_memory.specs.Listing.{listing_in, listed, raw_bytes}
 use Rattle.blob_memory.proofs.Fed.{fed_more, piece_alone}
 use Rattle.blob_memory.proofs.audit.feed_names.Goals as goal

@@ -1,8 +1,8 @@
 use Rattle.std.proofs.Common.{◌++◌, List, ℕ}
 use Rattle.std.specs.Prelude.{map}
 use Rattle.std.specs.Map.Iter.{deref_pair}
-use Rattle.blob_base.specs.Audit.{pieces_of}
-use Rattle.blob_base.specs.Register.{Holds}
+use Rattle.blob_memory.specs.Audit.{pieces_of}
+use Rattle.blob_header.specs.Register.{Holds}
 use Rattle.blob_memory.specs.Listing.{listing_in}
 use Rattle.blob_memory.proofs.audit.feed_names.Given as goal
 

@@ -4,8 +4,8 @@ use Rattle.std.specs.String.{string_bytes}
 use Rattle.std.specs.Map.Iter.{deref_pair}
 use Rattle.std.proofs.lemmas.List.{map-append}
 use Rattle.std.proofs.lemmas.Grind.{flat_map-append}
-use Rattle.blob_base.specs.Audit.{pieces_of}
-use Rattle.blob_base.specs.Register.{Holds}
+use Rattle.blob_memory.specs.Audit.{pieces_of}
+use Rattle.blob_header.specs.Register.{Holds}
 use Rattle.blob_memory.specs.Listing.{listing_in, listing_all, AreAllOrdered}
 use Rattle.blob_memory.proofs.Fed.{fed_more}
 use Rattle.blob_memory.proofs.ListingOf.{all_more}

@@ -1,9 +1,9 @@
 use Rattle.std.proofs.Common.{◌≡◌, ◌∙◌, sym, ap, refl, Ok, Some, arith}
 use Rattle.std.proofs.lemmas.List.{take_all}
 use Rattle.std.specs.Range.{range_inclusive_start, range_inclusive_end}
-use Rattle.blob_base.specs.HeaderLaws.{HasHeader}
-use Rattle.blob_base.specs.Parse.{every_layout}
-use Rattle.blob_base.specs.Resolve.{resolution}
+use Rattle.blob_header.specs.HeaderLaws.{HasHeader}
+use Rattle.blob_header.specs.Parse.{every_layout}
+use Rattle.blob_header.specs.Resolve.{resolution}
 use Rattle.blob_memory.proofs.Openings.{resolves_to, header_within, header_layout}
 use Rattle.blob_memory.proofs.found.found_raw.Goals as goal
 

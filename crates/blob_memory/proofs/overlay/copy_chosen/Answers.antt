@@ -2,8 +2,8 @@ use Rattle.std.proofs.Common.{rules, ◌≡◌, ◌∙◌, ◌<◌, length, arit
 use Rattle.std.proofs.lemmas.Bool.{cases_Bool}
 use Rattle.std.proofs.lemmas.List.Folds.{list_all_at}
 use Rattle.std.specs.List.{list_all}
-use Rattle.blob_base.proofs.Agrees.{overlay_same}
-use Rattle.blob_base.specs.Runs.{picked}
+use Rattle.blob_model.proofs.Agrees.{overlay_same}
+use Rattle.blob_model.specs.Runs.{picked}
 use Rattle.blob_memory.proofs.overlay.copy_chosen.Goals as goal
 
 -- all are chosen

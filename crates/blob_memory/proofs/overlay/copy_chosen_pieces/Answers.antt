@@ -1,6 +1,6 @@
 use Rattle.std.proofs.Common.{◌≡◌, ◌+◌, ◌-◌, ◌∙◌, ap, sym, length, arith, take, drop}
-use Rattle.blob_base.specs.Bytes.{overlay_by}
-use Rattle.blob_base.specs.Runs.{picked}
+use Rattle.blob_model.specs.Bytes.{overlay_by}
+use Rattle.blob_model.specs.Runs.{picked}
 use Rattle.blob_memory.proofs.Overlays.{overlay_none}
 use Rattle.blob_memory.proofs.Pieces.{flat_within, length-flat_more, chosen_more, chosen_room}
 use Rattle.blob_memory.proofs.overlay.copy_chosen_pieces.Goals as goal

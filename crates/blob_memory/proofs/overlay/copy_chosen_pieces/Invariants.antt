@@ -1,7 +1,7 @@
 use Rattle.std.proofs.Common.{◌≡◌, length, take}
 use Rattle.std.specs.List.{flat_map}
-use Rattle.blob_base.specs.Bytes.{overlay_by}
-use Rattle.blob_base.specs.Runs.{picked}
+use Rattle.blob_model.specs.Bytes.{overlay_by}
+use Rattle.blob_model.specs.Runs.{picked}
 use Rattle.blob_memory.proofs.overlay.copy_chosen_pieces.Given as goal
 
 abbrev pub invariant-loop-piece : goal.invariant-loop-piece

@@ -1,5 +1,5 @@
 use Rattle.std.proofs.Common.{◌≡◌, ◌∙◌, ap, sym, length, arith}
-use Rattle.blob_base.specs.Bytes.{overlay}
+use Rattle.blob_model.specs.Bytes.{overlay}
 use Rattle.blob_memory.proofs.Overlays.{overlay_none}
 use Rattle.blob_memory.proofs.Pieces.{flat_within, length-flat_more, copied_more}
 use Rattle.blob_memory.proofs.overlay.copy_pieces.Goals as goal

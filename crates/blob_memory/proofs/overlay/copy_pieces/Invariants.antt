@@ -1,6 +1,6 @@
 use Rattle.std.proofs.Common.{◌≡◌, ◌+◌, length, take}
 use Rattle.std.specs.List.{flat_map}
-use Rattle.blob_base.specs.Bytes.{overlay}
+use Rattle.blob_model.specs.Bytes.{overlay}
 use Rattle.blob_memory.proofs.overlay.copy_pieces.Given as goal
 
 abbrev pub invariant-loop-piece : goal.invariant-loop-piece

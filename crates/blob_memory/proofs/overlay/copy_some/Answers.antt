@@ -1,6 +1,6 @@
 use Rattle.std.proofs.Common.{◌∙◌, ◌+◌, length, arith, ap, get_or, set}
-use Rattle.blob_base.proofs.Bytes.{length-overlay_by, above_chosen}
-use Rattle.blob_base.specs.Runs.{picked}
+use Rattle.blob_model.proofs.Bytes.{length-overlay_by, above_chosen}
+use Rattle.blob_model.specs.Runs.{picked}
 use Rattle.blob_memory.proofs.Overlays.{first, lay_none, lay_more, lay_less, lay_end}
 use Rattle.blob_memory.proofs.overlay.copy_some.Goals as goal
 use Rattle.blob_memory.proofs.overlay.copy_some.Goals.{then-kept, else-kept}

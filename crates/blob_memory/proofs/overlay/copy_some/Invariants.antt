@@ -1,6 +1,6 @@
 use Rattle.std.proofs.Common.{◌≡◌, ◌≤◌, length}
-use Rattle.blob_base.specs.Bytes.{reach, overlay_by}
-use Rattle.blob_base.specs.Runs.{picked}
+use Rattle.blob_model.specs.Bytes.{reach, overlay_by}
+use Rattle.blob_model.specs.Runs.{picked}
 use Rattle.blob_memory.proofs.Overlays.{first}
 use Rattle.blob_memory.proofs.overlay.copy_some.Given as goal
 

@@ -1,5 +1,5 @@
 use Rattle.std.proofs.Common.{rules, ◌≡◌, ◌∙◌, length, vec_len, arith, ap, max}
-use Rattle.blob_base.specs.Bytes.{resized}
+use Rattle.blob_model.specs.Bytes.{resized}
 use Rattle.blob_memory.proofs.Overlays.{resized_to, grown_none}
 use Rattle.blob_memory.proofs.overlay.grow.Goals as goal
 

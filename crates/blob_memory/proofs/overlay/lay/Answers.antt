@@ -1,6 +1,6 @@
 use Rattle.std.proofs.Common.{◌≡◌, ◌+◌, ◌<◌, ◌∙◌, ap, sym, length, max, arith, true}
-use Rattle.blob_base.specs.Bytes.{overlay, reach}
-use Rattle.blob_base.proofs.Bytes.{length-resized, reach_all}
+use Rattle.blob_model.specs.Bytes.{overlay, reach}
+use Rattle.blob_model.proofs.Bytes.{length-resized, reach_all}
 use Rattle.blob_memory.proofs.Overlays.{overlay_empty, lay_padded}
 use Rattle.blob_memory.proofs.Pieces.{flat, written_back}
 use Rattle.blob_memory.proofs.overlay.lay.Goals as goal

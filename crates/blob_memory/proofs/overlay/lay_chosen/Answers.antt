@@ -1,7 +1,7 @@
 use Rattle.std.proofs.Common.{◌≡◌, ◌∙◌, ap, length, max, arith}
-use Rattle.blob_base.specs.Bytes.{overlay_by, reach}
-use Rattle.blob_base.specs.Runs.{picked}
-use Rattle.blob_base.proofs.Bytes.{length-resized}
+use Rattle.blob_model.specs.Bytes.{overlay_by, reach}
+use Rattle.blob_model.specs.Runs.{picked}
+use Rattle.blob_model.proofs.Bytes.{length-resized}
 use Rattle.blob_memory.proofs.Overlays.{lay_padded}
 use Rattle.blob_memory.proofs.Pieces.{flat, written_back}
 use Rattle.blob_memory.proofs.overlay.lay_chosen.Goals as goal

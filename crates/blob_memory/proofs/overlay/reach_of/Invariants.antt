@@ -1,6 +1,6 @@
 use Rattle.std.proofs.Common.{◌≡◌}
-use Rattle.blob_base.specs.Bytes.{reach}
-use Rattle.blob_base.specs.Runs.{picked}
+use Rattle.blob_model.specs.Bytes.{reach}
+use Rattle.blob_model.specs.Runs.{picked}
 use Rattle.blob_memory.proofs.overlay.reach_of.Given as goal
 
 abbrev pub invariant-loop-i : goal.invariant-loop-i

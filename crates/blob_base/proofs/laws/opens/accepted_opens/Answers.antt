@@ -1,5 +1,5 @@
-use Rattle.blob_base.proofs.NameSteps.{read_by_open}
-use Rattle.blob_base.proofs.Opened.{named_opened, current_opened, goes_on, next_opened}
+use Rattle.blob_model.proofs.NameSteps.{read_by_open}
+use Rattle.blob_model.proofs.Opened.{named_opened, current_opened, goes_on, next_opened}
 use Rattle.blob_base.proofs.laws.opens.accepted_opens.Goals as goal
 
 pub returns-clause-named : goal.returns-clause-named

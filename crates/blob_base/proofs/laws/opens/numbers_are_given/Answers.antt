@@ -1,6 +1,6 @@
 use Rattle.std.proofs.Common.{ap, sym, ◌∙◌}
 use Rattle.std.specs.Prelude.{is_some}
-use Rattle.blob_base.proofs.Opened.{current_is}
+use Rattle.blob_model.proofs.Opened.{current_is}
 use Rattle.blob_base.proofs.laws.opens.numbers_are_given.Goals as goal
 
 pub returns-clause-current : goal.returns-clause-current

@@ -1,5 +1,5 @@
 use Rattle.std.proofs.Common.{◌≡◌, Some, Err, ap, rules}
-use Rattle.blob_lab.specs.Acts.{act_of}
+use Rattle.blob_calls.specs.Acts.{act_of}
 use Rattle.blob_c.specs.Sessions.{Asks, IsNoCall}
 use Rattle.blob_c.proofs.Answering.{answered, declined, said_call}
 use Rattle.blob_c.proofs.kept.Kept.call.Goals as goal

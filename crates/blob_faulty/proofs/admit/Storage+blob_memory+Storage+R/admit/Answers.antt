@@ -1,16 +1,16 @@
 use Rattle.std.proofs.Common.{not, ◌≡◌, ◌≢◌, ◌∙◌, List, Some, refl, ap, subst, sym}
 use Rattle.std.proofs.lemmas.List.Kept.{AllPairs-filter}
 use Rattle.std.specs.List.{filter}
-use Rattle.blob_base.specs.Files.{ends_by}
-use Rattle.blob_base.specs.Order.{Held, held_at}
-use Rattle.blob_base.specs.Places.{Place}
-use Rattle.blob_base.proofs.FileSteps.{stands_admitted}
+use Rattle.blob_model.specs.Files.{ends_by}
+use Rattle.blob_model.specs.Order.{Held, held_at}
+use Rattle.blob_model.specs.Places.{Place}
+use Rattle.blob_model.proofs.FileSteps.{stands_admitted}
 use Rattle.blob_memory.specs.Store.{directory, durable}
-use Rattle.blob_faulty.specs.declared.incarnation.Incarnation.{Incarnation}
-use Rattle.blob_faulty.specs.Lists.{held, AreDistinct}
+use Rattle.blob_faults.specs.declared.incarnation.Incarnation.{Incarnation}
+use Rattle.blob_faults.specs.Lists.{held, AreDistinct}
 use Rattle.blob_faulty.proofs.Admitting.{admits_current}
 use Rattle.blob_faulty.proofs.Keeping.{keeps_admitted}
-use Rattle.blob_faulty.proofs.ListSteps.{held_filter, held_at_filter}
+use Rattle.blob_faults.proofs.ListSteps.{held_filter, held_at_filter}
 use Rattle.blob_faulty.proofs.admit.Storage+blob_memory+Storage+R.admit.Given.{Over}
 use Rattle.blob_faulty.proofs.admit.Storage+blob_memory+Storage+R.admit.Goals as goal
 

@@ -1,15 +1,15 @@
 use Rattle.std.proofs.Common.{rules, ◌≡◌, ◌≤◌, List, [], None, refl, inr, sym, ◌∙◌, ap₂, subst, arith}
 use Rattle.std.proofs.lemmas.Bool.{eqb-true}
 use Rattle.std.proofs.lemmas.Grind.{common_steps}
-use Rattle.blob_base.specs.Directory.{is_current}
-use Rattle.blob_base.specs.Refusals.{refused}
-use Rattle.blob_base.specs.Runs.{Run, runs, AreRunsApart}
+use Rattle.blob_model.specs.Directory.{is_current}
+use Rattle.blob_header.specs.Refusals.{refused}
+use Rattle.blob_model.specs.Runs.{Run, runs, AreRunsApart}
 use Rattle.blob_faulty.specs.declared.write_runs.Piece.{Piece}
 use Rattle.blob_faulty.specs.Answers.{or_memory, allows_runs, last_end}
 use Rattle.blob_faulty.specs.Pieces.{runs_in}
 use Rattle.blob_faulty.specs.Writes.{View, Recorded, seen, laid_runs}
 use Rattle.blob_faulty.proofs.FailedSteps.{runs_of_none, end_by_last}
-use Rattle.blob_faulty.proofs.HoleRoom.{sooner}
+use Rattle.blob_faulty.proofs.RunRoom.{sooner}
 use Rattle.blob_faulty.proofs.Writing.{no_runs, runs_after}
 use Rattle.blob_faulty.proofs.blob.Blob.lay_kept.Goals as goal
 

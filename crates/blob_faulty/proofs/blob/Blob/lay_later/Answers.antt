@@ -2,12 +2,12 @@ use Rattle.std.proofs.Common.{rules, ◌≡◌, ⊎_elim, ◌+◌, true, false, 
 use Rattle.std.specs.Prelude.{is_err}
 use Rattle.std.proofs.lemmas.Bool.{cases_Bool}
 use Rattle.std.proofs.lemmas.Grind.{common_steps}
-use Rattle.blob_base.specs.Directory.{is_current}
-use Rattle.blob_base.specs.Refusals.{Refusal, refused}
-use Rattle.blob_base.specs.Runs.{Run}
-use Rattle.blob_faulty.specs.Lists.{HasRoomAt}
+use Rattle.blob_model.specs.Directory.{is_current}
+use Rattle.blob_header.specs.Refusals.{Refusal, refused}
+use Rattle.blob_model.specs.Runs.{Run}
+use Rattle.blob_faults.specs.Lists.{HasRoomAt}
 use Rattle.blob_faulty.specs.Pieces.{run_of, runs_in, extents, EndsWithin}
-use Rattle.blob_faulty.proofs.HoleRoom.{first_at}
+use Rattle.blob_faults.proofs.HoleRoom.{first_at}
 use Rattle.blob_faulty.proofs.RunSteps.{ok_holds, is_refused, is_done, popped, later_within, first_within}
 use Rattle.blob_faulty.proofs.Writing.{one_less, all_laid, later_refused}
 use Rattle.blob_faulty.proofs.blob.Blob.lay_later.Goals as goal

@@ -1,5 +1,5 @@
 use Rattle.std.proofs.Common.{◌≡◌, true, vec_len, All, []}
-use Rattle.blob_faulty.specs.Lists.{HasRoomAt}
+use Rattle.blob_faults.specs.Lists.{HasRoomAt}
 use Rattle.blob_faulty.specs.Pieces.{runs_in, extents, EndsWithin}
 use Rattle.blob_faulty.specs.Writes.{seen, LeavesRuns}
 use Rattle.blob_faulty.proofs.blob.Blob.lay_later.Given as goal

@@ -1,15 +1,15 @@
 use Rattle.std.proofs.Common.{rules, ◌≡◌, ◌∷◌, [], length, refl, sym, ◌∙◌, ap, subst, arith}
 use Rattle.std.proofs.lemmas.Grind.{common_steps}
-use Rattle.blob_base.specs.Durable.{with_at}
-use Rattle.blob_base.specs.Log.{Kept}
-use Rattle.blob_base.specs.Order.{held_at}
-use Rattle.blob_base.specs.Pending.{has_barrier, laid}
-use Rattle.blob_base.specs.Places.{Place}
+use Rattle.blob_model.specs.Durable.{with_at}
+use Rattle.blob_model.specs.Log.{Kept}
+use Rattle.blob_model.specs.Order.{held_at}
+use Rattle.blob_model.specs.Pending.{has_barrier, laid}
+use Rattle.blob_model.specs.Places.{Place}
 use Rattle.blob_faulty.specs.declared.storage.Storage.{Storage}
-use Rattle.blob_faulty.specs.Lists.{held, IsAt}
+use Rattle.blob_faults.specs.Lists.{held, IsAt}
 use Rattle.blob_faulty.specs.Wrapper.{pending_of}
 use Rattle.blob_faulty.specs.Writes.{View, Logs, seen}
-use Rattle.blob_faulty.proofs.HoleRoom.{room_stays}
+use Rattle.blob_faults.proofs.HoleRoom.{room_stays}
 use Rattle.blob_faulty.proofs.Pushing.{after_room}
 use Rattle.blob_faulty.proofs.Writing.{kept_logs, some_written}
 use Rattle.blob_faulty.proofs.blob.Blob.lay_range.Goals as goal

@@ -1,12 +1,12 @@
 use Rattle.std.proofs.Common.{◌≡◌, ◌+◌, true, length, List, ◌∷◌, All, None, refl, sym, ◌∙◌, ap₂, subst}
-use Rattle.blob_base.specs.Directory.{is_current}
-use Rattle.blob_base.specs.Refusals.{refused}
-use Rattle.blob_base.specs.Runs.{Run}
-use Rattle.blob_faulty.specs.Lists.{HasRoomAt}
+use Rattle.blob_model.specs.Directory.{is_current}
+use Rattle.blob_header.specs.Refusals.{refused}
+use Rattle.blob_model.specs.Runs.{Run}
+use Rattle.blob_faults.specs.Lists.{HasRoomAt}
 use Rattle.blob_faulty.specs.Pieces.{run_of, runs_in, extents, EndsWithin}
 use Rattle.blob_faulty.specs.Writes.{View, Recorded, seen, laid_runs}
 use Rattle.blob_faulty.proofs.Adding.{bytes_some}
-use Rattle.blob_faulty.proofs.HoleRoom.{first_at}
+use Rattle.blob_faults.proofs.HoleRoom.{first_at}
 use Rattle.blob_faulty.proofs.RunSteps.{not_stale, popped, later_within}
 use Rattle.blob_faulty.proofs.Writing.{then_runs}
 use Rattle.blob_faulty.proofs.blob.Blob.lay_runs.Goals as goal

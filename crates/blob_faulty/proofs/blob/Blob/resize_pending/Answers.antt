@@ -1,9 +1,9 @@
 use Rattle.std.proofs.Common.{rules, ◌≡◌, ◌++◌, ◌∷◌, []}
-use Rattle.blob_base.specs.Durable.{with_at}
-use Rattle.blob_base.specs.Log.{Resized}
-use Rattle.blob_base.specs.Order.{held_at}
-use Rattle.blob_base.specs.Pending.{Cut}
-use Rattle.blob_base.specs.Places.{Place}
+use Rattle.blob_model.specs.Durable.{with_at}
+use Rattle.blob_model.specs.Log.{Resized}
+use Rattle.blob_model.specs.Order.{held_at}
+use Rattle.blob_model.specs.Pending.{Cut}
+use Rattle.blob_model.specs.Places.{Place}
 use Rattle.blob_faulty.specs.Writes.{View, Logs, seen}
 use Rattle.blob_faulty.proofs.RoomSteps.{pushed_at}
 use Rattle.blob_faulty.proofs.Writing.{cut_logs}

@@ -1,7 +1,7 @@
 use Rattle.std.proofs.Common.{◌≡◌, [], subst}
-use Rattle.blob_base.specs.Durable.{with_at}
-use Rattle.blob_base.specs.Places.{Place}
-use Rattle.blob_faulty.specs.Lists.{list_of}
+use Rattle.blob_model.specs.Durable.{with_at}
+use Rattle.blob_model.specs.Places.{Place}
+use Rattle.blob_faults.specs.Lists.{list_of}
 use Rattle.blob_faulty.proofs.blob.Blob.sync_drawn.Goals as goal
 
 pub returns-clause-retired : goal.returns-clause-retired

@@ -1,12 +1,12 @@
 use Rattle.std.proofs.Common.{rules, ◌≡◌, ◌<◌, ◌++◌, ◌∷◌, [], length, arith, refl}
 use Rattle.std.proofs.lemmas.Grind.{common_steps}
-use Rattle.blob_base.specs.Durable.{with_at}
-use Rattle.blob_base.specs.Log.{need_of, Loose}
-use Rattle.blob_base.specs.Order.{held_at}
-use Rattle.blob_base.specs.Pending.{Waiting}
-use Rattle.blob_base.specs.Places.{Place}
-use Rattle.blob_faulty.specs.Faults.{issued, retention}
-use Rattle.blob_faulty.specs.Recorded.{loose}
+use Rattle.blob_model.specs.Durable.{with_at}
+use Rattle.blob_model.specs.Log.{need_of, Loose}
+use Rattle.blob_model.specs.Order.{held_at}
+use Rattle.blob_model.specs.Pending.{Waiting}
+use Rattle.blob_model.specs.Places.{Place}
+use Rattle.blob_faults.specs.Faults.{issued, retention}
+use Rattle.blob_faults.specs.Recorded.{loose}
 use Rattle.blob_faulty.specs.Writes.{View, Logs, seen}
 use Rattle.blob_faulty.proofs.Adding.{loose_some}
 use Rattle.blob_faulty.proofs.Writing.{loose_logs}

@@ -2,10 +2,10 @@ use Rattle.std.proofs.Common.{rules, ◌≡◌, ◌≢◌, ◌+◌, ◌^◌, ◌
 use Rattle.std.proofs.lemmas.Grind.{common_steps}
 use Rattle.rand_core.specs.Stream.{Stream}
 use Rattle.blob_base.specs.Options.{is_sync}
-use Rattle.blob_base.specs.Refusals.{Refusal, refused, Memory}
-use Rattle.blob_faulty.specs.Faults.{WriteFate, write_fate, retention}
-use Rattle.blob_faulty.specs.Fates.{write_fate_of}
-use Rattle.blob_faulty.specs.Recorded.{recorded_by, recorded_write}
+use Rattle.blob_header.specs.Refusals.{Refusal, refused, Memory}
+use Rattle.blob_faults.specs.Faults.{WriteFate, write_fate, retention}
+use Rattle.blob_faults.specs.Fates.{write_fate_of}
+use Rattle.blob_faults.specs.Recorded.{recorded_by, recorded_write}
 use Rattle.blob_faulty.proofs.Adding.{nothing_changed}
 use Rattle.blob_faulty.proofs.Fating.{recorded_so, recorded_none}
 use Rattle.blob_faulty.proofs.SyncSteps.{ok_by, err_by}

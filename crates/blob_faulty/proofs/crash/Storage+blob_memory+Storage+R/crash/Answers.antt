@@ -2,25 +2,25 @@ use Rattle.std.proofs.Common.{◌≡◌, ◌∙◌, ap, sym, subst, List, ℕ, B
 use Rattle.std.specs.Global.{Global}
 use Rattle.std.specs.List.Sorted.{IsPermutation}
 use Rattle.rand_core.specs.Stream.{Stream}
-use Rattle.blob_base.specs.Directory.{Directory, current}
-use Rattle.blob_base.specs.Draws.{Row, chosen_by}
-use Rattle.blob_base.specs.Durable.{Durable}
-use Rattle.blob_base.specs.Log.{Choices}
-use Rattle.blob_base.specs.Order.{ArePlacesApart, waiting_of_all}
-use Rattle.blob_base.specs.Places.{Place}
-use Rattle.blob_base.specs.Stands.{replayed_at}
-use Rattle.blob_base.proofs.FileSteps.{stands_same}
+use Rattle.blob_model.specs.Directory.{Directory, current}
+use Rattle.blob_model.specs.Draws.{Row, chosen_by}
+use Rattle.blob_model.specs.Durable.{Durable}
+use Rattle.blob_model.specs.Log.{Choices}
+use Rattle.blob_model.specs.Order.{ArePlacesApart, waiting_of_all}
+use Rattle.blob_model.specs.Places.{Place}
+use Rattle.blob_model.specs.Stands.{replayed_at}
+use Rattle.blob_model.proofs.FileSteps.{stands_same}
 use Rattle.blob_memory.specs.Store.{directory, durable}
-use Rattle.blob_faulty.specs.declared.draw.Draw.{Draw}
-use Rattle.blob_faulty.specs.declared.incarnation.Incarnation.{Incarnation}
-use Rattle.blob_faulty.specs.Drawings.{drawings_of, drawings_in, rows_drawn}
-use Rattle.blob_faulty.specs.Lists.{held, held_by, list_of}
-use Rattle.blob_faulty.specs.Replays.{IsReady}
-use Rattle.blob_faulty.specs.Rows.{rows_in, table_of, AreNumbered}
-use Rattle.blob_faulty.proofs.Distinct.{apart_of}
+use Rattle.blob_faults.specs.declared.draw.Draw.{Draw}
+use Rattle.blob_faults.specs.declared.incarnation.Incarnation.{Incarnation}
+use Rattle.blob_faults.specs.Drawings.{drawings_of, drawings_in, rows_drawn}
+use Rattle.blob_faults.specs.Lists.{held, held_by, list_of}
+use Rattle.blob_faulty.specs.Ready.{IsReady}
+use Rattle.blob_faults.specs.Rows.{rows_in, table_of, AreNumbered}
+use Rattle.blob_faults.proofs.Distinct.{apart_of}
 use Rattle.blob_faulty.proofs.Crashing.{crash_rows, crash_stands}
 use Rattle.blob_faulty.proofs.Keeping.{keeps_crashed}
-use Rattle.blob_faulty.proofs.Rowing.{rows_rise}
+use Rattle.blob_faults.proofs.Rowing.{rows_rise}
 use Rattle.blob_faulty.proofs.crash.Storage+blob_memory+Storage+R.crash.Goals as goal
 
 pub replay_all-requires-clause-numbered : goal.replay_all-requires-clause-numbered

@@ -1,11 +1,11 @@
 use Rattle.std.proofs.Common.{◌∙◌, List, ap, arith, length, subst, ℕ, true}
-use Rattle.blob_base.specs.Log.{Entry}
-use Rattle.blob_base.proofs.Bytes.{lies_below}
-use Rattle.blob_faulty.specs.Recorded.{kept}
+use Rattle.blob_model.specs.Log.{Entry}
+use Rattle.blob_model.proofs.Bytes.{lies_below}
+use Rattle.blob_faults.specs.Recorded.{kept}
 use Rattle.blob_faulty.specs.Wrapper.{Adds, inner_of, rng_of, config_of, next_write_of}
 use Rattle.blob_faulty.proofs.Keeping.{keeps_beside, keeps_more}
 use Rattle.blob_faulty.proofs.Recording.{recorded_whole}
-use Rattle.blob_faulty.proofs.Unreached.{write_out}
+use Rattle.blob_faults.proofs.Unreached.{write_out}
 use Rattle.blob_faulty.proofs.laws.keeps.writes.Goals as goal
 
 pub returns-clause-behind : goal.returns-clause-behind

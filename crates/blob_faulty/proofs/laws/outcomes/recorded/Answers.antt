@@ -1,6 +1,6 @@
 use Rattle.std.proofs.Common.{sym, ◌∙◌, ap, subst}
-use Rattle.blob_base.specs.Directory.{Directory, is_current}
-use Rattle.blob_base.specs.Files.{all_logged}
+use Rattle.blob_model.specs.Directory.{Directory, is_current}
+use Rattle.blob_model.specs.Files.{all_logged}
 use Rattle.blob_faulty.specs.Wrapper.{Stands}
 use Rattle.blob_faulty.proofs.Leaving.{left_after}
 use Rattle.blob_faulty.proofs.laws.outcomes.recorded.Goals as goal

@@ -1,4 +1,4 @@
-use Rattle.blob_faulty.proofs.Unreached.{write_out, write_has}
+use Rattle.blob_faults.proofs.Unreached.{write_out, write_has}
 use Rattle.blob_faulty.proofs.laws.recorded.writes_stay_in_range.Goals as goal
 
 pub returns-clause-recorded : goal.returns-clause-recorded

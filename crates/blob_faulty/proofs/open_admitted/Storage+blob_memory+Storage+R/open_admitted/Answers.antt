@@ -1,6 +1,6 @@
 use Rattle.std.proofs.Common.{ap}
-use Rattle.blob_base.specs.declared.version.BlobVersion.{BlobVersion}
-use Rattle.blob_base.proofs.Openings.{one_version}
+use Rattle.blob_header.specs.declared.version.BlobVersion.{BlobVersion}
+use Rattle.blob_model.proofs.Openings.{one_version}
 use Rattle.blob_faulty.proofs.open_admitted.Storage+blob_memory+Storage+R.open_admitted.Goals as goal
 
 pub returns-clause-opened : goal.returns-clause-opened

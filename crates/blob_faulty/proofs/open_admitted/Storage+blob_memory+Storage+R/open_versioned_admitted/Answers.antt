@@ -2,15 +2,15 @@ use Rattle.std.proofs.Common.{◌≡◌, ◌∙◌, List, [], Option, Some, None
 use Rattle.std.proofs.lemmas.Bool.{false≢true}
 use Rattle.std.specs.Prelude.{MatchBool}
 use Rattle.std.specs.Range.{range_inclusive_start, range_inclusive_end}
-use Rattle.blob_base.specs.Directory.{current}
-use Rattle.blob_base.specs.Files.{after_open}
-use Rattle.blob_base.specs.Opening.{IsOpened}
-use Rattle.blob_base.specs.Pending.{Pending}
-use Rattle.blob_base.specs.Places.{Place, same_place}
-use Rattle.blob_base.specs.Stands.{retired}
-use Rattle.blob_base.proofs.NameSteps.{read_by_open}
-use Rattle.blob_base.proofs.Opened.{current_opened, named_opened, goes_on}
-use Rattle.blob_faulty.specs.Faults.{draw}
+use Rattle.blob_model.specs.Directory.{current}
+use Rattle.blob_model.specs.Files.{after_open}
+use Rattle.blob_model.specs.Opening.{IsOpened}
+use Rattle.blob_model.specs.Pending.{Pending}
+use Rattle.blob_model.specs.Places.{Place, same_place}
+use Rattle.blob_model.specs.Stands.{retired}
+use Rattle.blob_model.proofs.NameSteps.{read_by_open}
+use Rattle.blob_model.proofs.Opened.{current_opened, named_opened, goes_on}
+use Rattle.blob_faults.specs.Faults.{draw}
 use Rattle.blob_faulty.specs.Wrapper.{inner_of, rng_of, config_of, pending_of, inside}
 use Rattle.blob_memory.specs.Store.{directory, durable, place, live}
 use Rattle.blob_memory.specs.declared.storage.Storage as memory

@@ -1,9 +1,9 @@
 use Rattle.std.proofs.Common.{ap, ℕ, List, [], Option}
 use Rattle.std.specs.Prelude.{unwrap_or}
-use Rattle.blob_base.proofs.FileSteps.{stands_wrapped}
-use Rattle.blob_faulty.specs.declared.incarnation.Incarnation.{Incarnation}
+use Rattle.blob_model.proofs.FileSteps.{stands_wrapped}
+use Rattle.blob_faults.specs.declared.incarnation.Incarnation.{Incarnation}
 use Rattle.blob_faulty.specs.Keeps.{found_in}
-use Rattle.blob_faulty.specs.Lists.{list_of}
+use Rattle.blob_faults.specs.Lists.{list_of}
 use Rattle.blob_faulty.proofs.storage.Storage.new_numbered.Goals as goal
 
 pub returns-clause-files : goal.returns-clause-files

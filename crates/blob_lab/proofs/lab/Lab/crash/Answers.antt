@@ -1,5 +1,5 @@
 use Rattle.std.proofs.Common.{refl}
-use Rattle.blob_faulty.specs.Rows.{table_of}
+use Rattle.blob_faults.specs.Rows.{table_of}
 use Rattle.blob_lab.proofs.AskSteps.{stands_kept}
 use Rattle.blob_lab.proofs.NamedCalls.{crash_done, crash_failed}
 use Rattle.blob_lab.proofs.lab.Lab.crash.Goals as goal

@@ -2,10 +2,10 @@ use Rattle.std.proofs.Common.{◌≡◌, ◌∷◌, ◌++◌, ◌∙◌, [], Non
 use Rattle.std.proofs.lemmas.Iterator.Adapters.{YieldsList-from_vec}
 use Rattle.std.proofs.lemmas.Iterator.Consumers.{YieldsList-end}
 use Rattle.std.proofs.lemmas.List.{map-append, map-id}
-use Rattle.blob_base.specs.Directory.{Directory}
-use Rattle.blob_base.specs.Durable.{Durable}
-use Rattle.blob_base.specs.Files.{wrapped}
-use Rattle.blob_base.specs.Places.{Place}
+use Rattle.blob_model.specs.Directory.{Directory}
+use Rattle.blob_model.specs.Durable.{Durable}
+use Rattle.blob_model.specs.Files.{wrapped}
+use Rattle.blob_model.specs.Places.{Place}
 use Rattle.blob_faulty.specs.Wrapper.{Stands, inner_of as store_of}
 use Rattle.blob_memory.specs.Contents.{directory_raw}
 use Rattle.blob_memory.specs.Store.{directory, durable}

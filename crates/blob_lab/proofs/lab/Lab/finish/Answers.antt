@@ -1,12 +1,12 @@
 use Rattle.std.proofs.Common.{refl, sym, ap, subst, Result}
-use Rattle.blob_base.specs.Refusals.{refused}
-use Rattle.blob_base.specs.declared.error.Error.{Error}
+use Rattle.blob_header.specs.Refusals.{refused}
+use Rattle.blob_header.specs.declared.error.Error.{Error}
 use Rattle.blob_lab.specs.Answers.{unless_denied}
 use Rattle.blob_lab.specs.Scripted.{scripted}
 use Rattle.blob_lab.specs.Tables.{started_by}
-use Rattle.blob_lab.specs.Told as told
-use Rattle.blob_lab.specs.Told.{Tells}
-use Rattle.blob_lab.specs.declared.reply.Reply.TheVariants.{Done, Failed}
+use Rattle.blob_calls.specs.Told as told
+use Rattle.blob_calls.specs.Told.{Tells}
+use Rattle.blob_calls.specs.declared.reply.Reply.TheVariants.{Done, Failed}
 use Rattle.blob_lab.proofs.CallSteps.{finish_some, finish_none}
 use Rattle.blob_lab.proofs.lab.Lab.finish.Goals as goal
 

@@ -1,10 +1,10 @@
 use Rattle.std.proofs.Common.{rules, refl, ap, ◌≡◌, ◌∙◌, ◌++◌, ◌∷◌, [], Some, length}
 use Rattle.std.specs.Range.{range_inclusive_start, range_inclusive_end}
-use Rattle.blob_base.specs.Files.{after_open}
-use Rattle.blob_base.specs.Refusals.{Memory, refusal_of}
+use Rattle.blob_model.specs.Files.{after_open}
+use Rattle.blob_header.specs.Refusals.{Memory, refusal_of}
 use Rattle.blob_faulty.specs.Wrapper.{inside, size_of}
 use Rattle.blob_memory.specs.Store.{place, live, directory, durable}
-use Rattle.blob_lab.specs.Opens.{inner_of}
+use Rattle.blob_opens.specs.Opens.{inner_of}
 use Rattle.blob_lab.specs.Scripted.{scripted}
 use Rattle.blob_lab.specs.Tables.{held_by}
 use Rattle.blob_lab.proofs.ExclusiveEnds.{exclusive_failed}

@@ -1,6 +1,6 @@
 use Rattle.std.proofs.Common.{refl}
 use Rattle.std.specs.Prelude.{option_copied}
-use Rattle.blob_base.specs.Refusals.{refusal_of}
+use Rattle.blob_header.specs.Refusals.{refusal_of}
 use Rattle.blob_lab.proofs.NamedCalls.{remove_done, remove_failed}
 use Rattle.blob_lab.proofs.lab.Lab.remove_named.Goals as goal
 

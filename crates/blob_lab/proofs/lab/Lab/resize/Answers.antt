@@ -1,6 +1,6 @@
 use Rattle.std.proofs.Common.{refl, sym, ap, ◌∙◌, set, Some, None}
 use Rattle.std.proofs.lemmas.List.{set-set}
-use Rattle.blob_lab.specs.Acts.{Resize}
+use Rattle.blob_calls.specs.Acts.{Resize}
 use Rattle.blob_lab.specs.Tables.{held_by, handles_of}
 use Rattle.blob_lab.proofs.ThroughHandles.{through_none, through_some}
 use Rattle.blob_lab.proofs.lab.Lab.resize.Goals as goal

@@ -1,8 +1,8 @@
 use Rattle.std.proofs.Common.{rules, refl, arith, ◌≡◌, ◌++◌, ◌∷◌, ◌+◌, [], take, sym, ap, ◌∙◌, List, subst}
 use Rattle.std.proofs.lemmas.List.{take_all, take_more}
 use Rattle.blob_lab.specs.Runs.{Run}
-use Rattle.blob_lab.specs.declared.call.Call.{Call}
-use Rattle.blob_lab.specs.declared.reply.Reply.{Reply}
+use Rattle.blob_calls.specs.declared.call.Call.{Call}
+use Rattle.blob_calls.specs.declared.reply.Reply.{Reply}
 use Rattle.blob_lab.proofs.Lasting.{run_persists}
 use Rattle.blob_lab.proofs.RunSteps.{run_more}
 use Rattle.blob_lab.proofs.lab.Lab.run.Goals as goal

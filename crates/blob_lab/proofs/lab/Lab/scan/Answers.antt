@@ -1,6 +1,6 @@
 use Rattle.std.proofs.Common.{refl, subst, map}
 use Rattle.std.specs.Prelude.{is_some}
-use Rattle.blob_base.specs.Directory.{Directory}
+use Rattle.blob_model.specs.Directory.{Directory}
 use Rattle.blob_base.specs.Names.{AreNames}
 use Rattle.blob_lab.proofs.NamedCalls.{scan_done, scan_failed}
 use Rattle.blob_lab.proofs.lab.Lab.scan.Goals as goal

@@ -1,5 +1,5 @@
 use Rattle.std.proofs.Common.{refl, sym}
-use Rattle.blob_lab.specs.Acts.{Size}
+use Rattle.blob_calls.specs.Acts.{Size}
 use Rattle.blob_lab.specs.Tables.{held_by}
 use Rattle.blob_lab.proofs.CallSteps.{size_some}
 use Rattle.blob_lab.proofs.ThroughHandles.{through_none}

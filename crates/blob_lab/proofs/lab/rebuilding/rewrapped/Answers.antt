@@ -1,6 +1,6 @@
 use Rattle.std.proofs.Common.{◌≡◌, ◌∙◌, [], ap}
 use Rattle.std.specs.Prelude.{unwrap_or}
-use Rattle.blob_base.specs.Files.{directory_again}
+use Rattle.blob_model.specs.Files.{directory_again}
 use Rattle.blob_faulty.specs.Wrapper.{inner_of as store_of}
 use Rattle.blob_memory.specs.Store.{directory, durable}
 use Rattle.blob_lab.proofs.Rebuilding.{rebuilt_for}

@@ -1,6 +1,6 @@
 use Rattle.std.proofs.Common.{List, ◌++◌, ◌∷◌, [], ℕ, length, true, arith, refl, sym, subst, ap, ◌∙◌}
 use Rattle.std.specs.Prelude.{Result, Ok, Err, OnErr}
-use Rattle.blob_base.specs.Places.{Place}
+use Rattle.blob_model.specs.Places.{Place}
 use Rattle.blob_faulty.specs.Keeps.{Keeps}
 use Rattle.blob_log.specs.Frames.{frames}
 use Rattle.blob_log.specs.Held.{place_of}

@@ -1,6 +1,6 @@
 use Rattle.std.proofs.Common.{◌≡◌, ℕ, List, ◌∙◌, length, take, drop, sym, ap, subst, arith}
 use Rattle.std.proofs.lemmas.Grind.{common_steps}
-use Rattle.blob_base.specs.Fronts.{BeginsWith}
+use Rattle.blob_header.specs.Fronts.{BeginsWith}
 use Rattle.blob_faulty.specs.Wrapper.{inside}
 use Rattle.blob_memory.specs.Store.{place, live}
 use Rattle.blob_log.specs.Frames.{frames, scan}

@@ -1,5 +1,5 @@
 use Rattle.std.proofs.Common.{◌∙◌, ap, sym}
-use Rattle.blob_base.specs.Refusals.{refused}
+use Rattle.blob_header.specs.Refusals.{refused}
 use Rattle.blob_memory.proofs.Exits.{where_ok}
 use Rattle.blob_memory.proofs.blob.BlobBlobStorage.start_sync.Goals as goal
 

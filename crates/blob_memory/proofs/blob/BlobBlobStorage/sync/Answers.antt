@@ -1,5 +1,5 @@
 use Rattle.std.proofs.Common.{◌∙◌, ap, List, ℕ}
-use Rattle.blob_base.specs.Durable.{changed}
+use Rattle.blob_model.specs.Durable.{changed}
 use Rattle.blob_memory.specs.Store.{place, durable}
 use Rattle.blob_memory.proofs.blob.BlobBlobStorage.sync.Goals as goal
 

@@ -1,6 +1,7 @@
 use Rattle.std.proofs.Common.{◌≡◌, ◌∙◌, Some, sym, ap}
-use Rattle.blob_base.specs.Directory.{data_start, place_made}
-use Rattle.blob_base.specs.Durable.{with_at}
+use Rattle.blob_model.specs.Directory.{place_made}
+use Rattle.blob_header.specs.Header.{data_start}
+use Rattle.blob_model.specs.Durable.{with_at}
 use Rattle.blob_memory.specs.Partitions.{item_at}
 use Rattle.blob_memory.specs.Contents.{durable_of, directory_of, item_of, logical_from, logical_of}
 use Rattle.blob_memory.specs.declared.item.Held.{Held}

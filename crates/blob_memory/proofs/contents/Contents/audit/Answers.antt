@@ -1,5 +1,5 @@
 use Rattle.std.proofs.Common.{List, ℕ, Option, sym, subst}
-use Rattle.blob_base.specs.Audit.{IsListing}
+use Rattle.blob_memory.specs.Audit.{IsListing}
 use Rattle.blob_memory.specs.Listing.{listing_at}
 use Rattle.blob_memory.proofs.Copies.{raw_blob_is}
 use Rattle.blob_memory.proofs.contents.Contents.audit.Goals as goal

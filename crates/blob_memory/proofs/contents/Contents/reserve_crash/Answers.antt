@@ -1,6 +1,6 @@
 use Rattle.std.proofs.Common.{◌≡◌, Some}
-use Rattle.blob_base.specs.Durable.{with_at}
-use Rattle.blob_base.specs.Places.{Place}
+use Rattle.blob_model.specs.Durable.{with_at}
+use Rattle.blob_model.specs.Places.{Place}
 use Rattle.blob_memory.specs.Contents.{vec_at}
 use Rattle.blob_memory.proofs.Exchanges.{put_twice, unchanged_by, room_by}
 use Rattle.blob_memory.proofs.contents.Contents.reserve_crash.Goals as goal

@@ -1,7 +1,7 @@
 use Rattle.std.proofs.Common.{◌≡◌, Some}
-use Rattle.blob_base.specs.Durable.{with_at}
-use Rattle.blob_base.specs.Places.{Place}
-use Rattle.blob_base.specs.Bytes.{overlay}
+use Rattle.blob_model.specs.Durable.{with_at}
+use Rattle.blob_model.specs.Places.{Place}
+use Rattle.blob_model.specs.Bytes.{overlay}
 use Rattle.blob_memory.specs.Contents.{vec_at}
 use Rattle.blob_memory.proofs.ByBytes.{on_ok_map, on_err_map}
 use Rattle.blob_memory.proofs.Exchanges.{put_twice, changed_by, unchanged_by, room_by}

@@ -1,7 +1,7 @@
 use Rattle.std.proofs.Common.{◌≡◌, ◌∙◌, ◌≤◌, Ok, sym, ap, arith, length, refl}
 use Rattle.std.proofs.lemmas.List.{take_all}
-use Rattle.blob_base.specs.Parse.{accepted}
-use Rattle.blob_base.specs.Resolve.{resolution}
+use Rattle.blob_header.specs.Parse.{accepted}
+use Rattle.blob_header.specs.Resolve.{resolution}
 use Rattle.blob_memory.proofs.Copies.{answered, offset_within}
 use Rattle.blob_memory.proofs.contents.copies.data_in.Goals as goal
 

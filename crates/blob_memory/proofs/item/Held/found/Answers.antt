@@ -1,8 +1,8 @@
 use Rattle.std.proofs.Common.{◌∙◌, inr, sym, ap₂, Option, ℕ, List}
-use Rattle.blob_base.specs.declared.version.BlobVersion.{BlobVersion}
+use Rattle.blob_header.specs.declared.version.BlobVersion.{BlobVersion}
 use Rattle.std.specs.Range.{range_inclusive_start, range_inclusive_end}
-use Rattle.blob_base.specs.Opening.{Declines}
-use Rattle.blob_base.specs.Refusals.{BlobVersionMismatch}
+use Rattle.blob_model.specs.Opening.{Declines}
+use Rattle.blob_header.specs.Refusals.{BlobVersionMismatch}
 use Rattle.blob_memory.specs.Found.{opening_with}
 use Rattle.blob_memory.proofs.Openings.{held_opens, held_declined, held_accepted}
 use Rattle.blob_memory.proofs.item.Held.found.Goals as goal

@@ -1,6 +1,6 @@
 use Rattle.std.proofs.Common.{◌≡◌, ◌∙◌, ap, arith}
-use Rattle.blob_base.specs.Bytes.{resized}
-use Rattle.blob_base.specs.Durable.{changed}
+use Rattle.blob_model.specs.Bytes.{resized}
+use Rattle.blob_model.specs.Durable.{changed}
 use Rattle.blob_memory.specs.Store.{durable}
 use Rattle.blob_memory.proofs.storage.Storage.retain_resize.Goals as goal
 

@@ -1,8 +1,8 @@
 use Rattle.std.proofs.Common.{◌∙◌, ap₂, []}
 use Rattle.std.specs.Prelude.{unwrap_or}
-use Rattle.blob_base.specs.Directory.{Directory}
-use Rattle.blob_base.specs.Durable.{Durable}
-use Rattle.blob_base.specs.Files.{directory_again}
+use Rattle.blob_model.specs.Directory.{Directory}
+use Rattle.blob_model.specs.Durable.{Durable}
+use Rattle.blob_model.specs.Files.{directory_again}
 use Rattle.blob_memory.proofs.storage.Storage.take_snapshot.Goals as goal
 
 pub returns-clause-directory : goal.returns-clause-directory

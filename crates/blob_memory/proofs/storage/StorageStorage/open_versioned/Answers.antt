@@ -1,5 +1,5 @@
 use Rattle.std.proofs.Common.{◌∙◌, ap, ap₂, ℕ}
-use Rattle.blob_base.specs.Places.{Place}
+use Rattle.blob_model.specs.Places.{Place}
 use Rattle.blob_memory.specs.Store.{place, live}
 use Rattle.blob_memory.proofs.Openings.{continues, begins}
 use Rattle.blob_memory.proofs.storage.StorageStorage.open_versioned.Goals as goal

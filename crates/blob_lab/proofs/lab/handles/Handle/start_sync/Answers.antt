@@ -2,7 +2,7 @@ use Rattle.std.specs.Bool.{OnTrue, OnFalse}
 use Rattle.std.proofs.Common.{◌≡◌, ◌≢◌, Bool, ◌∙◌, ◌++◌, ◌∷◌, [], refl, sym, ap, List, Some, Option, length, subst}
 use Rattle.std.specs.Prelude.{IsSome}
 use Rattle.blob_base.specs.Handles.{outcome_of}
-use Rattle.blob_base.specs.Refusals.{Refusal, Memory, refused}
+use Rattle.blob_header.specs.Refusals.{Refusal, Memory, refused}
 use Rattle.blob_lab.specs.States as states
 use Rattle.blob_lab.specs.States.{Held}
 use Rattle.blob_lab.specs.Tables.{held_by, started_by, syncs_of}

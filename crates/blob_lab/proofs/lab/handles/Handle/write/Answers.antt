@@ -1,12 +1,12 @@
 use Rattle.std.proofs.Common.{◌≡◌, ◌≢◌, refl, List, ℕ, Bool, Some, None, subst}
 use Rattle.blob_base.specs.Options.{is_sync}
-use Rattle.blob_base.specs.Refusals.{Memory}
+use Rattle.blob_header.specs.Refusals.{Memory}
 use Rattle.blob_memory.specs.Store.{room_for}
 use Rattle.blob_faulty.specs.Wrapper.{inside, inner_of as store_of}
-use Rattle.blob_lab.specs.Acts.{Write}
+use Rattle.blob_calls.specs.Acts.{Write}
 use Rattle.blob_lab.specs.LabStands.{Asks}
 use Rattle.blob_lab.specs.Tables.{held_by}
-use Rattle.blob_lab.specs.declared.reply.Reply.TheVariants.{Done, Failed}
+use Rattle.blob_calls.specs.declared.reply.Reply.TheVariants.{Done, Failed}
 use Rattle.blob_lab.proofs.AskedWrites.{write_done, write_failed, write_unasked}
 use Rattle.blob_lab.proofs.lab.handles.Handle.write.Goals as goal
 

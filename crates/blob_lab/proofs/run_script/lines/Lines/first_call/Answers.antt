@@ -1,6 +1,6 @@
 use Rattle.std.proofs.Common.{rules, sym, ◌≡◌, ◌≢◌, ◌+◌, Some, None, refl, ap, ◌∙◌}
-use Rattle.blob_lab.specs.Acts.{act_of}
-use Rattle.blob_lab.specs.Lines.{Configure, Call, said_by}
+use Rattle.blob_calls.specs.Acts.{act_of}
+use Rattle.blob_calls.specs.Lines.{Configure, Call, said_by}
 use Rattle.blob_lab.specs.ScriptReading.{preamble_of}
 use Rattle.blob_lab.specs.Scripted.{behind_seeded}
 use Rattle.blob_lab.specs.Scripts.{with_said}

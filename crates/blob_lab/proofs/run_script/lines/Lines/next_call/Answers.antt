@@ -1,6 +1,6 @@
 use Rattle.std.proofs.Common.{rules, option_and_then, ◌+◌, Some, None, inl, inr, refl, ap, ◌∙◌}
-use Rattle.blob_lab.specs.Acts.{act_of}
-use Rattle.blob_lab.specs.Lines.{Blank, Configure, Call, said_by}
+use Rattle.blob_calls.specs.Acts.{act_of}
+use Rattle.blob_calls.specs.Lines.{Blank, Configure, Call, said_by}
 use Rattle.blob_lab.specs.Scripts.{unseeded, with_said}
 use Rattle.blob_lab.proofs.ScriptSteps.{line_more, line_call, line_bad, lines_over, said_call, said_setting, none_behind_calls}
 use Rattle.blob_lab.proofs.run_script.lines.Lines.next_call.Goals as goal

@@ -5,7 +5,7 @@ use Rattle.blob_lab.proofs.Reading.{dropped_out}
 use Rattle.blob_lab.proofs.ScriptLines.{takes_line}
 use Rattle.blob_lab.proofs.run_script.lines.Lines.next_line.Goals as goal
 use Rattle.blob_lab.proofs.run_script.lines.Lines.next_line.Goals.{After-read_line}
-use Rattle.blob_lab.specs.Lines.{Said, line_of}
+use Rattle.blob_calls.specs.Lines.{Said, line_of}
 use Rattle.blob_lab.specs.ScriptReading.{OfLines, TakesLine}
 
 pub returns-in-Ok-eq0-clause-end : goal.returns-in-Ok-eq0-clause-end

@@ -1,8 +1,0 @@
-use Rattle.std.proofs.Common.{◌-◌, ap}
-use Rattle.blob_base.specs.Checksum.{crc32c}
-use Rattle.blob_base.specs.Register.{Holds}
-use Rattle.blob_base.proofs.checksum.Crc32.finalize.Goals as goal
-
-pub returns : goal.returns
-unfolding Holds crc32c
-returns c = λ bytes h. ap (λ r. 4294967295 - r) h

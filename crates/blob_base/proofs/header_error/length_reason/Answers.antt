@@ -1,5 +1,0 @@
-use Rattle.std.proofs.Common.{append_assoc}
-use Rattle.blob_base.proofs.header_error.length_reason.Goals as goal
-
-pub returns : goal.returns
-returns c = simp append_assoc c.format.ensures.ok

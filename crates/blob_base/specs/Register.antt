@@ -1,8 +1,0 @@
--- What the state of a checksum stands for.
-use Rattle.std.specs.Prelude.{◌≡◌, ℕ, List}
-use Rattle.blob_base.specs.declared.checksum.Crc32.{Crc32}
-use Rattle.blob_base.specs.Checksum.{register_of}
-
--- the state has taken in exactly these bytes
-unfoldable pub Holds : Crc32 → List ℕ → Type 0
-Holds c bytes = c.register ≡ register_of bytes

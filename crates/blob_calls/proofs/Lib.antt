@@ -1,0 +1,5 @@
+pub mod Numbers
+pub mod SaidLines
+pub mod Tokens
+pub mod WordLists
+pub mod WorkedLines

@@ -1,0 +1,58 @@
+-- The calls of a laboratory, in the words of the definitions.
+use Rattle.std.specs.Prelude.{ℕ, List, Bool, ◌||◌, nat_lt, Option, Some, None, if◌then◌else◌, option_map}
+use Rattle.std.specs.Range.{range_inclusive_start, range_inclusive_end, range_inclusive_exhausted}
+use Rattle.std.specs.String.{string_bytes}
+use Rattle.blob_faults.specs.declared.config.Config.{Config}
+use Rattle.blob_calls.specs.declared.call.Call.{Call}
+use Rattle.blob_calls.specs.declared.call.Call.TheVariants as call
+
+-- what is asked through a handle
+pub data Ask : Type 0 where
+  Read : ℕ → ℕ → Ask
+  -- with `true` a SYNC write
+  Write : ℕ → List ℕ → Bool → Ask
+  Resize : ℕ → Ask
+  Size : Ask
+  Sync : Ask
+  StartSync : Ask
+
+-- the first and the last version that an open accepts
+abbrev pub Accepted : Type 0
+Accepted = ℕ × ℕ
+
+pub data Act : Type 0 where
+  Configure : Config → Act
+  -- partition, name and versions, which are none where the range is empty
+  Open : List ℕ → List ℕ → Option Accepted → Act
+  OpenLoose : List ℕ → List ℕ → Option Accepted → Act
+  Admit : List ℕ → List ℕ → Act
+  Close : ℕ → Act
+  -- through the handle of a number
+  Through : ℕ → Ask → Act
+  Finish : ℕ → Act
+  Remove : List ℕ → Option (List ℕ) → Act
+  Scan : List ℕ → Act
+  Crash : Act
+  Reopen : Act
+
+-- a range that is exhausted, or starts behind its end, is empty
+abbrev pub accepted : Bool → ℕ → ℕ → Option Accepted
+accepted exhausted first last = if exhausted || nat_lt last first then None else Some (first, last)
+
+abbrev pub act_of : Call → Act
+act_of (call.Configure config) = Configure config
+act_of (call.Open partition name versions) = Open (string_bytes partition) name.items (accepted (range_inclusive_exhausted versions) (range_inclusive_start versions).0 (range_inclusive_end versions).0)
+act_of (call.OpenLoose partition name versions) = OpenLoose (string_bytes partition) name.items (accepted (range_inclusive_exhausted versions) (range_inclusive_start versions).0 (range_inclusive_end versions).0)
+act_of (call.Admit partition name) = Admit (string_bytes partition) name.items
+act_of (call.Close handle) = Close handle
+act_of (call.Read handle offset len) = Through handle (Read offset len)
+act_of (call.Write handle offset bytes sync) = Through handle (Write offset bytes.items sync)
+act_of (call.Resize handle len) = Through handle (Resize len)
+act_of (call.Size handle) = Through handle Size
+act_of (call.Sync handle) = Through handle Sync
+act_of (call.StartSync handle) = Through handle StartSync
+act_of (call.Finish number) = Finish number
+act_of (call.Remove partition name) = Remove (string_bytes partition) (option_map (λ n. n.items) name)
+act_of (call.Scan partition) = Scan (string_bytes partition)
+act_of call.Crash = Crash
+act_of call.Reopen = Reopen

@@ -1,0 +1,9 @@
+pub mod Acts
+pub mod CallLines
+pub mod Forms
+pub mod Lines
+pub mod Replies
+pub mod SettingLines
+pub mod Settings
+pub mod Tokens
+pub mod Told

@@ -1,0 +1,55 @@
+-- What the lines of a script say.
+use Rattle.std.specs.Prelude.{ℕ, List, [], ◌∷◌, Bool, ◌==◌, Option, Some, None, if◌then◌else◌, slice_index, string_bytes, codes}
+use Rattle.std.specs.Str.{is_utf8, byte}
+use Rattle.blob_calls.specs.declared.script.line.Line.{Line}
+use Rattle.blob_calls.specs.declared.script.line.Line.TheVariants as line
+use Rattle.blob_calls.specs.declared.script.setting.Setting.{Setting}
+use Rattle.blob_calls.specs.Acts.{Act, act_of}
+use Rattle.blob_calls.specs.CallLines.{call}
+use Rattle.blob_calls.specs.Forms.{Form, ◌>>=◌, gives, whole, beside, text, hex, digits, words}
+use Rattle.blob_calls.specs.SettingLines.{setting}
+use Rattle.blob_calls.specs.Tokens.{tokens}
+
+pub data Said : Type 0 where
+  -- nothing, or a comment
+  Blank : Said
+  -- partition, name and bytes of a raw image
+  Image : List ℕ → List ℕ → List ℕ → Said
+  -- further words of the generator
+  Given : List ℕ → Said
+  -- the seed of the words behind them
+  Seed : ℕ → Said
+  Configure : Setting → Said
+  Call : Act → Said
+
+abbrev pub said_by : Line → Said
+said_by line.Blank = Blank
+said_by (line.Image partition name bytes) = Image (string_bytes partition) name.items bytes.items
+said_by (line.Words words) = Given words.items
+said_by (line.Seed seed) = Seed seed
+said_by (line.Configure setting) = Configure setting
+said_by (line.Call asked) = Call (act_of asked)
+
+-- what stands before all calls, or between them
+abbrev pub statements : List (List ℕ × Form Said)
+statements =
+    (codes "image", do partition ← text; name ← hex; bytes ← hex; gives (Image partition name bytes))
+    ∷ (codes "words", do read ← words; gives (Given read))
+    ∷ (codes "seed", do read ← digits; gives (Seed read))
+    ∷ (codes "config", do set ← setting; gives (Configure set))
+    ∷ []
+
+abbrev pub statement : List ℕ → Form Said
+statement word = beside statements (do act ← call word; gives (Call act)) word
+
+-- a comment begins at its first character
+abbrev pub is_comment : List ℕ → Bool
+is_comment word = slice_index word 0 == byte "#"
+
+abbrev pub said_of : List (List ℕ) → Option Said
+said_of [] = Some Blank
+said_of (word ∷ tokens) = if is_comment word then Some Blank else whole (statement word) tokens
+
+-- what a line says, without its end; none where it is a bad call
+abbrev pub line_of : List ℕ → Option Said
+line_of line = if is_utf8 line then said_of (tokens line) else None

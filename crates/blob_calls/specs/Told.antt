@@ -1,0 +1,41 @@
+-- Replies in the words of the definitions.
+use Rattle.std.specs.Prelude.{◌≡◌, ℕ, List, Bool, Option, Some, None, map}
+use Rattle.blob_model.specs.Draws.{Row}
+use Rattle.blob_base.specs.Names.{AreNames}
+use Rattle.blob_header.specs.Refusals.{Refusal, refusal_of}
+use Rattle.blob_faults.specs.Rows.{table_of}
+use Rattle.blob_calls.specs.declared.reply.Reply.{Reply}
+use Rattle.blob_calls.specs.declared.reply.Reply.TheVariants as reply
+
+pub data Told : Type 0 where
+  Done : Told
+  -- a handle's number, its size and its version
+  Opened : ℕ → ℕ → ℕ → Told
+  Bytes : List ℕ → Told
+  Size : ℕ → Told
+  -- which names are there
+  Names : (List ℕ → Bool) → Told
+  Started : ℕ → Told
+  Crashed : List Row → Told
+  Failed : Refusal → Told
+  NoHandle : Told
+  EmptyRange : Told
+
+-- whether a reply says this; names are listed once each, sorted by their bytes
+abbrev pub Tells : Reply → Told → Type 0
+Tells reply.Done Done = Unit {0}
+Tells (reply.Opened handle size version) (Opened number length v) = (handle ≡ number) × (size ≡ length) × (version.0 ≡ v)
+Tells (reply.Bytes bytes) (Bytes read) = bytes.items ≡ read
+Tells (reply.Size size) (Size tracked) = size ≡ tracked
+Tells (reply.Names names) (Names is_there) = AreNames (map (λ name. name.items) names.items) is_there
+Tells (reply.Started sync) (Started number) = sync ≡ number
+Tells (reply.Crashed selections) (Crashed rows) = table_of selections ≡ rows
+Tells (reply.Failed e) (Failed refusal) = refusal_of e ≡ refusal
+Tells reply.NoHandle NoHandle = Unit {0}
+Tells reply.EmptyRange EmptyRange = Unit {0}
+Tells reply told = ⊥
+
+-- what a reply refused, none where the call was done
+abbrev pub refused_by : Reply → Option Refusal
+refused_by (reply.Failed e) = Some (refusal_of e)
+refused_by reply = None

@@ -1,0 +1,150 @@
+// The lines of calls.
+ghost use Rattle.std.specs.Prelude.{◌≡◌, IfOk, Some, None, string_bytes, option_map};
+ghost use Rattle.std.specs.Range.{range_inclusive_start, range_inclusive_end, range_inclusive_exhausted};
+ghost use Rattle.blob_calls.specs.Acts.{act_of, accepted};
+ghost use Rattle.blob_calls.specs.CallLines.{call, writing};
+ghost use Rattle.blob_calls.specs.Forms.{text, hex, name, digits, versions};
+ghost use Rattle.blob_calls.specs.Tokens.{version_of};
+
+use crate::Call;
+use crate::script::RefusedLine;
+use crate::script::token::{Tokens, bytes, number};
+use blob_base::{BlobVersion, DEFAULT_BLOB_VERSION};
+use std::alloc::Global;
+use std::ops::RangeInclusive;
+
+/// Reads a call, of which `word` is the first token. Tokens after it are left.
+pub(crate) fn call(alloc: Global, word: &str, tokens: &mut Tokens) -> Result<Call, RefusedLine>
+    ensures ok { IfOk result (λ asked. call word.now tokens.old ≡ Some (act_of asked, tokens.new)) }
+    ensures bad { result ≡ Err RefusedLine.BadCall → call word.now tokens.old ≡ None }
+{
+    Ok(match word {
+        "open" => {
+            let (partition, name) = (text(alloc, tokens)?, hex(alloc, tokens)?);
+            let versions = versions(tokens)?;
+            Call::Open {
+                partition,
+                name,
+                versions,
+            }
+        }
+        "loose" => {
+            let (partition, name) = (text(alloc, tokens)?, hex(alloc, tokens)?);
+            let versions = versions(tokens)?;
+            Call::OpenLoose {
+                partition,
+                name,
+                versions,
+            }
+        }
+        "admit" => Call::Admit {
+            partition: text(alloc, tokens)?,
+            name: hex(alloc, tokens)?,
+        },
+        "close" => Call::Close(index(tokens)?),
+        "read" => Call::Read {
+            handle: index(tokens)?,
+            offset: digits(tokens)?,
+            len: index(tokens)?,
+        },
+        "write" => write(alloc, tokens, false)?,
+        "writes" => write(alloc, tokens, true)?,
+        "resize" => Call::Resize {
+            handle: index(tokens)?,
+            len: digits(tokens)?,
+        },
+        "size" => Call::Size(index(tokens)?),
+        "sync" => Call::Sync(index(tokens)?),
+        "startsync" => Call::StartSync(index(tokens)?),
+        "finish" => Call::Finish(index(tokens)?),
+        "remove" => Call::Remove {
+            partition: text(alloc, tokens)?,
+            name: name(alloc, tokens)?,
+        },
+        "scan" => Call::Scan {
+            partition: text(alloc, tokens)?,
+        },
+        "crash" => Call::Crash,
+        "reopen" => Call::Reopen,
+        _ => return Err(RefusedLine::BadCall),
+    })
+}
+
+fn write(alloc: Global, tokens: &mut Tokens, sync: bool) -> Result<Call, RefusedLine>
+    ensures ok { IfOk result (λ asked. writing sync tokens.old ≡ Some (act_of asked, tokens.new)) }
+    ensures bad { result ≡ Err RefusedLine.BadCall → writing sync tokens.old ≡ None }
+{
+    Ok(Call::Write {
+        handle: index(tokens)?,
+        offset: digits(tokens)?,
+        bytes: hex(alloc, tokens)?,
+        sync,
+    })
+}
+
+/// The next token as it is.
+pub(crate) fn text(alloc: Global, tokens: &mut Tokens) -> Result<String, RefusedLine>
+    ensures ok { IfOk result (λ read. text tokens.old ≡ Some (string_bytes read, tokens.new)) }
+    ensures bad { result ≡ Err RefusedLine.BadCall → text tokens.old ≡ None }
+{
+    let token = tokens.next().ok_or(RefusedLine::BadCall)?;
+    Ok(String::from_str(alloc, token)?)
+}
+
+/// The bytes of the next token.
+pub(crate) fn hex(alloc: Global, tokens: &mut Tokens) -> Result<Vec<u8>, RefusedLine>
+    ensures ok { IfOk result (λ read. hex tokens.old ≡ Some (read.items, tokens.new)) }
+    ensures bad { result ≡ Err RefusedLine.BadCall → hex tokens.old ≡ None }
+{
+    bytes(alloc, tokens.next().ok_or(RefusedLine::BadCall)?)
+}
+
+/// The bytes of the next token, where there is one.
+fn name(alloc: Global, tokens: &mut Tokens) -> Result<Option<Vec<u8>>, RefusedLine>
+    ensures ok { IfOk result (λ read. name tokens.old ≡ Some (option_map (λ bytes. bytes.items) read, tokens.new)) }
+    ensures bad { result ≡ Err RefusedLine.BadCall → name tokens.old ≡ None }
+{
+    match tokens.next() {
+        Some(token) => Ok(Some(bytes(alloc, token)?)),
+        None => Ok(None),
+    }
+}
+
+/// The number of the next token.
+pub(crate) fn digits(tokens: &mut Tokens) -> Result<u64, RefusedLine>
+    ensures ok { IfOk result (λ read. digits tokens.old ≡ Some (read, tokens.new)) }
+    ensures bad { result ≡ Err RefusedLine.BadCall → digits tokens.old ≡ None }
+{
+    let token = tokens.next().ok_or(RefusedLine::BadCall)?;
+    number(token).ok_or(RefusedLine::BadCall)
+}
+
+fn index(tokens: &mut Tokens) -> Result<usize, RefusedLine>
+    ensures ok { IfOk result (λ read. digits tokens.old ≡ Some (read, tokens.new)) }
+    ensures bad { result ≡ Err RefusedLine.BadCall → digits tokens.old ≡ None }
+{
+    Ok(digits(tokens)? as usize)
+}
+
+/// The two versions that are left, or where nothing is left the default alone.
+fn versions(tokens: &mut Tokens) -> Result<RangeInclusive<BlobVersion>, RefusedLine>
+    ensures ok { IfOk result (λ read. versions tokens.old ≡ Some (accepted (range_inclusive_exhausted read) (range_inclusive_start read).0 (range_inclusive_end read).0, tokens.new)) }
+    ensures bad { result ≡ Err RefusedLine.BadCall → versions tokens.old ≡ None }
+{
+    let Some(first) = tokens.next() else {
+        return Ok(DEFAULT_BLOB_VERSION..=DEFAULT_BLOB_VERSION);
+    };
+    let last = tokens.next().ok_or(RefusedLine::BadCall)?;
+    Ok(version(first)?..=version(last)?)
+}
+
+fn version(token: &str) -> Result<BlobVersion, RefusedLine>
+    ensures ok { IfOk result (λ read. version_of token.now ≡ Some read.0) }
+    ensures bad { result ≡ Err RefusedLine.BadCall → version_of token.now ≡ None }
+{
+    let number = number(token).ok_or(RefusedLine::BadCall)?;
+    match u16::try_from(number) {
+        Ok(number) => Ok(BlobVersion::new(number)),
+        Err(_) => Err(RefusedLine::BadCall),
+    }
+}

@@ -1,0 +1,3 @@
+pub mod Debts
+pub mod History
+pub mod Recreated

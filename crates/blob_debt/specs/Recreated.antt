@@ -1,0 +1,20 @@
+-- Names that were forgotten, and numbers from before.
+use Rattle.std.specs.Prelude.{◌≡◌, ℕ, List, ◌∷◌, ◌++◌, Bool, true, false, ◌&&◌, Some, None}
+use Rattle.std.specs.Str.{bytes_eq}
+use Rattle.blob_debt.specs.History.{Call, History, To, Forget, Admit}
+use Rattle.blob_debt.specs.Debts.{IsNumbered}
+
+-- whether a call forgets a name
+abbrev pub forgets : Call → List ℕ → List ℕ → Bool
+forgets (To q m (Admit false g)) p n = bytes_eq q p && bytes_eq m n
+forgets (To q m deed) p n = false
+forgets (Forget q (Some m)) p n = bytes_eq q p && bytes_eq m n
+forgets (Forget q None) p n = bytes_eq q p
+
+-- a history in which a name was forgotten after the earlier calls
+pub record IsForgottenAfter (h earlier : History) (p n : List ℕ) : Type 0 where
+  pub later : History
+  pub call : Call
+  pub parts : h ≡ later ++ call ∷ earlier
+  pub forgotten : forgets call p n ≡ true
+  pub numbered : IsNumbered h

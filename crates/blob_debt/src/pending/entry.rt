@@ -1,0 +1,107 @@
+// What the registry keeps of one name.
+ghost use Rattle.std.specs.Prelude.{◌≡◌, List, Some, None, if◌then◌else◌, true, false};
+
+use blob_header::Error;
+
+/// A name's latest open and what its predecessors left.
+#[derive(Drop)]
+pub(crate) struct Entry {
+    pub(crate) generation: u64,
+    pub(crate) is_live: bool,
+    /// The token of a predecessor that isn't settled yet.
+    pub(crate) settling: Option<u64>,
+    pub(crate) is_dirty: bool,
+    pub(crate) failure: Option<Error>,
+}
+
+/// What a call does to an entry. It counts only by the latest generation or the settling token.
+#[derive(Drop)]
+pub(crate) enum Change {
+    Release {
+        generation: u64,
+        token: u64,
+    },
+    Settle {
+        token: u64,
+        dirty: bool,
+        failure: Option<Error>,
+    },
+    Clear {
+        generation: u64,
+        outcome: Result<(), Error>,
+    },
+    Close {
+        generation: u64,
+    },
+}
+
+impl Entry {
+    ghost use Rattle.blob_debt.specs.History.{Event, with_deed};
+    ghost use Rattle.blob_debt.specs.Debts.{kept, over, standing, deed_of};
+
+    /// The entry of a live open, to which nothing was left.
+    pub(crate) fn opened(generation: u64) -> Entry
+        ensures { result ≡ record { generation = generation; is_live = true; settling = None; is_dirty = false; failure = None } }
+    {
+        Entry {
+            generation,
+            is_live: true,
+            settling: None,
+            is_dirty: false,
+            failure: None,
+        }
+    }
+
+    /// Whether a later open has to be told nothing.
+    fn is_over(&self) -> bool
+        ensures { result ≡ over (kept (Some self.now)) }
+    {
+        !self.is_live && self.settling.is_none() && !self.is_dirty && self.failure.is_none()
+    }
+
+    /// Makes a change, and answers whether it ends the name.
+    pub(crate) fn apply(&mut self, change: Change) -> bool
+        ensures { (es : List Event) → kept (Some self.old) ≡ standing es → kept (if result then None else Some self.new) ≡ standing (with_deed (deed_of change) es) }
+    {
+        match change {
+            Change::Release { generation, token } => {
+                if self.generation == generation && self.settling.is_none() {
+                    self.settling = Some(token);
+                }
+                false
+            }
+            Change::Settle {
+                token,
+                dirty,
+                failure,
+            } => {
+                if self.settling != Some(token) {
+                    return false;
+                }
+                self.settling = None;
+                self.is_dirty |= dirty;
+                self.failure = failure.or(self.failure.take());
+                self.is_over()
+            }
+            Change::Clear {
+                generation,
+                outcome,
+            } => {
+                if self.generation == generation {
+                    match outcome {
+                        Ok(()) => self.is_dirty = false,
+                        Err(error) => self.failure = Some(error),
+                    }
+                }
+                false
+            }
+            Change::Close { generation } => {
+                if self.generation != generation {
+                    return false;
+                }
+                self.is_live = false;
+                self.is_over()
+            }
+        }
+    }
+}

@@ -1,0 +1,17 @@
+pub mod CellLaws
+pub mod Covered
+pub mod CutSteps
+pub mod Distinct
+pub mod DrawSteps
+pub mod Finishing
+pub mod Gathering
+pub mod HoleRoom
+pub mod ListSteps
+pub mod Marking
+pub mod Queued
+pub mod Rowing
+pub mod Sorting
+pub mod SpanSteps
+pub mod Taking
+pub mod Unmarked
+pub mod Unreached

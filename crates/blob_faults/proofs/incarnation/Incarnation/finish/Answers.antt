@@ -1,0 +1,19 @@
+use Rattle.std.proofs.Common.{refl, sym, ◌∙◌, ap, ◌+◌, drop}
+use Rattle.blob_faults.specs.Marks.{marks_of}
+use Rattle.blob_faults.specs.Views.{views}
+use Rattle.blob_faults.proofs.Marking.{finished_marks, finished_none}
+use Rattle.blob_faults.proofs.incarnation.Incarnation.finish.Goals as goal
+
+pub invariant_of-self : goal.invariant_of-self
+invariant_of-self g c = record {
+  marked = c.drop_front.ensures ∙ ap (drop (c.in-Some.i + 1)) (sym c.deref.ensures.value)
+      ∙ finished_marks c.args.marker (views c.args.self.now.entries.items) c.deref.result.now c.in-Some.i (c.deref.ensures.value ∙ c.args.self.now.marked) (sym c.in-Some.is ∙ c.place_of.ensures)
+      ∙ ap marks_of (sym c.finish.ensures);
+}
+
+pub returns-in_default : goal.returns-in_default
+returns-in_default g c = record {
+  origin = refl;
+  noted = refl;
+  entries = finished_none c.args.marker (views c.args.self.now.entries.items) c.deref.result.now (c.deref.ensures.value ∙ c.args.self.now.marked) (sym c.in_default.is ∙ c.place_of.ensures);
+}

@@ -1,0 +1,107 @@
+-- What a wrapper's draws make of a call.
+use Rattle.std.specs.Prelude.{ℕ, ◌+◌, ◌-◌, ◌^◌, min, max, Bool, true, false, ◌&&◌, List, [], ◌∷◌, length, Option, Some, None, if◌then◌else◌, nat_lt, ◌==◌}
+use Rattle.rand_core.specs.Stream.{Stream, next_u64}
+use Rattle.rand.specs.Uniform.{canon}
+use Rattle.blob_model.specs.Draws.{positions}
+use Rattle.blob_model.specs.Log.{Write}
+use Rattle.blob_model.specs.Modes.{Mode}
+use Rattle.blob_model.specs.Rates.{Rate, sampled}
+use Rattle.blob_faults.specs.declared.config.Config.{Config}
+use Rattle.blob_faults.specs.declared.config.ResizeConfig.{ResizeConfig}
+use Rattle.blob_faults.specs.declared.config.WriteConfig.{WriteConfig}
+use Rattle.blob_faults.specs.Modes.{mode_of}
+
+-- one draw; a rate that isn't set takes no word and is never true
+abbrev pub draw : Option Rate → Stream → Bool × Stream
+draw None stream = (false, stream)
+draw (Some rate) stream = sampled rate stream
+
+abbrev pub write_failure : Option WriteConfig → Option Rate
+write_failure None = None
+write_failure (Some c) = Some c.failure_rate
+
+-- how what is retained of a write is chosen, where the retention rate is set and isn't zero
+abbrev pub retention : Option WriteConfig → Option (Mode × Rate)
+retention None = None
+retention (Some c) = if c.retention_rate.numerator == 0 then None else Some (mode_of c.mode, c.retention_rate)
+
+abbrev pub kept_by : Option WriteConfig → Option (Mode × Rate)
+kept_by None = None
+kept_by (Some c) = Some (mode_of c.mode, c.retention_rate)
+
+-- What the draws of a write come to.
+
+pub data WriteFate : Type 0 where
+  -- it is done as the inner store does it
+  Done : WriteFate
+  -- it is a SYNC write and its sync fails
+  Unsynced : WriteFate
+  -- it fails and keeps the chosen bytes
+  Failed : List Bool → WriteFate
+
+abbrev pub failed : Option (Mode × Rate) → ℕ → ℕ → Stream → WriteFate × Stream
+failed None offset len stream = (Failed [], stream)
+failed (Some kept) offset len stream = let d = positions kept.0 kept.1 offset len stream in (Failed d.0, d.1)
+
+abbrev pub synced_or_not : Bool × Stream → WriteFate × Stream
+synced_or_not d = (if d.0 then Unsynced else Done, d.1)
+
+abbrev pub not_failed : Config → Bool → Stream → WriteFate × Stream
+not_failed config false stream = (Done, stream)
+not_failed config true stream = synced_or_not (draw config.sync_rate stream)
+
+abbrev pub write_fate : Config → Bool → ℕ → ℕ → Stream → WriteFate × Stream
+write_fate config sync offset len stream =
+    let d = draw (write_failure config.write_rate) stream in
+    if d.0 then failed (retention config.write_rate) offset len d.1 else not_failed config sync d.1
+
+-- an empty SYNC write and one whose end can't be counted draw nothing
+abbrev pub is_nothing : Bool → List ℕ → Bool
+is_nothing true [] = true
+is_nothing true (b ∷ bytes) = false
+is_nothing false bytes = false
+
+abbrev pub is_uncounted : ℕ → List ℕ → Bool
+is_uncounted offset bytes = nat_lt (2 ^ 64 - 1) (offset + length bytes)
+
+-- what a write leaves of the stream
+abbrev pub after_write : Config → Bool → ℕ → List ℕ → Stream → Stream
+after_write config sync offset bytes stream =
+    if is_nothing sync bytes then stream
+    else if is_uncounted offset bytes then stream
+    else (write_fate config sync offset (length bytes) stream).1
+
+-- What the draws of a resize come to.
+
+pub data ResizeFate : Type 0 where
+  -- it is done, and survives a crash or not
+  Resizes : Bool → ResizeFate
+  -- it fails, and changes nothing
+  Stays : ResizeFate
+  -- it fails, and reaches this size
+  Reaches : ℕ → ResizeFate
+
+-- a size strictly between two others, as `random_range` of `rand` draws it
+abbrev pub size_between : ℕ → ℕ → Stream → ℕ × Stream
+size_between low high stream = let d = canon (2 ^ 64) next_u64 (high - (low + 1)) stream in (low + 1 + d.0, d.1)
+
+abbrev pub reached : ℕ × Stream → ResizeFate × Stream
+reached d = (Reaches d.0, d.1)
+
+abbrev pub partly : ℕ → ℕ → Bool × Stream → ResizeFate × Stream
+partly size len d =
+    if d.0 && nat_lt 1 (max size len - min size len) then reached (size_between (min size len) (max size len) d.1)
+    else (Stays, d.1)
+
+abbrev pub resized_or_not : Bool × Stream → ResizeFate × Stream
+resized_or_not d = (Resizes d.0, d.1)
+
+abbrev pub resize_fate : Option ResizeConfig → ℕ → ℕ → Stream → ResizeFate × Stream
+resize_fate None size len stream = (Resizes false, stream)
+resize_fate (Some c) size len stream =
+    let d = sampled c.failure_rate stream in
+    if d.0 then partly size len (sampled c.partial_rate d.1) else resized_or_not (sampled c.failure_rate d.1)
+
+-- a write as it is recorded
+abbrev pub issued : ℕ → ℕ → List ℕ → WriteConfig → Write
+issued number offset bytes config = record { number = number; offset = offset; bytes = bytes; mode = mode_of config.mode; rate = config.retention_rate }

@@ -1,0 +1,14 @@
+pub mod Cells
+pub mod Drawings
+pub mod Fates
+pub mod Faults
+pub mod Lists
+pub mod Marks
+pub mod Modes
+pub mod Ranges
+pub mod Recorded
+pub mod Replays
+pub mod Rooms
+pub mod Rows
+pub mod Spans
+pub mod Views

@@ -1,0 +1,89 @@
+-- The pending lists of the incarnations, each by its place.
+use Rattle.std.specs.Prelude.{◌≡◌, ◌≢◌, AllPairs, ℕ, ◌<◌, List, Bool, true, false, not, ◌&&◌, All, length, map, vec_len, vec_capacity}
+use Rattle.std.proofs.Common.{get_or}
+use Rattle.blob_model.specs.Directory.{Directory, is_current}
+use Rattle.blob_model.specs.Durable.{with_at}
+use Rattle.blob_model.specs.Places.{Place, same_place}
+use Rattle.blob_model.specs.Pending.{Pending, finished}
+use Rattle.blob_model.specs.Order.{Held, held_at}
+use Rattle.blob_model.specs.Holes.{Holes}
+use Rattle.blob_faults.specs.Rooms.{AreWithin, HasRoomsFor}
+use Rattle.blob_faults.specs.Views.{views}
+use Rattle.blob_faults.specs.declared.incarnation.Incarnation.{Incarnation}
+use Rattle.blob_faults.specs.declared.room.Room.{Room}
+use Rattle.blob_faults.specs.declared.room.Room.TheVariants as room
+
+abbrev pub held_by : {O : Type 0} → (O → Place) → Incarnation O → Held
+held_by place i = (place i.origin, views i.entries.items)
+
+abbrev pub held : {O : Type 0} → (O → Place) → List (Incarnation O) → List Held
+held place is = map (held_by place) is
+
+-- what is pending of an incarnation, nothing where it has no list
+abbrev pub list_of : {O : Type 0} → (O → Place) → List (Incarnation O) → Place → List Pending
+list_of place is = held_at (held place is)
+
+abbrev pub is_of : Place → Held → Bool
+is_of o h = same_place h.0 o
+
+-- the list at i is the first of an incarnation
+pub record IsAt (hs : List Held) (i : ℕ) (o : Place) : Type 0 where
+  pub inside : i < length hs
+  pub here : (d : Held) → is_of o (get_or hs i d) ≡ true
+  pub before : (k : ℕ) (d : Held) → k < i → is_of o (get_or hs k d) ≡ false
+
+-- no two lists have one origin
+abbrev pub AreDistinct : {O : Type 0} → List (Incarnation O) → Type 0
+AreDistinct is = AllPairs (λ a b. a.origin ≢ b.origin) is
+
+-- an incarnation's list can take this
+abbrev pub HasRoom : {O : Type 0} → Room → Incarnation O → Type 0
+HasRoom room.Entry i = vec_len i.entries < vec_capacity i.entries
+HasRoom room.Mark i = (vec_len i.entries < vec_capacity i.entries) × (vec_len i.marks < vec_capacity i.marks)
+HasRoom (room.Ranges start end count) i = (hs : Holes) → AreWithin start end count hs → HasRoomsFor hs i.entries
+
+-- it has these entries, and is of the same incarnation
+pub record Becomes {O : Type 0} (old new : Incarnation O) (q : List Pending) : Type 0 where
+  pub origin : new.origin ≡ old.origin
+  pub noted : new.was_current ≡ old.was_current
+  pub entries : views new.entries.items ≡ q
+
+-- the list at i is there, and can take this
+pub record HasRoomIn {O : Type 0} (is : List (Incarnation O)) (i : ℕ) (what : Room) : Type 0 where
+  pub inside : i < length is
+  pub room : (d : Incarnation O) → HasRoom what (get_or is i d)
+
+-- it is that of an incarnation
+pub record IsRoomAt {O : Type 0} (place : O → Place) (is : List (Incarnation O)) (i : ℕ) (o : Place) (what : Room) : Type 0 where
+  pub at : IsAt (held place is) i o
+  pub here : HasRoomIn is i what
+
+-- what is pending of each incarnation stays
+abbrev pub SameLists : {O : Type 0} → (O → Place) → List (Incarnation O) → List (Incarnation O) → Type 0
+SameLists place old new = (o : Place) → list_of place new o ≡ list_of place old o
+
+-- the list at i alone is another, by whichever incarnation it is of
+abbrev pub ChangesAt : {O : Type 0} → (O → Place) → List (Incarnation O) → List (Incarnation O) → ℕ → (List Pending → List Pending) → Type 0
+ChangesAt place old new i change = (o : Place) → IsAt (held place old) i o → (a : Place) → list_of place new a ≡ with_at (list_of place old) o (change (list_of place old o)) a
+
+-- the list at i can take these durable ranges
+abbrev pub HasRangesAt : {O : Type 0} → List (Incarnation O) → ℕ → Holes → Type 0
+HasRangesAt {O} is i hs = (d : Incarnation O) → HasRoomsFor hs (get_or is i d).entries
+
+-- one list after a started sync is finished
+abbrev pub finished_in : ℕ → Held → Held
+finished_in marker h = (h.0, finished marker h.1)
+
+-- of each list it is noted whether its incarnation was current
+abbrev pub AreNoted : {O : Type 0} → (O → Place) → Directory → List (Incarnation O) → Type 0
+AreNoted place d is = All (λ i. i.was_current ≡ is_current d (place i.origin)) is
+
+-- whether an incarnation was current and isn't any more
+abbrev pub has_ended : Directory → Directory → Place → Bool
+has_ended before after o = is_current before o && not (is_current after o)
+
+-- the list at i is of an incarnation and can take these durable ranges
+pub record HasRoomAt {O : Type 0} (place : O → Place) (is : List (Incarnation O)) (i : ℕ) (o : Place) (hs : Holes) : Type 0 where
+  pub at : IsAt (held place is) i o
+  pub inside : i < length is
+  pub ranges : HasRangesAt is i hs

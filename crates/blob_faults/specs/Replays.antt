@@ -1,0 +1,25 @@
+-- What a crash replays of a pending list, and the room that it takes.
+use Rattle.std.specs.Prelude.{ℕ, max, List, [], ◌∷◌, length, if◌then◌else◌}
+use Rattle.blob_model.specs.Order.{Held}
+use Rattle.blob_model.specs.Pending.{Pending, Waiting, Cut, Again, Marker, has_marker}
+
+-- the entries behind the last marker
+abbrev pub unmarked : List Pending → List Pending
+unmarked [] = []
+unmarked (e ∷ q) = if has_marker (e ∷ q) then unmarked q else e ∷ q
+
+-- how many bytes an entry lays
+abbrev pub width : Pending → ℕ
+width (Waiting m) = length m.write.bytes
+width (Cut n) = 0
+width (Again o b) = length b
+width (Marker k) = 0
+
+-- the most that one entry lays
+abbrev pub widest : List Pending → ℕ
+widest [] = 0
+widest (e ∷ q) = max (width e) (widest q)
+
+abbrev pub widest_of_all : List Held → ℕ
+widest_of_all [] = 0
+widest_of_all (h ∷ hs) = max (widest h.1) (widest_of_all hs)

@@ -1,0 +1,37 @@
+-- What the code's entries stand for.
+use Rattle.std.specs.Prelude.{ℕ, Bool, true, List, map}
+use Rattle.blob_model.specs.Log.{Write, has_bare}
+use Rattle.blob_model.specs.Pending as model
+use Rattle.blob_model.specs.Pending.{Pending, pared_one}
+use Rattle.blob_model.specs.Holes.{need_in}
+use Rattle.blob_faults.specs.Modes.{mode_of}
+use Rattle.blob_faults.specs.Ranges.{ranges}
+use Rattle.blob_faults.specs.declared.write.PendingWrite.{PendingWrite}
+use Rattle.blob_faults.specs.declared.entry.Entry.{Entry}
+use Rattle.blob_faults.specs.declared.entry.Entry.TheVariants as entry
+
+abbrev pub write_of : PendingWrite → Write
+write_of w = record { number = w.number; offset = w.offset; bytes = w.bytes; mode = mode_of w.mode; rate = w.rate }
+
+abbrev pub view : Entry → Pending
+view (entry.Write w) = model.Waiting (need_in (write_of w) (ranges w.holes.items))
+view (entry.Resize n) = model.Cut n
+view (entry.Range r) = model.Again r.offset r.bytes
+view (entry.Marker k) = model.Marker k
+
+abbrev pub views : List Entry → List Pending
+views q = map view q
+
+-- a pending mutation after a durable range of n bytes at o
+abbrev pub pared_by : ℕ → ℕ → Pending → Pending
+pared_by o n (model.Waiting m) = model.Waiting (pared_one o n m)
+pared_by o n (model.Cut len) = model.Cut len
+pared_by o n (model.Again p b) = model.Again p b
+pared_by o n (model.Marker k) = model.Marker k
+
+-- whether something is left of it
+abbrev pub is_left : Pending → Bool
+is_left (model.Waiting m) = has_bare m
+is_left (model.Cut len) = true
+is_left (model.Again p b) = true
+is_left (model.Marker k) = true

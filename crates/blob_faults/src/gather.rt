@@ -1,0 +1,55 @@
+//! For which writes a crash draws.
+ghost use Rattle.std.specs.Prelude.{◌≡◌, ◌++◌, OnOk, IfOk, false};
+ghost use Rattle.std.specs.List.Sorted.{IsPermutation, IsNonDecreasingBy};
+ghost use Rattle.blob_model.specs.Order.{waiting_of_all};
+ghost use Rattle.blob_model.specs.Pending.{has_marker, waiting};
+ghost use Rattle.blob_model.specs.Places.{Place};
+ghost use Rattle.blob_faults.specs.Drawings.{drawings_of, drawings_in};
+ghost use Rattle.blob_faults.specs.Lists.{held};
+ghost use Rattle.blob_faults.specs.Views.{views};
+
+use crate::draw::Draw;
+use crate::entries::unmarked;
+use crate::entry::Entry;
+use crate::incarnation::Incarnation;
+use std::alloc::{AllocError, Global};
+
+/// Adds what is drawn for of entries among which no marker is.
+fn gather_unmarked(draws: &mut Vec<Draw>, entries: &[Entry]) -> Result<(), AllocError>
+    requires { has_marker (views entries.now) ≡ false }
+    ensures { OnOk result (drawings_in draws.new.items ≡ drawings_in draws.old.items ++ drawings_of (waiting (views entries.now))) }
+{
+    for entry in entries {
+        if let Entry::Write(write) = entry {
+            draws.push(Draw {
+                number: write.number,
+                offset: write.offset,
+                len: write.bytes.remaining(),
+                mode: write.mode,
+                rate: write.rate,
+            })?;
+        }
+    }
+    Ok(())
+}
+
+/// What all lists wait for, list by list.
+fn gather_all<O>(alloc: Global, lists: &[Incarnation<O>]) -> Result<Vec<Draw>, AllocError>
+    ensures { IfOk result (λ draws. (place : O → Place) → drawings_in draws.items ≡ drawings_of (waiting_of_all (held place lists.now))) }
+{
+    let mut draws = Vec::new(alloc);
+    for list in lists {
+        gather_unmarked(&mut draws, unmarked(&list.entries))?;
+    }
+    Ok(draws)
+}
+
+/// What all lists wait for, in the order of the writes' numbers.
+pub fn gather<O>(alloc: Global, lists: &[Incarnation<O>]) -> Result<Vec<Draw>, AllocError>
+    ensures all { IfOk result (λ draws. (place : O → Place) → IsPermutation (drawings_of (waiting_of_all (held place lists.now))) (drawings_in draws.items)) }
+    ensures rising { IfOk result (λ draws. IsNonDecreasingBy (λ (d : Draw). d.number) draws.items) }
+{
+    let mut draws = gather_all(alloc, lists)?;
+    draws.sort_unstable_by_key(|draw| draw.number);
+    Ok(draws)
+}

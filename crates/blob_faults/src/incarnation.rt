@@ -1,0 +1,126 @@
+//! What is pending of one incarnation, and which started syncs have a marker in it.
+ghost use Rattle.std.specs.Prelude.{◌≡◌, ◌≤◌, ◌==◌, drop, position, vec_len};
+ghost use Rattle.blob_faults.specs.Marks.{marks_of};
+ghost use Rattle.blob_faults.specs.Views.{views};
+
+use crate::entries;
+use crate::entry::Entry;
+use crate::room::Room;
+use blob_base::IoBufs;
+use std::alloc::{AllocError, Global};
+
+/// The pending list of one incarnation.
+#[derive(Drop)]
+pub struct Incarnation<O> {
+    pub origin: O,
+    /// Whether it was its name's current one when this was last noted.
+    pub was_current: bool,
+    pub entries: Vec<Entry>,
+    /// The numbers of the markers among the entries, in their order. A sync that isn't among them is finished with no look
+    /// at the entries.
+    pub marks: Vec<u64>,
+    ghost marked: { marks.items ≡ marks_of (views entries.items) },
+}
+
+/// Where a marker's number stands among others.
+fn place_of(marks: &[u64], marker: u64) -> Option<usize>
+    ensures { result ≡ position (λ mark. mark == marker) marks.now }
+{
+    marks.iter().position(|mark| *mark == marker)
+}
+
+/// The first numbers go.
+fn drop_front(marks: &mut Vec<u64>, count: usize)
+    requires { count ≤ vec_len marks.old }
+    ensures { marks.new.items ≡ drop count marks.old.items }
+{
+    marks.drain(..count);
+}
+
+impl<O> Incarnation<O> {
+    ghost use Rattle.std.specs.Prelude.{◌<◌, ◌+◌, ◌^◌, ◌++◌, ◌∷◌, ℕ, List, [], OnOk, false, true, length};
+    ghost use Rattle.blob_model.specs.Holes.{Holes};
+    ghost use Rattle.blob_model.specs.Pending.{Marker, laid, finished, has_barrier, is_marker};
+    ghost use Rattle.blob_faults.specs.Lists.{Becomes, HasRoom};
+    ghost use Rattle.blob_faults.specs.Rooms.{HasRoomsFor, CanCut, KeepsRest};
+    ghost use Rattle.blob_faults.specs.Views.{view};
+
+    /// Nothing is pending of it yet.
+    pub fn new(alloc: Global, origin: O) -> Incarnation<O>
+        ensures origin { result.origin ≡ origin }
+        ensures entries { result.entries.items ≡ [] }
+    {
+        Incarnation {
+            origin,
+            was_current: false,
+            entries: Vec::new(alloc),
+            marks: Vec::new(alloc),
+        }
+    }
+
+    /// Notes whether it is its name's current one.
+    pub fn note(&mut self, is_current: bool)
+        ensures origin { self.new.origin ≡ self.old.origin }
+        ensures entries { self.new.entries.items ≡ self.old.entries.items }
+        ensures noted { self.new.was_current ≡ is_current }
+    {
+        self.was_current = is_current;
+    }
+
+    /// Room for this. A refusal leaves the list as it was.
+    pub fn reserve(&mut self, room: Room) -> Result<(), AllocError>
+        ensures same { Becomes self.old self.new (views self.old.entries.items) }
+        ensures ok { OnOk result (HasRoom room self.new) }
+    {
+        match room {
+            Room::Entry => self.entries.reserve(1),
+            Room::Mark => {
+                self.marks.reserve(1)?;
+                self.entries.reserve(1)
+            }
+            Room::Ranges(start, end, count) => {
+                entries::reserve_ranges(&mut self.entries, start, end, count)
+            }
+        }
+    }
+
+    /// One more entry that is no marker, where there is room for it.
+    pub fn push(&mut self, entry: Entry)
+        requires room { HasRoom Room.Entry self.old }
+        requires unmarked { is_marker (view entry) ≡ false }
+        ensures { Becomes self.old self.new (views self.old.entries.items ++ view entry ∷ []) }
+    {
+        entries::push(&mut self.entries, entry);
+    }
+
+    /// A marker, where there is room for it.
+    pub fn mark(&mut self, number: u64)
+        requires { HasRoom Room.Mark self.old }
+        ensures { Becomes self.old self.new (views self.old.entries.items ++ Marker number ∷ []) }
+    {
+        self.marks.push(number).unwrap();
+        entries::push(&mut self.entries, Entry::Marker(number));
+    }
+
+    /// A durable range, where there is room for it. Only where it is queued its bytes have to be in `copy`.
+    pub fn lay(&mut self, offset: u64, len: u64, copy: IoBufs)
+        requires room { CanCut offset len (λ hs. HasRoomsFor hs self.old.entries) }
+        requires copied { length copy ≤ len }
+        ensures laid { (bytes : List ℕ) → length bytes ≡ len → (has_barrier (views self.old.entries.items) ≡ true → copy ≡ bytes) →
+            Becomes self.old self.new (laid offset bytes (views self.old.entries.items)) }
+        ensures origin { self.new.origin ≡ self.old.origin }
+        ensures room { KeepsRest offset len (λ hs. HasRoomsFor hs self.old.entries) (λ hs. HasRoomsFor hs self.new.entries) }
+    {
+        entries::lay(&mut self.entries, offset, len, copy);
+    }
+
+    /// A started sync is finished: its marker and what stands before it go, where it is there.
+    pub fn finish(&mut self, marker: u64)
+        ensures { Becomes self.old self.new (finished marker (views self.old.entries.items)) }
+    {
+        if let Some(i) = place_of(&self.marks, marker) {
+            drop_front(&mut self.marks, i + 1);
+            entries::finish(&mut self.entries, marker);
+        }
+    }
+}

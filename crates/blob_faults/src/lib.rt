@@ -1,0 +1,24 @@
+//! Faults: their configuration, their draws, and the pending lists that a crash goes by.
+#![tactic(auto)]
+
+pub mod cells;
+pub mod config;
+pub mod draw;
+pub mod entries;
+pub mod entry;
+pub mod faults;
+pub mod gather;
+pub mod holes;
+pub mod incarnation;
+pub mod lists;
+pub mod mode;
+pub mod room;
+pub mod rows;
+pub mod runs;
+pub mod selection;
+pub mod selections;
+pub mod write;
+
+pub use config::{Config, ResizeConfig, WriteConfig, write_config_from_cell};
+pub use mode::PartialWriteMode;
+pub use selections::Selections;

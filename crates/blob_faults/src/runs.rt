@@ -1,0 +1,62 @@
+//! The maximal runs of the kept bytes of a write.
+ghost use Rattle.std.specs.Prelude.{◌<◌};
+
+use std::alloc::{AllocError, Global};
+
+/// A maximal run of chosen positions, from `start` up to `end`, counted from the write's start.
+#[derive(Clone, Copy)]
+pub struct Span {
+    pub start: usize,
+    pub end: usize,
+    ghost some: { start < end },
+}
+
+impl Span {
+    ghost use Rattle.std.specs.Prelude.{◌≡◌, ◌≤◌, ◌+◌, ℕ, List, All, ◌^◌, length, reverse, slice_index, OnOk, IfOk};
+    ghost use Rattle.blob_model.specs.Runs.{runs, with_byte};
+    ghost use Rattle.blob_faults.specs.Spans.{pieces, ends_by};
+
+    /// A chosen position joins the runs behind it, of which the nearest is the last.
+    fn join(spans: &mut Vec<Span>, position: usize) -> Result<(), AllocError>
+        requires { position + 1 < 2 ^ 64 }
+        ensures pieces { OnOk result ((offset : ℕ) (bytes : List ℕ) → position < length bytes → pieces offset bytes (reverse spans.new.items) ≡ with_byte (offset + position) (slice_index bytes position) (pieces offset bytes (reverse spans.old.items))) }
+        ensures inside { OnOk result ((end : ℕ) → position < end → All (ends_by end) spans.old.items → All (ends_by end) spans.new.items) }
+    {
+        let run = Span {
+            start: position,
+            end: position + 1,
+        };
+        let count = spans.len();
+        if count == 0 {
+            spans.push(run)?;
+            return Ok(());
+        }
+        let next = spans[count - 1];
+        if next.start != position + 1 {
+            spans.push(run)?;
+            return Ok(());
+        }
+        spans[count - 1] = Span {
+            start: position,
+            end: next.end,
+        };
+        Ok(())
+    }
+
+    /// The maximal runs of the chosen positions, in rising order.
+    pub fn of(alloc: Global, chosen: &[bool]) -> Result<Vec<Span>, AllocError>
+        ensures pieces { IfOk result (λ spans. (offset : ℕ) (bytes : List ℕ) → length bytes ≡ length chosen.now → pieces offset bytes spans.items ≡ runs offset bytes chosen.now) }
+        ensures inside { IfOk result (λ spans. All (ends_by (length chosen.now)) spans.items) }
+    {
+        let mut spans = Vec::new(alloc);
+        let mut i = chosen.len();
+        while i > 0 {
+            i -= 1;
+            if chosen[i] {
+                Span::join(&mut spans, i)?;
+            }
+        }
+        spans.reverse();
+        Ok(spans)
+    }
+}

@@ -1,0 +1,111 @@
+//! Which bytes of a write are kept.
+ghost use Rattle.std.specs.Prelude.{◌≡◌, ◌<◌, ◌≤◌, ◌+◌, ◌%◌, ◌^◌, ◌||◌, ◌==◌, ◌++◌, List, [], true, false, length, replicate, if◌then◌else◌, IfOk, OnErr, vec_len, vec_capacity};
+ghost use Rattle.blob_model.specs.Draws.{front, each, sectors, positions};
+ghost use Rattle.blob_model.specs.Rates.{sampled};
+ghost use Rattle.blob_faults.specs.Drawings.{IsBlank};
+ghost use Rattle.blob_faults.specs.Modes.{mode_of};
+
+use crate::mode::PartialWriteMode;
+use blob_base::Probability;
+use rand_core::Rng;
+use std::alloc::{AllocError, Global};
+
+/// Each byte by itself.
+fn draw_each<R: Rng>(chosen: &mut Vec<bool>, rate: Probability, len: usize, rng: &mut R)
+    requires blank { IsBlank len chosen.old }
+    ensures { (chosen.new.items, R.stream rng.new) ≡ each rate len (R.stream rng.old) }
+{
+    for i in 0..len {
+        let _ = i;
+        chosen.push(rate.sample(rng)).unwrap();
+    }
+}
+
+/// So many bytes are lost.
+fn lose(chosen: &mut Vec<bool>, count: usize)
+    requires { vec_len chosen.old + count ≤ vec_capacity chosen.old }
+    ensures { chosen.new.items ≡ chosen.old.items ++ replicate count false }
+{
+    for i in 0..count {
+        let _ = i;
+        chosen.push(false).unwrap();
+    }
+}
+
+/// Byte by byte up to the first that is lost.
+fn draw_front<R: Rng>(chosen: &mut Vec<bool>, rate: Probability, len: usize, rng: &mut R)
+    requires blank { IsBlank len chosen.old }
+    ensures { (chosen.new.items, R.stream rng.new) ≡ front rate len (R.stream rng.old) }
+{
+    for i in 0..len {
+        if !rate.sample(rng) {
+            lose(chosen, len - i);
+            return;
+        }
+        chosen.push(true).unwrap();
+    }
+}
+
+/// The choice of the byte at a position: its sector's own, which is drawn at the write's first byte of it.
+fn draw_sector<R: Rng>(
+    rate: Probability,
+    size: u64,
+    position: u64,
+    first: bool,
+    last: bool,
+    rng: &mut R,
+) -> bool
+    requires { 0 < size }
+    ensures { (result, R.stream rng.new) ≡ (if first || (position % size == 0) then sampled rate (R.stream rng.old) else (last, R.stream rng.old)) }
+{
+    if first || position % size == 0 {
+        rate.sample(rng)
+    } else {
+        last
+    }
+}
+
+/// Each sector of the blob by itself.
+fn draw_sectors<R: Rng>(
+    chosen: &mut Vec<bool>,
+    rate: Probability,
+    size: u64,
+    offset: u64,
+    len: usize,
+    rng: &mut R,
+)
+    requires some { 0 < size }
+    requires fits { offset + len < 2 ^ 64 }
+    requires blank { IsBlank len chosen.old }
+    ensures { (chosen.new.items, R.stream rng.new) ≡ sectors rate size offset true false len (R.stream rng.old) }
+{
+    let mut last = false;
+    for i in 0..len {
+        last = draw_sector(rate, size, offset + i as u64, i == 0, last, rng);
+        chosen.push(last).unwrap();
+    }
+}
+
+/// The choices of `len` bytes at the logical `offset`, one a byte. All room is taken before the first draw.
+pub fn draw_positions<R: Rng>(
+    alloc: Global,
+    mode: PartialWriteMode,
+    rate: Probability,
+    offset: u64,
+    len: usize,
+    rng: &mut R,
+) -> Result<Vec<bool>, AllocError>
+    requires { offset + len < 2 ^ 64 }
+    ensures ok { IfOk result (λ chosen. (chosen.items, R.stream rng.new) ≡ positions (mode_of mode) rate offset len (R.stream rng.old)) }
+    ensures err { OnErr result (R.stream rng.new ≡ R.stream rng.old) }
+{
+    let mut chosen = Vec::with_capacity(alloc, len)?;
+    match mode {
+        PartialWriteMode::Prefix => draw_front(&mut chosen, rate, len, rng),
+        PartialWriteMode::Subset => draw_each(&mut chosen, rate, len, rng),
+        PartialWriteMode::Sectors(size) => {
+            draw_sectors(&mut chosen, rate, size.get(), offset, len, rng);
+        }
+    }
+    Ok(chosen)
+}

@@ -1,7 +1,0 @@
-use Rattle.std.proofs.Common.{◌≡◌, max, drop}
-use Rattle.blob_faulty.specs.Replays.{widest}
-use Rattle.blob_faulty.specs.Views.{views}
-use Rattle.blob_faulty.proofs.entries.widest.Given as goal
-
-abbrev pub invariant-loop-entry : goal.invariant-loop-entry
-invariant-loop-entry l = max l.most (widest (views (drop l.entry-index l.entries))) ≡ widest (views l.entries)

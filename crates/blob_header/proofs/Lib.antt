@@ -1,0 +1,9 @@
+pub mod Fronts
+pub mod Headers
+pub mod Linear
+pub mod NoneSide
+pub mod Reopening
+pub mod Resolutions
+pub mod Streams
+pub mod TableRules
+pub mod TornTest

@@ -1,0 +1,12 @@
+pub mod Checksum
+pub mod Fronts
+pub mod Header
+pub mod HeaderLaws
+pub mod Parse
+pub mod PartitionName
+pub mod Refusals
+pub mod Register
+pub mod ReplyLines
+pub mod Resolve
+pub mod Steps
+pub mod Versions

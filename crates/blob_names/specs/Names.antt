@@ -1,0 +1,29 @@
+-- A map of two levels as a function of partition and name.
+use Rattle.std.specs.Prelude.{ℕ, List, cond, Option, Some, None}
+use Rattle.std.specs.BTreeMap.{BTreeMap, get_by}
+use Rattle.std.specs.Ordering.{nat_cmp}
+use Rattle.std.specs.Cmp.Lexicographic.{slice_cmp}
+use Rattle.std.specs.Str.{bytes_eq}
+use Rattle.std.specs.String.{string_bytes}
+use Rattle.blob_names.specs.declared.names.Names.{Names}
+
+-- what a map has at the key of these bytes
+abbrev pub found : {K X : Type 0} → (K → List ℕ) → BTreeMap K X → List ℕ → Option X
+found bytes m bs = get_by (λ k. slice_cmp nat_cmp bs (bytes k)) m
+
+-- one step down, where there is something
+abbrev pub below : {M X : Type 0} → (M → List ℕ → Option X) → Option M → List ℕ → Option X
+below v None n = None
+below v (Some m) n = v m n
+
+-- the value of a name
+abbrev pub at : {V : Type 0} → Names V → List ℕ → List ℕ → Option V
+at s p n = below (found (λ k. k.items)) (found string_bytes s.partitions p) n
+
+-- one name's value made new
+abbrev pub with_at : {X : Type 0} → (List ℕ → List ℕ → X) → List ℕ → List ℕ → X → List ℕ → List ℕ → X
+with_at f p n value q m = cond (bytes_eq p q) (cond (bytes_eq n m) value (f q m)) (f q m)
+
+-- the values of a partition made new
+abbrev pub with_partition : {X : Type 0} → (List ℕ → List ℕ → X) → X → List ℕ → List ℕ → List ℕ → X
+with_partition f x p q m = cond (bytes_eq p q) x (f q m)

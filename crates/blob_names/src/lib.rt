@@ -1,0 +1,4 @@
+//! A map from the names of blobs.
+#![tactic(auto)]
+
+pub mod names;

@@ -1,0 +1,99 @@
+// A map from the names of blobs, looked up by borrowed texts, so that only a new name takes memory.
+ghost use Rattle.std.specs.Prelude.{◌≡◌, OnOk, OnErr, option_copied, None, Some, is_some};
+ghost use Rattle.std.specs.Bool.{OnTrue, OnFalse};
+ghost use Rattle.blob_names.specs.Names.{at, with_at, with_partition};
+
+use std::alloc::{AllocError, Global};
+use std::collections::BTreeMap;
+
+/// A value for each name in each partition.
+#[derive(Drop)]
+pub struct Names<V> {
+    pub(crate) partitions: BTreeMap<String, BTreeMap<Vec<u8>, V>>,
+    alloc: Global,
+}
+
+impl<V: Drop> Names<V> {
+    pub fn new(alloc: Global) -> Names<V>
+        ensures { at result ≡ (λ _ _. None) }
+    {
+        Names {
+            partitions: BTreeMap::new(alloc),
+            alloc,
+        }
+    }
+
+    pub fn get(&self, partition: &str, name: &[u8]) -> Option<&V>
+        ensures { option_copied result ≡ at self.now partition.now name.now }
+    {
+        match self.partitions.get(partition) {
+            None => None,
+            Some(names) => names.get(name),
+        }
+    }
+
+    /// Exchanges a name's value for the one that is handed in, and answers whether the name is there.
+    pub fn exchange(&mut self, partition: &str, name: &[u8], value: &mut V) -> bool
+        ensures found { result ≡ is_some (at self.old partition.now name.now) }
+        ensures given { OnTrue result (at self.new ≡ with_at (at self.old) partition.now name.now (Some value.old)) }
+        ensures taken { OnTrue result (at self.old partition.now name.now ≡ Some value.new) }
+        ensures same { OnFalse result (at self.new ≡ at self.old) }
+        ensures kept { OnFalse result (value.new ≡ value.old) }
+    {
+        let Some(names) = self.partitions.get_mut(partition) else {
+            return false;
+        };
+        let Some(kept) = names.get_mut(name) else {
+            return false;
+        };
+        std::mem::swap(kept, value);
+        true
+    }
+
+    /// Sets a name's value. Takes memory only for a name that isn't there.
+    pub fn insert(&mut self, partition: &str, name: &[u8], mut value: V) -> Result<(), AllocError>
+        ensures ok { OnOk result (at self.new ≡ with_at (at self.old) partition.now name.now (Some value)) }
+        ensures err { OnErr result (at self.new ≡ at self.old) }
+    {
+        if self.exchange(partition, name, &mut value) {
+            return Ok(());
+        }
+        self.add(partition, name, value)
+    }
+
+    fn add(&mut self, partition: &str, name: &[u8], value: V) -> Result<(), AllocError>
+        ensures ok { OnOk result (at self.new ≡ with_at (at self.old) partition.now name.now (Some value)) }
+        ensures err { OnErr result (at self.new ≡ at self.old) }
+    {
+        let key = Vec::from_slice(self.alloc, name)?;
+        if let Some(names) = self.partitions.get_mut(partition) {
+            names.insert(key, value)?;
+            return Ok(());
+        }
+        let text = String::from_str(self.alloc, partition)?;
+        let mut names = BTreeMap::new(self.alloc);
+        names.insert(key, value)?;
+        self.partitions.insert(text, names)?;
+        Ok(())
+    }
+
+    /// Takes a name out, and its partition with the last one.
+    pub fn remove(&mut self, partition: &str, name: &[u8])
+        ensures { at self.new ≡ with_at (at self.old) partition.now name.now None }
+    {
+        let Some(names) = self.partitions.get_mut(partition) else {
+            return;
+        };
+        names.remove(name);
+        if names.is_empty() {
+            self.partitions.remove(partition);
+        }
+    }
+
+    /// Takes out all names of a partition.
+    pub fn remove_partition(&mut self, partition: &str)
+        ensures { at self.new ≡ with_partition (at self.old) None partition.now }
+    {
+        self.partitions.remove(partition);
+    }
+}

@@ -1,0 +1,2 @@
+pub mod OpenHistory
+pub mod OpenNames

@@ -1,0 +1,2 @@
+pub mod OpenNames
+pub mod Opens

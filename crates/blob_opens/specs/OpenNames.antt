@@ -1,0 +1,73 @@
+-- Which names of blobs are open, by what was done to them. Of a list of deeds the newest comes first.
+use Rattle.std.specs.Prelude.{◌≡◌, ℕ, ◌+◌, ◌-◌, ◌^◌, List, [], ◌∷◌, ◌==◌, if◌then◌else◌, Option, Some, None, ◌<◌}
+use Rattle.hex.specs.Hex.{encode_lower}
+use Rattle.blob_header.specs.Refusals.{Refusal, BlobAlreadyOpen, GenerationsExhausted, Memory}
+use Rattle.blob_names.specs.Names.{with_at, with_partition}
+
+-- an accepted open: the name, and a number that no other open gets
+pub record Registration : Type 0 where
+  pub partition : List ℕ
+  pub name : List ℕ
+  pub number : ℕ
+
+pub record OpenNames : Type 0 where
+  -- the number of the open that a name is held by
+  pub registered : List ℕ → List ℕ → Option ℕ
+  -- the next open's number
+  pub next : ℕ
+
+pub data Deed : Type 0 where
+  -- an open of a name was accepted
+  Opened : List ℕ → List ℕ → Deed
+  -- the handle of that open was closed
+  Closed : Registration → Deed
+  -- a removal or replacement of a name succeeded, or with none of a whole partition
+  Ended : List ℕ → Option (List ℕ) → Deed
+  -- the store was built anew
+  Rebuilt : Deed
+
+abbrev pub opened : OpenNames → List ℕ → List ℕ → OpenNames
+opened s p n = record { registered = with_at s.registered p n (Some s.next); next = s.next + 1 }
+
+-- what holds a name, unless it is this open
+abbrev pub unless_number : ℕ → Option ℕ → Option ℕ
+unless_number k None = None
+unless_number k (Some m) = if m == k then None else Some m
+
+abbrev pub closed : OpenNames → Registration → OpenNames
+closed s r = record { registered = with_at s.registered r.partition r.name (unless_number r.number (s.registered r.partition r.name)); next = s.next }
+
+abbrev pub without : (List ℕ → List ℕ → Option ℕ) → List ℕ → Option (List ℕ) → List ℕ → List ℕ → Option ℕ
+without f p (Some n) = with_at f p n None
+without f p None = with_partition f None p
+
+abbrev pub ended : OpenNames → List ℕ → Option (List ℕ) → OpenNames
+ended s p n = record { registered = without s.registered p n; next = s.next }
+
+-- no name is open; numbers that were given aren't given again
+abbrev pub none_open : ℕ → OpenNames
+none_open next = record { registered = λ p n. None; next = next }
+
+-- A name is open where there was an accepted open of it, since when its handle wasn't closed, neither the name nor its
+-- partition was ended, and the store wasn't built anew.
+abbrev pub after : List Deed → OpenNames
+after [] = none_open 0
+after (Opened p n ∷ h) = opened (after h) p n
+after (Closed r ∷ h) = closed (after h) r
+after (Ended p n ∷ h) = ended (after h) p n
+after (Rebuilt ∷ h) = none_open (after h).next
+
+-- no number is left for an open of a name that isn't open: the greatest is never given
+pub record IsExhausted (s : OpenNames) (p n : List ℕ) : Type 0 where
+  pub free : s.registered p n ≡ None
+  pub last : s.next ≡ 2 ^ 64 - 1
+
+-- What an open of a name may answer. `asked` says that the store's own open answered so, `made` what that leaves in the
+-- store's files where it is accepted, `kept` what it leaves where it isn't, and `untouched` that the store wasn't asked.
+pub data OpenAnswer (s : OpenNames) (p n : List ℕ) (asked : Option Refusal → Type 0) (made kept untouched : Type 0) : Option Refusal → Type 0 where
+  Accepted : s.registered p n ≡ None → s.next < 2 ^ 64 - 1 → asked None → made → OpenAnswer s p n asked made kept untouched None
+  -- the store is asked first, and what its open made stays
+  Held : (number : ℕ) → s.registered p n ≡ Some number → asked None → made → OpenAnswer s p n asked made kept untouched (Some (BlobAlreadyOpen p (encode_lower n)))
+  Declined : (refusal : Refusal) → (IsExhausted s p n → ⊥) → asked (Some refusal) → kept → OpenAnswer s p n asked made kept untouched (Some refusal)
+  NoMemory : untouched → OpenAnswer s p n asked made kept untouched (Some Memory)
+  NoNumber : IsExhausted s p n → untouched → OpenAnswer s p n asked made kept untouched (Some GenerationsExhausted)

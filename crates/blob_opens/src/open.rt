@@ -1,0 +1,142 @@
+//! Handles of exclusive opens.
+ghost use Rattle.std.specs.Prelude.{◌≡◌, ◌≢◌, ◌+◌, ◌≤◌, ℕ, List, [], Bool, true, false, Option, Some, None, IsSome, OnOk, OnErr, IfOk, length, take, drop};
+ghost use Rattle.blob_model.specs.Bytes.{overlay, resized};
+ghost use Rattle.blob_model.specs.Directory.{is_current};
+ghost use Rattle.blob_model.specs.Durable.{changed};
+ghost use Rattle.blob_base.specs.Handles.{outcome_of};
+ghost use Rattle.blob_model.specs.Live.{live_written, live_after};
+ghost use Rattle.blob_base.specs.Options.{is_sync};
+ghost use Rattle.blob_header.specs.Refusals.{Refusal, refused, IsMemory};
+
+use blob_base::{Durable, Error, Handle, IoBufs, IoBufsMut, ReadOptions, WriteOptions};
+use std::marker::Model;
+
+/// An accepted open, by which its handle is told from all others.
+#[derive(Drop)]
+pub struct Registration {
+    pub(crate) partition: String,
+    pub(crate) name: Vec<u8>,
+    pub(crate) number: u64,
+}
+
+impl Model for Registration {
+    ghost use Rattle.std.specs.String.{string_bytes};
+    ghost use Rattle.blob_opens.specs.OpenNames.{Registration};
+
+    ghost Value = { Registration };
+
+    ghost view = { λ r. record { partition = string_bytes r.partition; name = r.name.items; number = r.number } };
+}
+
+/// A handle of a store whose name is open by it alone. It must be spent, by `Opens::close`.
+///
+/// It passes each call on to the store's own handle, and answers what that answers: nothing of a call is its own.
+pub struct Blob<B> {
+    pub inner: B,
+    pub registration: Registration,
+}
+
+impl<B> Blob<B> {
+    ghost use Rattle.blob_opens.specs.Opens.{inner_of};
+
+    /// The store's own handle, for what isn't a call of the traits, as a wrapper's tracked size.
+    pub fn inner(&self) -> &B
+        ensures { result.now ≡ inner_of self.now }
+    {
+        &self.inner
+    }
+}
+
+impl<S: Durable, B: blob_base::Blob<S>> blob_base::Blob<S> for Blob<B> {
+    ghost use Rattle.blob_opens.specs.Opens.{registration_of};
+
+    ghost live = { λ b. B.live b.inner };
+
+    ghost place = { λ b. B.place b.inner };
+
+    ghost room = { λ b. B.room b.inner };
+
+    ghost live_room = { λ b. B.live_room b.inner };
+
+    ghost is_direct = { B.is_direct };
+
+    ghost allows_read = { λ b. B.allows_read b.inner };
+
+    ghost allows_write = { λ b. B.allows_write b.inner };
+
+    ghost allows_resize = { λ b. B.allows_resize b.inner };
+
+    ghost allows_sync = { λ b. B.allows_sync b.inner };
+
+    ghost allows_start_sync = { λ b. B.allows_start_sync b.inner };
+
+    ghost allows_reserve = { λ b. B.allows_reserve b.inner };
+
+    // what the store's own handle leaves; it stays the handle of the same open
+    ghost leaves = { λ call b before answer c after. B.leaves call b.inner before answer c.inner after × (registration_of c ≡ registration_of b) };
+
+    ghost stale_refused = { λ b. B.stale_refused b.inner };
+
+    ghost uninjected = { λ b. B.uninjected b.inner };
+
+    ghost resize_uninjected = { λ b. B.resize_uninjected b.inner };
+
+    ghost within_room = { λ b. B.within_room b.inner };
+
+    ghost done_within = { λ b. B.done_within b.inner };
+
+    ghost plain_done_within = { λ b. B.plain_done_within b.inner };
+
+    ghost reserve_refused = { λ b. B.reserve_refused b.inner };
+
+    fn read_at(
+        &self,
+        store: &mut S,
+        offset: u64,
+        len: usize,
+        options: ReadOptions,
+    ) -> Result<IoBufsMut, Error> {
+        self.inner.read_at(store, offset, len, options)
+    }
+
+    fn read_at_buf(
+        &self,
+        store: &mut S,
+        offset: u64,
+        len: usize,
+        buf: IoBufsMut,
+        options: ReadOptions,
+    ) -> Result<IoBufsMut, Error> {
+        self.inner.read_at_buf(store, offset, len, buf, options)
+    }
+
+    fn write_at(
+        &mut self,
+        store: &mut S,
+        offset: u64,
+        bytes: IoBufs,
+        options: WriteOptions,
+    ) -> Result<(), Error> {
+        self.inner.write_at(store, offset, bytes, options)
+    }
+
+    fn resize(&mut self, store: &mut S, len: u64) -> Result<(), Error> {
+        self.inner.resize(store, len)
+    }
+
+    fn sync(&mut self, store: &mut S) -> Result<(), Error> {
+        self.inner.sync(store)
+    }
+
+    fn start_sync(&mut self, store: &mut S) -> Handle {
+        self.inner.start_sync(store)
+    }
+
+    fn reserve(&mut self, store: &mut S, end: u64) -> Result<(), Error> {
+        self.inner.reserve(store, end)
+    }
+
+    fn origin(&self) -> Result<S::Origin, Error> {
+        self.inner.origin()
+    }
+}

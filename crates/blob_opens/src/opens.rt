@@ -1,0 +1,208 @@
+//! Exclusive opens.
+ghost use Rattle.std.specs.Prelude.{◌≡◌, ◌≢◌, ◌≤◌, ◌+◌, ◌-◌, ◌^◌, ◌⊎◌, ℕ, Some, None, OnOk, OnErr, IfOk, IfErr, length, option_copied, is_some, false, ◌<◌};
+ghost use Rattle.std.specs.Range.{range_inclusive_start, range_inclusive_end, range_inclusive_exhausted};
+ghost use Rattle.hex.specs.Hex.{encode_lower};
+ghost use Rattle.blob_model.specs.Durable.{durable_without};
+ghost use Rattle.blob_model.specs.Opening.{IsOpened, removed};
+ghost use Rattle.blob_header.specs.Refusals.{refused, refusal_of, Memory, BlobAlreadyOpen, GenerationsExhausted, IsMemory};
+ghost use Rattle.blob_opens.specs.OpenNames.{opened, closed, ended, none_open, IsExhausted, OpenAnswer};
+ghost use Rattle.blob_names.specs.Names.{with_at};
+ghost use Rattle.blob_opens.specs.Opens.{names_of, registration_of, inner_of, IsMade};
+
+pub mod history;
+
+use crate::open::{Blob, Registration};
+use blob_base::{BlobVersion, Error, Storage};
+use blob_names::names::Names;
+use std::alloc::Global;
+use std::ops::RangeInclusive;
+
+/// Which names are open, so that each has one handle at a time.
+#[derive(Drop)]
+pub struct Opens {
+    pub(crate) names: Names<u64>,
+    pub(crate) next: u64,
+    alloc: Global,
+}
+
+impl Opens {
+    /// No name is open.
+    pub fn new(alloc: Global) -> Opens
+        ensures { names_of result ≡ none_open 0 }
+    {
+        Opens {
+            names: Names::new(alloc),
+            next: 0,
+            alloc,
+        }
+    }
+
+    /// Opens a blob that isn't open yet, and answers its handle, its size in logical bytes and its version. The store's own open
+    /// comes first. The caller hands a range of versions that isn't empty and wasn't iterated to its end.
+    ///
+    /// # Errors
+    ///
+    /// `GenerationsExhausted` where the name isn't open and no number is left: the store isn't asked. Then what the store's open
+    /// refuses, also where the name is open. Then `BlobAlreadyOpen` where the name is open: what the store's open drew and made
+    /// stays. `Memory` also where there is no room for the registration or for the texts of a refusal. After each the same names
+    /// are open.
+    pub fn open<S: Storage>(
+        &mut self,
+        store: &mut S,
+        partition: &str,
+        name: &[u8],
+        versions: RangeInclusive<BlobVersion>,
+    ) -> Result<(Blob<S::Blob>, u64, BlobVersion), Error>
+        requires fresh { range_inclusive_exhausted versions ≡ false }
+        requires some { (range_inclusive_start versions).0 ≤ (range_inclusive_end versions).0 }
+        ensures answer { OpenAnswer (names_of self.old) partition.now name.now (λ answer. S.allows_open store.old partition.now name.now (range_inclusive_start versions).0 (range_inclusive_end versions).0 answer × S.leaves_open store.old partition.now name.now (range_inclusive_start versions).0 (range_inclusive_end versions).0 answer store.new) (IsMade (S.directory store.old) (S.durable store.old) (S.directory store.new) (S.durable store.new) partition.now name.now (range_inclusive_start versions).0 (range_inclusive_end versions).0) ((S.directory store.new ≡ S.directory store.old) × (S.durable store.new ≡ S.durable store.old)) (store.new ≡ store.old) (refused result) }
+        ensures exhausted { IsExhausted (names_of self.old) partition.now name.now → refused result ≡ Some GenerationsExhausted }
+        ensures registered { OnOk result (names_of self.new ≡ opened (names_of self.old) partition.now name.now) }
+        ensures err { OnErr result (names_of self.new ≡ names_of self.old) }
+        ensures handle { IfOk result (λ opened. registration_of opened.0 ≡ record { partition = partition.now; name = name.now; number = (names_of self.old).next }) }
+        ensures opened { IfOk result (λ opened. IsOpened (S.directory store.old) (S.durable store.old) (S.directory store.new) (S.durable store.new) partition.now name.now (range_inclusive_start versions).0 (range_inclusive_end versions).0 (S.Blob.place (inner_of opened.0)) (S.Blob.live (inner_of opened.0)) opened.2.0) }
+        ensures size { IfOk result (λ opened. opened.1 ≡ length (S.Blob.live (inner_of opened.0))) }
+        ensures kept_size { IfOk result (λ opened. S.keeps_size (inner_of opened.0) opened.1) }
+    {
+        if self.held_by(partition, name).is_some() {
+            let refusal = self.already_open(partition, name)?;
+            store.open_versioned(partition, name, versions)?;
+            return Err(refusal);
+        }
+        let registration = self.register(partition, name)?;
+        match store.open_versioned(partition, name, versions) {
+            Ok((inner, size, version)) => {
+                self.next += 1;
+                let blob = Blob {
+                    inner,
+                    registration,
+                };
+                Ok((blob, size, version))
+            }
+            Err(e) => {
+                self.withdraw(&registration);
+                Err(e)
+            }
+        }
+    }
+
+    /// Removes a blob, or with no name a partition, from the store. Answered `Ok`, none of these names is open any more; their
+    /// handles are stale, and still have to be closed.
+    ///
+    /// # Errors
+    ///
+    /// As the store's removal. The same names are open.
+    pub fn remove<S: Storage>(
+        &mut self,
+        store: &mut S,
+        partition: &str,
+        name: Option<&[u8]>,
+    ) -> Result<(), Error>
+        ensures allowed { S.allows_remove store.old partition.now (option_copied name.entry) (refused result) }
+        ensures leaves { S.leaves_remove store.old partition.now (option_copied name.entry) (refused result) store.new }
+        ensures directory { OnOk result (S.directory store.new ≡ removed (S.directory store.old) partition.now (option_copied name.entry)) }
+        ensures durable { OnOk result (S.durable store.new ≡ durable_without (S.durable store.old) partition.now (option_copied name.entry)) }
+        ensures kept { OnErr result ((S.directory store.new ≡ S.directory store.old) × (S.durable store.new ≡ S.durable store.old)) }
+        ensures ended { OnOk result (names_of self.new ≡ ended (names_of self.old) partition.now (option_copied name.entry)) }
+        ensures err { OnErr result (names_of self.new ≡ names_of self.old) }
+    {
+        store.remove(partition, name)?;
+        self.end(partition, name);
+        Ok(())
+    }
+
+    /// Calls the closure once and answers what it answered. After an `Ok` the name, or with none the whole partition,
+    /// isn't open any more; after an `Err` the same names are open.
+    pub fn replace<R, F: FnOnce() -> Result<R, Error>>(
+        &mut self,
+        partition: &str,
+        name: Option<&[u8]>,
+        call: F,
+    ) -> Result<R, Error>
+        requires { F.pre call }
+        ensures answer { F.post call result }
+        ensures ended { OnOk result (names_of self.new ≡ ended (names_of self.old) partition.now (option_copied name.entry)) }
+        ensures err { OnErr result (names_of self.new ≡ names_of self.old) }
+    {
+        let replaced = call()?;
+        self.end(partition, name);
+        Ok(replaced)
+    }
+
+    /// Closes a handle. Its name isn't open any more where it was open by this handle; where it was removed and opened again by
+    /// another, that stays. Never refused, and takes no memory. What isn't synced is dropped with the live bytes.
+    pub fn close<B: Drop>(&mut self, blob: Blob<B>)
+        ensures { names_of self.new ≡ closed (names_of self.old) (registration_of blob) }
+    {
+        let Blob {
+            inner: _,
+            registration,
+        } = blob;
+        if self.held_by(&registration.partition, &registration.name) == Some(registration.number) {
+            self.withdraw(&registration);
+        }
+    }
+
+    /// Ends all opens, of a store that is built anew. Numbers aren't given again.
+    pub fn end_all(&mut self)
+        ensures { names_of self.new ≡ none_open (names_of self.old).next }
+    {
+        self.names = Names::new(self.alloc);
+    }
+
+    /// What refuses an open of this name while it is open. The only error is `Memory`.
+    fn already_open(&self, partition: &str, name: &[u8]) -> Result<Error, Error>
+        ensures ok { IfOk result (λ e. refusal_of e ≡ BlobAlreadyOpen partition.now (encode_lower name.now)) }
+        ensures err { OnErr result (IsMemory result) }
+    {
+        let partition = String::from_str(self.alloc, partition)?;
+        let name = hex::encode(self.alloc, name)?;
+        Ok(Error::BlobAlreadyOpen(partition, name))
+    }
+
+    /// The number of the open that a name is held by.
+    fn held_by(&self, partition: &str, name: &[u8]) -> Option<u64>
+        ensures { result ≡ (names_of self.now).registered partition.now name.now }
+    {
+        self.names.get(partition, name).copied()
+    }
+
+    /// Registers a name that isn't open under the next number, which isn't counted yet.
+    fn register(&mut self, partition: &str, name: &[u8]) -> Result<Registration, Error>
+        requires { (names_of self.old).registered partition.now name.now ≡ None }
+        ensures ok { IfOk result (λ r. r ≡ record { partition = partition.now; name = name.now; number = (names_of self.old).next }) }
+        ensures left { OnOk result ((names_of self.old).next < 2 ^ 64 - 1) }
+        ensures registered { OnOk result (names_of self.new ≡ record { registered = with_at (names_of self.old).registered partition.now name.now (Some (names_of self.old).next); next = (names_of self.old).next }) }
+        ensures exhausted { (names_of self.old).next ≡ 2 ^ 64 - 1 → refused result ≡ Some GenerationsExhausted }
+        ensures refused { IfErr result (λ e. (refusal_of e ≡ Memory) ⊎ ((refusal_of e ≡ GenerationsExhausted) × ((names_of self.old).next ≡ 2 ^ 64 - 1))) }
+        ensures err { OnErr result (names_of self.new ≡ names_of self.old) }
+    {
+        if self.next == u64::MAX {
+            return Err(Error::GenerationsExhausted);
+        }
+        let registration = Registration {
+            partition: String::from_str(self.alloc, partition)?,
+            name: Vec::from_slice(self.alloc, name)?,
+            number: self.next,
+        };
+        self.names.insert(partition, name, self.next)?;
+        Ok(registration)
+    }
+
+    /// Ends the open of a name.
+    fn withdraw(&mut self, registration: &Registration)
+        ensures { names_of self.new ≡ ended (names_of self.old) registration.now.partition (Some registration.now.name) }
+    {
+        self.names
+            .remove(&registration.partition, &registration.name);
+    }
+
+    fn end(&mut self, partition: &str, name: Option<&[u8]>)
+        ensures { names_of self.new ≡ ended (names_of self.old) partition.now (option_copied name.entry) }
+    {
+        match name {
+            Some(name) => self.names.remove(partition, name),
+            None => self.names.remove_partition(partition),
+        }
+    }
+}
