@@ -13,6 +13,10 @@ use crate::{Blob, Durable, IoBufs, Storage, WriteOptions};
 use blob_header::Error;
 
 /// A plain write and a sync: the written bytes are durable, and of other incarnations nothing changed.
+///
+/// # Errors
+///
+/// What the write or the sync answers. Refused by the sync, the write stays in the live bytes.
 pub fn write_and_sync<S: Durable, B: Blob<S>>(
     store: &mut S,
     blob: &mut B,
@@ -31,6 +35,10 @@ pub fn write_and_sync<S: Durable, B: Blob<S>>(
 }
 
 /// A resize and a started sync, which is finished.
+///
+/// # Errors
+///
+/// What the resize answers, or the outcome of the sync. No durable byte changes; refused by the sync, the resize stays live.
 pub fn resize_and_start_sync<S: Storage, B: Blob<S>>(
     store: &mut S,
     blob: &mut B,
@@ -52,6 +60,10 @@ pub fn resize_and_start_sync<S: Storage, B: Blob<S>>(
 }
 
 /// A SYNC write and the removal of the blob's name.
+///
+/// # Errors
+///
+/// What the write or the removal answers. Refused by the removal, the write stays.
 pub fn write_and_remove<S: Storage, B: Blob<S>>(
     store: &mut S,
     blob: &mut B,
@@ -78,6 +90,10 @@ pub fn write_and_remove<S: Storage, B: Blob<S>>(
 }
 
 /// A SYNC write within reserved room by a current handle of a store that injects nothing is done.
+///
+/// # Errors
+///
+/// What the reservation answers; no byte changes. The inner result, of the write, is Ok.
 pub fn write_within_room<S: Durable, B: Blob<S>>(
     store: &mut S,
     blob: &mut B,
@@ -102,6 +118,10 @@ pub fn write_within_room<S: Durable, B: Blob<S>>(
 }
 
 /// A plain write within reserved room by a handle, a stale one too, of a store that injects nothing is done.
+///
+/// # Errors
+///
+/// What the reservation answers; no byte changes. The inner result, of the write, is Ok.
 pub fn plain_write_within_room<S: Durable, B: Blob<S>>(
     store: &mut S,
     blob: &mut B,

@@ -59,8 +59,8 @@ pub trait Durable {
 /// answered Ok and change that store.
 ///
 /// Each call may be refused with `Memory` in place of any other answer, and then changes nothing but a wrapper's generator. A
-/// wrapper adds `Injected`, before it asks the store inside; what else it may answer its own docs say. What each implementation
-/// refuses, in which order and with what it leaves, is in docs/BEHAVIOUR.md.
+/// wrapper adds `Injected`, and for a failed write or resize may have done a part by then; what else it may answer its own docs
+/// say. What each implementation refuses, in which order and with what it leaves, is in docs/BEHAVIOUR.md.
 pub trait Blob<S: Durable> {
     // the bytes that a read sees
     ghost live: { Self → List ℕ };

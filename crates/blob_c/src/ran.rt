@@ -22,7 +22,9 @@ pub const UNPRINTED: u32 = 7;
 #[repr(C)]
 #[derive(Clone, Copy)]
 pub struct Ran {
+    /// One of the statuses above.
     pub status: u32,
+    /// In bytes; with `NO_ROOM` the room that is wanted.
     pub len: usize,
 }
 
@@ -30,8 +32,11 @@ pub struct Ran {
 #[repr(C)]
 #[derive(Clone, Copy)]
 pub struct ScriptRan {
+    /// One of the statuses above.
     pub status: u32,
+    /// In bytes; with `NO_ROOM` the room that is wanted.
     pub len: usize,
+    /// With `BAD_LINE` the line's number, else 0.
     pub line: u64,
 }
 

@@ -9,6 +9,7 @@ pub struct Selections {
 }
 
 impl Selections {
+    /// The choices with these rows.
     pub fn new(rows: Vec<(u64, Vec<bool>)>) -> Selections
         ensures { rows_of result ≡ rows.items }
     {

@@ -60,7 +60,12 @@ impl<R: Rng> Storage<blob_memory::Storage, R> {
         Ok(opened)
     }
 
-    /// The same for the default version alone.
+    /// Opens the blob for the default version alone, and admits it: what is pending of it is retired, so that no crash loses what
+    /// the handle found.
+    ///
+    /// # Errors
+    ///
+    /// As `open`. Nothing is retired then.
     pub fn open_admitted(
         &mut self,
         partition: &str,

@@ -55,8 +55,8 @@ impl Lab {
         Lab::drawing(images, ScriptedRng::new(words), config)
     }
 
-    /// The same with a generator that has the words of `Xoshiro256PlusPlus::seed_from_u64(seed)` behind the given ones. The
-    /// only error is `Memory`.
+    /// A laboratory over these raw images (partition, name and bytes), set in order before the store is wrapped. The
+    /// generator has these words, and behind them those of `Xoshiro256PlusPlus::seed_from_u64(seed)`. The only error is `Memory`.
     pub fn seeded(
         images: Vec<(String, Vec<u8>, Vec<u8>)>,
         words: Vec<u64>,

@@ -13,7 +13,9 @@ use std::alloc::{AllocError, Global};
 /// What a session of a log found when it opened it, and which of its appends were answered Ok.
 #[derive(Drop)]
 pub struct Session {
+    /// The records that it found, in order.
     pub before: Vec<Vec<u8>>,
+    /// For each record that it appended, in order, whether that was answered Ok.
     pub answers: Vec<bool>,
 }
 
@@ -63,7 +65,12 @@ pub fn sessions_survive<R: Rng>(
     Ok((done, before))
 }
 
-/// The same over a new store.
+/// Opens a log over a new store and, for each list of records, appends them, crashes, and opens what is left. Of each session
+/// all that it found and all that was answered Ok, in order, is at the front of what is found in the end.
+///
+/// # Errors
+///
+/// What an open, a read or a crash is refused for, and `Memory`.
 pub fn sessions_survive_anew<R: Rng + Drop>(
     alloc: Global,
     rng: R,

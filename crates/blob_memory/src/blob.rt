@@ -149,7 +149,7 @@ impl blob_base::Blob<Storage> for Blob {
     ///
     /// # Errors
     ///
-    /// `OffsetOverflow`, then `BlobInsufficientLength` where the range goes past the live bytes, then `Memory`.
+    /// `OffsetOverflow`, then `BlobInsufficientLength` where the range goes past the live bytes, then `Memory`. Nothing changes.
     fn read_at(
         &self,
         store: &mut Storage,
@@ -169,7 +169,7 @@ impl blob_base::Blob<Storage> for Blob {
     ///
     /// # Errors
     ///
-    /// `OffsetOverflow`, then `BlobInsufficientLength` where the range goes past the live bytes.
+    /// `OffsetOverflow`, then `BlobInsufficientLength` where the range goes past the live bytes. The buffer is dropped.
     fn read_at_buf(
         &self,
         store: &mut Storage,
@@ -222,7 +222,7 @@ impl blob_base::Blob<Storage> for Blob {
     ///
     /// # Errors
     ///
-    /// `OffsetOverflow`, then `Memory`.
+    /// `OffsetOverflow`, then `Memory`. Nothing changes.
     fn resize(&mut self, store: &mut Storage, len: u64) -> Result<(), Error> {
         let _ = store;
         let len = live::logical_end(self.origin.data_offset(), len, 0)?;
@@ -234,7 +234,7 @@ impl blob_base::Blob<Storage> for Blob {
     ///
     /// # Errors
     ///
-    /// `BlobMissing` by a stale handle; `Memory` where the durable bytes have no room.
+    /// `BlobMissing` by a stale handle; `Memory` where the durable bytes have no room. No durable byte changes.
     fn sync(&mut self, store: &mut Storage) -> Result<(), Error> {
         if !store.contents.is_current(&self.origin) {
             return Err(self.missing()?);
@@ -244,6 +244,10 @@ impl blob_base::Blob<Storage> for Blob {
     }
 
     /// Syncs at once. The handle has the outcome and no marker, and may be dropped.
+    ///
+    /// # Errors
+    ///
+    /// The outcome is what `sync` answers: `BlobMissing` by a stale handle, or `Memory`. No durable byte changes then.
     fn start_sync(&mut self, store: &mut Storage) -> Handle {
         Handle::ready(self.sync(store))
     }

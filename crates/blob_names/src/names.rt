@@ -14,6 +14,7 @@ pub struct Names<V> {
 }
 
 impl<V: Drop> Names<V> {
+    /// No name has a value. Takes no memory.
     pub fn new(alloc: Global) -> Names<V>
         ensures { at result ≡ (λ _ _. None) }
     {
@@ -23,6 +24,7 @@ impl<V: Drop> Names<V> {
         }
     }
 
+    /// The value of a name; none where it isn't there.
     pub fn get(&self, partition: &str, name: &[u8]) -> Option<&V>
         ensures { option_copied result ≡ at self.now partition.now name.now }
     {
@@ -50,7 +52,8 @@ impl<V: Drop> Names<V> {
         true
     }
 
-    /// Sets a name's value. Takes memory only for a name that isn't there.
+    /// Sets a name's value. Takes memory only for a name that isn't there. The only error is want of memory, and leaves everything
+    /// as it was.
     pub fn insert(&mut self, partition: &str, name: &[u8], mut value: V) -> Result<(), AllocError>
         ensures ok { OnOk result (at self.new ≡ with_at (at self.old) partition.now name.now (Some value)) }
         ensures err { OnErr result (at self.new ≡ at self.old) }

@@ -32,7 +32,9 @@ impl Model for Registration {
 ///
 /// It passes each call on to the store's own handle, and answers what that answers: nothing of a call is its own.
 pub struct Blob<B> {
+    /// The store's own handle.
     pub inner: B,
+    /// By which `Opens::close` knows the open that this is the handle of.
     pub registration: Registration,
 }
 
@@ -89,6 +91,7 @@ impl<S: Durable, B: blob_base::Blob<S>> blob_base::Blob<S> for Blob<B> {
 
     ghost reserve_refused = { λ b. B.reserve_refused b.inner };
 
+    /// The read of the store's own handle, with its errors.
     fn read_at(
         &self,
         store: &mut S,
@@ -99,6 +102,7 @@ impl<S: Durable, B: blob_base::Blob<S>> blob_base::Blob<S> for Blob<B> {
         self.inner.read_at(store, offset, len, options)
     }
 
+    /// The read into a buffer of the store's own handle, with its errors.
     fn read_at_buf(
         &self,
         store: &mut S,
@@ -110,6 +114,7 @@ impl<S: Durable, B: blob_base::Blob<S>> blob_base::Blob<S> for Blob<B> {
         self.inner.read_at_buf(store, offset, len, buf, options)
     }
 
+    /// The write of the store's own handle, with its errors and what they leave.
     fn write_at(
         &mut self,
         store: &mut S,
@@ -120,22 +125,27 @@ impl<S: Durable, B: blob_base::Blob<S>> blob_base::Blob<S> for Blob<B> {
         self.inner.write_at(store, offset, bytes, options)
     }
 
+    /// The resize of the store's own handle, with its errors and what they leave.
     fn resize(&mut self, store: &mut S, len: u64) -> Result<(), Error> {
         self.inner.resize(store, len)
     }
 
+    /// The sync of the store's own handle, with its errors.
     fn sync(&mut self, store: &mut S) -> Result<(), Error> {
         self.inner.sync(store)
     }
 
+    /// The started sync of the store's own handle, with its outcome, to be given to the store's `finish`.
     fn start_sync(&mut self, store: &mut S) -> Handle {
         self.inner.start_sync(store)
     }
 
+    /// The reservation of the store's own handle, with its errors.
     fn reserve(&mut self, store: &mut S, end: u64) -> Result<(), Error> {
         self.inner.reserve(store, end)
     }
 
+    /// The incarnation that the store's own handle was opened on. The only error is `Memory`.
     fn origin(&self) -> Result<S::Origin, Error> {
         self.inner.origin()
     }
