@@ -58,10 +58,13 @@ lives() {
 compiler=${CC:-cc}
 if command -v "$compiler" >/dev/null; then
     build="$compiler -std=c11 -Wall -Wextra -Werror -O2 -I$top/bindings/c"
-    for program in lines log; do
+    for program in first lines log; do
         $build -o "$work/$program" "$top/bindings/c/$program.c" "$top/out/libblobcrash.a" >"$work/out" 2>"$work/err"
         tell $? "C: $program.c"
     done
+    "$work/first" >"$work/out" 2>"$work/err"
+    [ "$(cat "$work/out")" = 'crashed 0:111111' ]
+    tell $? 'C: the example of the page'
     answers 'C, line by line' "$work/lines"
     answers 'C, at once' "$work/lines" --whole
     lives C "$work/log"

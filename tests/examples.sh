@@ -1,7 +1,8 @@
 #!/bin/sh
 # The examples: each examples/NAME.script prints NAME.out to the byte; the log in Python keeps its promise over 1,000 seeds, and
 # breaks it where it forgets its sync, which is shown by a short script and what it prints; each command on the pages prints
-# what stands below it there, and their Python runs. The last line is `N passed, M failed`.
+# what stands below it there, their Python runs, and their tables of lines have these replies. The last line is
+# `N passed, M failed`.
 set -u
 
 top=$(CDPATH='' cd -- "$(dirname -- "$0")/.." && pwd -P)

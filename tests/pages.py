@@ -1,5 +1,5 @@
-"""Runs each command of a page, `    $ COMMAND`, and compares what it prints with the lines below it there; and runs each indented
-block of Python, which begins with an import, with the modules of examples/."""
+"""Runs each command of a page, `    $ COMMAND`, and compares what it prints with the lines below it there; runs each indented block of
+Python, which begins with an import, with the modules of examples/; and runs each table of lines with their replies as a script."""
 
 import difflib
 import os
@@ -34,6 +34,20 @@ def programs(lines):
     return ["\n".join(block) + "\n" for block in found]
 
 
+def tables(lines):
+    """The tables of a script's lines and their replies, as pairs of both."""
+    found, inside = [], False
+    for line in lines:
+        if line.startswith("| line | reply |"):
+            found.append([])
+            inside = True
+        elif inside and line.startswith("| `"):
+            found[-1].append([cell.strip().strip("`") for cell in line.split("|")[1:3]])
+        elif inside and not line.startswith("|"):
+            inside = False
+    return [([row[0] for row in table], [row[1] for row in table]) for table in found]
+
+
 def trimmed(lines):
     lines = [line.rstrip() for line in lines]
     while lines and not lines[-1]:
@@ -52,6 +66,13 @@ def main(page):
             failed += 1
             print(f"{page}: $ {command}")
             print("\n".join(difflib.unified_diff(trimmed(wanted), printed, "page", "printed", lineterm="")))
+            print(run.stderr)
+    for script, wanted in tables(lines):
+        run = subprocess.run(["./blobcrash"], input="\n".join(script), stdout=subprocess.PIPE, stderr=subprocess.PIPE, text=True)
+        if run.stdout.splitlines() != wanted:
+            failed += 1
+            print(f"{page}: a table that begins with {script[0]}")
+            print("\n".join(difflib.unified_diff(wanted, run.stdout.splitlines(), "page", "printed", lineterm="")))
             print(run.stderr)
     environment = dict(os.environ, PYTHONPATH="examples")
     for program in programs(lines):
