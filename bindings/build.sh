@@ -25,7 +25,7 @@ if is_built "$out/libblobcrash.a" && { [ -z "$compiler" ] || is_built "$out/libb
 fi
 mkdir -p "$out"
 : >"$out/bindings.began"
-echo "build.sh: building the library, which proves it first (some minutes on first use)" >&2
+echo "build.sh: building the library, which proves it first (tens of minutes on first use)" >&2
 if ! (cd "$top/crates/blob_c" && exec "$rt" lib) </dev/null >"$out/bindings.log" 2>&1; then
     cat "$out/bindings.log" >&2
     echo "build.sh: the build failed" >&2

@@ -202,7 +202,7 @@ chmod +x out/blobcrash
 echo "what a build prints"
 TOOL
 chmod +x "$tools/rt"
-notice='blobcrash: building, which proves the program first (some minutes on first use)'
+notice='blobcrash: building, which proves the program first (tens of minutes on first use)'
 
 launch() { PATH=$tools:$PATH "$copy/blobcrash" "$@"; }
 launch one 'two words' </dev/null >"$work/first" 2>"$work/first.err" &
