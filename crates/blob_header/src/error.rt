@@ -27,8 +27,9 @@ pub enum Error {
     /// A removal or a scan of a partition that isn't there. An open makes it instead.
     #[error("partition missing: {0}")]
     PartitionMissing(String),
-    /// A removal of a name that isn't there; a sync, a started sync or a SYNC write by a stale handle,
-    /// whose incarnation was removed, overwritten or ended by a rebuilt store.
+    /// A removal of a name that isn't there; by a stale handle, whose incarnation was removed, overwritten
+    /// or ended by a rebuilt store, a sync, a started sync, a SYNC write, or a wrapper's failed write that
+    /// keeps a run.
     #[error("blob missing: {0}/{1}")]
     BlobMissing(String, String),
     /// An exclusive open of a name that is open, or an admission of one whose open isn't closed. Stores

@@ -27,13 +27,15 @@ pub enum Line {
     Seed(u64),
     /// A change of the configuration, after which the whole of it is handed to `Call::Configure`.
     Configure(Setting),
+    /// Any other call.
     Call(Call),
 }
 
 /// Reads a line, without its end. Whether a preamble line may stand here is the caller's to tell.
 ///
 /// `BadCall` where it isn't UTF-8, its first token is no word of a script, a token is missing or surplus, or a number is out
-/// of range. Tokens are parted by spaces alone, and a `#` at the start of the first one begins a comment.
+/// of range; `NoMemory` where none was found for its texts. Tokens are parted by spaces alone, and a `#` at the start of the
+/// first one begins a comment.
 pub fn read_line(alloc: Global, line: &[u8]) -> Result<Line, RefusedLine>
     ensures ok { IfOk result (λ read. line_of line.now ≡ Some (said_by read)) }
     ensures bad { result ≡ Err RefusedLine.BadCall → line_of line.now ≡ None }

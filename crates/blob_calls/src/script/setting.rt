@@ -10,12 +10,19 @@ use blob_faults::{Config, PartialWriteMode, ResizeConfig, WriteConfig};
 /// What one `config` line sets. The other rates stay, but for `Clear`.
 #[derive(Clone, Copy, Debug, PartialEq, Eq)]
 pub enum Setting {
+    /// How often an open fails.
     Open(Probability),
+    /// How often a read fails.
     Read(Probability),
+    /// How writes fail, and what of them is kept.
     Write(WriteConfig),
+    /// How often a sync fails, a started one and that of a SYNC write too.
     Sync(Probability),
+    /// How resizes fail, and how often one survives a crash.
     Resize(ResizeConfig),
+    /// How often a removal fails.
     Remove(Probability),
+    /// How often a scan fails.
     Scan(Probability),
     /// Nothing fails any more, and nothing is kept.
     Clear,
