@@ -46,15 +46,15 @@ class PartitionNameInvalid(StorageError):
 
 
 class PartitionMissing(StorageError):
-    pass
+    """A removal or a scan of a partition that isn't there."""
 
 
 class BlobMissing(StorageError):
-    pass
+    """A removal of a name that isn't there; a sync or a SYNC write by a stale handle."""
 
 
 class BlobAlreadyOpen(StorageError):
-    pass
+    """An open of a name that is open."""
 
 
 class BlobCorrupt(StorageError):
@@ -62,23 +62,23 @@ class BlobCorrupt(StorageError):
 
 
 class BlobLayoutMismatch(StorageError):
-    pass
+    """A header's layout isn't accepted. The store accepts all."""
 
 
 class BlobVersionMismatch(StorageError):
-    pass
+    """A header's version isn't one that was asked for."""
 
 
 class Closed(StorageError):
-    pass
+    """No call answers it."""
 
 
 class ReadFailed(StorageError):
-    pass
+    """No call answers it."""
 
 
 class WriteFailed(StorageError):
-    pass
+    """No call answers it over the memory store."""
 
 
 class Injected(StorageError):
@@ -90,7 +90,7 @@ class Memory(StorageError):
 
 
 class GenerationsExhausted(StorageError):
-    pass
+    """No number is left for an incarnation, a write or a started sync."""
 
 
 class NoHandle(StorageError):
@@ -144,7 +144,7 @@ class Blob:
         self.version = version
 
     def read(self, offset, length):
-        """Bytes at a logical offset."""
+        """Exactly `length` bytes at a logical offset; refused where fewer are there."""
         return self._store._read(self.handle, offset, length)
 
     def write(self, offset, data, sync=False):
@@ -164,7 +164,7 @@ class Blob:
         self._store.call(f"sync {self.handle}")
 
     def start_sync(self):
-        """Begins to do so. The number that is answered is for `Store.finish`, which tells how it went."""
+        """Begins to make the handle's bytes durable. The number that is answered is for `Store.finish`, which tells how it went."""
         return int(self._store.call(f"startsync {self.handle}")[1])
 
     def close(self):

@@ -52,25 +52,29 @@ impl Blob {
         self.version
     }
 
-    /// Bytes at a logical offset.
+    /// Exactly `len` bytes at a logical offset. Refused: `OffsetOverflow`, `BlobInsufficientLength`, `Injected`, `Memory`.
     pub fn read_at(&self, offset: u64, len: usize) -> Result<Vec<u8>, Error> {
         let mut bytes = vec![0; len];
         self.read_at_buf(offset, &mut bytes)?;
         Ok(bytes)
     }
 
-    /// Fills a buffer with the bytes at a logical offset. Refused, it leaves the buffer as it was.
+    /// Fills a buffer with the bytes at a logical offset. Refused as `read_at`, it leaves the buffer as it was.
     pub fn read_at_buf(&self, offset: u64, into: &mut [u8]) -> Result<(), Error> {
         self.session.borrow_mut().read(self.handle, offset, into)
     }
 
-    /// Writes bytes at a logical offset. They may be lost until they are synced.
+    /// Writes bytes at a logical offset, and zeros in a gap before them. They may be lost until they are synced.
+    ///
+    /// Refused: `Injected`, where a part may have been written and be durable; `OffsetOverflow`; `BlobMissing` for a SYNC write by a
+    /// stale handle, which writes no durable byte; `GenerationsExhausted`; `Memory`.
     pub fn write_at(&self, offset: u64, bytes: &[u8], options: WriteOptions) -> Result<(), Error> {
         let mut session = self.session.borrow_mut();
         session.write(self.handle, offset, bytes, options.sync)
     }
 
-    /// Cuts or lengthens the blob to a logical length.
+    /// Cuts the blob to a logical length, or lengthens it with zeros, durable once it is synced. Refused: `Injected`, where a length
+    /// between the two may have been reached; `OffsetOverflow`; `Memory`.
     pub fn resize(&self, len: u64) -> Result<(), Error> {
         self.done(&format!("resize {} {len}", self.handle))
     }
@@ -81,12 +85,12 @@ impl Blob {
         asked(&self.session, &line, |mut words| number(words.nth(1)))
     }
 
-    /// Makes the handle's bytes durable.
+    /// Makes the handle's bytes durable. Refused: `Injected`, `BlobMissing` by a stale handle, `Memory`; no durable byte changes.
     pub fn sync(&self) -> Result<(), Error> {
         self.done(&format!("sync {}", self.handle))
     }
 
-    /// Begins to do so.
+    /// Begins to make the handle's bytes durable; `finish` tells how it went. Refused only for `Memory`.
     pub fn start_sync(&self) -> Result<StartedSync, Error> {
         let line = format!("startsync {}", self.handle);
         let number = asked(&self.session, &line, |mut words| number(words.nth(1)))?;
@@ -108,7 +112,8 @@ impl Drop for Blob {
 }
 
 impl StartedSync {
-    /// Tells how the sync went. A sync that was started before the store was reopened is none any more: `NoHandle`.
+    /// Tells how the sync went: refused as `sync`, or `GenerationsExhausted`. A sync that was started before the store was reopened is
+    /// none any more: `NoHandle`.
     pub fn finish(self) -> Result<(), Error> {
         let line = format!("finish {}", self.number);
         asked(&self.session, &line, |_| Some(()))

@@ -6,10 +6,12 @@ pub struct Probability {
 }
 
 impl Probability {
+    /// Never.
     pub const ZERO: Probability = Probability {
         numerator: 0,
         denominator: 1,
     };
+    /// Always.
     pub const ONE: Probability = Probability {
         numerator: 1,
         denominator: 1,
@@ -45,8 +47,11 @@ pub enum PartialWriteMode {
 /// Which writes fail, and which of their bytes survive: of a failed write, and of one that wasn't synced at a crash.
 #[derive(Clone, Copy, Debug, PartialEq, Eq)]
 pub struct WriteConfig {
+    /// That a write fails.
     pub failure_rate: Probability,
+    /// That a byte, or a sector, of a failed write or of an unsynced one is kept; zero keeps none.
     pub retention_rate: Probability,
+    /// Which of its bytes survive together.
     pub mode: PartialWriteMode,
 }
 
@@ -62,46 +67,60 @@ pub struct ResizeConfig {
 /// Which calls fail, and how often. What isn't set doesn't fail, and keeps nothing.
 #[derive(Clone, Copy, Debug, Default, PartialEq, Eq)]
 pub struct Config {
+    /// That an open fails.
     pub open_rate: Option<Probability>,
+    /// That a read fails.
     pub read_rate: Option<Probability>,
+    /// How writes fail, and what a crash keeps of unsynced ones: nothing, where this isn't set.
     pub write_rate: Option<WriteConfig>,
+    /// That a sync fails, a started one and that of a SYNC write too.
     pub sync_rate: Option<Probability>,
+    /// How resizes fail, and how often an unsynced one survives a crash: never, where this isn't set.
     pub resize_rate: Option<ResizeConfig>,
+    /// That a removal fails.
     pub remove_rate: Option<Probability>,
+    /// That a scan fails.
     pub scan_rate: Option<Probability>,
 }
 
 impl Config {
+    /// The configuration with this rate of failing opens.
     pub fn open(mut self, rate: Probability) -> Config {
         self.open_rate = Some(rate);
         self
     }
 
+    /// The configuration with this rate of failing reads.
     pub fn read(mut self, rate: Probability) -> Config {
         self.read_rate = Some(rate);
         self
     }
 
+    /// The configuration with these settings of writes.
     pub fn write(mut self, writes: WriteConfig) -> Config {
         self.write_rate = Some(writes);
         self
     }
 
+    /// The configuration with this rate of failing syncs.
     pub fn sync(mut self, rate: Probability) -> Config {
         self.sync_rate = Some(rate);
         self
     }
 
+    /// The configuration with these settings of resizes.
     pub fn resize(mut self, resizes: ResizeConfig) -> Config {
         self.resize_rate = Some(resizes);
         self
     }
 
+    /// The configuration with this rate of failing removals.
     pub fn remove(mut self, rate: Probability) -> Config {
         self.remove_rate = Some(rate);
         self
     }
 
+    /// The configuration with this rate of failing scans.
     pub fn scan(mut self, rate: Probability) -> Config {
         self.scan_rate = Some(rate);
         self

@@ -12,26 +12,32 @@ pub enum Error {
     BlobInsufficientLength,
     /// The partition's name is empty, or has other than ASCII letters, digits, `-` and `_`.
     PartitionNameInvalid(String),
+    /// A removal or a scan of a partition that isn't there.
     PartitionMissing(String),
+    /// A removal of a name that isn't there; a sync or a SYNC write by a stale handle.
     BlobMissing(String, String),
+    /// The name is open.
     BlobAlreadyOpen(String, String),
     /// The header isn't one that a creation writes; the third text is the reason.
     BlobCorrupt(String, String, String),
+    /// The header's layout isn't accepted. The store accepts all.
     BlobLayoutMismatch {
         expected: (String, String),
         found: String,
     },
-    BlobVersionMismatch {
-        expected: (u16, u16),
-        found: u16,
-    },
+    /// The header's version isn't one that was asked for.
+    BlobVersionMismatch { expected: (u16, u16), found: u16 },
+    /// No call answers it.
     Closed,
+    /// No call answers it.
     ReadFailed,
+    /// No call answers it over the memory store.
     WriteFailed,
-    /// A fault that was chosen by a draw.
+    /// A fault that was chosen by a draw, in place of a device's I/O error.
     Injected,
     /// The store found no memory for the call: nothing has changed but the generator.
     Memory,
+    /// No number is left for an incarnation, a write or a started sync.
     GenerationsExhausted,
     /// No open handle, or no unfinished sync, has this number.
     NoHandle,

@@ -8,6 +8,7 @@
 //!
 //! # fn main() -> Result<(), blobcrash::Error> {
 //! let store = Store::builder()
+//!     .seed(7)
 //!     .config(Config::default().write(WriteConfig {
 //!         failure_rate: Probability::ZERO,
 //!         retention_rate: Probability::new(1, 2).unwrap(),

@@ -29,12 +29,19 @@ impl Builder {
         self
     }
 
-    /// The next words of the generator. By these the faults are drawn; after the last one it gives zeros.
+    /// The next words of the generator, by which the faults are drawn. After the last one it gives those of the seed, or zeros
+    /// where there is none.
     pub fn words(mut self, words: &[u64]) -> Builder {
         if !words.is_empty() {
             let words: Vec<String> = words.iter().map(u64::to_string).collect();
             self.lines.push(format!("words {}", words.join(" ")));
         }
+        self
+    }
+
+    /// The seed of the words that come behind the given ones. To be given once: a second one is a `BadLine`.
+    pub fn seed(mut self, seed: u64) -> Builder {
+        self.lines.push(format!("seed {seed}"));
         self
     }
 
@@ -62,17 +69,21 @@ impl Builder {
 }
 
 impl Store {
+    /// What a store begins with: nothing is there, nothing fails, and the generator gives zeros.
     pub fn builder() -> Builder {
         Builder::default()
     }
 
-    /// Opens a blob of version 0, or creates it, and answers its size in bytes. A name that is open is refused; what an
-    /// earlier handle left pending is retired.
+    /// Opens a blob of version 0, or creates it, and answers its size in bytes. What an earlier handle left pending is retired.
+    ///
+    /// Refused: `PartitionNameInvalid`, `BlobCorrupt`, `BlobVersionMismatch`, `GenerationsExhausted`, `Injected`, `Memory`, and
+    /// `BlobAlreadyOpen` where the name is open.
     pub fn open(&self, partition: &str, name: &[u8]) -> Result<(Blob, u64), Error> {
         self.open_versioned(partition, name, 0..=0)
     }
 
-    /// The same for these versions; the blob tells its own.
+    /// Opens a blob of one of these versions, or creates it for the greatest; the handle tells which it has. Refused as `open`, and
+    /// `EmptyRange` where there is no version.
     pub fn open_versioned(
         &self,
         partition: &str,
@@ -82,7 +93,8 @@ impl Store {
         self.opened("open", partition, name, versions)
     }
 
-    /// Opens a blob beside other handles, and leaves what is pending pending.
+    /// Opens a blob beside other handles, and leaves what is pending pending. Refused as `open_versioned`, but never
+    /// `BlobAlreadyOpen`.
     pub fn open_loose(
         &self,
         partition: &str,
@@ -97,7 +109,8 @@ impl Store {
         self.done(&format!("admit {partition} {}", hex(name)))
     }
 
-    /// Removes a blob, or with no name the partition.
+    /// Removes a blob, or with no name the partition. Refused: `PartitionNameInvalid`, `PartitionMissing`, `BlobMissing`,
+    /// `Injected`, `Memory`; nothing is removed.
     pub fn remove(&self, partition: &str, name: Option<&[u8]>) -> Result<(), Error> {
         match name {
             Some(name) => self.done(&format!("remove {partition} {}", hex(name))),
@@ -105,14 +118,15 @@ impl Store {
         }
     }
 
-    /// The names of a partition, sorted by their bytes.
+    /// The names of a partition, sorted by their bytes. Refused: `PartitionNameInvalid`, `PartitionMissing`, `Injected`, `Memory`.
     pub fn scan(&self, partition: &str) -> Result<Vec<Vec<u8>>, Error> {
         asked(&self.session, &format!("scan {partition}"), |words| {
             words.skip(1).map(unhex).collect()
         })
     }
 
-    /// Loses what wasn't durable, but for what the draws keep, and answers what they chose.
+    /// Loses what wasn't durable, but for what the draws keep, and answers what they chose. Refused only for `Memory`, and then
+    /// nothing is lost.
     pub fn crash(&self) -> Result<Selections, Error> {
         asked(&self.session, "crash", |words| {
             words.skip(1).map(selection).collect()
