@@ -1,5 +1,7 @@
 """A store that crashes, for tests of recovery: `./blobcrash`, asked line by line over a pipe.
 
+    from blobcrash import Store
+
     with Store(seed=7) as store:
         store.configure("write 0 1 1 2 subset")
         log, size = store.open("wal", b"0")

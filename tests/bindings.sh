@@ -99,6 +99,8 @@ if command -v python3 >/dev/null && [ -f "$top/out/libblobcrash.so" ]; then
     answers 'Python, line by line' run_python "$top/bindings/python/lines.py"
     answers 'Python, at once' run_python "$top/bindings/python/lines.py" --whole
     lives Python run_python "$top/bindings/python/log.py"
+    (cd "$top" && run_python tests/pages.py bindings/python/blobcrash.py) >"$work/out" 2>"$work/err"
+    tell $? 'Python: the example of the module'
     # The log of examples/, which is written for the program by a pipe; on both where the program is built.
     program=$top/out/blobcrash
     [ -x "$program" ] || { program= && echo "bindings.sh: left out: the log of examples/ on both, for want of out/blobcrash"; }

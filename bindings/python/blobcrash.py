@@ -1,5 +1,7 @@
 """A store that crashes, for tests of recovery, in this process: the library that `sh bindings/build.sh` builds.
 
+    from blobcrash import Store
+
     with Store(seed=7) as store:
         store.configure("write 0 1 1 2 subset")
         log, size = store.open("wal", b"0")
