@@ -4,8 +4,6 @@
 pub mod any_store;
 pub mod buffers;
 pub mod buffers_mut;
-#[cfg(test)]
-mod creation_tests;
 pub mod handle;
 pub mod laws;
 pub mod options;

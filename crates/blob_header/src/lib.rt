@@ -2,6 +2,8 @@
 #![tactic(auto)]
 
 pub mod checksum;
+#[cfg(test)]
+mod creation_tests;
 pub mod error;
 pub mod header;
 pub mod header_error;

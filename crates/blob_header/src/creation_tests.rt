@@ -1,11 +1,11 @@
 //! What an interrupted creation may have left: by a header's failure, by its magic, by the whole image.
 
-use blob_header::error::Error;
-use blob_header::header::Header;
-use blob_header::header_error::HeaderError;
-use blob_header::header_tests::region_of;
-use blob_header::layout::Layout;
-use blob_header::version::{BlobVersion, DEFAULT_BLOB_VERSION};
+use crate::error::Error;
+use crate::header::Header;
+use crate::header_error::HeaderError;
+use crate::header_tests::region_of;
+use crate::layout::Layout;
+use crate::version::{BlobVersion, DEFAULT_BLOB_VERSION};
 use std::alloc::Global;
 use std::test::Fail;
 
