@@ -18,9 +18,9 @@ writing sync = do
   bytes ← hex
   gives (Through handle (Write offset bytes sync))
 
--- the words of calls, and what follows each
-abbrev pub calls : List (List ℕ × Form Act)
-calls =
+-- what follows the word of a call
+abbrev pub call : List ℕ → Form Act
+call = beside (
     (codes "open", opening Open)
     ∷ (codes "loose", opening OpenLoose)
     ∷ (codes "admit", do partition ← text; name ← hex; gives (Admit partition name))
@@ -37,7 +37,5 @@ calls =
     ∷ (codes "scan", do partition ← text; gives (Scan partition))
     ∷ (codes "crash", gives Crash)
     ∷ (codes "reopen", gives Reopen)
-    ∷ []
-
-abbrev pub call : List ℕ → Form Act
-call word = beside calls no_form word
+    ∷ [])
+    no_form

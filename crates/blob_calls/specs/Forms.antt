@@ -61,12 +61,9 @@ name = at_end None (do bytes ← hex; gives (Some bytes))
 abbrev pub digits : Form ℕ
 digits = token number_of
 
-abbrev pub version : Form ℕ
-version = token version_of
-
 -- the first and the last, where tokens are left; otherwise 0 alone
 abbrev pub versions : Form (Option Accepted)
-versions = at_end (Some (0, 0)) (do first ← version; last ← version; gives (accepted false first last))
+versions = at_end (Some (0, 0)) (do first ← token version_of; last ← token version_of; gives (accepted false first last))
 
 -- all the tokens that are left, by their meaning
 abbrev pub each : {X : Type 0} → (List ℕ → Option X) → List (List ℕ) → Option (List X)

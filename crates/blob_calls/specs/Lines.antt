@@ -30,17 +30,15 @@ said_by (line.Seed seed) = Seed seed
 said_by (line.Configure setting) = Configure setting
 said_by (line.Call asked) = Call (act_of asked)
 
--- what stands before all calls, or between them
-abbrev pub statements : List (List ℕ × Form Said)
-statements =
+-- what follows the first word of a line: what stands before all calls or between them, and calls
+abbrev pub statement : List ℕ → Form Said
+statement word = beside (
     (codes "image", do partition ← text; name ← hex; bytes ← hex; gives (Image partition name bytes))
     ∷ (codes "words", do read ← words; gives (Given read))
     ∷ (codes "seed", do read ← digits; gives (Seed read))
     ∷ (codes "config", do set ← setting; gives (Configure set))
-    ∷ []
-
-abbrev pub statement : List ℕ → Form Said
-statement word = beside statements (do act ← call word; gives (Call act)) word
+    ∷ [])
+    (do act ← call word; gives (Call act)) word
 
 -- a comment begins at its first character
 abbrev pub is_comment : List ℕ → Bool

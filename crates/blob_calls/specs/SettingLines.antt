@@ -1,8 +1,6 @@
 -- What follows `config` in a line.
 use Rattle.std.specs.Prelude.{ℕ, List, [], ◌∷◌, ◌&&◌, Option, Some, None, nat_lt, nat_le, if◌then◌else◌, codes}
 use Rattle.blob_model.specs.Rates.{Rate}
-use Rattle.blob_faults.specs.declared.config.ResizeConfig.{ResizeConfig}
-use Rattle.blob_faults.specs.declared.config.WriteConfig.{WriteConfig}
 use Rattle.blob_faults.specs.declared.mode.PartialWriteMode.{PartialWriteMode}
 use Rattle.blob_faults.specs.declared.mode.PartialWriteMode.TheVariants.{Prefix, Subset, Sectors}
 use Rattle.blob_calls.specs.declared.script.setting.Setting.{Setting}
@@ -10,58 +8,34 @@ use Rattle.blob_calls.specs.declared.script.setting.Setting.TheVariants.{Open, R
 use Rattle.blob_calls.specs.Forms.{Form, ◌>>=◌, gives, gives_some, no_form, beside, text, digits}
 
 -- a fraction that is at most one
-abbrev pub rate_of : ℕ → ℕ → Option Rate
-rate_of n d = if nat_lt 0 d && nat_le n d then Some (record { numerator = n; denominator = d }) else None
-
 abbrev pub rate : Form Rate
 rate = do
   n ← digits
   d ← digits
-  gives_some (rate_of n d)
+  gives_some (if nat_lt 0 d && nat_le n d then Some (record { numerator = n; denominator = d }) else None)
 
 -- a sector has a byte at least
-abbrev pub sectors_of : ℕ → Option PartialWriteMode
-sectors_of size = if nat_lt 0 size then Some (Sectors size) else None
-
-abbrev pub modes : List (List ℕ × Form PartialWriteMode)
-modes =
-    (codes "prefix", gives Prefix)
-    ∷ (codes "subset", gives Subset)
-    ∷ (codes "sectors", do size ← digits; gives_some (sectors_of size))
-    ∷ []
-
 abbrev pub mode : Form PartialWriteMode
 mode = do
   word ← text
-  beside modes no_form word
-
-abbrev pub write_config : Form WriteConfig
-write_config = do
-  failure ← rate
-  retention ← rate
-  kept ← mode
-  gives (record { failure_rate = failure; retention_rate = retention; mode = kept })
-
-abbrev pub resize_config : Form ResizeConfig
-resize_config = do
-  failure ← rate
-  partial ← rate
-  gives (record { failure_rate = failure; partial_rate = partial })
-
--- the words of settings, and what follows each
-abbrev pub settings : List (List ℕ × Form Setting)
-settings =
-    (codes "open", do r ← rate; gives (Open r))
-    ∷ (codes "read", do r ← rate; gives (Read r))
-    ∷ (codes "write", do writes ← write_config; gives (Write writes))
-    ∷ (codes "sync", do r ← rate; gives (Sync r))
-    ∷ (codes "resize", do resizes ← resize_config; gives (Resize resizes))
-    ∷ (codes "remove", do r ← rate; gives (Remove r))
-    ∷ (codes "scan", do r ← rate; gives (Scan r))
-    ∷ (codes "clear", gives Clear)
-    ∷ []
+  beside (
+    (codes "prefix", gives Prefix)
+    ∷ (codes "subset", gives Subset)
+    ∷ (codes "sectors", do size ← digits; gives_some (if nat_lt 0 size then Some (Sectors size) else None))
+    ∷ [])
+    no_form word
 
 abbrev pub setting : Form Setting
 setting = do
   word ← text
-  beside settings no_form word
+  beside (
+    (codes "open", do r ← rate; gives (Open r))
+    ∷ (codes "read", do r ← rate; gives (Read r))
+    ∷ (codes "write", do failure ← rate; retention ← rate; kept ← mode; gives (Write (record { failure_rate = failure; retention_rate = retention; mode = kept })))
+    ∷ (codes "sync", do r ← rate; gives (Sync r))
+    ∷ (codes "resize", do failure ← rate; partial ← rate; gives (Resize (record { failure_rate = failure; partial_rate = partial })))
+    ∷ (codes "remove", do r ← rate; gives (Remove r))
+    ∷ (codes "scan", do r ← rate; gives (Scan r))
+    ∷ (codes "clear", gives Clear)
+    ∷ [])
+    no_form word

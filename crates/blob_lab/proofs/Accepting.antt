@@ -18,7 +18,8 @@ use Rattle.blob_calls.specs.declared.call.Call.{Call}
 use Rattle.blob_calls.specs.declared.reply.Reply.{Reply}
 use Rattle.blob_lab.specs.Accepted.{removes}
 use Rattle.blob_calls.specs.Acts.{Ask, Act, Configure, Open, OpenLoose, Admit, Close, Through, Finish, Remove, Scan, Crash, Reopen, act_of}
-use Rattle.blob_lab.specs.After.{after, asked, closed, finished, removed as removal, crashed, exclusively_opened, loosely_opened}
+use Rattle.blob_lab.specs.After.{after, asked, closed, finished, exclusively_opened}
+use Rattle.blob_lab.specs.Steps.{removed as removal, crashed, loosely_opened}
 use Rattle.blob_lab.specs.Answers.{found, kept_at, version_of}
 use Rattle.blob_lab.specs.Runs.{Run}
 use Rattle.blob_lab.specs.States.{State, Held, Started}

@@ -1,11 +1,12 @@
 -- What is asked of a handle, from what the wrapper promises of its own call.
 use Rattle.std.proofs.Common.{◌≡◌, ℕ, ◌<◌, List, true, Option, Some, None, refl, sym, ◌∙◌, subst, take, drop}
+use Rattle.std.specs.Option.{option_or}
 use Rattle.blob_model.specs.Directory.{Directory}
 use Rattle.blob_model.specs.Durable.{Durable}
 use Rattle.blob_model.specs.Files.{Files}
 use Rattle.blob_model.specs.Pending.{Pending}
 use Rattle.blob_model.specs.Places.{Place}
-use Rattle.blob_header.specs.Refusals.{Refusal, refusal_of}
+use Rattle.blob_header.specs.Refusals.{Refusal, refusal_of, Injected}
 use Rattle.blob_model.specs.Stands as base
 use Rattle.blob_header.specs.declared.error.Error.{Error}
 use Rattle.blob_faulty.specs.Answers.{injected_or}
@@ -18,7 +19,7 @@ use Rattle.blob_calls.specs.declared.reply.Reply.TheVariants.{Failed}
 use Rattle.blob_calls.specs.Acts.{Ask, Read}
 use Rattle.blob_lab.specs.After.{files_after, held_after}
 use Rattle.blob_lab.specs.Answers.{IsAnswer, through}
-use Rattle.blob_lab.specs.Denials.{or_then, injected_if}
+use Rattle.blob_lab.specs.Denials.{refused_if}
 use Rattle.blob_lab.specs.LabStands.{Wrapper, Wraps, IsFor, Asks, stream_of}
 use Rattle.blob_lab.specs.States.{State, Held}
 use Rattle.blob_calls.specs.Told as told
@@ -77,7 +78,7 @@ module _ (w w' : Wrapper) (h : Held) (offset len : ℕ)
   allowed answer = injected_or (draw (config_of w).read_rate (stream_of w)).0 (OrMemory (read_refusal h.place h.live offset len)) answer
 
   abbrev denial : Option Refusal
-  denial = or_then (injected_if (draw (config_of w).read_rate (stream_of w)).0) (read_refusal h.place h.live offset len)
+  denial = option_or (refused_if Injected (draw (config_of w).read_rate (stream_of w)).0) (read_refusal h.place h.live offset len)
 
   denied : (answer : Option Refusal) → allowed answer → OrMemory denial answer
   denied answer a = drawn_denial (draw (config_of w).read_rate (stream_of w)).0 (OrMemory (read_refusal h.place h.live offset len)) (read_refusal h.place h.live offset len) (λ answer' m. m) answer a

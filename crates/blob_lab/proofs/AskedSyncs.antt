@@ -1,9 +1,10 @@
 -- What is asked of a handle by a sync, from what the wrapper promises of it.
 use Rattle.std.proofs.Common.{◌≡◌, ◌≢◌, ℕ, ◌<◌, ◌-◌, ◌^◌, ◌==◌, ◌++◌, inr, inl, List, [], ◌∷◌, Bool, true, false, Option, Some, None, refl, sym, ap, ◌∙◌, subst, length, ⊎_elim}
 use Rattle.std.specs.Prelude.{IsSome}
+use Rattle.std.specs.Option.{option_or}
 use Rattle.blob_model.specs.Directory.{Directory}
 use Rattle.blob_model.specs.Files.{Files, synced, started}
-use Rattle.blob_header.specs.Refusals.{Refusal, Memory, refusal_of}
+use Rattle.blob_header.specs.Refusals.{Refusal, Memory, refusal_of, GenerationsExhausted, Injected}
 use Rattle.blob_header.specs.declared.error.Error.{Error}
 use Rattle.blob_faulty.specs.Answers.{injected_or, or_memory, allows_start}
 use Rattle.blob_faults.specs.Faults.{draw}
@@ -14,7 +15,7 @@ use Rattle.blob_calls.specs.declared.reply.Reply.{Reply}
 use Rattle.blob_calls.specs.declared.reply.Reply.TheVariants.{Done, Failed, Started}
 use Rattle.blob_calls.specs.Acts.{Sync}
 use Rattle.blob_lab.specs.After.{begun}
-use Rattle.blob_lab.specs.Denials.{or_then, injected_if, exhausted_if, sync_denial, start_denial}
+use Rattle.blob_lab.specs.Denials.{refused_if, sync_denial, start_denial}
 use Rattle.blob_lab.specs.LabStands.{IsFor, Wrapper, Wraps, Asks, Starts, stream_of}
 use Rattle.blob_lab.specs.States as states
 use Rattle.blob_lab.specs.States.{State, Held}
@@ -29,7 +30,7 @@ module _ (w w' : Wrapper) (h : Held) (names : directory (store_of w') ≡ direct
   drawn = (draw (config_of w).sync_rate (stream_of w)).0
 
   abbrev denial : Directory → Option Refusal
-  denial d = or_then (injected_if drawn) (sync_refusal d h.place)
+  denial d = option_or (refused_if Injected drawn) (sync_refusal d h.place)
 
   abbrev allowed : Option Refusal → Type 0
   allowed answer = injected_or drawn (or_memory (OrMemory (sync_refusal (directory (store_of w)) h.place))) answer
@@ -55,14 +56,14 @@ module _ (w w' : Wrapper) (h : Held) (names : directory (store_of w') ≡ direct
 
 -- A started sync.
 
-start_denied : (b : Bool) (next : ℕ) (expected answer : Option Refusal) → allows_start b next (OrMemory expected) answer → OrMemory (or_then (injected_if b) (or_then (exhausted_if (next == 2 ^ 64 - 1)) expected)) answer
+start_denied : (b : Bool) (next : ℕ) (expected answer : Option Refusal) → allows_start b next (OrMemory expected) answer → OrMemory (option_or (refused_if Injected b) (option_or (refused_if GenerationsExhausted (next == 2 ^ 64 - 1)) expected)) answer
 start_denied true next expected answer a = inr a
 start_denied false next expected answer a = numbered_denial (next == 2 ^ 64 - 1) (or_memory (OrMemory expected)) expected (memory_denial (OrMemory expected) expected (λ answer' m. m)) answer a
 
 module _ (w w' : Wrapper) (h : Held) (syncs : List (Option states.Started)) (names : directory (store_of w') ≡ directory (store_of w)) (config : config_of w' ≡ config_of w)
     (stream : stream_of w' ≡ (draw (config_of w).sync_rate (stream_of w)).1) where
   abbrev start_denial_by : Directory → ℕ → Option Refusal
-  start_denial_by d next = or_then (injected_if (draw (config_of w).sync_rate (stream_of w)).0) (or_then (exhausted_if (next == 2 ^ 64 - 1)) (sync_refusal d h.place))
+  start_denial_by d next = option_or (refused_if Injected (draw (config_of w).sync_rate (stream_of w)).0) (option_or (refused_if GenerationsExhausted (next == 2 ^ 64 - 1)) (sync_refusal d h.place))
 
   abbrev IsStartAllowed : Option Refusal → Type 0
   IsStartAllowed answer = allows_start (draw (config_of w).sync_rate (stream_of w)).0 (next_marker_of w) (OrMemory (sync_refusal (directory (store_of w)) h.place)) answer

@@ -3,26 +3,27 @@ use Rattle.std.proofs.Common.{◌≡◌, ℕ, ◌+◌, ◌≤◌, ◌<◌, suc, 
 use Rattle.std.specs.Prelude.{MatchBool}
 use Rattle.std.proofs.lemmas.Bool.{false≢true}
 use Rattle.std.proofs.lemmas.Bool.Decides.{nat_tests}
+use Rattle.std.specs.Option.{option_or}
 use Rattle.blob_model.specs.Directory.{Directory, is_current}
 use Rattle.blob_model.specs.Places.{Place}
-use Rattle.blob_header.specs.Refusals.{Refusal, Memory, Injected, OffsetOverflow}
+use Rattle.blob_header.specs.Refusals.{Refusal, Memory, Injected, OffsetOverflow, GenerationsExhausted}
 use Rattle.blob_model.specs.Runs.{Run, runs, AreRunsApart}
 use Rattle.blob_faulty.specs.Answers.{Allowed, injected_or, injected_for, or_memory, numbered, lacks_number, last_end, one_then, allows_laid, allows_runs, allows_fate}
 use Rattle.blob_faults.specs.Faults.{WriteFate, Done, Unsynced, Failed}
 use Rattle.blob_memory.specs.Answers.{OrMemory, AllowsWrite, write_refusal, end_refusal, sync_refusal, is_uncounted, missing}
-use Rattle.blob_lab.specs.Denials.{or_then, injected_if, exhausted_if, or_injected, runs_denial, fate_denial}
+use Rattle.blob_lab.specs.Denials.{refused_if, or_injected, runs_denial, fate_denial}
 
 -- what may be answered, where the answer may also be that there is no memory
 abbrev Expects : Allowed → Option Refusal → Type 0
 Expects inner expected = (answer : Option Refusal) → inner answer → OrMemory expected answer
 
 -- a draw comes first
-pub drawn_denial : (b : Bool) (inner : Allowed) (expected : Option Refusal) → Expects inner expected → Expects (injected_or b inner) (or_then (injected_if b) expected)
+pub drawn_denial : (b : Bool) (inner : Allowed) (expected : Option Refusal) → Expects inner expected → Expects (injected_or b inner) (option_or (refused_if Injected b) expected)
 drawn_denial true inner expected i answer a = inr a
 drawn_denial false inner expected i answer a = i answer a
 
 -- then the number
-pub numbered_denial : (b : Bool) (inner : Allowed) (expected : Option Refusal) → Expects inner expected → Expects (numbered b inner) (or_then (exhausted_if b) expected)
+pub numbered_denial : (b : Bool) (inner : Allowed) (expected : Option Refusal) → Expects inner expected → Expects (numbered b inner) (option_or (refused_if GenerationsExhausted b) expected)
 numbered_denial true inner expected i answer a = inr a
 numbered_denial false inner expected i answer a = i answer a
 
@@ -30,8 +31,8 @@ pub memory_denial : (inner : Allowed) (expected : Option Refusal) → Expects in
 memory_denial inner expected i answer (inl m) = inl m
 memory_denial inner expected i answer (inr a) = i answer a
 
-refused_first : (r : Refusal) (expected later : Option Refusal) → Some r ≡ expected → Some r ≡ or_then expected later
-refused_first r expected later e = subst (λ (x : Option Refusal). Some r ≡ or_then x later) e refl
+refused_first : (r : Refusal) (expected later : Option Refusal) → Some r ≡ expected → Some r ≡ option_or expected later
+refused_first r expected later e = subst (λ (x : Option Refusal). Some r ≡ option_or x later) e refl
 
 pub not_memory : (expected : Option Refusal) → OrMemory expected None → None ≡ expected
 not_memory expected (inl m) = cc
@@ -44,12 +45,12 @@ injected_denial inner expected i None (inr (some, a)) = absurd (false≢true som
 injected_denial inner expected i (Some r) (inr (some, a)) = ⊎_elim (λ (m : Some r ≡ Some Memory). inl m) (λ (e : Some r ≡ expected). inr (refused_first r expected (Some Injected) e)) (i (Some r) a)
 
 -- one call and then another
-pub then_denial : (first second : Allowed) (before later : Option Refusal) → Expects first before → (before ≡ None → Expects second later) → Expects (one_then first second) (or_then before later)
+pub then_denial : (first second : Allowed) (before later : Option Refusal) → Expects first before → (before ≡ None → Expects second later) → Expects (one_then first second) (option_or before later)
 then_denial first second before later f s None (inl (some, a)) = absurd (false≢true some)
 then_denial first second before later f s (Some r) (inl (some, a)) = ⊎_elim (λ (m : Some r ≡ Some Memory). inl m) (λ (e : Some r ≡ before). inr (refused_first r before later e)) (f (Some r) a)
 then_denial first second before later f s answer (inr (none, a)) =
     let free : before ≡ None = sym (not_memory before (f None none)) in
-    subst (λ (x : Option Refusal). OrMemory (or_then x later) answer) (sym free) (s free answer a)
+    subst (λ (x : Option Refusal). OrMemory (option_or x later) answer) (sym free) (s free answer a)
 
 module _ (d : Directory) (o : Place) (room : Bool → ℕ) where
   abbrev writes : ℕ → List ℕ → Bool → Allowed
@@ -101,7 +102,7 @@ module _ (d : Directory) (o : Place) (room : Bool → ℕ) where
       let e : write_refusal d o r.0 r.1 true ≡ sync_refusal d o = first_denied r.0 r.1 apart.1 (within_last (r.0 + length r.1) end more (counted (end + o.start) free) r.0 (length r.1) refl) in
       subst (λ (x : Option Refusal). OrMemory x answer') e (write_denied r.0 r.1 true answer' w))
       (λ no. absurd (false≢true (sym no.1))) a' in
-      injected_denial (allows_runs writes reserves true (r ∷ rs)) (or_then (end_refusal o end) (sync_refusal d o))
+      injected_denial (allows_runs writes reserves true (r ∷ rs)) (option_or (end_refusal o end) (sync_refusal d o))
       (then_denial (reserves end) (allows_laid writes true (r ∷ rs)) (end_refusal o end) (sync_refusal d o) (λ answer' m. m) laid) answer a
 
   pub fate_denied : (fate : WriteFate) (retained : Bool) (next : ℕ) (sync : Bool) (offset : ℕ) (bytes : List ℕ) → ((chosen : List Bool) → AreRunsApart offset (runs offset bytes chosen))

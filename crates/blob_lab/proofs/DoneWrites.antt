@@ -4,11 +4,12 @@ use Rattle.std.specs.Prelude.{is_some}
 use Rattle.std.proofs.lemmas.Bool.{false≢true}
 use Rattle.std.proofs.lemmas.Option.{none-some}
 use Rattle.rand_core.specs.Stream.{Stream}
+use Rattle.std.specs.Option.{option_or}
 use Rattle.blob_model.specs.Bytes.{written}
 use Rattle.blob_model.specs.Directory.{Directory}
 use Rattle.blob_model.specs.Log.{Kept}
 use Rattle.blob_model.specs.Places.{Place}
-use Rattle.blob_header.specs.Refusals.{Refusal, Memory, OffsetOverflow}
+use Rattle.blob_header.specs.Refusals.{Refusal, Memory, OffsetOverflow, GenerationsExhausted}
 use Rattle.blob_model.specs.Runs.{runs}
 use Rattle.blob_faulty.specs.Answers.{lacks_number}
 use Rattle.blob_faults.specs.Faults.{WriteFate, Done, Unsynced, Failed, write_fate, retention, is_nothing, is_uncounted}
@@ -16,7 +17,7 @@ use Rattle.blob_faults.specs.Recorded.{recorded_by, recorded_write, live_by, liv
 use Rattle.blob_calls.specs.declared.reply.Reply.{Reply}
 use Rattle.blob_calls.specs.Acts.{Write}
 use Rattle.blob_lab.specs.Answers.{IsAnswer, through}
-use Rattle.blob_lab.specs.Denials.{or_then, or_injected, exhausted_if, runs_denial, fate_denial, write_denial}
+use Rattle.blob_lab.specs.Denials.{refused_if, or_injected, runs_denial, fate_denial, write_denial}
 use Rattle.blob_lab.specs.States.{State, Held}
 use Rattle.blob_calls.specs.Told as told
 use Rattle.blob_calls.specs.Told.{refused_by}
@@ -25,8 +26,8 @@ use Rattle.blob_lab.proofs.ToldRefusals.{denied}
 -- why its fate is no other
 done_fate : (fate : WriteFate) (d : Directory) (o : Place) (retained : Bool) (next : ℕ) (offset : ℕ) (bytes : List ℕ) → fate_denial fate d o retained next true offset bytes ≡ None → fate ≡ Done
 done_fate Done d o retained next offset bytes free = refl
-done_fate Unsynced d o retained next offset bytes free = absurd (never (exhausted_if (lacks_number retained next bytes)) _ free) where
-  never : (first later : Option Refusal) → or_then first (or_injected later) ≡ None → ⊥
+done_fate Unsynced d o retained next offset bytes free = absurd (never (refused_if GenerationsExhausted (lacks_number retained next bytes)) _ free) where
+  never : (first later : Option Refusal) → option_or first (or_injected later) ≡ None → ⊥
   never None None e = cc
   never None (Some r) e = cc
   never (Some r) later e = cc

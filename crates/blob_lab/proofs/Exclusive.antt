@@ -5,20 +5,22 @@ use Rattle.std.proofs.lemmas.Bool.{and_from, false≢true, eq-eqb}
 use Rattle.std.proofs.lemmas.List.Elements.{All-nil, All-head, All-tail}
 use Rattle.std.proofs.lemmas.Option.{none-some, same_Some}
 use Rattle.rand_core.specs.Stream.{Stream}
+use Rattle.std.specs.Option.{option_or}
 use Rattle.blob_model.specs.Directory.{Directory, File, Raw, Incarnation, current, place_in, is_current, is_that}
 use Rattle.blob_header.specs.Header.{data_start}
 use Rattle.blob_model.specs.Files.{Files, admitted, after_open, reopened}
 use Rattle.blob_model.specs.Opening.{place_of}
 use Rattle.blob_model.specs.Places.{Place}
-use Rattle.blob_header.specs.Refusals.{Refusal, Memory, BlobAlreadyOpen}
+use Rattle.blob_header.specs.Refusals.{Refusal, Memory, BlobAlreadyOpen, GenerationsExhausted}
 use Rattle.blob_model.specs.SamePlace.{same_place_exact}
 use Rattle.blob_faults.specs.declared.config.Config.{Config}
 use Rattle.blob_calls.specs.declared.call.Call.{Call}
 use Rattle.blob_calls.specs.declared.reply.Reply.{Reply}
 use Rattle.blob_calls.specs.Acts.{Ask, Write, Resize, Accepted, Act, Configure, Open, OpenLoose, Admit, Close, Through, Finish, Remove, Scan, Crash, Reopen, act_of}
-use Rattle.blob_lab.specs.After.{after, asked, closed, finished, removed as removal, crashed, exclusively_opened, held_after, rebuilt}
+use Rattle.blob_lab.specs.After.{after, asked, closed, finished, exclusively_opened, held_after}
+use Rattle.blob_lab.specs.Steps.{removed as removal, crashed, rebuilt}
 use Rattle.blob_lab.specs.Answers.{Answers, kept_at, opened}
-use Rattle.blob_lab.specs.Denials.{or_then, exhausted_if, is_unnumbered, loose_denial, open_already, open_denial}
+use Rattle.blob_lab.specs.Denials.{refused_if, is_unnumbered, loose_denial, open_already, open_denial}
 use Rattle.blob_lab.specs.Exclusive.{HoldNames, Sole}
 use Rattle.blob_opens.specs.OpenNames.{OpenNames}
 use Rattle.blob_lab.specs.Reached.{is_loose, NoneLoose, ReachedExclusively}
@@ -62,7 +64,7 @@ exclusive_start images words config = record {
 
 -- An open.
 
-pub or_then_none : (first later : Option Refusal) → or_then first later ≡ None → (first ≡ None) × (later ≡ None)
+pub or_then_none : (first later : Option Refusal) → option_or first later ≡ None → (first ≡ None) × (later ≡ None)
 or_then_none None later none = (refl, none)
 or_then_none (Some r) later none = cc
 
@@ -77,7 +79,7 @@ open_free v p n versions answered left answers done =
     (λ memory. absurd (none-some Memory (sym done ∙ memory.1)))
     (λ told.
     let free = sym (denied answered (open_denial v p n versions.0 versions.1) (opened v p n versions) refl told.0) ∙ done in
-    let later = or_then_none (exhausted_if (is_unnumbered v.names p n)) (or_then (loose_denial v p n versions.0 versions.1) (open_already v.names p n)) free in
+    let later = or_then_none (refused_if GenerationsExhausted (is_unnumbered v.names p n)) (option_or (loose_denial v p n versions.0 versions.1) (open_already v.names p n)) free in
     let last = or_then_none (loose_denial v p n versions.0 versions.1) (open_already v.names p n) later.1 in
     not_open (v.names.registered p n) _ last.1)
     answers

@@ -4,13 +4,14 @@ use Rattle.std.specs.Prelude.{is_none, is_some, not}
 use Rattle.std.proofs.lemmas.Bool.Decides.{nat_tests}
 use Rattle.hex.specs.Hex.{encode_lower}
 use Rattle.rand_core.specs.Stream.{Stream}
+use Rattle.std.specs.Option.{option_or}
 use Rattle.blob_model.specs.Directory.{Directory, File, Raw, Incarnation}
 use Rattle.blob_model.specs.Files.{Files, after_open, admitted}
 use Rattle.blob_model.specs.Opening.{Continues, Declines, IsOpened, opening, opening_raw}
 use Rattle.blob_header.specs.Parse.{Failure, InvalidMagic, UnsupportedLayoutVersion, LayoutMismatch, VersionMismatch, InvalidChecksum, InvalidPadding, Truncated, every_layout}
 use Rattle.blob_header.specs.PartitionName.{is_partition_name}
 use Rattle.blob_model.specs.Places.{Place}
-use Rattle.blob_header.specs.Refusals.{Refusal, refusal_of, BlobAlreadyOpen, GenerationsExhausted, Memory, PartitionNameInvalid, BlobVersionMismatch}
+use Rattle.blob_header.specs.Refusals.{Refusal, refusal_of, BlobAlreadyOpen, GenerationsExhausted, Memory, PartitionNameInvalid, BlobVersionMismatch, Injected}
 use Rattle.blob_header.specs.Resolve.{resolution, refusal_for}
 use Rattle.blob_header.specs.Versions.{is_in_range}
 use Rattle.blob_header.specs.declared.error.Error.{Error}
@@ -24,8 +25,8 @@ use Rattle.blob_lab.specs.declared.lab.Lab.{Lab}
 use Rattle.blob_calls.specs.declared.reply.Reply.TheVariants as reply
 use Rattle.blob_calls.specs.Acts.{Open}
 use Rattle.blob_lab.specs.After.{exclusively_opened}
-use Rattle.blob_lab.specs.Answers.{opened, left_of_open, IsAnswer, unless_denied}
-use Rattle.blob_lab.specs.Denials.{or_then, injected_if, exhausted_if, is_unnumbered, open_denial}
+use Rattle.blob_lab.specs.Answers.{opened, IsAnswer, unless_denied}
+use Rattle.blob_lab.specs.Denials.{refused_if, is_unnumbered, open_denial}
 use Rattle.blob_lab.specs.LabStands.{IsFor, StandsFor, Performs, Wrapper, stream_of}
 use Rattle.blob_opens.specs.OpenNames as names
 use Rattle.blob_opens.specs.OpenNames.{OpenNames, OpenAnswer, Accepted, Held, Declined, NoMemory, NoNumber, IsExhausted}
@@ -37,6 +38,10 @@ use Rattle.blob_lab.proofs.Denying.{not_memory}
 use Rattle.blob_lab.proofs.LooseOpens.{IsOpenAllowed, open_denied_by, open_denied, open_tells, open_adds, open_given}
 use Rattle.blob_lab.proofs.Performing.{state_of, performs}
 use Rattle.blob_lab.proofs.Telling.{done_answers, failed_answers}
+
+-- what an exclusive open leaves of the stream
+abbrev left_of_open : State → List ℕ → List ℕ → Stream
+left_of_open v p n = if is_unnumbered v.names p n then v.stream else (draw v.config.open_rate v.stream).1
 
 -- A store's open isn't refused as open already.
 
@@ -79,7 +84,7 @@ store_other d p n first last q m e = by_test (is_partition_name p) e where
   by_test true f = file_other p n (d.file p n) first last d.next q m f
   by_test false f = cc
 
-drawn_other : (b : Bool) (d : Directory) (p n : List ℕ) (first last : ℕ) (q m : List ℕ) → or_then (injected_if b) (open_refusal d p n first last) ≢ Some (BlobAlreadyOpen q m)
+drawn_other : (b : Bool) (d : Directory) (p n : List ℕ) (first last : ℕ) (q m : List ℕ) → option_or (refused_if Injected b) (open_refusal d p n first last) ≢ Some (BlobAlreadyOpen q m)
 drawn_other true d p n first last q m e = cc
 drawn_other false d p n first last q m e = store_other d p n first last q m e
 
@@ -124,7 +129,7 @@ module _ (lab lab' : Lab) (p n : List ℕ) (first last : ℕ) where
   drawn_left = (draw (config_of lab.wrapper).open_rate (stream_of lab.wrapper)).1
 
   abbrev denial : Bool → Directory → Option ℕ → Option Refusal
-  denial unnumbered d held = or_then (exhausted_if unnumbered) (or_then (open_denied_by lab.wrapper p n first last d) (if is_some held then Some (BlobAlreadyOpen p (encode_lower n)) else None))
+  denial unnumbered d held = option_or (refused_if GenerationsExhausted unnumbered) (option_or (open_denied_by lab.wrapper p n first last d) (if is_some held then Some (BlobAlreadyOpen p (encode_lower n)) else None))
 
   denial_seen : (f : Files) → StandsFor lab (state_of lab f) → (unnumbered : Bool) → is_unnumbered (names_of lab.opens) p n ≡ unnumbered → (held : Option ℕ) → (names_of lab.opens).registered p n ≡ held
       → denial unnumbered (directory (store_of lab.wrapper)) held ≡ open_denial (state_of lab f) p n first last
@@ -148,7 +153,7 @@ module _ (lab lab' : Lab) (p n : List ℕ) (first last : ℕ) where
       let store : None ≡ open_denied_by lab.wrapper p n first last (directory (store_of lab.wrapper)) = not_memory (open_denied_by lab.wrapper p n first last (directory (store_of lab.wrapper))) (open_denied lab.wrapper p n first last None a) in
       done_answers (reply.Opened number size ver) (open_denial (state_of lab f) p n first last) (opened (state_of lab f) p n (first, last)) (stream_of lab'.wrapper) (left_of_open (state_of lab f) p n)
       (open_tells lab lab' w p n first last o live version h number size ver opens count long is place bytes tracked table same-names same-bytes f s)
-      (ap (λ (x : Option Refusal). or_then x None) store ∙ denial_seen f s false numbered None free)
+      (ap (λ (x : Option Refusal). option_or x None) store ∙ denial_seen f s false numbered None free)
       (stream ∙ left_seen f false numbered))
       (λ f s.
       let f' = admitted (after_open f p n first last) p n in
@@ -176,7 +181,7 @@ module _ (lab lab' : Lab) (p n : List ℕ) (first last : ℕ) where
         (λ f s.
         let numbered : is_unnumbered (names_of lab.opens) p n ≡ false = held_false (names_of lab.opens) p n k here in
         let store : None ≡ open_denied_by lab.wrapper p n first last (directory (store_of lab.wrapper)) = not_memory (open_denied_by lab.wrapper p n first last (directory (store_of lab.wrapper))) (open_denied lab.wrapper p n first last None a) in
-        let already : Some (BlobAlreadyOpen p (encode_lower n)) ≡ open_denial (state_of lab f) p n first last = ap (λ (x : Option Refusal). or_then x (Some (BlobAlreadyOpen p (encode_lower n)))) store ∙ denial_seen f s false numbered (Some k) here in
+        let already : Some (BlobAlreadyOpen p (encode_lower n)) ≡ open_denial (state_of lab f) p n first last = ap (λ (x : Option Refusal). option_or x (Some (BlobAlreadyOpen p (encode_lower n)))) store ∙ denial_seen f s false numbered (Some k) here in
         refused_as e (open_denial (state_of lab f) p n first last) (inr (ap Some is ∙ already)) (stream_of lab'.wrapper) (left_of_open (state_of lab f) p n) (stream ∙ left_seen f false numbered) (state_of lab f))
         (λ f s.
         let s' = stands f s.wrapper.files in
@@ -225,7 +230,7 @@ module _ (lab lab' : Lab) (p n : List ℕ) (first last : ℕ) where
           performs lab lab' (Open p n (Some (first, last))) (reply.Failed e)
           (λ f s.
           let held = (names_of lab.opens).registered p n in
-          let told : Some (refusal_of e) ≡ denial false (directory (store_of lab.wrapper)) held = subst (λ (x : Option Refusal). Some (refusal_of e) ≡ or_then x (if is_some held then Some (BlobAlreadyOpen p (encode_lower n)) else None)) is refl in
+          let told : Some (refusal_of e) ≡ denial false (directory (store_of lab.wrapper)) held = subst (λ (x : Option Refusal). Some (refusal_of e) ≡ option_or x (if is_some held then Some (BlobAlreadyOpen p (encode_lower n)) else None)) is refl in
           refused_as e (open_denial (state_of lab f) p n first last) (inr (told ∙ denial_seen f s false numbered held refl)) (stream_of lab'.wrapper) (left_of_open (state_of lab f) p n) (stream ∙ left_seen f false numbered) (state_of lab f))
           (λ f s. stays (refusal_of e) other refl f s))
           (open_denied lab.wrapper p n first last (Some (refusal_of e)) a)

@@ -6,7 +6,8 @@ use Rattle.blob_model.specs.Files.{log_of, all_needs, after_open, admitted}
 use Rattle.blob_model.specs.Places.{Place}
 use Rattle.blob_header.specs.Refusals.{Refusal, BlobAlreadyOpen}
 use Rattle.blob_calls.specs.Acts.{Ask, Accepted, Act, Configure, Open, OpenLoose, Admit, Close, Through, Finish, Remove, Scan, Crash, Reopen}
-use Rattle.blob_lab.specs.After.{after, asked, exclusively_opened, loosely_opened, closed, finished, removed, crashed}
+use Rattle.blob_lab.specs.After.{after, asked, exclusively_opened, closed, finished}
+use Rattle.blob_lab.specs.Steps.{loosely_opened, removed, crashed}
 use Rattle.blob_lab.specs.Answers.{kept_at}
 use Rattle.blob_lab.specs.Fixed.{Byte, reaches, reaches_through}
 use Rattle.blob_lab.specs.States.{State, Held, Started}

@@ -14,7 +14,8 @@ use Rattle.blob_faults.specs.Recorded.{recorded_write, recorded_resize}
 use Rattle.blob_calls.specs.declared.call.Call.{Call}
 use Rattle.blob_calls.specs.declared.reply.Reply.{Reply}
 use Rattle.blob_calls.specs.Acts.{Ask, Read, Write, Resize, Size, Sync, StartSync, Accepted, Act, Configure, Open, OpenLoose, Admit, Close, Through, Finish, Remove, Scan, Crash, Reopen, act_of}
-use Rattle.blob_lab.specs.After.{after, asked, begun, files_after, exclusively_opened, loosely_opened, closed, finished, removed, crashed}
+use Rattle.blob_lab.specs.After.{after, asked, begun, files_after, exclusively_opened, closed, finished}
+use Rattle.blob_lab.specs.Steps.{loosely_opened, removed, crashed}
 use Rattle.blob_lab.specs.Answers.{kept_at}
 use Rattle.blob_lab.specs.Denials.{start_denial}
 use Rattle.blob_lab.specs.Reached.{is_loose, NoneLoose, ReachedExclusively}

@@ -4,12 +4,13 @@ use Rattle.std.specs.Prelude.{option_map}
 use Rattle.std.proofs.lemmas.List.Elements.{All-nil, All-cons, All-head, All-tail}
 use Rattle.std.proofs.lemmas.Option.{none-some, same_Some}
 use Rattle.rand_core.specs.Stream.{Stream}
+use Rattle.std.specs.Option.{option_or}
 use Rattle.blob_model.specs.Directory.{Directory, Incarnation, current, place_in}
 use Rattle.blob_model.specs.Files.{Files, opened, after_open, admitted, durable_at}
 use Rattle.blob_model.specs.Opening.{Opening, Continues, Begins, Declines, opening, place_of}
 use Rattle.blob_model.specs.Persistence.{HasByte}
 use Rattle.blob_model.specs.Places.{Place}
-use Rattle.blob_header.specs.Refusals.{Refusal, Memory}
+use Rattle.blob_header.specs.Refusals.{Refusal, Memory, GenerationsExhausted, Injected}
 use Rattle.blob_faults.specs.Faults.{draw}
 use Rattle.blob_memory.specs.Answers.{opening_refusal, open_refusal}
 use Rattle.blob_calls.specs.declared.call.Call.{Call}
@@ -19,7 +20,7 @@ use Rattle.blob_calls.specs.Acts.{Accepted, Act, Open, act_of}
 use Rattle.blob_lab.specs.After.{after}
 use Rattle.blob_lab.specs.Answers as answers
 use Rattle.blob_lab.specs.Answers.{Answers, IsAnswer, kept_at, unless_denied}
-use Rattle.blob_lab.specs.Denials.{or_then, injected_if, exhausted_if, is_unnumbered, loose_denial, open_already, open_denial}
+use Rattle.blob_lab.specs.Denials.{refused_if, is_unnumbered, loose_denial, open_already, open_denial}
 use Rattle.blob_lab.specs.Fixed.{Byte, is_of, Opens, Lasts, Persists}
 use Rattle.blob_opens.specs.OpenNames.{Registration}
 use Rattle.blob_lab.specs.Reached.{is_loose, NoneLoose, ReachedExclusively}
@@ -80,9 +81,9 @@ opened_current f p n first last (Declines refusal) e free = absurd (none-some re
 
 found_current : (v : State) (p n : List ℕ) (versions : Accepted) → open_denial v p n versions.0 versions.1 ≡ None → HasCurrent (admitted (after_open v.files p n versions.0 versions.1) p n) p n
 found_current v p n versions free =
-    let later = or_then_none (exhausted_if (is_unnumbered v.names p n)) (or_then (loose_denial v p n versions.0 versions.1) (open_already v.names p n)) free in
+    let later = or_then_none (refused_if GenerationsExhausted (is_unnumbered v.names p n)) (option_or (loose_denial v p n versions.0 versions.1) (open_already v.names p n)) free in
     let loose = or_then_none (loose_denial v p n versions.0 versions.1) (open_already v.names p n) later.1 in
-    let store = or_then_none (injected_if (draw v.config.open_rate v.stream).0) (open_refusal v.files.directory p n versions.0 versions.1) loose.0 in
+    let store = or_then_none (refused_if Injected (draw v.config.open_rate v.stream).0) (open_refusal v.files.directory p n versions.0 versions.1) loose.0 in
     let c = opened_current v.files p n versions.0 versions.1 (opening p n (v.files.directory.file p n) versions.0 versions.1) refl (valid_open p (opening_refusal (opening p n (v.files.directory.file p n) versions.0 versions.1) v.files.directory.next) store.1).1 in
     record { place = c.place; is = ap (λ (d : Directory). current d p n) (admitted_directory (after_open v.files p n versions.0 versions.1) p n) ∙ c.is }
 

@@ -1,12 +1,13 @@
 -- Opens of the wrapper alone.
 use Rattle.std.proofs.Common.{◌≡◌, ℕ, ◌++◌, List, [], ◌∷◌, Option, Some, None, refl, sym, ap, ◌∙◌, subst, length}
 use Rattle.std.specs.Prelude.{option_map}
+use Rattle.std.specs.Option.{option_or}
 use Rattle.blob_model.specs.Directory.{Directory, current}
 use Rattle.blob_model.specs.Durable.{Durable}
 use Rattle.blob_model.specs.Files.{Files, after_open}
 use Rattle.blob_model.specs.Opening.{IsOpened, opening}
 use Rattle.blob_model.specs.Places.{Place}
-use Rattle.blob_header.specs.Refusals.{Refusal, refusal_of}
+use Rattle.blob_header.specs.Refusals.{Refusal, refusal_of, Injected}
 use Rattle.blob_header.specs.declared.error.Error.{Error}
 use Rattle.blob_header.specs.declared.version.BlobVersion.{BlobVersion}
 use Rattle.blob_model.proofs.NameSteps.{read_by_open}
@@ -19,7 +20,7 @@ use Rattle.blob_lab.specs.declared.lab.Lab.{Lab}
 use Rattle.blob_calls.specs.declared.reply.Reply.TheVariants as reply
 use Rattle.blob_calls.specs.Acts.{OpenLoose}
 use Rattle.blob_lab.specs.Answers.{opened, size_of, version_of}
-use Rattle.blob_lab.specs.Denials.{or_then, injected_if, loose_denial}
+use Rattle.blob_lab.specs.Denials.{refused_if, loose_denial}
 use Rattle.blob_lab.specs.LabStands.{IsFor, StandsFor, Performs, Wrapper, stream_of}
 use Rattle.blob_opens.specs.OpenNames.{Registration}
 use Rattle.blob_opens.specs.Opens.{names_of}
@@ -39,7 +40,7 @@ module _ (w : Wrapper) (p n : List ℕ) (first last : ℕ) where
   IsOpenAllowed answer = injected_or (draw (config_of w).open_rate (stream_of w)).0 (OrMemory (open_refusal (directory (store_of w)) p n first last)) answer
 
   abbrev pub open_denied_by : Directory → Option Refusal
-  open_denied_by d = or_then (injected_if (draw (config_of w).open_rate (stream_of w)).0) (open_refusal d p n first last)
+  open_denied_by d = option_or (refused_if Injected (draw (config_of w).open_rate (stream_of w)).0) (open_refusal d p n first last)
 
   pub open_denied : (answer : Option Refusal) → IsOpenAllowed answer → OrMemory (open_denied_by (directory (store_of w))) answer
   open_denied answer a = drawn_denial (draw (config_of w).open_rate (stream_of w)).0 (OrMemory (open_refusal (directory (store_of w)) p n first last)) (open_refusal (directory (store_of w)) p n first last) (λ answer' m. m) answer a

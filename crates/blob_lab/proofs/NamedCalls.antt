@@ -2,10 +2,11 @@
 use Rattle.std.proofs.Common.{◌≡◌, ℕ, inl, inr, List, Option, Some, None, refl, sym, ap, ◌∙◌, subst, map}
 use Rattle.std.specs.Prelude.{is_some}
 use Rattle.rand_core.specs.Stream.{Stream}
+use Rattle.std.specs.Option.{option_or}
 use Rattle.blob_model.specs.Directory.{Directory}
 use Rattle.blob_model.specs.Draws.{Row, drawn, chosen_by}
 use Rattle.blob_model.specs.Files.{Files, admitted, after_remove, after_crash, reopened, all_needs}
-use Rattle.blob_header.specs.Refusals.{Refusal, Memory, refusal_of}
+use Rattle.blob_header.specs.Refusals.{Refusal, Memory, refusal_of, Injected}
 use Rattle.blob_header.specs.declared.error.Error.{Error}
 use Rattle.blob_model.proofs.NameSteps.{next_removed}
 use Rattle.blob_faulty.specs.Answers.{injected_or}
@@ -18,8 +19,8 @@ use Rattle.blob_lab.specs.declared.lab.Lab.{Lab}
 use Rattle.blob_calls.specs.declared.reply.Reply.{Reply}
 use Rattle.blob_calls.specs.declared.reply.Reply.TheVariants as reply
 use Rattle.blob_calls.specs.Acts.{Configure, Admit, Remove, Scan, Crash, Reopen}
-use Rattle.blob_lab.specs.Denials.{or_then, injected_if, remove_denial, scan_denial}
-use Rattle.blob_lab.specs.After as after
+use Rattle.blob_lab.specs.Denials.{refused_if, remove_denial, scan_denial}
+use Rattle.blob_lab.specs.Steps as steps
 use Rattle.blob_lab.specs.LabStands.{IsFor, StandsFor, Performs, stream_of}
 use Rattle.blob_opens.specs.OpenNames.{ended, none_open}
 use Rattle.blob_opens.specs.Opens.{names_of}
@@ -58,7 +59,7 @@ module _ (lab lab' : Lab) (handles : handles_of lab'.handles ≡ handles_of lab.
         IsScanAllowed answer = injected_or (draw (config_of lab.wrapper).scan_rate (stream_of lab.wrapper)).0 (OrMemory (partition_refusal (directory (store_of lab.wrapper)) p)) answer
 
         abbrev scan_denied_by : Directory → Option Refusal
-        scan_denied_by d = or_then (injected_if (draw (config_of lab.wrapper).scan_rate (stream_of lab.wrapper)).0) (partition_refusal d p)
+        scan_denied_by d = option_or (refused_if Injected (draw (config_of lab.wrapper).scan_rate (stream_of lab.wrapper)).0) (partition_refusal d p)
 
         scan_denied : (answer : Option Refusal) → IsScanAllowed answer → OrMemory (scan_denied_by (directory (store_of lab.wrapper))) answer
         scan_denied answer a = drawn_denial (draw (config_of lab.wrapper).scan_rate (stream_of lab.wrapper)).0 (OrMemory (partition_refusal (directory (store_of lab.wrapper)) p)) (partition_refusal (directory (store_of lab.wrapper)) p) (λ answer' m. m) answer a
@@ -87,7 +88,7 @@ module _ (lab lab' : Lab) (handles : handles_of lab'.handles ≡ handles_of lab.
           → ((f : Files) → IsFor lab.wrapper f → IsFor lab'.wrapper (after_crash f (chosen_by rows))) → Performs lab Crash r lab'
       crash_done r rows done tells draws stands = performs lab lab' Crash r
           (λ f s. inr (subst (λ (x : List Row). Tells r (told.Crashed x)) (ap (λ (d : List Row × Stream). d.0) (draws f s.wrapper.files)) tells, ap (λ (d : List Row × Stream). d.1) (draws f s.wrapper.files)))
-          (λ f s. subst (λ (x : Option Refusal). StandsFor lab' (record (after.crashed (state_of lab f) x) { stream = stream_of lab'.wrapper })) (sym done)
+          (λ f s. subst (λ (x : Option Refusal). StandsFor lab' (record (steps.crashed (state_of lab f) x) { stream = stream_of lab'.wrapper })) (sym done)
           (record {
             wrapper = record {
               files = subst (λ (x : List Row). IsFor lab'.wrapper (after_crash f (chosen_by x))) (ap (λ (d : List Row × Stream). d.0) (draws f s.wrapper.files)) (stands f s.wrapper.files);
@@ -112,7 +113,7 @@ module _ (lab lab' : Lab) (handles : handles_of lab'.handles ≡ handles_of lab.
     IsRemoveAllowed answer = injected_or (draw (config_of lab.wrapper).remove_rate (stream_of lab.wrapper)).0 (OrMemory (remove_refusal (directory (store_of lab.wrapper)) p n)) answer
 
     abbrev remove_denied_by : Directory → Option Refusal
-    remove_denied_by d = or_then (injected_if (draw (config_of lab.wrapper).remove_rate (stream_of lab.wrapper)).0) (remove_refusal d p n)
+    remove_denied_by d = option_or (refused_if Injected (draw (config_of lab.wrapper).remove_rate (stream_of lab.wrapper)).0) (remove_refusal d p n)
 
     remove_denied : (answer : Option Refusal) → IsRemoveAllowed answer → OrMemory (remove_denied_by (directory (store_of lab.wrapper))) answer
     remove_denied answer a = drawn_denial (draw (config_of lab.wrapper).remove_rate (stream_of lab.wrapper)).0 (OrMemory (remove_refusal (directory (store_of lab.wrapper)) p n)) (remove_refusal (directory (store_of lab.wrapper)) p n) (λ answer' m. m) answer a

@@ -4,6 +4,7 @@ use Rattle.hex.specs.Hex.{encode_lower}
 use Rattle.std.proofs.lemmas.Bool.{false≢true, and_from, le-leb}
 use Rattle.std.proofs.lemmas.Option.{none-some}
 use Rattle.rand_core.specs.Stream.{Stream}
+use Rattle.std.specs.Option.{option_or}
 use Rattle.blob_header.specs.declared.layout.Layout.{Layout}
 use Rattle.blob_header.specs.declared.version.BlobVersion.{BlobVersion}
 use Rattle.blob_model.specs.Directory.{Directory, File, Raw, Incarnation}
@@ -12,7 +13,7 @@ use Rattle.blob_header.specs.Header.{region}
 use Rattle.blob_model.specs.Opening.{Opening, Continues, Begins, Declines, opening, place_of}
 use Rattle.blob_header.specs.Parse.{every_layout}
 use Rattle.blob_header.specs.PartitionName.{is_partition_name}
-use Rattle.blob_header.specs.Refusals.{Refusal, BlobAlreadyOpen, BlobVersionMismatch, PartitionNameInvalid, GenerationsExhausted}
+use Rattle.blob_header.specs.Refusals.{Refusal, BlobAlreadyOpen, BlobVersionMismatch, PartitionNameInvalid, GenerationsExhausted, Injected}
 use Rattle.blob_header.specs.Resolve.{resolution}
 use Rattle.blob_header.specs.Versions.{is_in_range}
 use Rattle.blob_model.proofs.RawFiles.{raw_opens, raw_not_continues}
@@ -24,7 +25,7 @@ use Rattle.blob_calls.specs.Acts.{Act, Configure, Open, OpenLoose, Admit, Close,
 use Rattle.blob_lab.specs.After.{after}
 use Rattle.blob_lab.specs.Answers.{Answers, answer, found, size_of, unless_denied, version_of}
 use Rattle.blob_lab.specs.Answers as answers
-use Rattle.blob_lab.specs.Denials.{or_then, injected_if, exhausted_if, open_denial, loose_denial, is_unnumbered, open_already}
+use Rattle.blob_lab.specs.Denials.{refused_if, open_denial, loose_denial, is_unnumbered, open_already}
 use Rattle.blob_lab.specs.States.{State}
 use Rattle.blob_calls.specs.Told as told
 use Rattle.blob_calls.specs.Told.{Told, Tells}
@@ -71,13 +72,13 @@ pub record IsOpened (d : Directory) (p n : List ℕ) (version : ℕ) : Type 0 wh
 
 loosely : (v : State) (p n : List ℕ) (first last : ℕ) → loose_denial v p n first last ≡ None → IsOpened (after_open v.files p n first last).directory p n (version_of (found v p n first last))
 loosely v p n first last free =
-    let store : open_refusal v.files.directory p n first last ≡ None = (or_then_none (injected_if (draw v.config.open_rate v.stream).0) (open_refusal v.files.directory p n first last) free).1 in
+    let store : open_refusal v.files.directory p n first last ≡ None = (or_then_none (refused_if Injected (draw v.config.open_rate v.stream).0) (open_refusal v.files.directory p n first last) free).1 in
     let parts = valid_open p (opening_refusal (found v p n first last) v.files.directory.next) store in
     record { valid = parts.0; file = of_found v.files p n first last parts.1 }
 
 exclusively : (v : State) (p n : List ℕ) (first last : ℕ) → open_denial v p n first last ≡ None → loose_denial v p n first last ≡ None
 exclusively v p n first last free =
-    let later = or_then_none (exhausted_if (is_unnumbered v.names p n)) (or_then (loose_denial v p n first last) (open_already v.names p n)) free in
+    let later = or_then_none (refused_if GenerationsExhausted (is_unnumbered v.names p n)) (option_or (loose_denial v p n first last) (open_already v.names p n)) free in
     (or_then_none (loose_denial v p n first last) (open_already v.names p n) later.1).0
 
 -- the first call of a run
@@ -131,10 +132,10 @@ module _ (v : State) (p n : List ℕ) (first last version : ℕ) (accepts : Acce
 
   undenied : open_refusal v.files.directory p n first last ≡ None → open_denial v p n first last ≡ None
   undenied store =
-      ap (λ b. or_then (exhausted_if b) (or_then (loose_denial v p n first last) (open_already v.names p n)))
+      ap (λ b. option_or (refused_if GenerationsExhausted b) (option_or (loose_denial v p n first last) (open_already v.names p n)))
       (ap (λ (o : Option ℕ). is_none o && (v.names.next == 2 ^ 64 - 1)) free ∙ ne_eqb v.names.next (2 ^ 64 - 1) accepts.registration)
-      ∙ ap (λ b. or_then (or_then (injected_if b) (open_refusal v.files.directory p n first last)) (open_already v.names p n)) accepts.uninjected
-      ∙ ap (λ r. or_then r (open_already v.names p n)) store
+      ∙ ap (λ b. option_or (option_or (refused_if Injected b) (open_refusal v.files.directory p n first last)) (open_already v.names p n)) accepts.uninjected
+      ∙ ap (λ r. option_or r (open_already v.names p n)) store
       ∙ ap (λ (o : Option ℕ). if is_some o then Some (BlobAlreadyOpen p (encode_lower n)) else None) free
 
   told_by : (o : Opening) → found v p n first last ≡ o → is_partition_name p ≡ true → opening_refusal o v.files.directory.next ≡ None → (answer v (Open p n (Some (first, last)))).0 ≡ told.Opened (length v.handles) (size_of v.files p n o) (version_of o)

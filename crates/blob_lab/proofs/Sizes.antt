@@ -3,11 +3,12 @@ use Rattle.std.proofs.Common.{◌≡◌, inl, inr, ℕ, ◌+◌, max, Bool, true
 use Rattle.std.specs.Prelude.{is_some}
 use Rattle.std.proofs.lemmas.Bool.{false≢true}
 use Rattle.rand_core.specs.Stream.{Stream}
+use Rattle.std.specs.Option.{option_or}
 use Rattle.blob_model.specs.Bytes.{written, resized}
 use Rattle.blob_model.specs.Directory.{Directory, is_current}
 use Rattle.blob_model.specs.Live.{live_written, all_written}
 use Rattle.blob_model.specs.Places.{Place}
-use Rattle.blob_header.specs.Refusals.{Refusal, BlobMissing, Injected, OffsetOverflow}
+use Rattle.blob_header.specs.Refusals.{Refusal, BlobMissing, Injected, OffsetOverflow, GenerationsExhausted}
 use Rattle.blob_model.specs.Runs.{Run, runs}
 use Rattle.blob_model.proofs.Bytes.{length-overlay_by, length-resized, reach_all}
 use Rattle.blob_faulty.specs.Answers.{lacks_number, last_end}
@@ -19,7 +20,7 @@ use Rattle.blob_calls.specs.declared.reply.Reply.{Reply}
 use Rattle.blob_calls.specs.Acts.{Ask, Read, Write, Resize, Size, Sync, StartSync}
 use Rattle.blob_lab.specs.After.{held_after}
 use Rattle.blob_lab.specs.Answers.{IsAnswer, unless_denied, through}
-use Rattle.blob_lab.specs.Denials.{or_then, exhausted_if, or_injected, runs_denial, fate_denial, write_denial}
+use Rattle.blob_lab.specs.Denials.{refused_if, or_injected, runs_denial, fate_denial, write_denial}
 use Rattle.blob_lab.specs.States.{State, Held}
 use Rattle.blob_calls.specs.Told as told
 use Rattle.blob_calls.specs.Told.{refused_by}
@@ -31,11 +32,11 @@ abbrev is_missing : Option Refusal → Bool
 is_missing (Some (BlobMissing p n)) = true
 is_missing _ = false
 
-then_there : (first later : Option Refusal) → is_missing first ≡ false → is_missing later ≡ false → is_missing (or_then first later) ≡ false
+then_there : (first later : Option Refusal) → is_missing first ≡ false → is_missing later ≡ false → is_missing (option_or first later) ≡ false
 then_there None later f l = l
 then_there (Some r) later f l = f
 
-exhausted_there : (b : Bool) → is_missing (exhausted_if b) ≡ false
+exhausted_there : (b : Bool) → is_missing (refused_if GenerationsExhausted b) ≡ false
 exhausted_there true = refl
 exhausted_there false = refl
 
@@ -62,13 +63,13 @@ module _ (d : Directory) (o : Place) (now : is_current d o ≡ true) where
 
   runs_there : (rs : List Run) → is_missing (runs_denial d o rs) ≡ false
   runs_there [] = refl
-  runs_there (r ∷ rs) = then_there (or_then (end_refusal o (last_end 0 (r ∷ rs))) (sync_refusal d o)) (Some Injected) (then_there (end_refusal o (last_end 0 (r ∷ rs))) (sync_refusal d o) (end_there (last_end 0 (r ∷ rs))) sync_there) refl
+  runs_there (r ∷ rs) = then_there (option_or (end_refusal o (last_end 0 (r ∷ rs))) (sync_refusal d o)) (Some Injected) (then_there (end_refusal o (last_end 0 (r ∷ rs))) (sync_refusal d o) (end_there (last_end 0 (r ∷ rs))) sync_there) refl
 
   fate_there : (fate : WriteFate) (retained : Bool) (next : ℕ) (sync : Bool) (offset : ℕ) (bytes : List ℕ) → is_missing (fate_denial fate d o retained next sync offset bytes) ≡ false
   fate_there Done retained next true offset bytes = write_there offset bytes true
-  fate_there Done retained next false offset bytes = then_there (exhausted_if (lacks_number retained next bytes)) (write_refusal d o offset bytes false) (exhausted_there (lacks_number retained next bytes)) (write_there offset bytes false)
+  fate_there Done retained next false offset bytes = then_there (refused_if GenerationsExhausted (lacks_number retained next bytes)) (write_refusal d o offset bytes false) (exhausted_there (lacks_number retained next bytes)) (write_there offset bytes false)
   fate_there Unsynced retained next sync offset bytes =
-      then_there (exhausted_if (lacks_number retained next bytes)) (or_injected (write_refusal d o offset bytes false)) (exhausted_there (lacks_number retained next bytes))
+      then_there (refused_if GenerationsExhausted (lacks_number retained next bytes)) (or_injected (write_refusal d o offset bytes false)) (exhausted_there (lacks_number retained next bytes))
       (then_there (write_refusal d o offset bytes false) (Some Injected) (write_there offset bytes false) refl)
   fate_there (Failed chosen) retained next sync offset bytes = runs_there (runs offset bytes chosen)
 

@@ -3,6 +3,7 @@ use Rattle.std.proofs.Common.{◌≡◌, ◌≢◌, ℕ, ◌+◌, ◌-◌, ◌^�
 use Rattle.std.proofs.lemmas.Bool.{cond_both, and_left, eqb-true, false≢true, cases_Bool}
 use Rattle.std.specs.Str.{bytes_eq}
 use Rattle.rand_core.specs.Stream.{Stream}
+use Rattle.std.specs.Option.{option_or}
 use Rattle.blob_header.specs.declared.layout.Layout.{Layout}
 use Rattle.blob_model.specs.Directory.{Directory, File, Raw, Incarnation, current, is_that, is_current, with_file, directory_made}
 use Rattle.blob_header.specs.Header.{data_start}
@@ -10,16 +11,17 @@ use Rattle.blob_model.specs.Files.{Files, opened, after_open, admitted, admitted
 use Rattle.blob_model.specs.Log.{Entry}
 use Rattle.blob_model.specs.Opening.{Opening, Continues, Begins, Declines, opening, removed}
 use Rattle.blob_model.specs.Places.{Place, same_place}
-use Rattle.blob_header.specs.Refusals.{Refusal, BlobAlreadyOpen}
+use Rattle.blob_header.specs.Refusals.{Refusal, BlobAlreadyOpen, GenerationsExhausted, Injected}
 use Rattle.blob_faults.specs.Faults.{draw, resize_fate}
 use Rattle.blob_faults.specs.Recorded.{recorded_write, recorded_resize}
 use Rattle.blob_memory.specs.Answers.{missing, sync_refusal}
 use Rattle.blob_model.specs.SamePlace.{parts, same_place_exact}
 use Rattle.blob_model.proofs.Durables.{others_logged, others_published}
 use Rattle.blob_calls.specs.Acts.{Ask, Read, Write, Resize, Size, Sync, StartSync, Act, Configure, Open, OpenLoose, Admit, Close, Through, Finish, Remove, Scan, Crash, Reopen}
-use Rattle.blob_lab.specs.After.{after, asked, begun, files_after, held_after, closed, finished, removed as removal, crashed, exclusively_opened, loosely_opened}
+use Rattle.blob_lab.specs.After.{after, asked, begun, files_after, held_after, closed, finished, exclusively_opened}
+use Rattle.blob_lab.specs.Steps.{removed as removal, crashed, loosely_opened}
 use Rattle.blob_lab.specs.Answers.{kept_at}
-use Rattle.blob_lab.specs.Denials.{start_denial, sync_denial, injected_if, exhausted_if, or_then}
+use Rattle.blob_lab.specs.Denials.{refused_if, start_denial, sync_denial}
 use Rattle.blob_lab.specs.States.{State, Held, Started}
 
 -- each current incarnation has a number that was given
@@ -211,20 +213,20 @@ stale_asked v h ask refusal a stale now = other_asked v h ask refusal a (stale_a
 
 pub stale_sync : (v : State) (h : Held) → is_current v.files.directory h.place ≡ false → (draw v.config.sync_rate v.stream).0 ≡ false → sync_denial v h ≡ Some (missing h.place)
 stale_sync v h stale undrawn =
-    ap (λ b. or_then (injected_if b) (sync_refusal v.files.directory h.place)) undrawn
+    ap (λ b. option_or (refused_if Injected b) (sync_refusal v.files.directory h.place)) undrawn
     ∙ ap (λ b. if b then None else Some (missing h.place)) stale
 
 pub stale_start : (v : State) (h : Held) → is_current v.files.directory h.place ≡ false → (draw v.config.sync_rate v.stream).0 ≡ false → v.files.next_marker ≢ 2 ^ 64 - 1 → start_denial v h ≡ Some (missing h.place)
 stale_start v h stale undrawn left =
-    ap (λ b. or_then (injected_if b) (or_then (exhausted_if (v.files.next_marker == 2 ^ 64 - 1)) (sync_refusal v.files.directory h.place))) undrawn
-    ∙ ap (λ b. or_then (exhausted_if b) (sync_refusal v.files.directory h.place)) (ne_eqb v.files.next_marker (2 ^ 64 - 1) left)
+    ap (λ b. option_or (refused_if Injected b) (option_or (refused_if GenerationsExhausted (v.files.next_marker == 2 ^ 64 - 1)) (sync_refusal v.files.directory h.place))) undrawn
+    ∙ ap (λ b. option_or (refused_if GenerationsExhausted b) (sync_refusal v.files.directory h.place)) (ne_eqb v.files.next_marker (2 ^ 64 - 1) left)
     ∙ ap (λ b. if b then None else Some (missing h.place)) stale
 
 -- it begins nothing, whatever is drawn
 pub stale_begun : (v : State) (h : Held) (refusal : Option Refusal) → is_current v.files.directory h.place ≡ false → files_after v h StartSync refusal ≡ v.files
 stale_begun v h (Some refusal) stale = refl
 stale_begun v h None stale = go (draw v.config.sync_rate v.stream).0 (v.files.next_marker == 2 ^ 64 - 1) (is_current v.files.directory h.place) stale where
-  go : (drawn exhausted now : Bool) → now ≡ false → begun v.files h (or_then (injected_if drawn) (or_then (exhausted_if exhausted) (if now then None else Some (missing h.place)))) ≡ v.files
+  go : (drawn exhausted now : Bool) → now ≡ false → begun v.files h (option_or (refused_if Injected drawn) (option_or (refused_if GenerationsExhausted exhausted) (if now then None else Some (missing h.place)))) ≡ v.files
   go true exhausted now e = refl
   go false true now e = refl
   go false false false e = refl

@@ -2,16 +2,17 @@
 use Rattle.std.proofs.Common.{◌≡◌, inl, inr, ⊎_elim, ℕ, Bool, true, false, not, List, Option, Some, None, refl, sym, ap, ◌∙◌, if◌then◌else◌}
 use Rattle.std.proofs.lemmas.Bool.{cases_Bool, false≢true}
 use Rattle.rand_core.specs.Stream.{Stream}
+use Rattle.std.specs.Option.{option_or}
 use Rattle.blob_model.specs.Opening.{opening}
 use Rattle.blob_header.specs.PartitionName.{is_partition_name}
-use Rattle.blob_header.specs.Refusals.{Refusal, BlobAlreadyOpen, PartitionNameInvalid}
+use Rattle.blob_header.specs.Refusals.{Refusal, BlobAlreadyOpen, PartitionNameInvalid, GenerationsExhausted, Injected}
 use Rattle.blob_faults.specs.Faults.{draw}
 use Rattle.blob_memory.specs.Answers.{opening_refusal}
 use Rattle.blob_calls.specs.declared.reply.Reply.{Reply}
 use Rattle.blob_calls.specs.Acts.{Open, OpenLoose}
 use Rattle.blob_lab.specs.Answers as answers
 use Rattle.blob_lab.specs.Answers.{Answers}
-use Rattle.blob_lab.specs.Denials.{or_then, injected_if, exhausted_if, open_denial, loose_denial, is_unnumbered, open_already}
+use Rattle.blob_lab.specs.Denials.{refused_if, open_denial, loose_denial, is_unnumbered, open_already}
 use Rattle.blob_lab.specs.States.{State}
 use Rattle.blob_calls.specs.Told.{refused_by}
 use Rattle.blob_lab.proofs.ToldRefusals.{denied}
@@ -25,12 +26,12 @@ made _ = false
 invalid_store : (p : List ℕ) (later : Option Refusal) → is_partition_name p ≡ false → (if not (is_partition_name p) then Some (PartitionNameInvalid p) else later) ≡ Some (PartitionNameInvalid p)
 invalid_store p later invalid = ap (λ b. if not b then Some (PartitionNameInvalid p) else later) invalid
 
-unmade : (p : List ℕ) (unnumbered drawn : Bool) (already : Option Refusal) → made (or_then (exhausted_if unnumbered) (or_then (or_then (injected_if drawn) (Some (PartitionNameInvalid p))) already)) ≡ false
+unmade : (p : List ℕ) (unnumbered drawn : Bool) (already : Option Refusal) → made (option_or (refused_if GenerationsExhausted unnumbered) (option_or (option_or (refused_if Injected drawn) (Some (PartitionNameInvalid p))) already)) ≡ false
 unmade p true drawn already = refl
 unmade p false true already = refl
 unmade p false false already = refl
 
-unmade_loosely : (p : List ℕ) (drawn : Bool) → made (or_then (injected_if drawn) (Some (PartitionNameInvalid p))) ≡ false
+unmade_loosely : (p : List ℕ) (drawn : Bool) → made (option_or (refused_if Injected drawn) (Some (PartitionNameInvalid p))) ≡ false
 unmade_loosely p true = refl
 unmade_loosely p false = refl
 
@@ -44,7 +45,7 @@ exclusive_valid v p n versions reply left (inr t) so =
     let is : refused_by reply ≡ denial = denied reply denial (answers.opened v p n versions) refl t.0 in
     valid_or p denial
     (λ invalid.
-    ap (λ store. made (or_then (exhausted_if (is_unnumbered v.names p n)) (or_then (or_then (injected_if (draw v.config.open_rate v.stream).0) store) (open_already v.names p n))))
+    ap (λ store. made (option_or (refused_if GenerationsExhausted (is_unnumbered v.names p n)) (option_or (option_or (refused_if Injected (draw v.config.open_rate v.stream).0) store) (open_already v.names p n))))
     (invalid_store p (opening_refusal (opening p n (v.files.directory.file p n) versions.0 versions.1) v.files.directory.next) invalid)
     ∙ unmade p (is_unnumbered v.names p n) (draw v.config.open_rate v.stream).0 (open_already v.names p n))
     (sym (ap made is) ∙ so)
@@ -56,7 +57,7 @@ loose_valid v p n versions reply left (inr t) so =
     let is : refused_by reply ≡ denial = denied reply denial (answers.opened v p n versions) refl t.0 in
     valid_or p denial
     (λ invalid.
-    ap (λ store. made (or_then (injected_if (draw v.config.open_rate v.stream).0) store))
+    ap (λ store. made (option_or (refused_if Injected (draw v.config.open_rate v.stream).0) store))
     (invalid_store p (opening_refusal (opening p n (v.files.directory.file p n) versions.0 versions.1) v.files.directory.next) invalid)
     ∙ unmade_loosely p (draw v.config.open_rate v.stream).0)
     (sym (ap made is) ∙ so)

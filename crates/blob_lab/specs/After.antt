@@ -7,7 +7,7 @@ use Rattle.blob_model.specs.Files.{Files, all_logged, synced, started, admitted,
 use Rattle.blob_header.specs.Refusals.{Refusal, BlobAlreadyOpen}
 use Rattle.blob_faults.specs.Faults.{resize_fate}
 use Rattle.blob_faults.specs.Recorded.{recorded_write, recorded_resize, live_of_write, live_of_resize, size_of_write, size_of_resize}
-use Rattle.blob_calls.specs.Acts.{Ask, Write, Resize, Sync, StartSync, Accepted, Act, Configure, Open, OpenLoose, Admit, Close, Through, Finish, Remove, Scan, Crash, Reopen}
+use Rattle.blob_calls.specs.Acts.{Ask, Write, Resize, Sync, StartSync, Accepted, Act, Configure, Open, OpenLoose, Admit, Close, Through, Finish, Remove, Crash, Reopen}
 use Rattle.blob_lab.specs.Answers.{kept_at}
 use Rattle.blob_lab.specs.Denials.{start_denial}
 use Rattle.blob_opens.specs.OpenNames as names
@@ -57,10 +57,6 @@ asked v number (Some h) ask refusal = record v {
 abbrev pub with_held : State → List ℕ → List ℕ → Files → Option Registration → State
 with_held v p n f registration = record v { files = f; handles = v.handles ++ option_map (held_on f registration) (current f.directory p n) ∷ [] }
 
-abbrev pub loosely_opened : State → List ℕ → List ℕ → Accepted → Option Refusal → State
-loosely_opened v p n versions None = with_held v p n (after_open v.files p n versions.0 versions.1) None
-loosely_opened v p n versions (Some refusal) = v
-
 -- an exclusive open is admitted at once; where the name is open, what the store's open made stays
 abbrev pub exclusively_opened : State → List ℕ → List ℕ → Accepted → Option Refusal → State
 exclusively_opened v p n versions None = with_held (record v { names = names.opened v.names p n }) p n
@@ -82,34 +78,20 @@ abbrev pub finished : State → ℕ → Option Started → State
 finished v number None = v
 finished v number (Some s) = record v { syncs = set v.syncs number None }
 
-abbrev pub removed : State → List ℕ → Option (List ℕ) → Option Refusal → State
-removed v p n None = record v { files = after_remove v.files p n; names = names.ended v.names p n }
-removed v p n (Some refusal) = v
-
--- a crash keeps what is drawn
-abbrev pub crashed : State → Option Refusal → State
-crashed v None = record v { files = after_crash v.files (chosen_by (drawn v.stream (all_needs v.files.log)).0) }
-crashed v (Some refusal) = v
-
--- all names are closed and all started syncs dropped; numbers aren't given again, and handles stay
-abbrev pub rebuilt : State → State
-rebuilt v = record v { files = reopened v.files; names = none_open v.names.next; syncs = map (λ slot. None) v.syncs }
-
--- but for the generator
+-- but for the generator. A crash keeps what is drawn. In a rebuilt store all names are closed and all started syncs dropped;
+-- numbers aren't given again, and handles stay
 abbrev pub changed : State → Act → Option Refusal → State
 changed v (Configure config) refusal = record v { config = config }
-changed v (Open p n None) refusal = v
 changed v (Open p n (Some versions)) refusal = exclusively_opened v p n versions refusal
-changed v (OpenLoose p n None) refusal = v
-changed v (OpenLoose p n (Some versions)) refusal = loosely_opened v p n versions refusal
+changed v (OpenLoose p n (Some versions)) None = with_held v p n (after_open v.files p n versions.0 versions.1) None
 changed v (Admit p n) refusal = record v { files = admitted v.files p n }
 changed v (Close number) refusal = closed v number (kept_at v.handles number)
 changed v (Through number ask) refusal = asked v number (kept_at v.handles number) ask refusal
 changed v (Finish number) refusal = finished v number (kept_at v.syncs number)
-changed v (Remove p n) refusal = removed v p n refusal
-changed v (Scan p) refusal = v
-changed v Crash refusal = crashed v refusal
-changed v Reopen refusal = rebuilt v
+changed v (Remove p n) None = record v { files = after_remove v.files p n; names = names.ended v.names p n }
+changed v Crash None = record v { files = after_crash v.files (chosen_by (drawn v.stream (all_needs v.files.log)).0) }
+changed v Reopen refusal = record v { files = reopened v.files; names = none_open v.names.next; syncs = map (λ slot. None) v.syncs }
+changed v act refusal = v
 
 abbrev pub after : State → Act → Option Refusal → Stream → State
 after v act refusal left = record (changed v act refusal) { stream = left }

@@ -1,21 +1,19 @@
 -- What a call of a laboratory is told, and what its draws leave of the generator's stream.
 use Rattle.std.specs.Prelude.{◌≡◌, ◌⊎◌, ℕ, Bool, true, false, if◌then◌else◌, List, length, take, drop, Option, Some, None, is_some, slice_get, option_and_then, IsTrue}
+use Rattle.std.specs.Option.{option_or}
 use Rattle.rand_core.specs.Stream.{Stream}
 use Rattle.blob_model.specs.Draws.{drawn}
 use Rattle.blob_model.specs.Files.{Files, all_needs, durable_at}
 use Rattle.blob_model.specs.Opening.{Opening, Continues, Begins, Declines, opening, place_of}
-use Rattle.blob_header.specs.Refusals.{Refusal, Memory}
+use Rattle.blob_header.specs.Refusals.{Refusal, Memory, Injected}
 use Rattle.blob_faults.specs.Faults.{draw, after_write, resize_fate}
 use Rattle.blob_calls.specs.declared.reply.Reply.{Reply}
 use Rattle.blob_calls.specs.Acts.{Ask, Read, Write, Resize, Size, Sync, StartSync, Accepted, Act, Configure, Open, OpenLoose, Admit, Close, Through, Finish, Remove, Scan, Crash, Reopen}
-use Rattle.blob_lab.specs.Denials.{is_unnumbered, read_denial, write_denial, resize_denial, sync_denial, open_denial, loose_denial, remove_denial, scan_denial}
-use Rattle.blob_lab.specs.States.{State, Held, Started}
+use Rattle.blob_lab.specs.Denials.{refused_if, is_unnumbered, write_denial, reaching_denial, sync_denial, open_denial, loose_denial, remove_denial, scan_denial}
+use Rattle.blob_lab.specs.States.{State, Held}
+use Rattle.blob_memory.specs.Answers.{read_refusal}
 use Rattle.blob_calls.specs.Told as told
 use Rattle.blob_calls.specs.Told.{Told, Tells, refused_by}
-
--- an answer: what is told, and what is left of the stream
-abbrev pub Answer : Type 0
-Answer = Told × Stream
 
 -- the refusal, or with none this
 abbrev pub unless_denied : Option Refusal → Told → Told
@@ -28,26 +26,19 @@ kept_at slots number = option_and_then (λ slot. slot) (slice_get slots number)
 
 -- Through a handle.
 
-abbrev pub left_of : State → Held → Ask → Stream
-left_of v h (Read offset len) = (draw v.config.read_rate v.stream).1
-left_of v h (Write offset bytes sync) = after_write v.config sync offset bytes v.stream
-left_of v h (Resize len) = (resize_fate v.config.resize_rate h.size len v.stream).1
-left_of v h Size = v.stream
-left_of v h Sync = (draw v.config.sync_rate v.stream).1
-left_of v h StartSync = (draw v.config.sync_rate v.stream).1
-
--- the outcome of a started sync is told when it is finished
-abbrev pub told_by : State → Held → Ask → Told
-told_by v h (Read offset len) = unless_denied (read_denial v h offset len) (told.Bytes (take len (drop offset h.live)))
-told_by v h (Write offset bytes sync) = unless_denied (write_denial v h offset bytes sync) told.Done
-told_by v h (Resize len) = unless_denied (resize_denial v h len) told.Done
-told_by v h Size = told.Size h.size
-told_by v h Sync = unless_denied (sync_denial v h) told.Done
-told_by v h StartSync = told.Started (length v.syncs)
-
-abbrev pub through : State → Option Held → Ask → Answer
+-- what is told, and what is left of the stream. The outcome of a started sync is told when it is finished
+abbrev pub through : State → Option Held → Ask → Told × Stream
 through v None ask = (told.NoHandle, v.stream)
-through v (Some h) ask = (told_by v h ask, left_of v h ask)
+through v (Some h) (Read offset len) =
+    let d = draw v.config.read_rate v.stream in
+    (unless_denied (option_or (refused_if Injected d.0) (read_refusal h.place h.live offset len)) (told.Bytes (take len (drop offset h.live))), d.1)
+through v (Some h) (Write offset bytes sync) = (unless_denied (write_denial v h offset bytes sync) told.Done, after_write v.config sync offset bytes v.stream)
+through v (Some h) (Resize len) =
+    let d = resize_fate v.config.resize_rate h.size len v.stream in
+    (unless_denied (reaching_denial d.0 h.place len) told.Done, d.1)
+through v (Some h) Size = (told.Size h.size, v.stream)
+through v (Some h) Sync = (unless_denied (sync_denial v h) told.Done, (draw v.config.sync_rate v.stream).1)
+through v (Some h) StartSync = (told.Started (length v.syncs), (draw v.config.sync_rate v.stream).1)
 
 -- An open.
 
@@ -69,30 +60,19 @@ found v p n first last = opening p n (v.files.directory.file p n) first last
 abbrev pub opened : State → List ℕ → List ℕ → Accepted → Told
 opened v p n (first, last) = let o = found v p n first last in told.Opened (length v.handles) (size_of v.files p n o) (version_of o)
 
--- where no number is left for the open, the store isn't asked
-abbrev pub left_of_open : State → List ℕ → List ℕ → Stream
-left_of_open v p n = if is_unnumbered v.names p n then v.stream else (draw v.config.open_rate v.stream).1
-
 -- Any call.
 
-abbrev pub finished : Option Started → Told
-finished None = told.NoHandle
-finished (Some s) = unless_denied s.outcome told.Done
-
-abbrev pub closed : Option Held → Told
-closed None = told.NoHandle
-closed (Some h) = told.Done
-
-abbrev pub answer : State → Act → Answer
+-- where no number is left for an exclusive open, the store isn't asked
+abbrev pub answer : State → Act → Told × Stream
 answer v (Configure config) = (told.Done, v.stream)
 answer v (Open p n None) = (told.EmptyRange, v.stream)
-answer v (Open p n (Some versions)) = (unless_denied (open_denial v p n versions.0 versions.1) (opened v p n versions), left_of_open v p n)
+answer v (Open p n (Some versions)) = (unless_denied (open_denial v p n versions.0 versions.1) (opened v p n versions), if is_unnumbered v.names p n then v.stream else (draw v.config.open_rate v.stream).1)
 answer v (OpenLoose p n None) = (told.EmptyRange, v.stream)
 answer v (OpenLoose p n (Some versions)) = (unless_denied (loose_denial v p n versions.0 versions.1) (opened v p n versions), (draw v.config.open_rate v.stream).1)
 answer v (Admit p n) = (told.Done, v.stream)
-answer v (Close number) = (closed (kept_at v.handles number), v.stream)
+answer v (Close number) = (elim (kept_at v.handles number) [ None ↦ told.NoHandle | Some h ↦ told.Done ], v.stream)
 answer v (Through number ask) = through v (kept_at v.handles number) ask
-answer v (Finish number) = (finished (kept_at v.syncs number), v.stream)
+answer v (Finish number) = (elim (kept_at v.syncs number) [ None ↦ told.NoHandle | Some s ↦ unless_denied s.outcome told.Done ], v.stream)
 answer v (Remove p n) = (unless_denied (remove_denial v p n) told.Done, (draw v.config.remove_rate v.stream).1)
 answer v (Scan p) = (unless_denied (scan_denial v p) (told.Names (λ n. is_some (v.files.directory.file p n))), (draw v.config.scan_rate v.stream).1)
 answer v Crash = let d = drawn v.stream (all_needs v.files.log) in (told.Crashed d.0, d.1)
@@ -119,7 +99,7 @@ may_grow v Reopen = false
 
 -- A reply that may be given, with what is left of the stream: the answer, or, where the call may grow, that there is no
 -- memory. Then any draws may have been made.
-abbrev pub IsAnswer : Bool → Answer → Reply → Stream → Type 0
+abbrev pub IsAnswer : Bool → Told × Stream → Reply → Stream → Type 0
 IsAnswer grows answer reply left = (IsTrue grows × (refused_by reply ≡ Some Memory)) ⊎ (Tells reply answer.0 × (left ≡ answer.1))
 
 abbrev pub Answers : State → Act → Reply → Stream → Type 0

@@ -14,6 +14,7 @@ pub mod Scripted
 pub mod ScriptReading
 pub mod Scripts
 pub mod States
+pub mod Steps
 pub mod Tables
 pub use Rattle.blob_names.specs.Names
 pub use Rattle.blob_opens.specs.OpenNames

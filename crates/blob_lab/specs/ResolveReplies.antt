@@ -4,10 +4,9 @@ use Rattle.std.specs.Fmt.{decimal}
 use Rattle.std.specs.Io.KnownBytes.{Appends}
 use Rattle.hex.specs.declared.error.FromHexError.{FromHexError}
 use Rattle.hex.specs.Hex.{decode_of}
-use Rattle.blob_header.specs.declared.layout.Layout.TheVariants.{V0, V1}
 use Rattle.blob_header.specs.declared.version.BlobVersion.{BlobVersion}
 use Rattle.blob_header.specs.declared.error.Error.{Error}
-use Rattle.blob_header.specs.Parse.{Accepted}
+use Rattle.blob_header.specs.Parse.{every_layout}
 use Rattle.blob_header.specs.Refusals.{Refusal, Memory, refusal_of}
 use Rattle.blob_header.specs.ReplyLines.{refusal_line}
 use Rattle.blob_header.specs.Resolve.{refusing, resolution}
@@ -23,20 +22,15 @@ abbrev pub by_refusal : {T : Type 0} → Result T Error → Result T Refusal
 by_refusal (Ok x) = Ok x
 by_refusal (Err e) = Err (refusal_of e)
 
--- every layout and every version
-abbrev pub anything : Accepted
-anything = record { oldest = V0; newest = V1; least = 0; greatest = 65535 }
-
--- what the bytes resolve to as a whole blob, by the names that the program gives it
+-- what the bytes resolve to as a whole blob of any layout and version, by the names that the program gives it
 abbrev pub resolved_image : List ℕ → Result (Option (ℕ × BlobVersion × ℕ)) Refusal
-resolved_image image = refusing (codes "image") (codes "blob") (resolution image anything)
+resolved_image image = refusing (codes "image") (codes "blob") (resolution image (every_layout 0 65535))
 
 -- the reply to an image; where it is a refusal, the refusal may be the one for want of memory
-abbrev pub IsReplyTo : List ℕ → List ℕ → Type 0
-IsReplyTo image reply = (reply ≡ resolution_line (resolved_image image)) ⊎ (IsErr (resolved_image image) × (reply ≡ refusal_line Memory))
-
 abbrev pub RepliesTo : Result (List ℕ) FromHexError → Option (List ℕ) → Option (List ℕ) → Type 0
-RepliesTo (Ok image) old new = (reply : List ℕ) × IsReplyTo image reply × Appends old new (reply ++ 10 ∷ [])
+RepliesTo (Ok image) old new = (reply : List ℕ)
+    × ((reply ≡ resolution_line (resolved_image image)) ⊎ (IsErr (resolved_image image) × (reply ≡ refusal_line Memory)))
+    × Appends old new (reply ++ 10 ∷ [])
 RepliesTo (Err e) old new = ⊥
 
 -- a line of hex was answered, by one line

@@ -1,5 +1,5 @@
 -- Given words as a stream, and what comes behind them.
-use Rattle.std.specs.Prelude.{ℕ, List, [], ◌∷◌, Option, Some, None, option_map}
+use Rattle.std.specs.Prelude.{ℕ, List, [], ◌∷◌, Option, Some, None}
 use Rattle.rand_core.specs.Stream.{Stream}
 use Rattle.rand_core.specs.Steps.{stream_of, steps_u64_low}
 use Rattle.rand_xoshiro.specs.SplitMix64.{splitmix_seed}
@@ -27,9 +27,6 @@ state_of seed = of_seed (splitmix_seed 32 seed)
 pub record Words : Type 0 where
   pub given : List ℕ
   pub seed : Option ℕ
-
-abbrev pub drawn_from : Words → Stream
-drawn_from words = scripted (words.given, option_map state_of words.seed)
 
 -- these words, and zeros for good
 abbrev pub only : List ℕ → Words

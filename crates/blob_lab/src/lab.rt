@@ -1,29 +1,29 @@
 //! The laboratory: a faulty memory store, its open handles and started syncs, and calls as data.
 ghost use Rattle.std.specs.Prelude.{◌≡◌, IfOk, OnErr};
 ghost use Rattle.blob_header.specs.Refusals.{IsMemory};
-ghost use Rattle.blob_calls.specs.Acts.{Configure, act_of};
 ghost use Rattle.blob_lab.specs.Fixed.{Persists};
-ghost use Rattle.blob_lab.specs.LabStands.{StandsFor, Performs, wrapper_of};
 ghost use Rattle.blob_lab.specs.Reached.{NoneLoose, ReachedExclusively};
 ghost use Rattle.blob_lab.specs.Runs.{Run};
 ghost use Rattle.blob_lab.specs.Scripted.{behind_seeded, only, scripted};
 ghost use Rattle.blob_lab.specs.States.{State, start, start_on};
 ghost use Rattle.blob_lab.specs.Tables.{images_of};
 
+mod applying;
 mod asking;
 pub mod handles;
 mod naming;
 mod opening;
 mod rebuilding;
+mod standing;
 pub mod syncs;
 
 use crate::ScriptedRng;
 use blob_base::Error;
-use blob_calls::script::setting::copy_of;
 use blob_calls::{Call, Reply};
 use blob_faulty::Config;
 use blob_opens::Opens;
 use handles::Handles;
+pub use standing::Stands;
 use std::alloc::Global;
 use syncs::Syncs;
 
@@ -49,7 +49,7 @@ impl Lab {
         words: Vec<u64>,
         config: Config,
     ) -> Result<Lab, Error>
-        ensures stands { IfOk result (λ lab. StandsFor lab (start (images_of images.items) (only words.items) config)) }
+        ensures stands { IfOk result (λ lab. ⟦<Lab as Stands>⟧.stands_for lab (start (images_of images.items) (only words.items) config)) }
         ensures memory { OnErr result (IsMemory result) }
     {
         Lab::drawing(images, ScriptedRng::new(words), config)
@@ -63,7 +63,7 @@ impl Lab {
         seed: u64,
         config: Config,
     ) -> Result<Lab, Error>
-        ensures stands { IfOk result (λ lab. StandsFor lab (start (images_of images.items) (behind_seeded words.items seed) config)) }
+        ensures stands { IfOk result (λ lab. ⟦<Lab as Stands>⟧.stands_for lab (start (images_of images.items) (behind_seeded words.items seed) config)) }
         ensures memory { OnErr result (IsMemory result) }
     {
         Lab::drawing(images, ScriptedRng::seeded(words, seed), config)
@@ -74,7 +74,7 @@ impl Lab {
         rng: ScriptedRng,
         config: Config,
     ) -> Result<Lab, Error>
-        ensures stands { IfOk result (λ lab. StandsFor lab (start_on (images_of images.items) (scripted rng) config)) }
+        ensures stands { IfOk result (λ lab. ⟦<Lab as Stands>⟧.stands_for lab (start_on (images_of images.items) (scripted rng) config)) }
         ensures memory { OnErr result (IsMemory result) }
     {
         let alloc = *images.allocator();
@@ -91,59 +91,14 @@ impl Lab {
         })
     }
 
-    /// Makes one call: whatever state the laboratory stood for, the reply is one that the call may be given there, and the
-    /// laboratory now stands for what the call makes of that state.
-    ///
-    /// `NoHandle` and `EmptyRange` change nothing and draw nothing. `Failed(Memory)` changes nothing but the generator,
-    /// and isn't answered to `Configure`, `Admit`, `Close`, `Size`, `Finish` and `Reopen`.
-    pub fn apply(&mut self, call: &Call) -> Reply
-        ensures { Performs self.old (act_of call.now) result self.new }
-    {
-        match call {
-            Call::Configure(config) => self.configure(config),
-            Call::Open {
-                partition,
-                name,
-                versions,
-            } => self.open(partition, name, versions),
-            Call::OpenLoose {
-                partition,
-                name,
-                versions,
-            } => self.open_loose(partition, name, versions),
-            Call::Admit { partition, name } => self.admit(partition, name),
-            Call::Close(handle) => self.close(*handle),
-            Call::Read {
-                handle,
-                offset,
-                len,
-            } => self.read(*handle, *offset, *len),
-            Call::Write {
-                handle,
-                offset,
-                bytes,
-                sync,
-            } => self.write(*handle, *offset, bytes, *sync),
-            Call::Resize { handle, len } => self.resize(*handle, *len),
-            Call::Size(handle) => self.size(*handle),
-            Call::Sync(handle) => self.sync(*handle),
-            Call::StartSync(handle) => self.start_sync(*handle),
-            Call::Finish(number) => self.finish(*number),
-            Call::Remove { partition, name } => self.remove(partition, name),
-            Call::Scan { partition } => self.scan(partition),
-            Call::Crash => self.crash(),
-            Call::Reopen => self.reopen(),
-        }
-    }
-
     /// Makes calls one after another, and answers the reply to each. The only error is `Memory`: the list of replies has
     /// no room, and no call was made.
     ///
     /// Where all opens, these and those of earlier calls, are exclusive, a byte that one of the calls fixes lasts through
     /// the calls after it, until one of them reaches it.
     pub fn run(&mut self, calls: &[Call]) -> Result<Vec<Reply>, Error>
-        ensures stands { IfOk result (λ replies. (v : State) → StandsFor self.old v → (w : State) × Run v calls.now replies.items w × StandsFor self.new w) }
-        ensures fixed { IfOk result (λ replies. (v : State) → StandsFor self.old v → ReachedExclusively v → NoneLoose calls.now → Persists v calls.now replies.items) }
+        ensures stands { IfOk result (λ replies. (v : State) → ⟦<Lab as Stands>⟧.stands_for self.old v → (w : State) × Run v calls.now replies.items w × ⟦<Lab as Stands>⟧.stands_for self.new w) }
+        ensures fixed { IfOk result (λ replies. (v : State) → ⟦<Lab as Stands>⟧.stands_for self.old v → ReachedExclusively v → NoneLoose calls.now → Persists v calls.now replies.items) }
         ensures memory { OnErr result (IsMemory result) }
         ensures err { OnErr result (self.new ≡ self.old) }
     {
@@ -153,13 +108,6 @@ impl Lab {
             replies.push(reply).unwrap();
         }
         Ok(replies)
-    }
-
-    /// The wrapper, for reading: its store's durable bytes, and which incarnations are current.
-    pub fn wrapper(&self) -> &Wrapper
-        ensures { result.now ≡ wrapper_of self.now }
-    {
-        &self.wrapper
     }
 
     /// Closes every handle, and drops the store. Takes no memory.
@@ -172,12 +120,5 @@ impl Lab {
             alloc: _,
         } = self;
         handles.close_all(&mut opens);
-    }
-
-    fn configure(&mut self, config: &Config) -> Reply
-        ensures { Performs self.old (Configure config.now) result self.new }
-    {
-        *self.wrapper.config() = copy_of(config);
-        Reply::Done
     }
 }
