@@ -1,5 +1,5 @@
 -- What follows `config` in a line.
-use Rattle.std.specs.Prelude.{ℕ, List, [], ◌∷◌, ◌&&◌, Option, Some, None, nat_lt, nat_le, if◌then◌else◌, codes}
+use Rattle.std.specs.Prelude.{[], ◌∷◌, ◌&&◌, Some, None, nat_lt, nat_le, if◌then◌else◌, codes}
 use Rattle.blob_model.specs.Rates.{Rate}
 use Rattle.blob_faults.specs.declared.mode.PartialWriteMode.{PartialWriteMode}
 use Rattle.blob_faults.specs.declared.mode.PartialWriteMode.TheVariants.{Prefix, Subset, Sectors}
@@ -19,23 +19,23 @@ abbrev pub mode : Form PartialWriteMode
 mode = do
   word ← text
   beside (
-    (codes "prefix", gives Prefix)
-    ∷ (codes "subset", gives Subset)
-    ∷ (codes "sectors", do size ← digits; gives_some (if nat_lt 0 size then Some (Sectors size) else None))
-    ∷ [])
-    no_form word
+      (codes "prefix", gives Prefix)
+      ∷ (codes "subset", gives Subset)
+      ∷ (codes "sectors", do size ← digits; gives_some (if nat_lt 0 size then Some (Sectors size) else None))
+      ∷ [])
+      no_form word
 
 abbrev pub setting : Form Setting
 setting = do
   word ← text
   beside (
-    (codes "open", do r ← rate; gives (Open r))
-    ∷ (codes "read", do r ← rate; gives (Read r))
-    ∷ (codes "write", do failure ← rate; retention ← rate; kept ← mode; gives (Write (record { failure_rate = failure; retention_rate = retention; mode = kept })))
-    ∷ (codes "sync", do r ← rate; gives (Sync r))
-    ∷ (codes "resize", do failure ← rate; partial ← rate; gives (Resize (record { failure_rate = failure; partial_rate = partial })))
-    ∷ (codes "remove", do r ← rate; gives (Remove r))
-    ∷ (codes "scan", do r ← rate; gives (Scan r))
-    ∷ (codes "clear", gives Clear)
-    ∷ [])
-    no_form word
+      (codes "open", do r ← rate; gives (Open r))
+      ∷ (codes "read", do r ← rate; gives (Read r))
+      ∷ (codes "write", do failure ← rate; retention ← rate; kept ← mode; gives (Write (record { failure_rate = failure; retention_rate = retention; mode = kept })))
+      ∷ (codes "sync", do r ← rate; gives (Sync r))
+      ∷ (codes "resize", do failure ← rate; partial ← rate; gives (Resize (record { failure_rate = failure; partial_rate = partial })))
+      ∷ (codes "remove", do r ← rate; gives (Remove r))
+      ∷ (codes "scan", do r ← rate; gives (Scan r))
+      ∷ (codes "clear", gives Clear)
+      ∷ [])
+      no_form word
