@@ -4,7 +4,7 @@
 #![tactic(auto)]
 
 ghost use Rattle.std.specs.Prelude.{◌≡◌, ◌⊎◌, ◌<◌, Some, None, IsSome, IfSome, [], take, length};
-ghost use Rattle.blob_lab.specs.Scripts.{Prints, PrintsBefore, no_script, lines_of, script_of};
+ghost use Rattle.blob_scripts.specs.Scripts.{Prints, PrintsBefore, no_script, lines_of, script_of};
 ghost use Rattle.blob_c.specs.Preambles.{BreaksAt, IsMadeOf};
 ghost use Rattle.blob_c.specs.Sessions.{AnswersLine, AnswersRead, AnswersWrite, OnHeld, TellsAgain, held};
 

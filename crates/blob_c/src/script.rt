@@ -1,10 +1,10 @@
 // A whole script at once.
 ghost use Rattle.std.specs.Prelude.{◌≡◌, ◌<◌, Some, [], take, length};
-ghost use Rattle.blob_lab.specs.Scripts.{Prints, PrintsBefore, no_script, lines_of, script_of};
+ghost use Rattle.blob_scripts.specs.Scripts.{Prints, PrintsBefore, no_script, lines_of, script_of};
 
 use crate::ran::{BAD_LINE, DONE, ENDLESS, NO_MEMORY, NO_ROOM, ScriptRan};
-use blob_lab::Ending;
-use blob_lab::run_script::run_script;
+use blob_scripts::Ending;
+use blob_scripts::run_script::run_script;
 use std::alloc::Global;
 
 /// Runs a script, and copies what it prints where there is room for it. Where there is none, `len` says how much is wanted.

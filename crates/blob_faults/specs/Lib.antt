@@ -1,3 +1,4 @@
+pub mod Answers
 pub mod Cells
 pub mod Drawings
 pub mod Fates

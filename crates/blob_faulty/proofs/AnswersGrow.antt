@@ -5,7 +5,7 @@ use Rattle.rand_core.specs.Stream.{Stream}
 use Rattle.blob_header.specs.Refusals.{Refusal, OffsetOverflow}
 use Rattle.blob_model.specs.Runs.{Run, runs}
 use Rattle.blob_faults.specs.declared.config.Config.{Config}
-use Rattle.blob_faulty.specs.Answers.{Allowed, injected_for, or_memory, numbered, lacks_number, last_end, allows_laid, allows_runs, allows_fate, allows_write}
+use Rattle.blob_faults.specs.Answers.{Allowed, injected_for, or_memory, numbered, lacks_number, last_end, allows_laid, allows_runs, allows_fate, allows_write}
 use Rattle.blob_faults.specs.Faults.{WriteFate, Done, Unsynced, Failed, write_fate, retention, is_nothing, is_uncounted}
 
 more_injected : (less more : Allowed) → ((a : Option Refusal) → less a → more a) → (a : Option Refusal) → injected_for less a → injected_for more a

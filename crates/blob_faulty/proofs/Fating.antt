@@ -9,7 +9,7 @@ use Rattle.blob_model.specs.Rates.{Rate}
 use Rattle.blob_header.specs.Refusals.{Refusal, OffsetOverflow, BlobMissing, Injected, Memory}
 use Rattle.blob_model.specs.Runs.{Run, runs}
 use Rattle.blob_faults.specs.declared.config.Config.{Config}
-use Rattle.blob_faulty.specs.Answers.{Allowed, or_memory, numbered, allows_laid, allows_runs, last_end}
+use Rattle.blob_faults.specs.Answers.{Allowed, or_memory, numbered, allows_laid, allows_runs, last_end}
 use Rattle.blob_faults.specs.Faults.{WriteFate, Done, Unsynced, Failed, write_fate, retention, is_nothing, is_uncounted}
 use Rattle.blob_faulty.specs.Pieces.{first_after}
 use Rattle.blob_faults.specs.Recorded.{recorded_by, recorded_write, first_written, live_by, size_by}

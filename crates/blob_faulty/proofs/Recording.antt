@@ -9,7 +9,7 @@ use Rattle.blob_model.specs.Rates.{Rate}
 use Rattle.blob_header.specs.Refusals.{Refusal, Injected, OffsetOverflow}
 use Rattle.blob_model.specs.Runs.{runs}
 use Rattle.blob_faults.specs.declared.config.Config.{Config}
-use Rattle.blob_faulty.specs.Answers.{Allowed, allows_write, allows_fate, allows_runs, or_memory, numbered, injected_for, lacks_number}
+use Rattle.blob_faults.specs.Answers.{Allowed, allows_write, allows_fate, allows_runs, or_memory, numbered, injected_for, lacks_number}
 use Rattle.blob_faults.specs.Faults.{WriteFate, Done, Unsynced, Failed, write_fate, retention, is_nothing, is_uncounted}
 use Rattle.blob_faults.specs.Recorded.{kept, recorded_by, recorded_write}
 

@@ -4,7 +4,7 @@ use Rattle.std.proofs.lemmas.List.{length-map, length-reverse}
 use Rattle.blob_model.specs.Holes.{AreApart}
 use Rattle.blob_model.specs.Runs.{Run, AreRunsApart}
 use Rattle.blob_faulty.specs.declared.write_runs.Piece.{Piece}
-use Rattle.blob_faulty.specs.Answers.{last_end}
+use Rattle.blob_faults.specs.Answers.{last_end}
 use Rattle.blob_faulty.specs.Pieces.{run_of, runs_in, extents, first_start, EndsWithin}
 use Rattle.blob_faulty.proofs.FailedSteps.{end_by_last}
 use Rattle.blob_faults.specs.Rooms.{AreWithin}

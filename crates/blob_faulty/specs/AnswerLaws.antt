@@ -6,7 +6,7 @@ use Rattle.rand_core.specs.Stream.{Stream}
 use Rattle.blob_header.specs.Refusals.{Refusal, OffsetOverflow, Memory}
 use Rattle.blob_model.specs.Runs.{runs}
 use Rattle.blob_faults.specs.declared.config.Config.{Config}
-use Rattle.blob_faulty.specs.Answers.{Allowed, or_memory, injected_for, numbered, lacks_number, allows_runs, allows_fate, allows_write}
+use Rattle.blob_faults.specs.Answers.{Allowed, or_memory, injected_for, numbered, lacks_number, allows_runs, allows_fate, allows_write}
 use Rattle.blob_faults.specs.Faults.{WriteFate, Done, Unsynced, Failed, write_fate, retention, is_uncounted}
 
 -- a write whose sync fails isn't answered Ok

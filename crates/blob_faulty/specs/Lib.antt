@@ -1,6 +1,5 @@
 pub mod Admitted
 pub mod AnswerLaws
-pub mod Answers
 pub mod Certain
 pub mod HandleLeaves
 pub mod Keeps
@@ -12,6 +11,7 @@ pub mod Ready
 pub mod Syncs
 pub mod Wrapper
 pub mod Writes
+pub use Rattle.blob_faults.specs.Answers
 pub use Rattle.blob_faults.specs.Cells
 pub use Rattle.blob_faults.specs.Drawings
 pub use Rattle.blob_faults.specs.Fates

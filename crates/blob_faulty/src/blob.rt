@@ -10,7 +10,7 @@ ghost use Rattle.blob_base.specs.Options.{is_sync};
 ghost use Rattle.blob_model.specs.Pending.{Marker};
 ghost use Rattle.blob_model.specs.Places.{Place};
 ghost use Rattle.blob_header.specs.Refusals.{Refusal, refused, Memory, IsMemory};
-ghost use Rattle.blob_faulty.specs.Answers.{or_memory, injected_or, allows_write as answers_write, allows_resize as answers_resize, allows_start};
+ghost use Rattle.blob_faults.specs.Answers.{or_memory, injected_or, allows_write as answers_write, allows_resize as answers_resize, allows_start};
 ghost use Rattle.blob_faults.specs.Faults.{Done, draw, write_fate, resize_fate, after_write};
 ghost use Rattle.blob_faulty.specs.HandleLeaves.{HandleLeaves};
 ghost use Rattle.blob_faults.specs.Recorded.{recorded_write, recorded_resize, live_of_write, live_of_resize, size_of_write, size_of_resize};

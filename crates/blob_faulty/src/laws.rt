@@ -6,7 +6,7 @@ ghost use Rattle.blob_model.specs.Files.{Files};
 ghost use Rattle.blob_header.specs.Refusals.{Refusal, Injected};
 ghost use Rattle.blob_faulty.specs.declared.blob.Blob.{Blob};
 ghost use Rattle.blob_faulty.specs.declared.storage.Storage.{Storage};
-ghost use Rattle.blob_faulty.specs.Answers.{or_memory, lacks_number};
+ghost use Rattle.blob_faults.specs.Answers.{or_memory, lacks_number};
 ghost use Rattle.blob_faulty.specs.Certain.{IsNever, IsAlways, resize_failure};
 ghost use Rattle.blob_faults.specs.Faults.{write_failure, retention, is_nothing, is_uncounted};
 ghost use Rattle.blob_faulty.specs.Wrapper.{inner_of, config_of, next_write_of, next_marker_of, inside, KeepsRecords, Stands};

@@ -8,7 +8,7 @@ ghost use Rattle.blob_base.specs.Names.{AreNames};
 ghost use Rattle.blob_model.specs.Opening.{IsOpened, removed};
 ghost use Rattle.blob_model.specs.Places.{Place};
 ghost use Rattle.blob_header.specs.Refusals.{refused};
-ghost use Rattle.blob_faulty.specs.Answers.{injected_or};
+ghost use Rattle.blob_faults.specs.Answers.{injected_or};
 ghost use Rattle.blob_faults.specs.Faults.{draw};
 ghost use Rattle.blob_faulty.specs.Names.{OpenLeaves, RemoveLeaves, ScanLeaves, FinishLeaves, Steps, emptied};
 ghost use Rattle.blob_faulty.specs.Wrapper.{inner_of, rng_of, config_of, pending_of, KeepsNumbers, KeepsRecords, finished_by, inside, size_of};

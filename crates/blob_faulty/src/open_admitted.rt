@@ -8,7 +8,7 @@ ghost use Rattle.blob_model.specs.Opening.{IsOpened};
 ghost use Rattle.blob_model.specs.Places.{Place};
 ghost use Rattle.blob_header.specs.Refusals.{refused};
 ghost use Rattle.blob_faulty.specs.Admitted.{AdmittedOpenLeaves};
-ghost use Rattle.blob_faulty.specs.Answers.{injected_or};
+ghost use Rattle.blob_faults.specs.Answers.{injected_or};
 ghost use Rattle.blob_faults.specs.Faults.{draw};
 ghost use Rattle.blob_faulty.specs.Keeps.{IsFor, Keeps};
 ghost use Rattle.blob_faulty.specs.Names.{Steps};

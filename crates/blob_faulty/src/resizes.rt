@@ -2,7 +2,7 @@
 ghost use Rattle.std.specs.Prelude.{◌≡◌, [], ◌∷◌};
 ghost use Rattle.blob_model.specs.Log.{Resized};
 ghost use Rattle.blob_header.specs.Refusals.{refused};
-ghost use Rattle.blob_faulty.specs.Answers.{or_memory, allows_resize};
+ghost use Rattle.blob_faults.specs.Answers.{or_memory, allows_resize};
 ghost use Rattle.blob_faults.specs.Fates.{resize_fate_of};
 ghost use Rattle.blob_faulty.specs.Wrapper.{KeepsNumbers};
 ghost use Rattle.blob_faulty.specs.Writes.{Writes, Records, ResizesBy, cut};

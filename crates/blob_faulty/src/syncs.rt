@@ -2,7 +2,7 @@
 ghost use Rattle.std.specs.Prelude.{◌≡◌, ◌<◌, ◌+◌, ◌-◌, ◌^◌, ◌++◌, [], ◌∷◌, OnOk, IfOk};
 ghost use Rattle.blob_model.specs.Pending.{Marker};
 ghost use Rattle.blob_header.specs.Refusals.{refused};
-ghost use Rattle.blob_faulty.specs.Answers.{or_memory};
+ghost use Rattle.blob_faults.specs.Answers.{or_memory};
 ghost use Rattle.blob_faulty.specs.Wrapper.{pending_of};
 ghost use Rattle.blob_faulty.specs.Writes.{Syncs, Retires};
 

@@ -23,7 +23,7 @@ impl Piece {
     ghost use Rattle.std.specs.Prelude.{◌≤◌, List, ℕ, [], All, IfOk, OnErr};
     ghost use Rattle.blob_header.specs.Refusals.{IsMemory};
     ghost use Rattle.blob_model.specs.Runs.{runs};
-    ghost use Rattle.blob_faulty.specs.Answers.{last_end};
+    ghost use Rattle.blob_faults.specs.Answers.{last_end};
     ghost use Rattle.blob_faulty.specs.Pieces.{run_of, runs_in, first_start};
     ghost use Rattle.blob_faults.specs.Spans.{piece, pieces, ends_by};
 
@@ -94,7 +94,7 @@ impl<B> Blob<B> {
     ghost use Rattle.blob_model.specs.Directory.{is_current};
     ghost use Rattle.blob_header.specs.Refusals.{Refusal, refused, WriteFailed};
     ghost use Rattle.blob_model.specs.Runs.{runs, AreRunsApart};
-    ghost use Rattle.blob_faulty.specs.Answers.{or_memory, allows_laid, allows_runs, last_end};
+    ghost use Rattle.blob_faults.specs.Answers.{or_memory, allows_laid, allows_runs, last_end};
     ghost use Rattle.blob_faults.specs.Lists.{HasRoomAt};
     ghost use Rattle.blob_faulty.specs.Pieces.{run_of, runs_in, extents, EndsWithin};
     ghost use Rattle.blob_faulty.specs.Writes.{RecordsRuns, Keeps};

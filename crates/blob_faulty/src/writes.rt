@@ -3,7 +3,7 @@ ghost use Rattle.std.specs.Prelude.{◌≡◌, ◌≢◌, ◌≤◌, ◌<◌, �
 ghost use Rattle.blob_model.specs.Holes.{Holes};
 ghost use Rattle.blob_base.specs.Options.{is_sync};
 ghost use Rattle.blob_header.specs.Refusals.{refused, IsMemory};
-ghost use Rattle.blob_faulty.specs.Answers.{or_memory, numbered, lacks_number, allows_fate};
+ghost use Rattle.blob_faults.specs.Answers.{or_memory, numbered, lacks_number, allows_fate};
 ghost use Rattle.blob_model.specs.Log.{need_of};
 ghost use Rattle.blob_model.specs.Pending.{Waiting, has_barrier};
 ghost use Rattle.blob_faults.specs.Faults.{issued, retention};

@@ -9,7 +9,7 @@ use Rattle.blob_model.specs.Places.{Place}
 use Rattle.blob_header.specs.Refusals.{Refusal, refusal_of, Injected}
 use Rattle.blob_model.specs.Stands as base
 use Rattle.blob_header.specs.declared.error.Error.{Error}
-use Rattle.blob_faulty.specs.Answers.{injected_or}
+use Rattle.blob_faults.specs.Answers.{injected_or}
 use Rattle.blob_faults.specs.Faults.{draw}
 use Rattle.blob_faulty.specs.Wrapper.{KeepsRecords, config_of, inner_of as store_of, pending_of, next_write_of, next_marker_of}
 use Rattle.blob_memory.specs.Answers.{OrMemory, read_refusal}
@@ -17,15 +17,15 @@ use Rattle.blob_memory.specs.Store.{directory, durable}
 use Rattle.blob_calls.specs.declared.reply.Reply.{Reply}
 use Rattle.blob_calls.specs.declared.reply.Reply.TheVariants.{Failed}
 use Rattle.blob_calls.specs.Acts.{Ask, Read}
-use Rattle.blob_lab.specs.After.{files_after, held_after}
-use Rattle.blob_lab.specs.Answers.{IsAnswer, through}
-use Rattle.blob_lab.specs.Denials.{refused_if}
+use Rattle.blob_states.specs.After.{files_after, held_after}
+use Rattle.blob_states.specs.Answers.{IsAnswer, through}
+use Rattle.blob_states.specs.Denials.{refused_if}
 use Rattle.blob_lab.specs.LabStands.{Wrapper, Wraps, IsFor, Asks, stream_of}
-use Rattle.blob_lab.specs.States.{State, Held}
+use Rattle.blob_states.specs.States.{State, Held}
 use Rattle.blob_calls.specs.Told as told
 use Rattle.blob_calls.specs.Told.{Tells, refused_by}
-use Rattle.blob_lab.proofs.Denying.{drawn_denial, not_memory}
-use Rattle.blob_lab.proofs.Telling.{done_answers, failed_answers}
+use Rattle.blob_states.proofs.Denying.{drawn_denial, not_memory}
+use Rattle.blob_states.proofs.Telling.{done_answers, failed_answers}
 
 -- a handle that is seen as before
 pub held_same : (h h' : Held) → h'.place ≡ h.place → h'.live ≡ h.live → h'.size ≡ h.size → h'.registration ≡ h.registration → h ≡ h'

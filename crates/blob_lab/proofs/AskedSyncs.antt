@@ -6,7 +6,7 @@ use Rattle.blob_model.specs.Directory.{Directory}
 use Rattle.blob_model.specs.Files.{Files, synced, started}
 use Rattle.blob_header.specs.Refusals.{Refusal, Memory, refusal_of, GenerationsExhausted, Injected}
 use Rattle.blob_header.specs.declared.error.Error.{Error}
-use Rattle.blob_faulty.specs.Answers.{injected_or, or_memory, allows_start}
+use Rattle.blob_faults.specs.Answers.{injected_or, or_memory, allows_start}
 use Rattle.blob_faults.specs.Faults.{draw}
 use Rattle.blob_faulty.specs.Wrapper.{Stands, KeepsRecords, config_of, inner_of as store_of, next_marker_of}
 use Rattle.blob_memory.specs.Answers.{OrMemory, sync_refusal}
@@ -14,15 +14,15 @@ use Rattle.blob_memory.specs.Store.{directory, durable}
 use Rattle.blob_calls.specs.declared.reply.Reply.{Reply}
 use Rattle.blob_calls.specs.declared.reply.Reply.TheVariants.{Done, Failed, Started}
 use Rattle.blob_calls.specs.Acts.{Sync}
-use Rattle.blob_lab.specs.After.{begun}
-use Rattle.blob_lab.specs.Denials.{refused_if, sync_denial, start_denial}
+use Rattle.blob_states.specs.After.{begun}
+use Rattle.blob_states.specs.Denials.{refused_if, sync_denial, start_denial}
 use Rattle.blob_lab.specs.LabStands.{IsFor, Wrapper, Wraps, Asks, Starts, stream_of}
-use Rattle.blob_lab.specs.States as states
-use Rattle.blob_lab.specs.States.{State, Held}
+use Rattle.blob_states.specs.States as states
+use Rattle.blob_states.specs.States.{State, Held}
 use Rattle.blob_calls.specs.Told as told
 use Rattle.blob_lab.proofs.AskSteps.{as_of, as_seen, asks_by, stands_kept}
-use Rattle.blob_lab.proofs.Denying.{drawn_denial, numbered_denial, memory_denial, not_memory}
-use Rattle.blob_lab.proofs.Telling.{done_answers, failed_answers}
+use Rattle.blob_states.proofs.Denying.{drawn_denial, numbered_denial, memory_denial, not_memory}
+use Rattle.blob_states.proofs.Telling.{done_answers, failed_answers}
 
 module _ (w w' : Wrapper) (h : Held) (names : directory (store_of w') ≡ directory (store_of w)) (config : config_of w' ≡ config_of w)
     (stream : stream_of w' ≡ (draw (config_of w).sync_rate (stream_of w)).1) where

@@ -8,7 +8,7 @@ use Rattle.blob_model.specs.Places.{Place}
 use Rattle.blob_header.specs.Refusals.{Refusal, Memory, OffsetOverflow, refusal_of}
 use Rattle.blob_model.specs.Runs.{runs, AreRunsApart}
 use Rattle.blob_header.specs.declared.error.Error.{Error}
-use Rattle.blob_faulty.specs.Answers.{allows_write, allows_fate, allows_resize, injected_for}
+use Rattle.blob_faults.specs.Answers.{allows_write, allows_fate, allows_resize, injected_for}
 use Rattle.blob_model.specs.Modes.{Mode}
 use Rattle.blob_model.specs.Rates.{Rate}
 use Rattle.blob_faults.specs.Faults.{WriteFate, Done, Unsynced, Failed, ResizeFate, Resizes, Stays, Reaches, write_fate, resize_fate, retention, is_nothing, is_uncounted, after_write}
@@ -18,13 +18,13 @@ use Rattle.blob_memory.specs.Answers.{OrMemory, AllowsWrite, end_refusal}
 use Rattle.blob_memory.specs.Store.{directory, durable}
 use Rattle.blob_calls.specs.declared.reply.Reply.TheVariants as reply
 use Rattle.blob_calls.specs.Acts.{Write, Resize}
-use Rattle.blob_lab.specs.Denials.{fate_denial, write_denial, reaching_denial, or_injected}
+use Rattle.blob_states.specs.Denials.{fate_denial, write_denial, reaching_denial, or_injected}
 use Rattle.blob_lab.specs.LabStands.{IsFor, Wrapper, Wraps, Asks, stream_of}
-use Rattle.blob_lab.specs.States.{State, Held}
+use Rattle.blob_states.specs.States.{State, Held}
 use Rattle.blob_calls.specs.Told as told
 use Rattle.blob_lab.proofs.AskSteps.{as_of, asks_by}
-use Rattle.blob_lab.proofs.Denying.{counted_denial, fate_denied, injected_denial, memory_denial, not_memory}
-use Rattle.blob_lab.proofs.Telling.{done_answers, failed_answers}
+use Rattle.blob_states.proofs.Denying.{counted_denial, fate_denied, injected_denial, memory_denial, not_memory}
+use Rattle.blob_states.proofs.Telling.{done_answers, failed_answers}
 
 -- what is added to a log is added to that of the files that the wrapper stands for
 added : (w w' : Wrapper) (f : Files) (o : Place) (entries : ℕ → List Entry) → directory (store_of w') ≡ directory (store_of w) → Adds (λ a. a) (directory (store_of w)) (durable (store_of w)) (durable (store_of w')) w w' o (entries (next_write_of w)) → o.number < f.directory.next → IsFor w f → IsFor w' (all_logged f o (entries f.next_write))

@@ -10,16 +10,17 @@ use Rattle.blob_lab.specs.declared.lab.Lab.{Lab}
 use Rattle.blob_calls.specs.declared.reply.Reply.{Reply}
 use Rattle.blob_calls.specs.declared.reply.Reply.TheVariants as reply
 use Rattle.blob_calls.specs.Acts.{Close, Finish, Through, Size}
-use Rattle.blob_lab.specs.After as after
-use Rattle.blob_lab.specs.After.{unregistered, asked}
-use Rattle.blob_lab.specs.Answers.{through, kept_at, unless_denied}
+use Rattle.blob_states.specs.After as after
+use Rattle.blob_states.specs.After.{unregistered, asked}
+use Rattle.blob_states.specs.Answers.{through, kept_at, unless_denied}
 use Rattle.blob_lab.specs.LabStands.{IsFor, StandsFor, Performs, Wrapper, stream_of}
 use Rattle.blob_opens.specs.Opens.{names_of}
-use Rattle.blob_lab.specs.States.{Held, Started, AreGiven}
+use Rattle.blob_states.specs.States.{Held, Started, AreGiven}
 use Rattle.blob_lab.specs.Tables.{handles_of, syncs_of}
 use Rattle.blob_calls.specs.Told as told
 use Rattle.blob_calls.specs.Told.{Told, Tells}
-use Rattle.blob_lab.proofs.Performing.{state_of, performs, stands_same, filled}
+use Rattle.blob_lab.proofs.Performing.{state_of, performs, stands_same}
+use Rattle.blob_states.proofs.GivenHandles.{filled}
 
 -- what is told of a slot by a close, and by the end of a started sync
 abbrev closed_told : Option Held → Told

@@ -16,8 +16,8 @@ use Rattle.blob_lab.specs.LabStands.{IsFor, Performs, Wrapper, stream_of}
 use Rattle.blob_opens.specs.OpenNames as names
 use Rattle.blob_opens.specs.OpenNames.{OpenAnswer}
 use Rattle.blob_opens.specs.Opens.{names_of, IsMade}
-use Rattle.blob_lab.specs.Scripted.{scripted}
-use Rattle.blob_lab.specs.States.{AreGiven}
+use Rattle.blob_states.specs.Scripted.{scripted}
+use Rattle.blob_states.specs.States.{AreGiven}
 use Rattle.blob_lab.specs.Tables.{handles_of, syncs_of}
 use Rattle.blob_lab.proofs.ExclusiveOpens.{exclusive_held, exclusive_declined, exclusive_memory, exclusive_exhausted}
 use Rattle.blob_lab.proofs.LooseOpens.{IsOpenAllowed}

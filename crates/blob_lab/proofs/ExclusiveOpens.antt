@@ -24,20 +24,20 @@ use Rattle.blob_memory.specs.Store.{directory, durable}
 use Rattle.blob_lab.specs.declared.lab.Lab.{Lab}
 use Rattle.blob_calls.specs.declared.reply.Reply.TheVariants as reply
 use Rattle.blob_calls.specs.Acts.{Open}
-use Rattle.blob_lab.specs.After.{exclusively_opened}
-use Rattle.blob_lab.specs.Answers.{opened, IsAnswer, unless_denied}
-use Rattle.blob_lab.specs.Denials.{refused_if, is_unnumbered, open_denial}
+use Rattle.blob_states.specs.After.{exclusively_opened}
+use Rattle.blob_states.specs.Answers.{opened, IsAnswer, unless_denied}
+use Rattle.blob_states.specs.Denials.{refused_if, is_unnumbered, open_denial}
 use Rattle.blob_lab.specs.LabStands.{IsFor, StandsFor, Performs, Wrapper, stream_of}
 use Rattle.blob_opens.specs.OpenNames as names
 use Rattle.blob_opens.specs.OpenNames.{OpenNames, OpenAnswer, Accepted, Held, Declined, NoMemory, NoNumber, IsExhausted}
 use Rattle.blob_opens.specs.Opens.{names_of}
-use Rattle.blob_lab.specs.States as states
-use Rattle.blob_lab.specs.States.{State, AreGiven}
+use Rattle.blob_states.specs.States as states
+use Rattle.blob_states.specs.States.{State, AreGiven}
 use Rattle.blob_lab.specs.Tables.{handles_of, syncs_of}
-use Rattle.blob_lab.proofs.Denying.{not_memory}
+use Rattle.blob_states.proofs.Denying.{not_memory}
 use Rattle.blob_lab.proofs.LooseOpens.{IsOpenAllowed, open_denied_by, open_denied, open_tells, open_adds, open_given}
 use Rattle.blob_lab.proofs.Performing.{state_of, performs}
-use Rattle.blob_lab.proofs.Telling.{done_answers, failed_answers}
+use Rattle.blob_states.proofs.Telling.{done_answers, failed_answers}
 
 -- what an exclusive open leaves of the stream
 abbrev left_of_open : State → List ℕ → List ℕ → Stream

@@ -11,7 +11,7 @@ use Rattle.blob_header.specs.Refusals.{Refusal, refusal_of, Injected}
 use Rattle.blob_header.specs.declared.error.Error.{Error}
 use Rattle.blob_header.specs.declared.version.BlobVersion.{BlobVersion}
 use Rattle.blob_model.proofs.NameSteps.{read_by_open}
-use Rattle.blob_faulty.specs.Answers.{injected_or}
+use Rattle.blob_faults.specs.Answers.{injected_or}
 use Rattle.blob_faults.specs.Faults.{draw}
 use Rattle.blob_faulty.specs.Wrapper.{config_of, inner_of as store_of}
 use Rattle.blob_memory.specs.Answers.{OrMemory, open_refusal}
@@ -19,19 +19,19 @@ use Rattle.blob_memory.specs.Store.{directory, durable}
 use Rattle.blob_lab.specs.declared.lab.Lab.{Lab}
 use Rattle.blob_calls.specs.declared.reply.Reply.TheVariants as reply
 use Rattle.blob_calls.specs.Acts.{OpenLoose}
-use Rattle.blob_lab.specs.Answers.{opened, size_of, version_of}
-use Rattle.blob_lab.specs.Denials.{refused_if, loose_denial}
+use Rattle.blob_states.specs.Answers.{opened, size_of, version_of}
+use Rattle.blob_states.specs.Denials.{refused_if, loose_denial}
 use Rattle.blob_lab.specs.LabStands.{IsFor, StandsFor, Performs, Wrapper, stream_of}
 use Rattle.blob_opens.specs.OpenNames.{Registration}
 use Rattle.blob_opens.specs.Opens.{names_of}
-use Rattle.blob_lab.specs.States.{Held, AreGiven, held_on}
+use Rattle.blob_states.specs.States.{Held, AreGiven, held_on}
 use Rattle.blob_lab.specs.Tables.{handles_of, syncs_of}
 use Rattle.blob_calls.specs.Told.{Tells}
-use Rattle.blob_lab.proofs.Denying.{drawn_denial, not_memory}
+use Rattle.blob_states.proofs.Denying.{drawn_denial, not_memory}
 use Rattle.blob_lab.proofs.OpenSteps.{held_opened, size_found, version_found, given_opened}
-use Rattle.blob_lab.proofs.Opened.{current_opened}
+use Rattle.blob_states.proofs.Opened.{current_opened}
 use Rattle.blob_lab.proofs.Performing.{state_of, performs}
-use Rattle.blob_lab.proofs.Telling.{done_answers, failed_answers}
+use Rattle.blob_states.proofs.Telling.{done_answers, failed_answers}
 
 -- What the wrapper's own open may answer.
 

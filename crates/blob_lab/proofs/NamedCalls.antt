@@ -9,7 +9,7 @@ use Rattle.blob_model.specs.Files.{Files, admitted, after_remove, after_crash, r
 use Rattle.blob_header.specs.Refusals.{Refusal, Memory, refusal_of, Injected}
 use Rattle.blob_header.specs.declared.error.Error.{Error}
 use Rattle.blob_model.proofs.NameSteps.{next_removed}
-use Rattle.blob_faulty.specs.Answers.{injected_or}
+use Rattle.blob_faults.specs.Answers.{injected_or}
 use Rattle.blob_faults.specs.Faults.{draw}
 use Rattle.blob_faulty.specs.Wrapper.{config_of, inner_of as store_of}
 use Rattle.blob_faults.specs.declared.config.Config.{Config}
@@ -19,19 +19,19 @@ use Rattle.blob_lab.specs.declared.lab.Lab.{Lab}
 use Rattle.blob_calls.specs.declared.reply.Reply.{Reply}
 use Rattle.blob_calls.specs.declared.reply.Reply.TheVariants as reply
 use Rattle.blob_calls.specs.Acts.{Configure, Admit, Remove, Scan, Crash, Reopen}
-use Rattle.blob_lab.specs.Denials.{refused_if, remove_denial, scan_denial}
-use Rattle.blob_lab.specs.Steps as steps
+use Rattle.blob_states.specs.Denials.{refused_if, remove_denial, scan_denial}
+use Rattle.blob_states.specs.Steps as steps
 use Rattle.blob_lab.specs.LabStands.{IsFor, StandsFor, Performs, stream_of}
 use Rattle.blob_opens.specs.OpenNames.{ended, none_open}
 use Rattle.blob_opens.specs.Opens.{names_of}
-use Rattle.blob_lab.specs.States.{AreGiven}
+use Rattle.blob_states.specs.States.{AreGiven}
 use Rattle.blob_lab.specs.Tables.{handles_of, syncs_of}
 use Rattle.blob_calls.specs.Told as told
 use Rattle.blob_calls.specs.Told.{Tells, refused_by}
-use Rattle.blob_lab.proofs.Denying.{drawn_denial, not_memory}
+use Rattle.blob_states.proofs.Denying.{drawn_denial, not_memory}
 use Rattle.blob_lab.proofs.Performing.{state_of, performs}
-use Rattle.blob_lab.proofs.Stale.{admitted_directory}
-use Rattle.blob_lab.proofs.Telling.{done_answers, failed_answers}
+use Rattle.blob_states.proofs.Stale.{admitted_directory}
+use Rattle.blob_states.proofs.Telling.{done_answers, failed_answers}
 
 module _ (lab lab' : Lab) (handles : handles_of lab'.handles ≡ handles_of lab.handles) where
   module _ (names : names_of lab'.opens ≡ names_of lab.opens) (syncs : syncs_of lab'.syncs ≡ syncs_of lab.syncs) where

@@ -12,11 +12,11 @@ use Rattle.blob_model.proofs.NameSteps.{read_by_open}
 use Rattle.blob_faulty.specs.Wrapper.{inner_of as store_of, pending_of}
 use Rattle.blob_memory.specs.Laws.{currents, given}
 use Rattle.blob_memory.specs.Store.{directory, durable}
-use Rattle.blob_lab.specs.Answers.{size_of, version_of}
+use Rattle.blob_states.specs.Answers.{size_of, version_of}
 use Rattle.blob_lab.specs.LabStands.{IsFor, Wrapper}
 use Rattle.blob_opens.specs.OpenNames.{Registration}
-use Rattle.blob_lab.specs.States.{Held, AreGiven, held_on}
-use Rattle.blob_lab.proofs.Opened.{next_opened}
+use Rattle.blob_states.specs.States.{Held, AreGiven, held_on}
+use Rattle.blob_states.proofs.Opened.{next_opened}
 
 -- what is durable of a current incarnation is so of the files
 pub live_is : (w : Wrapper) (f : Files) (o : Place) (live : List ℕ) → IsFor w f → durable (store_of w) o ≡ Some live → live ≡ durable_at f o

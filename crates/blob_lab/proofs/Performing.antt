@@ -1,18 +1,16 @@
 -- A call of a laboratory is one of the state that it is seen as: all but the files is read from it.
-use Rattle.std.proofs.Common.{◌≡◌, ℕ, ◌<◌, List, Option, Some, None, IfSome, refl, sym, ap, subst}
-use Rattle.std.specs.Prelude.{slice_get, option_and_then}
-use Rattle.std.proofs.lemmas.Option.{get_or_from_slice_get, slice_get_within}
+use Rattle.std.proofs.Common.{◌≡◌, refl, sym, ap, subst}
 use Rattle.blob_model.specs.Files.{Files}
 use Rattle.blob_faulty.specs.Wrapper.{Stands, config_of, inner_of as store_of}
 use Rattle.blob_memory.specs.Store.{directory, durable}
 use Rattle.blob_lab.specs.declared.lab.Lab.{Lab}
 use Rattle.blob_calls.specs.declared.reply.Reply.{Reply}
 use Rattle.blob_calls.specs.Acts.{Act}
-use Rattle.blob_lab.specs.After.{after}
-use Rattle.blob_lab.specs.Answers.{Answers, kept_at}
+use Rattle.blob_states.specs.After.{after}
+use Rattle.blob_states.specs.Answers.{Answers}
 use Rattle.blob_lab.specs.LabStands.{StandsFor, Performs, Wrapper, stream_of}
 use Rattle.blob_opens.specs.Opens.{names_of}
-use Rattle.blob_lab.specs.States.{State, Held, AreGiven}
+use Rattle.blob_states.specs.States.{State}
 use Rattle.blob_lab.specs.Tables.{handles_of, syncs_of}
 use Rattle.blob_calls.specs.Told.{refused_by}
 
@@ -46,14 +44,3 @@ stands_same lab lab' f w n hs ss h = record {
   syncs = ss;
   given = h.given;
 }
-
--- a slot that has something
-pub filled : {X : Type 0} (slot : Option (Option X)) (x : X) → option_and_then (λ s. s) slot ≡ Some x → slot ≡ Some (Some x)
-filled None x e = cc
-filled (Some s) x e = ap Some e
-
--- an open handle's incarnation isn't still to come
-pub given_at : (next number : ℕ) (handles : List (Option Held)) (h : Held) → AreGiven next handles → kept_at handles number ≡ Some h → h.place.number < next
-given_at next number handles h given here =
-    let slot = filled (slice_get handles number) h here in
-    subst (λ (s : Option Held). IfSome s (λ g. g.place.number < next)) (get_or_from_slice_get handles number (Some h) None slot) (given number None (slice_get_within handles number (Some h) slot))

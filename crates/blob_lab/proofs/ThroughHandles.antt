@@ -8,15 +8,16 @@ use Rattle.blob_lab.specs.declared.lab.Lab.{Lab}
 use Rattle.blob_calls.specs.declared.reply.Reply.{Reply}
 use Rattle.blob_calls.specs.declared.reply.Reply.TheVariants.{NoHandle}
 use Rattle.blob_calls.specs.Acts.{Ask, StartSync, Through}
-use Rattle.blob_lab.specs.After.{asked, files_after, held_after, syncs_after}
-use Rattle.blob_lab.specs.Answers.{IsAnswer, through, asks_memory, kept_at}
+use Rattle.blob_states.specs.After.{asked, files_after, held_after, syncs_after}
+use Rattle.blob_states.specs.Answers.{IsAnswer, through, asks_memory, kept_at}
 use Rattle.blob_lab.specs.LabStands.{StandsFor, Performs, Asks, Starts, stream_of}
 use Rattle.blob_opens.specs.Opens.{names_of}
-use Rattle.blob_lab.specs.States.{State, Held, AreGiven}
+use Rattle.blob_states.specs.States.{State, Held, AreGiven}
 use Rattle.blob_lab.specs.Tables.{handles_of, syncs_of}
 use Rattle.blob_calls.specs.Told.{refused_by}
-use Rattle.blob_lab.proofs.Performing.{state_of, performs, stands_same, given_at}
-use Rattle.blob_lab.proofs.Stale.{asked_directory, place_after}
+use Rattle.blob_lab.proofs.Performing.{state_of, performs, stands_same}
+use Rattle.blob_states.proofs.GivenHandles.{given_at}
+use Rattle.blob_states.proofs.Stale.{asked_directory, place_after}
 
 -- the numbers that were given, where one handle is made new on the same incarnation
 given_after : (d d' : Directory) (handles : List (Option Held)) (number : ℕ) (h h' : Held) → d' ≡ d → h'.place ≡ h.place → h.place.number < d.next → AreGiven d.next handles → AreGiven d'.next (set handles number (Some h'))

@@ -10,11 +10,11 @@ use Rattle.blob_memory.specs.declared.storage.Storage as memory
 use Rattle.blob_lab.specs.declared.lab.Lab.{Lab}
 use Rattle.blob_calls.specs.declared.reply.Reply.{Reply}
 use Rattle.blob_calls.specs.Acts.{Act, Ask, StartSync}
-use Rattle.blob_lab.specs.After.{after, files_after, held_after, syncs_after}
-use Rattle.blob_lab.specs.Answers.{Answers, IsAnswer, through}
+use Rattle.blob_states.specs.After.{after, files_after, held_after, syncs_after}
+use Rattle.blob_states.specs.Answers.{Answers, IsAnswer, through}
 use Rattle.blob_opens.specs.Opens.{names_of}
-use Rattle.blob_lab.specs.Scripted.{Left, scripted}
-use Rattle.blob_lab.specs.States.{State, Held, Started, AreGiven}
+use Rattle.blob_states.specs.Scripted.{Left, scripted}
+use Rattle.blob_states.specs.States.{State, Held, Started, AreGiven}
 use Rattle.blob_lab.specs.Tables.{handles_of, syncs_of}
 use Rattle.blob_calls.specs.Told.{refused_by}
 

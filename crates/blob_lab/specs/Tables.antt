@@ -9,7 +9,7 @@ use Rattle.blob_memory.specs.Store.{place, live}
 use Rattle.blob_lab.specs.declared.lab.handles.Handle.{Handle}
 use Rattle.blob_lab.specs.declared.lab.handles.Handles.{Handles}
 use Rattle.blob_lab.specs.declared.lab.syncs.Syncs.{Syncs}
-use Rattle.blob_lab.specs.States.{Held, Started, Image}
+use Rattle.blob_states.specs.States.{Held, Started, Image}
 
 abbrev pub held_by : Handle → Held
 held_by h = record { place = place (inside h.blob); live = live (inside h.blob); size = size_of h.blob; registration = h.registration }

@@ -1,11 +1,11 @@
 //! The laboratory: a faulty memory store, its open handles and started syncs, and calls as data.
 ghost use Rattle.std.specs.Prelude.{◌≡◌, IfOk, OnErr};
 ghost use Rattle.blob_header.specs.Refusals.{IsMemory};
-ghost use Rattle.blob_lab.specs.Fixed.{Persists};
-ghost use Rattle.blob_lab.specs.Reached.{NoneLoose, ReachedExclusively};
-ghost use Rattle.blob_lab.specs.Runs.{Run};
-ghost use Rattle.blob_lab.specs.Scripted.{behind_seeded, only, scripted};
-ghost use Rattle.blob_lab.specs.States.{State, start, start_on};
+ghost use Rattle.blob_states.specs.Fixed.{Persists};
+ghost use Rattle.blob_states.specs.Reached.{NoneLoose, ReachedExclusively};
+ghost use Rattle.blob_states.specs.Runs.{Run};
+ghost use Rattle.blob_states.specs.Scripted.{behind_seeded, only, scripted};
+ghost use Rattle.blob_states.specs.States.{State, start, start_on};
 ghost use Rattle.blob_lab.specs.Tables.{images_of};
 
 mod applying;

@@ -1,6 +1,6 @@
 //! A generator whose first words are given.
 ghost use Rattle.std.specs.Prelude.{◌≡◌};
-ghost use Rattle.blob_lab.specs.Scripted.{next_of, scripted, state_of};
+ghost use Rattle.blob_states.specs.Scripted.{next_of, scripted, state_of};
 
 use rand_core::utils::NextWord;
 use rand_core::{Rng, SeedableRng, utils};
@@ -19,7 +19,7 @@ pub struct ScriptedRng {
 
 impl Model for ScriptedRng {
     ghost use Rattle.std.specs.Prelude.{drop, length, ◌≤◌};
-    ghost use Rattle.blob_lab.specs.Scripted.{Left};
+    ghost use Rattle.blob_states.specs.Scripted.{Left};
 
     ghost Value = { Left };
 

@@ -1,9 +1,9 @@
 // The program: arguments, buffered streams and the exit status. All else is the library's.
 #![tactic(auto)]
 
-use blob_lab::Ending;
-use blob_lab::run_resolve::run_resolve;
-use blob_lab::run_script::run_script;
+use blob_scripts::Ending;
+use blob_scripts::run_resolve::run_resolve;
+use blob_scripts::run_script::run_script;
 use std::env;
 use std::io::{self, BufReader, BufWriter, ErrorKind};
 use std::process::ExitCode;

@@ -1,8 +1,8 @@
 //! The handles of a laboratory by their numbers, from 0 in the order of accepted opens. No number is given again.
 ghost use Rattle.std.specs.Prelude.{◌≡◌, ◌<◌, ◌++◌, ◌∷◌, [], Some, None, OnOk, OnErr, IfSome, IfNone, length, set, option_map, option_copied};
 ghost use Rattle.blob_header.specs.Refusals.{IsMemory};
-ghost use Rattle.blob_lab.specs.After.{unregistered};
-ghost use Rattle.blob_lab.specs.Answers.{kept_at};
+ghost use Rattle.blob_states.specs.After.{unregistered};
+ghost use Rattle.blob_states.specs.Answers.{kept_at};
 ghost use Rattle.blob_opens.specs.Opens.{names_of, inner_of, registration_of};
 ghost use Rattle.blob_lab.specs.Tables.{held_by, handles_of, HasRoom};
 

@@ -1,6 +1,6 @@
 // Which states a laboratory may stand for.
 ghost use Rattle.blob_lab.specs.LabStands.{StandsFor};
-ghost use Rattle.blob_lab.specs.States.{State};
+ghost use Rattle.blob_states.specs.States.{State};
 
 use crate::lab::Lab;
 

@@ -1,7 +1,7 @@
 //! The started syncs of a laboratory by their numbers, from 0 in the order in which they were started. No number is given again.
 ghost use Rattle.std.specs.Prelude.{◌≡◌, ◌++◌, ◌∷◌, [], Some, None, OnOk, OnErr, IfSome, IfNone, length, map, set, option_map};
 ghost use Rattle.blob_header.specs.Refusals.{IsMemory};
-ghost use Rattle.blob_lab.specs.Answers.{kept_at};
+ghost use Rattle.blob_states.specs.Answers.{kept_at};
 ghost use Rattle.blob_lab.specs.Tables.{started_by, syncs_of, HasSyncRoom};
 
 use blob_base::{Error, Handle};

@@ -1,4 +1,4 @@
-use Rattle.blob_faulty.specs.Answers.{or_memory}
+use Rattle.blob_faults.specs.Answers.{or_memory}
 use Rattle.blob_faulty.proofs.CertainAnswers.{draw_fails, write_fails, synced_fails, resize_fails, start_fails}
 use Rattle.blob_faulty.proofs.laws.certain_faults.Goals as goal
 

@@ -1,5 +1,5 @@
 use Rattle.blob_faulty.proofs.CertainAnswers.{quiet_draw, quiet_write, quiet_resize, quiet_start}
-use Rattle.blob_faulty.specs.Answers.{or_memory}
+use Rattle.blob_faults.specs.Answers.{or_memory}
 use Rattle.blob_faulty.proofs.laws.without_faults.Goals as goal
 
 pub returns-clause-reads : goal.returns-clause-reads

@@ -5,7 +5,7 @@ use Rattle.blob_model.specs.Directory.{is_current}
 use Rattle.blob_header.specs.Refusals.{refused}
 use Rattle.blob_model.specs.Runs.{Run, runs, AreRunsApart}
 use Rattle.blob_faulty.specs.declared.write_runs.Piece.{Piece}
-use Rattle.blob_faulty.specs.Answers.{or_memory, allows_runs, last_end}
+use Rattle.blob_faults.specs.Answers.{or_memory, allows_runs, last_end}
 use Rattle.blob_faulty.specs.Pieces.{runs_in}
 use Rattle.blob_faulty.specs.Writes.{View, Recorded, seen, laid_runs}
 use Rattle.blob_faulty.proofs.FailedSteps.{runs_of_none, end_by_last}

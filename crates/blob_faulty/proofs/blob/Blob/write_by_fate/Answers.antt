@@ -4,7 +4,7 @@ use Rattle.std.proofs.lemmas.Grind.{common_steps}
 use Rattle.blob_base.specs.Options.{is_sync}
 use Rattle.blob_header.specs.Refusals.{Refusal, refused, refusal_of}
 use Rattle.blob_model.specs.Runs.{runs}
-use Rattle.blob_faulty.specs.Answers.{or_memory, lacks_number, allows_runs}
+use Rattle.blob_faults.specs.Answers.{or_memory, lacks_number, allows_runs}
 use Rattle.blob_faults.specs.Faults.{Unsynced, Failed, retention}
 use Rattle.blob_faults.specs.Fates.{write_fate_of}
 use Rattle.blob_faulty.proofs.Fating.{unsynced_refused, failed_refused, runs_uninjected, reserve_uninjected, of_fate}

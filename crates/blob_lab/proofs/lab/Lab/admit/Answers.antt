@@ -1,5 +1,5 @@
 use Rattle.std.proofs.Common.{refl, ap}
-use Rattle.blob_lab.specs.Scripted.{scripted}
+use Rattle.blob_states.specs.Scripted.{scripted}
 use Rattle.blob_lab.proofs.NamedCalls.{admit_done}
 use Rattle.blob_lab.proofs.lab.Lab.admit.Goals as goal
 

@@ -11,8 +11,8 @@ use Rattle.blob_memory.specs.Contents.{directory_raw}
 use Rattle.blob_memory.specs.Store.{directory, durable}
 use Rattle.blob_memory.specs.declared.storage.Storage as memory
 use Rattle.blob_lab.specs.LabStands.{Wrapper, IsFor}
-use Rattle.blob_lab.specs.Scripted.{scripted}
-use Rattle.blob_lab.specs.States.{Image, empty_directory, with_image, with_images}
+use Rattle.blob_states.specs.Scripted.{scripted}
+use Rattle.blob_states.specs.States.{Image, empty_directory, with_image, with_images}
 use Rattle.blob_lab.specs.Tables.{images_of}
 use Rattle.blob_lab.proofs.lab.Lab.drawing.Goals as goal
 

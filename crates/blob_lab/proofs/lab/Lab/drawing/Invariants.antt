@@ -1,6 +1,6 @@
 use Rattle.std.proofs.Common.{◌≡◌, None}
 use Rattle.blob_model.specs.Places.{Place}
-use Rattle.blob_lab.specs.States.{empty_directory, with_images}
+use Rattle.blob_states.specs.States.{empty_directory, with_images}
 use Rattle.blob_lab.specs.Tables.{images_of}
 use Rattle.blob_memory.specs.Store.{directory, durable}
 use Rattle.blob_lab.proofs.lab.Lab.drawing.Given as goal

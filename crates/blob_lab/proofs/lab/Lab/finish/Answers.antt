@@ -1,8 +1,8 @@
 use Rattle.std.proofs.Common.{refl, sym, ap, subst, Result}
 use Rattle.blob_header.specs.Refusals.{refused}
 use Rattle.blob_header.specs.declared.error.Error.{Error}
-use Rattle.blob_lab.specs.Answers.{unless_denied}
-use Rattle.blob_lab.specs.Scripted.{scripted}
+use Rattle.blob_states.specs.Answers.{unless_denied}
+use Rattle.blob_states.specs.Scripted.{scripted}
 use Rattle.blob_lab.specs.Tables.{started_by}
 use Rattle.blob_calls.specs.Told as told
 use Rattle.blob_calls.specs.Told.{Tells}

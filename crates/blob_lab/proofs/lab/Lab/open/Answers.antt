@@ -5,7 +5,7 @@ use Rattle.blob_header.specs.Refusals.{Memory, refusal_of}
 use Rattle.blob_faulty.specs.Wrapper.{inside, size_of}
 use Rattle.blob_memory.specs.Store.{place, live, directory, durable}
 use Rattle.blob_opens.specs.Opens.{inner_of}
-use Rattle.blob_lab.specs.Scripted.{scripted}
+use Rattle.blob_states.specs.Scripted.{scripted}
 use Rattle.blob_lab.specs.Tables.{held_by}
 use Rattle.blob_lab.proofs.ExclusiveEnds.{exclusive_failed}
 use Rattle.blob_lab.proofs.ExclusiveOpens.{exclusive_done}

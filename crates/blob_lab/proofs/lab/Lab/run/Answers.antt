@@ -1,10 +1,10 @@
 use Rattle.std.proofs.Common.{rules, refl, arith, ◌≡◌, ◌++◌, ◌∷◌, ◌+◌, [], take, sym, ap, ◌∙◌, List, subst}
 use Rattle.std.proofs.lemmas.List.{take_all, take_more}
-use Rattle.blob_lab.specs.Runs.{Run}
+use Rattle.blob_states.specs.Runs.{Run}
 use Rattle.blob_calls.specs.declared.call.Call.{Call}
 use Rattle.blob_calls.specs.declared.reply.Reply.{Reply}
-use Rattle.blob_lab.proofs.Lasting.{run_persists}
-use Rattle.blob_lab.proofs.RunSteps.{run_more}
+use Rattle.blob_states.proofs.Lasting.{run_persists}
+use Rattle.blob_states.proofs.RunSteps.{run_more}
 use Rattle.blob_lab.proofs.lab.Lab.run.Goals as goal
 
 pub loop-call-init : goal.loop-call-init

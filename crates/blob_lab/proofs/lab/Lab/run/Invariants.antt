@@ -1,7 +1,7 @@
 use Rattle.std.proofs.Common.{◌≡◌, ◌≤◌, take, length, vec_len, vec_capacity}
 use Rattle.blob_lab.specs.LabStands.{StandsFor}
-use Rattle.blob_lab.specs.Runs.{Run}
-use Rattle.blob_lab.specs.States.{State}
+use Rattle.blob_states.specs.Runs.{Run}
+use Rattle.blob_states.specs.States.{State}
 use Rattle.blob_lab.proofs.lab.Lab.run.Given as goal
 
 abbrev pub invariant-loop-call : goal.invariant-loop-call

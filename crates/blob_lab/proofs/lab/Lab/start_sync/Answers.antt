@@ -1,7 +1,7 @@
 use Rattle.std.proofs.Common.{refl, sym, ap, ◌∙◌, set, Some, None, subst}
 use Rattle.std.proofs.lemmas.List.{set-set}
 use Rattle.blob_calls.specs.Acts.{StartSync}
-use Rattle.blob_lab.specs.States.{Held}
+use Rattle.blob_states.specs.States.{Held}
 use Rattle.blob_lab.specs.LabStands.{Starts}
 use Rattle.blob_lab.specs.Tables.{held_by, handles_of, syncs_of}
 use Rattle.blob_lab.proofs.ThroughHandles.{through_none, through_started}

@@ -3,8 +3,8 @@ use Rattle.std.proofs.Common.{◌≡◌, ◌≢◌, Bool, ◌∙◌, ◌++◌, �
 use Rattle.std.specs.Prelude.{IsSome}
 use Rattle.blob_base.specs.Handles.{outcome_of}
 use Rattle.blob_header.specs.Refusals.{Refusal, Memory, refused}
-use Rattle.blob_lab.specs.States as states
-use Rattle.blob_lab.specs.States.{Held}
+use Rattle.blob_states.specs.States as states
+use Rattle.blob_states.specs.States.{Held}
 use Rattle.blob_lab.specs.Tables.{held_by, started_by, syncs_of}
 use Rattle.blob_lab.proofs.AskSteps.{held_same}
 use Rattle.blob_lab.proofs.AskedSyncs.{start_done, start_failed, start_unasked, starts_on}

@@ -1,7 +1,7 @@
 use Rattle.std.proofs.Common.{refl, subst}
 use Rattle.blob_calls.specs.Acts.{Sync}
 use Rattle.blob_lab.specs.LabStands.{Asks}
-use Rattle.blob_lab.specs.States.{Held}
+use Rattle.blob_states.specs.States.{Held}
 use Rattle.blob_calls.specs.declared.reply.Reply.TheVariants.{Done, Failed}
 use Rattle.blob_lab.proofs.AskSteps.{held_same}
 use Rattle.blob_lab.proofs.AskedSyncs.{sync_done, sync_failed}

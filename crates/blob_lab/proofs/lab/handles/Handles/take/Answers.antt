@@ -1,7 +1,7 @@
 use Rattle.std.proofs.Common.{rules, None}
 use Rattle.std.specs.Prelude.{option_map}
 use Rattle.blob_lab.specs.Tables.{held_by}
-use Rattle.blob_lab.proofs.TableSteps.{map_made, where_some}
+use Rattle.blob_states.proofs.TableSteps.{map_made, where_some}
 use Rattle.blob_lab.proofs.lab.handles.Handles.take.Goals as goal
 
 pub returns-clause-taken : goal.returns-clause-taken

@@ -1,8 +1,0 @@
-use Rattle.blob_lab.proofs.Stale.{ages}
-use Rattle.blob_lab.proofs.laws.stale_stays_stale.Goals as goal
-
-pub returns-clause-next : goal.returns-clause-next
-returns-clause-next c v act refusal rest = (ages v act refusal rest).next
-
-pub returns-clause-stale : goal.returns-clause-stale
-returns-clause-stale c v act refusal rest = (ages v act refusal rest).stale

@@ -1,0 +1,46 @@
+-- Runs of a laboratory, one call after another, and what they reach.
+use Rattle.std.proofs.Common.{◌≡◌, false, List, [], ◌∷◌, ◌++◌, refl, sym, ap, subst}
+use Rattle.std.proofs.lemmas.List.Elements.{All-nil, All-append}
+use Rattle.rand_core.specs.Stream.{Stream}
+use Rattle.blob_faults.specs.declared.config.Config.{Config}
+use Rattle.blob_calls.specs.declared.call.Call.{Call}
+use Rattle.blob_calls.specs.declared.reply.Reply.{Reply}
+use Rattle.blob_calls.specs.Acts.{act_of}
+use Rattle.blob_states.specs.After.{after}
+use Rattle.blob_states.specs.Answers.{Answers}
+use Rattle.blob_states.specs.Reached.{is_loose, NoneLoose, Reached, ReachedExclusively}
+use Rattle.blob_states.specs.Runs.{Run}
+use Rattle.blob_states.specs.Scripted.{Words}
+use Rattle.blob_states.specs.States.{State, Image, start}
+use Rattle.blob_calls.specs.Told.{refused_by}
+
+-- one more call at the end of a run
+pub run_more : (w : State) (calls : List Call) (replies : List Reply) (v : State) (call : Call) (reply : Reply) (left : Stream) → Run v calls replies w → Answers w (act_of call) reply left
+    → Run v (calls ++ call ∷ []) (replies ++ reply ∷ []) (after w (act_of call) (refused_by reply) left)
+run_more w [] [] v call reply left same a =
+    (left, subst (λ (s : State). Answers s (act_of call) reply left) (sym same) a, ap (λ (s : State). after s (act_of call) (refused_by reply) left) same)
+run_more w [] (r ∷ replies) v call reply left run a = absurd run
+run_more w (c ∷ calls) [] v call reply left run a = absurd run
+run_more w (c ∷ calls) (r ∷ replies) v call reply left (first, b, run) a =
+    (first, b, run_more w calls replies (after v (act_of c) (refused_by r) first) call reply left run a)
+
+-- one run after another
+pub run_append : (calls : List Call) (replies : List Reply) (more : List Call) (rest : List Reply) (v w u : State) → Run v calls replies w → Run w more rest u → Run v (calls ++ more) (replies ++ rest) u
+run_append [] [] more rest v w u same next = subst (λ (s : State). Run s more rest u) (sym same) next
+run_append [] (r ∷ replies) more rest v w u run next = absurd run
+run_append (c ∷ calls) [] more rest v w u run next = absurd run
+run_append (c ∷ calls) (r ∷ replies) more rest v w u (left, answers, run) next =
+    (left, answers, run_append calls replies more rest (after v (act_of c) (refused_by r) left) w u run next)
+
+-- where calls lead from a state that was reached is reached too
+
+pub reached_start : (images : List Image) (words : Words) (config : Config) → ReachedExclusively (start images words config)
+reached_start images words config = (images, words, config, [], [], All-nil (λ c. is_loose (act_of c) ≡ false), refl)
+
+pub reached_more : (v w : State) (calls : List Call) (replies : List Reply) → Reached v → Run v calls replies w → Reached w
+reached_more v w calls replies (images, words, config, before, told, run) next =
+    (images, words, config, before ++ calls, told ++ replies, run_append before told calls replies (start images words config) v w run next)
+
+pub reached_strictly : (v w : State) (calls : List Call) (replies : List Reply) → ReachedExclusively v → NoneLoose calls → Run v calls replies w → ReachedExclusively w
+reached_strictly v w calls replies (images, words, config, before, told, none, run) strict next =
+    (images, words, config, before ++ calls, told ++ replies, All-append (λ c. is_loose (act_of c) ≡ false) before calls none strict, run_append before told calls replies (start images words config) v w run next)

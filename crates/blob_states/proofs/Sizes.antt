@@ -1,0 +1,159 @@
+-- The size that a handle tracks and the length of its live bytes, by each call through it.
+use Rattle.std.proofs.Common.{◌≡◌, inl, inr, ℕ, ◌+◌, max, Bool, true, false, not, ◌&&◌, List, [], ◌∷◌, length, Option, Some, None, refl, sym, ap, ◌∙◌, arith, if◌then◌else◌}
+use Rattle.std.specs.Prelude.{is_some}
+use Rattle.std.proofs.lemmas.Bool.{false≢true}
+use Rattle.rand_core.specs.Stream.{Stream}
+use Rattle.std.specs.Option.{option_or}
+use Rattle.blob_model.specs.Bytes.{written, resized}
+use Rattle.blob_model.specs.Directory.{Directory, is_current}
+use Rattle.blob_model.specs.Live.{live_written, all_written}
+use Rattle.blob_model.specs.Places.{Place}
+use Rattle.blob_header.specs.Refusals.{Refusal, BlobMissing, Injected, OffsetOverflow, GenerationsExhausted}
+use Rattle.blob_model.specs.Runs.{Run, runs}
+use Rattle.blob_model.proofs.Bytes.{length-overlay_by, length-resized, reach_all}
+use Rattle.blob_faults.specs.Answers.{lacks_number, last_end}
+use Rattle.blob_faults.specs.Faults.{WriteFate, Done, Unsynced, Failed, ResizeFate, Resizes, Stays, Reaches, write_fate, resize_fate, retention, is_nothing, is_uncounted}
+use Rattle.blob_faults.specs.Recorded.{live_by, live_of_resize, size_of_runs, size_by, size_of_resize}
+use Rattle.blob_memory.specs.Answers.{write_refusal, end_refusal, sync_refusal, missing, is_idle}
+use Rattle.blob_memory.specs.Answers as memory
+use Rattle.blob_calls.specs.declared.reply.Reply.{Reply}
+use Rattle.blob_calls.specs.Acts.{Ask, Read, Write, Resize, Size, Sync, StartSync}
+use Rattle.blob_states.specs.After.{held_after}
+use Rattle.blob_states.specs.Answers.{IsAnswer, unless_denied, through}
+use Rattle.blob_states.specs.Denials.{refused_if, or_injected, runs_denial, fate_denial, write_denial}
+use Rattle.blob_states.specs.States.{State, Held}
+use Rattle.blob_calls.specs.Told as told
+use Rattle.blob_calls.specs.Told.{refused_by}
+use Rattle.blob_states.proofs.ToldRefusals.{denied}
+
+-- A current handle isn't answered that its blob is missing.
+
+abbrev is_missing : Option Refusal → Bool
+is_missing (Some (BlobMissing p n)) = true
+is_missing _ = false
+
+then_there : (first later : Option Refusal) → is_missing first ≡ false → is_missing later ≡ false → is_missing (option_or first later) ≡ false
+then_there None later f l = l
+then_there (Some r) later f l = f
+
+exhausted_there : (b : Bool) → is_missing (refused_if GenerationsExhausted b) ≡ false
+exhausted_there true = refl
+exhausted_there false = refl
+
+module _ (d : Directory) (o : Place) (now : is_current d o ≡ true) where
+  sync_there : is_missing (sync_refusal d o) ≡ false
+  sync_there = ap (λ c. is_missing (if c then None else Some (missing o))) now
+
+  end_there : (end : ℕ) → is_missing (end_refusal o end) ≡ false
+  end_there end = go (memory.is_uncounted (end + o.start)) where
+    go : (u : Bool) → is_missing (if u then Some OffsetOverflow else None) ≡ false
+    go true = refl
+    go false = refl
+
+  write_there : (offset : ℕ) (bytes : List ℕ) (sync : Bool) → is_missing (write_refusal d o offset bytes sync) ≡ false
+  write_there offset bytes sync = ap (λ c. is_missing (refusal c)) now ∙ go (is_idle sync bytes) (memory.is_uncounted (offset + o.start + length bytes)) sync where
+    refusal : Bool → Option Refusal
+    refusal c = if is_idle sync bytes then None else if memory.is_uncounted (offset + o.start + length bytes) then Some OffsetOverflow else if sync && not c then Some (missing o) else None
+
+    go : (i u s : Bool) → is_missing (if i then None else if u then Some OffsetOverflow else if s && not true then Some (missing o) else None) ≡ false
+    go true u s = refl
+    go false true s = refl
+    go false false true = refl
+    go false false false = refl
+
+  runs_there : (rs : List Run) → is_missing (runs_denial d o rs) ≡ false
+  runs_there [] = refl
+  runs_there (r ∷ rs) = then_there (option_or (end_refusal o (last_end 0 (r ∷ rs))) (sync_refusal d o)) (Some Injected) (then_there (end_refusal o (last_end 0 (r ∷ rs))) (sync_refusal d o) (end_there (last_end 0 (r ∷ rs))) sync_there) refl
+
+  fate_there : (fate : WriteFate) (retained : Bool) (next : ℕ) (sync : Bool) (offset : ℕ) (bytes : List ℕ) → is_missing (fate_denial fate d o retained next sync offset bytes) ≡ false
+  fate_there Done retained next true offset bytes = write_there offset bytes true
+  fate_there Done retained next false offset bytes = then_there (refused_if GenerationsExhausted (lacks_number retained next bytes)) (write_refusal d o offset bytes false) (exhausted_there (lacks_number retained next bytes)) (write_there offset bytes false)
+  fate_there Unsynced retained next sync offset bytes =
+      then_there (refused_if GenerationsExhausted (lacks_number retained next bytes)) (or_injected (write_refusal d o offset bytes false)) (exhausted_there (lacks_number retained next bytes))
+      (then_there (write_refusal d o offset bytes false) (Some Injected) (write_there offset bytes false) refl)
+  fate_there (Failed chosen) retained next sync offset bytes = runs_there (runs offset bytes chosen)
+
+denial_there : (v : State) (h : Held) (offset : ℕ) (bytes : List ℕ) (sync : Bool) → is_current v.files.directory h.place ≡ true → is_missing (write_denial v h offset bytes sync) ≡ false
+denial_there v h offset bytes sync now = go (is_nothing sync bytes) (is_uncounted offset bytes) where
+  denial : Option Refusal
+  denial = fate_denial (write_fate v.config sync offset (length bytes) v.stream).0 v.files.directory h.place (is_some (retention v.config.write_rate)) v.files.next_write sync offset bytes
+
+  go : (nothing uncounted : Bool) → is_missing (if nothing then None else if uncounted then Some OffsetOverflow else denial) ≡ false
+  go true uncounted = refl
+  go false true = refl
+  go false false = fate_there v.files.directory h.place now (write_fate v.config sync offset (length bytes) v.stream).0 (is_some (retention v.config.write_rate)) v.files.next_write sync offset bytes
+
+reply_there : (r : Reply) (denial : Option Refusal) (grows : Bool) (left expected : Stream) → is_missing denial ≡ false → IsAnswer grows (unless_denied denial told.Done, expected) r left → is_missing (refused_by r) ≡ false
+reply_there r denial grows left expected there (inl m) = ap is_missing m.1
+reply_there r denial grows left expected there (inr t) = ap is_missing (denied r denial told.Done refl t.0) ∙ there
+
+-- Lengths.
+
+-- a write grows bytes to its end
+length-written : (x : List ℕ) (o : ℕ) (b : List ℕ) → length (written x o b) ≡ max (length x) (o + length b)
+length-written x o [] = length-overlay_by (resized x (max (length x) o)) o [] (λ _. true) ∙ omega (arith, length-resized x (max (length x) o))
+length-written x o (b ∷ bs) =
+    length-overlay_by (resized x (max (length x) o)) o (b ∷ bs) (λ _. true)
+    ∙ omega (arith, length-resized x (max (length x) o), reach_all o (length (b ∷ bs)) (omega arith))
+
+write_sized : (size : ℕ) (live : List ℕ) (offset : ℕ) (bytes : List ℕ) → size ≡ length live → max size (offset + length bytes) ≡ length (written live offset bytes)
+write_sized size live offset bytes e = ap (λ k. max k (offset + length bytes)) e ∙ sym (length-written live offset bytes)
+
+runs_sized : (size : ℕ) (live : List ℕ) (rs : List Run) → size ≡ length live → size_of_runs size rs ≡ length (all_written live rs)
+runs_sized size live [] e = e
+runs_sized size live (r ∷ rs) e = runs_sized (max size (r.0 + length r.1)) (written live r.0 r.1) rs (write_sized size live r.0 r.1 e)
+
+done_sized : (sync : Bool) (size : ℕ) (live : List ℕ) (offset : ℕ) (bytes : List ℕ) → is_nothing sync bytes ≡ false → size ≡ length live → max size (offset + length bytes) ≡ length (live_written sync live offset bytes)
+done_sized true size live offset [] some e = absurd (false≢true (sym some))
+done_sized true size live offset (b ∷ bytes) some e = write_sized size live offset (b ∷ bytes) e
+done_sized false size live offset bytes some e = write_sized size live offset bytes e
+
+fate_sized : (fate : WriteFate) (sync : Bool) (size : ℕ) (live : List ℕ) (offset : ℕ) (bytes : List ℕ) (answer : Option Refusal) → is_nothing sync bytes ≡ false → is_missing answer ≡ false → size ≡ length live
+    → size_by fate size offset bytes answer ≡ length (live_by fate sync live offset bytes answer)
+fate_sized Done sync size live offset bytes None some there e = done_sized sync size live offset bytes some e
+fate_sized Done sync size live offset bytes (Some (BlobMissing p n)) some there e = absurd (false≢true (sym there))
+fate_sized Done true size live offset bytes (Some r) some there e = e
+fate_sized Done false size live offset bytes (Some r) some there e = e
+fate_sized Unsynced sync size live offset bytes (Some Injected) some there e = write_sized size live offset bytes e
+fate_sized Unsynced sync size live offset bytes None some there e = e
+fate_sized Unsynced sync size live offset bytes (Some r) some there e = e
+fate_sized (Failed chosen) sync size live offset bytes (Some Injected) some there e = runs_sized size live (runs offset bytes chosen) e
+fate_sized (Failed chosen) sync size live offset bytes (Some (BlobMissing p n)) some there e = absurd (false≢true (sym there))
+fate_sized (Failed chosen) sync size live offset bytes None some there e = e
+fate_sized (Failed chosen) sync size live offset bytes (Some r) some there e = e
+
+resize_sized : (fate : ResizeFate) (size : ℕ) (live : List ℕ) (len : ℕ) (answer : Option Refusal) → size ≡ length live → size_of_resize fate size len answer ≡ length (live_of_resize fate live len answer)
+resize_sized (Resizes survives) size live len None e = sym (length-resized live len)
+resize_sized (Resizes survives) size live len (Some r) e = e
+resize_sized Stays size live len None e = e
+resize_sized Stays size live len (Some r) e = e
+resize_sized (Reaches reached) size live len None e = e
+resize_sized (Reaches reached) size live len (Some Injected) e = sym (length-resized live reached)
+resize_sized (Reaches reached) size live len (Some r) e = e
+
+abbrev IsSized : Held → Type 0
+IsSized h = h.size ≡ length h.live
+
+-- a write that doesn't find its blob missing
+write_keeps : (v : State) (h : Held) (offset : ℕ) (bytes : List ℕ) (sync : Bool) (answer : Option Refusal) → is_missing answer ≡ false → IsSized h → IsSized (held_after v h (Write offset bytes sync) answer)
+write_keeps v h offset bytes sync answer there e = go (is_nothing sync bytes) (is_uncounted offset bytes) refl where
+  fate : WriteFate
+  fate = (write_fate v.config sync offset (length bytes) v.stream).0
+
+  go : (nothing uncounted : Bool) → is_nothing sync bytes ≡ nothing
+      → (if nothing then h.size else if uncounted then h.size else size_by fate h.size offset bytes answer)
+      ≡ length (if nothing then h.live else if uncounted then h.live else live_by fate sync h.live offset bytes answer)
+  go true uncounted is = e
+  go false true is = e
+  go false false is = fate_sized fate sync h.size h.live offset bytes answer is there e
+
+-- what is asked through a current handle
+pub asked_sized : (v : State) (h : Held) (ask : Ask) (r : Reply) (grows : Bool) (left : Stream) → IsAnswer grows (through v (Some h) ask) r left → is_current v.files.directory h.place ≡ true
+    → h.size ≡ length h.live → (held_after v h ask (refused_by r)).size ≡ length (held_after v h ask (refused_by r)).live
+asked_sized v h (Write offset bytes sync) r grows left a now e =
+    write_keeps v h offset bytes sync (refused_by r) (reply_there r (write_denial v h offset bytes sync) grows left (through v (Some h) (Write offset bytes sync)).1 (denial_there v h offset bytes sync now) a) e
+asked_sized v h (Resize len) r grows left a now e = resize_sized (resize_fate v.config.resize_rate h.size len v.stream).0 h.size h.live len (refused_by r) e
+asked_sized v h (Read offset len) r grows left a now e = e
+asked_sized v h Size r grows left a now e = e
+asked_sized v h Sync r grows left a now e = e
+asked_sized v h StartSync r grows left a now e = e

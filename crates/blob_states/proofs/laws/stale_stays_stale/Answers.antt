@@ -1,0 +1,8 @@
+use Rattle.blob_states.proofs.Stale.{ages}
+use Rattle.blob_states.proofs.laws.stale_stays_stale.Goals as goal
+
+pub returns-clause-next : goal.returns-clause-next
+returns-clause-next c v act refusal rest = (ages v act refusal rest).next
+
+pub returns-clause-stale : goal.returns-clause-stale
+returns-clause-stale c v act refusal rest = (ages v act refusal rest).stale

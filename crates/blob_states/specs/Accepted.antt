@@ -1,0 +1,74 @@
+-- Names that an open accepted and that nothing removed since, and their opens in a rebuilt store.
+use Rattle.std.specs.Prelude.{◌≡◌, ◌≢◌, ℕ, ◌-◌, ◌^◌, ◌<◌, ◌≤◌, ◌&&◌, List, ◌∷◌, ◌++◌, length, Bool, false, Option, Some, None}
+use Rattle.std.specs.List.{AllZip}
+use Rattle.std.specs.Str.{bytes_eq}
+use Rattle.rand_core.specs.Stream.{Stream}
+use Rattle.blob_header.specs.declared.layout.Layout.{Layout}
+use Rattle.blob_header.specs.declared.version.BlobVersion.{BlobVersion}
+use Rattle.blob_model.specs.Directory.{Raw, Incarnation}
+use Rattle.blob_model.specs.Files.{Files, durable_at}
+use Rattle.blob_header.specs.Header.{region}
+use Rattle.blob_model.specs.Opening.{place_of}
+use Rattle.blob_header.specs.Refusals.{Refusal}
+use Rattle.blob_faults.specs.Faults.{draw}
+use Rattle.blob_calls.specs.declared.call.Call.{Call}
+use Rattle.blob_calls.specs.declared.reply.Reply.{Reply}
+use Rattle.blob_calls.specs.declared.reply.Reply.TheVariants as reply
+use Rattle.blob_calls.specs.Acts.{Act, Open, OpenLoose, Remove, act_of}
+use Rattle.blob_states.specs.Answers.{answer}
+use Rattle.blob_states.specs.Runs.{Run}
+use Rattle.blob_states.specs.States.{State}
+use Rattle.blob_calls.specs.Told.{Told, Opened, refused_by}
+
+-- partition and name of what a call opens
+abbrev pub opened_name : Act → Option (List ℕ × List ℕ)
+opened_name (Open p n versions) = Some (p, n)
+opened_name (OpenLoose p n versions) = Some (p, n)
+opened_name act = None
+
+-- whether a call removes a name, or its whole partition: a removal that is answered Ok
+abbrev pub removes : Act → Option Refusal → List ℕ → List ℕ → Bool
+removes (Remove q (Some m)) None p n = bytes_eq q p && bytes_eq m n
+removes (Remove q None) None p n = bytes_eq q p
+removes act refusal p n = false
+
+-- calls from one state to another: an open of a name that answered this version, and then none that removes the name
+pub record IsKept (v : State) (p n : List ℕ) (version : BlobVersion) (w : State) : Type 0 where
+  pub opening : Call
+  pub handle : ℕ
+  pub size : ℕ
+  pub calls : List Call
+  pub replies : List Reply
+  pub opens : opened_name (act_of opening) ≡ Some (p, n)
+  pub run : Run v (opening ∷ calls) (reply.Opened handle size version ∷ replies) w
+  pub keeps : AllZip (λ call reply. removes (act_of call) (refused_by reply) p n ≡ false) calls replies
+
+-- in a state with this stream, an open for versions from a first to a last one accepts this version: nothing is injected, and
+-- a number is left for the incarnation and for the open
+pub record Accepts (v : State) (rest : Stream) (first last version : ℕ) : Type 0 where
+  pub fits : version < 2 ^ 16
+  pub least : first ≤ version
+  pub greatest : version ≤ last
+  pub uninjected : (draw v.config.open_rate rest).0 ≡ false
+  pub incarnation : v.files.directory.next ≢ 2 ^ 64 - 1
+  pub registration : v.names.next ≢ 2 ^ 64 - 1
+
+-- a name has a file of this version, with so many bytes
+pub data HasFileOf (f : Files) (p n : List ℕ) (version size : ℕ) : Type 0 where
+  -- a current incarnation with its durable bytes
+  IsCurrent : (number : ℕ) (layout : Layout) → f.directory.file p n ≡ Some (Incarnation number layout version) → size ≡ length (durable_at f (place_of p n number layout)) → HasFileOf f p n version size
+  -- a raw file with the bytes behind a whole header
+  IsRaw : (layout : Layout) (behind : List ℕ) → f.directory.file p n ≡ Some (Raw (region layout version ++ behind)) → size ≡ length behind → HasFileOf f p n version size
+
+-- an open of a name is told the version of its file, and how many bytes it has
+pub record OpensAs (v : State) (p n : List ℕ) (first last version : ℕ) : Type 0 where
+  pub size : ℕ
+  pub file : HasFileOf v.files p n version size
+  pub told : (answer v (Open p n (Some (first, last)))).0 ≡ Opened (length v.handles) size version
+
+-- what an open is told of a name that has a raw file: the version in its header, and how many bytes are behind that
+pub record IsToldOf (v : State) (p n : List ℕ) (version : ℕ) (answer : Told) : Type 0 where
+  pub layout : Layout
+  pub behind : List ℕ
+  pub file : v.files.directory.file p n ≡ Some (Raw (region layout version ++ behind))
+  pub told : answer ≡ Opened (length v.handles) (length behind) version

@@ -1,0 +1,97 @@
+-- What a call leaves of a laboratory, by what it refused.
+use Rattle.std.specs.Prelude.{ℕ, List, [], ◌∷◌, ◌++◌, map, set, Option, Some, None, option_map}
+use Rattle.rand_core.specs.Stream.{Stream}
+use Rattle.blob_model.specs.Directory.{current}
+use Rattle.blob_model.specs.Draws.{chosen_by, drawn}
+use Rattle.blob_model.specs.Files.{Files, all_logged, synced, started, admitted, after_open, after_remove, after_crash, reopened, all_needs}
+use Rattle.blob_header.specs.Refusals.{Refusal, BlobAlreadyOpen}
+use Rattle.blob_faults.specs.Faults.{resize_fate}
+use Rattle.blob_faults.specs.Recorded.{recorded_write, recorded_resize, live_of_write, live_of_resize, size_of_write, size_of_resize}
+use Rattle.blob_calls.specs.Acts.{Ask, Write, Resize, Sync, StartSync, Accepted, Act, Configure, Open, OpenLoose, Admit, Close, Through, Finish, Remove, Crash, Reopen}
+use Rattle.blob_states.specs.Answers.{kept_at}
+use Rattle.blob_states.specs.Denials.{start_denial}
+use Rattle.blob_opens.specs.OpenNames as names
+use Rattle.blob_opens.specs.OpenNames.{OpenNames, Registration, none_open}
+use Rattle.blob_states.specs.States.{State, Held, Started, held_on}
+
+-- Through a handle.
+
+-- a started sync with this outcome
+abbrev pub begun : Files → Held → Option Refusal → Files
+begun f h None = started f h.place h.live
+begun f h (Some refusal) = f
+
+abbrev pub files_after : State → Held → Ask → Option Refusal → Files
+files_after v h (Write offset bytes sync) refusal = all_logged v.files h.place (recorded_write v.config v.files.next_write v.stream sync offset bytes refusal)
+files_after v h (Resize len) refusal = all_logged v.files h.place (recorded_resize (resize_fate v.config.resize_rate h.size len v.stream).0 len refusal)
+files_after v h Sync None = synced v.files h.place h.live
+files_after v h StartSync None = begun v.files h (start_denial v h)
+files_after v h ask refusal = v.files
+
+abbrev pub held_after : State → Held → Ask → Option Refusal → Held
+held_after v h (Write offset bytes sync) refusal = record h {
+  live = live_of_write v.config v.stream sync h.live offset bytes refusal;
+  size = size_of_write v.config v.stream sync h.size offset bytes refusal;
+}
+held_after v h (Resize len) refusal = record h {
+  live = live_of_resize (resize_fate v.config.resize_rate h.size len v.stream).0 h.live len refusal;
+  size = size_of_resize (resize_fate v.config.resize_rate h.size len v.stream).0 h.size len refusal;
+}
+held_after v h ask refusal = h
+
+abbrev pub syncs_after : State → Held → Ask → Option Refusal → List (Option Started)
+syncs_after v h StartSync None = v.syncs ++ Some (record { outcome = start_denial v h }) ∷ []
+syncs_after v h ask refusal = v.syncs
+
+abbrev pub asked : State → ℕ → Option Held → Ask → Option Refusal → State
+asked v number None ask refusal = v
+asked v number (Some h) ask refusal = record v {
+  files = files_after v h ask refusal;
+  handles = set v.handles number (Some (held_after v h ask refusal));
+  syncs = syncs_after v h ask refusal;
+}
+
+-- Opens.
+
+-- these files, and one more handle, on the name's current incarnation
+abbrev pub with_held : State → List ℕ → List ℕ → Files → Option Registration → State
+with_held v p n f registration = record v { files = f; handles = v.handles ++ option_map (held_on f registration) (current f.directory p n) ∷ [] }
+
+-- an exclusive open is admitted at once; where the name is open, what the store's open made stays
+abbrev pub exclusively_opened : State → List ℕ → List ℕ → Accepted → Option Refusal → State
+exclusively_opened v p n versions None = with_held (record v { names = names.opened v.names p n }) p n
+    (admitted (after_open v.files p n versions.0 versions.1) p n) (Some (record { partition = p; name = n; number = v.names.next }))
+exclusively_opened v p n versions (Some (BlobAlreadyOpen q m)) = record v { files = after_open v.files p n versions.0 versions.1 }
+exclusively_opened v p n versions (Some refusal) = v
+
+-- Any call.
+
+abbrev pub unregistered : OpenNames → Option Registration → OpenNames
+unregistered s None = s
+unregistered s (Some registration) = names.closed s registration
+
+abbrev pub closed : State → ℕ → Option Held → State
+closed v number None = v
+closed v number (Some h) = record v { names = unregistered v.names h.registration; handles = set v.handles number None }
+
+abbrev pub finished : State → ℕ → Option Started → State
+finished v number None = v
+finished v number (Some s) = record v { syncs = set v.syncs number None }
+
+-- but for the generator. A crash keeps what is drawn. In a rebuilt store all names are closed and all started syncs dropped;
+-- numbers aren't given again, and handles stay
+abbrev pub changed : State → Act → Option Refusal → State
+changed v (Configure config) refusal = record v { config = config }
+changed v (Open p n (Some versions)) refusal = exclusively_opened v p n versions refusal
+changed v (OpenLoose p n (Some versions)) None = with_held v p n (after_open v.files p n versions.0 versions.1) None
+changed v (Admit p n) refusal = record v { files = admitted v.files p n }
+changed v (Close number) refusal = closed v number (kept_at v.handles number)
+changed v (Through number ask) refusal = asked v number (kept_at v.handles number) ask refusal
+changed v (Finish number) refusal = finished v number (kept_at v.syncs number)
+changed v (Remove p n) None = record v { files = after_remove v.files p n; names = names.ended v.names p n }
+changed v Crash None = record v { files = after_crash v.files (chosen_by (drawn v.stream (all_needs v.files.log)).0) }
+changed v Reopen refusal = record v { files = reopened v.files; names = none_open v.names.next; syncs = map (λ slot. None) v.syncs }
+changed v act refusal = v
+
+abbrev pub after : State → Act → Option Refusal → Stream → State
+after v act refusal left = record (changed v act refusal) { stream = left }

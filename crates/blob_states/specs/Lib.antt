@@ -1,0 +1,11 @@
+pub mod Accepted
+pub mod After
+pub mod Answers
+pub mod Denials
+pub mod Exclusive
+pub mod Fixed
+pub mod Reached
+pub mod Runs
+pub mod Scripted
+pub mod States
+pub mod Steps

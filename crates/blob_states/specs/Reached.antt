@@ -1,0 +1,25 @@
+-- Which states calls lead to, from a laboratory that was just made.
+use Rattle.std.specs.Prelude.{◌≡◌, List, Bool, true, false, All}
+use Rattle.blob_faults.specs.declared.config.Config.{Config}
+use Rattle.blob_calls.specs.declared.call.Call.{Call}
+use Rattle.blob_calls.specs.declared.reply.Reply.{Reply}
+use Rattle.blob_calls.specs.Acts.{Act, OpenLoose, act_of}
+use Rattle.blob_states.specs.Runs.{Run}
+use Rattle.blob_states.specs.Scripted.{Words}
+use Rattle.blob_states.specs.States.{State, Image, start}
+
+-- an open that isn't exclusive
+abbrev pub is_loose : Act → Bool
+is_loose (OpenLoose p n versions) = true
+is_loose act = false
+
+abbrev pub NoneLoose : List Call → Type 0
+NoneLoose calls = All (λ call. is_loose (act_of call) ≡ false) calls
+
+-- by any calls
+abbrev pub Reached : State → Type 0
+Reached v = (images : List Image) × (words : Words) × (config : Config) × (calls : List Call) × (replies : List Reply) × Run (start images words config) calls replies v
+
+-- by calls whose opens are all exclusive
+abbrev pub ReachedExclusively : State → Type 0
+ReachedExclusively v = (images : List Image) × (words : Words) × (config : Config) × (calls : List Call) × (replies : List Reply) × NoneLoose calls × Run (start images words config) calls replies v

@@ -1,0 +1,17 @@
+-- Runs of a laboratory.
+use Rattle.std.specs.Prelude.{◌≡◌, List, [], ◌∷◌}
+use Rattle.rand_core.specs.Stream.{Stream}
+use Rattle.blob_calls.specs.declared.call.Call.{Call}
+use Rattle.blob_calls.specs.declared.reply.Reply.{Reply}
+use Rattle.blob_calls.specs.Acts.{act_of}
+use Rattle.blob_calls.specs.Told.{refused_by}
+use Rattle.blob_states.specs.Answers.{Answers}
+use Rattle.blob_states.specs.After.{after}
+use Rattle.blob_states.specs.States.{State}
+
+-- calls one after another, from a state, with these replies, to a state
+abbrev pub Run : State → List Call → List Reply → State → Type 0
+Run v [] [] w = v ≡ w
+Run v (call ∷ calls) (reply ∷ replies) w =
+    (left : Stream) × Answers v (act_of call) reply left × Run (after v (act_of call) (refused_by reply) left) calls replies w
+Run v calls replies w = ⊥
