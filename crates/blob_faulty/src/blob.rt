@@ -130,8 +130,8 @@ impl<S: blob_base::Storage, R: Rng, B: blob_base::Blob<S>> blob_base::Blob<Stora
             .read_at_buf(&mut store.inner, offset, len, buf, options)
     }
 
-    /// Draws whether the write fails and, of one that doesn't and is SYNC, whether its sync does. A SYNC write of no bytes is
-    /// answered Ok before that, and one whose logical end can't be counted `OffsetOverflow`.
+    /// Draws whether the write fails and, of one that doesn't and is SYNC, whether its sync does. Before that a SYNC write of no
+    /// bytes is answered Ok, and any write whose logical end can't be counted `OffsetOverflow`.
     ///
     /// Done, it is the write of the handle inside. Where retention is set, a plain one of some bytes is pending from then on: a
     /// crash keeps what it draws of it. Failed, each run of bytes that is kept by its positions is laid as a SYNC write inside,
