@@ -1,3 +1,4 @@
+pub mod HexDigits
 pub mod Numbers
 pub mod SaidLines
 pub mod Tokens

@@ -1,6 +1,7 @@
 //! Scripts: lines that are read as calls, and replies that are printed as lines.
 
 pub mod call_line;
+mod hex_text;
 pub mod line;
 pub mod refused_line;
 pub mod reply_line;

@@ -4,6 +4,7 @@ ghost use Rattle.std.specs.Str.Parse.{digits_value};
 ghost use Rattle.blob_calls.specs.Tokens.{tokens, bytes_of, number_of, IsNumber};
 
 use crate::script::RefusedLine;
+use crate::script::hex_text::decode;
 use blob_base::Probability;
 use std::alloc::Global;
 use std::marker::Model;
@@ -73,9 +74,5 @@ pub fn bytes(alloc: Global, token: &str) -> Result<Vec<u8>, RefusedLine>
     if token == "-" {
         return Ok(Vec::new(alloc));
     }
-    match hex::decode(alloc, token) {
-        Ok(bytes) => Ok(bytes),
-        Err(hex::FromHexError::OutOfMemory) => Err(RefusedLine::NoMemory),
-        Err(_) => Err(RefusedLine::BadCall),
-    }
+    decode(alloc, token.as_bytes())
 }
