@@ -1,5 +1,5 @@
 -- Runs of a laboratory, one call after another, and what they reach.
-use Rattle.std.proofs.Common.{◌≡◌, false, List, [], ◌∷◌, ◌++◌, refl, sym, ap, subst}
+use Rattle.std.proofs.Common.{◌≡◌, ◌<◌, arith, false, List, [], ◌∷◌, ◌++◌, refl, sym, ap, subst}
 use Rattle.std.proofs.lemmas.List.Elements.{All-nil, All-append}
 use Rattle.rand_core.specs.Stream.{Stream}
 use Rattle.blob_faults.specs.declared.config.Config.{Config}
@@ -13,6 +13,9 @@ use Rattle.blob_states.specs.Runs.{Run}
 use Rattle.blob_states.specs.Scripted.{Words}
 use Rattle.blob_states.specs.States.{State, Image, start}
 use Rattle.blob_calls.specs.Told.{refused_by}
+use Rattle.blob_model.specs.Directory.{is_current}
+use Rattle.blob_model.specs.Places.{Place}
+use Rattle.blob_states.proofs.Stale.{Ages, ages}
 
 -- one more call at the end of a run
 pub run_more : (w : State) (calls : List Call) (replies : List Reply) (v : State) (call : Call) (reply : Reply) (left : Stream) → Run v calls replies w → Answers w (act_of call) reply left
@@ -44,3 +47,13 @@ reached_more v w calls replies (images, words, config, before, told, run) next =
 pub reached_strictly : (v w : State) (calls : List Call) (replies : List Reply) → ReachedExclusively v → NoneLoose calls → Run v calls replies w → ReachedExclusively w
 reached_strictly v w calls replies (images, words, config, before, told, none, run) strict next =
     (images, words, config, before ++ calls, told ++ replies, All-append (λ c. is_loose (act_of c) ≡ false) before calls none strict, run_append before told calls replies (start images words config) v w run next)
+
+-- what is stale stays so through a run
+pub stale_ever : (calls : List Call) (replies : List Reply) (v w : State) (o : Place) → Run v calls replies w → o.number < v.files.directory.next → is_current v.files.directory o ≡ false → is_current w.files.directory o ≡ false
+stale_ever [] [] v w o same below stale = subst (λ (s : State). is_current s.files.directory o ≡ false) same stale
+stale_ever [] (r ∷ replies) v w o run below stale = absurd run
+stale_ever (c ∷ calls) [] v w o run below stale = absurd run
+stale_ever (c ∷ calls) (r ∷ replies) v w o (left, answers, run) below stale =
+    let older : Ages v.files.directory (after v (act_of c) (refused_by r) left).files.directory = ages v (act_of c) (refused_by r) left in
+    let next = older.next in
+    stale_ever calls replies (after v (act_of c) (refused_by r) left) w o run (omega arith) (older.stale o below stale)

@@ -60,6 +60,7 @@ pub fn opens()
 pub fn stale_stays_stale()
     ensures next { (v : State) (act : Act) (refusal : Option Refusal) (rest : Stream) → v.files.directory.next ≤ (after v act refusal rest).files.directory.next }
     ensures stale { (v : State) (act : Act) (refusal : Option Refusal) (rest : Stream) (o : Place) → o.number < v.files.directory.next → is_current v.files.directory o ≡ false → is_current (after v act refusal rest).files.directory o ≡ false }
+    ensures ever { (v w : State) (calls : List Call) (replies : List Reply) (o : Place) → Run v calls replies w → o.number < v.files.directory.next → is_current v.files.directory o ≡ false → is_current w.files.directory o ≡ false }
 {}
 
 /// What is asked through a handle changes no directory, and no durable byte but those of its own incarnation. So a stale

@@ -1,9 +1,10 @@
 // A call as data, and the wrapper for reading.
 ghost use Rattle.std.specs.Prelude.{◌≡◌};
 ghost use Rattle.blob_calls.specs.Acts.{Configure, act_of};
-ghost use Rattle.blob_lab.specs.LabStands.{Performs, wrapper_of};
+ghost use Rattle.blob_lab.specs.LabStands.{Performs, Wraps, wrapper_of};
+ghost use Rattle.blob_states.specs.States.{State};
 
-use crate::lab::{Lab, Wrapper};
+use crate::lab::{Lab, Stands, Wrapper};
 use blob_calls::script::setting::copy_of;
 use blob_calls::{Call, Reply};
 use blob_faulty::Config;
@@ -54,9 +55,11 @@ impl Lab {
         }
     }
 
-    /// The wrapper, for reading: its store's durable bytes, and which incarnations are current.
+    /// The wrapper, for reading: its store's durable bytes, and which incarnations are current. It stands for the files of
+    /// whichever state the laboratory stands for, with that state's configuration and generator.
     pub fn wrapper(&self) -> &Wrapper
-        ensures { result.now ≡ wrapper_of self.now }
+        ensures wrapper { result.now ≡ wrapper_of self.now }
+        ensures stands { (v : State) → ⟦<Lab as Stands>⟧.stands_for self.now v → Wraps result.now v }
     {
         &self.wrapper
     }

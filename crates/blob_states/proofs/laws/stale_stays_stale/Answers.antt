@@ -1,3 +1,4 @@
+use Rattle.blob_states.proofs.RunSteps.{stale_ever}
 use Rattle.blob_states.proofs.Stale.{ages}
 use Rattle.blob_states.proofs.laws.stale_stays_stale.Goals as goal
 
@@ -6,3 +7,6 @@ returns-clause-next c v act refusal rest = (ages v act refusal rest).next
 
 pub returns-clause-stale : goal.returns-clause-stale
 returns-clause-stale c v act refusal rest = (ages v act refusal rest).stale
+
+pub returns-clause-ever : goal.returns-clause-ever
+returns-clause-ever c v w calls replies o run below stale = stale_ever calls replies v w o run below stale
