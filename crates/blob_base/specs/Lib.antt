@@ -4,7 +4,6 @@ pub mod HandleCalls
 pub mod Handles
 pub mod Names
 pub mod Options
-pub mod Values
 pub use Rattle.blob_header.specs.Checksum
 pub use Rattle.blob_header.specs.Fronts
 pub use Rattle.blob_header.specs.Header
@@ -16,6 +15,7 @@ pub use Rattle.blob_header.specs.Register
 pub use Rattle.blob_header.specs.ReplyLines
 pub use Rattle.blob_header.specs.Resolve
 pub use Rattle.blob_header.specs.Steps
+pub use Rattle.blob_header.specs.Values
 pub use Rattle.blob_header.specs.Versions
 pub use Rattle.blob_model.specs.Bytes
 pub use Rattle.blob_model.specs.Directory

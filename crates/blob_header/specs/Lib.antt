@@ -9,4 +9,5 @@ pub mod Register
 pub mod ReplyLines
 pub mod Resolve
 pub mod Steps
+pub mod Values
 pub mod Versions

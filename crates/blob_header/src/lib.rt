@@ -18,6 +18,7 @@ pub mod refusal_line;
 mod region;
 pub mod resolution;
 mod stream_tables;
+pub mod value_laws;
 pub mod version;
 mod word_tables;
 
