@@ -63,13 +63,6 @@ keeps_added es b b' w w' named at config tracked stands = record {
   whole = whole_so w w' config;
 }
 
--- nothing was asked of the wrapper
-pub keeps_self : {R : Type 0} (b : Opened) (w : Wrapper R) → Keeps b w b w
-keeps_self b w = record { standing = λ s. s; tracked = λ h. h; directory = refl; place = refl; config = refl; named = λ h. h; there = λ h. h; whole = λ h. h }
-
-pub follows_self : {R : Type 0} (P : List ℕ → List ℕ → Type 0) (b : Opened) (w : Wrapper R) → ((x : List ℕ) → P x x) → Follows P (outcomes b w) (outcomes b w)
-follows_self P b w same c may = (c, may, same c)
-
 pub torn_follows : (at : ℕ) (bytes : List ℕ) (old new : List ℕ → Type 0) → Follows (Mixed at bytes) old new → Follows (Torn at (length bytes)) old new
 torn_follows at bytes old new mixed c may = let m = mixed c may in (m.0, m.1, m.2.torn)
 

@@ -1,7 +1,7 @@
 -- What bytes that are laid over a file, and a new length, are to a disk.
 use Rattle.std.proofs.Common.{◌≡◌, ◌⊎◌, ℕ, ◌+◌, ◌-◌, ◌<◌, ◌≤◌, max, List, [], ◌∷◌, length, Bool, true, false, get_or, refl, sym, ◌∙◌, ap, subst, inl, inr, arith}
 use Rattle.blob_model.specs.Bytes.{overlay_by, reach, resized, written}
-use Rattle.blob_model.proofs.Bytes.{length-overlay_by, length-resized, reach_all, reach_below, at_chosen, at_other, at_resized, none_chosen, picks}
+use Rattle.blob_model.proofs.Bytes.{length-overlay_by, length-resized, reach_all, reach_below, at_chosen, at_other, at_resized, picks}
 use Rattle.blob_faulty.specs.Outcomes.{WritesSome}
 use Rattle.sqlite_disk.specs.Disk.{Torn, Mixed, Cut, Holds}
 
@@ -29,10 +29,6 @@ mixed_over o b c x = record {
         (get_or (overlay_by x o b c) (o + i) 0 ≡ get_or x (o + i) 0) ⊎ (get_or (overlay_by x o b c) (o + i) 0 ≡ get_or b i 0)
     here i (inl (low, high, e)) = inr (at_chosen x o b c (o + i) low high e ∙ ap (λ (p : ℕ). get_or b p 0) (back i))
     here i (inr isnt) = inl (at_other x o b c (o + i) isnt)
-
--- nothing was laid
-pub mixed_not : (o : ℕ) (b x : List ℕ) → Mixed o b x x
-mixed_not o b x = subst (λ (z : List ℕ). Mixed o b x z) (none_chosen x o b) (mixed_over o b (λ _. false) x)
 
 -- a resize that is done
 pub cut_to : (n : ℕ) (x : List ℕ) → Cut n x (resized x n)

@@ -1,6 +1,5 @@
 //! What a disk asks of the wrapper, each by what it makes of the outcomes of a crash.
 ghost use Rattle.std.specs.Prelude.{◌≡◌, ◌⊎◌, ◌≤◌, ◌<◌, ℕ, List, Some, false, length, OnOk, OnErr};
-ghost use Rattle.blob_model.specs.Bytes.{written};
 ghost use Rattle.blob_faulty.specs.Wrapper.{inside, inner_of, KeepsRecords};
 ghost use Rattle.blob_memory.specs.Store.{live, place, durable};
 ghost use Rattle.sqlite_disk.specs.Disk.{Holds, Only, Torn, Mixed, Cut, Follows, MoreFaults};
@@ -8,12 +7,11 @@ ghost use Rattle.sqlite_disk.specs.Refusal.{is_no_room};
 ghost use Rattle.blob_disk.specs.Outcomes.{Keeps, IsFile, IsDrawn, IsNamed, IsThere, outcomes};
 
 use crate::{NAME, PARTITION};
-use blob_base::{Blob, Error, IoBufs, ReadOptions, Storage, WriteOptions};
+use blob_base::{Blob, Error, Storage};
 use blob_faulty::laws::current_handles::{found, live_bytes, sizes};
 use blob_faulty::laws::kept_records;
 use blob_faulty::laws::outcomes::{entries, recorded};
 use rand_core::Rng;
-use std::alloc::Global;
 use std::io;
 
 type Wrapper<R> = blob_faulty::Storage<blob_memory::Storage, R>;
@@ -45,37 +43,14 @@ pub(crate) fn read<R: Rng>(
     ensures crash { (c : List ℕ) → outcomes blob.now store.new c → outcomes blob.now store.old c }
 {
     kept_records::<blob_memory::Storage, R>();
-    let read = blob.read_at(store, at as u64, buf.len(), ReadOptions {})?;
-    buf.copy_from_slice(&read.coalesce());
+    blob.read_into(store, at as u64, buf)?;
     Ok(())
 }
 
 /// A plain write of bytes at an offset.
-fn write_bufs<R: Rng>(
-    store: &mut Wrapper<R>,
-    blob: &mut Handle,
-    at: usize,
-    bytes: IoBufs,
-) -> Result<(), Error>
-    requires { IsFile blob.old store.old }
-    ensures written { OnOk result (live (inside blob.new) ≡ written (live (inside blob.old)) at bytes) }
-    ensures others { Mixed at bytes (live (inside blob.old)) (live (inside blob.new)) }
-    ensures keeps { Keeps blob.old store.old blob.new store.new }
-    ensures crash { Follows (Mixed at bytes) (outcomes blob.old store.old) (outcomes blob.new store.new) }
-{
-    recorded::<blob_memory::Storage, R>();
-    entries();
-    found::<R>();
-    sizes();
-    live_bytes();
-    blob.write_at(store, at as u64, bytes, WriteOptions::default())
-}
-
-/// The same of borrowed bytes.
 pub(crate) fn write<R: Rng>(
     store: &mut Wrapper<R>,
     blob: &mut Handle,
-    alloc: Global,
     at: usize,
     bytes: &[u8],
 ) -> Result<(), Error>
@@ -86,8 +61,12 @@ pub(crate) fn write<R: Rng>(
     ensures mixed { Follows (Mixed at bytes.now) (outcomes blob.old store.old) (outcomes blob.new store.new) }
     ensures crash { Follows (Torn at (length bytes.now)) (outcomes blob.old store.old) (outcomes blob.new store.new) }
 {
-    let bufs = IoBufs::from_vec(Vec::from_slice(alloc, bytes)?)?;
-    write_bufs(store, blob, at, bufs)
+    recorded::<blob_memory::Storage, R>();
+    entries();
+    found::<R>();
+    sizes();
+    live_bytes();
+    blob.write_from(store, at as u64, bytes)
 }
 
 /// Makes the live bytes as long as `len`, or leaves them.

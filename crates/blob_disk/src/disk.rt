@@ -77,7 +77,7 @@ impl<R: Rng> Disk for BlobDisk<R> {
     }
 
     fn write_at(&mut self, at: usize, bytes: &[u8]) -> io::Result<()> {
-        match write(&mut self.store, &mut self.blob, self.alloc, at, bytes) {
+        match write(&mut self.store, &mut self.blob, at, bytes) {
             Ok(()) => Ok(()),
             Err(error) => Err(count(&mut self.faults, error)),
         }

@@ -35,7 +35,6 @@ const NAME: &[u8] = b"0";
 pub struct BlobDisk<R: Rng> {
     store: blob_faulty::Storage<blob_memory::Storage, R>,
     blob: blob_faulty::Blob<blob_memory::Blob>,
-    alloc: Global,
     is_mixing: bool,
     usable: bool,
     faults: u64,
@@ -70,7 +69,6 @@ impl<R: Rng + Drop> BlobDisk<R> {
         Ok(BlobDisk {
             store,
             blob,
-            alloc,
             is_mixing,
             usable: true,
             faults: 0,

@@ -1,13 +1,13 @@
 -- A current handle's write doesn't find its blob missing.
-use Rattle.std.proofs.Common.{◌≡◌, ◌⊎◌, inl, inr, ℕ, ◌+◌, Bool, true, false, not, ◌&&◌, List, [], ◌∷◌, length, Option, Some, None, subst, if◌then◌else◌}
+use Rattle.std.proofs.Common.{◌≡◌, inl, inr, ℕ, ◌+◌, Bool, true, false, not, ◌&&◌, List, [], ◌∷◌, length, Option, Some, None, subst, if◌then◌else◌}
 use Rattle.std.specs.Prelude.{MatchBool}
 use Rattle.rand_core.specs.Stream.{Stream}
 use Rattle.blob_model.specs.Directory.{Directory, is_current}
 use Rattle.blob_model.specs.Places.{Place}
-use Rattle.blob_header.specs.Refusals.{Refusal, BlobMissing, OffsetOverflow, Memory}
+use Rattle.blob_header.specs.Refusals.{Refusal, BlobMissing, OffsetOverflow}
 use Rattle.blob_model.specs.Runs.{Run, runs}
 use Rattle.blob_faults.specs.declared.config.Config.{Config}
-use Rattle.blob_faults.specs.Answers.{Allowed, or_memory, injected_for, numbered, one_then, allows_laid, allows_runs, allows_done, allows_fate, allows_write}
+use Rattle.blob_faults.specs.Answers.{Allowed, or_memory, injected_for, numbered, one_then, allows_laid, allows_runs, allows_fate, allows_write}
 use Rattle.blob_faults.specs.Faults.{WriteFate, Done, Unsynced, Failed, write_fate, is_nothing, is_uncounted}
 use Rattle.blob_memory.specs.Answers as memory
 use Rattle.blob_memory.specs.Answers.{AllowsWrite, OrMemory, write_refusal, end_refusal, missing, is_idle}

@@ -1,5 +1,5 @@
 -- What a refused write leaves, by the fate that was drawn for it.
-use Rattle.std.proofs.Common.{◌≡◌, ◌≢◌, ◌⊎◌, ⊎_elim, ℕ, ◌+◌, ◌^◌, ◌<◌, Bool, true, false, cond, List, [], ◌∷◌, length, Option, Some, inl, inr, refl, sym, ◌∙◌, ap, subst, arith}
+use Rattle.std.proofs.Common.{◌≡◌, ◌≢◌, ◌⊎◌, ⊎_elim, ℕ, ◌+◌, ◌^◌, ◌<◌, Bool, true, false, cond, List, [], ◌∷◌, length, Option, Some, None, inl, inr, refl, sym, ◌∙◌, ap, subst, arith}
 use Rattle.std.proofs.lemmas.Bool.{cond-false, le-ltb}
 use Rattle.rand_core.specs.Stream.{Stream}
 use Rattle.blob_model.specs.Live.{live_after}
@@ -120,3 +120,36 @@ recorded_none config number stream sync offset bytes = go (is_nothing sync bytes
     go false false false Done = refl
     go false false s Unsynced = refl
     go false false s (Failed kept) = refl
+
+-- a plain write that no draw fails
+pub done_plainly : {R : Type 0} (direct : Bool) (old new : View R) (offset : ℕ) (bytes : List ℕ) (answer : Option Refusal) → Recorded direct true old new (plain offset bytes) answer → WroteBy Done direct old new false offset bytes answer
+done_plainly direct old new offset bytes None w = record {
+  done = λ ok. w.wrote.done refl;
+  live = λ d. (w.wrote.done refl).live;
+  size = λ d. (w.wrote.done refl).size;
+  logs = λ d. w.done refl;
+  recorded = λ ok. w.done refl;
+  undone = λ is some. absurd (cc);
+  memory = λ m. absurd (cc);
+  unrecorded = λ m. absurd (cc);
+  stale = w.wrote.stale;
+  directory = w.wrote.directory;
+  place = w.wrote.place;
+  config = w.config;
+  rng = w.rng;
+}
+done_plainly direct old new offset bytes (Some refusal) w = record {
+  done = λ ok. absurd (cc);
+  live = λ d. (w.wrote.refused d refl).live;
+  size = λ d. (w.wrote.refused d refl).size;
+  logs = λ d. same_logs old new w.wrote.directory (w.wrote.refused d refl).durable (w.refused refl refl);
+  recorded = λ ok. absurd (cc);
+  undone = λ is some. w.refused refl refl;
+  memory = w.wrote.memory;
+  unrecorded = w.memory;
+  stale = w.wrote.stale;
+  directory = w.wrote.directory;
+  place = w.wrote.place;
+  config = w.config;
+  rng = w.rng;
+}

@@ -1,14 +1,13 @@
 -- What calls leave of the bytes that a wrapper keeps.
-use Rattle.std.proofs.Common.{◌≡◌, ℕ, ◌-◌, ◌+◌, ◌<◌, ◌≤◌, List, [], ◌∷◌, ◌++◌, Bool, true, false, Option, Some, None, refl, sym, ap, ◌∙◌, subst, cond, length, get_or, drop, arith, append-nil, length-append, ⊎_elim}
+use Rattle.std.proofs.Common.{◌≡◌, ℕ, ◌<◌, ◌≤◌, List, [], ◌∷◌, ◌++◌, true, false, Option, Some, refl, sym, ap, ◌∙◌, subst, length, get_or, drop, arith, append-nil, length-append, ⊎_elim}
 use Rattle.std.proofs.lemmas.Bool.{cases_lt, cases_Bool, cond-true, cond-false}
 use Rattle.std.proofs.lemmas.List.{get_or_append_left, get_or-append_right}
 use Rattle.std.proofs.lemmas.List.Prefix.{front_from_reads}
 use Rattle.std.specs.Cmp.Lexicographic.{bytes_decides}
 use Rattle.std.specs.Str.{bytes_eq}
-use Rattle.blob_header.specs.declared.layout.Layout.{Layout}
-use Rattle.blob_model.specs.Directory.{Directory, File, Incarnation, current, place_in, place_made, directory_made, with_file}
+use Rattle.blob_model.specs.Directory.{Directory, File, Incarnation, current, place_in, place_made, with_file}
 use Rattle.blob_model.specs.Durable.{Durable}
-use Rattle.blob_model.specs.Files.{Files, all_logged, after_crash, after_open, admitted, admitted_at, made, opened, log_of}
+use Rattle.blob_model.specs.Files.{Files, all_logged, after_crash, after_open, admitted, admitted_at, opened}
 use Rattle.blob_header.specs.Fronts.{BeginsWith}
 use Rattle.blob_model.specs.Log.{Entry, Kept, Choices}
 use Rattle.blob_model.specs.Opened.{IsNamed}

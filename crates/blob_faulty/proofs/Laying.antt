@@ -1,12 +1,11 @@
 -- What a write or a resize that is recorded lays, and what a write makes of live bytes and of the tracked size.
 use Rattle.std.proofs.Common.{◌≡◌, ◌⊎◌, ⊎_elim, ℕ, ◌+◌, ◌-◌, ◌<◌, ◌≤◌, max, min, nat_lt, ◌&&◌, Bool, true, false, List, [], ◌∷◌, length, get_or, Option, Some, None, cond, refl, sym, ◌∙◌, ap, subst, inl, inr, arith, if◌then◌else◌}
-use Rattle.std.specs.Prelude.{is_some}
 use Rattle.std.proofs.lemmas.Bool.{cond_both, cases_lt, false≢true}
 use Rattle.std.proofs.lemmas.List.{get_or_past}
 use Rattle.rand_core.specs.Stream.{Stream}
-use Rattle.blob_model.specs.Bytes.{overlay_by, overlay, resized, written, lies, reach}
-use Rattle.blob_model.specs.Live.{live_written, live_after, all_written}
-use Rattle.blob_model.specs.Log.{Entry, Choices, crashed}
+use Rattle.blob_model.specs.Bytes.{overlay_by, overlay, resized, written}
+use Rattle.blob_model.specs.Live.{live_written, all_written}
+use Rattle.blob_model.specs.Log.{Choices, crashed}
 use Rattle.blob_model.specs.Modes.{Mode}
 use Rattle.blob_model.specs.Rates.{Rate, sampled}
 use Rattle.blob_header.specs.Refusals.{Refusal, BlobMissing, Injected}

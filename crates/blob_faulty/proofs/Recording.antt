@@ -1,16 +1,16 @@
 -- What a SYNC write that is answered Ok records: itself, whole.
-use Rattle.std.proofs.Common.{◌≡◌, inl, inr, ℕ, ◌<◌, List, [], ◌∷◌, Bool, true, false, Option, Some, None, refl, length, arith, if◌then◌else◌}
+use Rattle.std.proofs.Common.{◌≡◌, inl, inr, ℕ, List, [], ◌∷◌, Bool, true, false, Option, Some, None, refl, length, if◌then◌else◌}
 use Rattle.std.specs.Prelude.{is_some, MatchBool}
 use Rattle.std.proofs.lemmas.Bool.{false≢true}
 use Rattle.rand_core.specs.Stream.{Stream}
 use Rattle.blob_model.specs.Log.{Kept}
 use Rattle.blob_model.specs.Modes.{Mode}
 use Rattle.blob_model.specs.Rates.{Rate}
-use Rattle.blob_header.specs.Refusals.{Refusal, Injected, OffsetOverflow}
+use Rattle.blob_header.specs.Refusals.{OffsetOverflow}
 use Rattle.blob_model.specs.Runs.{runs}
 use Rattle.blob_faults.specs.declared.config.Config.{Config}
 use Rattle.blob_faults.specs.Answers.{Allowed, allows_write, allows_fate, allows_runs, or_memory, numbered, injected_for, lacks_number}
-use Rattle.blob_faults.specs.Faults.{WriteFate, Done, Unsynced, Failed, write_fate, retention, is_nothing, is_uncounted}
+use Rattle.blob_faults.specs.Faults.{WriteFate, Done, Unsynced, Failed, write_fate, retention, is_uncounted}
 use Rattle.blob_faults.specs.Recorded.{kept, recorded_by, recorded_write}
 
 -- an Ok is no fault in place of one

@@ -1,5 +1,5 @@
 -- Room for the runs of a failed write.
-use Rattle.std.proofs.Common.{◌≡◌, ℕ, suc, ◌+◌, ◌-◌, List, [], ◌∷◌, length, reverse, All, ◌∙◌, arith}
+use Rattle.std.proofs.Common.{◌≡◌, ℕ, suc, ◌+◌, List, [], ◌∷◌, length, reverse, All, ◌∙◌, arith}
 use Rattle.std.proofs.lemmas.List.{length-map, length-reverse}
 use Rattle.blob_model.specs.Holes.{AreApart}
 use Rattle.blob_model.specs.Runs.{Run, AreRunsApart}

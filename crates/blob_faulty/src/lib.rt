@@ -3,6 +3,7 @@
 
 mod admit;
 pub mod blob;
+mod borrowed;
 mod crash;
 pub mod laws;
 pub mod names;

@@ -23,7 +23,13 @@ use blob_faults::write::PendingWrite;
 
 impl<S: blob_base::Storage, R> Storage<S, R> {
     /// Records a write that a crash may lose, where there is room for it, and takes a number for it.
-    fn record_write(&mut self, list: usize, offset: u64, bytes: IoBufs, config: WriteConfig)
+    pub(crate) fn record_write(
+        &mut self,
+        list: usize,
+        offset: u64,
+        bytes: IoBufs,
+        config: WriteConfig,
+    )
         requires room { HasRoomIn self.old.lists.all.lists.items list Room.Entry }
         requires some { 0 < length bytes }
         requires fits { offset + length bytes < 2 ^ 64 }

@@ -27,7 +27,7 @@ impl Blob {
     ghost use Rattle.blob_memory.specs.Store.{place, live};
 
     /// The live bytes of a range, or why it can't be read.
-    fn readable(&self, offset: u64, len: usize) -> Result<&[u8], Error>
+    pub(crate) fn readable(&self, offset: u64, len: usize) -> Result<&[u8], Error>
         ensures bytes { IfOk result (λ bytes. bytes.now ≡ take len (drop offset (live self.now))) }
         ensures len { IfOk result (λ bytes. length bytes.now ≡ len) }
         ensures within { OnOk result (offset + len ≤ length (live self.now)) }

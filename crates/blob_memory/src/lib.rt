@@ -3,6 +3,7 @@
 
 mod audit;
 pub mod blob;
+mod borrowed;
 mod contents;
 mod found;
 pub mod images;

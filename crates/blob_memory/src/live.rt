@@ -32,3 +32,14 @@ pub fn write(live: &mut Vec<u8>, offset: usize, run: &IoBufs)
     overlay::grow(live, offset);
     overlay::lay(live, offset, run);
 }
+
+/// The same of one piece.
+pub fn write_slice(live: &mut Vec<u8>, offset: usize, run: &[u8])
+    requires fits { offset + length run.now < 2 ^ 64 }
+    requires room { offset + length run.now ≤ vec_capacity live.old }
+    ensures bytes { live.new.items ≡ written live.old.items offset run.now }
+    ensures capacity { vec_capacity live.old ≤ vec_capacity live.new }
+{
+    overlay::grow(live, offset);
+    overlay::lay_slice(live, offset, run);
+}

@@ -142,6 +142,21 @@ pub fn lay(bytes: &mut Vec<u8>, offset: usize, run: &IoBufs)
     copy_pieces(bytes.as_mut_slice(), offset, run.pieces());
 }
 
+/// The same of one piece.
+pub fn lay_slice(bytes: &mut Vec<u8>, offset: usize, run: &[u8])
+    requires fits { offset + length run.now < 2 ^ 64 }
+    requires room { offset + length run.now ≤ vec_capacity bytes.old }
+    ensures bytes { bytes.new.items ≡ overlay bytes.old.items offset run.now }
+    ensures capacity { vec_capacity bytes.old ≤ vec_capacity bytes.new }
+{
+    let len = run.len();
+    if len == 0 {
+        return;
+    }
+    grow(bytes, offset + len);
+    copy_over(bytes.as_mut_slice(), offset, run);
+}
+
 /// Lays the chosen bytes of a run over bytes that have room for them.
 pub fn lay_chosen(bytes: &mut Vec<u8>, offset: usize, run: &IoBufs, keep: &[bool])
     requires same { length keep.now ≡ length run.now }

@@ -1,43 +1,37 @@
-use Rattle.std.proofs.Common.{List, ℕ, length, ◌<◌, sym, ◌∙◌, subst}
+use Rattle.std.proofs.Common.{List, ℕ, length, refl, sym, ◌∙◌, ap, subst, false}
 use Rattle.std.proofs.lemmas.Result.{on_ok_weaker}
-use Rattle.blob_model.specs.Bytes.{written}
-use Rattle.blob_disk.proofs.Adding.{follows_self, torn_follows}
-use Rattle.blob_disk.proofs.Laying.{holds_written, mixed_not}
+use Rattle.blob_header.specs.Refusals.{refused}
+use Rattle.blob_disk.proofs.Adding.{current_now, torn_follows, wrote}
+use Rattle.blob_disk.proofs.Laying.{holds_written}
 use Rattle.blob_disk.proofs.calls.write.Goals as goal
-use Rattle.blob_disk.specs.Outcomes.{outcomes}
-use Rattle.blob_faulty.specs.Wrapper.{inside}
-use Rattle.blob_memory.specs.Store.{live}
-use Rattle.sqlite_disk.specs.Disk.{Follows, Holds, Mixed, Torn}
+use Rattle.blob_faulty.specs.Outcomes.{WritesSome}
+use Rattle.blob_faults.specs.Recorded.{recorded_write}
+use Rattle.blob_faulty.specs.Wrapper.{config_of, inside, next_write_of, rng_of, size_of}
+use Rattle.blob_memory.specs.Store.{live, place}
+use Rattle.sqlite_disk.specs.Disk.{Holds}
 
-pub returns-in_err-from_slice-clause-mixed : goal.returns-in_err-from_slice-clause-mixed
-returns-in_err-from_slice-clause-mixed g c = follows_self (Mixed c.args.at c.args.bytes.now) c.args.blob.now c.args.store.now (mixed_not c.args.at c.args.bytes.now)
-
-pub returns-in_err-from_slice-clause-crash : goal.returns-in_err-from_slice-clause-crash
-returns-in_err-from_slice-clause-crash g c = torn_follows c.args.at c.args.bytes.now _ _ (returns-in_err-from_slice-clause-mixed g c)
-
-pub returns-in_err-bufs-clause-mixed : goal.returns-in_err-bufs-clause-mixed
-returns-in_err-bufs-clause-mixed g c = follows_self (Mixed c.args.at c.args.bytes.now) c.args.blob.now c.args.store.now (mixed_not c.args.at c.args.bytes.now)
-
-pub returns-in_err-bufs-clause-crash : goal.returns-in_err-bufs-clause-crash
-returns-in_err-bufs-clause-crash g c = torn_follows c.args.at c.args.bytes.now _ _ (returns-in_err-bufs-clause-mixed g c)
-
-pub returns-clause-written : goal.returns-clause-written
-returns-clause-written g c =
-    let bytes = c.in_ok-bufs.ensures.ok ∙ c.in_ok-from_slice.ensures.items in
-    on_ok_weaker c.write_bufs.result
-    (λ h some. subst (λ (x : List ℕ). Holds x c.args.at c.args.bytes.now) (sym h)
-    (subst (λ (y : List ℕ). Holds (written (live (inside c.args.blob.now)) c.args.at y) c.args.at c.args.bytes.now) (sym bytes) (holds_written c.args.at c.args.bytes.now (live (inside c.args.blob.now)) some)))
-    c.write_bufs.ensures.written
-
-pub returns-clause-others : goal.returns-clause-others
-returns-clause-others g c =
-    let bytes = c.in_ok-bufs.ensures.ok ∙ c.in_ok-from_slice.ensures.items in
-    subst (λ (y : List ℕ). Torn c.args.at (length y) (live (inside c.args.blob.now)) (live (inside c.write_bufs.new.blob))) bytes c.write_bufs.ensures.others.torn
-
-pub returns-clause-mixed : goal.returns-clause-mixed
-returns-clause-mixed g c =
-    let bytes = c.in_ok-bufs.ensures.ok ∙ c.in_ok-from_slice.ensures.items in
-    subst (λ (y : List ℕ). Follows (Mixed c.args.at y) (outcomes c.args.blob.now c.args.store.now) (outcomes c.write_bufs.new.blob c.write_bufs.new.store)) bytes c.write_bufs.ensures.crash
-
-pub returns-clause-crash : goal.returns-clause-crash
-returns-clause-crash g c = torn_follows c.args.at c.args.bytes.now _ _ (returns-clause-mixed g c)
+pub returns : goal.returns
+returns g c =
+    let e = c.write_from.ensures in
+    let b = c.args.blob.now in
+    let w = c.args.store.now in
+    let bytes = c.args.bytes.now in
+    let stream = g.R.Rng.stream (rng_of w) in
+    let answer = refused c.write_from.result in
+    let es = recorded_write (config_of w) (next_write_of w) stream false c.args.at bytes answer in
+    let now = current_now b w c.requires.named c.requires.there in
+    let there = c.found.ensures b w c.args.at bytes false answer now e.allowed in
+    let s = wrote b c.write_from.new.self w c.write_from.new.store es c.args.at bytes c.requires.standing e.directory e.place e.leaves.config
+    (e.leaves.size refl ∙ c.sizes.ensures.writes (config_of w) stream false (size_of b) (live (inside b)) c.args.at bytes answer there c.requires.tracked ∙ sym (ap (λ (x : List ℕ). length x) (e.leaves.live_after refl)))
+    (subst (λ (x : List ℕ). WritesSome c.args.at bytes (live (inside b)) x) (sym (e.leaves.live_after refl)) (c.live_bytes.ensures.writes (config_of w) stream false (live (inside b)) c.args.at bytes answer there))
+    (λ t. c.entries.ensures.writes (config_of w) (next_write_of w) stream false c.args.at bytes answer t)
+    (λ f stands. c.recorded.ensures.stands w c.write_from.new.store (place (inside b)) es f now e.directory stands (e.leaves.recorded refl))
+    (λ f t stands. c.recorded.ensures.left w c.write_from.new.store (place (inside b)) es f t now e.directory stands (e.leaves.recorded refl))
+    in
+    record {
+      written = on_ok_weaker c.write_from.result (λ h some. subst (λ (x : List ℕ). Holds x c.args.at bytes) (sym h) (holds_written c.args.at bytes (live (inside b)) some)) e.live;
+      others = s.others.torn;
+      keeps = s.keeps;
+      mixed = s.crash;
+      crash = torn_follows c.args.at bytes _ _ s.crash;
+    }

@@ -1,4 +1,4 @@
-use Rattle.std.proofs.Common.{◌∙◌, List, ap, arith, length, subst, ℕ, true}
+use Rattle.std.proofs.Common.{◌∙◌, List, ap, arith, length, subst, ℕ}
 use Rattle.blob_model.specs.Log.{Entry}
 use Rattle.blob_model.proofs.Bytes.{lies_below}
 use Rattle.blob_faults.specs.Recorded.{kept}

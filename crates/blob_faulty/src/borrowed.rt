@@ -1,0 +1,152 @@
+//! Reads into a slice of the caller's, and plain writes of one, over a memory store. No list is made for the call.
+ghost use Rattle.std.specs.Prelude.{◌≡◌, ◌≤◌, ◌<◌, ◌+◌, ◌^◌, ℕ, List, true, false, is_some, OnOk, OnErr, length, take, drop};
+ghost use Rattle.blob_base.specs.HandleCalls.{Write};
+ghost use Rattle.blob_header.specs.Refusals.{refused, IsMemory};
+ghost use Rattle.blob_model.specs.Bytes.{written};
+ghost use Rattle.blob_model.specs.Directory.{is_current};
+ghost use Rattle.blob_model.specs.Places.{Place};
+ghost use Rattle.blob_faults.specs.Answers.{injected_or, or_memory, numbered, lacks_number, allows_fate};
+ghost use Rattle.blob_faults.specs.Fates.{write_fate_of, IsSized};
+ghost use Rattle.blob_faults.specs.Faults.{draw, retention};
+ghost use Rattle.blob_faulty.specs.HandleLeaves.{ReadLeaves, HandleLeaves};
+ghost use Rattle.blob_faulty.specs.Keeps.{Keeps};
+ghost use Rattle.blob_faulty.specs.Names.{Steps};
+ghost use Rattle.blob_faulty.specs.Wrapper.{inner_of, rng_of, config_of, inside};
+ghost use Rattle.blob_faulty.specs.Writes.{Writes, Records, WritesBy, unrecorded, plain};
+ghost use Rattle.blob_memory.specs.Answers.{read_refusal};
+ghost use Rattle.blob_memory.specs.Store.{directory, durable, place, live};
+
+use crate::blob::Blob;
+use crate::storage::Storage;
+use blob_base::{Error, IoBufs, WriteOptions};
+use blob_faults::faults::{WriteFate, draw_write, draws, retained};
+use blob_faults::room::Room;
+use rand_core::Rng;
+
+type Memory = blob_memory::Storage;
+
+impl Blob<blob_memory::Blob> {
+    /// Draws the read rate, then reads live bytes from the logical `offset` on, as many as fill `buf`. Takes no memory.
+    ///
+    /// # Errors
+    ///
+    /// `Injected`; then `OffsetOverflow`, `BlobInsufficientLength`. `buf` is as before.
+    pub fn read_into<R: Rng>(
+        &self,
+        store: &mut Storage<Memory, R>,
+        offset: u64,
+        buf: &mut [u8],
+    ) -> Result<(), Error>
+        ensures allowed { injected_or (draw (config_of store.old).read_rate (R.stream (rng_of store.old))).0 (λ answer. answer ≡ read_refusal (place (inside self.now)) (live (inside self.now)) offset (length buf.old)) (refused result) }
+        ensures bytes { OnOk result (buf.new ≡ take (length buf.old) (drop offset (live (inside self.now)))) }
+        ensures within { OnOk result (offset + length buf.old ≤ length (live (inside self.now))) }
+        ensures err { OnErr result (buf.new ≡ buf.old) }
+        ensures inner { inner_of store.new ≡ inner_of store.old }
+        ensures leaves { ReadLeaves (λ o. o) R.stream store.old store.new }
+        ensures files { Steps (λ o. o) directory durable store.old store.new (λ files. files) }
+        ensures keeps { (o : Place) (bytes : List ℕ) → Keeps store.old o bytes → Keeps store.new o bytes }
+    {
+        if draws(store.config.read_rate, &mut store.rng) {
+            return Err(Error::Injected);
+        }
+        self.inner.read_into(offset, buf)
+    }
+
+    /// A plain write of which nothing is recorded.
+    fn write_unrecorded_from<R>(
+        &mut self,
+        store: &mut Storage<Memory, R>,
+        offset: u64,
+        bytes: &[u8],
+    ) -> Result<(), Error>
+        requires fits { offset + length bytes.now < 2 ^ 64 }
+        ensures allowed { ⟦<blob_memory::Blob as blob_base::Blob<Memory>>⟧.allows_write self.old.inner store.old.inner offset bytes.now false (refused result) }
+        ensures wrote { Writes ⟦<Memory as blob_base::Durable>⟧ ⟦<blob_memory::Blob as blob_base::Blob<Memory>>⟧ self.old store.old self.new store.new (unrecorded false offset bytes.now) (refused result) }
+        ensures rest { store.new ≡ store.old }
+    {
+        let _ = store;
+        let end = offset + bytes.len() as u64;
+        self.inner.write_from(offset, bytes)?;
+        self.size = self.size.max(end);
+        Ok(())
+    }
+
+    /// A write that isn't durable. It is pending where retention is set and there is a byte, and then takes a number.
+    fn write_plain_from<R>(
+        &mut self,
+        store: &mut Storage<Memory, R>,
+        offset: u64,
+        bytes: &[u8],
+    ) -> Result<(), Error>
+        requires fits { offset + length bytes.now < 2 ^ 64 }
+        ensures allowed { or_memory (numbered (lacks_number (is_some (retention store.old.config.write_rate)) store.old.next_write bytes.now) (⟦<blob_memory::Blob as blob_base::Blob<Memory>>⟧.allows_write self.old.inner store.old.inner offset bytes.now false)) (refused result) }
+        ensures recorded { Records ⟦<Memory as blob_base::Durable>⟧ ⟦<blob_memory::Blob as blob_base::Blob<Memory>>⟧ self.old store.old self.new store.new (plain offset bytes.now) (refused result) }
+    {
+        let Some(config) = retained(store.config.write_rate) else {
+            return self.write_unrecorded_from(store, offset, bytes);
+        };
+        if bytes.is_empty() {
+            return self.write_unrecorded_from(store, offset, bytes);
+        }
+        if store.next_write == u64::MAX {
+            return Err(Error::GenerationsExhausted);
+        }
+        let alloc = *store.lists.all.lists.allocator();
+        let copy = IoBufs::from_vec(Vec::from_slice(alloc, bytes)?)?;
+        let list = self.room_for(store, Room::Entry)?;
+        self.write_unrecorded_from(store, offset, bytes)?;
+        store.record_write(list, offset, copy, config);
+        self.list = list;
+        Ok(())
+    }
+
+    /// A plain write whose fate was drawn. The bytes of one that fails are parted into runs, and so are copied.
+    fn write_from_by_fate<R>(
+        &mut self,
+        store: &mut Storage<Memory, R>,
+        fate: WriteFate,
+        offset: u64,
+        bytes: &[u8],
+    ) -> Result<(), Error>
+        requires fits { offset + length bytes.now < 2 ^ 64 }
+        requires sized { IsSized (length bytes.now) (write_fate_of fate) }
+        ensures allowed { or_memory (allows_fate (write_fate_of fate) (⟦<blob_memory::Blob as blob_base::Blob<Memory>>⟧.allows_write self.old.inner store.old.inner) (⟦<blob_memory::Blob as blob_base::Blob<Memory>>⟧.allows_reserve self.old.inner store.old.inner) true (is_some (retention store.old.config.write_rate)) store.old.next_write false offset bytes.now) (refused result) }
+        ensures wrote { WritesBy ⟦<Memory as blob_base::Durable>⟧ ⟦<blob_memory::Blob as blob_base::Blob<Memory>>⟧ self.old store.old self.new store.new (write_fate_of fate) false offset bytes.now (refused result) }
+    {
+        if let WriteFate::Done = &fate {
+            return self.write_plain_from(store, offset, bytes);
+        }
+        let alloc = *store.lists.all.lists.allocator();
+        let bytes = IoBufs::from_vec(Vec::from_slice(alloc, bytes)?)?;
+        self.write_by_fate(store, fate, offset, bytes, WriteOptions::default())
+    }
+
+    /// A plain write of these bytes: draws, answers, records and leaves what `write_at` without SYNC does.
+    ///
+    /// # Errors
+    ///
+    /// As `write_at`.
+    pub fn write_from<R: Rng>(
+        &mut self,
+        store: &mut Storage<Memory, R>,
+        offset: u64,
+        bytes: &[u8],
+    ) -> Result<(), Error>
+        ensures allowed { ⟦<Blob<blob_memory::Blob> as blob_base::Blob<Storage<Memory, R>>>⟧.allows_write self.old store.old offset bytes.now false (refused result) }
+        ensures leaves { HandleLeaves directory durable (λ o. o) place live R.stream true (Write offset bytes.now false) self.old store.old (refused result) self.new store.new }
+        ensures live { OnOk result (live (inside self.new) ≡ written (live (inside self.old)) offset bytes.now) }
+        ensures durable { OnOk result (durable (inner_of store.new) ≡ durable (inner_of store.old)) }
+        ensures stale { is_current (directory (inner_of store.old)) (place (inside self.old)) ≡ false → durable (inner_of store.new) ≡ durable (inner_of store.old) }
+        ensures memory { IsMemory result → (live (inside self.new) ≡ live (inside self.old)) × (durable (inner_of store.new) ≡ durable (inner_of store.old)) }
+        ensures directory { directory (inner_of store.new) ≡ directory (inner_of store.old) }
+        ensures place { place (inside self.new) ≡ place (inside self.old) }
+    {
+        let len = bytes.len();
+        if offset.checked_add(len as u64).is_none() {
+            return Err(Error::OffsetOverflow);
+        }
+        let alloc = *store.lists.all.lists.allocator();
+        let fate = draw_write(alloc, &store.config, false, offset, len, &mut store.rng)?;
+        self.write_from_by_fate(store, fate, offset, bytes)
+    }
+}
