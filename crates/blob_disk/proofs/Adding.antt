@@ -3,8 +3,8 @@ use Rattle.std.proofs.Common.{◌≡◌, ◌⊎◌, ℕ, List, length, Option, S
 use Rattle.std.proofs.Math.Logic.{∥∥₁_map, ∥∥₁_elim}
 use Rattle.std.proofs.lemmas.Bool.Decides.{nat_tests}
 use Rattle.std.proofs.lemmas.Option.{none-some, same_Some}
-use Rattle.std.specs.Prelude.{option_map, codes}
-use Rattle.blob_model.specs.Directory.{Directory, File, is_current, is_that}
+use Rattle.std.specs.Prelude.{option_map}
+use Rattle.blob_model.specs.Directory.{File, is_current, is_that}
 use Rattle.blob_model.specs.Files.{Files, all_logged}
 use Rattle.blob_model.specs.Log.{Entry, Choices, crashed}
 use Rattle.blob_model.specs.Pending.{Pending}
@@ -14,7 +14,7 @@ use Rattle.blob_model.specs.Bytes.{resized}
 use Rattle.blob_disk.proofs.Crashes.{one_way}
 use Rattle.blob_disk.proofs.Laying.{cut_not, cut_to, mixed_over, mixed_some}
 use Rattle.blob_disk.proofs.Outcomes.{named_so, there_so, whole_so}
-use Rattle.blob_disk.specs.Outcomes.{MayLeave, Wrapper, Opened, Keeps, IsFile, IsStanding, IsTracked, IsNamed, IsThere, outcomes}
+use Rattle.blob_disk.specs.Outcomes.{MayLeave, Wrapper, Opened, Keeps, IsStanding, IsTracked, IsNamed, IsThere, outcomes}
 use Rattle.blob_faulty.specs.Outcomes.{LaysSome, WritesSome}
 use Rattle.blob_faulty.specs.Wrapper.{Stands, inner_of, config_of, pending_of, inside}
 use Rattle.blob_memory.specs.Store.{directory, durable, live, place}

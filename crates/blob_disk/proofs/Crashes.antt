@@ -1,11 +1,10 @@
 -- What a crash and the open behind it leave.
-use Rattle.std.proofs.Common.{◌≡◌, ◌⊎◌, ℕ, List, [], Option, Some, None, Bool, true, false, refl, sym, ◌∙◌, ap, subst, inl, inr}
-use Rattle.std.proofs.Math.Logic.{∥∥₁_map, ∥∥₁_elim}
+use Rattle.std.proofs.Common.{◌≡◌, ◌⊎◌, ℕ, List, [], Option, Some, None, refl, sym, ◌∙◌, ap, subst, inl, inr}
 use Rattle.blob_header.specs.declared.layout.Layout.{Layout}
 use Rattle.blob_model.specs.Directory.{Directory, Incarnation, place_made}
 use Rattle.blob_model.specs.Durable.{Durable}
 use Rattle.blob_model.specs.Log.{Choices}
-use Rattle.blob_model.specs.Opening.{Opening, Continues, Begins, opening, place_of, IsOpened, Continued, Begun}
+use Rattle.blob_model.specs.Opening.{Continues, Begins, opening, place_of, IsOpened, Continued, Begun}
 use Rattle.blob_model.specs.Pending.{Pending}
 use Rattle.blob_model.specs.Places.{Place}
 use Rattle.blob_model.specs.Stands.{replayed_at}

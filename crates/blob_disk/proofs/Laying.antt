@@ -1,5 +1,5 @@
 -- What bytes that are laid over a file, and a new length, are to a disk.
-use Rattle.std.proofs.Common.{◌≡◌, ◌⊎◌, ℕ, ◌+◌, ◌-◌, ◌<◌, ◌≤◌, max, List, [], ◌∷◌, length, Bool, true, false, get_or, refl, sym, ◌∙◌, ap, subst, inl, inr, arith}
+use Rattle.std.proofs.Common.{◌≡◌, ◌⊎◌, ℕ, ◌+◌, ◌-◌, ◌<◌, ◌≤◌, max, List, length, Bool, true, false, get_or, refl, ◌∙◌, ap, inl, inr, arith}
 use Rattle.blob_model.specs.Bytes.{overlay_by, reach, resized, written}
 use Rattle.blob_model.proofs.Bytes.{length-overlay_by, length-resized, reach_all, reach_below, at_chosen, at_other, at_resized, picks}
 use Rattle.blob_faulty.specs.Outcomes.{WritesSome}

@@ -1,5 +1,5 @@
 -- Steps of the proofs that a file over the wrapper is a disk.
-use Rattle.std.proofs.Common.{◌≡◌, ◌⊎◌, ℕ, List, [], Option, Some, None, Bool, true, false, refl, sym, ◌∙◌, ap, ap₂, subst, inl, inr, cond, rules}
+use Rattle.std.proofs.Common.{◌≡◌, ℕ, List, [], Option, Some, None, sym, ◌∙◌, ap, ap₂, subst, inl, inr}
 use Rattle.std.proofs.Math.Logic.{∥∥₁_map}
 use Rattle.std.proofs.lemmas.Bool.{cond-true}
 use Rattle.std.proofs.lemmas.Option.{none-some, same_Some}
@@ -13,10 +13,10 @@ use Rattle.blob_model.specs.Pending.{Pending}
 use Rattle.blob_model.specs.Places.{Place, same_place}
 use Rattle.blob_model.specs.Stands.{replayed_at}
 use Rattle.blob_model.specs.SamePlace.{same_self}
-use Rattle.blob_disk.specs.Outcomes.{MayLeave, Wrapper, Opened, Keeps, IsStanding, IsTracked, IsNamed, IsThere, IsWhole, outcomes}
+use Rattle.blob_disk.specs.Outcomes.{MayLeave, Wrapper, Opened, Keeps, IsTracked, IsNamed, IsThere, IsWhole, outcomes}
 use Rattle.blob_faults.specs.declared.config.Config.{Config}
 use Rattle.blob_faulty.specs.Certain.{IsNever, partial_resizes}
-use Rattle.blob_faulty.specs.Wrapper.{Stands, KeepsRecords, inner_of, config_of, pending_of, inside}
+use Rattle.blob_faulty.specs.Wrapper.{Stands, KeepsRecords, inner_of, config_of, inside}
 use Rattle.blob_model.specs.Files.{Files, synced}
 use Rattle.blob_faulty.specs.Lends.{with_config}
 use Rattle.blob_faulty.specs.Syncs.{Publishes}

@@ -1,111 +1,58 @@
 -- What bytes begin with, frame by frame.
-use Rattle.std.proofs.Common.{◌≡◌, ◌<◌, ◌≤◌, ℕ, zero, suc, ◌+◌, ◌-◌, ◌^◌, Bool, true, false, ◌&&◌, List, [], ◌∷◌, ◌++◌, length, take, drop, get_or, nat_le, nat_eq, refl, sym, ap, subst, ◌∙◌, arith, append_assoc, append-nil, length-append, length-drop, if◌then◌else◌, ⊎_elim}
-use Rattle.std.proofs.lemmas.Bool.{false≢true, cases_Bool, cases_lt}
-use Rattle.std.proofs.lemmas.List.{get_or-drop, get_or-take, get_or_past, length-take, take-append-drop, drop-drop}
+use Rattle.std.proofs.Common.{◌≡◌, ◌<◌, ◌≤◌, ℕ, zero, suc, ◌+◌, ◌-◌, ◌^◌, true, false, List, [], ◌∷◌, ◌++◌, length, take, drop, get_or, nat_le, nat_eq, refl, sym, ap, ap₂, subst, ◌∙◌, arith, append_assoc, append-nil, length-append, length-drop, ⊎_elim}
+use Rattle.std.proofs.lemmas.Bool.{and_from, and_parts, cases_Bool, cases_lt, cond-false, cond-true, false_from_ne_true}
+use Rattle.std.proofs.lemmas.List.{get_or-drop, get_or-take, get_or_past, length-take, take-append-drop, drop-drop, drop_at, flat_map_more, take_at, take_rest}
 use Rattle.std.proofs.lemmas.Bool.Decides.{nat_tests}
-use Rattle.std.proofs.lemmas.Grind.{common_steps}
 use Rattle.std.proofs.lemmas.Nat.{be_bytes_4, from_be_bytes-to_be_bytes_4}
 use Rattle.std.specs.Int.{w32, to_be_bytes, from_be_bytes}
 use Rattle.blob_header.specs.Checksum.{crc32c}
 use Rattle.blob_header.specs.Fronts.{BeginsWith}
 use Rattle.blob_log.specs.Frames.{frame, frames, length_told, sum_told, payload, is_frame, scan_to, scan, AreShort}
 
-abbrev pub IsShort : List ℕ → Type 0
-IsShort r = length r < 2 ^ 32
-
-sum_below : (r : List ℕ) → crc32c r < 2 ^ 32
-unfolding crc32c
-sum_below r = omega arith
-
 pub length_frame : (r : List ℕ) → length (frame r) ≡ 8 + length r
 unfolding frame
 length_frame r = omega arith
 
-frame_length : (r rest : List ℕ) → IsShort r → length_told (frame r ++ rest) ≡ length r
+frame_length : (r rest : List ℕ) → length r < 2 ^ 32 → length_told (frame r ++ rest) ≡ length r
 unfolding length_told frame
 frame_length r rest short = from_be_bytes-to_be_bytes_4 (length r) short
 
 frame_sum : (r rest : List ℕ) → sum_told (frame r ++ rest) ≡ crc32c r
-unfolding sum_told frame
-frame_sum r rest = from_be_bytes-to_be_bytes_4 (crc32c r) (sum_below r)
+unfolding sum_told frame crc32c
+frame_sum r rest = from_be_bytes-to_be_bytes_4 (crc32c r) (omega arith)
 
-frame_behind : (r rest : List ℕ) → drop 8 (frame r ++ rest) ≡ r ++ rest
+frame_payload : (r rest : List ℕ) → length r < 2 ^ 32 → payload (frame r ++ rest) ≡ r
 unfolding frame
-frame_behind r rest = refl
-
-take_front : (r rest : List ℕ) → take (length r) (r ++ rest) ≡ r
-take_front r rest = grind (arith, common_steps)
-
-drop_front : (x rest : List ℕ) (n : ℕ) → n ≡ length x → drop n (x ++ rest) ≡ rest
-drop_front x rest n e = grind (arith, common_steps)
-
-frame_payload : (r rest : List ℕ) → IsShort r → payload (frame r ++ rest) ≡ r
-frame_payload r rest short = rw (frame_length r rest short, frame_behind r rest) (take_front r rest)
+frame_payload r rest short = ap (λ (n : ℕ). take n (r ++ rest)) (frame_length r rest short) ∙ take_at r rest (length r) refl
 
 -- Whether bytes begin with a frame, by parts.
 
-frame_parts : (a b c : Bool) → a ≡ true → b ≡ true → c ≡ true → (a && b && c) ≡ true
-frame_parts a b c p q r = cc
+is_frame-whole : (b : List ℕ) → 8 + length_told b ≤ length b → crc32c (payload b) ≡ sum_told b → is_frame b ≡ true
+is_frame-whole b fits sealed = and_from (nat_le (8 + length_told b) (length b)) (nat_eq (crc32c (payload b)) (sum_told b)) (grind (arith, nat_tests)) (grind (arith, nat_tests))
 
-pub is_frame-whole : (b : List ℕ) → 8 + length_told b ≤ length b → crc32c (payload b) ≡ sum_told b → is_frame b ≡ true
-is_frame-whole b fits sealed =
-    let p : nat_le 8 (length b) ≡ true = grind (arith, nat_tests) in
-    let q : nat_le (8 + length_told b) (length b) ≡ true = grind (arith, nat_tests) in
-    let r : nat_eq (crc32c (payload b)) (sum_told b) ≡ true = grind (arith, nat_tests) in
-    frame_parts _ _ _ p q r
+frame_fits : (b : List ℕ) → is_frame b ≡ true → 8 + length_told b ≤ length b
+frame_fits b e = let p = (and_parts (nat_le (8 + length_told b) (length b)) (nat_eq (crc32c (payload b)) (sum_told b)) e).0 in grind (arith, nat_tests)
 
-parts : (a b : Bool) → (a && b) ≡ true → (a ≡ true) × (b ≡ true)
-parts true b e = (refl, e)
-parts false b e = absurd (false≢true e)
+frame_sealed : (b : List ℕ) → is_frame b ≡ true → crc32c (payload b) ≡ sum_told b
+frame_sealed b e = let p = (and_parts (nat_le (8 + length_told b) (length b)) (nat_eq (crc32c (payload b)) (sum_told b)) e).1 in grind (arith, nat_tests)
 
-head_parts : (b : List ℕ) → is_frame b ≡ true → (nat_le 8 (length b) && nat_le (8 + length_told b) (length b) ≡ true) × (nat_eq (crc32c (payload b)) (sum_told b) ≡ true)
-head_parts b e = parts (nat_le 8 (length b) && nat_le (8 + length_told b) (length b)) (nat_eq (crc32c (payload b)) (sum_told b)) e
+is_frame-short : (b : List ℕ) → length b < 8 + length_told b → is_frame b ≡ false
+is_frame-short b cut = false_from_ne_true (is_frame b) (λ e. omega (arith, frame_fits b e))
 
-pub frame_fits : (b : List ℕ) → is_frame b ≡ true → 8 + length_told b ≤ length b
-frame_fits b e =
-    let p : nat_le (8 + length_told b) (length b) ≡ true = (parts (nat_le 8 (length b)) (nat_le (8 + length_told b) (length b)) (head_parts b e).0).1 in
-    grind (arith, nat_tests)
-
-pub frame_sealed : (b : List ℕ) → is_frame b ≡ true → crc32c (payload b) ≡ sum_told b
-frame_sealed b e = let p : nat_eq (crc32c (payload b)) (sum_told b) ≡ true = (head_parts b e).1 in grind (arith, nat_tests)
-
-not_true : (a : Bool) → (a ≡ true → ⊥) → a ≡ false
-not_true true h = absurd (h refl)
-not_true false h = refl
-
-pub is_frame-short : (b : List ℕ) → length b < 8 + length_told b → is_frame b ≡ false
-is_frame-short b cut = not_true (is_frame b) (λ e. omega (arith, frame_fits b e))
-
-pub is_frame-unsealed : (b : List ℕ) → (crc32c (payload b) ≡ sum_told b → ⊥) → is_frame b ≡ false
-is_frame-unsealed b torn = not_true (is_frame b) (λ e. torn (frame_sealed b e))
-
-pub ruleset frame_tests = (is_frame-whole, is_frame-short, is_frame-unsealed)
-
-pub frame_is : (r rest : List ℕ) → IsShort r → is_frame (frame r ++ rest) ≡ true
+frame_is : (r rest : List ℕ) → length r < 2 ^ 32 → is_frame (frame r ++ rest) ≡ true
 frame_is r rest short =
     let e = frame_length r rest short in
     let long : 8 + length_told (frame r ++ rest) ≤ length (frame r ++ rest) = omega (arith, length-append (frame r) rest, length_frame r) in
     is_frame-whole (frame r ++ rest) long (ap crc32c (frame_payload r rest short) ∙ sym (frame_sum r rest))
 
-pub frame_rest : (r rest : List ℕ) → IsShort r → drop (8 + length_told (frame r ++ rest)) (frame r ++ rest) ≡ rest
-frame_rest r rest short = drop_front (frame r) rest _ (omega (arith, frame_length r rest short, length_frame r))
-
 -- A scan, step by step.
 
-chosen : {X : Type 0} (b : Bool) (x y : X) → b ≡ true → (if b then x else y) ≡ x
-chosen true x y e = refl
-chosen false x y e = absurd (false≢true e)
-
-other : {X : Type 0} (b : Bool) (x y : X) → b ≡ false → (if b then x else y) ≡ y
-other true x y e = absurd (false≢true (sym e))
-other false x y e = refl
-
 step_to : (n : ℕ) (b : List ℕ) → is_frame b ≡ true → scan_to (suc n) b ≡ payload b ∷ scan_to n (drop (8 + length_told b) b)
-step_to n b e = chosen (is_frame b) _ _ e
+step_to n b e = cond-true (is_frame b) _ _ e
 
 stop_to : (n : ℕ) (b : List ℕ) → is_frame b ≡ false → scan_to n b ≡ []
 stop_to zero b e = refl
-stop_to (suc n) b e = other (is_frame b) _ _ e
+stop_to (suc n) b e = cond-false (is_frame b) _ _ e
 
 -- frames enough for all
 enough : (n m : ℕ) (b : List ℕ) → length b ≤ n → length b ≤ m → scan_to n b ≡ scan_to m b
@@ -133,18 +80,13 @@ scan-step b e =
     ∙ ap (λ (l : List (List ℕ)). payload b ∷ l) (enough (length b) (length rest) rest (omega (arith, length-drop (8 + length_told b) b)) (omega arith))
 
 -- what is written comes back, whatever stands behind it
-pub scan-frame : (r rest : List ℕ) → IsShort r → scan (frame r ++ rest) ≡ r ∷ scan rest
-scan-frame r rest short =
-    scan-step (frame r ++ rest) (frame_is r rest short)
-    ∙ ap (λ (x : List ℕ). x ∷ scan (drop (8 + length_told (frame r ++ rest)) (frame r ++ rest))) (frame_payload r rest short)
-    ∙ ap (λ (x : List ℕ). r ∷ scan x) (frame_rest r rest short)
-
 pub scan-frames : (rs : List (List ℕ)) (rest : List ℕ) → AreShort rs → scan (frames rs ++ rest) ≡ rs ++ scan rest
 scan-frames [] rest short = refl
 scan-frames (r ∷ rs) rest short =
-    ap scan (append_assoc (frame r) (frames rs) rest)
-    ∙ scan-frame r (frames rs ++ rest) short.0
-    ∙ ap (λ (l : List (List ℕ)). r ∷ l) (scan-frames rs rest short.1)
+    let more = frames rs ++ rest in
+    let behind = drop_at (frame r) more _ (omega (arith, frame_length r more short.0, length_frame r)) in
+    ap scan (append_assoc (frame r) (frames rs) rest) ∙ scan-step (frame r ++ more) (frame_is r more short.0)
+    ∙ ap₂ (λ (x : List ℕ) (l : List (List ℕ)). x ∷ l) (frame_payload r more short.0) (ap scan behind ∙ scan-frames rs rest short.1)
 
 -- What is read is what was written: bytes below 256 begin with the frames of their scan.
 
@@ -182,20 +124,14 @@ unfolding frame
 frame_by r one two p q = ap (λ (x : List ℕ). x ++ to_be_bytes w32 (crc32c r) ++ r) p ∙ ap (λ (x : List ℕ). one ++ x ++ r) q
 
 cut_up : (i j n : ℕ) (b : List ℕ) → (take i b ++ take j (drop i b) ++ take n (drop (i + j) b)) ++ drop (i + j + n) b ≡ b
-cut_up i j n b =
-    let e = take-append-drop i b in
-    let f = take-append-drop j (drop i b) in
-    let g = take-append-drop n (drop (i + j) b) in
-    let k = drop-drop j i b in
-    let l = drop-drop n (i + j) b in
-    grind (arith, append_assoc)
+cut_up i j n b = grind (arith, append_assoc, take-append-drop i b, take-append-drop j (drop i b), take-append-drop n (drop (i + j) b), drop-drop j i b, drop-drop n (i + j) b)
 
-pub length_payload : (b : List ℕ) → is_frame b ≡ true → length (payload b) ≡ length_told b
+length_payload : (b : List ℕ) → is_frame b ≡ true → length (payload b) ≡ length_told b
 length_payload b e =
     let fits = frame_fits b e in
     omega (arith, length-take (length_told b) (drop 8 b), length-drop 8 b)
 
-pub frame_front : (b : List ℕ) → AreBytes b → is_frame b ≡ true → frame (payload b) ++ drop (8 + length_told b) b ≡ b
+frame_front : (b : List ℕ) → AreBytes b → is_frame b ≡ true → frame (payload b) ++ drop (8 + length_told b) b ≡ b
 frame_front b are e =
     let n = length_told b in
     let fits : 8 + n ≤ length b = frame_fits b e in
@@ -218,29 +154,33 @@ front_to (suc n) b short are = ⊎_elim
     (λ e. subst (λ (l : List (List ℕ)). AreShort l × ((rest : List ℕ) × (frames l ++ rest ≡ b))) (sym (scan-stop b e)) (tt, (b, refl)))
     (cases_Bool (is_frame b))
 
-pub scan_short : (b : List ℕ) → AreBytes b → AreShort (scan b)
-scan_short b are = (front_to (length b) b (omega arith) are).0
-
--- bytes begin with the frames of their records
-pub scan_front : (b : List ℕ) → AreBytes b → BeginsWith (frames (scan b)) b
-scan_front b are = (front_to (length b) b (omega arith) are).1
+pub scan_fronts : (b : List ℕ) → AreBytes b → (AreShort (scan b)) × (BeginsWith (frames (scan b)) b)
+scan_fronts b are = front_to (length b) b (omega arith) are
 
 -- A scan that goes on from where it is.
 
+pub frames_more : (rs : List (List ℕ)) (r : List ℕ) → frames rs ++ frame r ≡ frames (rs ++ r ∷ [])
+frames_more rs r = flat_map_more frame [] rs r
+
 pub length_frames_more : (rs : List (List ℕ)) (r : List ℕ) → length (frames (rs ++ r ∷ [])) ≡ length (frames rs) + (8 + length r)
-length_frames_more [] r = ap length (append-nil (frame r)) ∙ omega (arith, length_frame r)
-length_frames_more (x ∷ rs) r = omega (arith, length-append (frame x) (frames (rs ++ r ∷ [])), length-append (frame x) (frames rs), length_frames_more rs r)
+length_frames_more rs r = omega (arith, ap length (frames_more rs r), length-append (frames rs) (frame r), length_frame r)
+
+pub short_more : (rs : List (List ℕ)) (r : List ℕ) → AreShort rs → length r < 2 ^ 32 → AreShort (rs ++ r ∷ [])
+short_more [] r short fits = (fits, tt)
+short_more (x ∷ rs) r short fits = (short.0, short_more rs r short.1 fits)
 
 pub record Scanned (b : List ℕ) (at : ℕ) (found : List (List ℕ)) : Type 0 where
   pub so_far : found ++ scan (drop at b) ≡ scan b
   pub end : at ≡ length (frames found)
   pub within : at ≤ length b
 
-pub scanned_more : (b : List ℕ) (at : ℕ) (found found' : List (List ℕ)) (r : List ℕ) → Scanned b at found → is_frame (drop at b) ≡ true → r ≡ payload (drop at b) → found' ≡ found ++ r ∷ [] → Scanned b (at + (8 + length r)) found'
-scanned_more b at found found' r s e is now =
+-- the next frame, in what a slice from there on has
+pub scanned_more : (b : List ℕ) (at : ℕ) (found found' : List (List ℕ)) (r : List ℕ) → Scanned b at found → is_frame (take (length b - at) (drop at b)) ≡ true → r ≡ payload (take (length b - at) (drop at b)) → found' ≡ found ++ r ∷ [] → Scanned b (at + (8 + length r)) found'
+scanned_more b at found found' r s there told now =
     let rest = drop at b in
+    let e : is_frame rest ≡ true = ap is_frame (sym (take_rest b at)) ∙ there in
+    let is : r ≡ payload rest = told ∙ ap payload (take_rest b at) in
     let len : length r ≡ length_told rest = ap length is ∙ length_payload rest e in
-    let fits = frame_fits rest e in
     let past : drop (8 + length_told rest) rest ≡ drop (at + (8 + length r)) b = drop-drop (8 + length_told rest) at b ∙ ap (λ (n : ℕ). drop (at + (8 + n)) b) (sym len) in
     record {
       so_far = ap (λ (l : List (List ℕ)). l ++ scan (drop (at + (8 + length r)) b)) now
@@ -250,22 +190,11 @@ scanned_more b at found found' r s e is now =
           ∙ ap (λ (l : List (List ℕ)). found ++ l) (sym (scan-step rest e))
           ∙ s.so_far;
       end = omega (arith, s.end, length_frames_more found r, ap (λ (l : List (List ℕ)). length (frames l)) now);
-      within = omega (arith, s.within, len, fits, length-drop at b);
+      within = omega (arith, s.within, len, frame_fits rest e, length-drop at b);
     }
 
-pub scanned_all : (b : List ℕ) (at : ℕ) (found : List (List ℕ)) → Scanned b at found → is_frame (drop at b) ≡ false → found ≡ scan b
-scanned_all b at found s e = sym (append-nil found) ∙ ap (λ (l : List (List ℕ)). found ++ l) (sym (scan-stop (drop at b) e)) ∙ s.so_far
-
--- the same of a slice from there on
-
-from_there : (b : List ℕ) (at : ℕ) → take (length b - at) (drop at b) ≡ drop at b
-from_there b at = grind (arith, common_steps)
-
-pub sliced_more : (b : List ℕ) (at : ℕ) (found found' : List (List ℕ)) (r : List ℕ) → Scanned b at found → is_frame (take (length b - at) (drop at b)) ≡ true → r ≡ payload (take (length b - at) (drop at b)) → found' ≡ found ++ r ∷ [] → Scanned b (at + (8 + length r)) found'
-sliced_more b at found found' r s e is now = scanned_more b at found found' r s (ap is_frame (sym (from_there b at)) ∙ e) (is ∙ ap payload (from_there b at)) now
-
-pub sliced_all : (b : List ℕ) (at : ℕ) (found : List (List ℕ)) → Scanned b at found → is_frame (take (length b - at) (drop at b)) ≡ false → found ≡ scan b
-sliced_all b at found s e = scanned_all b at found s (ap is_frame (sym (from_there b at)) ∙ e)
+pub scanned_all : (b : List ℕ) (at : ℕ) (found : List (List ℕ)) → Scanned b at found → is_frame (take (length b - at) (drop at b)) ≡ false → found ≡ scan b
+scanned_all b at found s e = sym (append-nil found) ∙ ap (λ (l : List (List ℕ)). found ++ l) (sym (scan-stop (drop at b) (ap is_frame (sym (take_rest b at)) ∙ e))) ∙ s.so_far
 
 pub front_scanned : (rs : List (List ℕ)) (live : List ℕ) → AreShort rs → BeginsWith (frames rs) live → BeginsWith rs (scan live)
 front_scanned rs live short (rest, is) = (scan rest, sym (scan-frames rs rest short) ∙ ap scan is)

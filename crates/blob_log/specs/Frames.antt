@@ -23,7 +23,7 @@ payload bytes = take (length_told bytes) (drop 8 bytes)
 
 -- whether bytes begin with a whole frame whose checksum holds
 abbrev pub is_frame : List ℕ → Bool
-is_frame bytes = nat_le 8 (length bytes) && nat_le (8 + length_told bytes) (length bytes) && nat_eq (crc32c (payload bytes)) (sum_told bytes)
+is_frame bytes = nat_le (8 + length_told bytes) (length bytes) && nat_eq (crc32c (payload bytes)) (sum_told bytes)
 
 -- the records of at most n frames
 abbrev pub scan_to : ℕ → List ℕ → List (List ℕ)

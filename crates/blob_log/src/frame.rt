@@ -13,9 +13,8 @@ pub fn frame_of(alloc: Global, entry: &[u8]) -> Result<Vec<u8>, AllocError>
     requires { length entry.now < 2 ^ 32 }
     ensures { IfOk result (λ bytes. bytes.items ≡ frame entry.now) }
 {
-    let len = entry.len() as u32;
     let mut bytes = Vec::with_capacity(alloc, 8)?;
-    bytes.extend_from_slice(&len.to_be_bytes())?;
+    bytes.extend_from_slice(&(entry.len() as u32).to_be_bytes())?;
     bytes.extend_from_slice(&Crc32::checksum(entry).to_be_bytes())?;
     bytes.extend_from_slice(entry)?;
     Ok(bytes)
@@ -30,20 +29,15 @@ fn number(bytes: &[u8]) -> u32
 }
 
 /// The record that the bytes begin with, where a whole frame is there and its checksum holds.
-#[tactic(auto, using(crate::proofs::Scans::frame_tests), unfolding(crate::specs::Frames::length_told, crate::specs::Frames::sum_told))]
+#[tactic(auto, using(std::proofs::lemmas::Bool::Decides::nat_tests), unfolding(crate::specs::Frames::length_told, crate::specs::Frames::sum_told))]
 pub fn first(bytes: &[u8]) -> Option<&[u8]>
     ensures { MatchOption result (is_frame bytes.now ≡ false) (λ entry. (is_frame bytes.now ≡ true) × (entry.now ≡ payload bytes.now)) }
 {
-    if bytes.len() < 8 {
+    if bytes.len() < 8 || bytes.len() - 8 < number(bytes) as usize {
         return None;
     }
-    let len = number(bytes) as usize;
-    let sum = number(&bytes[4..]);
-    if bytes.len() - 8 < len {
-        return None;
-    }
-    let entry = &bytes[8..8 + len];
-    if Crc32::checksum(entry) != sum {
+    let entry = &bytes[8..8 + number(bytes) as usize];
+    if Crc32::checksum(entry) != number(&bytes[4..]) {
         return None;
     }
     Some(entry)

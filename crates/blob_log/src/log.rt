@@ -1,20 +1,16 @@
 //! A log of records in one blob of a fault wrapper.
-ghost use Rattle.std.specs.Prelude.{◌≡◌, ◌<◌, ◌^◌, ◌++◌, ◌∷◌, [], List, ℕ, OnOk, OnErr, IfOk, length};
+ghost use Rattle.std.specs.Prelude.{◌≡◌, ◌++◌, ◌∷◌, [], List, ℕ, OnOk, OnErr, IfOk};
 ghost use Rattle.blob_model.specs.Files.{Files};
 ghost use Rattle.blob_header.specs.Fronts.{BeginsWith};
 ghost use Rattle.blob_model.specs.Opened.{IsNamed};
-ghost use Rattle.blob_model.specs.Opening.{IsOpened};
 ghost use Rattle.blob_model.specs.Places.{Place};
-ghost use Rattle.blob_header.specs.Refusals.{OffsetOverflow, refused};
 ghost use Rattle.blob_faulty.specs.Keeps.{IsFor, Keeps};
-ghost use Rattle.blob_faulty.specs.Wrapper.{inner_of, inside};
-ghost use Rattle.blob_memory.specs.Store.{directory, durable, place, live};
 ghost use Rattle.blob_log.specs.Frames.{AreShort, frames};
 ghost use Rattle.blob_log.specs.Held.{Holds, place_of, items_of};
 
 use crate::frame::{frame_of, scan};
 use blob_base::laws::opens::accepted_opens;
-use blob_base::{Blob, Error, IoBufs, ReadOptions, WriteOptions};
+use blob_base::{Blob, Error, IoBufs, WriteOptions};
 use blob_faulty::laws::keeps::{unrecorded_calls, writes};
 use rand_core::Rng;
 use std::alloc::Global;
@@ -28,21 +24,6 @@ pub struct Log {
     alloc: Global,
     blob: blob_faulty::Blob<blob_memory::Blob>,
     end: u64,
-}
-
-/// Opens the log's blob so that what the handle finds stays: no crash takes it.
-fn open_blob<R: Rng>(
-    store: &mut Store<R>,
-    partition: &str,
-    name: &[u8],
-) -> Result<(blob_faulty::Blob<blob_memory::Blob>, u64), Error>
-    ensures opened { IfOk result (λ r. IsOpened (directory (inner_of store.old)) (durable (inner_of store.old)) (directory (inner_of store.new)) (durable (inner_of store.new)) partition.now name.now 0 0 (place (inside r.0)) (live (inside r.0)) 0) }
-    ensures size { IfOk result (λ r. r.1 ≡ length (live (inside r.0))) }
-    ensures fixed { IfOk result (λ r. (files : Files) → IsFor store.old files → Keeps store.new (place (inside r.0)) (live (inside r.0))) }
-    ensures found { IfOk result (λ r. (o : Place) (bytes : List ℕ) → IsNamed o partition.now name.now → Keeps store.old o bytes → (place (inside r.0) ≡ o) × BeginsWith bytes (live (inside r.0))) }
-    ensures keeps { (o : Place) (bytes : List ℕ) → Keeps store.old o bytes → Keeps store.new o bytes }
-{
-    store.open_admitted(partition, name)
 }
 
 impl Log {
@@ -90,16 +71,13 @@ impl Log {
     {
         accepted_opens();
         unrecorded_calls::<blob_memory::Storage, R>();
-        let (blob, size) = open_blob(store, partition, name)?;
-        let bytes = blob
-            .read_at(store, 0, size as usize, ReadOptions::default())?
-            .coalesce();
-        let (records, end) = scan(alloc, &bytes)?;
-        let log = Log {
-            alloc,
-            blob,
-            end: end as u64,
-        };
-        Ok((log, records))
+        let (blob, size) = store.open_admitted(partition, name)?;
+        let mut bytes = Vec::new(alloc);
+        bytes.resize(size as usize, 0)?;
+        let found = bytes.as_mut_slice();
+        blob.read_into(store, 0, found)?;
+        let (records, end) = scan(alloc, found)?;
+        let end = end as u64;
+        Ok((Log { alloc, blob, end }, records))
     }
 }

@@ -1,10 +1,8 @@
-use Rattle.std.proofs.Common.{inl, inr, sym, ◌∙◌, ap, ◌≡◌, ◌⊎◌, List, [], ℕ, Option, Some, refl}
+use Rattle.std.proofs.Common.{inl, inr, sym, ◌∙◌, ap, ◌≡◌, ◌⊎◌, List, [], Some, refl}
 use Rattle.blob_model.specs.Files.{after_crash}
 use Rattle.blob_model.specs.Pending.{Pending}
 use Rattle.std.proofs.Math.Logic.{∥∥₁_map}
 use Rattle.std.proofs.lemmas.Result.{on_ok_weaker}
-use Rattle.std.specs.Prelude.{codes}
-use Rattle.blob_model.specs.Directory.{Directory}
 use Rattle.blob_model.specs.Draws.{chosen_by}
 use Rattle.blob_model.specs.Places.{Place}
 use Rattle.blob_model.specs.Stands.{replayed_at}
@@ -13,7 +11,7 @@ use Rattle.blob_disk.proofs.Outcomes.{at_place, keeps_all, named_so, same_outcom
 use Rattle.blob_disk.proofs.calls.lose.Goals as goal
 use Rattle.blob_faults.specs.Rows.{table_of}
 use Rattle.blob_faulty.specs.Wrapper.{inner_of, inside, pending_of}
-use Rattle.blob_memory.specs.Store.{directory, durable, live, place}
+use Rattle.blob_memory.specs.Store.{durable, live, place}
 
 pub reopen-requires : goal.reopen-requires
 reopen-requires g c = record {

@@ -1,8 +1,7 @@
 use Rattle.std.proofs.Common.{ap, refl}
 use Rattle.blob_disk.proofs.Outcomes.{keeps_all, same_outcomes, at_place}
 use Rattle.blob_disk.proofs.calls.read.Goals as goal
-use Rattle.blob_faulty.specs.Wrapper.{inside}
-use Rattle.blob_memory.specs.Store.{directory, durable, place}
+use Rattle.blob_memory.specs.Store.{directory, durable}
 
 pub returns-in_err-read_into-clause-keeps : goal.returns-in_err-read_into-clause-keeps
 returns-in_err-read_into-clause-keeps g c = keeps_all _ _ _ _ c.kept_records.ensures (ap directory c.in_err-read_into.ensures.inner) (ap durable c.in_err-read_into.ensures.inner) c.in_err-read_into.ensures.leaves.records refl (λ h. h)

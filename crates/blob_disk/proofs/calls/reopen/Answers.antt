@@ -1,11 +1,7 @@
-use Rattle.std.proofs.Common.{inr, sym, ◌∙◌, ap, List, ℕ, length, refl}
-use Rattle.std.specs.Prelude.{codes}
-use Rattle.blob_model.specs.Places.{Place}
+use Rattle.std.proofs.Common.{inr, ◌∙◌, refl}
 use Rattle.blob_disk.proofs.Crashes.{opens_again}
 use Rattle.blob_disk.proofs.Outcomes.{keeps_all}
 use Rattle.blob_disk.proofs.calls.reopen.Goals as goal
-use Rattle.blob_faulty.specs.Wrapper.{inner_of, inside}
-use Rattle.blob_memory.specs.Store.{directory, durable, live, place}
 
 pub returns-in-Ok-clause-live : goal.returns-in-Ok-clause-live
 returns-in-Ok-clause-live g c =

@@ -1,6 +1,4 @@
 use Rattle.std.proofs.Common.{inl, sym, ◌∙◌, ap, List, ℕ, length}
-use Rattle.blob_model.specs.Durable.{Durable}
-use Rattle.blob_model.specs.Pending.{Pending}
 use Rattle.blob_model.specs.Places.{Place}
 use Rattle.blob_disk.proofs.Outcomes.{at_place, keeps_all, keeps_synced, same_outcomes, synced_at}
 use Rattle.blob_disk.proofs.calls.sync.Goals as goal

@@ -4,8 +4,7 @@ use Rattle.blob_model.specs.Places.{Place}
 use Rattle.blob_faulty.specs.Keeps.{Keeps}
 use Rattle.blob_log.specs.Frames.{frames}
 use Rattle.blob_log.specs.Held.{place_of}
-use Rattle.blob_log.proofs.Holding.{frames_more, short_more}
-use Rattle.blob_log.proofs.Scans.{length_frame, length_frames_more}
+use Rattle.blob_log.proofs.Scans.{frames_more, length_frame, length_frames_more, short_more}
 use Rattle.blob_log.proofs.log.Log.append.Goals as goal
 
 at_err : {T E : Type 0} (r : Result T E) (Q : Type 0) → Q → OnErr r Q
