@@ -2,11 +2,10 @@
 ghost use Rattle.std.specs.Prelude.{◌≡◌, ◌+◌, ◌<◌, ◌≤◌, ℕ, List, [], true, false, Some, None, OnOk, OnErr, IfOk, length, option_copied};
 ghost use Rattle.blob_model.specs.Bytes.{overlay, resized, written};
 ghost use Rattle.blob_base.specs.Callers.{InTurn, BeforeOrBetween};
-ghost use Rattle.blob_model.specs.Directory.{is_current};
+ghost use Rattle.blob_model.specs.Directory.{is_current, removed};
 ghost use Rattle.blob_model.specs.Durable.{changed, durable_without};
 ghost use Rattle.blob_model.specs.Live.{live_written};
 ghost use Rattle.blob_base.specs.Options.{is_sync};
-ghost use Rattle.blob_model.specs.Opening.{removed};
 ghost use Rattle.blob_header.specs.Refusals.{refused, IsMemory};
 
 use crate::{Blob, Durable, IoBufs, Storage, WriteOptions};

@@ -2,11 +2,11 @@
 ghost use Rattle.std.specs.Prelude.{◌≡◌, ◌≢◌, ◌⊎◌, ◌+◌, ◌≤◌, ◌<◌, ◌^◌, ◌↔◌, ℕ, List, [], Bool, true, false, Option, Some, None, is_some, IsSome, IsTrue, OnOk, OnErr, IfOk, length, take, drop, map, option_copied};
 ghost use Rattle.std.specs.Range.{range_inclusive_start, range_inclusive_end, range_inclusive_exhausted};
 ghost use Rattle.blob_model.specs.Bytes.{overlay, resized};
-ghost use Rattle.blob_model.specs.Directory.{Directory, is_current};
+ghost use Rattle.blob_model.specs.Directory.{Directory, is_current, removed};
 ghost use Rattle.blob_model.specs.Durable.{Durable, changed, durable_without};
 ghost use Rattle.blob_model.specs.Live.{live_written, live_after};
 ghost use Rattle.blob_base.specs.Names.{AreNames};
-ghost use Rattle.blob_model.specs.Opening.{IsOpened, removed};
+ghost use Rattle.blob_model.specs.Opening.{IsOpened};
 ghost use Rattle.blob_base.specs.HandleCalls.{HandleCall, Read, Write, Resize, Sync, StartSync, Reserve};
 ghost use Rattle.blob_base.specs.Handles.{outcome_of, marker_of};
 ghost use Rattle.blob_base.specs.Options.{is_sync};

@@ -3,13 +3,13 @@ use Rattle.std.proofs.Common.{◌≡◌, ℕ, suc, ◌+◌, ◌-◌, ◌<◌, �
 use Rattle.std.proofs.lemmas.Bool.{ne_eqb}
 use Rattle.rand_core.specs.Stream.{Stream}
 use Rattle.blob_model.specs.Rates.{Rate, sampled}
-use Rattle.blob_model.specs.Draws.{front, each, sectors, with_choice}
+use Rattle.blob_model.specs.Draws.{front, each, sectors, with_first}
 
 -- choices that were drawn, before those that will be
 abbrev pub joined : List Bool → List Bool × Stream → List Bool × Stream
 joined done rest = (done ++ rest.0, rest.1)
 
-joined_one : (done : List Bool) (b : Bool) (rest : List Bool × Stream) → joined done (with_choice b rest) ≡ joined (done ++ b ∷ []) rest
+joined_one : (done : List Bool) (b : Bool) (rest : List Bool × Stream) → joined done (with_first b rest) ≡ joined (done ++ b ∷ []) rest
 joined_one done b rest = ap (λ (xs : List Bool). (xs, rest.1)) (sym (append_assoc done (b ∷ []) rest.0))
 
 pub each_more : (rate : Rate) (len i : ℕ) (s s' : Stream) (done : List Bool) (b : Bool) → i < len → (b, s') ≡ sampled rate s → joined (done ++ b ∷ []) (each rate (len - (i + 1)) s') ≡ joined done (each rate (len - i) s)
@@ -20,7 +20,7 @@ each_more rate len i s s' done b h e = sym (ap (λ n. joined done (each rate n s
     left = omega arith
 
     step : (n : ℕ) → joined done (each rate (suc n) s) ≡ joined (done ++ b ∷ []) (each rate n s')
-    step n = ap (λ (d : Bool × Stream). joined done (with_choice d.0 (each rate n d.1))) (sym e) ∙ joined_one done b (each rate n s')
+    step n = ap (λ (d : Bool × Stream). joined done (with_first d.0 (each rate n d.1))) (sym e) ∙ joined_one done b (each rate n s')
 
 pub each_all : (rate : Rate) (len i : ℕ) (s : Stream) (done : List Bool) → len ≤ i → joined done (each rate (len - i) s) ≡ (done, s)
 unfolding each
@@ -38,7 +38,7 @@ front_more rate len i s s' done b h e t = sym (ap (λ n. joined done (front rate
     left = omega arith
 
     step : (n : ℕ) → joined done (front rate (suc n) s) ≡ joined (done ++ true ∷ []) (front rate n s')
-    step n = ap (λ (d : Bool × Stream). joined done (cond d.0 (with_choice true (front rate n d.1)) (replicate (suc n) false, d.1))) (sym e ∙ ap (λ (x : Bool). (x, s')) t) ∙ joined_one done true (front rate n s')
+    step n = ap (λ (d : Bool × Stream). joined done (cond d.0 (with_first true (front rate n d.1)) (replicate (suc n) false, d.1))) (sym e ∙ ap (λ (x : Bool). (x, s')) t) ∙ joined_one done true (front rate n s')
 
 pub front_lost : (rate : Rate) (len i : ℕ) (s s' : Stream) (done all : List Bool) (b : Bool) → i < len → (b, s') ≡ sampled rate s → b ≡ false → all ≡ done ++ replicate (len - i) false → (all, s') ≡ joined done (front rate (len - i) s)
 unfolding front
@@ -48,7 +48,7 @@ front_lost rate len i s s' done all b h e f is = ap (λ (xs : List Bool). (xs, s
     left = omega arith
 
     step : (n : ℕ) → joined done (front rate (suc n) s) ≡ joined done (replicate (suc n) false, s')
-    step n = ap (λ (d : Bool × Stream). joined done (cond d.0 (with_choice true (front rate n d.1)) (replicate (suc n) false, d.1))) (sym e ∙ ap (λ (x : Bool). (x, s')) f)
+    step n = ap (λ (d : Bool × Stream). joined done (cond d.0 (with_first true (front rate n d.1)) (replicate (suc n) false, d.1))) (sym e ∙ ap (λ (x : Bool). (x, s')) f)
 
 pub front_all : (rate : Rate) (len i : ℕ) (s : Stream) (done : List Bool) → len ≤ i → joined done (front rate (len - i) s) ≡ (done, s)
 unfolding front
@@ -72,7 +72,7 @@ sectors_more rate size o len i s s' done last b h e =
     left = omega arith
 
     step : (n : ℕ) → joined done (sectors rate size (o + i) (eqb i 0) last (suc n) s) ≡ joined (done ++ b ∷ []) (sectors rate size ((o + i) + 1) false b n s')
-    step n = ap (λ (d : Bool × Stream). joined done (with_choice d.0 (sectors rate size ((o + i) + 1) false d.0 n d.1))) (sym e) ∙ joined_one done b (sectors rate size ((o + i) + 1) false b n s')
+    step n = ap (λ (d : Bool × Stream). joined done (with_first d.0 (sectors rate size ((o + i) + 1) false d.0 n d.1))) (sym e) ∙ joined_one done b (sectors rate size ((o + i) + 1) false b n s')
 
 pub sectors_all : (rate : Rate) (size p len i : ℕ) (first last : Bool) (s : Stream) (done : List Bool) → len ≤ i → joined done (sectors rate size p first last (len - i) s) ≡ (done, s)
 unfolding sectors

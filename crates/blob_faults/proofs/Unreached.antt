@@ -3,7 +3,7 @@ use Rattle.std.proofs.Common.{◌≡◌, ℕ, ◌+◌, ◌-◌, ◌<◌, ◌≤�
 use Rattle.std.proofs.lemmas.Bool.{leb-false, lt-leb, cond_both, or_parts}
 use Rattle.rand_core.specs.Stream.{Stream}
 use Rattle.blob_model.specs.Bytes.{lies, written}
-use Rattle.blob_model.specs.Live.{live_after, live_written}
+use Rattle.blob_model.specs.Live.{live_after, live_written, is_idle}
 use Rattle.blob_model.specs.Modes.{Mode}
 use Rattle.blob_model.specs.Persistence.{HasByte, any_touches}
 use Rattle.blob_model.specs.Rates.{Rate, sampled}
@@ -12,7 +12,7 @@ use Rattle.blob_model.specs.Runs.{Run, runs, kept_runs}
 use Rattle.blob_model.proofs.Persistence.{runs_untouched, has_written, has_runs, has_resized}
 use Rattle.blob_faults.specs.declared.config.Config.{Config}
 use Rattle.blob_faults.specs.declared.config.ResizeConfig.{ResizeConfig}
-use Rattle.blob_faults.specs.Faults.{WriteFate, Done, Unsynced, Failed, ResizeFate, Resizes, Stays, Reaches, write_fate, retention, resize_fate, is_nothing, is_uncounted, partly, resized_or_not}
+use Rattle.blob_faults.specs.Faults.{WriteFate, Done, Unsynced, Failed, ResizeFate, Resizes, Stays, Reaches, write_fate, retention, resize_fate, is_uncounted, partly}
 use Rattle.blob_faults.specs.Recorded.{loose, kept, recorded_by, recorded_write, recorded_resize, live_by, live_of_write, live_of_resize, first_written, size_of_runs, size_by, size_of_write, size_of_resize}
 
 -- What a write records lies within its range.
@@ -42,7 +42,7 @@ module _ (p offset : ℕ) (bytes : List ℕ) (out : lies offset (length bytes) p
 
   pub write_out : (config : Config) (number : ℕ) (stream : Stream) (sync : Bool) (answer : Option Refusal) → any_touches p (recorded_write config number stream sync offset bytes answer) ≡ false
   write_out config number stream sync answer =
-      cond_both (is_nothing sync bytes) [] _ (λ es. any_touches p es ≡ false) (λ _. refl)
+      cond_both (is_idle sync bytes) [] _ (λ es. any_touches p es ≡ false) (λ _. refl)
       (λ _. cond_both (is_uncounted offset bytes) [] _ (λ es. any_touches p es ≡ false) (λ _. refl)
       (λ _. by_fate_out (write_fate config sync offset (length bytes) stream).0 (retention config.write_rate) number sync answer))
 
@@ -77,7 +77,7 @@ module _ (p v offset : ℕ) (bytes : List ℕ) (out : lies offset (length bytes)
 
   pub write_has : (config : Config) (stream : Stream) (sync : Bool) (answer : Option Refusal) → HasByte p v (live_of_write config stream sync live offset bytes answer)
   write_has config stream sync answer =
-      cond_both (is_nothing sync bytes) live _ (λ x. HasByte p v x) (λ _. has)
+      cond_both (is_idle sync bytes) live _ (λ x. HasByte p v x) (λ _. has)
       (λ _. cond_both (is_uncounted offset bytes) live _ (λ x. HasByte p v x) (λ _. has)
       (λ _. by_fate_has (write_fate config sync offset (length bytes) stream).0 sync answer))
 
@@ -93,7 +93,7 @@ by_fate_grows fate size offset bytes answer = omega arith
 
 pub write_grows : (config : Config) (stream : Stream) (sync : Bool) (size offset : ℕ) (bytes : List ℕ) (answer : Option Refusal) → size ≤ size_of_write config stream sync size offset bytes answer
 write_grows config stream sync size offset bytes answer =
-    cond_both (is_nothing sync bytes) size _ (λ k. size ≤ k) (λ _. omega arith)
+    cond_both (is_idle sync bytes) size _ (λ k. size ≤ k) (λ _. omega arith)
     (λ _. cond_both (is_uncounted offset bytes) size _ (λ k. size ≤ k) (λ _. omega arith)
     (λ _. by_fate_grows (write_fate config sync offset (length bytes) stream).0 size offset bytes answer))
 
@@ -108,7 +108,7 @@ pub reached_above : (rate : Option ResizeConfig) (size len : ℕ) (stream : Stre
 reached_above None size len stream = tt
 reached_above (Some c) size len stream =
     let d = sampled c.failure_rate stream in
-    cond_both d.0 (partly size len (sampled c.partial_rate d.1)) (resized_or_not (sampled c.failure_rate d.1)) (λ r. IsAbove (min size len) r.0)
+    cond_both d.0 (partly size len (sampled c.partial_rate d.1)) (Resizes (sampled c.failure_rate d.1).0, (sampled c.failure_rate d.1).1) (λ r. IsAbove (min size len) r.0)
     (λ _. part (sampled c.partial_rate d.1)) (λ _. tt)
   where
     part : (d : Bool × Stream) → IsAbove (min size len) (partly size len d).0

@@ -1,10 +1,11 @@
 -- What a wrapper's calls may answer, from what their draws come to and what the inner store's calls may answer.
 use Rattle.std.specs.Prelude.{◌≡◌, ◌≢◌, ◌⊎◌, ℕ, ◌+◌, ◌-◌, ◌^◌, Bool, true, false, ◌&&◌, List, [], ◌∷◌, length, Option, Some, None, is_some, IsSome, MatchBool, ◌==◌}
 use Rattle.rand_core.specs.Stream.{Stream}
+use Rattle.blob_model.specs.Live.{is_idle}
 use Rattle.blob_header.specs.Refusals.{Refusal, Memory, Injected, OffsetOverflow, WriteFailed, GenerationsExhausted}
 use Rattle.blob_model.specs.Runs.{Run, runs}
 use Rattle.blob_faults.specs.declared.config.Config.{Config}
-use Rattle.blob_faults.specs.Faults.{WriteFate, Done, Unsynced, Failed, ResizeFate, Resizes, Stays, Reaches, write_fate, retention, is_nothing, is_uncounted}
+use Rattle.blob_faults.specs.Faults.{WriteFate, Done, Unsynced, Failed, ResizeFate, Resizes, Stays, Reaches, write_fate, retention, is_uncounted}
 
 -- which answers a call may have: a refusal, or none for Ok
 abbrev pub Allowed : Type 1
@@ -64,7 +65,7 @@ allows_fate (Failed kept) writes reserves direct retained next sync offset bytes
 -- `writes` and `reserves` are what the inner blob allows, `direct` whether it injects nothing
 abbrev pub allows_write : (ℕ → List ℕ → Bool → Allowed) → (ℕ → Allowed) → Bool → Config → ℕ → Stream → ℕ → List ℕ → Bool → Allowed
 allows_write writes reserves direct config next stream offset bytes sync answer =
-    MatchBool (is_nothing sync bytes) (answer ≡ None) (MatchBool (is_uncounted offset bytes) (answer ≡ Some OffsetOverflow)
+    MatchBool (is_idle sync bytes) (answer ≡ None) (MatchBool (is_uncounted offset bytes) (answer ≡ Some OffsetOverflow)
     (or_memory (allows_fate (write_fate config sync offset (length bytes) stream).0 writes reserves direct (is_some (retention config.write_rate)) next sync offset bytes) answer))
 
 abbrev pub allows_resize : (ℕ → Allowed) → ResizeFate → ℕ → Allowed

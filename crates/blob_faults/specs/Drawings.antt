@@ -3,7 +3,7 @@ use Rattle.std.specs.Prelude.{◌≡◌, ℕ, ◌≤◌, Bool, List, [], ◌∷�
 use Rattle.std.specs.declared.vec.Vec.{Vec}
 use Rattle.std.specs.declared.alloc.Global.{Global}
 use Rattle.rand_core.specs.Stream.{Stream}
-use Rattle.blob_model.specs.Draws.{Row, with_row, positions}
+use Rattle.blob_model.specs.Draws.{Row, with_first, positions}
 use Rattle.blob_model.specs.Log.{Need}
 use Rattle.blob_model.specs.Modes.{Mode}
 use Rattle.blob_model.specs.Rates.{Rate}
@@ -35,7 +35,7 @@ abbrev pub rows_drawn : Stream → List Drawing → List Row × Stream
 rows_drawn s [] = ([], s)
 rows_drawn s (d ∷ ds) =
     let p = positions d.mode d.rate d.offset d.len s in
-    with_row (d.number, p.0) (rows_drawn p.1 ds)
+    with_first (d.number, p.0) (rows_drawn p.1 ds)
 
 -- an empty list of choices with room for so many
 pub record IsBlank (len : ℕ) (chosen : Vec Bool Global) : Type 0 where

@@ -3,6 +3,7 @@ use Rattle.std.specs.Prelude.{ℕ, ◌+◌, ◌-◌, ◌^◌, min, max, Bool, tr
 use Rattle.rand_core.specs.Stream.{Stream, next_u64}
 use Rattle.rand.specs.Uniform.{canon}
 use Rattle.blob_model.specs.Draws.{positions}
+use Rattle.blob_model.specs.Live.{is_idle}
 use Rattle.blob_model.specs.Log.{Write}
 use Rattle.blob_model.specs.Modes.{Mode}
 use Rattle.blob_model.specs.Rates.{Rate, sampled}
@@ -55,21 +56,19 @@ write_fate config sync offset len stream =
     let d = draw (write_failure config.write_rate) stream in
     if d.0 then failed (retention config.write_rate) offset len d.1 else not_failed config sync d.1
 
--- an empty SYNC write and one whose end can't be counted draw nothing
-abbrev pub is_nothing : Bool → List ℕ → Bool
-is_nothing true [] = true
-is_nothing true (b ∷ bytes) = false
-is_nothing false bytes = false
-
 abbrev pub is_uncounted : ℕ → List ℕ → Bool
 is_uncounted offset bytes = nat_lt (2 ^ 64 - 1) (offset + length bytes)
 
+-- what comes of a write, of one that does nothing and of one whose end can't be counted, which draw nothing, or else by its fate and what its draws leave
+abbrev pub by_fate : {X : Type 0} → Config → Bool → ℕ → List ℕ → Stream → X → X → (WriteFate × Stream → X) → X
+by_fate config sync offset bytes stream idle uncounted drawn =
+    if is_idle sync bytes then idle
+    else if is_uncounted offset bytes then uncounted
+    else drawn (write_fate config sync offset (length bytes) stream)
+
 -- what a write leaves of the stream
 abbrev pub after_write : Config → Bool → ℕ → List ℕ → Stream → Stream
-after_write config sync offset bytes stream =
-    if is_nothing sync bytes then stream
-    else if is_uncounted offset bytes then stream
-    else (write_fate config sync offset (length bytes) stream).1
+after_write config sync offset bytes stream = by_fate config sync offset bytes stream stream stream (λ d. d.1)
 
 -- What the draws of a resize come to.
 
@@ -85,22 +84,16 @@ pub data ResizeFate : Type 0 where
 abbrev pub size_between : ℕ → ℕ → Stream → ℕ × Stream
 size_between low high stream = let d = canon (2 ^ 64) next_u64 (high - (low + 1)) stream in (low + 1 + d.0, d.1)
 
-abbrev pub reached : ℕ × Stream → ResizeFate × Stream
-reached d = (Reaches d.0, d.1)
-
 abbrev pub partly : ℕ → ℕ → Bool × Stream → ResizeFate × Stream
 partly size len d =
-    if d.0 && nat_lt 1 (max size len - min size len) then reached (size_between (min size len) (max size len) d.1)
+    if d.0 && nat_lt 1 (max size len - min size len) then (let e = size_between (min size len) (max size len) d.1 in (Reaches e.0, e.1))
     else (Stays, d.1)
-
-abbrev pub resized_or_not : Bool × Stream → ResizeFate × Stream
-resized_or_not d = (Resizes d.0, d.1)
 
 abbrev pub resize_fate : Option ResizeConfig → ℕ → ℕ → Stream → ResizeFate × Stream
 resize_fate None size len stream = (Resizes false, stream)
 resize_fate (Some c) size len stream =
     let d = sampled c.failure_rate stream in
-    if d.0 then partly size len (sampled c.partial_rate d.1) else resized_or_not (sampled c.failure_rate d.1)
+    if d.0 then partly size len (sampled c.partial_rate d.1) else (let e = sampled c.failure_rate d.1 in (Resizes e.0, e.1))
 
 -- a write as it is recorded
 abbrev pub issued : ℕ → ℕ → List ℕ → WriteConfig → Write

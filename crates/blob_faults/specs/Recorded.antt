@@ -1,6 +1,6 @@
 -- What a call records in the log, and what it makes of the handle, over a store that injects nothing. Another one may refuse
 -- a call with some of it done, and its `Injected` is told apart from the wrapper's by nothing.
-use Rattle.std.specs.Prelude.{ℕ, ◌+◌, max, Bool, true, false, List, [], ◌∷◌, length, Option, Some, None, if◌then◌else◌}
+use Rattle.std.specs.Prelude.{ℕ, ◌+◌, max, Bool, true, false, List, [], ◌∷◌, length, Option, Some, None}
 use Rattle.rand_core.specs.Stream.{Stream}
 use Rattle.blob_model.specs.Bytes.{written, resized}
 use Rattle.blob_model.specs.Live.{live_after, all_written}
@@ -10,7 +10,7 @@ use Rattle.blob_model.specs.Rates.{Rate}
 use Rattle.blob_header.specs.Refusals.{Refusal, Injected, BlobMissing}
 use Rattle.blob_model.specs.Runs.{Run, runs, kept_runs}
 use Rattle.blob_faults.specs.declared.config.Config.{Config}
-use Rattle.blob_faults.specs.Faults.{WriteFate, Done, Unsynced, Failed, ResizeFate, Resizes, Reaches, write_fate, retention, is_nothing, is_uncounted}
+use Rattle.blob_faults.specs.Faults.{WriteFate, Done, Unsynced, Failed, ResizeFate, Resizes, Reaches, retention, by_fate}
 
 -- a write that a crash may lose, with the mode and the rate of its issue
 abbrev pub loose : Option (Mode × Rate) → ℕ → ℕ → List ℕ → List Entry
@@ -32,10 +32,7 @@ recorded_by fate retained number sync offset bytes answer = []
 
 -- what a write records, by its answer
 abbrev pub recorded_write : Config → ℕ → Stream → Bool → ℕ → List ℕ → Option Refusal → List Entry
-recorded_write config number stream sync offset bytes answer =
-    if is_nothing sync bytes then []
-    else if is_uncounted offset bytes then []
-    else recorded_by (write_fate config sync offset (length bytes) stream).0 (retention config.write_rate) number sync offset bytes answer
+recorded_write config number stream sync offset bytes answer = by_fate config sync offset bytes stream [] [] (λ d. recorded_by d.0 (retention config.write_rate) number sync offset bytes answer)
 
 -- a resize that survives, to the size that it reached
 abbrev pub recorded_resize : ResizeFate → ℕ → Option Refusal → List Entry
@@ -58,10 +55,7 @@ live_by (Failed chosen) sync live offset bytes (Some (BlobMissing p n)) = first_
 live_by fate sync live offset bytes answer = live
 
 abbrev pub live_of_write : Config → Stream → Bool → List ℕ → ℕ → List ℕ → Option Refusal → List ℕ
-live_of_write config stream sync live offset bytes answer =
-    if is_nothing sync bytes then live
-    else if is_uncounted offset bytes then live
-    else live_by (write_fate config sync offset (length bytes) stream).0 sync live offset bytes answer
+live_of_write config stream sync live offset bytes answer = by_fate config sync offset bytes stream live live (λ d. live_by d.0 sync live offset bytes answer)
 
 abbrev pub live_of_resize : ResizeFate → List ℕ → ℕ → Option Refusal → List ℕ
 live_of_resize (Resizes survives) live len None = resized live len
@@ -81,10 +75,7 @@ size_by (Failed chosen) size offset bytes (Some Injected) = size_of_runs size (r
 size_by fate size offset bytes answer = size
 
 abbrev pub size_of_write : Config → Stream → Bool → ℕ → ℕ → List ℕ → Option Refusal → ℕ
-size_of_write config stream sync size offset bytes answer =
-    if is_nothing sync bytes then size
-    else if is_uncounted offset bytes then size
-    else size_by (write_fate config sync offset (length bytes) stream).0 size offset bytes answer
+size_of_write config stream sync size offset bytes answer = by_fate config sync offset bytes stream size size (λ d. size_by d.0 size offset bytes answer)
 
 abbrev pub size_of_resize : ResizeFate → ℕ → ℕ → Option Refusal → ℕ
 size_of_resize (Resizes survives) size len None = len

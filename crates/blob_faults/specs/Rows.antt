@@ -17,7 +17,7 @@ rows_of selections = selections.rows.items
 
 -- the table that a crash answers
 abbrev pub table_of : Selections → List Row
-table_of selections = rows_in (rows_of selections)
+table_of selections = map (λ row. (row.0, row.1.items)) selections.rows.items
 
 -- their numbers don't fall
 abbrev pub AreNumbered : List (ℕ × Vec Bool Global) → Type 0

@@ -1,6 +1,7 @@
 -- What a wrapper's calls add to the logs of the files that it stands for.
 use Rattle.std.proofs.Common.{◌≡◌, ◌≢◌, ℕ, ◌<◌, Bool, true, false, List, [], ◌∷◌, length, Option, Some, None, cond, refl, sym, ap, subst, arith}
 use Rattle.std.specs.Prelude.{Result, Ok, Err, OnOk, option_map}
+use Rattle.blob_model.specs.Live.{is_idle}
 use Rattle.blob_model.specs.Places.{Place, same_place}
 use Rattle.blob_model.specs.Directory.{Directory}
 use Rattle.blob_model.specs.Durable.{Durable, changed}
@@ -14,7 +15,6 @@ use Rattle.blob_model.specs.Stands.{StandsFor}
 use Rattle.blob_model.proofs.Bytes.{same_bytes, length-overlay_by, at_other}
 use Rattle.blob_model.proofs.FileSteps.{stands_same}
 use Rattle.blob_faulty.specs.declared.storage.Storage.{Storage}
-use Rattle.blob_faults.specs.Faults.{is_nothing}
 use Rattle.blob_faults.specs.Recorded.{loose, kept}
 use Rattle.blob_faulty.specs.Wrapper.{pending_of, KeepsRecords, Stands}
 
@@ -55,7 +55,7 @@ some_byte [] some = absurd (some refl)
 some_byte (x ∷ b) some = omega arith
 
 -- a write that has something to do
-pub nothing_not : (sync : Bool) (b : List ℕ) → (sync ≡ true → b ≢ []) → is_nothing sync b ≡ false
+pub nothing_not : (sync : Bool) (b : List ℕ) → (sync ≡ true → b ≢ []) → is_idle sync b ≡ false
 nothing_not true [] some = absurd (some refl refl)
 nothing_not true (x ∷ b) some = refl
 nothing_not false b some = refl

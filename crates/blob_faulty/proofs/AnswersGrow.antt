@@ -2,11 +2,12 @@
 use Rattle.std.proofs.Common.{◌≡◌, inl, inr, ℕ, Bool, true, false, List, [], ◌∷◌, length, Option, Some, None}
 use Rattle.std.specs.Prelude.{is_some, MatchBool}
 use Rattle.rand_core.specs.Stream.{Stream}
+use Rattle.blob_model.specs.Live.{is_idle}
 use Rattle.blob_header.specs.Refusals.{Refusal, OffsetOverflow}
 use Rattle.blob_model.specs.Runs.{Run, runs}
 use Rattle.blob_faults.specs.declared.config.Config.{Config}
 use Rattle.blob_faults.specs.Answers.{Allowed, injected_for, or_memory, numbered, lacks_number, last_end, allows_laid, allows_runs, allows_fate, allows_write}
-use Rattle.blob_faults.specs.Faults.{WriteFate, Done, Unsynced, Failed, write_fate, retention, is_nothing, is_uncounted}
+use Rattle.blob_faults.specs.Faults.{WriteFate, Done, Unsynced, Failed, write_fate, retention, is_uncounted}
 
 more_injected : (less more : Allowed) → ((a : Option Refusal) → less a → more a) → (a : Option Refusal) → injected_for less a → injected_for more a
 more_injected less more grow a (inl h) = inl (h.0, grow None h.1)
@@ -48,7 +49,7 @@ module _ (writes writes' : ℕ → List ℕ → Bool → Allowed) (reserves rese
 
   pub more_write : (direct : Bool) (config : Config) (next : ℕ) (stream : Stream) (o : ℕ) (b : List ℕ) (sync : Bool) (a : Option Refusal) →
       allows_write writes' reserves' direct config next stream o b sync a → allows_write writes reserves direct config next stream o b sync a
-  more_write direct config next stream o b sync a h = matched (is_nothing sync b) (a ≡ None) _ _
+  more_write direct config next stream o b sync a h = matched (is_idle sync b) (a ≡ None) _ _
       (matched (is_uncounted o b) (a ≡ Some OffsetOverflow) _ _
       (more_memory (allows_fate (write_fate config sync o (length b) stream).0 writes' reserves' direct (is_some (retention config.write_rate)) next sync o b)
       (allows_fate (write_fate config sync o (length b) stream).0 writes reserves direct (is_some (retention config.write_rate)) next sync o b)

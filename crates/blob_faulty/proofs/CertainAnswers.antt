@@ -4,6 +4,7 @@ use Rattle.std.specs.Prelude.{is_some, MatchBool, ◌↔◌}
 use Rattle.std.proofs.lemmas.Bool.{cond-true, cond-false}
 use Rattle.std.proofs.lemmas.Bool.Decides.{nat_tests}
 use Rattle.rand_core.specs.Stream.{Stream}
+use Rattle.blob_model.specs.Live.{is_idle}
 use Rattle.blob_model.specs.Modes.{Mode}
 use Rattle.blob_model.specs.Rates.{Rate, sampled}
 use Rattle.blob_header.specs.Refusals.{Refusal, OffsetOverflow, Injected}
@@ -13,7 +14,7 @@ use Rattle.blob_faults.specs.declared.config.ResizeConfig.{ResizeConfig}
 use Rattle.blob_faulty.specs.AnswerLaws.{injected_none, numbered_none, memory_none, uncounted_none}
 use Rattle.blob_faults.specs.Answers.{Allowed, injected_or, injected_for, or_memory, numbered, lacks_number, allows_runs, allows_done, allows_fate, allows_write, allows_resize, allows_start}
 use Rattle.blob_faulty.specs.Certain.{IsNever, IsAlways, resize_failure}
-use Rattle.blob_faults.specs.Faults.{draw, write_failure, retention, WriteFate, Done, Unsynced, Failed, failed, not_failed, synced_or_not, write_fate, is_nothing, is_uncounted, ResizeFate, Resizes, Stays, Reaches, partly, resize_fate, size_between}
+use Rattle.blob_faults.specs.Faults.{draw, write_failure, retention, WriteFate, Done, Unsynced, Failed, failed, not_failed, synced_or_not, write_fate, is_uncounted, ResizeFate, Resizes, Stays, Reaches, partly, resize_fate, size_between}
 
 -- The draws.
 
@@ -121,7 +122,7 @@ done_same writes retained next true offset bytes answer left = (λ h. h, λ h. h
 done_same writes retained next false offset bytes answer left = numbered_same (lacks_number retained next bytes) (writes offset bytes false) answer left
 
 pub quiet_write : (writes : ℕ → List ℕ → Bool → Allowed) (reserves : ℕ → Allowed) (direct : Bool) (config : Config) (next : ℕ) (stream : Stream) (offset : ℕ) (bytes : List ℕ) (sync : Bool) (answer : Option Refusal) →
-    IsNever (write_failure config.write_rate) → (sync ≡ true → IsNever config.sync_rate) → is_nothing sync bytes ≡ false → is_uncounted offset bytes ≡ false → lacks_number (is_some (retention config.write_rate)) next bytes ≡ false →
+    IsNever (write_failure config.write_rate) → (sync ≡ true → IsNever config.sync_rate) → is_idle sync bytes ≡ false → is_uncounted offset bytes ≡ false → lacks_number (is_some (retention config.write_rate)) next bytes ≡ false →
     allows_write writes reserves direct config next stream offset bytes sync answer ↔ or_memory (writes offset bytes sync) answer
 quiet_write writes reserves direct config next stream offset bytes sync answer no_write no_sync some counted left =
     let retained : Bool = is_some (retention config.write_rate) in
@@ -170,7 +171,7 @@ pub write_injected : (writes : ℕ → List ℕ → Bool → Allowed) (reserves 
     IsNever (write_failure config.write_rate) → (sync ≡ true → IsNever config.sync_rate) → allows_write writes reserves direct config next stream offset bytes sync (Some Injected) → writes offset bytes sync (Some Injected)
 write_injected writes reserves direct config next stream offset bytes sync no_write no_sync h =
     let retained : Bool = is_some (retention config.write_rate) in
-    let allowed = beyond_overflow (is_uncounted offset bytes) _ (beyond_nothing (is_nothing sync bytes) _ h) in
+    let allowed = beyond_overflow (is_uncounted offset bytes) _ (beyond_nothing (is_idle sync bytes) _ h) in
     done_injected writes retained next sync offset bytes (memory_injected (allows_done writes retained next sync offset bytes)
     (subst (λ (f : WriteFate). or_memory (allows_fate f writes reserves direct retained next sync offset bytes) (Some Injected)) (never_failed config sync offset (length bytes) stream no_write no_sync) allowed))
 
@@ -203,7 +204,7 @@ undone_none Unsynced writes reserves direct retained next sync offset bytes e h 
 undone_none (Failed kept) writes reserves direct retained next sync offset bytes e h = injected_none (allows_runs writes reserves direct (runs offset bytes kept)) h
 
 undone_write : (writes : ℕ → List ℕ → Bool → Allowed) (reserves : ℕ → Allowed) (direct : Bool) (config : Config) (next : ℕ) (stream : Stream) (offset : ℕ) (bytes : List ℕ) (sync : Bool) →
-    is_done (write_fate config sync offset (length bytes) stream).0 ≡ false → is_nothing sync bytes ≡ false → allows_write writes reserves direct config next stream offset bytes sync None → ⊥
+    is_done (write_fate config sync offset (length bytes) stream).0 ≡ false → is_idle sync bytes ≡ false → allows_write writes reserves direct config next stream offset bytes sync None → ⊥
 undone_write writes reserves direct config next stream offset bytes sync undone some h =
     let retained : Bool = is_some (retention config.write_rate) in
     let fate : WriteFate = (write_fate config sync offset (length bytes) stream).0 in
@@ -212,9 +213,9 @@ undone_write writes reserves direct config next stream offset bytes sync undone 
     (subst (λ (b : Bool). MatchBool b (◌≡◌ {A = Option Refusal} None None) (MatchBool (is_uncounted offset bytes) (◌≡◌ {A = Option Refusal} None (Some OffsetOverflow)) (or_memory (allows_fate fate writes reserves direct retained next sync offset bytes) None))) some h)
 
 pub write_fails : (writes : ℕ → List ℕ → Bool → Allowed) (reserves : ℕ → Allowed) (direct : Bool) (config : Config) (next : ℕ) (stream : Stream) (offset : ℕ) (bytes : List ℕ) (sync : Bool) →
-    IsAlways (write_failure config.write_rate) → is_nothing sync bytes ≡ false → allows_write writes reserves direct config next stream offset bytes sync None → ⊥
+    IsAlways (write_failure config.write_rate) → is_idle sync bytes ≡ false → allows_write writes reserves direct config next stream offset bytes sync None → ⊥
 write_fails writes reserves direct config next stream offset bytes sync always = undone_write writes reserves direct config next stream offset bytes sync (always_failed config sync offset (length bytes) stream always)
 
 pub synced_fails : (writes : ℕ → List ℕ → Bool → Allowed) (reserves : ℕ → Allowed) (direct : Bool) (config : Config) (next : ℕ) (stream : Stream) (offset : ℕ) (bytes : List ℕ) →
-    IsAlways config.sync_rate → is_nothing true bytes ≡ false → allows_write writes reserves direct config next stream offset bytes true None → ⊥
+    IsAlways config.sync_rate → is_idle true bytes ≡ false → allows_write writes reserves direct config next stream offset bytes true None → ⊥
 synced_fails writes reserves direct config next stream offset bytes always = undone_write writes reserves direct config next stream offset bytes true (always_unsynced config offset (length bytes) stream always)

@@ -2,15 +2,16 @@
 use Rattle.std.proofs.Common.{◌≡◌, inl, inr, ℕ, ◌+◌, Bool, true, false, not, ◌&&◌, List, [], ◌∷◌, length, Option, Some, None, subst, if◌then◌else◌}
 use Rattle.std.specs.Prelude.{MatchBool}
 use Rattle.rand_core.specs.Stream.{Stream}
+use Rattle.blob_model.specs.Live.{is_idle}
 use Rattle.blob_model.specs.Directory.{Directory, is_current}
 use Rattle.blob_model.specs.Places.{Place}
 use Rattle.blob_header.specs.Refusals.{Refusal, BlobMissing, OffsetOverflow}
 use Rattle.blob_model.specs.Runs.{Run, runs}
 use Rattle.blob_faults.specs.declared.config.Config.{Config}
 use Rattle.blob_faults.specs.Answers.{Allowed, or_memory, injected_for, numbered, one_then, allows_laid, allows_runs, allows_fate, allows_write}
-use Rattle.blob_faults.specs.Faults.{WriteFate, Done, Unsynced, Failed, write_fate, is_nothing, is_uncounted}
+use Rattle.blob_faults.specs.Faults.{WriteFate, Done, Unsynced, Failed, write_fate, is_uncounted}
 use Rattle.blob_memory.specs.Answers as memory
-use Rattle.blob_memory.specs.Answers.{AllowsWrite, OrMemory, write_refusal, end_refusal, missing, is_idle}
+use Rattle.blob_memory.specs.Answers.{AllowsWrite, OrMemory, write_refusal, end_refusal, missing}
 
 -- an answer isn't allowed
 abbrev IsNot : Allowed → Option Refusal → Type 0
@@ -59,7 +60,7 @@ module _ (p n : List ℕ) where
 
     not_missing : (direct : Bool) (config : Config) (next : ℕ) (stream : Stream) (offset : ℕ) (bytes : List ℕ) (sync : Bool) → allows_write writes reserves direct config next stream offset bytes sync gone → ⊥
     not_missing direct config next stream offset bytes sync h =
-        not_beyond (is_nothing sync bytes) None _ (λ e. cc) (λ k.
+        not_beyond (is_idle sync bytes) None _ (λ e. cc) (λ k.
         not_beyond (is_uncounted offset bytes) (Some OffsetOverflow) _ (λ e. cc) (λ m.
         not_memory (allows_fate (write_fate config sync offset (length bytes) stream).0 writes reserves direct _ next sync offset bytes) (not_by_fate (write_fate config sync offset (length bytes) stream).0 direct _ next sync offset bytes) m) k) h
 

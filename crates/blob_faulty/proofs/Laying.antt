@@ -4,7 +4,7 @@ use Rattle.std.proofs.lemmas.Bool.{cond_both, cases_lt, false≢true}
 use Rattle.std.proofs.lemmas.List.{get_or_past}
 use Rattle.rand_core.specs.Stream.{Stream}
 use Rattle.blob_model.specs.Bytes.{overlay_by, overlay, resized, written}
-use Rattle.blob_model.specs.Live.{live_written, all_written}
+use Rattle.blob_model.specs.Live.{live_written, all_written, is_idle}
 use Rattle.blob_model.specs.Log.{Choices, crashed}
 use Rattle.blob_model.specs.Modes.{Mode}
 use Rattle.blob_model.specs.Rates.{Rate, sampled}
@@ -15,7 +15,7 @@ use Rattle.blob_model.proofs.Runs.{AreSome, laid_runs, runs_some}
 use Rattle.blob_faults.specs.declared.config.Config.{Config}
 use Rattle.blob_faults.specs.declared.config.ResizeConfig.{ResizeConfig}
 use Rattle.blob_faulty.specs.Certain.{IsNever, partial_resizes}
-use Rattle.blob_faults.specs.Faults.{WriteFate, Done, Unsynced, Failed, ResizeFate, Resizes, Stays, Reaches, write_fate, resize_fate, partly, size_between, retention, is_nothing, is_uncounted}
+use Rattle.blob_faults.specs.Faults.{WriteFate, Done, Unsynced, Failed, ResizeFate, Resizes, Stays, Reaches, write_fate, resize_fate, partly, size_between, retention, is_uncounted}
 use Rattle.blob_faulty.specs.Outcomes.{LaysSome, WritesSome}
 use Rattle.blob_faults.specs.Recorded.{loose, kept, recorded_by, recorded_write, recorded_resize, live_by, live_of_write, live_of_resize, size_by, size_of_write, size_of_resize, size_of_runs}
 use Rattle.blob_faulty.proofs.CertainAnswers.{never_drawn}
@@ -51,7 +51,7 @@ by_fate_laid fate k n sync o b answer t = none_laid o b t
 
 pub write_laid : (config : Config) (n : ℕ) (stream : Stream) (sync : Bool) (o : ℕ) (b : List ℕ) (answer : Option Refusal) (t : Choices) → LaysSome o b (recorded_write config n stream sync o b answer) t
 write_laid config n stream sync o b answer t =
-    cond_both (is_nothing sync b) [] _ (λ es. LaysSome o b es t) (λ _. none_laid o b t)
+    cond_both (is_idle sync b) [] _ (λ es. LaysSome o b es t) (λ _. none_laid o b t)
     (λ _. cond_both (is_uncounted o b) [] _ (λ es. LaysSome o b es t) (λ _. none_laid o b t)
     (λ _. by_fate_laid (write_fate config sync o (length b) stream).0 (retention config.write_rate) n sync o b answer t))
 
@@ -162,7 +162,7 @@ by_fate_written fate sync live o b answer found = none_written live o b
 
 pub live_laid : (config : Config) (stream : Stream) (sync : Bool) (live : List ℕ) (o : ℕ) (b : List ℕ) (answer : Option Refusal) → IsFound answer → WritesSome o b live (live_of_write config stream sync live o b answer)
 live_laid config stream sync live o b answer found =
-    cond_both (is_nothing sync b) live _ (λ x. WritesSome o b live x) (λ _. none_written live o b)
+    cond_both (is_idle sync b) live _ (λ x. WritesSome o b live x) (λ _. none_written live o b)
     (λ _. cond_both (is_uncounted o b) live _ (λ x. WritesSome o b live x) (λ _. none_written live o b)
     (λ _. by_fate_written (write_fate config sync o (length b) stream).0 sync live o b answer found))
 
@@ -175,12 +175,12 @@ runs_sized : (size : ℕ) (live : List ℕ) (rs : List Run) → size ≡ length 
 runs_sized size live [] e = e
 runs_sized size live (r ∷ rs) e = runs_sized (max size (r.0 + length r.1)) (written live r.0 r.1) rs (write_sized size live r.0 r.1 e)
 
-done_sized : (sync : Bool) (size : ℕ) (live : List ℕ) (o : ℕ) (b : List ℕ) → is_nothing sync b ≡ false → size ≡ length live → max size (o + length b) ≡ length (live_written sync live o b)
+done_sized : (sync : Bool) (size : ℕ) (live : List ℕ) (o : ℕ) (b : List ℕ) → is_idle sync b ≡ false → size ≡ length live → max size (o + length b) ≡ length (live_written sync live o b)
 done_sized true size live o [] some e = absurd (false≢true (sym some))
 done_sized true size live o (x ∷ b) some e = write_sized size live o (x ∷ b) e
 done_sized false size live o b some e = write_sized size live o b e
 
-by_fate_sized : (fate : WriteFate) (sync : Bool) (size : ℕ) (live : List ℕ) (o : ℕ) (b : List ℕ) (answer : Option Refusal) → is_nothing sync b ≡ false → IsFound answer → size ≡ length live →
+by_fate_sized : (fate : WriteFate) (sync : Bool) (size : ℕ) (live : List ℕ) (o : ℕ) (b : List ℕ) (answer : Option Refusal) → is_idle sync b ≡ false → IsFound answer → size ≡ length live →
     size_by fate size o b answer ≡ length (live_by fate sync live o b answer)
 by_fate_sized Done sync size live o b None some found e = done_sized sync size live o b some e
 by_fate_sized Done sync size live o b (Some (BlobMissing p n)) some found e = absurd (found p n refl)
@@ -193,12 +193,12 @@ by_fate_sized fate sync size live o b answer some found e = e
 
 pub sized_after_write : (config : Config) (stream : Stream) (sync : Bool) (size : ℕ) (live : List ℕ) (o : ℕ) (b : List ℕ) (answer : Option Refusal) → IsFound answer → size ≡ length live →
     size_of_write config stream sync size o b answer ≡ length (live_of_write config stream sync live o b answer)
-sized_after_write config stream sync size live o b answer found e = go (is_nothing sync b) (is_uncounted o b) refl
+sized_after_write config stream sync size live o b answer found e = go (is_idle sync b) (is_uncounted o b) refl
   where
     fate : WriteFate
     fate = (write_fate config sync o (length b) stream).0
 
-    go : (nothing uncounted : Bool) → is_nothing sync b ≡ nothing → (if nothing then size else if uncounted then size else size_by fate size o b answer)
+    go : (nothing uncounted : Bool) → is_idle sync b ≡ nothing → (if nothing then size else if uncounted then size else size_by fate size o b answer)
         ≡ length (if nothing then live else if uncounted then live else live_by fate sync live o b answer)
     go true uncounted some = e
     go false true some = e

@@ -2,10 +2,10 @@
 use Rattle.std.proofs.Common.{◌≡◌, ℕ, List, Option, Some, None, sym, ap, subst, refl}
 use Rattle.std.specs.Prelude.{is_some}
 use Rattle.blob_model.specs.Places.{Place}
-use Rattle.blob_model.specs.Directory.{Directory, is_current}
+use Rattle.blob_model.specs.Directory.{Directory, is_current, removed}
 use Rattle.blob_model.specs.Durable.{Durable, durable_without}
 use Rattle.blob_model.specs.Files.{after_open, after_remove, ends_by}
-use Rattle.blob_model.specs.Opening.{IsOpened, removed}
+use Rattle.blob_model.specs.Opening.{IsOpened}
 use Rattle.blob_model.specs.Stands.{StandsFor}
 use Rattle.blob_model.proofs.FileSteps.{stands_same, stands_done}
 use Rattle.blob_model.proofs.NameSteps.{stands_opened, stands_removed}

@@ -2,14 +2,14 @@
 use Rattle.std.specs.Prelude.{ℕ, ◌<◌, List}
 use Rattle.blob_model.specs.Directory.{Directory}
 use Rattle.blob_model.specs.Durable.{Durable}
-use Rattle.blob_model.specs.Files.{Files, synced, started}
+use Rattle.blob_model.specs.Files.{Files, started, published}
 use Rattle.blob_model.specs.Places.{Place}
 use Rattle.blob_faulty.specs.declared.storage.Storage.{Storage}
 use Rattle.blob_faulty.specs.Wrapper.{Stands}
 
 -- whatever files a wrapper stood for, it now stands for them with an incarnation's base these live bytes, and its log empty
 abbrev pub Publishes : {S R O : Type 0} → (O → Place) → Directory → Durable → Durable → Storage S R O → Storage S R O → Place → List ℕ → Type 0
-Publishes place names bytes bytes' old new o live = (files : Files) → Stands place names bytes old files → Stands place names bytes' new (synced files o live)
+Publishes place names bytes bytes' old new o live = (files : Files) → Stands place names bytes old files → Stands place names bytes' new (published files o live)
 
 -- the same by a started sync, which takes the next marker
 abbrev pub Starts : {S R O : Type 0} → (O → Place) → Directory → Durable → Durable → Storage S R O → Storage S R O → Place → List ℕ → Type 0

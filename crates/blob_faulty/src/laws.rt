@@ -1,5 +1,6 @@
 //! What a wrapper's handles may answer where their draws are certain, and what a call that records nothing keeps.
 ghost use Rattle.std.specs.Prelude.{◌≡◌, ◌<◌, ◌-◌, ◌^◌, ◌↔◌, ℕ, List, Bool, true, false, Option, Some, None, is_some};
+ghost use Rattle.blob_model.specs.Live.{is_idle};
 ghost use Rattle.blob_model.specs.Directory.{Directory};
 ghost use Rattle.blob_model.specs.Durable.{Durable};
 ghost use Rattle.blob_model.specs.Files.{Files};
@@ -8,7 +9,7 @@ ghost use Rattle.blob_faulty.specs.declared.blob.Blob.{Blob};
 ghost use Rattle.blob_faulty.specs.declared.storage.Storage.{Storage};
 ghost use Rattle.blob_faults.specs.Answers.{or_memory, lacks_number};
 ghost use Rattle.blob_faulty.specs.Certain.{IsNever, IsAlways, resize_failure};
-ghost use Rattle.blob_faults.specs.Faults.{write_failure, retention, is_nothing, is_uncounted};
+ghost use Rattle.blob_faults.specs.Faults.{write_failure, retention, is_uncounted};
 ghost use Rattle.blob_faulty.specs.Wrapper.{inner_of, config_of, next_write_of, next_marker_of, inside, KeepsRecords, Stands};
 
 pub mod current_handles;
@@ -28,7 +29,7 @@ pub fn without_faults<S: blob_base::Storage, R: Rng, B: blob_base::Blob<S>>()
         ⟦<Blob<B> as blob_base::Blob<Storage<S, R>>>⟧.allows_read b s offset len answer ↔ B.allows_read (inside b) (inner_of s) offset len answer }
     ensures writes { (b : Blob B) (s : Storage S R S.Origin) (offset : ℕ) (bytes : List ℕ) (sync : Bool) (answer : Option Refusal) →
         IsNever (write_failure (config_of s).write_rate) → (sync ≡ true → IsNever (config_of s).sync_rate) →
-        is_nothing sync bytes ≡ false → is_uncounted offset bytes ≡ false → lacks_number (is_some (retention (config_of s).write_rate)) (next_write_of s) bytes ≡ false →
+        is_idle sync bytes ≡ false → is_uncounted offset bytes ≡ false → lacks_number (is_some (retention (config_of s).write_rate)) (next_write_of s) bytes ≡ false →
         ⟦<Blob<B> as blob_base::Blob<Storage<S, R>>>⟧.allows_write b s offset bytes sync answer ↔ or_memory (B.allows_write (inside b) (inner_of s) offset bytes sync) answer }
     ensures resizes { (b : Blob B) (s : Storage S R S.Origin) (len : ℕ) (answer : Option Refusal) → IsNever (resize_failure (config_of s).resize_rate) →
         ⟦<Blob<B> as blob_base::Blob<Storage<S, R>>>⟧.allows_resize b s len answer ↔ or_memory (B.allows_resize (inside b) (inner_of s) len) answer }
@@ -57,9 +58,9 @@ pub fn faults_are_drawn<S: blob_base::Storage, R: Rng, B: blob_base::Blob<S>>()
 pub fn certain_faults<S: blob_base::Storage, R: Rng, B: blob_base::Blob<S>>()
     ensures reads { (b : Blob B) (s : Storage S R S.Origin) (offset len : ℕ) → IsAlways (config_of s).read_rate →
         ⟦<Blob<B> as blob_base::Blob<Storage<S, R>>>⟧.allows_read b s offset len None → ⊥ }
-    ensures writes { (b : Blob B) (s : Storage S R S.Origin) (offset : ℕ) (bytes : List ℕ) (sync : Bool) → IsAlways (write_failure (config_of s).write_rate) → is_nothing sync bytes ≡ false →
+    ensures writes { (b : Blob B) (s : Storage S R S.Origin) (offset : ℕ) (bytes : List ℕ) (sync : Bool) → IsAlways (write_failure (config_of s).write_rate) → is_idle sync bytes ≡ false →
         ⟦<Blob<B> as blob_base::Blob<Storage<S, R>>>⟧.allows_write b s offset bytes sync None → ⊥ }
-    ensures synced_writes { (b : Blob B) (s : Storage S R S.Origin) (offset : ℕ) (bytes : List ℕ) → IsAlways (config_of s).sync_rate → is_nothing true bytes ≡ false →
+    ensures synced_writes { (b : Blob B) (s : Storage S R S.Origin) (offset : ℕ) (bytes : List ℕ) → IsAlways (config_of s).sync_rate → is_idle true bytes ≡ false →
         ⟦<Blob<B> as blob_base::Blob<Storage<S, R>>>⟧.allows_write b s offset bytes true None → ⊥ }
     ensures resizes { (b : Blob B) (s : Storage S R S.Origin) (len : ℕ) → IsAlways (resize_failure (config_of s).resize_rate) →
         ⟦<Blob<B> as blob_base::Blob<Storage<S, R>>>⟧.allows_resize b s len None → ⊥ }

@@ -1,11 +1,12 @@
 //! Opens, removals, scans and finished syncs of the wrapper.
 ghost use Rattle.std.specs.Prelude.{◌≡◌, ◌≤◌, ℕ, Bool, true, false, Option, Some, None, is_some, IsTrue, OnOk, OnErr, IfOk, length, map, option_copied};
 ghost use Rattle.std.specs.Range.{range_inclusive_start, range_inclusive_end, range_inclusive_exhausted};
+ghost use Rattle.blob_model.specs.Directory.{removed};
 ghost use Rattle.blob_model.specs.Durable.{durable_without};
 ghost use Rattle.blob_model.specs.Files.{after_open, after_remove, ends_by};
 ghost use Rattle.blob_base.specs.Handles.{outcome_of, marker_of};
 ghost use Rattle.blob_base.specs.Names.{AreNames};
-ghost use Rattle.blob_model.specs.Opening.{IsOpened, removed};
+ghost use Rattle.blob_model.specs.Opening.{IsOpened};
 ghost use Rattle.blob_model.specs.Places.{Place};
 ghost use Rattle.blob_header.specs.Refusals.{refused};
 ghost use Rattle.blob_faults.specs.Answers.{injected_or};

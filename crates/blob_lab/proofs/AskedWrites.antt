@@ -1,6 +1,7 @@
 -- What is asked of a handle by a write and by a resize, from what the wrapper promises of them.
 use Rattle.std.proofs.Common.{inl, [], false, refl, ap, ◌≡◌, ◌≢◌, ℕ, ◌<◌, inr, List, Bool, true, Option, Some, None, sym, ◌∙◌, subst, length, if◌then◌else◌}
 use Rattle.std.specs.Prelude.{is_some}
+use Rattle.blob_model.specs.Live.{is_idle}
 use Rattle.blob_model.specs.Directory.{Directory}
 use Rattle.blob_model.specs.Files.{Files, all_logged}
 use Rattle.blob_model.specs.Log.{Entry}
@@ -11,7 +12,7 @@ use Rattle.blob_header.specs.declared.error.Error.{Error}
 use Rattle.blob_faults.specs.Answers.{allows_write, allows_fate, allows_resize, injected_for}
 use Rattle.blob_model.specs.Modes.{Mode}
 use Rattle.blob_model.specs.Rates.{Rate}
-use Rattle.blob_faults.specs.Faults.{WriteFate, Done, Unsynced, Failed, ResizeFate, Resizes, Stays, Reaches, write_fate, resize_fate, retention, is_nothing, is_uncounted, after_write}
+use Rattle.blob_faults.specs.Faults.{WriteFate, Done, Unsynced, Failed, ResizeFate, Resizes, Stays, Reaches, write_fate, resize_fate, retention, is_uncounted, after_write}
 use Rattle.blob_faults.specs.Recorded.{recorded_by, live_by, size_by, recorded_write, recorded_resize, live_of_write, live_of_resize, size_of_write, size_of_resize}
 use Rattle.blob_faulty.specs.Wrapper.{Stands, Adds, config_of, inner_of as store_of, next_write_of}
 use Rattle.blob_memory.specs.Answers.{OrMemory, AllowsWrite, end_refusal}
@@ -42,7 +43,7 @@ module _ (w w' : Wrapper) (h h' : Held) (room : Bool → ℕ) (offset : ℕ) (by
     (names : directory (store_of w') ≡ directory (store_of w)) (config : config_of w' ≡ config_of w) (place : h'.place ≡ h.place) (registration : h'.registration ≡ h.registration) where
   abbrev denial : Directory → ℕ → Option Refusal
   denial d next =
-      if is_nothing sync bytes then None
+      if is_idle sync bytes then None
       else if is_uncounted offset bytes then Some OffsetOverflow
       else fate_denial (write_fate (config_of w) sync offset (length bytes) (stream_of w)).0 d h.place (is_some (retention (config_of w).write_rate)) next sync offset bytes
 
@@ -61,7 +62,7 @@ module _ (w w' : Wrapper) (h h' : Held) (room : Bool → ℕ) (offset : ℕ) (by
 
   denied : (answer : Option Refusal) → allowed answer → OrMemory (denial (directory (store_of w)) (next_write_of w)) answer
   denied answer a =
-      counted_denial (is_nothing sync bytes) (is_uncounted offset bytes)
+      counted_denial (is_idle sync bytes) (is_uncounted offset bytes)
       (allows_fate (write_fate (config_of w) sync offset (length bytes) (stream_of w)).0 (λ o b s. AllowsWrite (directory (store_of w)) h.place room o b s) (λ end. OrMemory (end_refusal h.place end)) true (is_some (retention (config_of w).write_rate)) (next_write_of w) sync offset bytes)
       (fate_denial (write_fate (config_of w) sync offset (length bytes) (stream_of w)).0 (directory (store_of w)) h.place (is_some (retention (config_of w).write_rate)) (next_write_of w) sync offset bytes)
       (fate_denied (directory (store_of w)) h.place room (write_fate (config_of w) sync offset (length bytes) (stream_of w)).0 (is_some (retention (config_of w).write_rate)) (next_write_of w) sync offset bytes apart)
@@ -146,13 +147,13 @@ write_unasked w h offset bytes sync e memory =
     let fate = (write_fate (config_of w) sync offset (length bytes) (stream_of w)).0 in
     let entries : (n : ℕ) → recorded_write (config_of w) n (stream_of w) sync offset bytes (Some (refusal_of e)) ≡ [] = λ n.
     ap (recorded_write (config_of w) n (stream_of w) sync offset bytes) memory
-    ∙ unless_either (is_nothing sync bytes) (is_uncounted offset bytes) [] (recorded_by fate (retention (config_of w).write_rate) n sync offset bytes (Some Memory)) (recorded_memory fate (retention (config_of w).write_rate) n sync offset bytes) in
+    ∙ unless_either (is_idle sync bytes) (is_uncounted offset bytes) [] (recorded_by fate (retention (config_of w).write_rate) n sync offset bytes (Some Memory)) (recorded_memory fate (retention (config_of w).write_rate) n sync offset bytes) in
     let live : live_of_write (config_of w) (stream_of w) sync h.live offset bytes (Some (refusal_of e)) ≡ h.live =
     ap (live_of_write (config_of w) (stream_of w) sync h.live offset bytes) memory
-    ∙ unless_either (is_nothing sync bytes) (is_uncounted offset bytes) h.live (live_by fate sync h.live offset bytes (Some Memory)) (live_memory fate sync h.live offset bytes) in
+    ∙ unless_either (is_idle sync bytes) (is_uncounted offset bytes) h.live (live_by fate sync h.live offset bytes (Some Memory)) (live_memory fate sync h.live offset bytes) in
     let size : size_of_write (config_of w) (stream_of w) sync h.size offset bytes (Some (refusal_of e)) ≡ h.size =
     ap (size_of_write (config_of w) (stream_of w) sync h.size offset bytes) memory
-    ∙ unless_either (is_nothing sync bytes) (is_uncounted offset bytes) h.size (size_by fate h.size offset bytes (Some Memory)) (size_memory fate h.size offset bytes) in
+    ∙ unless_either (is_idle sync bytes) (is_uncounted offset bytes) h.size (size_by fate h.size offset bytes (Some Memory)) (size_memory fate h.size offset bytes) in
     asks_by w w h h (Write offset bytes sync) (reply.Failed e)
     (λ v u. inl (refl, memory))
     (λ v u below. subst (λ (es : List Entry). IsFor w (all_logged v.files h.place es)) (sym (entries v.files.next_write)) u.files)

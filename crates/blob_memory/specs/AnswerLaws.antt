@@ -4,12 +4,13 @@ use Rattle.std.proofs.Common.{refl, sym, ap, subst, ◌∙◌, inl, inr, arith, 
 use Rattle.std.proofs.lemmas.Bool.{false≢true, le-ltb}
 use Rattle.std.proofs.lemmas.Bool.Decides.{nat_tests}
 use Rattle.std.proofs.lemmas.Option.{none-some}
+use Rattle.blob_model.specs.Live.{is_idle}
 use Rattle.blob_model.specs.Directory.{Directory, is_current}
 use Rattle.blob_model.specs.Places.{Place}
 use Rattle.blob_header.specs.Refusals.{Refusal, OffsetOverflow, Injected, Memory}
 use Rattle.blob_memory.specs.declared.blob.Blob.{Blob}
 use Rattle.blob_memory.specs.declared.storage.Storage.{Storage}
-use Rattle.blob_memory.specs.Answers.{is_uncounted, is_idle, missing, write_refusal, end_refusal, OrMemory, AllowsWrite}
+use Rattle.blob_memory.specs.Answers.{is_uncounted, missing, write_refusal, end_refusal, OrMemory, AllowsWrite}
 use Rattle.blob_memory.specs.Contents.{vec_at}
 use Rattle.blob_memory.specs.Store.{directory, place, live_room, room, room_in, room_for}
 

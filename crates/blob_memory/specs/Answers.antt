@@ -2,6 +2,7 @@
 use Rattle.std.specs.Prelude.{◌≡◌, ◌⊎◌, ℕ, ◌+◌, ◌-◌, ◌^◌, ◌==◌, nat_lt, nat_le, Bool, true, false, not, ◌&&◌, ◌||◌, if◌then◌else◌, List, [], ◌∷◌, length, Option, Some, None, is_none, IsTrue}
 use Rattle.hex.specs.Hex.{encode_lower}
 use Rattle.blob_model.specs.Directory.{Directory, is_current}
+use Rattle.blob_model.specs.Live.{is_idle}
 use Rattle.blob_model.specs.Opening.{Opening, Continues, Begins, Declines, opening}
 use Rattle.blob_header.specs.PartitionName.{is_partition_name}
 use Rattle.blob_model.specs.Places.{Place}
@@ -20,12 +21,6 @@ read_refusal o live offset len =
     if is_uncounted (offset + o.start + len) then Some OffsetOverflow
     else if nat_lt (length live) (offset + len) then Some BlobInsufficientLength
     else None
-
--- a SYNC write of no bytes does nothing
-abbrev pub is_idle : Bool → List ℕ → Bool
-is_idle true [] = true
-is_idle true (b ∷ bytes) = false
-is_idle false bytes = false
 
 abbrev pub write_refusal : Directory → Place → ℕ → List ℕ → Bool → Option Refusal
 write_refusal d o offset bytes sync =
@@ -65,16 +60,13 @@ partition_refusal d p =
     else None
 
 -- the same, then a name that isn't there
-abbrev pub name_refusal : Directory → List ℕ → List ℕ → Option Refusal
-name_refusal d p n =
+abbrev pub remove_refusal : Directory → List ℕ → Option (List ℕ) → Option Refusal
+remove_refusal d p None = partition_refusal d p
+remove_refusal d p (Some n) =
     if not (is_partition_name p) then Some (PartitionNameInvalid p)
     else if not (d.has_partition p) then Some (PartitionMissing p)
     else if is_none (d.file p n) then Some (BlobMissing p (encode_lower n))
     else None
-
-abbrev pub remove_refusal : Directory → List ℕ → Option (List ℕ) → Option Refusal
-remove_refusal d p None = partition_refusal d p
-remove_refusal d p (Some n) = name_refusal d p n
 
 -- a call that takes memory answers so, or that there is none
 abbrev pub OrMemory : Option Refusal → Option Refusal → Type 0

@@ -11,7 +11,7 @@ use Rattle.blob_model.specs.Bytes.{overlay}
 use Rattle.blob_model.specs.Log.{Entry, Kept, Loose, Resized, Write, need_of}
 use Rattle.blob_model.specs.Pending.{Pending, Waiting, Cut, Marker, laid, finished}
 use Rattle.blob_model.specs.Runs.{Run, runs, kept_runs, all_laid, all_behind}
-use Rattle.blob_model.specs.Files.{Files, Logged, log_of, without, Rising, Above, from_after, logged, all_logged, published, synced, started, durable_at, admitted_at, admitted, wrapped}
+use Rattle.blob_model.specs.Files.{Files, Logged, log_of, without, Rising, Above, from_after, logged, all_logged, published, started, durable_at, admitted_at, admitted, wrapped}
 use Rattle.blob_model.specs.Durable.{with_at}
 use Rattle.blob_model.specs.Stands.{StandsForFile, StandsAt, StandsFor, retired}
 use Rattle.blob_model.specs.Durable.{changed}
@@ -224,7 +224,7 @@ stands_partly names bytes bytes' lists lists' write marker f o p b chosen old ov
 -- a sync
 pub stands_synced : (names : Directory) (bytes bytes' : Durable) (lists lists' : Place → List Pending) (write marker : ℕ) (f : Files) (o : Place) (live : List ℕ) →
     ((a : Place) → bytes' a ≡ changed bytes o (λ _. live) a) → ((a : Place) → lists' a ≡ with_at lists o [] a) →
-    StandsFor names bytes lists write marker f → StandsFor names bytes' lists' write marker (synced f o live)
+    StandsFor names bytes lists write marker f → StandsFor names bytes' lists' write marker (published f o live)
 stands_synced names bytes bytes' lists lists' write marker f o live over new s = record {
   directory = s.directory;
   at = λ a. four _ _ _ _ _ _ _ _ (over a ∙ changed_is bytes o (λ _. live) a) (new a) refl (log_without f.log (same_place o) a) (changed_at (same_place o a) _ _ _ _ _ _ _ _ (here (bytes o)) (s.at a));

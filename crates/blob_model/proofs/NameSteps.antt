@@ -6,11 +6,11 @@ use Rattle.std.proofs.lemmas.Bool.{eq-eqb, and_from, cond-true}
 use Rattle.blob_header.specs.declared.layout.Layout.{Layout}
 use Rattle.blob_model.specs.Places.{Place, same_place}
 use Rattle.blob_model.specs.SamePlace.{same_at, same_self}
-use Rattle.blob_model.specs.Directory.{Directory, File, Raw, Incarnation, is_that, is_current, place_made, directory_made}
+use Rattle.blob_model.specs.Directory.{Directory, File, Raw, Incarnation, is_that, is_current, place_made, directory_made, removed}
 use Rattle.blob_header.specs.Header.{data_start, region}
 use Rattle.blob_model.specs.Durable.{Durable, with_at, is_under, durable_without}
 use Rattle.blob_model.specs.Log.{Entry}
-use Rattle.blob_model.specs.Opening.{opening, place_of, IsOpened, Continued, Begun, removed}
+use Rattle.blob_model.specs.Opening.{opening, place_of, IsOpened, Continued, Begun}
 use Rattle.blob_model.specs.Pending.{Pending}
 use Rattle.blob_model.specs.Files.{Files, log_of, without, made, opened, after_open, ends_by, after_remove, raw_again, directory_again, durable_at, reopened}
 use Rattle.blob_model.specs.Stands.{StandsFor, StandsAt}

@@ -7,7 +7,7 @@ use Rattle.std.proofs.lemmas.List.{length-replicate}
 use Rattle.rand_core.specs.Stream.{Stream}
 use Rattle.blob_model.specs.Modes.{Mode, Prefix, Subset, Sectors}
 use Rattle.blob_model.specs.Rates.{Rate, sampled}
-use Rattle.blob_model.specs.Draws.{front, each, sectors, positions, with_choice, touched}
+use Rattle.blob_model.specs.Draws.{front, each, sectors, positions, with_first, touched}
 
 -- one choice for each byte
 length-front : (rate : Rate) (n : ℕ) (s : Stream) → length (front rate n s).0 ≡ n
@@ -39,8 +39,8 @@ pub sectors_one : (rate : Rate) (p : ℕ) (first last : Bool) (n : ℕ) (s : Str
 unfolding sectors each
 sectors_one rate p first last zero s = refl
 sectors_one rate p first last (suc n) s =
-    ap (λ (d : Bool × Stream). with_choice d.0 (sectors rate 1 (p + 1) false d.0 n d.1)) (cond-true (first || eqb (p % 1) 0) (sampled rate s) (last, s) (or_right first (eqb (p % 1) 0) (eq-eqb (p % 1) 0 (omega arith))))
-    ∙ ap (λ r. with_choice (sampled rate s).0 r) (sectors_one rate (p + 1) false (sampled rate s).0 n (sampled rate s).1)
+    ap (λ (d : Bool × Stream). with_first d.0 (sectors rate 1 (p + 1) false d.0 n d.1)) (cond-true (first || eqb (p % 1) 0) (sampled rate s) (last, s) (or_right first (eqb (p % 1) 0) (eq-eqb (p % 1) 0 (omega arith))))
+    ∙ ap (λ r. with_first (sampled rate s).0 r) (sectors_one rate (p + 1) false (sampled rate s).0 n (sampled rate s).1)
 
 -- no sector starts between two positions of one sector
 no_start : (size a m b : ℕ) → 0 < size → a < m → m ≤ b → a / size ≡ b / size → m % size ≡ 0 → ⊥
@@ -173,7 +173,7 @@ kept_front rate (suc n) s i j le e = go (sampled rate s).0 (λ i j. kept_front r
     more (suc i) (suc j) ih le e = ih i j (omega arith) e
 
     go : (t : Bool) → ((i j : ℕ) → i ≤ j → get_or (front rate n (sampled rate s).1).0 j false ≡ true → get_or (front rate n (sampled rate s).1).0 i false ≡ true) →
-        get_or (cond t (with_choice true (front rate n (sampled rate s).1)) (replicate (suc n) false, (sampled rate s).1)).0 j false ≡ true →
-        get_or (cond t (with_choice true (front rate n (sampled rate s).1)) (replicate (suc n) false, (sampled rate s).1)).0 i false ≡ true
+        get_or (cond t (with_first true (front rate n (sampled rate s).1)) (replicate (suc n) false, (sampled rate s).1)).0 j false ≡ true →
+        get_or (cond t (with_first true (front rate n (sampled rate s).1)) (replicate (suc n) false, (sampled rate s).1)).0 i false ≡ true
     go true ih e = more i j ih le e
     go false ih e = absurd (true≢false (sym e ∙ none_of (suc n) j))

@@ -53,13 +53,7 @@ place_made d p n layout = record { partition = p; name = n; number = d.next; sta
 abbrev pub directory_made : Directory → List ℕ → List ℕ → Layout → ℕ → Directory
 directory_made d p n layout version = record { has_partition = with_partition d.has_partition p true; file = with_file d.file p n (Some (Incarnation d.next layout version)); next = d.next + 1 }
 
--- by the removal of a name
-abbrev pub directory_without : Directory → List ℕ → List ℕ → Directory
-directory_without d p n = record { has_partition = d.has_partition; file = with_file d.file p n None; next = d.next }
-
--- by the removal of a partition
-abbrev pub without_files : (List ℕ → List ℕ → Option File) → List ℕ → List ℕ → List ℕ → Option File
-without_files f p q n = cond (bytes_eq p q) None (f q n)
-
-abbrev pub directory_less : Directory → List ℕ → Directory
-directory_less d p = record { has_partition = with_partition d.has_partition p false; file = without_files d.file p; next = d.next }
+-- a removal of a name, or with none of a whole partition
+abbrev pub removed : Directory → List ℕ → Option (List ℕ) → Directory
+removed d p (Some n) = record d { file = with_file d.file p n None }
+removed d p None = record d { has_partition = with_partition d.has_partition p false; file = λ q n. cond (bytes_eq p q) None (d.file q n) }

@@ -5,27 +5,28 @@ use Rattle.blob_model.specs.Modes.{Mode, Prefix, Subset, Sectors}
 use Rattle.blob_model.specs.Rates.{Rate, sampled}
 use Rattle.blob_model.specs.Log.{Choices, Need}
 
-abbrev pub with_choice : Bool → List Bool × Stream → List Bool × Stream
-with_choice c rest = (c ∷ rest.0, rest.1)
+-- one before those that are drawn after it
+abbrev pub with_first : {X : Type 0} → X → List X × Stream → List X × Stream
+with_first x rest = (x ∷ rest.0, rest.1)
 
 -- byte by byte up to and with the first that is not kept
 unfoldable pub front : Rate → ℕ → Stream → List Bool × Stream
 front rate zero s = ([], s)
 front rate (suc n) s =
     let d = sampled rate s in
-    if d.0 then with_choice true (front rate n d.1) else (replicate (suc n) false, d.1)
+    if d.0 then with_first true (front rate n d.1) else (replicate (suc n) false, d.1)
 
 -- each byte by itself
 unfoldable pub each : Rate → ℕ → Stream → List Bool × Stream
 each rate zero s = ([], s)
-each rate (suc n) s = let d = sampled rate s in with_choice d.0 (each rate n d.1)
+each rate (suc n) s = let d = sampled rate s in with_first d.0 (each rate n d.1)
 
 -- once for each sector, where `last` is the choice of the sector that p goes on in
 unfoldable pub sectors : Rate → ℕ → ℕ → Bool → Bool → ℕ → Stream → List Bool × Stream
 sectors rate size p first last zero s = ([], s)
 sectors rate size p first last (suc n) s =
     let d = if first || (p % size == 0) then sampled rate s else (last, s) in
-    with_choice d.0 (sectors rate size (p + 1) false d.0 n d.1)
+    with_first d.0 (sectors rate size (p + 1) false d.0 n d.1)
 
 -- the choices of n bytes at o, and what is left of the stream
 abbrev pub positions : Mode → Rate → ℕ → ℕ → Stream → List Bool × Stream
@@ -37,15 +38,12 @@ positions (Sectors size) rate o n s = sectors rate size o true false n s
 abbrev pub Row : Type 0
 Row = ℕ × List Bool
 
-abbrev pub with_row : Row → List Row × Stream → List Row × Stream
-with_row row rest = (row ∷ rest.0, rest.1)
-
 -- the rows of these writes, one read after the other, and what is left of the stream
 abbrev pub drawn : Stream → List Need → List Row × Stream
 drawn s [] = ([], s)
 drawn s (n ∷ ns) =
     let d = positions n.write.mode n.write.rate n.write.offset (length n.write.bytes) s in
-    with_row (n.write.number, d.0) (drawn d.1 ns)
+    with_first (n.write.number, d.0) (drawn d.1 ns)
 
 -- what a table of rows chooses. A write without a row keeps nothing
 abbrev pub row_of : List Row → ℕ → List Bool

@@ -2,11 +2,11 @@
 use Rattle.std.specs.Prelude.{ℕ, suc, ◌+◌, ◌≤◌, List, [], ◌∷◌, ◌++◌, Bool, ◌&&◌, Option, Some, None, if◌then◌else◌}
 use Rattle.blob_header.specs.declared.layout.Layout.{Layout}
 use Rattle.blob_model.specs.Places.{Place, same_place}
-use Rattle.blob_model.specs.Directory.{File, Raw, Incarnation, Directory, current, is_current, place_made, directory_made}
+use Rattle.blob_model.specs.Directory.{File, Raw, Incarnation, Directory, current, is_current, directory_made, removed}
 use Rattle.blob_model.specs.Durable.{with_at, is_under}
 use Rattle.blob_header.specs.Header.{region}
 use Rattle.blob_model.specs.Log.{Entry, Kept, Loose, Resized, Need, Choices, need_of, with_need, durable, crashed}
-use Rattle.blob_model.specs.Opening.{Opening, Continues, Begins, Declines, opening, place_of, removed}
+use Rattle.blob_model.specs.Opening.{Opening, Continues, Begins, Declines, opening, place_of}
 
 -- a mutation, and the incarnation that it is of
 pub record Logged : Type 0 where
@@ -62,30 +62,23 @@ Rising from (e ∷ log) end = Above from e.entry × Rising (from_after from e.en
 
 -- A mutation that is recorded. A loose write takes the next number.
 
-abbrev pub counted : ℕ → Entry → ℕ
-counted next (Kept p b) = next
-counted next (Loose w) = next + 1
-counted next (Resized n) = next
-
 abbrev pub logged : Files → Place → Entry → Files
-logged f o e = record { directory = f.directory; base = f.base; log = f.log ++ record { place = o; entry = e } ∷ []; next_write = counted f.next_write e; next_marker = f.next_marker }
+logged f o e = record f {
+  log = f.log ++ record { place = o; entry = e } ∷ [];
+  next_write = elim e [ Kept p b ↦ f.next_write | Loose w ↦ f.next_write + 1 | Resized n ↦ f.next_write ];
+}
 
 abbrev pub all_logged : Files → Place → List Entry → Files
 all_logged f o [] = f
 all_logged f o (e ∷ es) = all_logged (logged f o e) o es
 
--- A base that is published: the incarnation's log is emptied.
-
+-- a base that is published, by a sync the handle's live bytes: the incarnation's log is emptied
 abbrev pub published : Files → Place → List ℕ → Files
-published f o x = record { directory = f.directory; base = with_at f.base o x; log = without (same_place o) f.log; next_write = f.next_write; next_marker = f.next_marker }
-
--- by a sync, the handle's live bytes
-abbrev pub synced : Files → Place → List ℕ → Files
-synced f o live = published f o live
+published f o x = record f { base = with_at f.base o x; log = without (same_place o) f.log }
 
 -- by a started sync that succeeded, which takes the next marker
 abbrev pub started : Files → Place → List ℕ → Files
-started f o live = record { directory = f.directory; base = with_at f.base o live; log = without (same_place o) f.log; next_write = f.next_write; next_marker = f.next_marker + 1 }
+started f o live = record (published f o live) { next_marker = f.next_marker + 1 }
 
 -- what is durable of an incarnation
 abbrev pub durable_at : Files → Place → List ℕ
@@ -104,13 +97,16 @@ abbrev pub crashed_at : Files → Choices → Place → List ℕ
 crashed_at f t o = crashed (f.base o) (log_of f.log o) t
 
 abbrev pub after_crash : Files → Choices → Files
-after_crash f t = record { directory = f.directory; base = crashed_at f t; log = []; next_write = f.next_write; next_marker = f.next_marker }
+after_crash f t = record f { base = crashed_at f t; log = [] }
 
 -- An open.
 
 -- a name that had no current incarnation gets one, with the logical bytes of its raw file or with none
 abbrev pub made : Files → List ℕ → List ℕ → Layout → ℕ → List ℕ → Files
-made f p n layout version bytes = record { directory = directory_made f.directory p n layout version; base = with_at f.base (place_made f.directory p n layout) bytes; log = f.log; next_write = f.next_write; next_marker = f.next_marker }
+made f p n layout version bytes = record f {
+  directory = directory_made f.directory p n layout version;
+  base = with_at f.base (place_of p n f.directory.next layout) bytes;
+}
 
 abbrev pub opened : Files → List ℕ → List ℕ → Opening → Files
 opened f p n (Continues number layout version) = f
@@ -127,7 +123,7 @@ abbrev pub ends_by : Directory → List ℕ → Option (List ℕ) → Place → 
 ends_by d p n o = is_under p n o && is_current d o
 
 abbrev pub after_remove : Files → List ℕ → Option (List ℕ) → Files
-after_remove f p n = record { directory = removed f.directory p n; base = f.base; log = without (ends_by f.directory p n) f.log; next_write = f.next_write; next_marker = f.next_marker }
+after_remove f p n = record f { directory = removed f.directory p n; log = without (ends_by f.directory p n) f.log }
 
 -- A store that is rebuilt from a snapshot: each current incarnation ends and is a raw file, its header and its durable bytes.
 
@@ -137,7 +133,7 @@ raw_again bytes p n (Some (Raw x)) = Some (Raw x)
 raw_again bytes p n (Some (Incarnation number layout version)) = Some (Raw (region layout version ++ bytes (place_of p n number layout)))
 
 abbrev pub directory_again : (Place → List ℕ) → Directory → Directory
-directory_again bytes d = record { has_partition = d.has_partition; file = λ p n. raw_again bytes p n (d.file p n); next = d.next }
+directory_again bytes d = record d { file = λ p n. raw_again bytes p n (d.file p n) }
 
 abbrev pub reopened : Files → Files
 reopened f = record { directory = directory_again (durable_at f) f.directory; base = f.base; log = []; next_write = 0; next_marker = 0 }

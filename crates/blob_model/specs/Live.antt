@@ -4,6 +4,12 @@ use Rattle.blob_model.specs.Bytes.{written}
 use Rattle.blob_header.specs.Refusals.{Refusal, BlobMissing}
 use Rattle.blob_model.specs.Runs.{Run}
 
+-- whether a write does nothing: a SYNC write of no bytes
+abbrev pub is_idle : Bool → List ℕ → Bool
+is_idle true [] = true
+is_idle true (b ∷ bytes) = false
+is_idle false bytes = false
+
 -- answered Ok: an empty SYNC write does nothing
 abbrev pub live_written : Bool → List ℕ → ℕ → List ℕ → List ℕ
 live_written true live offset [] = live

@@ -3,7 +3,7 @@ use Rattle.std.specs.Prelude.{◌≡◌, ℕ, List, [], Option, Some, None, Resu
 use Rattle.blob_header.specs.declared.layout.Layout.{Layout}
 use Rattle.blob_header.specs.declared.layout.Layout.TheVariants.{V0, V1}
 use Rattle.blob_header.specs.declared.version.BlobVersion.{BlobVersion}
-use Rattle.blob_model.specs.Directory.{Directory, File, Raw, Incarnation, directory_made, directory_without, directory_less, place_made}
+use Rattle.blob_model.specs.Directory.{Directory, File, Raw, Incarnation, directory_made, place_made}
 use Rattle.blob_header.specs.Header.{data_start}
 use Rattle.blob_model.specs.Durable.{Durable, with_at}
 use Rattle.blob_header.specs.Parse.{Failure, every_layout}
@@ -47,8 +47,3 @@ pub data IsOpened (d : Directory) (durable : Durable) (d' : Directory) (durable'
       → durable place ≡ Some live → d' ≡ d → durable' ≡ durable → IsOpened d durable d' durable' p n first last place live version
   Begun : (layout : Layout) → opening p n (d.file p n) first last ≡ Begins layout version live → place ≡ place_made d p n layout
       → d' ≡ directory_made d p n layout version → durable' ≡ with_at durable place (Some live) → IsOpened d durable d' durable' p n first last place live version
-
--- a removal of a name, or of a whole partition
-abbrev pub removed : Directory → List ℕ → Option (List ℕ) → Directory
-removed d p (Some n) = directory_without d p n
-removed d p None = directory_less d p

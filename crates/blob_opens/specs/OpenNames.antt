@@ -37,12 +37,8 @@ unless_number k (Some m) = if m == k then None else Some m
 abbrev pub closed : OpenNames → Registration → OpenNames
 closed s r = record { registered = with_at s.registered r.partition r.name (unless_number r.number (s.registered r.partition r.name)); next = s.next }
 
-abbrev pub without : (List ℕ → List ℕ → Option ℕ) → List ℕ → Option (List ℕ) → List ℕ → List ℕ → Option ℕ
-without f p (Some n) = with_at f p n None
-without f p None = with_partition f None p
-
 abbrev pub ended : OpenNames → List ℕ → Option (List ℕ) → OpenNames
-ended s p n = record { registered = without s.registered p n; next = s.next }
+ended s p n = record s { registered = elim n [ Some m ↦ with_at s.registered p m None | None ↦ with_partition s.registered None p ] }
 
 -- no name is open; numbers that were given aren't given again
 abbrev pub none_open : ℕ → OpenNames

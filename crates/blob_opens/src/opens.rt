@@ -2,8 +2,9 @@
 ghost use Rattle.std.specs.Prelude.{◌≡◌, ◌≢◌, ◌≤◌, ◌+◌, ◌-◌, ◌^◌, ◌⊎◌, ℕ, Some, None, OnOk, OnErr, IfOk, IfErr, length, option_copied, is_some, false, ◌<◌};
 ghost use Rattle.std.specs.Range.{range_inclusive_start, range_inclusive_end, range_inclusive_exhausted};
 ghost use Rattle.hex.specs.Hex.{encode_lower};
+ghost use Rattle.blob_model.specs.Directory.{removed};
 ghost use Rattle.blob_model.specs.Durable.{durable_without};
-ghost use Rattle.blob_model.specs.Opening.{IsOpened, removed};
+ghost use Rattle.blob_model.specs.Opening.{IsOpened};
 ghost use Rattle.blob_header.specs.Refusals.{refused, refusal_of, Memory, BlobAlreadyOpen, GenerationsExhausted, IsMemory};
 ghost use Rattle.blob_opens.specs.OpenNames.{opened, closed, ended, none_open, IsExhausted, OpenAnswer};
 ghost use Rattle.blob_names.specs.Names.{with_at};

@@ -6,10 +6,10 @@ use Rattle.std.specs.Cmp.Lexicographic.{bytes_decides}
 use Rattle.std.proofs.lemmas.Bool.{cond_both, cond-false, false≢true}
 use Rattle.rand_core.specs.Stream.{Stream}
 use Rattle.blob_header.specs.declared.layout.Layout.{Layout}
-use Rattle.blob_model.specs.Directory.{Directory, File, Raw, Incarnation}
+use Rattle.blob_model.specs.Directory.{Directory, File, Raw, Incarnation, removed}
 use Rattle.blob_model.specs.Files.{Files, opened, after_open, raw_again, durable_at}
 use Rattle.blob_header.specs.Header.{region}
-use Rattle.blob_model.specs.Opening.{Opening, Continues, Begins, Declines, opening, place_of, removed}
+use Rattle.blob_model.specs.Opening.{Opening, Continues, Begins, Declines, opening, place_of}
 use Rattle.blob_model.specs.Places.{Place}
 use Rattle.blob_header.specs.Refusals.{Refusal, BlobAlreadyOpen, BlobVersionMismatch}
 use Rattle.blob_header.specs.Versions.{is_in_range}

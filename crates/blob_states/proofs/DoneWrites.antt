@@ -5,6 +5,7 @@ use Rattle.std.proofs.lemmas.Bool.{false≢true}
 use Rattle.std.proofs.lemmas.Option.{none-some}
 use Rattle.rand_core.specs.Stream.{Stream}
 use Rattle.std.specs.Option.{option_or}
+use Rattle.blob_model.specs.Live.{is_idle}
 use Rattle.blob_model.specs.Bytes.{written}
 use Rattle.blob_model.specs.Directory.{Directory}
 use Rattle.blob_model.specs.Log.{Kept}
@@ -12,7 +13,7 @@ use Rattle.blob_model.specs.Places.{Place}
 use Rattle.blob_header.specs.Refusals.{Refusal, Memory, OffsetOverflow, GenerationsExhausted}
 use Rattle.blob_model.specs.Runs.{runs}
 use Rattle.blob_faults.specs.Answers.{lacks_number}
-use Rattle.blob_faults.specs.Faults.{WriteFate, Done, Unsynced, Failed, write_fate, retention, is_nothing, is_uncounted}
+use Rattle.blob_faults.specs.Faults.{WriteFate, Done, Unsynced, Failed, write_fate, retention, is_uncounted}
 use Rattle.blob_faults.specs.Recorded.{recorded_by, recorded_write, live_by, live_of_write, size_by, size_of_write}
 use Rattle.blob_calls.specs.declared.reply.Reply.{Reply}
 use Rattle.blob_calls.specs.Acts.{Write}
@@ -42,7 +43,7 @@ done_fate (Failed chosen) d o retained next offset bytes free = absurd (never (r
 
 -- what it did of all that a write could come to
 pub record IsDone (v : State) (offset : ℕ) (bytes : List ℕ) : Type 0 where
-  pub some : is_nothing true bytes ≡ false
+  pub some : is_idle true bytes ≡ false
   pub counted : is_uncounted offset bytes ≡ false
   pub fate : (write_fate v.config true offset (length bytes) v.stream).0 ≡ Done
 
@@ -72,27 +73,27 @@ module _ (v : State) (h : Held) (offset : ℕ) (bytes : List ℕ) (done : IsDone
 
   pub kept_whole : recorded_write v.config v.files.next_write v.stream true offset bytes None ≡ Kept offset bytes ∷ []
   kept_whole =
-      second (is_nothing true bytes) (is_uncounted offset bytes) [] [] _ done.some done.counted
+      second (is_idle true bytes) (is_uncounted offset bytes) [] [] _ done.some done.counted
       ∙ ap (λ (f : WriteFate). recorded_by f (retention v.config.write_rate) v.files.next_write true offset bytes None) done.fate
       ∙ by_bytes bytes done.some
     where
-      by_bytes : (x : List ℕ) → is_nothing true x ≡ false → recorded_by Done (retention v.config.write_rate) v.files.next_write true offset x None ≡ Kept offset x ∷ []
+      by_bytes : (x : List ℕ) → is_idle true x ≡ false → recorded_by Done (retention v.config.write_rate) v.files.next_write true offset x None ≡ Kept offset x ∷ []
       by_bytes [] e = absurd (false≢true (sym e))
       by_bytes (y ∷ ys) e = refl
 
   pub live_whole : live_of_write v.config v.stream true h.live offset bytes None ≡ written h.live offset bytes
   live_whole =
-      second (is_nothing true bytes) (is_uncounted offset bytes) h.live h.live _ done.some done.counted
+      second (is_idle true bytes) (is_uncounted offset bytes) h.live h.live _ done.some done.counted
       ∙ ap (λ (f : WriteFate). live_by f true h.live offset bytes None) done.fate
       ∙ by_bytes bytes done.some
     where
-      by_bytes : (x : List ℕ) → is_nothing true x ≡ false → live_by Done true h.live offset x None ≡ written h.live offset x
+      by_bytes : (x : List ℕ) → is_idle true x ≡ false → live_by Done true h.live offset x None ≡ written h.live offset x
       by_bytes [] e = absurd (false≢true (sym e))
       by_bytes (y ∷ ys) e = refl
 
   pub size_whole : size_of_write v.config v.stream true h.size offset bytes None ≡ max h.size (offset + length bytes)
   size_whole =
-      second (is_nothing true bytes) (is_uncounted offset bytes) h.size h.size _ done.some done.counted
+      second (is_idle true bytes) (is_uncounted offset bytes) h.size h.size _ done.some done.counted
       ∙ ap (λ (f : WriteFate). size_by f h.size offset bytes None) done.fate
 
 -- what was done wasn't denied

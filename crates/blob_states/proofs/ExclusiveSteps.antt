@@ -5,8 +5,7 @@ use Rattle.std.specs.Str.{bytes_eq}
 use Rattle.std.proofs.lemmas.Bool.{cond_both, false≢true, true_from_ne_false}
 use Rattle.std.proofs.lemmas.List.Elements.{All-set, All-push, All-weaker}
 use Rattle.std.proofs.lemmas.Option.{none-some, same_Some}
-use Rattle.blob_model.specs.Directory.{Directory, File, is_current, is_that}
-use Rattle.blob_model.specs.Opening.{removed}
+use Rattle.blob_model.specs.Directory.{Directory, File, is_current, is_that, removed}
 use Rattle.blob_model.specs.Places.{Place}
 use Rattle.blob_states.specs.After.{unregistered}
 use Rattle.blob_states.specs.Answers.{kept_at}

@@ -3,10 +3,9 @@ use Rattle.std.proofs.Common.{◌≡◌, ℕ, ◌&&◌, List, Bool, true, false,
 use Rattle.std.specs.Str.{bytes_eq}
 use Rattle.std.proofs.lemmas.Bool.{and_left, cond-false, false≢true}
 use Rattle.blob_header.specs.declared.layout.Layout.{Layout}
-use Rattle.blob_model.specs.Directory.{Directory, File, with_file}
+use Rattle.blob_model.specs.Directory.{Directory, File, with_file, removed}
 use Rattle.blob_model.specs.Files.{Files, admitted, after_crash, after_remove, ends_by, reopened, raw_again, durable_at}
 use Rattle.blob_model.specs.Log.{Choices}
-use Rattle.blob_model.specs.Opening.{removed}
 use Rattle.blob_model.proofs.Persistence.{fixed_admitted, fixed_crashed, fixed_removed}
 use Rattle.blob_states.specs.Fixed.{Byte, is_of}
 use Rattle.blob_states.specs.States.{Held}

@@ -9,9 +9,9 @@ use Rattle.std.proofs.lemmas.Option.{IfSome_then, get_or_from_slice_get, slice_g
 use Rattle.std.proofs.lemmas.List.Elements.{All-nil, All-push, All-set, All-weaker}
 use Rattle.rand_core.specs.Stream.{Stream}
 use Rattle.blob_header.specs.declared.layout.Layout.{Layout}
-use Rattle.blob_model.specs.Directory.{Directory, File, Raw, Incarnation, current, is_current, with_file}
+use Rattle.blob_model.specs.Directory.{Directory, File, Raw, Incarnation, current, is_current, with_file, removed}
 use Rattle.blob_model.specs.Files.{Files, opened, after_open, admitted, raw_again, durable_at}
-use Rattle.blob_model.specs.Opening.{Opening, Continues, Begins, Declines, opening, removed}
+use Rattle.blob_model.specs.Opening.{Opening, Continues, Begins, Declines, opening}
 use Rattle.blob_header.specs.PartitionName.{is_partition_name}
 use Rattle.blob_model.specs.Places.{Place}
 use Rattle.blob_header.specs.Refusals.{Refusal, BlobAlreadyOpen}

@@ -6,15 +6,15 @@ use Rattle.rand_core.specs.Stream.{Stream}
 use Rattle.std.specs.Option.{option_or}
 use Rattle.blob_model.specs.Bytes.{written, resized}
 use Rattle.blob_model.specs.Directory.{Directory, is_current}
-use Rattle.blob_model.specs.Live.{live_written, all_written}
+use Rattle.blob_model.specs.Live.{live_written, all_written, is_idle}
 use Rattle.blob_model.specs.Places.{Place}
 use Rattle.blob_header.specs.Refusals.{Refusal, BlobMissing, Injected, OffsetOverflow, GenerationsExhausted}
 use Rattle.blob_model.specs.Runs.{Run, runs}
 use Rattle.blob_model.proofs.Bytes.{length-overlay_by, length-resized, reach_all}
 use Rattle.blob_faults.specs.Answers.{lacks_number, last_end}
-use Rattle.blob_faults.specs.Faults.{WriteFate, Done, Unsynced, Failed, ResizeFate, Resizes, Stays, Reaches, write_fate, resize_fate, retention, is_nothing, is_uncounted}
+use Rattle.blob_faults.specs.Faults.{WriteFate, Done, Unsynced, Failed, ResizeFate, Resizes, Stays, Reaches, write_fate, resize_fate, retention, is_uncounted}
 use Rattle.blob_faults.specs.Recorded.{live_by, live_of_resize, size_of_runs, size_by, size_of_resize}
-use Rattle.blob_memory.specs.Answers.{write_refusal, end_refusal, sync_refusal, missing, is_idle}
+use Rattle.blob_memory.specs.Answers.{write_refusal, end_refusal, sync_refusal, missing}
 use Rattle.blob_memory.specs.Answers as memory
 use Rattle.blob_calls.specs.declared.reply.Reply.{Reply}
 use Rattle.blob_calls.specs.Acts.{Ask, Read, Write, Resize, Size, Sync, StartSync}
@@ -74,7 +74,7 @@ module _ (d : Directory) (o : Place) (now : is_current d o ≡ true) where
   fate_there (Failed chosen) retained next sync offset bytes = runs_there (runs offset bytes chosen)
 
 denial_there : (v : State) (h : Held) (offset : ℕ) (bytes : List ℕ) (sync : Bool) → is_current v.files.directory h.place ≡ true → is_missing (write_denial v h offset bytes sync) ≡ false
-denial_there v h offset bytes sync now = go (is_nothing sync bytes) (is_uncounted offset bytes) where
+denial_there v h offset bytes sync now = go (is_idle sync bytes) (is_uncounted offset bytes) where
   denial : Option Refusal
   denial = fate_denial (write_fate v.config sync offset (length bytes) v.stream).0 v.files.directory h.place (is_some (retention v.config.write_rate)) v.files.next_write sync offset bytes
 
@@ -103,12 +103,12 @@ runs_sized : (size : ℕ) (live : List ℕ) (rs : List Run) → size ≡ length 
 runs_sized size live [] e = e
 runs_sized size live (r ∷ rs) e = runs_sized (max size (r.0 + length r.1)) (written live r.0 r.1) rs (write_sized size live r.0 r.1 e)
 
-done_sized : (sync : Bool) (size : ℕ) (live : List ℕ) (offset : ℕ) (bytes : List ℕ) → is_nothing sync bytes ≡ false → size ≡ length live → max size (offset + length bytes) ≡ length (live_written sync live offset bytes)
+done_sized : (sync : Bool) (size : ℕ) (live : List ℕ) (offset : ℕ) (bytes : List ℕ) → is_idle sync bytes ≡ false → size ≡ length live → max size (offset + length bytes) ≡ length (live_written sync live offset bytes)
 done_sized true size live offset [] some e = absurd (false≢true (sym some))
 done_sized true size live offset (b ∷ bytes) some e = write_sized size live offset (b ∷ bytes) e
 done_sized false size live offset bytes some e = write_sized size live offset bytes e
 
-fate_sized : (fate : WriteFate) (sync : Bool) (size : ℕ) (live : List ℕ) (offset : ℕ) (bytes : List ℕ) (answer : Option Refusal) → is_nothing sync bytes ≡ false → is_missing answer ≡ false → size ≡ length live
+fate_sized : (fate : WriteFate) (sync : Bool) (size : ℕ) (live : List ℕ) (offset : ℕ) (bytes : List ℕ) (answer : Option Refusal) → is_idle sync bytes ≡ false → is_missing answer ≡ false → size ≡ length live
     → size_by fate size offset bytes answer ≡ length (live_by fate sync live offset bytes answer)
 fate_sized Done sync size live offset bytes None some there e = done_sized sync size live offset bytes some e
 fate_sized Done sync size live offset bytes (Some (BlobMissing p n)) some there e = absurd (false≢true (sym there))
@@ -136,11 +136,11 @@ IsSized h = h.size ≡ length h.live
 
 -- a write that doesn't find its blob missing
 write_keeps : (v : State) (h : Held) (offset : ℕ) (bytes : List ℕ) (sync : Bool) (answer : Option Refusal) → is_missing answer ≡ false → IsSized h → IsSized (held_after v h (Write offset bytes sync) answer)
-write_keeps v h offset bytes sync answer there e = go (is_nothing sync bytes) (is_uncounted offset bytes) refl where
+write_keeps v h offset bytes sync answer there e = go (is_idle sync bytes) (is_uncounted offset bytes) refl where
   fate : WriteFate
   fate = (write_fate v.config sync offset (length bytes) v.stream).0
 
-  go : (nothing uncounted : Bool) → is_nothing sync bytes ≡ nothing
+  go : (nothing uncounted : Bool) → is_idle sync bytes ≡ nothing
       → (if nothing then h.size else if uncounted then h.size else size_by fate h.size offset bytes answer)
       ≡ length (if nothing then h.live else if uncounted then h.live else live_by fate sync h.live offset bytes answer)
   go true uncounted is = e

@@ -5,11 +5,11 @@ use Rattle.std.specs.Str.{bytes_eq}
 use Rattle.rand_core.specs.Stream.{Stream}
 use Rattle.std.specs.Option.{option_or}
 use Rattle.blob_header.specs.declared.layout.Layout.{Layout}
-use Rattle.blob_model.specs.Directory.{Directory, File, Raw, Incarnation, current, is_that, is_current, with_file, directory_made}
+use Rattle.blob_model.specs.Directory.{Directory, File, Raw, Incarnation, current, is_that, is_current, with_file, directory_made, removed}
 use Rattle.blob_header.specs.Header.{data_start}
 use Rattle.blob_model.specs.Files.{Files, opened, after_open, admitted, admitted_at, all_logged, logged, raw_again, reopened, durable_at}
 use Rattle.blob_model.specs.Log.{Entry}
-use Rattle.blob_model.specs.Opening.{Opening, Continues, Begins, Declines, opening, removed}
+use Rattle.blob_model.specs.Opening.{Opening, Continues, Begins, Declines, opening}
 use Rattle.blob_model.specs.Places.{Place, same_place}
 use Rattle.blob_header.specs.Refusals.{Refusal, BlobAlreadyOpen, GenerationsExhausted, Injected}
 use Rattle.blob_faults.specs.Faults.{draw, resize_fate}

@@ -3,7 +3,7 @@ use Rattle.std.specs.Prelude.{ℕ, List, [], ◌∷◌, ◌++◌, map, set, Opti
 use Rattle.rand_core.specs.Stream.{Stream}
 use Rattle.blob_model.specs.Directory.{current}
 use Rattle.blob_model.specs.Draws.{chosen_by, drawn}
-use Rattle.blob_model.specs.Files.{Files, all_logged, synced, started, admitted, after_open, after_remove, after_crash, reopened, all_needs}
+use Rattle.blob_model.specs.Files.{Files, all_logged, started, admitted, after_open, after_remove, after_crash, reopened, all_needs, published}
 use Rattle.blob_header.specs.Refusals.{Refusal, BlobAlreadyOpen}
 use Rattle.blob_faults.specs.Faults.{resize_fate}
 use Rattle.blob_faults.specs.Recorded.{recorded_write, recorded_resize, live_of_write, live_of_resize, size_of_write, size_of_resize}
@@ -24,7 +24,7 @@ begun f h (Some refusal) = f
 abbrev pub files_after : State → Held → Ask → Option Refusal → Files
 files_after v h (Write offset bytes sync) refusal = all_logged v.files h.place (recorded_write v.config v.files.next_write v.stream sync offset bytes refusal)
 files_after v h (Resize len) refusal = all_logged v.files h.place (recorded_resize (resize_fate v.config.resize_rate h.size len v.stream).0 len refusal)
-files_after v h Sync None = synced v.files h.place h.live
+files_after v h Sync None = published v.files h.place h.live
 files_after v h StartSync None = begun v.files h (start_denial v h)
 files_after v h ask refusal = v.files
 

@@ -7,7 +7,7 @@ use Rattle.blob_model.specs.Places.{Place}
 use Rattle.blob_header.specs.Refusals.{Refusal, OffsetOverflow, BlobAlreadyOpen, Injected, GenerationsExhausted}
 use Rattle.blob_model.specs.Runs.{Run, runs}
 use Rattle.blob_faults.specs.Answers.{lacks_number, last_end}
-use Rattle.blob_faults.specs.Faults.{WriteFate, Done, Unsynced, Failed, ResizeFate, Resizes, Stays, Reaches, draw, retention, write_fate, is_nothing, is_uncounted}
+use Rattle.blob_faults.specs.Faults.{WriteFate, Done, Unsynced, Failed, ResizeFate, Resizes, Stays, Reaches, draw, retention, by_fate}
 use Rattle.blob_memory.specs.Answers.{write_refusal, end_refusal, sync_refusal, open_refusal, partition_refusal, remove_refusal}
 use Rattle.blob_opens.specs.OpenNames.{OpenNames}
 use Rattle.blob_states.specs.States.{State, Held}
@@ -36,10 +36,8 @@ fate_denial Unsynced d o retained next sync offset bytes = option_or (refused_if
 fate_denial (Failed chosen) d o retained next sync offset bytes = runs_denial d o (runs offset bytes chosen)
 
 abbrev pub write_denial : State → Held → ℕ → List ℕ → Bool → Option Refusal
-write_denial v h offset bytes sync =
-    if is_nothing sync bytes then None
-    else if is_uncounted offset bytes then Some OffsetOverflow
-    else fate_denial (write_fate v.config sync offset (length bytes) v.stream).0 v.files.directory h.place (is_some (retention v.config.write_rate)) v.files.next_write sync offset bytes
+write_denial v h offset bytes sync = by_fate v.config sync offset bytes v.stream None (Some OffsetOverflow)
+    (λ d. fate_denial d.0 v.files.directory h.place (is_some (retention v.config.write_rate)) v.files.next_write sync offset bytes)
 
 -- The other calls through a handle.
 

@@ -1,8 +1,9 @@
 //! What a wrapper's calls leave says which files it stands for, also to a caller that knows a call by its trait alone.
 ghost use Rattle.std.specs.Prelude.{◌≡◌, ◌↔◌, ℕ, List, Option, Some, None};
+ghost use Rattle.blob_model.specs.Directory.{removed};
 ghost use Rattle.blob_model.specs.Durable.{durable_without};
 ghost use Rattle.blob_model.specs.Files.{after_open, after_remove, ends_by};
-ghost use Rattle.blob_model.specs.Opening.{IsOpened, removed};
+ghost use Rattle.blob_model.specs.Opening.{IsOpened};
 ghost use Rattle.blob_model.specs.Places.{Place};
 ghost use Rattle.blob_header.specs.Refusals.{Refusal};
 ghost use Rattle.blob_faulty.specs.declared.storage.Storage.{Storage};

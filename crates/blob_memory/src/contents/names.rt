@@ -1,7 +1,7 @@
 // Contents by partition and name.
 ghost use Rattle.std.specs.Prelude.{◌≡◌, ◌<◌, ◌+◌, ◌-◌, ◌^◌, List, ℕ, None, Some, true, false, IsSome, is_some, is_none, IsTrue, IsOk, OnOk, OnErr, IfOk, map, option_copied};
 ghost use Rattle.blob_model.specs.Places.{Place};
-ghost use Rattle.blob_model.specs.Directory.{Raw, current, place_made, directory_made, directory_without, directory_less};
+ghost use Rattle.blob_model.specs.Directory.{Raw, current, place_made, directory_made, removed};
 ghost use Rattle.blob_memory.specs.Audit.{audit, IsListing};
 ghost use Rattle.blob_header.specs.Checksum.{crc32c};
 ghost use Rattle.blob_base.specs.Names.{AreNames};
@@ -120,7 +120,7 @@ impl Contents {
 
     /// Takes a name away, and ends its incarnation. Its partition stays.
     pub fn remove(&mut self, partition: &str, name: &[u8])
-        ensures directory { directory_of self.new ≡ directory_without (directory_of self.old) partition.now name.now }
+        ensures directory { directory_of self.new ≡ removed (directory_of self.old) partition.now (Some name.now) }
         ensures durable { durable_of self.new ≡ durable_without (durable_of self.old) partition.now (Some name.now) }
         ensures vecs { (o : Place) → vec_at self.new o ≡ without (vec_at self.old) (is_under partition.now (Some name.now)) o }
     {
@@ -129,7 +129,7 @@ impl Contents {
 
     /// Takes a partition away, and ends the incarnations in it.
     pub fn remove_partition(&mut self, partition: &str)
-        ensures directory { directory_of self.new ≡ directory_less (directory_of self.old) partition.now }
+        ensures directory { directory_of self.new ≡ removed (directory_of self.old) partition.now None }
         ensures durable { durable_of self.new ≡ durable_without (durable_of self.old) partition.now None }
         ensures vecs { (o : Place) → vec_at self.new o ≡ without (vec_at self.old) (is_under partition.now None) o }
     {

@@ -4,11 +4,11 @@
 ghost use Rattle.std.specs.Prelude.{◌≡◌, ◌<◌, ◌+◌, ℕ, Bool, true, false, cond, Option, Some, None, is_some, List, [], ◌∷◌, ◌++◌, length};
 ghost use Rattle.rand_core.specs.Stream.{Stream};
 ghost use Rattle.blob_model.specs.Bytes.{overlay};
-ghost use Rattle.blob_model.specs.Directory.{Directory, current, is_current};
+ghost use Rattle.blob_model.specs.Directory.{Directory, current, is_current, removed};
 ghost use Rattle.blob_model.specs.Draws.{drawn};
-ghost use Rattle.blob_model.specs.Files.{Files, Logged, Rising, logged, all_logged, published, crashed_at, synced, started, admitted, all_needs, after_crash, after_open, ends_by, after_remove, durable_at, directory_again, reopened, wrapped};
+ghost use Rattle.blob_model.specs.Files.{Files, Logged, Rising, logged, all_logged, published, crashed_at, started, admitted, all_needs, after_crash, after_open, ends_by, after_remove, durable_at, directory_again, reopened, wrapped};
 ghost use Rattle.blob_model.specs.Durable.{Durable, with_at, changed, durable_without};
-ghost use Rattle.blob_model.specs.Opening.{IsOpened, removed};
+ghost use Rattle.blob_model.specs.Opening.{IsOpened};
 ghost use Rattle.blob_model.specs.Log.{Entry, Kept, Loose, Resized, Write, Need, Choices, need_of};
 ghost use Rattle.blob_model.specs.Order.{Held, held_at, ArePlacesApart, waiting_of_all, all_placed, number_of, Rise, In};
 ghost use Rattle.blob_model.specs.Pending.{Pending, Waiting, Cut, Marker, laid, finished};
@@ -47,7 +47,7 @@ pub fn syncs()
     ensures whole { (names : Directory) (bytes bytes_after : Durable) (lists lists_after : Place → List Pending) (write marker : ℕ) (files : Files) (o : Place) (live : List ℕ) →
         ((a : Place) → bytes_after a ≡ changed bytes o (λ _. live) a) →
         ((a : Place) → lists_after a ≡ with_at lists o [] a) →
-        StandsFor names bytes lists write marker files → StandsFor names bytes_after lists_after write marker (synced files o live) }
+        StandsFor names bytes lists write marker files → StandsFor names bytes_after lists_after write marker (published files o live) }
     ensures started { (names : Directory) (bytes bytes_after : Durable) (lists lists_after : Place → List Pending) (write marker : ℕ) (files : Files) (o : Place) (live : List ℕ) →
         o.number < names.next →
         ((a : Place) → bytes_after a ≡ changed bytes o (λ _. live) a) →
