@@ -1,6 +1,7 @@
 pub mod HexDigits
 pub mod Numbers
 pub mod SaidLines
+pub mod Through
 pub mod Tokens
 pub mod WordLists
 pub mod WorkedLines

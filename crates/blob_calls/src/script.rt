@@ -3,12 +3,14 @@
 pub mod call_line;
 mod hex_text;
 pub mod line;
+pub mod reading;
 pub mod refused_line;
 pub mod reply_line;
 pub mod setting;
 pub mod token;
 
 pub use line::{Line, read_line};
+pub use reading::read_through;
 pub use refused_line::RefusedLine;
 pub use reply_line::print_reply;
 pub use setting::Setting;

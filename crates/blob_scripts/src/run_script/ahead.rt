@@ -1,6 +1,7 @@
 // What lies ready in a reader.
 ghost use Rattle.std.specs.Prelude.{◌≡◌, ℕ, List};
 
+use memchr::memchr;
 use std::alloc::Allocator;
 use std::io::{BufRead, BufReader, Read};
 
@@ -33,27 +34,22 @@ impl Ahead for &[u8] {
     }
 }
 
-/// Where a line stands that is gone through byte by byte.
-#[derive(Clone, Copy)]
-enum At {
-    /// Before its first token.
-    Start,
-    Comment,
-    Call,
+/// Whether a line has a token that begins no comment.
+fn is_call(line: &[u8]) -> bool {
+    match line.iter().find(|byte| **byte != b' ') {
+        None => false,
+        Some(first) => *first != b'#',
+    }
 }
 
 /// Whether a whole line stands among these bytes that is neither empty nor a comment.
 pub(crate) fn has_call(bytes: &[u8]) -> bool {
-    let mut at = At::Start;
-    for byte in bytes {
-        at = match (at, *byte) {
-            (At::Call, b'\n') => return true,
-            (_, b'\n') => At::Start,
-            (At::Start, b' ') => At::Start,
-            (At::Start, b'#') => At::Comment,
-            (At::Start, _) => At::Call,
-            (at, _) => at,
-        };
+    let mut rest = bytes;
+    'lines: while let Some(end) = memchr(b'\n', rest) {
+        if is_call(&rest[..end]) {
+            return true;
+        }
+        rest = &rest[end + 1..];
     }
     false
 }

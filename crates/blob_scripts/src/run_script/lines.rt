@@ -17,7 +17,7 @@ use crate::Ending;
 use blob_base::Error;
 use blob_calls::Call;
 use blob_calls::script::setting::copy_of;
-use blob_calls::script::{Line, RefusedLine, Setting, read_line};
+use blob_calls::script::{Line, RefusedLine, Setting, read_line, read_through};
 use blob_faulty::Config;
 use blob_lab::Lab;
 use std::alloc::Global;
@@ -166,7 +166,7 @@ impl Lines {
         ensures kept { self.new.config ≡ self.old.config }
     {
         self.line.clear();
-        match reader.read_until(b'\n', &mut self.line) {
+        match read_through(reader, b'\n', &mut self.line) {
             Ok(0) => return Ok(None),
             Ok(_) => {}
             Err(e) if e.kind() == ErrorKind::OutOfMemory => return Err(Ending::NoMemory),

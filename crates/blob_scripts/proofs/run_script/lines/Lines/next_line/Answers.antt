@@ -11,16 +11,16 @@ use Rattle.blob_scripts.specs.ScriptReading.{OfLines, TakesLine}
 pub returns-in-Ok-eq0-clause-end : goal.returns-in-Ok-eq0-clause-end
 returns-in-Ok-eq0-clause-end g c =
     let old = g.R.Read.remaining c.args.reader.now in
-    let new = g.R.Read.remaining c.read_until.new.self in
+    let new = g.R.Read.remaining c.read_through.new.reader in
     let dropped : DropsThrough old new 10 = search rules in
     let at_end : IsAtEnd old = search rules in
     dropped_out old new dropped at_end
 
-some : (g : _) (c : After-read_line g) → c.read_until.new.buf.items ≡ [] → ⊥
-some g c h = c.in-Ok.field-0-test.1 (omega (arith, ap length h, c.read_until.new.buf.ok.0, c.in-Ok.ensures.ok))
+some : (g : _) (c : After-read_line g) → c.read_through.new.bytes.items ≡ [] → ⊥
+some g c h = c.in-Ok.field-0-test.1 (omega (arith, ap length h, c.read_through.new.bytes.ok.0, c.in-Ok.ensures.len))
 
-said_line : (g : _) (c : After-read_line g) (said : Option Said) → line_of c.as_slice.result.now ≡ said → OfLines (g.R.Read.remaining c.args.reader.now) (g.R.Read.remaining c.read_until.new.self) (TakesLine said)
-said_line g c said says = takes_line (g.R.Read.remaining c.args.reader.now) (g.R.Read.remaining c.read_until.new.self) c.clear.new.self.items c.read_until.new.buf.items c.as_slice.result.now said
+said_line : (g : _) (c : After-read_line g) (said : Option Said) → line_of c.as_slice.result.now ≡ said → OfLines (g.R.Read.remaining c.args.reader.now) (g.R.Read.remaining c.read_through.new.reader) (TakesLine said)
+said_line g c said says = takes_line (g.R.Read.remaining c.args.reader.now) (g.R.Read.remaining c.read_through.new.reader) c.clear.new.self.items c.read_through.new.bytes.items c.as_slice.result.now said
     c.clear.ensures.items c.in-Ok.ensures.bytes c.in-Ok.ensures.rest (some g c) (c.as_slice.ensures.value ∙ c.drop_line_feed.ensures) says
 
 pub returns-in-Ok-read_line-clause-line : goal.returns-in-Ok-read_line-clause-line

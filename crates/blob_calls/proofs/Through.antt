@@ -1,0 +1,66 @@
+-- What a reader has left up to a byte that was found in what it showed.
+use Rattle.std.proofs.Common.{◌≡◌, ◌≢◌, ◌<◌, ◌≤◌, ◌+◌, ◌==◌, ℕ, zero, suc, List, [], ◌∷◌, ◌++◌, Option, Some, None, IfSome, length, take, drop, get_or, cond, refl, sym, ap, subst, ◌∙◌, eq-eqb, get_or-take, length-take, arith}
+use Rattle.std.proofs.lemmas.Bool.{ne_eqb}
+use Rattle.std.proofs.lemmas.List.{take-take}
+use Rattle.std.specs.Io.KnownBytes.{Keeps}
+use Rattle.std.specs.Io.BufRead.{DropsThrough, DropsConsumable, take_through, drop_through}
+use Rattle.std.specs.Io.{StartsWith}
+
+-- the first place of a byte is k
+abbrev pub FirstAt : ℕ → List ℕ → ℕ → Type 0
+FirstAt byte xs k = (k < length xs) × (get_or xs k 0 ≡ byte) × ((j : ℕ) → j < k → get_or xs j 0 ≢ byte)
+
+later : (byte x k : ℕ) (xs : List ℕ) → FirstAt byte (x ∷ xs) (suc k) → FirstAt byte xs k
+later byte x k xs h = (omega (arith, h.0), h.1, λ j l. h.2 (suc j) (omega arith))
+
+first_not : (byte x k : ℕ) (xs : List ℕ) → FirstAt byte (x ∷ xs) (suc k) → x ≢ byte
+first_not byte x k xs h = h.2 zero (omega arith)
+
+pub takes_front : (byte k : ℕ) (xs : List ℕ) → FirstAt byte xs k → take_through byte xs ≡ take (k + 1) xs
+takes_front byte k [] h = absurd (omega (arith, h.0))
+takes_front byte zero (x ∷ xs) h = ap (λ t. cond t (x ∷ []) (x ∷ take_through byte xs)) (eq-eqb x byte h.1)
+takes_front byte (suc k) (x ∷ xs) h =
+    let next : suc (k + 1) ≡ suc k + 1 = omega arith in
+    ap (λ t. cond t (x ∷ []) (x ∷ take_through byte xs)) (ne_eqb x byte (first_not byte x k xs h))
+    ∙ ap (λ l. x ∷ l) (takes_front byte k xs (later byte x k xs h))
+    ∙ ap (λ n. take n (x ∷ xs)) next
+
+pub drops_front : (byte k : ℕ) (xs : List ℕ) → FirstAt byte xs k → drop_through byte xs ≡ drop (k + 1) xs
+drops_front byte k [] h = absurd (omega (arith, h.0))
+drops_front byte zero (x ∷ xs) h = ap (λ t. cond t xs (drop_through byte xs)) (eq-eqb x byte h.1)
+drops_front byte (suc k) (x ∷ xs) h =
+    let next : suc (k + 1) ≡ suc k + 1 = omega arith in
+    ap (λ t. cond t xs (drop_through byte xs)) (ne_eqb x byte (first_not byte x k xs h))
+    ∙ drops_front byte k xs (later byte x k xs h)
+    ∙ ap (λ n. drop n (x ∷ xs)) next
+
+-- what is shown stands in front of what is left
+in_front : (byte k : ℕ) (xs shown : List ℕ) → StartsWith xs shown → FirstAt byte shown k → FirstAt byte xs k
+in_front byte k xs shown front h = (
+  omega (arith, h.0, ap length front, length-take (length shown) xs),
+  same k h.0 ∙ h.1,
+  λ j l e. h.2 j l (sym (same j (omega (arith, l, h.0))) ∙ e),
+)
+  where
+    same : (j : ℕ) → j < length shown → get_or xs j 0 ≡ get_or shown j 0
+    same j l = sym (get_or-take (length shown) xs j 0 l) ∙ ap (λ s. get_or s j 0) front
+
+within : (limit : Option ℕ) (n k : ℕ) → k < n → IfSome limit (λ m. n ≤ m) → IfSome limit (λ m. k + 1 ≤ m)
+within None n k h fits = tt
+within (Some m) n k h fits = omega arith
+
+-- what was shown was taken up to and with the byte
+pub takes_shown : (old mid new : Option (List ℕ)) (limit : Option ℕ) (shown : List ℕ) (byte k : ℕ) → IfSome old (λ xs. StartsWith xs shown) → Keeps old mid
+    → IfSome old (λ _. IfSome limit (λ n. length shown ≤ n)) → DropsConsumable mid new limit (k + 1) → FirstAt byte shown k
+    → IfSome old (λ xs. take (k + 1) shown ≡ take_through byte xs) × DropsThrough old new byte
+takes_shown None mid new limit shown byte k front kept fits drops h = (tt, tt)
+takes_shown (Some xs) None new limit shown byte k front kept fits drops h = absurd kept
+takes_shown (Some xs) (Some ys) new limit shown byte k front kept fits drops h =
+    let there = in_front byte k xs shown front h in (
+      ap (take (k + 1)) (sym front) ∙ take-take (k + 1) (length shown) xs (omega (arith, h.0)) ∙ sym (takes_front byte k xs there),
+      drops (within limit (length shown) k h.0 fits) ∙ ap (λ l. Some (drop (k + 1) l)) kept ∙ ap Some (sym (drops_front byte k xs there)),
+    )
+
+pub appended : (old : Option (List ℕ)) (before after taken : List ℕ) (byte : ℕ) → after ≡ before ++ taken → IfSome old (λ xs. taken ≡ take_through byte xs) → IfSome old (λ xs. after ≡ before ++ take_through byte xs)
+appended None before after taken byte is h = tt
+appended (Some xs) before after taken byte is h = is ∙ ap (λ l. before ++ l) h

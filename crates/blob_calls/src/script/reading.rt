@@ -1,0 +1,52 @@
+//! Reading up to a byte.
+ghost use Rattle.std.specs.Prelude.{◌≡◌, ◌+◌, ◌++◌, IfSome, IfNone, IfOk, OnOk, vec_len};
+ghost use Rattle.std.specs.Io.KnownBytes.{IsAtEnd, Keeps};
+ghost use Rattle.std.specs.Io.BufRead.{DropsThrough, take_through};
+
+use memchr::memchr;
+use std::io::{BufRead, ErrorKind, Result};
+
+/// Takes what lies ready in a reader up to and with the first `byte`, where it is there, or tells that the input is at its end.
+/// Answers none where more has to be read; then nothing was taken.
+fn take_ready<R: BufRead>(reader: &mut R, byte: u8, bytes: &mut Vec<u8>) -> Result<Option<usize>>
+    ensures len { IfOk result (λ taken. IfSome taken (λ n. vec_len bytes.new ≡ vec_len bytes.old + n)) }
+    ensures bytes { IfOk result (λ taken. IfSome taken (λ _. IfSome (R.remaining reader.old) (λ xs. bytes.new.items ≡ bytes.old.items ++ take_through byte xs))) }
+    ensures rest { IfOk result (λ taken. IfSome taken (λ _. DropsThrough (R.remaining reader.old) (R.remaining reader.new) byte)) }
+    ensures end { IfOk result (λ taken. IfSome taken (λ n. n ≡ 0 → IsAtEnd (R.remaining reader.old))) }
+    ensures none { IfOk result (λ taken. IfNone taken (Keeps (R.remaining reader.old) (R.remaining reader.new))) }
+    ensures same { IfOk result (λ taken. IfNone taken (bytes.new ≡ bytes.old)) }
+{
+    let ready = match reader.fill_buf() {
+        Ok(ready) => ready,
+        Err(e) if e.kind() == ErrorKind::Interrupted => return Ok(None),
+        Err(e) => return Err(e),
+    };
+    if ready.is_empty() {
+        return Ok(Some(0));
+    }
+    let Some(place) = memchr(byte, ready) else {
+        return Ok(None);
+    };
+    let end = place + 1;
+    bytes.extend_from_slice(&ready[..end])?;
+    reader.consume(end);
+    Ok(Some(end))
+}
+
+/// Appends what a reader has left up to and with the first `byte`, or to its end. `BufRead::read_until` with a faster search: of a
+/// line that lies whole in the reader's buffer, no byte is looked at by itself.
+///
+/// # Errors
+///
+/// The reader's, but for an interrupted read, which is tried again; `OutOfMemory`.
+pub fn read_through<R: BufRead>(reader: &mut R, byte: u8, bytes: &mut Vec<u8>) -> Result<usize>
+    ensures len { IfOk result (λ n. vec_len bytes.new ≡ vec_len bytes.old + n) }
+    ensures bytes { OnOk result (IfSome (R.remaining reader.old) (λ xs. bytes.new.items ≡ bytes.old.items ++ take_through byte xs)) }
+    ensures rest { OnOk result (DropsThrough (R.remaining reader.old) (R.remaining reader.new) byte) }
+    ensures end { IfOk result (λ n. n ≡ 0 → IsAtEnd (R.remaining reader.old)) }
+{
+    if let Some(taken) = take_ready(reader, byte, bytes)? {
+        return Ok(taken);
+    }
+    reader.read_until(byte, bytes)
+}
