@@ -80,6 +80,8 @@ pub trait Blob<S: Durable> {
     // what a call may answer, by the values at entry: a refusal, or none for Ok
     ghost allows_read: { Self → S → ℕ → ℕ → Option Refusal → Type 0 };
 
+    ghost allows_read_buf: { Self → S → ℕ → ℕ → Option Refusal → Type 0 };
+
     ghost allows_write: { Self → S → ℕ → List ℕ → Bool → Option Refusal → Type 0 };
 
     ghost allows_resize: { Self → S → ℕ → Option Refusal → Type 0 };
@@ -130,7 +132,7 @@ pub trait Blob<S: Durable> {
         options: ReadOptions,
     ) -> Result<IoBufsMut, Error>
         requires { len ≤ buf.capacity }
-        ensures allowed { allows_read self.now store.old offset len (refused result) }
+        ensures allowed { allows_read_buf self.now store.old offset len (refused result) }
         ensures leaves { leaves (Read offset len) self.now store.old (refused result) self.now store.new }
         ensures within { OnOk result (offset + len ≤ length (live self.now)) }
         ensures bytes { IfOk result (λ read. read.bytes ≡ take len (drop offset (live self.now))) }
@@ -255,6 +257,9 @@ pub trait Blob<S: Durable> {
     fn origin(&self) -> Result<S::Origin, Error>
         ensures ok { IfOk result (λ origin. S.place origin ≡ place self.now) }
         ensures memory { OnErr result (IsMemory result) };
+
+    // a read into a buffer is answered what one into a new buffer may be
+    ghost reads_alike: { (b : Self) (s : S) (offset len : ℕ) (answer : Option Refusal) → allows_read_buf b s offset len answer → allows_read b s offset len answer };
 
     // a SYNC write of some bytes isn't answered Ok by a stale handle
     ghost stale_refused: { (b : Self) (s : S) (offset : ℕ) (bytes : List ℕ) → is_current (S.directory s) (place b) ≡ false → bytes ≢ [] → allows_write b s offset bytes true None → ⊥ };

@@ -17,4 +17,5 @@ pub mod RoomSteps
 pub mod RunRoom
 pub mod RunSteps
 pub mod SyncSteps
+pub mod WriteLeaving
 pub mod Writing

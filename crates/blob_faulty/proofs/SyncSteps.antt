@@ -43,3 +43,7 @@ ok_by (Err e) h = tt
 pub err_by : {T P : Type 0} (r : Result T Error) → (IsSome (refused r) → P) → OnErr r P
 err_by (Ok x) h = tt
 err_by (Err e) h = h refl
+
+pub when_ok : {T P : Type 0} (r : Result T Error) → refused r ≡ None → OnOk r P → P
+when_ok (Ok x) is h = h
+when_ok (Err e) is h = absurd (cc)

@@ -109,7 +109,7 @@ done_now direct old new effect now bytes logs directory place config rng = recor
   };
   done = λ _. logs;
   refused = λ _ some. absurd (cc);
-  memory = λ memory. absurd (cc);
+  undone = λ some. absurd (cc);
   config = config;
   rng = rng;
 }
@@ -134,7 +134,7 @@ later_refused direct whole old mid new all left effect one answer now indirect l
   };
   done = λ ok. absurd (cc);
   refused = λ d some. absurd (true≢false (sym d ∙ indirect));
-  memory = λ memory. absurd (cc);
+  undone = λ some never. absurd (never refl);
   config = w.config ∙ l.config;
   rng = w.rng ∙ l.rng;
 }
@@ -152,7 +152,7 @@ no_runs direct old rs none = subst (λ (x : List Run). Recorded direct direct ol
   };
   done = λ _ files below s. s;
   refused = λ _ some. absurd (cc);
-  memory = λ memory. absurd (cc);
+  undone = λ some. absurd (cc);
   config = refl;
   rng = refl;
 })
@@ -184,6 +184,7 @@ logs_after old mid new es u later files below s =
 
 records_after : {R : Type 0} (old mid new : View R) → SameRecords old mid → SameRecords mid new → SameRecords old new
 records_after old mid new u k = record {
+  size = k.size ∙ u.size;
   pending = λ o. k.pending o ∙ u.pending o;
   next_write = k.next_write ∙ u.next_write;
   next_marker = k.next_marker ∙ u.next_marker;
@@ -201,7 +202,7 @@ runs_after {R} direct whole old mid new rs answer u w = record {
   };
   done = λ ok. logs_after old mid new (kept_runs rs) u (w.done ok);
   refused = λ d r. records_after old mid new u.records (w.refused d r);
-  memory = λ m. records_after old mid new u.records (w.memory m);
+  undone = λ r never. records_after old mid new u.records (w.undone r never);
   config = w.config ∙ u.config;
   rng = w.rng ∙ u.rng;
 }

@@ -6,8 +6,13 @@ use Rattle.rand_core.specs.Stream.{Stream}
 use Rattle.blob_header.specs.Refusals.{Refusal, OffsetOverflow, Memory}
 use Rattle.blob_model.specs.Runs.{runs}
 use Rattle.blob_faults.specs.declared.config.Config.{Config}
-use Rattle.blob_faults.specs.Answers.{Allowed, or_memory, injected_for, numbered, lacks_number, allows_runs, allows_fate, allows_write}
+use Rattle.blob_faults.specs.Answers.{Allowed, or_memory, injected_or, injected_for, numbered, lacks_number, allows_runs, allows_fate, allows_write}
 use Rattle.blob_faults.specs.Faults.{WriteFate, Done, Unsynced, Failed, write_fate, retention, is_uncounted}
+
+-- where the inner store's answers are among others, so are the wrapper's
+pub injected_alike : (drawn : Bool) (inner wider : Allowed) (answer : Option Refusal) → (inner answer → wider answer) → injected_or drawn inner answer → injected_or drawn wider answer
+injected_alike true inner wider answer more a = a
+injected_alike false inner wider answer more a = more a
 
 -- a write whose sync fails isn't answered Ok
 pub injected_none : (inner : Allowed) → injected_for inner None → ⊥

@@ -1,86 +1,129 @@
 -- What a call through a handle leaves of it and of its wrapper besides files.
-use Rattle.std.specs.Prelude.{◌≡◌, ◌≢◌, ℕ, ◌+◌, Bool, true, List, [], ◌∷◌, ◌++◌, Option, Some, None, IsSome}
+use Rattle.std.specs.Prelude.{◌≡◌, ◌≢◌, ◌⊎◌, ℕ, ◌+◌, max, Bool, true, false, List, [], ◌∷◌, ◌++◌, length, Option, Some, None, IsSome, MatchBool}
 use Rattle.rand_core.specs.Stream.{Stream}
-use Rattle.blob_model.specs.Directory.{Directory}
-use Rattle.blob_model.specs.Durable.{Durable, with_at}
+use Rattle.blob_model.specs.Durable.{with_at}
+use Rattle.blob_model.specs.Log.{Entry}
 use Rattle.blob_base.specs.HandleCalls.{HandleCall, Read, Write, Resize, Sync, StartSync, Reserve}
+use Rattle.blob_base.specs.declared.storage.Blob as handles
+use Rattle.blob_base.specs.declared.storage.Durable as stores
 use Rattle.blob_model.specs.Pending.{Marker}
 use Rattle.blob_model.specs.Places.{Place}
-use Rattle.blob_header.specs.Refusals.{Refusal, Memory}
+use Rattle.blob_header.specs.Refusals.{Refusal, Injected, Memory, WriteFailed}
 use Rattle.blob_faulty.specs.declared.storage.Storage.{Storage}
 use Rattle.blob_faulty.specs.declared.blob.Blob.{Blob}
-use Rattle.blob_faults.specs.Faults.{draw, ResizeFate, resize_fate, after_write}
+use Rattle.blob_faults.specs.Faults.{Done, draw, ResizeFate, resize_fate, write_fate, after_write}
 use Rattle.blob_faults.specs.Recorded.{recorded_write, recorded_resize, live_of_write, live_of_resize, size_of_write, size_of_resize}
 use Rattle.blob_faulty.specs.Syncs.{Publishes, Starts}
 use Rattle.blob_faulty.specs.Wrapper.{inner_of, rng_of, config_of, next_write_of, next_marker_of, pending_of, inside, size_of, KeepsNumbers, KeepsRecords, Adds}
 
--- a read: one draw of the read rate is taken
-pub record ReadLeaves {S R O : Type 0} (origin : O → Place) (stream : R → Stream) (before after : Storage S R O) : Type 0 where
+-- whatever files the wrapper stood for, these entries were added to the log of the handle's incarnation
+abbrev pub Logged : {S R O B : Type 0} → stores.Ghosts S O → handles.Ghosts B S O → Blob B → Storage S R O → Storage S R O → List Entry → Type 0
+Logged store handle b before after entries =
+    Adds store.place (store.directory (inner_of before)) (store.durable (inner_of before)) (store.durable (inner_of after)) before after (handle.place (inside b)) entries
+
+-- the size that is tracked behind a write that was done
+abbrev pub size_written : Bool → ℕ → ℕ → List ℕ → ℕ
+size_written true size offset [] = size
+size_written true size offset (b ∷ bytes) = max size (offset + length (b ∷ bytes))
+size_written false size offset bytes = max size (offset + length bytes)
+
+-- nothing was recorded and nothing retired, and the handle tracks the size that it did
+pub record Untouched {S R O B : Type 0} (store : stores.Ghosts S O) (b : Blob B) (before : Storage S R O) (c : Blob B) (after : Storage S R O) : Type 0 where
+  pub records : KeepsRecords store.place before after
+  pub size : size_of c ≡ size_of b
+
+-- the inner store was asked once, or the call was refused before that
+abbrev pub AsksOnce : {S R O : Type 0} → (S → Type 0) → Option Refusal → Storage S R O → Storage S R O → Type 0
+AsksOnce asked answer before after = (IsSome answer × (inner_of after ≡ inner_of before)) ⊎ asked (inner_of after)
+
+-- the inner store began a sync, and the handle that it answered was finished there
+pub record Finishes {S : Type 0} (starts : Option ℕ → S → Type 0) (finishes : S → Option ℕ → S → Type 0) (after : S) : Type 0 where
+  pub marker : Option ℕ
+  pub between : S
+  pub started : starts marker between
+  pub finished : finishes between marker after
+
+-- a read: one draw of the read rate is taken, and where it is true the inner store isn't asked
+pub record ReadLeaves {S R O : Type 0} (store : stores.Ghosts S O) (stream : R → Stream) (asked : S → Type 0) (before after : Storage S R O) : Type 0 where
   pub drawn : stream (rng_of after) ≡ (draw (config_of before).read_rate (stream (rng_of before))).1
-  pub records : KeepsRecords origin before after
+  pub inner : MatchBool (draw (config_of before).read_rate (stream (rng_of before))).0 (inner_of after ≡ inner_of before) (asked (inner_of after))
+  pub unrecorded : KeepsRecords store.place before after
 
 -- a write
-pub record WriteLeaves {S R O B : Type 0} (names : S → Directory) (durable : S → Durable) (origin : O → Place) (place : B → Place) (live : B → List ℕ) (stream : R → Stream) (direct : Bool) (offset : ℕ) (bytes : List ℕ) (sync : Bool) (b : Blob B) (before : Storage S R O) (answer : Option Refusal) (c : Blob B) (after : Storage S R O) : Type 0 where
+pub record WriteLeaves {S R O B : Type 0} (store : stores.Ghosts S O) (handle : handles.Ghosts B S O) (stream : R → Stream) (offset : ℕ) (bytes : List ℕ) (sync : Bool) (b : Blob B) (before : Storage S R O) (answer : Option Refusal) (c : Blob B) (after : Storage S R O) : Type 0 where
   pub drawn : answer ≢ Some Memory → stream (rng_of after) ≡ after_write (config_of before) sync offset bytes (stream (rng_of before))
   pub config : config_of after ≡ config_of before
   -- over a store that injects nothing
-  pub recorded : direct ≡ true → Adds origin (names (inner_of before)) (durable (inner_of before)) (durable (inner_of after)) before after (place (inside b)) (recorded_write (config_of before) (next_write_of before) (stream (rng_of before)) sync offset bytes answer)
-  pub live_after : direct ≡ true → live (inside c) ≡ live_of_write (config_of before) (stream (rng_of before)) sync (live (inside b)) offset bytes answer
-  pub size : direct ≡ true → size_of c ≡ size_of_write (config_of before) (stream (rng_of before)) sync (size_of b) offset bytes answer
-  -- refused for memory
-  pub unrecorded : answer ≡ Some Memory → KeepsRecords origin before after
-  pub same_size : answer ≡ Some Memory → size_of c ≡ size_of b
+  pub recorded : handle.is_direct ≡ true → Logged store handle b before after (recorded_write (config_of before) (next_write_of before) (stream (rng_of before)) sync offset bytes answer)
+  pub live_after : handle.is_direct ≡ true → handle.live (inside c) ≡ live_of_write (config_of before) (stream (rng_of before)) sync (handle.live (inside b)) offset bytes answer
+  pub size : handle.is_direct ≡ true → size_of c ≡ size_of_write (config_of before) (stream (rng_of before)) sync (size_of b) offset bytes answer
+  -- answered Ok, over any store
+  pub done : answer ≡ None → Logged store handle b before after (recorded_write (config_of before) (next_write_of before) (stream (rng_of before)) sync offset bytes None)
+  pub done_size : answer ≡ None → size_of c ≡ size_written sync (size_of b) offset bytes
+  -- refused over any store: where no draw fails it, and by all but a fault of the draws or of the inner store
+  pub refused : (write_fate (config_of before) sync offset (length bytes) (stream (rng_of before))).0 ≡ Done → IsSome answer → Untouched store b before c after
+  pub unrecorded : IsSome answer → answer ≢ Some Injected → answer ≢ Some WriteFailed → Untouched store b before c after
+  -- a fault leaves nothing recorded, or all that is kept of the write
+  pub injected : answer ≡ Some Injected →
+      Untouched store b before c after ⊎ Logged store handle b before after (recorded_write (config_of before) (next_write_of before) (stream (rng_of before)) sync offset bytes (Some Injected))
 
 -- a resize, by the fate that is drawn for it
-pub record ResizeLeaves {S R O B : Type 0} (names : S → Directory) (durable : S → Durable) (origin : O → Place) (place : B → Place) (live : B → List ℕ) (stream : R → Stream) (direct : Bool) (len : ℕ) (drawn_fate : ResizeFate) (left : Stream) (b : Blob B) (before : Storage S R O) (answer : Option Refusal) (c : Blob B) (after : Storage S R O) : Type 0 where
+pub record ResizeLeaves {S R O B : Type 0} (store : stores.Ghosts S O) (handle : handles.Ghosts B S O) (stream : R → Stream) (len : ℕ) (fate : ResizeFate) (left : Stream) (b : Blob B) (before : Storage S R O) (answer : Option Refusal) (c : Blob B) (after : Storage S R O) : Type 0 where
   pub drawn : stream (rng_of after) ≡ left
   pub numbers : KeepsNumbers before after
-  -- answered Ok
+  -- answered Ok, over any store
   pub size : answer ≡ None → size_of c ≡ len
-  pub recorded : answer ≡ None → Adds origin (names (inner_of before)) (durable (inner_of before)) (durable (inner_of after)) before after (place (inside b)) (recorded_resize drawn_fate len None)
+  pub recorded : answer ≡ None → Logged store handle b before after (recorded_resize fate len None)
   -- over a store that injects nothing
-  pub live_after : direct ≡ true → live (inside c) ≡ live_of_resize drawn_fate (live (inside b)) len answer
-  pub size_after : direct ≡ true → size_of c ≡ size_of_resize drawn_fate (size_of b) len answer
-  pub recorded_after : direct ≡ true → Adds origin (names (inner_of before)) (durable (inner_of before)) (durable (inner_of after)) before after (place (inside b)) (recorded_resize drawn_fate len answer)
-  -- refused for memory
-  pub unrecorded : answer ≡ Some Memory → KeepsRecords origin before after
-  pub same_size : answer ≡ Some Memory → size_of c ≡ size_of b
+  pub live_after : handle.is_direct ≡ true → handle.live (inside c) ≡ live_of_resize fate (handle.live (inside b)) len answer
+  pub size_after : handle.is_direct ≡ true → size_of c ≡ size_of_resize fate (size_of b) len answer
+  pub recorded_after : handle.is_direct ≡ true → Logged store handle b before after (recorded_resize fate len answer)
+  -- refused over any store, as a write
+  pub unrecorded : IsSome answer → answer ≢ Some Injected → Untouched store b before c after
+  pub injected : answer ≡ Some Injected → Untouched store b before c after ⊎ Logged store handle b before after (recorded_resize fate len (Some Injected))
 
 -- a sync
-pub record SyncLeaves {S R O B : Type 0} (names : S → Directory) (durable : S → Durable) (origin : O → Place) (place : B → Place) (live : B → List ℕ) (stream : R → Stream) (b : Blob B) (before : Storage S R O) (answer : Option Refusal) (c : Blob B) (after : Storage S R O) : Type 0 where
+pub record SyncLeaves {S R O B : Type 0} (store : stores.Ghosts S O) (handle : handles.Ghosts B S O) (stream : R → Stream) (b : Blob B) (before : Storage S R O) (answer : Option Refusal) (c : Blob B) (after : Storage S R O) : Type 0 where
   pub drawn : stream (rng_of after) ≡ (draw (config_of before).sync_rate (stream (rng_of before))).1
+  pub inner : MatchBool (draw (config_of before).sync_rate (stream (rng_of before))).0 (inner_of after ≡ inner_of before)
+      (AsksOnce (handle.leaves Sync (inside b) (inner_of before) answer (inside c)) answer before after)
   pub numbers : KeepsNumbers before after
   pub size : size_of c ≡ size_of b
-  pub pending : answer ≡ None → (o : Place) → pending_of origin after o ≡ with_at (pending_of origin before) (place (inside b)) [] o
-  pub published : answer ≡ None → Publishes origin (names (inner_of before)) (durable (inner_of before)) (durable (inner_of after)) before after (place (inside b)) (live (inside b))
-  pub unrecorded : IsSome answer → KeepsRecords origin before after
+  pub pending : answer ≡ None → (o : Place) → pending_of store.place after o ≡ with_at (pending_of store.place before) (handle.place (inside b)) [] o
+  pub published : answer ≡ None → Publishes store.place (store.directory (inner_of before)) (store.durable (inner_of before)) (store.durable (inner_of after)) before after (handle.place (inside b)) (handle.live (inside b))
+  pub unrecorded : IsSome answer → KeepsRecords store.place before after
 
 -- a started sync: answered Ok, its handle carries the next marker, which stands behind what is pending; refused, it carries none
-pub record StartLeaves {S R O B : Type 0} (names : S → Directory) (durable : S → Durable) (origin : O → Place) (place : B → Place) (live : B → List ℕ) (stream : R → Stream) (marker : Option ℕ) (b : Blob B) (before : Storage S R O) (answer : Option Refusal) (c : Blob B) (after : Storage S R O) : Type 0 where
+pub record StartLeaves {S R O B : Type 0} (store : stores.Ghosts S O) (handle : handles.Ghosts B S O) (finishes : S → Option ℕ → S → Type 0) (stream : R → Stream) (marker : Option ℕ) (b : Blob B) (before : Storage S R O) (answer : Option Refusal) (c : Blob B) (after : Storage S R O) : Type 0 where
   pub drawn : stream (rng_of after) ≡ (draw (config_of before).sync_rate (stream (rng_of before))).1
+  pub inner : MatchBool (draw (config_of before).sync_rate (stream (rng_of before))).0 (inner_of after ≡ inner_of before)
+      (AsksOnce (Finishes (λ marker. handle.leaves (StartSync marker) (inside b) (inner_of before) answer (inside c)) finishes) answer before after)
   pub config : config_of after ≡ config_of before
   pub next_write : next_write_of after ≡ next_write_of before
   pub size : size_of c ≡ size_of b
   pub marked : answer ≡ None → marker ≡ Some (next_marker_of before)
   pub next_marker : answer ≡ None → next_marker_of after ≡ next_marker_of before + 1
-  pub pending : answer ≡ None → (o : Place) → pending_of origin after o ≡ with_at (pending_of origin before) (place (inside b)) (pending_of origin before (place (inside b)) ++ Marker (next_marker_of before) ∷ []) o
-  pub started : answer ≡ None → Starts origin (names (inner_of before)) (durable (inner_of before)) (durable (inner_of after)) before after (place (inside b)) (live (inside b))
-  pub unmarked : IsSome answer → marker ≡ None
-  pub unrecorded : IsSome answer → KeepsRecords origin before after
+  pub pending : answer ≡ None → (o : Place) →
+      pending_of store.place after o ≡ with_at (pending_of store.place before) (handle.place (inside b)) (pending_of store.place before (handle.place (inside b)) ++ Marker (next_marker_of before) ∷ []) o
+  pub started : answer ≡ None → Starts store.place (store.directory (inner_of before)) (store.durable (inner_of before)) (store.durable (inner_of after)) before after (handle.place (inside b)) (handle.live (inside b))
+  pub unrecorded : IsSome answer → KeepsRecords store.place before after
 
 -- room: nothing is drawn
-pub record ReserveLeaves {S R O B : Type 0} (origin : O → Place) (stream : R → Stream) (b : Blob B) (before : Storage S R O) (c : Blob B) (after : Storage S R O) : Type 0 where
+pub record ReserveLeaves {S R O B : Type 0} (store : stores.Ghosts S O) (stream : R → Stream) (asked : S → Type 0) (b : Blob B) (before : Storage S R O) (c : Blob B) (after : Storage S R O) : Type 0 where
   pub drawn : stream (rng_of after) ≡ stream (rng_of before)
-  pub records : KeepsRecords origin before after
+  pub inner : asked (inner_of after)
+  pub unrecorded : KeepsRecords store.place before after
   pub size : size_of c ≡ size_of b
 
--- any of these
-abbrev pub HandleLeaves : {S R O B : Type 0} → (S → Directory) → (S → Durable) → (O → Place) → (B → Place) → (B → List ℕ) → (R → Stream) → Bool → HandleCall → Blob B → Storage S R O → Option Refusal → Blob B → Storage S R O → Type 0
-HandleLeaves names durable origin place live stream direct (Read offset len) b before answer c after = ReadLeaves origin stream before after
-HandleLeaves names durable origin place live stream direct (Write offset bytes sync) b before answer c after = WriteLeaves names durable origin place live stream direct offset bytes sync b before answer c after
-HandleLeaves names durable origin place live stream direct (Resize len) b before answer c after =
+-- any of these, where `finishes` is what a finished sync leaves of the inner store
+abbrev pub HandleLeaves : {S R O B : Type 0} → stores.Ghosts S O → handles.Ghosts B S O → (S → Option ℕ → S → Type 0) → (R → Stream) → HandleCall → Blob B → Storage S R O → Option Refusal → Blob B → Storage S R O → Type 0
+HandleLeaves store handle finishes stream (Read offset len) b before answer c after =
+    ReadLeaves store stream (handle.leaves (Read offset len) (inside b) (inner_of before) answer (inside c)) before after
+HandleLeaves store handle finishes stream (Write offset bytes sync) b before answer c after = WriteLeaves store handle stream offset bytes sync b before answer c after
+HandleLeaves store handle finishes stream (Resize len) b before answer c after =
     let fate = resize_fate (config_of before).resize_rate (size_of b) len (stream (rng_of before)) in
-    ResizeLeaves names durable origin place live stream direct len fate.0 fate.1 b before answer c after
-HandleLeaves names durable origin place live stream direct Sync b before answer c after = SyncLeaves names durable origin place live stream b before answer c after
-HandleLeaves names durable origin place live stream direct (StartSync marker) b before answer c after = StartLeaves names durable origin place live stream marker b before answer c after
-HandleLeaves names durable origin place live stream direct (Reserve end) b before answer c after = ReserveLeaves origin stream b before c after
+    ResizeLeaves store handle stream len fate.0 fate.1 b before answer c after
+HandleLeaves store handle finishes stream Sync b before answer c after = SyncLeaves store handle stream b before answer c after
+HandleLeaves store handle finishes stream (StartSync marker) b before answer c after = StartLeaves store handle finishes stream marker b before answer c after
+HandleLeaves store handle finishes stream (Reserve end) b before answer c after =
+    ReserveLeaves store stream (handle.leaves (Reserve end) (inside b) (inner_of before) answer (inside c)) b before c after

@@ -1,12 +1,19 @@
 -- Bytes that a wrapper keeps: no crash can lose them.
-use Rattle.std.specs.Prelude.{◌≡◌, ℕ, ◌<◌, List, [], Some, unwrap_or}
+use Rattle.std.specs.Prelude.{◌≡◌, ℕ, ◌<◌, ◌≤◌, ◌++◌, length, Bool, true, List, [], Option, Some, None, unwrap_or}
+use Rattle.rand_core.specs.Stream.{Stream}
+use Rattle.blob_base.specs.declared.storage.Blob as handles
+use Rattle.blob_base.specs.declared.storage.Durable as stores
+use Rattle.blob_header.specs.Fronts.{BeginsWith}
+use Rattle.blob_header.specs.Refusals.{Refusal}
+use Rattle.blob_faults.specs.Recorded.{recorded_write}
+use Rattle.blob_faulty.specs.declared.blob.Blob.{Blob}
 use Rattle.blob_model.specs.Directory.{Directory, current}
 use Rattle.blob_model.specs.Durable.{Durable}
 use Rattle.blob_model.specs.Files.{Files}
 use Rattle.blob_model.specs.Persistence.{AreFixed}
 use Rattle.blob_model.specs.Places.{Place}
 use Rattle.blob_faulty.specs.declared.storage.Storage.{Storage}
-use Rattle.blob_faulty.specs.Wrapper.{Stands, inner_of}
+use Rattle.blob_faulty.specs.Wrapper.{Stands, Adds, KeepsRecords, inner_of, rng_of, config_of, next_write_of}
 use Rattle.blob_memory.specs.Store.{directory, durable}
 use Rattle.blob_memory.specs.declared.storage.Storage as memory
 
@@ -23,6 +30,35 @@ pub record KeepsBytes {S R O : Type 0} (place : O → Place) (names : S → Dire
 -- the bytes of each incarnation that a store is wrapped with, none where it isn't current
 abbrev pub found_in : Durable → Place → List ℕ
 found_in bytes_of o = unwrap_or (bytes_of o) []
+
+-- What is kept through calls that are known by their contracts.
+
+module _ (R : Type 0) {S O : Type 0} (store : stores.Ghosts S O) where
+  -- through one that records and retires nothing
+  abbrev pub KeptUnrecorded : Type 0
+  KeptUnrecorded = (old new : Storage S R O) (o : Place) (bytes : List ℕ) →
+      store.directory (inner_of new) ≡ store.directory (inner_of old) → store.durable (inner_of new) ≡ store.durable (inner_of old) → KeepsRecords store.place old new →
+      KeepsBytes store.place store.directory store.durable old o bytes → KeepsBytes store.place store.directory store.durable new o bytes
+
+  -- with all its fronts
+  abbrev pub KeptFronts : Type 0
+  KeptFronts = (w : Storage S R O) (o : Place) (front bytes : List ℕ) → BeginsWith front bytes →
+      KeepsBytes store.place store.directory store.durable w o bytes → KeepsBytes store.place store.directory store.durable w o front
+
+  -- through a write behind it
+  abbrev pub KeptBehind : (R → Stream) → Type 0
+  KeptBehind stream = (old new : Storage S R O) (o : Place) (kept bytes : List ℕ) (offset : ℕ) (sync : Bool) (answer : Option Refusal) →
+      store.directory (inner_of new) ≡ store.directory (inner_of old) →
+      Adds store.place (store.directory (inner_of old)) (store.durable (inner_of old)) (store.durable (inner_of new)) old new o (recorded_write (config_of old) (next_write_of old) (stream (rng_of old)) sync offset bytes answer) →
+      length kept ≤ offset → KeepsBytes store.place store.directory store.durable old o kept → KeepsBytes store.place store.directory store.durable new o kept
+
+  -- with a SYNC write right behind it that was done
+  abbrev pub KeptAppended : {B : Type 0} → handles.Ghosts (Blob B) (Storage S R O) O → (R → Stream) → Type 0
+  KeptAppended {B} wrapped stream = (b : Blob B) (old new : Storage S R O) (o : Place) (kept bytes : List ℕ) (offset : ℕ) →
+      wrapped.allows_write b old offset bytes true None →
+      store.directory (inner_of new) ≡ store.directory (inner_of old) →
+      Adds store.place (store.directory (inner_of old)) (store.durable (inner_of old)) (store.durable (inner_of new)) old new o (recorded_write (config_of old) (next_write_of old) (stream (rng_of old)) true offset bytes None) →
+      offset ≡ length kept → KeepsBytes store.place store.directory store.durable old o kept → KeepsBytes store.place store.directory store.durable new o (kept ++ bytes)
 
 -- Over the memory store.
 

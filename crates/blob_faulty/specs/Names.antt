@@ -1,9 +1,11 @@
 -- What opens and removals leave of a wrapper, and what that makes of the files that it stands for.
-use Rattle.std.specs.Prelude.{◌≡◌, ℕ, Bool, List, [], cond, Option, None, IsSome, MatchBool}
+use Rattle.std.specs.Prelude.{◌≡◌, ℕ, Bool, List, [], cond, Option, Some, None, IsSome, MatchBool}
 use Rattle.rand_core.specs.Stream.{Stream}
-use Rattle.blob_model.specs.Directory.{Directory}
-use Rattle.blob_model.specs.Durable.{Durable}
-use Rattle.blob_model.specs.Files.{Files}
+use Rattle.blob_base.specs.declared.storage.Durable as stores
+use Rattle.blob_model.specs.Directory.{Directory, removed}
+use Rattle.blob_model.specs.Durable.{Durable, durable_without}
+use Rattle.blob_model.specs.Files.{Files, after_open, after_remove, ends_by}
+use Rattle.blob_model.specs.Opening.{IsOpened}
 use Rattle.blob_model.specs.Pending.{Pending}
 use Rattle.blob_model.specs.Places.{Place}
 use Rattle.blob_header.specs.Refusals.{Refusal}
@@ -36,12 +38,20 @@ pub record RemoveLeaves {S R O : Type 0} (place : O → Place) (stream : R → S
   pub kept : IsSome answer → (o : Place) → pending_of place after o ≡ pending_of place before o
   pub numbers : KeepsNumbers before after
 
--- a scan
-pub record ScanLeaves {S R O : Type 0} (place : O → Place) (stream : R → Stream) (before after : Storage S R O) : Type 0 where
+-- whatever files a wrapper stood for, it now stands for what this step makes of them
+abbrev pub Steps : {S R O : Type 0} → (O → Place) → (S → Directory) → (S → Durable) → Storage S R O → Storage S R O → (Files → Files) → Type 0
+Steps place directory durable before after step = (files : Files) →
+    Stands place (directory (inner_of before)) (durable (inner_of before)) before files → Stands place (directory (inner_of after)) (durable (inner_of after)) after (step files)
+
+-- a scan, by what it may leave of the inner store
+pub record ScanLeaves {S R O : Type 0} (store : stores.Ghosts S O) (stream : R → Stream) (asked : S → Type 0) (before after : Storage S R O) : Type 0 where
   -- one draw of the scan rate is taken
   pub drawn : stream (rng_of after) ≡ (draw (config_of before).scan_rate (stream (rng_of before))).1
+  -- where it is true the inner store isn't asked
+  pub inner : MatchBool (draw (config_of before).scan_rate (stream (rng_of before))).0 (inner_of after ≡ inner_of before) (asked (inner_of after))
   -- nothing is recorded and nothing retired
-  pub records : KeepsRecords place before after
+  pub unrecorded : KeepsRecords store.place before after
+  pub files : Steps store.place store.directory store.durable before after (λ files. files)
 
 -- a started sync that is finished, by the marker that its handle carries
 pub record FinishLeaves {S R O : Type 0} (place : O → Place) (marker : Option ℕ) (before after : Storage S R O) : Type 0 where
@@ -52,7 +62,30 @@ pub record FinishLeaves {S R O : Type 0} (place : O → Place) (marker : Option 
   pub rng : rng_of after ≡ rng_of before
   pub inner : inner_of after ≡ inner_of before
 
--- whatever files a wrapper stood for, it now stands for what this step makes of them
-abbrev pub Steps : {S R O : Type 0} → (O → Place) → (S → Directory) → (S → Durable) → Storage S R O → Storage S R O → (Files → Files) → Type 0
-Steps place directory durable before after step = (files : Files) →
-    Stands place (directory (inner_of before)) (durable (inner_of before)) before files → Stands place (directory (inner_of after)) (durable (inner_of after)) after (step files)
+-- What an open and a removal make of the files, to a caller that knows them by the traits alone; `asked` is what they may leave
+-- of the inner store.
+
+module _ {S R O : Type 0} (store : stores.Ghosts S O) (stream : R → Stream) where
+  abbrev pub AcceptedOpens : (S → List ℕ → List ℕ → ℕ → ℕ → Option Refusal → S → Type 0) → Type 0
+  AcceptedOpens asked = (before after : Storage S R O) (p n : List ℕ) (first last : ℕ) (o : Place) (live : List ℕ) (version : ℕ) →
+      IsOpened (store.directory (inner_of before)) (store.durable (inner_of before)) (store.directory (inner_of after)) (store.durable (inner_of after)) p n first last o live version →
+      OpenLeaves store.place stream (asked (inner_of before) p n first last None) before after →
+      Steps store.place store.directory store.durable before after (λ files. after_open files p n first last)
+
+  abbrev pub RefusedOpens : (S → List ℕ → List ℕ → ℕ → ℕ → Option Refusal → S → Type 0) → Type 0
+  RefusedOpens asked = (before after : Storage S R O) (p n : List ℕ) (first last : ℕ) (r : Refusal) →
+      store.directory (inner_of after) ≡ store.directory (inner_of before) → store.durable (inner_of after) ≡ store.durable (inner_of before) →
+      OpenLeaves store.place stream (asked (inner_of before) p n first last (Some r)) before after →
+      Steps store.place store.directory store.durable before after (λ files. files)
+
+  abbrev pub DoneRemovals : (S → List ℕ → Option (List ℕ) → Option Refusal → S → Type 0) → Type 0
+  DoneRemovals asked = (before after : Storage S R O) (p : List ℕ) (n : Option (List ℕ)) →
+      store.directory (inner_of after) ≡ removed (store.directory (inner_of before)) p n → store.durable (inner_of after) ≡ durable_without (store.durable (inner_of before)) p n →
+      RemoveLeaves store.place stream (asked (inner_of before) p n None) None (ends_by (store.directory (inner_of before)) p n) before after →
+      Steps store.place store.directory store.durable before after (λ files. after_remove files p n)
+
+  abbrev pub RefusedRemovals : (S → List ℕ → Option (List ℕ) → Option Refusal → S → Type 0) → Type 0
+  RefusedRemovals asked = (before after : Storage S R O) (p : List ℕ) (n : Option (List ℕ)) (r : Refusal) →
+      store.directory (inner_of after) ≡ store.directory (inner_of before) → store.durable (inner_of after) ≡ store.durable (inner_of before) →
+      RemoveLeaves store.place stream (asked (inner_of before) p n (Some r)) (Some r) (ends_by (store.directory (inner_of before)) p n) before after →
+      Steps store.place store.directory store.durable before after (λ files. files)

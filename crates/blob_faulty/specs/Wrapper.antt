@@ -51,6 +51,11 @@ pub record KeepsRecords {S R O : Type 0} (place : O → Place) (old new : Storag
 abbrev pub Stands : {S R O : Type 0} → (O → Place) → Directory → Durable → Storage S R O → Files → Type 0
 Stands place directory durable w files = StandsFor directory durable (pending_of place w) (next_write_of w) (next_marker_of w) files
 
+-- where nothing was recorded, and directory and durable bytes stayed, it stands for the same files
+abbrev pub KeepsFiles : (S R O : Type 0) → (O → Place) → Type 0
+KeepsFiles S R O place = (names names_after : Directory) (bytes bytes_after : Durable) (old new : Storage S R O) (files : Files) →
+    names_after ≡ names → bytes_after ≡ bytes → KeepsRecords place old new → Stands place names bytes old files → Stands place names_after bytes_after new files
+
 -- whatever files a wrapper stood for, it now stands for them with these entries added to an incarnation's log. The directory stays
 abbrev pub Adds : {S R O : Type 0} → (O → Place) → Directory → Durable → Durable → Storage S R O → Storage S R O → Place → List Entry → Type 0
 Adds place names bytes bytes' old new o entries = (files : Files) → o.number < names.next → Stands place names bytes old files → Stands place names bytes' new (all_logged files o entries)

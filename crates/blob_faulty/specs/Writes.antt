@@ -1,5 +1,5 @@
 -- What a write makes of a handle and of the wrapper that it is used with.
-use Rattle.std.specs.Prelude.{◌≡◌, ℕ, ◌<◌, ◌+◌, max, Bool, true, false, List, [], ◌∷◌, length, Option, Some, None, IsSome}
+use Rattle.std.specs.Prelude.{◌≡◌, ◌≢◌, ◌⊎◌, ℕ, ◌<◌, ◌+◌, max, Bool, true, false, List, [], ◌∷◌, length, Option, Some, None, IsSome}
 use Rattle.blob_model.specs.Bytes.{overlay, resized}
 use Rattle.blob_model.specs.Directory.{Directory, is_current}
 use Rattle.blob_model.specs.Durable.{Durable, changed, with_at}
@@ -9,7 +9,7 @@ use Rattle.blob_model.specs.Log.{Entry}
 use Rattle.blob_model.specs.Order.{Held, held_at}
 use Rattle.blob_model.specs.Pending.{Pending}
 use Rattle.blob_model.specs.Places.{Place}
-use Rattle.blob_header.specs.Refusals.{Refusal, Memory}
+use Rattle.blob_header.specs.Refusals.{Refusal, Injected, Memory, WriteFailed}
 use Rattle.blob_model.specs.Runs.{Run, kept_runs}
 use Rattle.blob_model.specs.Stands.{StandsFor}
 use Rattle.blob_base.specs.declared.storage.Durable as stores
@@ -58,8 +58,9 @@ IsFor v files = StandsFor v.directory v.durable (held_at v.held) v.next_write v.
 abbrev pub Logs : {R : Type 0} → View R → View R → List Entry → Type 0
 Logs old new entries = (files : Files) → old.place.number < old.directory.next → IsFor old files → IsFor new (all_logged files old.place entries)
 
--- nothing was recorded and nothing retired
+-- nothing was recorded and nothing retired, and the size is tracked as before
 pub record SameRecords {R : Type 0} (old new : View R) : Type 0 where
+  pub size : new.size ≡ old.size
   pub pending : (o : Place) → held_at new.held o ≡ held_at old.held o
   pub next_write : new.next_write ≡ old.next_write
   pub next_marker : new.next_marker ≡ old.next_marker
@@ -102,7 +103,7 @@ pub record Recorded {R : Type 0} (direct whole : Bool) (old new : View R) (effec
   pub wrote : Wrote direct old new effect answer
   pub done : answer ≡ None → Logs old new (effect old).entries
   pub refused : whole ≡ true → IsSome answer → SameRecords old new
-  pub memory : answer ≡ Some Memory → SameRecords old new
+  pub undone : IsSome answer → answer ≢ Some WriteFailed → SameRecords old new
   pub config : new.config ≡ old.config
   pub rng : new.rng ≡ old.rng
 
@@ -153,9 +154,10 @@ pub record WroteBy {R : Type 0} (fate : WriteFate) (direct : Bool) (old new : Vi
   -- by any store, what was done is recorded, and of a write that no draw fails nothing else is
   pub recorded : answer ≡ None → Logs old new (recorded_by fate (retention old.config.write_rate) old.next_write sync offset bytes None)
   pub undone : fate ≡ Done → IsSome answer → SameRecords old new
+  pub unrecorded : IsSome answer → answer ≢ Some Injected → answer ≢ Some WriteFailed → SameRecords old new
+  pub injected : answer ≡ Some Injected → SameRecords old new ⊎ Logs old new (recorded_by fate (retention old.config.write_rate) old.next_write sync offset bytes (Some Injected))
   -- refused for memory
   pub memory : answer ≡ Some Memory → HasBytes new old.live old.durable old.size
-  pub unrecorded : answer ≡ Some Memory → SameRecords old new
   -- by the handle of an incarnation that is gone
   pub stale : is_current old.directory old.place ≡ false → new.durable ≡ old.durable
   pub directory : new.directory ≡ old.directory
@@ -192,9 +194,11 @@ pub record ResizedBy {R : Type 0} (fate : ResizeFate) (direct : Bool) (old new :
   pub live : direct ≡ true → new.live ≡ live_of_resize fate old.live len answer
   pub size : direct ≡ true → new.size ≡ size_of_resize fate old.size len answer
   pub logs : direct ≡ true → Logs old new (recorded_resize fate len answer)
+  -- refused by any store
+  pub unrecorded : IsSome answer → answer ≢ Some Injected → SameRecords old new
+  pub injected : answer ≡ Some Injected → SameRecords old new ⊎ Logs old new (recorded_resize fate len (Some Injected))
   -- refused for memory
   pub memory : answer ≡ Some Memory → HasBytes new old.live old.durable old.size
-  pub unrecorded : answer ≡ Some Memory → SameRecords old new
   pub directory : new.directory ≡ old.directory
   pub place : new.place ≡ old.place
   pub rng : new.rng ≡ old.rng

@@ -16,7 +16,7 @@ ghost use Rattle.blob_faulty.specs.HandleLeaves.{HandleLeaves};
 ghost use Rattle.blob_faults.specs.Recorded.{recorded_write, recorded_resize, live_of_write, live_of_resize, size_of_write, size_of_resize};
 ghost use Rattle.blob_faulty.specs.Syncs.{Publishes, Starts};
 ghost use Rattle.blob_faulty.specs.Wrapper.{inner_of, rng_of, config_of, next_write_of, next_marker_of, pending_of, inside, size_of, KeepsRecords, KeepsNumbers, Adds};
-ghost use Rattle.blob_faulty.specs.AnswerLaws.{write_none, write_empty};
+ghost use Rattle.blob_faulty.specs.AnswerLaws.{injected_alike, write_none, write_empty};
 
 use crate::storage::Storage;
 use blob_base::{Error, Handle, IoBufs, IoBufsMut, ReadOptions, WriteOptions};
@@ -60,6 +60,8 @@ impl<S: blob_base::Storage, R: Rng, B: blob_base::Blob<S>> blob_base::Blob<Stora
 
     ghost allows_read = { λ b s offset len. injected_or (draw s.config.read_rate (R.stream s.rng)).0 (B.allows_read b.inner s.inner offset len) };
 
+    ghost allows_read_buf = { λ b s offset len. injected_or (draw s.config.read_rate (R.stream s.rng)).0 (B.allows_read_buf b.inner s.inner offset len) };
+
     ghost allows_write = { λ b s. answers_write (B.allows_write b.inner s.inner) (B.allows_reserve b.inner s.inner) B.is_direct s.config s.next_write (R.stream s.rng) };
 
     ghost allows_resize = { λ b s len. answers_resize (B.allows_resize b.inner s.inner) (resize_fate s.config.resize_rate b.size len (R.stream s.rng)).0 len };
@@ -70,7 +72,7 @@ impl<S: blob_base::Storage, R: Rng, B: blob_base::Blob<S>> blob_base::Blob<Stora
 
     ghost allows_reserve = { λ b s end. B.allows_reserve b.inner s.inner end };
 
-    ghost leaves = { λ call b before answer c after. HandleLeaves S.directory S.durable S.place B.place B.live R.stream B.is_direct call b before answer c after };
+    ghost leaves = { λ call b before answer c after. HandleLeaves S.Durable B.Blob S.leaves_finish R.stream call b before answer c after };
 
     /// Draws the read rate, then reads through the handle inside, current or stale. Records nothing.
     ///
@@ -83,16 +85,7 @@ impl<S: blob_base::Storage, R: Rng, B: blob_base::Blob<S>> blob_base::Blob<Stora
         offset: u64,
         len: usize,
         options: ReadOptions,
-    ) -> Result<IoBufsMut, Error>
-        ensures allowed { injected_or (draw (config_of store.old).read_rate (R.stream (rng_of store.old))).0 (B.allows_read (inside self.now) (inner_of store.old) offset len) (refused result) }
-        ensures within { OnOk result (offset + len ≤ length (B.live (inside self.now))) }
-        ensures bytes { IfOk result (λ read. read.bytes ≡ take len (drop offset (B.live (inside self.now)))) }
-        ensures directory { S.directory (inner_of store.new) ≡ S.directory (inner_of store.old) }
-        ensures durable { S.durable (inner_of store.new) ≡ S.durable (inner_of store.old) }
-        ensures stream { R.stream (rng_of store.new) ≡ (draw (config_of store.old).read_rate (R.stream (rng_of store.old))).1 }
-        ensures unasked { (draw (config_of store.old).read_rate (R.stream (rng_of store.old))).0 ≡ true → inner_of store.new ≡ inner_of store.old }
-        ensures unrecorded { KeepsRecords S.place store.old store.new }
-    {
+    ) -> Result<IoBufsMut, Error> {
         if draws(store.config.read_rate, &mut store.rng) {
             return Err(Error::Injected);
         }
@@ -111,23 +104,12 @@ impl<S: blob_base::Storage, R: Rng, B: blob_base::Blob<S>> blob_base::Blob<Stora
         len: usize,
         buf: IoBufsMut,
         options: ReadOptions,
-    ) -> Result<IoBufsMut, Error>
-        requires { len ≤ buf.capacity }
-        ensures allowed { injected_or (draw (config_of store.old).read_rate (R.stream (rng_of store.old))).0 (B.allows_read (inside self.now) (inner_of store.old) offset len) (refused result) }
-        ensures within { OnOk result (offset + len ≤ length (B.live (inside self.now))) }
-        ensures bytes { IfOk result (λ read. read.bytes ≡ take len (drop offset (B.live (inside self.now)))) }
-        ensures buffer { IfOk result (λ read. buf.capacity ≤ read.capacity) }
-        ensures directory { S.directory (inner_of store.new) ≡ S.directory (inner_of store.old) }
-        ensures durable { S.durable (inner_of store.new) ≡ S.durable (inner_of store.old) }
-        ensures stream { R.stream (rng_of store.new) ≡ (draw (config_of store.old).read_rate (R.stream (rng_of store.old))).1 }
-        ensures unasked { (draw (config_of store.old).read_rate (R.stream (rng_of store.old))).0 ≡ true → inner_of store.new ≡ inner_of store.old }
-        ensures unrecorded { KeepsRecords S.place store.old store.new }
-    {
+    ) -> Result<IoBufsMut, Error> {
         if draws(store.config.read_rate, &mut store.rng) {
             return Err(Error::Injected);
         }
-        self.inner
-            .read_at_buf(&mut store.inner, offset, len, buf, options)
+        let inner = &self.inner;
+        inner.read_at_buf(&mut store.inner, offset, len, buf, options)
     }
 
     /// Draws whether the write fails and, of one that doesn't and is SYNC, whether its sync does. Before that a SYNC write of no
@@ -152,33 +134,7 @@ impl<S: blob_base::Storage, R: Rng, B: blob_base::Blob<S>> blob_base::Blob<Stora
         offset: u64,
         bytes: IoBufs,
         options: WriteOptions,
-    ) -> Result<(), Error>
-        ensures allowed { answers_write (B.allows_write (inside self.old) (inner_of store.old)) (B.allows_reserve (inside self.old) (inner_of store.old)) B.is_direct (config_of store.old) (next_write_of store.old) (R.stream (rng_of store.old)) offset bytes (is_sync options) (refused result) }
-        ensures live { OnOk result (B.live (inside self.new) ≡ live_written (is_sync options) (B.live (inside self.old)) offset bytes) }
-        ensures synced { OnOk result (is_sync options ≡ true → S.durable (inner_of store.new) ≡ changed (S.durable (inner_of store.old)) (B.place (inside self.old)) (λ x. overlay x offset bytes)) }
-        ensures current { OnOk result (is_sync options ≡ true → bytes ≢ [] → is_current (S.directory (inner_of store.old)) (B.place (inside self.old)) ≡ true) }
-        ensures plain { OnOk result (is_sync options ≡ false → S.durable (inner_of store.new) ≡ S.durable (inner_of store.old)) }
-        ensures memory { IsMemory result → (B.live (inside self.new) ≡ B.live (inside self.old)) × (S.durable (inner_of store.new) ≡ S.durable (inner_of store.old)) }
-        ensures stale { is_current (S.directory (inner_of store.old)) (B.place (inside self.old)) ≡ false → S.durable (inner_of store.new) ≡ S.durable (inner_of store.old) }
-        ensures directory { S.directory (inner_of store.new) ≡ S.directory (inner_of store.old) }
-        ensures place { B.place (inside self.new) ≡ B.place (inside self.old) }
-
-        ensures stream { refused result ≢ Some Memory → R.stream (rng_of store.new) ≡ after_write (config_of store.old) (is_sync options) offset bytes (R.stream (rng_of store.old)) }
-        ensures config { config_of store.new ≡ config_of store.old }
-
-        // whatever is answered, over a store that injects nothing
-        ensures recorded { B.is_direct ≡ true → Adds S.place (S.directory (inner_of store.old)) (S.durable (inner_of store.old)) (S.durable (inner_of store.new)) store.old store.new (B.place (inside self.old)) (recorded_write (config_of store.old) (next_write_of store.old) (R.stream (rng_of store.old)) (is_sync options) offset bytes (refused result)) }
-        ensures live_after { B.is_direct ≡ true → B.live (inside self.new) ≡ live_of_write (config_of store.old) (R.stream (rng_of store.old)) (is_sync options) (B.live (inside self.old)) offset bytes (refused result) }
-        // answered Ok, over any store
-        ensures done { OnOk result (Adds S.place (S.directory (inner_of store.old)) (S.durable (inner_of store.old)) (S.durable (inner_of store.new)) store.old store.new (B.place (inside self.old)) (recorded_write (config_of store.old) (next_write_of store.old) (R.stream (rng_of store.old)) (is_sync options) offset bytes None)) }
-        // refused over any store, where no draw fails it
-        ensures refused { (write_fate (config_of store.old) (is_sync options) offset (length bytes) (R.stream (rng_of store.old))).0 ≡ Done → OnErr result (KeepsRecords S.place store.old store.new) }
-        ensures size { B.is_direct ≡ true → size_of self.new ≡ size_of_write (config_of store.old) (R.stream (rng_of store.old)) (is_sync options) (size_of self.old) offset bytes (refused result) }
-
-        // refused for memory
-        ensures unrecorded { IsMemory result → KeepsRecords S.place store.old store.new }
-        ensures same_size { IsMemory result → size_of self.new ≡ size_of self.old }
-    {
+    ) -> Result<(), Error> {
         let sync = options.contains(WriteOptions::SYNC);
         let len = bytes.remaining();
         if sync && len == 0 {
@@ -199,30 +155,7 @@ impl<S: blob_base::Storage, R: Rng, B: blob_base::Blob<S>> blob_base::Blob<Stora
     /// # Errors
     ///
     /// `Injected`; `OffsetOverflow` where the raw length can't be counted; `Memory`.
-    fn resize(&mut self, store: &mut Storage<S, R>, len: u64) -> Result<(), Error>
-        ensures allowed { answers_resize (B.allows_resize (inside self.old) (inner_of store.old)) (resize_fate (config_of store.old).resize_rate (size_of self.old) len (R.stream (rng_of store.old))).0 len (refused result) }
-        ensures live { OnOk result (B.live (inside self.new) ≡ resized (B.live (inside self.old)) len) }
-        ensures memory { IsMemory result → B.live (inside self.new) ≡ B.live (inside self.old) }
-        ensures durable { S.durable (inner_of store.new) ≡ S.durable (inner_of store.old) }
-        ensures directory { S.directory (inner_of store.new) ≡ S.directory (inner_of store.old) }
-        ensures place { B.place (inside self.new) ≡ B.place (inside self.old) }
-
-        ensures stream { R.stream (rng_of store.new) ≡ (resize_fate (config_of store.old).resize_rate (size_of self.old) len (R.stream (rng_of store.old))).1 }
-        ensures numbers { KeepsNumbers store.old store.new }
-
-        // answered Ok
-        ensures size { OnOk result (size_of self.new ≡ len) }
-        ensures recorded { OnOk result (Adds S.place (S.directory (inner_of store.old)) (S.durable (inner_of store.old)) (S.durable (inner_of store.new)) store.old store.new (B.place (inside self.old)) (recorded_resize (resize_fate (config_of store.old).resize_rate (size_of self.old) len (R.stream (rng_of store.old))).0 len None)) }
-
-        // whatever is answered, over a store that injects nothing
-        ensures live_after { B.is_direct ≡ true → B.live (inside self.new) ≡ live_of_resize (resize_fate (config_of store.old).resize_rate (size_of self.old) len (R.stream (rng_of store.old))).0 (B.live (inside self.old)) len (refused result) }
-        ensures size_after { B.is_direct ≡ true → size_of self.new ≡ size_of_resize (resize_fate (config_of store.old).resize_rate (size_of self.old) len (R.stream (rng_of store.old))).0 (size_of self.old) len (refused result) }
-        ensures recorded_after { B.is_direct ≡ true → Adds S.place (S.directory (inner_of store.old)) (S.durable (inner_of store.old)) (S.durable (inner_of store.new)) store.old store.new (B.place (inside self.old)) (recorded_resize (resize_fate (config_of store.old).resize_rate (size_of self.old) len (R.stream (rng_of store.old))).0 len (refused result)) }
-
-        // refused for memory
-        ensures unrecorded { IsMemory result → KeepsRecords S.place store.old store.new }
-        ensures same_size { IsMemory result → size_of self.new ≡ size_of self.old }
-    {
+    fn resize(&mut self, store: &mut Storage<S, R>, len: u64) -> Result<(), Error> {
         let fate = draw_resize(store.config.resize_rate, self.size, len, &mut store.rng);
         self.resize_by_fate(store, fate, len)
     }
@@ -232,22 +165,7 @@ impl<S: blob_base::Storage, R: Rng, B: blob_base::Blob<S>> blob_base::Blob<Stora
     /// # Errors
     ///
     /// `Injected`; then `BlobMissing` by a stale handle; `Memory`. What is pending stays pending.
-    fn sync(&mut self, store: &mut Storage<S, R>) -> Result<(), Error>
-        ensures allowed { injected_or (draw (config_of store.old).sync_rate (R.stream (rng_of store.old))).0 (or_memory (B.allows_sync (inside self.old) (inner_of store.old))) (refused result) }
-        ensures synced { OnOk result (S.durable (inner_of store.new) ≡ changed (S.durable (inner_of store.old)) (B.place (inside self.old)) (λ _. B.live (inside self.old))) }
-        ensures current { OnOk result (is_current (S.directory (inner_of store.old)) (B.place (inside self.old)) ≡ true) }
-        ensures err { OnErr result (S.durable (inner_of store.new) ≡ S.durable (inner_of store.old)) }
-        ensures live { B.live (inside self.new) ≡ B.live (inside self.old) }
-        ensures directory { S.directory (inner_of store.new) ≡ S.directory (inner_of store.old) }
-        ensures place { B.place (inside self.new) ≡ B.place (inside self.old) }
-
-        ensures stream { R.stream (rng_of store.new) ≡ (draw (config_of store.old).sync_rate (R.stream (rng_of store.old))).1 }
-        ensures pending { OnOk result ((o : Place) → pending_of S.place store.new o ≡ with_at (pending_of S.place store.old) (B.place (inside self.old)) [] o) }
-        ensures published { OnOk result (Publishes S.place (S.directory (inner_of store.old)) (S.durable (inner_of store.old)) (S.durable (inner_of store.new)) store.old store.new (B.place (inside self.old)) (B.live (inside self.old))) }
-        ensures unrecorded { OnErr result (KeepsRecords S.place store.old store.new) }
-        ensures numbers { KeepsNumbers store.old store.new }
-        ensures size { size_of self.new ≡ size_of self.old }
-    {
+    fn sync(&mut self, store: &mut Storage<S, R>) -> Result<(), Error> {
         if draws(store.config.sync_rate, &mut store.rng) {
             return Err(Error::Injected);
         }
@@ -261,30 +179,7 @@ impl<S: blob_base::Storage, R: Rng, B: blob_base::Blob<S>> blob_base::Blob<Stora
     ///
     /// The outcome may be `Injected`, `GenerationsExhausted` where no number is left for a marker, `BlobMissing` by a stale
     /// handle, or `Memory`. There is no marker then.
-    fn start_sync(&mut self, store: &mut Storage<S, R>) -> Handle
-        ensures allowed { allows_start (draw (config_of store.old).sync_rate (R.stream (rng_of store.old))).0 (next_marker_of store.old) (B.allows_start_sync (inside self.old) (inner_of store.old)) (refused (outcome_of result)) }
-        ensures synced { refused (outcome_of result) ≡ None → S.durable (inner_of store.new) ≡ changed (S.durable (inner_of store.old)) (B.place (inside self.old)) (λ _. B.live (inside self.old)) }
-        ensures current { refused (outcome_of result) ≡ None → is_current (S.directory (inner_of store.old)) (B.place (inside self.old)) ≡ true }
-        ensures err { IsSome (refused (outcome_of result)) → S.durable (inner_of store.new) ≡ S.durable (inner_of store.old) }
-        ensures live { B.live (inside self.new) ≡ B.live (inside self.old) }
-        ensures directory { S.directory (inner_of store.new) ≡ S.directory (inner_of store.old) }
-        ensures place { B.place (inside self.new) ≡ B.place (inside self.old) }
-
-        ensures stream { R.stream (rng_of store.new) ≡ (draw (config_of store.old).sync_rate (R.stream (rng_of store.old))).1 }
-        ensures size { size_of self.new ≡ size_of self.old }
-        ensures next_write { next_write_of store.new ≡ next_write_of store.old }
-        ensures config { config_of store.new ≡ config_of store.old }
-
-        // a sync that succeeded
-        ensures marker { refused (outcome_of result) ≡ None → marker_of result ≡ Some (next_marker_of store.old) }
-        ensures pending { refused (outcome_of result) ≡ None → (o : Place) → pending_of S.place store.new o ≡ with_at (pending_of S.place store.old) (B.place (inside self.old)) (pending_of S.place store.old (B.place (inside self.old)) ++ Marker (next_marker_of store.old) ∷ []) o }
-        ensures started { refused (outcome_of result) ≡ None → Starts S.place (S.directory (inner_of store.old)) (S.durable (inner_of store.old)) (S.durable (inner_of store.new)) store.old store.new (B.place (inside self.old)) (B.live (inside self.old)) }
-        ensures next_marker { refused (outcome_of result) ≡ None → next_marker_of store.new ≡ next_marker_of store.old + 1 }
-
-        // one that was refused
-        ensures unmarked { IsSome (refused (outcome_of result)) → marker_of result ≡ None }
-        ensures unrecorded { IsSome (refused (outcome_of result)) → KeepsRecords S.place store.old store.new }
-    {
+    fn start_sync(&mut self, store: &mut Storage<S, R>) -> Handle {
         if draws(store.config.sync_rate, &mut store.rng) {
             return Handle::ready(Err(Error::Injected));
         }
@@ -303,20 +198,7 @@ impl<S: blob_base::Storage, R: Rng, B: blob_base::Blob<S>> blob_base::Blob<Stora
     /// # Errors
     ///
     /// As the handle inside: over memory `OffsetOverflow`, then `Memory`.
-    fn reserve(&mut self, store: &mut Storage<S, R>, end: u64) -> Result<(), Error>
-        ensures allowed { B.allows_reserve (inside self.old) (inner_of store.old) end (refused result) }
-        ensures answers { (later : ℕ) (answer : Option Refusal) → B.allows_reserve (inside self.new) (inner_of store.new) later answer → B.allows_reserve (inside self.old) (inner_of store.old) later answer }
-        ensures write_answers { (offset : ℕ) (bytes : List ℕ) (sync : Bool) (answer : Option Refusal) →
-            answers_write (B.allows_write (inside self.new) (inner_of store.new)) (B.allows_reserve (inside self.new) (inner_of store.new)) B.is_direct (config_of store.new) (next_write_of store.new) (R.stream (rng_of store.new)) offset bytes sync answer →
-            answers_write (B.allows_write (inside self.old) (inner_of store.old)) (B.allows_reserve (inside self.old) (inner_of store.old)) B.is_direct (config_of store.old) (next_write_of store.old) (R.stream (rng_of store.old)) offset bytes sync answer }
-        ensures live { B.live (inside self.new) ≡ B.live (inside self.old) }
-        ensures durable { S.durable (inner_of store.new) ≡ S.durable (inner_of store.old) }
-        ensures directory { S.directory (inner_of store.new) ≡ S.directory (inner_of store.old) }
-        ensures place { B.place (inside self.new) ≡ B.place (inside self.old) }
-        ensures stream { R.stream (rng_of store.new) ≡ R.stream (rng_of store.old) }
-        ensures unrecorded { KeepsRecords S.place store.old store.new }
-        ensures size { size_of self.new ≡ size_of self.old }
-    {
+    fn reserve(&mut self, store: &mut Storage<S, R>, end: u64) -> Result<(), Error> {
         self.inner.reserve(&mut store.inner, end)
     }
 
@@ -324,6 +206,8 @@ impl<S: blob_base::Storage, R: Rng, B: blob_base::Blob<S>> blob_base::Blob<Stora
     fn origin(&self) -> Result<S::Origin, Error> {
         self.inner.origin()
     }
+
+    ghost reads_alike = { λ b s offset len answer h. injected_alike (draw s.config.read_rate (R.stream s.rng)).0 (B.allows_read_buf b.inner s.inner offset len) (B.allows_read b.inner s.inner offset len) answer (B.reads_alike b.inner s.inner offset len answer) h };
 
     ghost stale_refused = { λ b s offset bytes stale some h. write_none (B.allows_write b.inner s.inner) (B.allows_reserve b.inner s.inner) B.is_direct s.config s.next_write (R.stream s.rng) offset bytes some (B.stale_refused b.inner s.inner offset bytes stale some) h };
 

@@ -1,6 +1,5 @@
 //! Reads into a slice of the caller's, and plain writes of one, over a memory store. No list is made for the call.
 ghost use Rattle.std.specs.Prelude.{◌≡◌, ◌≤◌, ◌<◌, ◌+◌, ◌^◌, ℕ, List, true, false, is_some, OnOk, OnErr, length, take, drop};
-ghost use Rattle.blob_base.specs.HandleCalls.{Write};
 ghost use Rattle.blob_header.specs.Refusals.{refused, IsMemory};
 ghost use Rattle.blob_model.specs.Bytes.{written};
 ghost use Rattle.blob_model.specs.Directory.{is_current};
@@ -8,7 +7,7 @@ ghost use Rattle.blob_model.specs.Places.{Place};
 ghost use Rattle.blob_faults.specs.Answers.{injected_or, or_memory, numbered, lacks_number, allows_fate};
 ghost use Rattle.blob_faults.specs.Fates.{write_fate_of, IsSized};
 ghost use Rattle.blob_faults.specs.Faults.{draw, retention};
-ghost use Rattle.blob_faulty.specs.HandleLeaves.{ReadLeaves, HandleLeaves};
+ghost use Rattle.blob_faulty.specs.HandleLeaves.{ReadLeaves, WriteLeaves};
 ghost use Rattle.blob_faulty.specs.Keeps.{Keeps};
 ghost use Rattle.blob_faulty.specs.Names.{Steps};
 ghost use Rattle.blob_faulty.specs.Wrapper.{inner_of, rng_of, config_of, inside};
@@ -42,7 +41,7 @@ impl Blob<blob_memory::Blob> {
         ensures within { OnOk result (offset + length buf.old ≤ length (live (inside self.now))) }
         ensures err { OnErr result (buf.new ≡ buf.old) }
         ensures inner { inner_of store.new ≡ inner_of store.old }
-        ensures leaves { ReadLeaves (λ o. o) R.stream store.old store.new }
+        ensures leaves { ReadLeaves ⟦<Memory as blob_base::Durable>⟧ R.stream (λ inner. inner ≡ inner_of store.old) store.old store.new }
         ensures files { Steps (λ o. o) directory durable store.old store.new (λ files. files) }
         ensures keeps { (o : Place) (bytes : List ℕ) → Keeps store.old o bytes → Keeps store.new o bytes }
     {
@@ -62,6 +61,7 @@ impl Blob<blob_memory::Blob> {
         requires fits { offset + length bytes.now < 2 ^ 64 }
         ensures allowed { ⟦<blob_memory::Blob as blob_base::Blob<Memory>>⟧.allows_write self.old.inner store.old.inner offset bytes.now false (refused result) }
         ensures wrote { Writes ⟦<Memory as blob_base::Durable>⟧ ⟦<blob_memory::Blob as blob_base::Blob<Memory>>⟧ self.old store.old self.new store.new (unrecorded false offset bytes.now) (refused result) }
+        ensures untracked { OnErr result (self.new.size ≡ self.old.size) }
         ensures rest { store.new ≡ store.old }
     {
         let _ = store;
@@ -133,7 +133,7 @@ impl Blob<blob_memory::Blob> {
         bytes: &[u8],
     ) -> Result<(), Error>
         ensures allowed { ⟦<Blob<blob_memory::Blob> as blob_base::Blob<Storage<Memory, R>>>⟧.allows_write self.old store.old offset bytes.now false (refused result) }
-        ensures leaves { HandleLeaves directory durable (λ o. o) place live R.stream true (Write offset bytes.now false) self.old store.old (refused result) self.new store.new }
+        ensures leaves { WriteLeaves ⟦<Memory as blob_base::Durable>⟧ ⟦<blob_memory::Blob as blob_base::Blob<Memory>>⟧ R.stream offset bytes.now false self.old store.old (refused result) self.new store.new }
         ensures live { OnOk result (live (inside self.new) ≡ written (live (inside self.old)) offset bytes.now) }
         ensures durable { OnOk result (durable (inner_of store.new) ≡ durable (inner_of store.old)) }
         ensures stale { is_current (directory (inner_of store.old)) (place (inside self.old)) ≡ false → durable (inner_of store.new) ≡ durable (inner_of store.old) }

@@ -120,7 +120,7 @@ impl<S: blob_base::Storage, R: Rng> blob_base::Storage for Storage<S, R> {
 
     ghost leaves_remove = { λ before p n answer after. RemoveLeaves S.place R.stream (S.leaves_remove (inner_of before) p n answer) answer (ends_by (S.directory (inner_of before)) p n) before after };
 
-    ghost leaves_scan = { λ before p answer after. ScanLeaves S.place R.stream before after };
+    ghost leaves_scan = { λ before p answer after. ScanLeaves S.Durable R.stream (S.leaves_scan (inner_of before) p answer) before after };
 
     ghost leaves_finish = { λ before marker after. FinishLeaves S.place marker before after };
 
@@ -140,18 +140,7 @@ impl<S: blob_base::Storage, R: Rng> blob_base::Storage for Storage<S, R> {
         partition: &str,
         name: &[u8],
         versions: RangeInclusive<BlobVersion>,
-    ) -> Result<(Blob<S::Blob>, u64, BlobVersion), Error>
-        requires fresh { range_inclusive_exhausted versions ≡ false }
-        requires some { (range_inclusive_start versions).0 ≤ (range_inclusive_end versions).0 }
-        ensures allowed { injected_or (draw (config_of self.old).open_rate (R.stream (rng_of self.old))).0 (S.allows_open (inner_of self.old) partition.now name.now (range_inclusive_start versions).0 (range_inclusive_end versions).0) (refused result) }
-        ensures leaves { OpenLeaves S.place R.stream (S.leaves_open (inner_of self.old) partition.now name.now (range_inclusive_start versions).0 (range_inclusive_end versions).0 (refused result)) self.old self.new }
-        ensures opened { IfOk result (λ opened. IsOpened (S.directory (inner_of self.old)) (S.durable (inner_of self.old)) (S.directory (inner_of self.new)) (S.durable (inner_of self.new)) partition.now name.now (range_inclusive_start versions).0 (range_inclusive_end versions).0 (S.Blob.place (inside opened.0)) (S.Blob.live (inside opened.0)) opened.2.0) }
-        ensures size { IfOk result (λ opened. opened.1 ≡ length (S.Blob.live (inside opened.0))) }
-        ensures kept_size { IfOk result (λ opened. (size_of opened.0 ≡ opened.1) × S.keeps_size (inside opened.0) opened.1) }
-        ensures err { OnErr result ((S.directory (inner_of self.new) ≡ S.directory (inner_of self.old)) × (S.durable (inner_of self.new) ≡ S.durable (inner_of self.old))) }
-        ensures files { OnOk result (Steps S.place S.directory S.durable self.old self.new (λ files. after_open files partition.now name.now (range_inclusive_start versions).0 (range_inclusive_end versions).0)) }
-        ensures same_files { OnErr result (Steps S.place S.directory S.durable self.old self.new (λ files. files)) }
-    {
+    ) -> Result<(Blob<S::Blob>, u64, BlobVersion), Error> {
         if draws(self.config.open_rate, &mut self.rng) {
             return Err(Error::Injected);
         }
@@ -163,15 +152,7 @@ impl<S: blob_base::Storage, R: Rng> blob_base::Storage for Storage<S, R> {
     /// # Errors
     ///
     /// As `remove_retired`.
-    fn remove(&mut self, partition: &str, name: Option<&[u8]>) -> Result<(), Error>
-        ensures allowed { injected_or (draw (config_of self.old).remove_rate (R.stream (rng_of self.old))).0 (S.allows_remove (inner_of self.old) partition.now (option_copied name.entry)) (refused result) }
-        ensures leaves { RemoveLeaves S.place R.stream (S.leaves_remove (inner_of self.old) partition.now (option_copied name.entry) (refused result)) (refused result) (ends_by (S.directory (inner_of self.old)) partition.now (option_copied name.entry)) self.old self.new }
-        ensures directory { OnOk result (S.directory (inner_of self.new) ≡ removed (S.directory (inner_of self.old)) partition.now (option_copied name.entry)) }
-        ensures durable { OnOk result (S.durable (inner_of self.new) ≡ durable_without (S.durable (inner_of self.old)) partition.now (option_copied name.entry)) }
-        ensures err { OnErr result ((S.directory (inner_of self.new) ≡ S.directory (inner_of self.old)) × (S.durable (inner_of self.new) ≡ S.durable (inner_of self.old))) }
-        ensures files { OnOk result (Steps S.place S.directory S.durable self.old self.new (λ files. after_remove files partition.now (option_copied name.entry))) }
-        ensures same_files { OnErr result (Steps S.place S.directory S.durable self.old self.new (λ files. files)) }
-    {
+    fn remove(&mut self, partition: &str, name: Option<&[u8]>) -> Result<(), Error> {
         self.remove_retired(partition, name)?;
         Ok(())
     }
@@ -181,17 +162,7 @@ impl<S: blob_base::Storage, R: Rng> blob_base::Storage for Storage<S, R> {
     /// # Errors
     ///
     /// `Injected`; then as the store inside: over memory `PartitionNameInvalid`, `PartitionMissing`, or `Memory`.
-    fn scan(&mut self, partition: &str) -> Result<Vec<Vec<u8>>, Error>
-        ensures allowed { injected_or (draw (config_of self.old).scan_rate (R.stream (rng_of self.old))).0 (S.allows_scan (inner_of self.old) partition.now) (refused result) }
-        ensures names { IfOk result (λ names. AreNames (map (λ name. name.items) names.items) (λ name. is_some ((S.directory (inner_of self.old)).file partition.now name))) }
-        ensures there { OnOk result (IsTrue ((S.directory (inner_of self.old)).has_partition partition.now)) }
-        ensures directory { S.directory (inner_of self.new) ≡ S.directory (inner_of self.old) }
-        ensures durable { S.durable (inner_of self.new) ≡ S.durable (inner_of self.old) }
-        ensures stream { R.stream (rng_of self.new) ≡ (draw (config_of self.old).scan_rate (R.stream (rng_of self.old))).1 }
-        ensures unasked { (draw (config_of self.old).scan_rate (R.stream (rng_of self.old))).0 ≡ true → inner_of self.new ≡ inner_of self.old }
-        ensures unrecorded { KeepsRecords S.place self.old self.new }
-        ensures files { Steps S.place S.directory S.durable self.old self.new (λ files. files) }
-    {
+    fn scan(&mut self, partition: &str) -> Result<Vec<Vec<u8>>, Error> {
         if draws(self.config.scan_rate, &mut self.rng) {
             return Err(Error::Injected);
         }

@@ -1,5 +1,5 @@
 //! How a resize goes to the inner blob, and what it records.
-ghost use Rattle.std.specs.Prelude.{◌≡◌, [], ◌∷◌};
+ghost use Rattle.std.specs.Prelude.{◌≡◌, [], ◌∷◌, OnErr};
 ghost use Rattle.blob_model.specs.Log.{Resized};
 ghost use Rattle.blob_header.specs.Refusals.{refused};
 ghost use Rattle.blob_faults.specs.Answers.{or_memory, allows_resize};
@@ -25,6 +25,7 @@ impl<B> Blob<B> {
         B: blob_base::Blob<S>,
         ensures allowed { B.allows_resize self.old.inner store.old.inner len (refused result) }
         ensures wrote { Writes S.Durable B.Blob self.old store.old self.new store.new (cut len []) (refused result) }
+        ensures untracked { OnErr result (self.new.size ≡ self.old.size) }
         ensures durable { S.durable store.new.inner ≡ S.durable store.old.inner }
         ensures rest { store.new ≡ record store.old { inner = store.new.inner } }
     {

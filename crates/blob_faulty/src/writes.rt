@@ -88,6 +88,7 @@ impl<B> Blob<B> {
         requires fits { offset + length bytes < 2 ^ 64 }
         ensures allowed { B.allows_write self.old.inner store.old.inner offset bytes (is_sync options) (refused result) }
         ensures wrote { Writes S.Durable B.Blob self.old store.old self.new store.new (unrecorded (is_sync options) offset bytes) (refused result) }
+        ensures untracked { OnErr result (self.new.size ≡ self.old.size) }
         ensures room { OnOk result (is_sync options ≡ true → B.room self.old.inner store.old.inner ≤ B.room self.new.inner store.new.inner) }
         ensures rest { store.new ≡ record store.old { inner = store.new.inner } }
     {

@@ -10,9 +10,9 @@ use Rattle.blob_model.specs.Places.{Place}
 use Rattle.blob_header.specs.Refusals.{Refusal, OffsetOverflow, Injected, Memory}
 use Rattle.blob_memory.specs.declared.blob.Blob.{Blob}
 use Rattle.blob_memory.specs.declared.storage.Storage.{Storage}
-use Rattle.blob_memory.specs.Answers.{is_uncounted, missing, write_refusal, end_refusal, OrMemory, AllowsWrite}
+use Rattle.blob_memory.specs.Answers.{is_uncounted, missing, read_refusal, write_refusal, end_refusal, OrMemory, AllowsWrite}
 use Rattle.blob_memory.specs.Contents.{vec_at}
-use Rattle.blob_memory.specs.Store.{directory, place, live_room, room, room_in, room_for}
+use Rattle.blob_memory.specs.Store.{directory, place, live, live_room, room, room_in, room_for}
 
 -- the refusals that no state calls for
 abbrev pub is_uncalled : Option Refusal → Bool
@@ -37,6 +37,10 @@ end_called o end = go (is_uncounted (end + o.start)) where
   go : (u : Bool) → is_uncalled (if u then Some OffsetOverflow else None) ≡ false
   go true = refl
   go false = refl
+
+-- a read into a buffer wants no memory
+pub reads_alike : (b : Blob) (s : Storage) (offset len : ℕ) (answer : Option Refusal) → answer ≡ read_refusal (place b) (live b) offset len → OrMemory (read_refusal (place b) (live b) offset len) answer
+reads_alike b s offset len answer is = inr is
 
 -- nothing is injected
 pub uninjected : (b : Blob) (s : Storage) (offset : ℕ) (bytes : List ℕ) (sync : Bool) → true ≡ true

@@ -102,7 +102,7 @@ impl Blob {
 }
 
 impl blob_base::Blob<Storage> for Blob {
-    ghost use Rattle.blob_memory.specs.AnswerLaws.{stale_refused, uninjected, resize_uninjected, done_within, plain_done_within, reserve_refused, within_room};
+    ghost use Rattle.blob_memory.specs.AnswerLaws.{reads_alike, stale_refused, uninjected, resize_uninjected, done_within, plain_done_within, reserve_refused, within_room};
     ghost use Rattle.blob_memory.specs.Answers.{OrMemory, AllowsWrite, end_refusal, sync_refusal};
     ghost use Rattle.blob_memory.specs.Leaves.{Leaves};
     ghost use Rattle.blob_memory.specs.Store.{place, live, directory, durable, live_room, room, room_for};
@@ -119,6 +119,8 @@ impl blob_base::Blob<Storage> for Blob {
 
     ghost allows_read = { λ b s offset len. OrMemory (read_refusal (place b) (live b) offset len) };
 
+    ghost allows_read_buf = { λ b s offset len answer. answer ≡ read_refusal (place b) (live b) offset len };
+
     ghost allows_write = { λ b s offset bytes sync. AllowsWrite (directory s) (place b) (room_for b s) offset bytes sync };
 
     ghost allows_resize = { λ b s len. OrMemory (end_refusal (place b) len) };
@@ -130,6 +132,8 @@ impl blob_base::Blob<Storage> for Blob {
     ghost allows_reserve = { λ b s end. OrMemory (end_refusal (place b) end) };
 
     ghost leaves = { λ call b before answer c after. Leaves call before after };
+
+    ghost reads_alike = { reads_alike };
 
     ghost stale_refused = { stale_refused };
 
@@ -177,16 +181,7 @@ impl blob_base::Blob<Storage> for Blob {
         len: usize,
         buf: IoBufsMut,
         options: ReadOptions,
-    ) -> Result<IoBufsMut, Error>
-        requires { len ≤ buf.capacity }
-        ensures allowed { refused result ≡ read_refusal (place self.now) (live self.now) offset len }
-        ensures leaves { store.new ≡ store.old }
-        ensures within { OnOk result (offset + len ≤ length (live self.now)) }
-        ensures bytes { IfOk result (λ read. read.bytes ≡ take len (drop offset (live self.now))) }
-        ensures buffer { IfOk result (λ read. buf.capacity ≤ read.capacity) }
-        ensures directory { directory store.new ≡ directory store.old }
-        ensures durable { durable store.new ≡ durable store.old }
-    {
+    ) -> Result<IoBufsMut, Error> {
         let _ = store;
         let _ = options;
         let bytes = self.readable(offset, len)?;

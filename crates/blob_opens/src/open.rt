@@ -64,6 +64,8 @@ impl<S: Durable, B: blob_base::Blob<S>> blob_base::Blob<S> for Blob<B> {
 
     ghost allows_read = { λ b. B.allows_read b.inner };
 
+    ghost allows_read_buf = { λ b. B.allows_read_buf b.inner };
+
     ghost allows_write = { λ b. B.allows_write b.inner };
 
     ghost allows_resize = { λ b. B.allows_resize b.inner };
@@ -76,6 +78,8 @@ impl<S: Durable, B: blob_base::Blob<S>> blob_base::Blob<S> for Blob<B> {
 
     // what the store's own handle leaves; it stays the handle of the same open
     ghost leaves = { λ call b before answer c after. B.leaves call b.inner before answer c.inner after × (registration_of c ≡ registration_of b) };
+
+    ghost reads_alike = { λ b. B.reads_alike b.inner };
 
     ghost stale_refused = { λ b. B.stale_refused b.inner };
 

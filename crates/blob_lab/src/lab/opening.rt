@@ -73,6 +73,7 @@ impl Lab {
         if let Err(e) = self.handles.reserve() {
             return Reply::Failed(e);
         }
+        opens::<blob_memory::Storage, ScriptedRng>();
         match self.wrapper.open_versioned(partition, name, versions) {
             Ok((blob, size, version)) => Reply::Opened {
                 handle: self.handles.add(Handle::loose(blob)),

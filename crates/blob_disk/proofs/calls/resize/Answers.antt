@@ -20,11 +20,11 @@ returns g c =
     let fate = (resize_fate (config_of w).resize_rate (size_of b) c.args.len stream).0 in
     let es = recorded_resize fate c.args.len answer in
     let now = current_now b w c.requires.named c.requires.there in
-    let s = cut_so b c.resize.new.self w c.resize.new.store es c.args.len c.requires.standing e.directory e.place e.numbers.config
-    (e.size_after refl ∙ c.sizes.ensures.resizes fate (size_of b) (live (inside b)) c.args.len answer c.requires.tracked ∙ sym (ap (λ (x : List ℕ). length x) (e.live_after refl)))
-    (subst (λ (x : List ℕ). (x ≡ live (inside b)) ⊎ (x ≡ resized (live (inside b)) c.args.len)) (sym (e.live_after refl)) (c.live_bytes.ensures.resizes (config_of w).resize_rate (size_of b) c.args.len stream (live (inside b)) answer c.requires.whole))
+    let s = cut_so b c.resize.new.self w c.resize.new.store es c.args.len c.requires.standing e.directory e.place e.leaves.numbers.config
+    (e.leaves.size_after refl ∙ c.sizes.ensures.resizes fate (size_of b) (live (inside b)) c.args.len answer c.requires.tracked ∙ sym (ap (λ (x : List ℕ). length x) (e.leaves.live_after refl)))
+    (subst (λ (x : List ℕ). (x ≡ live (inside b)) ⊎ (x ≡ resized (live (inside b)) c.args.len)) (sym (e.leaves.live_after refl)) (c.live_bytes.ensures.resizes (config_of w).resize_rate (size_of b) c.args.len stream (live (inside b)) answer c.requires.whole))
     (λ t x. c.entries.ensures.resizes (config_of w).resize_rate (size_of b) c.args.len stream answer t c.requires.whole x)
-    (λ f stands. c.recorded.ensures.stands w c.resize.new.store (place (inside b)) es f now e.directory stands (e.recorded_after refl))
-    (λ f t stands. c.recorded.ensures.left w c.resize.new.store (place (inside b)) es f t now e.directory stands (e.recorded_after refl))
+    (λ f stands. c.recorded.ensures.stands w c.resize.new.store (place (inside b)) es f now e.directory stands (e.leaves.recorded_after refl))
+    (λ f t stands. c.recorded.ensures.left w c.resize.new.store (place (inside b)) es f t now e.directory stands (e.leaves.recorded_after refl))
     in
     record { len = on_ok_weaker c.resize.result (λ h. ap (λ (x : List ℕ). length x) h ∙ length-resized (live (inside b)) c.args.len) e.live; others = s.others; keeps = s.keeps; crash = s.crash }

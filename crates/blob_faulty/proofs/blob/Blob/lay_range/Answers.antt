@@ -39,7 +39,7 @@ returns-clause-recorded g c =
       wrote = first_of (search rules, grind (arith, common_steps));
       done = λ ok. logs;
       refused = search rules;
-      memory = search rules;
+      undone = search rules;
       config = search rules;
       rng = search rules;
     }

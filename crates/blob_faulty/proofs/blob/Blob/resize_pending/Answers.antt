@@ -20,7 +20,7 @@ returns-clause-recorded g c =
       wrote = search rules;
       done = λ ok. logs;
       refused = search rules;
-      memory = search rules;
+      undone = search rules;
       config = search rules;
       rng = search rules;
     }

@@ -1,11 +1,27 @@
-use Rattle.std.proofs.Common.{refl}
+use Rattle.std.proofs.Common.{rules, ◌≡◌, Option, None, sym, subst, arith}
+use Rattle.std.proofs.lemmas.Grind.{common_steps}
+use Rattle.blob_base.specs.Handles.{outcome_of, marker_of}
+use Rattle.blob_header.specs.Refusals.{Refusal, refused}
+use Rattle.blob_faulty.specs.HandleLeaves.{StartLeaves}
 use Rattle.blob_faulty.proofs.SyncSteps.{marker_starts}
 use Rattle.blob_faulty.proofs.blob.BlobBlobStorage.start_sync.Goals as goal
 
-pub returns-in-Ok-clause-started : goal.returns-in-Ok-clause-started
-returns-in-Ok-clause-started g c done =
+pub returns-in-Ok-clause-leaves : goal.returns-in-Ok-clause-leaves
+returns-in-Ok-clause-leaves g c =
     let old = c.args.store.now in
     let new = c.start_marked.new.store in
-    let synced = c.in-Ok.ensures.synced in
-    marker_starts g.S.Durable.place (g.S.Durable.directory old.inner) (g.S.Durable.durable old.inner) (g.S.Durable.durable new.inner) old new (g.B.Blob.place c.args.self.now.inner) (g.B.Blob.live c.args.self.now.inner)
-    (synced.done refl) c.in-Ok.ensures.marked synced.next_write c.in-Ok.ensures.next
+    let made = c.in-Ok.ensures in
+    let none : refused (outcome_of c.marked.result) ≡ None = first_of (search rules, grind (arith, common_steps)) in
+    subst (λ (a : Option Refusal). StartLeaves g.S.Durable g.B.Blob g.S.Storage.leaves_finish g.R.Rng.stream (marker_of c.marked.result) c.args.self.now old a c.start_marked.new.self new) (sym none) (record {
+      drawn = first_of (search rules, grind (arith, common_steps));
+      inner = first_of (search rules, grind (arith, common_steps));
+      config = made.synced.config;
+      next_write = made.synced.next_write;
+      size = made.synced.size;
+      marked = λ ok. first_of (search rules, grind (arith, common_steps));
+      next_marker = λ ok. made.next;
+      pending = λ ok. made.marked;
+      started = λ ok. marker_starts g.S.Durable.place (g.S.Durable.directory old.inner) (g.S.Durable.durable old.inner) (g.S.Durable.durable new.inner) old new (g.B.Blob.place c.args.self.now.inner) (g.B.Blob.live c.args.self.now.inner)
+          (made.synced.done ok) made.marked made.synced.next_write made.next;
+      unrecorded = λ some. absurd (cc);
+    })

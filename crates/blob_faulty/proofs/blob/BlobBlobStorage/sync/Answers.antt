@@ -1,11 +1,20 @@
-use Rattle.blob_faulty.proofs.SyncSteps.{sync_publishes, ok_of}
+use Rattle.std.proofs.Common.{rules, arith}
+use Rattle.std.proofs.lemmas.Grind.{common_steps}
+use Rattle.blob_faulty.proofs.SyncSteps.{sync_publishes, when_ok}
 use Rattle.blob_faulty.proofs.blob.BlobBlobStorage.sync.Goals as goal
 
-pub returns-clause-published : goal.returns-clause-published
-returns-clause-published g c =
+pub returns-clause-leaves : goal.returns-clause-leaves
+returns-clause-leaves g c =
     let old = c.args.store.now in
     let new = c.sync_drawn.new.store in
     let synced = c.sync_drawn.ensures.synced in
-    ok_of c.sync_drawn.result c.sync_drawn.ensures.retired (λ ok lists.
-    sync_publishes g.S.Durable.place (g.S.Durable.directory old.inner) (g.S.Durable.durable old.inner) (g.S.Durable.durable new.inner) old new (g.B.Blob.place c.args.self.now.inner) (g.B.Blob.live c.args.self.now.inner)
-    (synced.done ok) lists synced.next_write c.sync_drawn.ensures.next_marker)
+    record {
+      drawn = first_of (search rules, grind (arith, common_steps));
+      inner = first_of (search rules, grind (arith, common_steps));
+      numbers = record { next_write = synced.next_write; next_marker = c.sync_drawn.ensures.next_marker; config = synced.config };
+      size = synced.size;
+      pending = λ ok. when_ok c.sync_drawn.result ok c.sync_drawn.ensures.retired;
+      published = λ ok. sync_publishes g.S.Durable.place (g.S.Durable.directory old.inner) (g.S.Durable.durable old.inner) (g.S.Durable.durable new.inner) old new (g.B.Blob.place c.args.self.now.inner) (g.B.Blob.live c.args.self.now.inner)
+          (synced.done ok) (when_ok c.sync_drawn.result ok c.sync_drawn.ensures.retired) synced.next_write c.sync_drawn.ensures.next_marker;
+      unrecorded = λ some. let k = synced.unrecorded some in record { pending = k.pending; numbers = record { next_write = k.next_write; next_marker = k.next_marker; config = synced.config } };
+    }

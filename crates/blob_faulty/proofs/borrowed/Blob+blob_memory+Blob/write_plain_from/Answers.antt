@@ -27,7 +27,7 @@ returns-clause-recorded g c =
       wrote = search rules;
       done = λ ok. rw entries logs;
       refused = search rules;
-      memory = search rules;
+      undone = search rules;
       config = search rules;
       rng = search rules;
     }

@@ -16,7 +16,7 @@ returns-in_err-write_at-clause-refused g c = at_err c.from_residual-in_err-write
     let w = c.in_err-write_at.ensures in
     record {
       kept = subst (λ (o : Place). Keeps c.write_at.new.store o (frames records)) (sym w.place)
-          (c.writes.ensures.behind c.args.store.now c.write_at.new.store (place_of c.args.self.now) (frames records) c.in_ok-bytes.bytes c.args.self.now.end true _ w.directory (w.recorded refl) (omega (arith, h.end)) h.kept);
+          (c.writes.ensures.behind c.args.store.now c.write_at.new.store (place_of c.args.self.now) (frames records) c.in_ok-bytes.bytes c.args.self.now.end true _ w.directory (w.leaves.recorded refl) (omega (arith, h.end)) h.kept);
       short = h.short;
       end = h.end;
     })
@@ -26,7 +26,7 @@ returns-clause-acknowledged g c = λ records h.
     let w = c.in_ok-write_at.ensures in
     let r = c.args.entry.now in
     let is = c.in_ok-bytes.ensures.ok ∙ c.in_ok-frame_of.ensures in
-    let behind = c.writes.ensures.appended c.args.self.now.blob c.args.store.now c.write_at.new.store (place_of c.args.self.now) (frames records) c.in_ok-bytes.bytes c.args.self.now.end w.allowed w.directory (w.recorded refl) h.end h.kept in
+    let behind = c.writes.ensures.appended c.args.self.now.blob c.args.store.now c.write_at.new.store (place_of c.args.self.now) (frames records) c.in_ok-bytes.bytes c.args.self.now.end w.allowed w.directory (w.leaves.recorded refl) h.end h.kept in
     let short = c.if-entry.false in
     record {
       kept = subst (λ (o : Place). Keeps c.write_at.new.store o (frames (records ++ r ∷ []))) (sym w.place)

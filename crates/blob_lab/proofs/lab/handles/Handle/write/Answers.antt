@@ -27,8 +27,8 @@ returns-in-Ok-write_at c =
     let copied : c.in-Ok.copy ≡ c.args.bytes.now = c.in-Ok.ensures.ok in
     subst (λ (s : Bool). Asks w h (Write c.args.offset c.args.bytes.now s) Done w' h') c.options_of-options.ensures
     (subst (λ (b : List ℕ). Asks w h (Write c.args.offset b sync) Done w' h') copied
-    (write_done w w' h h' (room_for (inside c.args.self.now.blob) (store_of w)) c.args.offset c.in-Ok.copy sync (λ chosen. c.runs_are_choices.ensures.apart c.args.offset c.in-Ok.copy chosen) e.directory e.config e.place refl
-    e.allowed (e.stream not_refused) (e.recorded refl) (e.live_after refl) (e.size refl)))
+    (write_done w w' h h' (room_for (inside c.args.self.now.blob) (store_of w)) c.args.offset c.in-Ok.copy sync (λ chosen. c.runs_are_choices.ensures.apart c.args.offset c.in-Ok.copy chosen) e.directory e.leaves.config e.place refl
+    e.allowed (e.leaves.drawn not_refused) (e.leaves.recorded refl) (e.leaves.live_after refl) (e.leaves.size refl)))
 
 pub returns-in-Err-write_at : goal.returns-in-Err-write_at
 returns-in-Err-write_at c =
@@ -41,5 +41,5 @@ returns-in-Err-write_at c =
     let copied : c.in-Ok.copy ≡ c.args.bytes.now = c.in-Ok.ensures.ok in
     subst (λ (s : Bool). Asks w h (Write c.args.offset c.args.bytes.now s) (Failed c.in-Err-write_at.e) w' h') c.options_of-options.ensures
     (subst (λ (b : List ℕ). Asks w h (Write c.args.offset b sync) (Failed c.in-Err-write_at.e) w' h') copied
-    (write_failed w w' h h' (room_for (inside c.args.self.now.blob) (store_of w)) c.args.offset c.in-Ok.copy sync (λ chosen. c.runs_are_choices.ensures.apart c.args.offset c.in-Ok.copy chosen) e.directory e.config e.place refl
-    c.in-Err-write_at.e e.allowed e.stream (e.recorded refl) (e.live_after refl) (e.size refl)))
+    (write_failed w w' h h' (room_for (inside c.args.self.now.blob) (store_of w)) c.args.offset c.in-Ok.copy sync (λ chosen. c.runs_are_choices.ensures.apart c.args.offset c.in-Ok.copy chosen) e.directory e.leaves.config e.place refl
+    c.in-Err-write_at.e e.allowed e.leaves.drawn (e.leaves.recorded refl) (e.leaves.live_after refl) (e.leaves.size refl)))

@@ -1,0 +1,111 @@
+-- What a write leaves, from what its fate makes of a handle and its wrapper.
+use Rattle.std.specs.Prelude.{max}
+use Rattle.std.proofs.Common.{◌≡◌, ◌≢◌, ⊎_elim, ℕ, ◌+◌, ◌^◌, ◌<◌, Bool, true, false, cond, List, [], ◌∷◌, length, Option, Some, None, inl, inr, refl, sym, ◌∙◌, ap, arith}
+use Rattle.std.proofs.lemmas.Bool.{cond-false, le-ltb}
+use Rattle.rand_core.specs.Stream.{Stream}
+use Rattle.blob_base.specs.declared.storage.Blob as handles
+use Rattle.blob_base.specs.declared.storage.Durable as stores
+use Rattle.blob_header.specs.Refusals.{Refusal, Memory, Injected}
+use Rattle.blob_model.specs.Live.{is_idle}
+use Rattle.blob_faults.specs.declared.config.Config.{Config}
+use Rattle.blob_faults.specs.Faults.{WriteFate, Done, Unsynced, Failed, write_fate, retention, is_uncounted, after_write}
+use Rattle.blob_faults.specs.Recorded.{recorded_by, recorded_write, live_by, live_of_write, size_by, size_of_write}
+use Rattle.blob_faulty.specs.declared.blob.Blob.{Blob}
+use Rattle.blob_faulty.specs.declared.storage.Storage.{Storage}
+use Rattle.blob_faulty.specs.HandleLeaves.{WriteLeaves, Logged, Untouched, size_written}
+use Rattle.blob_faulty.specs.Writes.{WroteBy, SameRecords, Logs, seen}
+use Rattle.blob_faulty.proofs.Adding.{nothing_not}
+use Rattle.blob_faulty.proofs.Fating.{recorded_so, recorded_none}
+use Rattle.blob_faulty.proofs.Writing.{adds_of, drawn_adds}
+
+live_none : (config : Config) (stream : Stream) (sync : Bool) (live : List ℕ) (offset : ℕ) (bytes : List ℕ) → live_of_write config stream sync live offset bytes (Some Memory) ≡ live
+live_none config stream sync live offset bytes = go (is_idle sync bytes) (is_uncounted offset bytes) sync bytes (write_fate config sync offset (length bytes) stream).0
+  where
+    go : (a b s : Bool) (x : List ℕ) (fate : WriteFate) → cond a live (cond b live (live_by fate s live offset x (Some Memory))) ≡ live
+    go true b s x fate = refl
+    go false true s x fate = refl
+    go false false true x Done = refl
+    go false false false x Done = refl
+    go false false s x Unsynced = refl
+    go false false s x (Failed kept) = refl
+
+size_none : (config : Config) (stream : Stream) (sync : Bool) (size offset : ℕ) (bytes : List ℕ) → size_of_write config stream sync size offset bytes (Some Memory) ≡ size
+size_none config stream sync size offset bytes = go (is_idle sync bytes) (is_uncounted offset bytes) (write_fate config sync offset (length bytes) stream).0
+  where
+    go : (a b : Bool) (fate : WriteFate) → cond a size (cond b size (size_by fate size offset bytes (Some Memory))) ≡ size
+    go true b fate = refl
+    go false true fate = refl
+    go false false Done = refl
+    go false false Unsynced = refl
+    go false false (Failed kept) = refl
+
+-- the size behind a write with something to do
+size_some : (sync : Bool) (size offset : ℕ) (bytes : List ℕ) → (sync ≡ true → bytes ≢ []) → size_written sync size offset bytes ≡ max size (offset + length bytes)
+size_some true size offset [] some = absurd (some refl refl)
+size_some true size offset (x ∷ bytes) some = refl
+size_some false size offset bytes some = refl
+
+-- the tables of a write with something to do whose end can be counted
+counted : (offset : ℕ) (bytes : List ℕ) → offset + length bytes < 2 ^ 64 → is_uncounted offset bytes ≡ false
+counted offset bytes fits = le-ltb _ _ (omega (arith, fits))
+
+after_so : (config : Config) (sync : Bool) (offset : ℕ) (bytes : List ℕ) (stream : Stream) → (sync ≡ true → bytes ≢ []) → offset + length bytes < 2 ^ 64 →
+    after_write config sync offset bytes stream ≡ (write_fate config sync offset (length bytes) stream).1
+after_so config sync offset bytes stream some fits = cond-false (is_idle sync bytes) _ _ (nothing_not sync bytes some) ∙ cond-false (is_uncounted offset bytes) _ _ (counted offset bytes fits)
+
+live_so : (config : Config) (stream : Stream) (sync : Bool) (live : List ℕ) (offset : ℕ) (bytes : List ℕ) (answer : Option Refusal) (fate : WriteFate) → (sync ≡ true → bytes ≢ []) → offset + length bytes < 2 ^ 64 →
+    fate ≡ (write_fate config sync offset (length bytes) stream).0 → live_of_write config stream sync live offset bytes answer ≡ live_by fate sync live offset bytes answer
+live_so config stream sync live offset bytes answer fate some fits is =
+    cond-false (is_idle sync bytes) _ _ (nothing_not sync bytes some) ∙ cond-false (is_uncounted offset bytes) _ _ (counted offset bytes fits)
+    ∙ ap (λ (f : WriteFate). live_by f sync live offset bytes answer) (sym is)
+
+size_so : (config : Config) (stream : Stream) (sync : Bool) (size offset : ℕ) (bytes : List ℕ) (answer : Option Refusal) (fate : WriteFate) → (sync ≡ true → bytes ≢ []) → offset + length bytes < 2 ^ 64 →
+    fate ≡ (write_fate config sync offset (length bytes) stream).0 → size_of_write config stream sync size offset bytes answer ≡ size_by fate size offset bytes answer
+size_so config stream sync size offset bytes answer fate some fits is =
+    cond-false (is_idle sync bytes) _ _ (nothing_not sync bytes some) ∙ cond-false (is_uncounted offset bytes) _ _ (counted offset bytes fits)
+    ∙ ap (λ (f : WriteFate). size_by f size offset bytes answer) (sym is)
+
+-- by its fate
+pub write_leaves : {S R O B : Type 0} (store : stores.Ghosts S O) (handle : handles.Ghosts B S O) (stream : R → Stream) (b c : Blob B) (w w' : Storage S R O) (rng : R) (sync : Bool) (offset : ℕ) (bytes : List ℕ) (answer : Option Refusal) (fate : WriteFate) →
+    (sync ≡ true → bytes ≢ []) → offset + length bytes < 2 ^ 64 →
+    fate ≡ (write_fate w.config sync offset (length bytes) (stream w.rng)).0 → stream rng ≡ (write_fate w.config sync offset (length bytes) (stream w.rng)).1 →
+    WroteBy fate handle.is_direct (seen store handle b (record w { rng = rng })) (seen store handle c w') sync offset bytes answer →
+    WriteLeaves store handle stream offset bytes sync b w answer c w'
+write_leaves {S} {R} {O} {B} store handle stream b c w w' rng sync offset bytes answer fate some fits is left wrote = record {
+  drawn = λ other. ap stream wrote.rng ∙ left ∙ sym (after_so w.config sync offset bytes (stream w.rng) some fits);
+  config = wrote.config;
+  recorded = λ direct. logged answer (wrote.logs direct);
+  live_after = λ direct. wrote.live direct ∙ sym (live_so w.config (stream w.rng) sync (handle.live b.inner) offset bytes answer fate some fits is);
+  size = λ direct. wrote.size direct ∙ sym (size_so w.config (stream w.rng) sync b.size offset bytes answer fate some fits is);
+  done = λ ok. logged None (wrote.recorded ok);
+  done_size = λ ok. (wrote.done ok).size ∙ sym (size_some sync b.size offset bytes some);
+  refused = λ done refusal. untouched (wrote.undone (is ∙ done) refusal);
+  unrecorded = λ refusal uninjected early. untouched (wrote.unrecorded refusal uninjected early);
+  injected = λ fault. ⊎_elim (λ k. inl (untouched k)) (λ logs. inr (logged (Some Injected) logs)) (wrote.injected fault);
+}
+  where
+    logged : (a : Option Refusal) → Logs (seen store handle b (record w { rng = rng })) (seen store handle c w') (recorded_by fate (retention w.config.write_rate) w.next_write sync offset bytes a) →
+        Logged store handle b w w' (recorded_write w.config w.next_write (stream w.rng) sync offset bytes a)
+    logged a logs = adds_of store handle b c w w' rng _ _ wrote.directory (recorded_so w.config w.next_write (stream w.rng) sync offset bytes a fate some fits is) logs
+
+    untouched : SameRecords (seen store handle b (record w { rng = rng })) (seen store handle c w') → Untouched store b w c w'
+    untouched k = record { records = record { pending = k.pending; numbers = record { next_write = k.next_write; next_marker = k.next_marker; config = wrote.config } }; size = k.size }
+
+-- refused for memory before its fate was drawn
+pub write_undrawn : {S R O B : Type 0} (store : stores.Ghosts S O) (handle : handles.Ghosts B S O) (stream : R → Stream) (b : Blob B) (w : Storage S R O) (rng : R) (sync : Bool) (offset : ℕ) (bytes : List ℕ) (answer : Option Refusal) →
+    answer ≡ Some Memory → WriteLeaves store handle stream offset bytes sync b w answer b (record w { rng = rng })
+write_undrawn {S} {R} {O} {B} store handle stream b w rng sync offset bytes answer memory = record {
+  drawn = λ other. absurd (other memory);
+  config = refl;
+  recorded = λ direct. drawn_adds store.place _ _ w rng _ _ (ap (recorded_write w.config w.next_write (stream w.rng) sync offset bytes) memory ∙ recorded_none w.config w.next_write (stream w.rng) sync offset bytes);
+  live_after = λ direct. sym (ap (live_of_write w.config (stream w.rng) sync (handle.live b.inner) offset bytes) memory ∙ live_none w.config (stream w.rng) sync (handle.live b.inner) offset bytes);
+  size = λ direct. sym (ap (size_of_write w.config (stream w.rng) sync b.size offset bytes) memory ∙ size_none w.config (stream w.rng) sync b.size offset bytes);
+  done = λ ok. absurd (cc);
+  done_size = λ ok. absurd (cc);
+  refused = λ done some. same;
+  unrecorded = λ some uninjected early. same;
+  injected = λ fault. inl same;
+}
+  where
+    same : Untouched store b w b (record w { rng = rng })
+    same = record { records = record { pending = λ o. refl; numbers = record { next_write = refl; next_marker = refl; config = refl } }; size = refl }
