@@ -1,6 +1,6 @@
 #!/bin/sh
-# Times calls in-process from C, Rust and Python, for each language whose compiler is there. It prints to standard
-# error, and no test runs it. The seconds that each figure takes may be given in place of 0.5.
+# Times calls in-process from C, Rust and Python, for each language whose compiler is there, and by a pipe from Python. It prints
+# to standard error, and no test runs it. The seconds that each figure takes may be given in place of 0.5.
 set -eu
 
 top=$(CDPATH='' cd -- "$(dirname -- "$0")/.." && pwd -P)
@@ -18,5 +18,7 @@ if command -v cargo >/dev/null && command -v "$compiler" >/dev/null; then
     (cd "$top/bindings/rust" && CARGO_TARGET_DIR=$top/out/rust cargo run --release --offline --quiet --example times -- "$seconds")
 fi
 if command -v python3 >/dev/null && [ -f "$top/out/libblobcrash.so" ]; then
+    "$top/blobcrash" </dev/null
+    export BLOBCRASH="$top/out/blobcrash"
     PYTHONDONTWRITEBYTECODE=1 python3 "$top/bindings/python/times.py" "$seconds"
 fi

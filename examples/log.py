@@ -8,12 +8,14 @@ syncs it; where it returns, the record is acknowledged. Recovery reads frames un
     log.py --judge                 runs a script from standard input; status 1 where an acknowledged record is gone
 """
 
+import os
 import random
 import struct
 import subprocess
 import sys
 import zlib
 
+sys.path.append(os.path.join(os.path.dirname(os.path.abspath(__file__)), "..", "bindings", "python"))
 from blobcrash import Injected, Store, program
 
 HEAD = struct.Struct(">II")
@@ -94,9 +96,9 @@ def run(store, seed, forgets_sync):
         store.reopen()
 
 
-def broken_script(seed, forgets_sync):
+def broken_script(seed, forgets_sync, by=None):
     """How a run breaks the promise, and the script of it; None where it keeps it."""
-    with Store(seed) as store:
+    with Store(seed, by=by) as store:
         try:
             run(store, seed, forgets_sync)
         except Broken as broken:

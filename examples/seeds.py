@@ -13,8 +13,8 @@ import subprocess
 import sys
 import tempfile
 
-import blobcrash
 import log
+import blobcrash
 
 
 def build():
@@ -25,7 +25,7 @@ def build():
 
 
 def show(seed, reason, script):
-    """Prints a failure, cut down, and its replies: behind `crashed` which bytes of each write were kept."""
+    """Prints a failure, cut down, and its replies, with a picture behind each crash."""
     with tempfile.NamedTemporaryFile("w+", suffix=".script") as file:
         file.write("\n".join(script) + "\n")
         file.flush()
@@ -35,7 +35,7 @@ def show(seed, reason, script):
     print(f"seed {seed}: {reason}; {len(script)} lines, of which it takes {len(left.splitlines())}:")
     print(left)
     sys.stdout.flush()
-    subprocess.run([blobcrash.program()], input=left, text=True, check=True)
+    subprocess.run([blobcrash.program(), "explain"], input=left, text=True, check=True)
 
 
 def main(arguments):

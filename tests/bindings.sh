@@ -99,13 +99,15 @@ if command -v python3 >/dev/null && [ -f "$top/out/libblobcrash.so" ]; then
     answers 'Python, line by line' run_python "$top/bindings/python/lines.py"
     answers 'Python, at once' run_python "$top/bindings/python/lines.py" --whole
     lives Python run_python "$top/bindings/python/log.py"
-    (cd "$top" && run_python tests/pages.py bindings/python/blobcrash.py) >"$work/out" 2>"$work/err"
-    tell $? 'Python: the example of the module'
-    # The log of examples/, which is written for the program by a pipe; on both where the program is built.
-    program=$top/out/blobcrash
-    [ -x "$program" ] || { program= && echo "bindings.sh: left out: the log of examples/ on both, for want of out/blobcrash"; }
-    run_python "$top/tests/in_process.py" ${program:+"$program"} >"$work/out" 2>"$work/err"
-    tell $? 'Python: the log of examples/'
+    # By a pipe too, where the program can be had.
+    if "$top/blobcrash" </dev/null >"$work/out" 2>"$work/err"; then
+        export BLOBCRASH="$top/out/blobcrash"
+        answers 'Python, by a pipe' run_python "$top/bindings/python/lines.py" --pipe
+        run_python "$top/tests/two_ways.py" >"$work/out" 2>"$work/err"
+        tell $? 'Python: the two ways'
+    else
+        tell 1 'Python, by a pipe: the program can not be built'
+    fi
 else
     echo "bindings.sh: left out: Python, for want of python3 or of a C compiler, $compiler, which makes its library"
 fi

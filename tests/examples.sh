@@ -57,7 +57,7 @@ ok 'its short script shows the fault' [ $? -eq 1 ]
 ok 'what it prints is shown' grep -q '^crashed .*0' "$work/broken"
 
 cd "$top" || exit 1
-for page in README.md docs/GUIDE.md examples/blobcrash.py; do
+for page in README.md docs/GUIDE.md bindings/python/blobcrash.py; do
     ok "the commands and examples of $page" python3 tests/pages.py "$page"
 done
 

@@ -1,6 +1,6 @@
 """Runs each command of a page, `    $ COMMAND`, and compares what it prints with the lines below it there; runs each indented block of
-Python, which begins with an import, with the modules of examples/, or with those beside the page where that is a module; and runs each
-table of lines with their replies as a script."""
+Python, which begins with an import, with the module of bindings/python; and runs each table of lines with their replies as a
+script."""
 
 import difflib
 import os
@@ -75,8 +75,7 @@ def main(page):
             print(f"{page}: a table that begins with {script[0]}")
             print("\n".join(difflib.unified_diff(wanted, run.stdout.splitlines(), "page", "printed", lineterm="")))
             print(run.stderr)
-    modules = os.path.dirname(page) if page.endswith(".py") else "examples"
-    environment = dict(os.environ, PYTHONPATH=modules, PYTHONDONTWRITEBYTECODE="1")
+    environment = dict(os.environ, PYTHONPATH="bindings/python", PYTHONDONTWRITEBYTECODE="1")
     for program in programs(lines):
         run = subprocess.run([sys.executable, "-c", program], env=environment, stdout=subprocess.PIPE, stderr=subprocess.PIPE, text=True)
         if run.returncode != 0:

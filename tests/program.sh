@@ -80,7 +80,7 @@ run "$top/blobcrash" resolve <"$work/in"
 expect 'a region without its last byte' 0 "create$line" ''
 
 # Arguments.
-usage='usage: blobcrash [resolve|help|version]'
+usage='usage: blobcrash [explain|resolve|help|version]'
 for words in 'resolve resolve' 'resolve --' 'Resolve' '--version' 'help help'; do
     # shellcheck disable=SC2086
     run "$top/blobcrash" $words </dev/null

@@ -10,10 +10,10 @@ import sys
 
 # The calls that users of the whole program rest on: the file and the function.
 CALLS = [
-    ("crates/blob_lab/src/lab.rt", "new"),
-    ("crates/blob_lab/src/lab.rt", "run"),
-    ("crates/blob_scripts/src/run_script.rt", "run_script"),
-    ("crates/blob_scripts/src/run_resolve.rt", "run_resolve"),
+    ("crates/blob_laboratory/src/lab.rt", "new"),
+    ("crates/blob_laboratory/src/lab.rt", "run"),
+    ("crates/blob_lab/src/run_script.rt", "run_script"),
+    ("crates/blob_lab/src/run_resolve.rt", "run_resolve"),
 ]
 PAGE = "docs/TRUST.md"
 IMPORT = re.compile(r"^\s*(?:pub )?(?:ghost )?use Rattle\.(\w+)\.specs\.([\w.]+)\.\{([^}]*)\}", re.M)

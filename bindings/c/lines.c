@@ -38,7 +38,7 @@ static bool begins(const uint8_t *line, size_t len, const char *word) {
 }
 
 static bool is_preamble(const uint8_t *line, size_t len) {
-    return begins(line, len, NULL) || begins(line, len, "image") || begins(line, len, "words");
+    return begins(line, len, NULL) || begins(line, len, "image") || begins(line, len, "words") || begins(line, len, "seed");
 }
 
 /* The session's reply to a line, whatever its length: it is kept until there is room for it. */

@@ -1,4 +1,4 @@
-"""A store that crashes, for tests of recovery, in this process: the library that `sh bindings/build.sh` builds.
+"""A store that crashes, for tests of recovery: the program `./blobcrash`, asked by a pipe, or the library in this process.
 
     from blobcrash import Store
 
@@ -13,17 +13,23 @@
         log, size = store.open("wal", b"0")       # 6 bytes at least
         assert log.read(0, 6) == b"record"
 
-`examples/blobcrash.py` has the same surface over the program, by a pipe: a test that is written for one runs on the other. A
-call that is refused raises the error that is named like its reply: `error BlobMissing p 62` is `BlobMissing`, whose `fields`
-are `("p", "62")`. `store.script` has all lines that were asked: a script that does the same again. The lines and replies are
-those of docs/FORMATS.md. A store belongs to one thread.
+`Store(seed=7, by=Library)` is the same in this process, by the library that `sh bindings/build.sh` builds. A call that is
+refused raises the error that is named like its reply: `error BlobMissing p 62` is `BlobMissing`, whose `fields` are
+`("p", "62")`. `store.script` has all lines that were asked: a script that does the same again. The lines and replies are those
+of docs/FORMATS.md. Nothing but Python's own library is needed. A store belongs to one thread.
 """
 
 import ctypes
 import os
+import subprocess
 from typing import NamedTuple
 
-__all__ = ["Store", "Blob", "Library", "run", "StorageError", "BadLine", "LibraryMissing"]
+TOP = os.path.dirname(os.path.dirname(os.path.dirname(os.path.abspath(__file__))))
+
+
+def program():
+    """The program: `$BLOBCRASH`, or `./blobcrash`, which builds it on first use."""
+    return os.environ.get("BLOBCRASH", os.path.join(TOP, "blobcrash"))
 
 
 class StorageError(Exception):
@@ -104,7 +110,8 @@ class EmptyRange(StorageError):
 
 
 class BadLine(ValueError):
-    """A line is no call, or may not stand there: no call was made. `line` is its number, where it is of a text."""
+    """A line is no call, or may not stand there: no call was made. `line` is its number, where it is of a text. By a pipe it ends
+    the program, and a bad line before the calls is told by the first of them."""
 
     def __init__(self, text, line=None):
         super().__init__(text if line is None else f"line {line}: {text}")
@@ -180,10 +187,10 @@ class Store:
     What is kept and what fails is drawn from these `words` of 64 bits each, and behind them from the seed, a number below 2^64,
     or without one from zeros, for which whatever is drawn is true.
     `images` are raw blobs that lie there from the start: partition, name and bytes each. `settings` are what `configure`
-    takes.
+    takes. The layer is asked `by` a pipe, or with `Library` in this process.
     """
 
-    def __init__(self, seed=None, *, words=(), images=(), settings=()):
+    def __init__(self, seed=None, *, words=(), images=(), settings=(), by=None):
         words = list(words)
         self._lines = [f"image {partition} {_hex(name)} {_hex(data)}" for partition, name, data in images]
         if words:
@@ -191,7 +198,7 @@ class Store:
         if seed is not None:
             self._lines.append(f"seed {seed}")
         self._lines += [f"config {setting}" for setting in settings]
-        self._layer = Library("".join(line + "\n" for line in self._lines).encode())
+        self._layer = (by or Program)("".join(line + "\n" for line in self._lines).encode())
 
     def __enter__(self):
         return self
@@ -287,6 +294,56 @@ def _line(handle, offset, what, sync=None):
     return f"{'writes' if sync else 'write'} {handle} {offset} {_hex(what)}"
 
 
+class Program:
+    """The layer as a program of its own, asked line by line."""
+
+    def __init__(self, preamble=b""):
+        self._run = subprocess.Popen([program()], stdin=subprocess.PIPE, stdout=subprocess.PIPE)
+        lines = preamble.split(b"\n")
+        for line in lines if lines[-1] else lines[:-1]:
+            if line.split()[:1] == [b"config"]:
+                self.call(line)
+            else:
+                self._send(line)
+
+    def call(self, line):
+        self._send(line)
+        if line.strip(b" ")[:1] in (b"", b"#"):
+            return b""
+        self._flush()
+        reply = self._run.stdout.readline()
+        if not reply.endswith(b"\n"):
+            raise BadLine("bad call: " + line.decode(errors="replace"))
+        return reply[:-1]
+
+    def read(self, handle, offset, length):
+        reply = self.call(_line(handle, offset, length).encode()).decode()
+        return _unhex(reply[6:]) if reply.startswith("bytes ") else Reply(reply)
+
+    def write(self, handle, offset, data, sync=False):
+        reply = self.call(_line(handle, offset, bytes(data), sync).encode()).decode()
+        return None if reply == "ok" else Reply(reply)
+
+    def close(self):
+        """Ends the program, and answers its exit status."""
+        if not self._run.stdin.closed:
+            self._flush()
+            self._run.communicate()
+        return self._run.returncode
+
+    def _send(self, line):
+        try:
+            self._run.stdin.write(line + b"\n")
+        except BrokenPipeError:
+            pass  # It has ended, and gives no reply.
+
+    def _flush(self):
+        try:
+            self._run.stdin.flush()
+        except (BrokenPipeError, ValueError):
+            pass
+
+
 # What the library answers: bindings/c/blobcrash.h.
 
 _DONE, _ENDLESS, _BAD_LINE, _NO_MEMORY, _NO_ROOM, _CLOSED, _OTHER_REPLY, _UNPRINTED = range(8)
@@ -310,8 +367,7 @@ _library = None
 def _loaded():
     global _library
     if _library is None:
-        here = os.path.dirname(os.path.abspath(__file__))
-        path = os.environ.get("BLOBCRASH_LIBRARY", os.path.join(here, "..", "..", "out", "libblobcrash.so"))
+        path = os.environ.get("BLOBCRASH_LIBRARY", os.path.join(TOP, "out", "libblobcrash.so"))
         try:
             library = ctypes.CDLL(path)
         except OSError as error:

@@ -1,14 +1,14 @@
-"""Runs a script from standard input through the library, a line at a time, or with `--whole` at once: its
-replies are the program's (docs/FORMATS.md), and so is its exit status."""
+"""Runs a script from standard input through the library, a line at a time, or with `--whole` at once, or with `--pipe` through
+the program: the replies are those of the program (docs/FORMATS.md), and so is the exit status."""
 
 import sys
 
-from blobcrash import BadLine, Library, run
+from blobcrash import BadLine, Library, Program, run
 
 
 def is_preamble(line):
     word = next((token for token in line.split(b" ") if token), b"#")
-    return word.startswith(b"#") or word in (b"image", b"words")
+    return word.startswith(b"#") or word in (b"image", b"words", b"seed")
 
 
 def bad_line(number):
@@ -16,24 +16,24 @@ def bad_line(number):
     return 2
 
 
-def by_lines(script):
+def by_lines(script, way):
     lines = script.split(b"\n")
     if lines[-1] == b"":
         lines.pop()
     first = next((at for at, line in enumerate(lines) if not is_preamble(line)), len(lines))
     try:
-        layer = Library(b"".join(line + b"\n" for line in lines[:first]))
+        layer = way(b"".join(line + b"\n" for line in lines[:first]))
     except BadLine as bad:
         return bad_line(bad.line)
     for number, line in enumerate(lines[first:], first + 1):
         try:
             reply = layer.call(line)
         except BadLine:
-            return bad_line(number)
+            # The program has told it.
+            return layer.close() or bad_line(number)
         if reply:
             sys.stdout.buffer.write(reply + b"\n")
-    layer.close()
-    return 0
+    return layer.close() or 0
 
 
 def whole(script):
@@ -49,4 +49,4 @@ if __name__ == "__main__":
     script = sys.stdin.buffer.read()
     if "--whole" in sys.argv:
         sys.exit(whole(script))
-    sys.exit(by_lines(script))
+    sys.exit(by_lines(script, Program if "--pipe" in sys.argv else Library))

@@ -9,11 +9,10 @@ lives through 200 logs, one a seed. With `forget-sync` a record is acknowledged 
 which has to be found: the first life that loses a record is told, with status 1.
 """
 
-import random
 import struct
 import sys
 
-from blobcrash import StorageError, Store
+from blobcrash import Library, StorageError, Store
 
 HEAD = struct.Struct("<IQ")
 
@@ -60,12 +59,6 @@ class Log:
         self.end += len(record)
 
 
-def words(seed):
-    """What the store's draws go by: more words than a life takes."""
-    generator = random.Random(seed)
-    return [generator.getrandbits(64) for _ in range(4096)]
-
-
 class Lost(Exception):
     pass
 
@@ -76,7 +69,7 @@ SETTINGS = ["write 1 16 1 2 subset", "sync 1 16", "resize 1 16 1 2"]
 def live(seed, forgets_sync):
     """One life of a log: sixteen crashes. Answers how many records were acknowledged."""
     acknowledged, unanswered = [], None
-    with Store(words=words(seed), settings=SETTINGS) as store:
+    with Store(seed, settings=SETTINGS, by=Library) as store:
         for crash in range(16):
             try:
                 log = Log(store, forgets_sync)

@@ -1,9 +1,9 @@
-"""Times calls from Python, in-process, on standard error. Each figure takes about `argv[1]` seconds."""
+"""Times calls from Python, in-process and by a pipe, on standard error. Each figure takes about `argv[1]` seconds."""
 
 import sys
 import time
 
-from blobcrash import Store
+from blobcrash import Library, Program, Store
 
 SECONDS = float(sys.argv[1]) if len(sys.argv) > 1 else 0.5
 
@@ -18,8 +18,8 @@ def tell(name, calls, once):
     print(f"Python, {name}: {1 / each:.0f} calls/s, {each * 1e9:.0f} ns each", file=sys.stderr)
 
 
-def times(name):
-    with Store() as store:
+def times(name, way):
+    with Store(by=way) as store:
         blob, _ = store.open("p", b"b")
         tell(f"{name}, size", 1, lambda _: blob.size())
         for length in (8, 512, 4096):
@@ -34,4 +34,5 @@ def times(name):
             tell(f"{name}, write and read of {length} bytes", 2, once)
 
 
-times("in-process")
+times("in-process", Library)
+times("by pipe", Program)

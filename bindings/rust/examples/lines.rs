@@ -46,7 +46,7 @@ fn by_lines(script: &[u8]) -> Result<(Vec<u8>, Option<u64>), Error> {
             return Ok((replies, Some(number)));
         };
         let word = line.split(' ').find(|token| !token.is_empty());
-        if store.is_none() && word.is_some_and(|w| ["image", "words"].contains(&w)) {
+        if store.is_none() && word.is_some_and(|w| ["image", "words", "seed"].contains(&w)) {
             preamble.push(line);
             if let Err(Error::BadLine(_)) = Store::builder().lines(&preamble).open() {
                 return Ok((replies, Some(number)));

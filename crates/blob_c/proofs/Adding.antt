@@ -7,12 +7,12 @@ use Rattle.blob_calls.specs.declared.script.setting.Setting.{Setting}
 use Rattle.blob_calls.specs.Acts as acts
 use Rattle.blob_calls.specs.Acts.{Act}
 use Rattle.blob_calls.specs.Lines.{Image, Given, Seed, Configure, line_of}
-use Rattle.blob_scripts.specs.Scripts.{Script, no_script, lines_of, with_call, before_calls, unseeded, with_said, with_line}
+use Rattle.blob_lab.specs.Scripts.{Script, no_script, lines_of, with_call, before_calls, unseeded, with_said, with_line}
 use Rattle.blob_states.specs.Scripted.{behind_seeded}
 use Rattle.blob_calls.specs.Settings.{configured}
 use Rattle.blob_states.specs.States as states
-use Rattle.blob_lab.specs.Tables.{images_of}
-use Rattle.blob_scripts.proofs.ScriptSteps.{more_lines, one_line}
+use Rattle.blob_laboratory.specs.Tables.{images_of}
+use Rattle.blob_lab.proofs.ScriptSteps.{more_lines, one_line}
 use Rattle.blob_c.specs.declared.preamble.Preamble.{Preamble}
 use Rattle.blob_c.specs.Preambles.{IsSetting, IsNoSetting, BreaksAt, Says, IsReadTo}
 

@@ -1,10 +1,10 @@
 -- How a line is answered, by how its call is made and its reply told.
 use Rattle.std.proofs.Common.{◌≡◌, ◌≢◌, ◌<◌, ℕ, List, Option, Some, None, IfSome, MatchOption, length, take, sym, ap, ◌∙◌, subst, inl, inr, arith}
 use Rattle.blob_calls.specs.declared.call.Call.{Call as LabCall}
-use Rattle.blob_lab.specs.declared.lab.Lab.{Lab}
+use Rattle.blob_laboratory.specs.declared.lab.Lab.{Lab}
 use Rattle.blob_calls.specs.declared.reply.Reply.{Reply}
 use Rattle.blob_calls.specs.Acts.{Act}
-use Rattle.blob_lab.specs.LabStands.{Performs}
+use Rattle.blob_laboratory.specs.LabStands.{Performs}
 use Rattle.blob_calls.specs.Replies.{reply_line}
 use Rattle.blob_faults.specs.declared.config.Config.{Config}
 use Rattle.blob_c.specs.declared.kept.Kept.{Kept}

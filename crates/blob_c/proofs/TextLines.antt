@@ -5,7 +5,7 @@ use Rattle.std.proofs.lemmas.Bool.{ltb-false}
 use Rattle.std.proofs.lemmas.List.{take_rest}
 use Rattle.std.proofs.lemmas.List.Quantifiers.{position-Some}
 use Rattle.std.proofs.lemmas.List.Sums.{fails_before_first}
-use Rattle.blob_scripts.specs.Scripts.{lines_of, with_byte}
+use Rattle.blob_lab.specs.Scripts.{lines_of, with_byte}
 
 pub lines_at : (xs : List ℕ) (k : ℕ) → k < length xs → (get_or xs k 0 == 10) ≡ true → ((j : ℕ) → j < k → (get_or xs j 0 == 10) ≡ false) → lines_of xs ≡ take k xs ∷ lines_of (drop (suc k) xs)
 lines_at [] k lt is before = absurd (omega (arith, lt))

@@ -2,11 +2,11 @@
 use Rattle.std.specs.Prelude.{◌≡◌, ◌≢◌, ◌⊎◌, ℕ, suc, List, [], ◌∷◌, ◌++◌, All, true, length, Some, None}
 use Rattle.blob_calls.specs.Acts as acts
 use Rattle.blob_calls.specs.Acts.{Act}
-use Rattle.blob_lab.specs.LabStands.{StandsFor}
+use Rattle.blob_laboratory.specs.LabStands.{StandsFor}
 use Rattle.blob_calls.specs.Lines.{Call, line_of}
-use Rattle.blob_scripts.specs.Scripts.{Script, no_script, lines_of, with_line, with_lines}
+use Rattle.blob_lab.specs.Scripts.{Script, no_script, lines_of, with_line, with_lines}
 use Rattle.blob_states.specs.States.{start}
-use Rattle.blob_lab.specs.Tables.{images_of}
+use Rattle.blob_laboratory.specs.Tables.{images_of}
 use Rattle.blob_c.specs.declared.kept.Kept.{Kept}
 use Rattle.blob_c.specs.declared.preamble.Preamble.{Preamble}
 

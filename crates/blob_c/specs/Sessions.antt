@@ -6,10 +6,10 @@ use Rattle.blob_calls.specs.declared.reply.Reply.{Reply}
 use Rattle.blob_calls.specs.declared.reply.Reply.TheVariants as replies
 use Rattle.blob_calls.specs.Acts as acts
 use Rattle.blob_calls.specs.Acts.{Act, Through, Read, Write}
-use Rattle.blob_lab.specs.LabStands.{Performs}
+use Rattle.blob_laboratory.specs.LabStands.{Performs}
 use Rattle.blob_calls.specs.Lines.{Blank, Configure, Call, line_of}
 use Rattle.blob_calls.specs.Replies.{reply_line}
-use Rattle.blob_scripts.specs.Scripts.{Script, with_line}
+use Rattle.blob_lab.specs.Scripts.{Script, with_line}
 use Rattle.blob_calls.specs.Settings.{configured}
 use Rattle.blob_c.specs.declared.kept.Kept.{Kept}
 use Rattle.blob_c.specs.declared.session.Session.{Session}

@@ -4,7 +4,7 @@
 #![tactic(auto)]
 
 ghost use Rattle.std.specs.Prelude.{◌≡◌, ◌⊎◌, ◌<◌, Some, None, IsSome, IfSome, [], take, length};
-ghost use Rattle.blob_scripts.specs.Scripts.{Prints, PrintsBefore, no_script, lines_of, script_of};
+ghost use Rattle.blob_lab.specs.Scripts.{Prints, PrintsBefore, no_script, lines_of, script_of};
 ghost use Rattle.blob_c.specs.Preambles.{BreaksAt, IsMadeOf};
 ghost use Rattle.blob_c.specs.Sessions.{AnswersLine, AnswersRead, AnswersWrite, OnHeld, TellsAgain, held};
 
@@ -23,12 +23,13 @@ use std::alloc::Global;
 /// Runs a script, and writes its replies to the front of `replies`, a line each.
 ///
 /// `BAD_LINE` tells the line's number, and writes the replies before it. `NO_ROOM` writes nothing and tells how much room
-/// is wanted; `NO_MEMORY` writes nothing.
+/// is wanted; `NO_MEMORY` and `ENDLESS` write nothing.
 #[unsafe(no_mangle)]
 pub extern "C" fn blobcrash_run(alloc: Global, script: &[u8], replies: &mut [u8]) -> ScriptRan
     ensures done { result.status ≡ DONE → Prints (script_of (lines_of script.now)) (Some []) (Some (take result.len replies.new)) }
     ensures bad_line { result.status ≡ BAD_LINE → PrintsBefore no_script 1 result.line (lines_of script.now) (Some []) (Some (take result.len replies.new)) }
     ensures no_room { result.status ≡ NO_ROOM → length replies.old < result.len }
+    ensures unwritten { (result.status ≡ DONE) ⊎ (result.status ≡ BAD_LINE) ⊎ (replies.new ≡ replies.old) }
 {
     script::run(alloc, script, replies)
 }

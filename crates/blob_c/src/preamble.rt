@@ -1,9 +1,9 @@
 // What a session is opened with: the lines of a script before its calls, and settings.
 ghost use Rattle.std.specs.Prelude.{◌≡◌, ◌==◌, ◌<◌, ℕ, ◌∷◌, [], Some, IfSome, IfNone, IfOk, OnOk, All, length, position};
-ghost use Rattle.blob_lab.specs.LabStands.{StandsFor};
-ghost use Rattle.blob_scripts.specs.Scripts.{Script, lines_of, no_script, with_line};
+ghost use Rattle.blob_laboratory.specs.LabStands.{StandsFor};
+ghost use Rattle.blob_lab.specs.Scripts.{Script, lines_of, no_script, with_line};
 ghost use Rattle.blob_states.specs.States.{start};
-ghost use Rattle.blob_lab.specs.Tables.{images_of};
+ghost use Rattle.blob_laboratory.specs.Tables.{images_of};
 ghost use Rattle.blob_c.specs.Preambles.{AreSettings, BreaksAt, IsMadeOf, IsNoSetting, IsSetting, Says};
 
 use crate::kept::{Kept, copy_of};

@@ -1,10 +1,10 @@
 // A whole script at once.
-ghost use Rattle.std.specs.Prelude.{◌≡◌, ◌<◌, Some, [], take, length};
-ghost use Rattle.blob_scripts.specs.Scripts.{Prints, PrintsBefore, no_script, lines_of, script_of};
+ghost use Rattle.std.specs.Prelude.{◌≡◌, ◌⊎◌, ◌<◌, Some, [], take, length};
+ghost use Rattle.blob_lab.specs.Scripts.{Prints, PrintsBefore, no_script, lines_of, script_of};
 
 use crate::ran::{BAD_LINE, DONE, ENDLESS, NO_MEMORY, NO_ROOM, ScriptRan};
-use blob_scripts::Ending;
-use blob_scripts::run_script::run_script;
+use blob_lab::Ending;
+use blob_lab::run_script::run_script;
 use std::alloc::Global;
 
 /// Runs a script, and copies what it prints where there is room for it. Where there is none, `len` says how much is wanted.
@@ -12,6 +12,7 @@ pub(crate) fn run(alloc: Global, script: &[u8], replies: &mut [u8]) -> ScriptRan
     ensures done { result.status ≡ DONE → Prints (script_of (lines_of script.now)) (Some []) (Some (take result.len replies.new)) }
     ensures bad_line { result.status ≡ BAD_LINE → PrintsBefore no_script 1 result.line (lines_of script.now) (Some []) (Some (take result.len replies.new)) }
     ensures no_room { result.status ≡ NO_ROOM → length replies.old < result.len }
+    ensures unwritten { (result.status ≡ DONE) ⊎ (result.status ≡ BAD_LINE) ⊎ (replies.new ≡ replies.old) }
 {
     let mut reader = script;
     let mut printed = Vec::new(alloc);

@@ -6,10 +6,12 @@ ghost use Rattle.blob_model.specs.Places.{Place};
 ghost use Rattle.blob_faulty.specs.Keeps.{found_in};
 ghost use Rattle.blob_faulty.specs.Lends.{LendsConfig, with_config};
 ghost use Rattle.blob_faulty.specs.Names.{Steps};
+ghost use Rattle.blob_faults.specs.Lists.{list_of};
 ghost use Rattle.blob_faulty.specs.Wrapper.{inner_of, rng_of, config_of, next_write_of, next_marker_of, pending_of, Stands};
 
 use blob_base::Durable;
 use blob_faults::config::Config;
+use blob_faults::incarnation::Incarnation;
 use blob_faults::lists::Lists;
 use rand_core::Rng;
 use std::alloc::Global;
@@ -79,6 +81,14 @@ impl<S: Durable, R> Storage<S, R> {
         ensures { result.now ≡ inner_of self.now }
     {
         &self.inner
+    }
+
+    /// What a crash could lose or keep: a list for each incarnation that has one, in no order. An ended incarnation's list may be
+    /// among them, and so may an empty one.
+    pub fn pending(&self) -> &[Incarnation<S::Origin>]
+        ensures { list_of S.place result.now ≡ pending_of S.place self.now }
+    {
+        &self.lists.all.lists
     }
 
     /// The rates of the faults, to be changed at any time. An entry that is pending keeps the mode and the rate of its own issue.

@@ -1,5 +1,8 @@
-pub mod LabStands
-pub mod Tables
+pub mod Endings
+pub mod Reading
+pub mod ResolveReplies
+pub mod ScriptReading
+pub mod Scripts
 pub use Rattle.blob_names.specs.Names
 pub use Rattle.blob_opens.specs.OpenNames
 pub use Rattle.blob_opens.specs.Opens
@@ -26,3 +29,5 @@ pub use Rattle.blob_states.specs.Runs
 pub use Rattle.blob_states.specs.Scripted
 pub use Rattle.blob_states.specs.States
 pub use Rattle.blob_states.specs.Steps
+pub use Rattle.blob_laboratory.specs.LabStands
+pub use Rattle.blob_laboratory.specs.Tables

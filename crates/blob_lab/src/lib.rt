@@ -1,14 +1,17 @@
-//! A laboratory that runs calls as data: a store that fails and crashes, its open handles and their names.
+//! Whole scripts over a laboratory, a line in and its reply out, and `resolve`.
 #![tactic(auto)]
 
-pub mod lab;
+pub mod ending;
 #[cfg(test)]
-mod opens_tests;
-pub mod scripted_rng;
+mod failing;
+pub mod resolution_line;
+pub mod run_resolve;
+pub mod run_script;
 
 pub use blob_calls::{Call, Reply, call, reply, script};
 pub use blob_debt::{Generation, GenerationId, Pending, Receiver, Sender, pending};
+pub use blob_laboratory::{Lab, ScriptedRng, lab, scripted_rng};
 pub use blob_opens::{Opens, open, opens};
 pub use blob_states::laws;
-pub use lab::Lab;
-pub use scripted_rng::ScriptedRng;
+pub use ending::Ending;
+pub use resolution_line::ResolutionLine;

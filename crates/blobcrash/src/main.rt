@@ -1,9 +1,10 @@
 // The program: arguments, buffered streams and the exit status. All else is the library's.
 #![tactic(auto)]
 
-use blob_scripts::Ending;
-use blob_scripts::run_resolve::run_resolve;
-use blob_scripts::run_script::run_script;
+use blob_lab::Ending;
+use blob_lab::run_resolve::run_resolve;
+use blob_lab::run_script::run_script;
+use blob_pictures::explain_script;
 use std::env;
 use std::io::{self, BufReader, BufWriter, ErrorKind};
 use std::process::ExitCode;
@@ -11,9 +12,10 @@ use std::process::ExitCode;
 /// The release, and the toolchain that it is proved and built with.
 const VERSION: &str = "blobcrash 0.2.0, proved with rattle-kit-13b";
 
-const HELP: &str = "usage: blobcrash [resolve|help|version]
+const HELP: &str = "usage: blobcrash [explain|resolve|help|version]
 
   blobcrash          runs the script on standard input, one call a line, and prints the reply to each
+  blobcrash explain  the same to its end, and shows behind each crash what it kept and lost
   blobcrash resolve  reads a line of hex, the bytes of a blob, and prints what an open makes of them
   blobcrash help     prints this, as --help does
   blobcrash version  prints the release and the toolchain that it is proved with
@@ -47,6 +49,7 @@ fn run<T: AllocGlobal + Input + Print>(rt: &T, mut args: env::Args) -> Ending {
 
 fn run_word<T: AllocGlobal + Input + Print>(rt: &T, word: &str) -> Ending {
     match word {
+        "explain" => explain_input(rt),
         "resolve" => resolve_input(rt),
         "help" | "--help" => print_line(rt, HELP),
         "version" => print_line(rt, VERSION),
@@ -69,6 +72,16 @@ fn run_input<T: AllocGlobal + Input + Print>(rt: &T) -> Ending {
         return Ending::NoMemory;
     };
     run_script(rt.alloc(), &mut reader, &mut writer)
+}
+
+fn explain_input<T: AllocGlobal + Input + Print>(rt: &T) -> Ending {
+    let Ok(mut reader) = BufReader::new(rt.alloc(), rt.reader()) else {
+        return Ending::NoMemory;
+    };
+    let Ok(mut writer) = BufWriter::new(rt.alloc(), io::writer(rt)) else {
+        return Ending::NoMemory;
+    };
+    explain_script(rt.alloc(), &mut reader, &mut writer)
 }
 
 // Without a buffer each byte of standard input would be a read of its own.

@@ -1,0 +1,45 @@
+-- The lines of an input from the front on.
+use Rattle.std.proofs.Common.{◌≡◌, ℕ, suc, ◌==◌, List, [], ◌∷◌, ◌++◌, Bool, true, false, Option, Some, None, IfSome, length, take, get_or, refl, sym, ap, ◌∙◌, cond, arith}
+use Rattle.std.proofs.Math.Numerals.{sub-one}
+use Rattle.std.proofs.lemmas.Bool.{lt-ltb}
+use Rattle.std.specs.Io.BufRead.{DropsThrough, take_through, drop_through, strip_last, first_piece}
+use Rattle.blob_calls.specs.Lines.{Said, line_of}
+use Rattle.blob_lab.specs.ScriptReading.{OfLines, TakesLine}
+use Rattle.blob_lab.specs.Scripts.{with_byte, lines_of}
+
+strip_cons : (x y : ℕ) (ys : List ℕ) → strip_last 10 (x ∷ y ∷ ys) ≡ x ∷ strip_last 10 (y ∷ ys)
+strip_cons x y ys = simp (sub-one, lt-ltb 0 (suc (suc (length ys))) (omega arith), lt-ltb 0 (suc (length ys)) (omega arith))
+    (elim (get_or (y ∷ ys) (length ys) 0 == 10) as (λ t. cond t (x ∷ take (length ys) (y ∷ ys)) (x ∷ y ∷ ys) ≡ x ∷ cond t (take (length ys) (y ∷ ys)) (y ∷ ys)) [ true ↦ refl | false ↦ refl ])
+
+-- a byte before a line of more bytes
+piece_cons : (b c : ℕ) (cs : List ℕ) → (b == 10) ≡ false → first_piece 10 (b ∷ c ∷ cs) ≡ b ∷ first_piece 10 (c ∷ cs)
+piece_cons b c cs h =
+    ap (λ t. strip_last 10 (cond t (b ∷ []) (b ∷ take_through 10 (c ∷ cs)))) h
+    ∙ elim (c == 10) as (λ t. strip_last 10 (b ∷ cond t (c ∷ []) (c ∷ take_through 10 cs)) ≡ b ∷ strip_last 10 (cond t (c ∷ []) (c ∷ take_through 10 cs))) [
+      | true ↦ strip_cons b c []
+      | false ↦ strip_cons b c (take_through 10 cs)
+    ]
+
+first_is : (b : ℕ) (bs : List ℕ) (test : Bool) → (b == 10) ≡ test → lines_of (b ∷ bs) ≡ first_piece 10 (b ∷ bs) ∷ lines_of (drop_through 10 (b ∷ bs))
+first_is b bs true h = simp h
+first_is b [] false h = simp h
+first_is b (c ∷ cs) false h =
+    let after = lines_of (drop_through 10 (c ∷ cs)) in
+    ap (λ t. cond t ([] ∷ lines_of (c ∷ cs)) (with_byte b (lines_of (c ∷ cs)))) h
+    ∙ ap (with_byte b) (first_is c cs (c == 10) refl)
+    ∙ ap (λ l. l ∷ after) (sym (piece_cons b c cs h))
+    ∙ ap (λ t. first_piece 10 (b ∷ c ∷ cs) ∷ lines_of (cond t (c ∷ cs) (drop_through 10 (c ∷ cs)))) (sym h)
+
+pub lines_cons : (b : ℕ) (bs : List ℕ) → lines_of (b ∷ bs) ≡ first_piece 10 (b ∷ bs) ∷ lines_of (drop_through 10 (b ∷ bs))
+lines_cons b bs = first_is b bs (b == 10) refl
+
+-- a line with its end was read behind nothing, and the end was taken off
+pub takes_line : (old new : Option (List ℕ)) (kept buf line : List ℕ) (said : Option Said) → kept ≡ [] → IfSome old (λ xs. buf ≡ kept ++ take_through 10 xs) → DropsThrough old new 10
+    → (buf ≡ [] → ⊥) → line ≡ strip_last 10 buf → line_of line ≡ said → OfLines old new (TakesLine said)
+takes_line None new kept buf line said none bytes drops some is says = tt
+takes_line (Some []) new kept buf line said none bytes drops some is says = absurd (some (bytes ∙ ap (λ l. l ++ []) none))
+takes_line (Some (b ∷ bs)) None kept buf line said none bytes drops some is says = absurd (cc)
+takes_line (Some (b ∷ bs)) (Some ys) kept buf line said none bytes drops some is says =
+    let left : ys ≡ drop_through 10 (b ∷ bs) = cc drops in
+    let first = is ∙ ap (strip_last 10) (bytes ∙ ap (λ l. l ++ take_through 10 (b ∷ bs)) none) in
+    (line, lines_cons b bs ∙ ap (λ l. l ∷ lines_of (drop_through 10 (b ∷ bs))) (sym first) ∙ ap (λ zs. line ∷ lines_of zs) (sym left), says)

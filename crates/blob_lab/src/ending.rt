@@ -1,0 +1,53 @@
+ghost use Rattle.std.specs.Prelude.{◌≡◌, Some};
+ghost use Rattle.blob_lab.specs.Endings.{ending_line, status_of};
+
+use std::fmt;
+
+/// How a run of the program ends. Printed, it is the line for standard error, without its end; empty where all went well.
+#[derive(Clone, Copy, Debug, PartialEq, Eq)]
+pub enum Ending {
+    /// Every reply was written.
+    Done,
+    /// The input couldn't be read.
+    InputFailed,
+    /// The output couldn't be written; a part of a reply may have been.
+    OutputFailed,
+    /// This line of a script, counted from 1, isn't a call. The replies before it were written.
+    BadCall(u64),
+    /// The line to be resolved isn't hex.
+    BadImage,
+    /// The program was called with other arguments than it takes.
+    Usage,
+    /// The program itself found no memory. A call that was refused memory is told by its reply.
+    NoMemory,
+}
+
+impl Ending {
+    /// The exit status.
+    pub fn status(self) -> u8
+        ensures { result ≡ status_of self }
+    {
+        match self {
+            Ending::Done => 0,
+            Ending::InputFailed | Ending::OutputFailed => 1,
+            Ending::BadCall(_) | Ending::BadImage | Ending::Usage => 2,
+            Ending::NoMemory => 3,
+        }
+    }
+}
+
+impl fmt::Display for Ending {
+    ghost output = { λ ending. Some (ending_line ending) };
+
+    fn fmt<W: fmt::Write>(&self, f: &mut fmt::Formatter<W>) -> fmt::Result {
+        match self {
+            Ending::Done => f.write_str(""),
+            Ending::InputFailed => f.write_str("input failed"),
+            Ending::OutputFailed => f.write_str("output failed"),
+            Ending::BadCall(line) => write!(f, "line {line}: bad call"),
+            Ending::BadImage => f.write_str("bad image"),
+            Ending::Usage => f.write_str("usage: blobcrash [explain|resolve|help|version]"),
+            Ending::NoMemory => f.write_str("no memory"),
+        }
+    }
+}

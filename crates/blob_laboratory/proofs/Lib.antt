@@ -1,0 +1,13 @@
+pub mod AskedSyncs
+pub mod AskedWrites
+pub mod AskSteps
+pub mod CallSteps
+pub mod ExclusiveEnds
+pub mod ExclusiveOpens
+pub mod LooseOpens
+pub mod NamedCalls
+pub mod OpenEnds
+pub mod OpenSteps
+pub mod Performing
+pub mod Rebuilding
+pub mod ThroughHandles

@@ -1,0 +1,12 @@
+use Rattle.std.proofs.Common.{◌≡◌, None}
+use Rattle.blob_model.specs.Places.{Place}
+use Rattle.blob_states.specs.States.{empty_directory, with_images}
+use Rattle.blob_laboratory.specs.Tables.{images_of}
+use Rattle.blob_memory.specs.Store.{directory, durable}
+use Rattle.blob_laboratory.proofs.lab.Lab.drawing.Given as goal
+
+abbrev pub invariant-loop-partition : goal.invariant-loop-partition
+invariant-loop-partition l = record {
+  directory : directory l.store ≡ with_images empty_directory (images_of l.yielded);
+  durable : (o : Place) → durable l.store o ≡ None;
+}

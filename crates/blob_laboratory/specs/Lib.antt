@@ -1,0 +1,2 @@
+pub mod LabStands
+pub mod Tables

@@ -1,0 +1,124 @@
+//! The laboratory: a faulty memory store, its open handles and started syncs, and calls as data.
+ghost use Rattle.std.specs.Prelude.{◌≡◌, IfOk, OnErr};
+ghost use Rattle.blob_header.specs.Refusals.{IsMemory};
+ghost use Rattle.blob_states.specs.Fixed.{Persists};
+ghost use Rattle.blob_states.specs.Reached.{NoneLoose, ReachedExclusively};
+ghost use Rattle.blob_states.specs.Runs.{Run};
+ghost use Rattle.blob_states.specs.Scripted.{behind_seeded, only, scripted};
+ghost use Rattle.blob_states.specs.States.{State, start, start_on};
+ghost use Rattle.blob_laboratory.specs.Tables.{images_of};
+
+mod applying;
+mod asking;
+pub mod handles;
+mod naming;
+mod opening;
+mod rebuilding;
+mod standing;
+pub mod syncs;
+
+use crate::ScriptedRng;
+use blob_base::Error;
+use blob_calls::{Call, Reply};
+use blob_faulty::Config;
+use blob_opens::Opens;
+use handles::Handles;
+pub use standing::Stands;
+use std::alloc::Global;
+use syncs::Syncs;
+
+/// One wrapper over a memory store, with the handles that were opened on it and the syncs that were started.
+///
+/// It is spent by `end`.
+pub struct Lab {
+    pub(crate) wrapper: Wrapper,
+    pub(crate) opens: Opens,
+    pub(crate) handles: Handles,
+    pub(crate) syncs: Syncs,
+    pub(crate) alloc: Global,
+}
+
+/// The wrapper of a laboratory.
+pub type Wrapper = blob_faulty::Storage<blob_memory::Storage, ScriptedRng>;
+
+impl Lab {
+    /// A laboratory over these raw images (partition, name and bytes), set in order before the store is wrapped. The
+    /// generator has these words, and behind them zeros. The only error is `Memory`.
+    pub fn new(
+        images: Vec<(String, Vec<u8>, Vec<u8>)>,
+        words: Vec<u64>,
+        config: Config,
+    ) -> Result<Lab, Error>
+        ensures stands { IfOk result (λ lab. ⟦<Lab as Stands>⟧.stands_for lab (start (images_of images.items) (only words.items) config)) }
+        ensures memory { OnErr result (IsMemory result) }
+    {
+        Lab::drawing(images, ScriptedRng::new(words), config)
+    }
+
+    /// A laboratory over these raw images (partition, name and bytes), set in order before the store is wrapped. The
+    /// generator has these words, and behind them those of `Xoshiro256PlusPlus::seed_from_u64(seed)`. The only error is `Memory`.
+    pub fn seeded(
+        images: Vec<(String, Vec<u8>, Vec<u8>)>,
+        words: Vec<u64>,
+        seed: u64,
+        config: Config,
+    ) -> Result<Lab, Error>
+        ensures stands { IfOk result (λ lab. ⟦<Lab as Stands>⟧.stands_for lab (start (images_of images.items) (behind_seeded words.items seed) config)) }
+        ensures memory { OnErr result (IsMemory result) }
+    {
+        Lab::drawing(images, ScriptedRng::seeded(words, seed), config)
+    }
+
+    fn drawing(
+        images: Vec<(String, Vec<u8>, Vec<u8>)>,
+        rng: ScriptedRng,
+        config: Config,
+    ) -> Result<Lab, Error>
+        ensures stands { IfOk result (λ lab. ⟦<Lab as Stands>⟧.stands_for lab (start_on (images_of images.items) (scripted rng) config)) }
+        ensures memory { OnErr result (IsMemory result) }
+    {
+        let alloc = *images.allocator();
+        let mut store = blob_memory::Storage::new(alloc);
+        for (partition, name, bytes) in images {
+            store.set_raw_blob(&partition, &name, bytes)?;
+        }
+        Ok(Lab {
+            wrapper: blob_faulty::Storage::new(alloc, store, rng, config),
+            opens: Opens::new(alloc),
+            handles: Handles::new(alloc),
+            syncs: Syncs::new(alloc),
+            alloc,
+        })
+    }
+
+    /// Makes calls one after another, and answers the reply to each. The only error is `Memory`: the list of replies has
+    /// no room, and no call was made.
+    ///
+    /// Where all opens, these and those of earlier calls, are exclusive, a byte that one of the calls fixes lasts through
+    /// the calls after it, until one of them reaches it.
+    pub fn run(&mut self, calls: &[Call]) -> Result<Vec<Reply>, Error>
+        ensures stands { IfOk result (λ replies. (v : State) → ⟦<Lab as Stands>⟧.stands_for self.old v → (w : State) × Run v calls.now replies.items w × ⟦<Lab as Stands>⟧.stands_for self.new w) }
+        ensures fixed { IfOk result (λ replies. (v : State) → ⟦<Lab as Stands>⟧.stands_for self.old v → ReachedExclusively v → NoneLoose calls.now → Persists v calls.now replies.items) }
+        ensures memory { OnErr result (IsMemory result) }
+        ensures err { OnErr result (self.new ≡ self.old) }
+    {
+        let mut replies = Vec::with_capacity(self.alloc, calls.len())?;
+        for call in calls {
+            let reply = self.apply(call);
+            replies.push(reply).unwrap();
+        }
+        Ok(replies)
+    }
+
+    /// Closes every handle, and drops the store. Takes no memory.
+    pub fn end(self) {
+        let Lab {
+            wrapper: _,
+            mut opens,
+            handles,
+            syncs: _,
+            alloc: _,
+        } = self;
+        handles.close_all(&mut opens);
+    }
+}

@@ -1,0 +1,73 @@
+// A call as data, and the wrapper for reading.
+ghost use Rattle.std.specs.Prelude.{◌≡◌};
+ghost use Rattle.blob_calls.specs.Acts.{Configure, act_of};
+ghost use Rattle.blob_laboratory.specs.LabStands.{Performs, Wraps, wrapper_of};
+ghost use Rattle.blob_states.specs.States.{State};
+
+use crate::lab::{Lab, Stands, Wrapper};
+use blob_calls::script::setting::copy_of;
+use blob_calls::{Call, Reply};
+use blob_faulty::Config;
+
+impl Lab {
+    /// Makes one call: whatever state the laboratory stood for, the reply is one that the call may be given there, and the
+    /// laboratory now stands for what the call makes of that state.
+    ///
+    /// `NoHandle` and `EmptyRange` change nothing and draw nothing. `Failed(Memory)` changes nothing but the generator,
+    /// and isn't answered to `Configure`, `Admit`, `Close`, `Size`, `Finish` and `Reopen`.
+    pub fn apply(&mut self, call: &Call) -> Reply
+        ensures { Performs self.old (act_of call.now) result self.new }
+    {
+        match call {
+            Call::Configure(config) => self.configure(config),
+            Call::Open {
+                partition,
+                name,
+                versions,
+            } => self.open(partition, name, versions),
+            Call::OpenLoose {
+                partition,
+                name,
+                versions,
+            } => self.open_loose(partition, name, versions),
+            Call::Admit { partition, name } => self.admit(partition, name),
+            Call::Close(handle) => self.close(*handle),
+            Call::Read {
+                handle,
+                offset,
+                len,
+            } => self.read(*handle, *offset, *len),
+            Call::Write {
+                handle,
+                offset,
+                bytes,
+                sync,
+            } => self.write(*handle, *offset, bytes, *sync),
+            Call::Resize { handle, len } => self.resize(*handle, *len),
+            Call::Size(handle) => self.size(*handle),
+            Call::Sync(handle) => self.sync(*handle),
+            Call::StartSync(handle) => self.start_sync(*handle),
+            Call::Finish(number) => self.finish(*number),
+            Call::Remove { partition, name } => self.remove(partition, name),
+            Call::Scan { partition } => self.scan(partition),
+            Call::Crash => self.crash(),
+            Call::Reopen => self.reopen(),
+        }
+    }
+
+    /// The wrapper, for reading: its store's durable bytes, and which incarnations are current. It stands for the files of
+    /// whichever state the laboratory stands for, with that state's configuration and generator.
+    pub fn wrapper(&self) -> &Wrapper
+        ensures wrapper { result.now ≡ wrapper_of self.now }
+        ensures stands { (v : State) → ⟦<Lab as Stands>⟧.stands_for self.now v → Wraps result.now v }
+    {
+        &self.wrapper
+    }
+
+    fn configure(&mut self, config: &Config) -> Reply
+        ensures { Performs self.old (Configure config.now) result self.new }
+    {
+        *self.wrapper.config() = copy_of(config);
+        Reply::Done
+    }
+}

@@ -1,0 +1,193 @@
+// Calls through a handle, and the end of a started sync.
+ghost use Rattle.std.specs.Prelude.{◌≡◌, ◌≢◌, Some, IfOk, OnErr};
+ghost use Rattle.std.specs.Bool.{OnTrue, OnFalse};
+ghost use Rattle.blob_base.specs.Options.{is_sync};
+ghost use Rattle.blob_header.specs.Refusals.{IsMemory, Memory, refused};
+ghost use Rattle.blob_calls.specs.Acts.{Read, Write, Resize, Size, Sync, StartSync, Through, Finish};
+ghost use Rattle.blob_laboratory.specs.LabStands.{Asks, Starts, Performs};
+ghost use Rattle.blob_laboratory.specs.Tables.{held_by, syncs_of};
+
+use crate::lab::handles::Handle;
+use crate::lab::syncs::Syncs;
+use crate::lab::{Lab, Wrapper};
+use blob_base::laws::overlays::runs_are_choices;
+use blob_base::{Blob, Error, IoBufs, ReadOptions, Storage, WriteOptions};
+use blob_calls::Reply;
+use std::alloc::{AllocError, Global};
+
+/// A copy of a write's bytes. The only error is `Memory`.
+fn copied(alloc: Global, bytes: &[u8]) -> Result<IoBufs, Error>
+    ensures ok { IfOk result (λ copy. copy ≡ bytes.now) }
+    ensures memory { OnErr result (IsMemory result) }
+{
+    IoBufs::from_vec(Vec::from_slice(alloc, bytes)?)
+}
+
+/// The options of a write, a SYNC one or not.
+fn options_of(sync: bool) -> WriteOptions
+    ensures { is_sync result ≡ sync }
+{
+    if sync {
+        WriteOptions::SYNC
+    } else {
+        WriteOptions::default()
+    }
+}
+
+/// Whether there was no memory.
+fn is_memory(outcome: &Result<(), Error>) -> bool
+    ensures is { OnTrue result (refused outcome.now ≡ Some Memory) }
+    ensures not { OnFalse result (refused outcome.now ≢ Some Memory) }
+{
+    match outcome {
+        Err(Error::Memory(_)) => true,
+        _ => false,
+    }
+}
+
+impl Handle {
+    fn read(&self, wrapper: &mut Wrapper, offset: u64, len: usize) -> Reply
+        ensures { Asks wrapper.old (held_by self.now) (Read offset len) result wrapper.new (held_by self.now) }
+    {
+        match self
+            .blob
+            .read_at(wrapper, offset, len, ReadOptions::default())
+        {
+            Ok(bytes) => Reply::Bytes(bytes.coalesce()),
+            Err(e) => Reply::Failed(e),
+        }
+    }
+
+    fn write(
+        &mut self,
+        alloc: Global,
+        wrapper: &mut Wrapper,
+        offset: u64,
+        bytes: &[u8],
+        sync: bool,
+    ) -> Reply
+        ensures { Asks wrapper.old (held_by self.old) (Write offset bytes.now sync) result wrapper.new (held_by self.new) }
+    {
+        let copy = match copied(alloc, bytes) {
+            Ok(copy) => copy,
+            Err(e) => return Reply::Failed(e),
+        };
+        let options = options_of(sync);
+        runs_are_choices();
+        match self.blob.write_at(wrapper, offset, copy, options) {
+            Ok(()) => Reply::Done,
+            Err(e) => Reply::Failed(e),
+        }
+    }
+
+    fn resize(&mut self, wrapper: &mut Wrapper, len: u64) -> Reply
+        ensures { Asks wrapper.old (held_by self.old) (Resize len) result wrapper.new (held_by self.new) }
+    {
+        match self.blob.resize(wrapper, len) {
+            Ok(()) => Reply::Done,
+            Err(e) => Reply::Failed(e),
+        }
+    }
+
+    fn sync(&mut self, wrapper: &mut Wrapper) -> Reply
+        ensures { Asks wrapper.old (held_by self.old) Sync result wrapper.new (held_by self.new) }
+    {
+        match self.blob.sync(wrapper) {
+            Ok(()) => Reply::Done,
+            Err(e) => Reply::Failed(e),
+        }
+    }
+
+    /// A started sync takes a number, whatever its outcome, unless there is no memory for it.
+    fn start_sync(&mut self, wrapper: &mut Wrapper, syncs: &mut Syncs) -> Reply
+        ensures { Starts wrapper.old (held_by self.old) (syncs_of syncs.old) result wrapper.new (held_by self.new) (syncs_of syncs.new) }
+    {
+        if let Err(e) = syncs.reserve() {
+            return Reply::Failed(e);
+        }
+        let started = self.blob.start_sync(wrapper);
+        if is_memory(started.outcome()) {
+            return Reply::Failed(Error::Memory(AllocError));
+        }
+        Reply::Started(syncs.add(started))
+    }
+}
+
+impl Lab {
+    pub(crate) fn read(&mut self, number: usize, offset: u64, len: usize) -> Reply
+        ensures { Performs self.old (Through number (Read offset len)) result self.new }
+    {
+        let Some(handle) = self.handles.take(number) else {
+            return Reply::NoHandle;
+        };
+        let reply = handle.read(&mut self.wrapper, offset, len);
+        self.handles.put(number, handle);
+        reply
+    }
+
+    pub(crate) fn write(&mut self, number: usize, offset: u64, bytes: &[u8], sync: bool) -> Reply
+        ensures { Performs self.old (Through number (Write offset bytes.now sync)) result self.new }
+    {
+        let Some(mut handle) = self.handles.take(number) else {
+            return Reply::NoHandle;
+        };
+        let reply = handle.write(self.alloc, &mut self.wrapper, offset, bytes, sync);
+        self.handles.put(number, handle);
+        reply
+    }
+
+    pub(crate) fn resize(&mut self, number: usize, len: u64) -> Reply
+        ensures { Performs self.old (Through number (Resize len)) result self.new }
+    {
+        let Some(mut handle) = self.handles.take(number) else {
+            return Reply::NoHandle;
+        };
+        let reply = handle.resize(&mut self.wrapper, len);
+        self.handles.put(number, handle);
+        reply
+    }
+
+    pub(crate) fn size(&self, number: usize) -> Reply
+        ensures { Performs self.now (Through number Size) result self.now }
+    {
+        match self.handles.get(number) {
+            Some(handle) => Reply::Size(handle.blob.size()),
+            None => Reply::NoHandle,
+        }
+    }
+
+    pub(crate) fn sync(&mut self, number: usize) -> Reply
+        ensures { Performs self.old (Through number Sync) result self.new }
+    {
+        let Some(mut handle) = self.handles.take(number) else {
+            return Reply::NoHandle;
+        };
+        let reply = handle.sync(&mut self.wrapper);
+        self.handles.put(number, handle);
+        reply
+    }
+
+    pub(crate) fn start_sync(&mut self, number: usize) -> Reply
+        ensures { Performs self.old (Through number StartSync) result self.new }
+    {
+        let Some(mut handle) = self.handles.take(number) else {
+            return Reply::NoHandle;
+        };
+        let reply = handle.start_sync(&mut self.wrapper, &mut self.syncs);
+        self.handles.put(number, handle);
+        reply
+    }
+
+    /// Ends a started sync, and tells its outcome.
+    pub(crate) fn finish(&mut self, number: usize) -> Reply
+        ensures { Performs self.old (Finish number) result self.new }
+    {
+        let Some(started) = self.syncs.take(number) else {
+            return Reply::NoHandle;
+        };
+        match self.wrapper.finish(started) {
+            Ok(()) => Reply::Done,
+            Err(e) => Reply::Failed(e),
+        }
+    }
+}

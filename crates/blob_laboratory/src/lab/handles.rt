@@ -1,0 +1,139 @@
+//! The handles of a laboratory by their numbers, from 0 in the order of accepted opens. No number is given again.
+ghost use Rattle.std.specs.Prelude.{◌≡◌, ◌<◌, ◌++◌, ◌∷◌, [], Some, None, OnOk, OnErr, IfSome, IfNone, length, set, option_map, option_copied};
+ghost use Rattle.blob_header.specs.Refusals.{IsMemory};
+ghost use Rattle.blob_states.specs.After.{unregistered};
+ghost use Rattle.blob_states.specs.Answers.{kept_at};
+ghost use Rattle.blob_opens.specs.Opens.{names_of, inner_of, registration_of};
+ghost use Rattle.blob_laboratory.specs.Tables.{held_by, handles_of, HasRoom};
+
+use blob_base::Error;
+use blob_opens::Opens;
+use blob_opens::open::{self, Registration};
+use std::alloc::Global;
+
+/// The wrapper's handles.
+pub(crate) type WrapperBlob = blob_faulty::Blob<blob_memory::Blob>;
+
+/// An open handle, with the exclusive open that it is of; a loose one has none.
+#[derive(Drop)]
+pub(crate) struct Handle {
+    pub(crate) blob: WrapperBlob,
+    pub(crate) registration: Option<Registration>,
+}
+
+impl Handle {
+    /// The handle of an exclusive open.
+    pub(crate) fn exclusive(blob: open::Blob<WrapperBlob>) -> Handle
+        ensures blob { result.blob ≡ inner_of blob }
+        ensures registration { result.registration ≡ Some (registration_of blob) }
+    {
+        let open::Blob {
+            inner,
+            registration,
+        } = blob;
+        Handle {
+            blob: inner,
+            registration: Some(registration),
+        }
+    }
+
+    /// A handle of the wrapper alone.
+    pub(crate) fn loose(blob: WrapperBlob) -> Handle
+        ensures blob { result.blob ≡ blob }
+        ensures registration { result.registration ≡ None }
+    {
+        Handle {
+            blob,
+            registration: None,
+        }
+    }
+
+    /// Closes it, and its exclusive open.
+    pub(crate) fn close(self, opens: &mut Opens)
+        ensures { names_of opens.new ≡ unregistered (names_of opens.old) self.registration }
+    {
+        let Handle { blob, registration } = self;
+        if let Some(registration) = registration {
+            opens.close(open::Blob {
+                inner: blob,
+                registration,
+            });
+        }
+    }
+}
+
+/// A table of handles; the slot of a closed one is empty.
+pub(crate) struct Handles {
+    pub(crate) slots: Vec<Option<Handle>>,
+}
+
+impl Handles {
+    pub(crate) fn new(alloc: Global) -> Handles
+        ensures { handles_of result ≡ [] }
+    {
+        Handles {
+            slots: Vec::new(alloc),
+        }
+    }
+
+    /// Takes room for one more handle. The only error is `Memory`.
+    pub(crate) fn reserve(&mut self) -> Result<(), Error>
+        ensures handles { handles_of self.new ≡ handles_of self.old }
+        ensures room { OnOk result (HasRoom self.new) }
+        ensures memory { OnErr result (IsMemory result) }
+    {
+        self.slots.reserve(1)?;
+        Ok(())
+    }
+
+    /// Adds a handle where there is room, and answers its number.
+    pub(crate) fn add(&mut self, handle: Handle) -> usize
+        requires { HasRoom self.old }
+        ensures number { result ≡ length (handles_of self.old) }
+        ensures handles { handles_of self.new ≡ handles_of self.old ++ Some (held_by handle) ∷ [] }
+    {
+        let number = self.slots.len();
+        self.slots.push(Some(handle)).unwrap();
+        number
+    }
+
+    pub(crate) fn get(&self, number: usize) -> Option<&Handle>
+        ensures { option_map held_by (option_copied result) ≡ kept_at (handles_of self.now) number }
+    {
+        match self.slots.get(number) {
+            Some(slot) => slot.as_ref(),
+            None => None,
+        }
+    }
+
+    /// Takes a handle out of its slot.
+    pub(crate) fn take(&mut self, number: usize) -> Option<Handle>
+        ensures handle { option_map held_by result ≡ kept_at (handles_of self.old) number }
+        ensures there { IfSome result (λ h. number < length (handles_of self.new)) }
+        ensures taken { IfSome result (λ h. handles_of self.new ≡ set (handles_of self.old) number None) }
+        ensures none { IfNone result (handles_of self.new ≡ handles_of self.old) }
+    {
+        if number >= self.slots.len() {
+            return None;
+        }
+        self.slots[number].take()
+    }
+
+    /// Puts a handle into the slot that it was taken from.
+    pub(crate) fn put(&mut self, number: usize, handle: Handle)
+        requires { number < length (handles_of self.old) }
+        ensures { handles_of self.new ≡ set (handles_of self.old) number (Some (held_by handle)) }
+    {
+        self.slots[number] = Some(handle);
+    }
+
+    /// Closes all of them.
+    pub(crate) fn close_all(self, opens: &mut Opens) {
+        let Handles { slots } = self;
+        for slot in slots {
+            if let Some(handle) = slot {
+                handle.close(opens);
+            }
+        }
+    }
+}

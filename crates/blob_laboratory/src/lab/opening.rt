@@ -1,0 +1,99 @@
+// Opens, and closes.
+ghost use Rattle.std.specs.Prelude.{◌≡◌, ◌≤◌, false, Some, None, IfSome, IfNone};
+ghost use Rattle.std.specs.Range.{range_inclusive_start, range_inclusive_end, range_inclusive_exhausted};
+ghost use Rattle.blob_calls.specs.Acts.{Open, OpenLoose, Close, accepted};
+ghost use Rattle.blob_laboratory.specs.LabStands.{Performs};
+
+use crate::ScriptedRng;
+use crate::lab::Lab;
+use crate::lab::handles::Handle;
+use blob_base::{BlobVersion, Storage};
+use blob_calls::Reply;
+use blob_faulty::laws::names::opens;
+use std::ops::RangeInclusive;
+
+/// A copy of a range of versions; none where it is empty.
+fn accepted(versions: &RangeInclusive<BlobVersion>) -> Option<RangeInclusive<BlobVersion>>
+    ensures versions { IfSome result (λ v. accepted (range_inclusive_exhausted versions.now) (range_inclusive_start versions.now).0 (range_inclusive_end versions.now).0 ≡ Some ((range_inclusive_start v).0, (range_inclusive_end v).0)) }
+    ensures fresh { IfSome result (λ v. range_inclusive_exhausted v ≡ false) }
+    ensures some { IfSome result (λ v. (range_inclusive_start v).0 ≤ (range_inclusive_end v).0) }
+    ensures none { IfNone result (accepted (range_inclusive_exhausted versions.now) (range_inclusive_start versions.now).0 (range_inclusive_end versions.now).0 ≡ None) }
+{
+    if versions.is_empty() {
+        return None;
+    }
+    Some(*versions.start()..=*versions.end())
+}
+
+impl Lab {
+    /// An exclusive open, which is admitted at once.
+    pub(crate) fn open(
+        &mut self,
+        partition: &str,
+        name: &[u8],
+        versions: &RangeInclusive<BlobVersion>,
+    ) -> Reply
+        ensures { Performs self.old (Open partition.now name.now (accepted (range_inclusive_exhausted versions.now) (range_inclusive_start versions.now).0 (range_inclusive_end versions.now).0)) result self.new }
+    {
+        let Some(versions) = accepted(versions) else {
+            return Reply::EmptyRange;
+        };
+        if let Err(e) = self.handles.reserve() {
+            return Reply::Failed(e);
+        }
+        opens::<blob_memory::Storage, ScriptedRng>();
+        match self
+            .opens
+            .open(&mut self.wrapper, partition, name, versions)
+        {
+            Ok((blob, size, version)) => {
+                let _ = self.wrapper.admit(partition, name);
+                Reply::Opened {
+                    handle: self.handles.add(Handle::exclusive(blob)),
+                    size,
+                    version,
+                }
+            }
+            Err(e) => Reply::Failed(e),
+        }
+    }
+
+    /// An open of the wrapper alone.
+    pub(crate) fn open_loose(
+        &mut self,
+        partition: &str,
+        name: &[u8],
+        versions: &RangeInclusive<BlobVersion>,
+    ) -> Reply
+        ensures { Performs self.old (OpenLoose partition.now name.now (accepted (range_inclusive_exhausted versions.now) (range_inclusive_start versions.now).0 (range_inclusive_end versions.now).0)) result self.new }
+    {
+        let Some(versions) = accepted(versions) else {
+            return Reply::EmptyRange;
+        };
+        if let Err(e) = self.handles.reserve() {
+            return Reply::Failed(e);
+        }
+        opens::<blob_memory::Storage, ScriptedRng>();
+        match self.wrapper.open_versioned(partition, name, versions) {
+            Ok((blob, size, version)) => Reply::Opened {
+                handle: self.handles.add(Handle::loose(blob)),
+                size,
+                version,
+            },
+            Err(e) => Reply::Failed(e),
+        }
+    }
+
+    /// Closes a handle. Its name isn't open any more where it was open by this handle.
+    pub(crate) fn close(&mut self, number: usize) -> Reply
+        ensures { Performs self.old (Close number) result self.new }
+    {
+        match self.handles.take(number) {
+            Some(handle) => {
+                handle.close(&mut self.opens);
+                Reply::Done
+            }
+            None => Reply::NoHandle,
+        }
+    }
+}

@@ -1,0 +1,10 @@
+//! A laboratory that runs calls as data: a store that fails and crashes, its open handles and their names.
+#![tactic(auto)]
+
+pub mod lab;
+#[cfg(test)]
+mod opens_tests;
+pub mod scripted_rng;
+
+pub use lab::Lab;
+pub use scripted_rng::ScriptedRng;
