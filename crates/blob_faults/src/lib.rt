@@ -17,6 +17,7 @@ pub mod rows;
 pub mod runs;
 pub mod selection;
 pub mod selections;
+pub mod value_laws;
 pub mod write;
 
 pub use config::{Config, ResizeConfig, WriteConfig, write_config_from_cell};

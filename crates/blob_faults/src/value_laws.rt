@@ -1,0 +1,13 @@
+//! When two configurations are equal. A law is a function that does nothing; its contract is the law.
+
+ghost use Rattle.blob_header.specs.Values.{IsSameness};
+
+use crate::config::{ResizeConfig, WriteConfig};
+use crate::mode::PartialWriteMode;
+
+/// A mode, and the configuration of writes and of resizes, are equal exactly where all their fields are.
+pub fn equalities()
+    ensures modes { IsSameness ⟦<PartialWriteMode as PartialEq>⟧.eq }
+    ensures writes { IsSameness ⟦<WriteConfig as PartialEq>⟧.eq }
+    ensures resizes { IsSameness ⟦<ResizeConfig as PartialEq>⟧.eq }
+{}
