@@ -96,7 +96,7 @@ fn debt_is_kept_until_it_is_cleared(rt: HostRuntime) -> Result<(), Fail> {
     pending.clear(&key, third.id(), Ok(()));
     assert_eq!(rt; pending.debt(&key, third.id()), Ok(false));
     pending.close(third);
-    assert!(rt; pending.names.partitions.is_empty());
+    assert!(rt; pending.names.get("a", b"1").is_none());
     Ok(())
 }
 
@@ -120,7 +120,7 @@ fn a_predecessor_settles_late(rt: HostRuntime) -> Result<(), Fail> {
     let sender = released(&rt, &mut pending, &second);
     pending.close(second);
     pending.settle(&key, sender, false, None);
-    assert!(rt; pending.names.partitions.is_empty());
+    assert!(rt; pending.names.get("a", b"1").is_none());
     assert!(rt; pending.outstanding.is_empty());
     Ok(())
 }
@@ -145,7 +145,7 @@ fn a_stale_settlement_leaves_the_recreated_name(rt: HostRuntime) -> Result<(), F
     let sender = released(&rt, &mut pending, &current);
     pending.close(current);
     pending.settle(&key, sender, false, None);
-    assert!(rt; pending.names.partitions.is_empty());
+    assert!(rt; pending.names.get("a", b"1").is_none());
     Ok(())
 }
 
@@ -163,7 +163,7 @@ fn success_never_ends_a_failure(rt: HostRuntime) -> Result<(), Fail> {
     pending.close(first);
     assert_eq!(rt; refusal(&mut pending, true), Some(Error::WriteFailed));
     pending.forget("a", None);
-    assert!(rt; pending.names.partitions.is_empty());
+    assert!(rt; pending.names.get("a", b"1").is_none());
     Ok(())
 }
 
@@ -184,7 +184,7 @@ fn a_failure_stays_until_the_name_is_forgotten(rt: HostRuntime) -> Result<(), Fa
     pending.close(second);
     assert_eq!(rt; refusal(&mut pending, true), Some(Error::WriteFailed));
     assert_eq!(rt; refusal(&mut pending, false), None);
-    assert!(rt; pending.names.partitions.is_empty());
+    assert!(rt; pending.names.get("a", b"1").is_none());
     Ok(())
 }
 
@@ -203,7 +203,7 @@ fn a_live_name_is_refused(rt: HostRuntime) -> Result<(), Fail> {
     pending.settle(&key, sender, false, None);
     pending.close(first);
     assert_eq!(rt; refusal(&mut pending, true), None);
-    assert!(rt; pending.names.partitions.is_empty());
+    assert!(rt; pending.names.get("a", b"1").is_none());
     Ok(())
 }
 
@@ -242,7 +242,7 @@ fn numbers_that_run_out_change_nothing(rt: HostRuntime) -> Result<(), Fail> {
     };
     assert!(rt; none_left);
     pending.close(last);
-    assert!(rt; pending.names.partitions.is_empty());
+    assert!(rt; pending.names.get("a", b"1").is_none());
     Ok(())
 }
 
@@ -256,7 +256,7 @@ fn a_closed_name_stays_until_it_is_settled(rt: HostRuntime) -> Result<(), Fail> 
     pending.close(first);
     assert!(rt; pending.names.get("a", b"1").is_some());
     pending.settle(&key, sender, false, None);
-    assert!(rt; pending.names.partitions.is_empty());
+    assert!(rt; pending.names.get("a", b"1").is_none());
     Ok(())
 }
 
@@ -267,7 +267,7 @@ fn closed_names_leave_nothing(rt: HostRuntime) -> Result<(), Fail> {
         let opened = pending.admit("clean", &name.to_be_bytes(), false);
         let (generation, _receiver, _owes) = opened.expect(&rt, "admitted");
         pending.close(generation);
-        assert!(rt; pending.names.partitions.is_empty());
+        assert!(rt; pending.names.get("clean", &name.to_be_bytes()).is_none());
     }
     Ok(())
 }
