@@ -93,7 +93,9 @@ fn a_replacement_ends_opens_where_it_succeeds(rt: HostRuntime) -> Result<(), Fai
     opens.close(again);
     opens.close(second);
     opens.close(third);
-    assert!(rt; opens.names.partitions.is_empty());
+    assert!(rt; !is_held(&mut opens, &mut store, "a", b"x"));
+    assert!(rt; !is_held(&mut opens, &mut store, "a", b"y"));
+    assert!(rt; !is_held(&mut opens, &mut store, "b", b"x"));
     Ok(())
 }
 
@@ -109,6 +111,7 @@ fn a_removed_partition_has_no_open_names(rt: HostRuntime) -> Result<(), Fail> {
     assert!(rt; is_held(&mut opens, &mut store, "b", b"x"));
     opens.close(first);
     opens.close(second);
-    assert!(rt; opens.names.partitions.is_empty());
+    assert_eq!(rt; refusal(&mut opens, &mut store, "a", b"x"), None);
+    assert_eq!(rt; refusal(&mut opens, &mut store, "b", b"x"), None);
     Ok(())
 }
