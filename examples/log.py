@@ -108,23 +108,29 @@ def broken_script(seed, forgets_sync, by=None):
 
 def judge(script):
     """Whether a script shows that the log broke its promise: behind a crash that lost some bytes a record is gone that had
-    been written, answered `ok` and acknowledged."""
+    been written behind the records before it, answered `ok` and acknowledged. Only reads of a whole blob are a recovery's."""
     printed = subprocess.run([program()], input=script, stdout=subprocess.PIPE, stderr=subprocess.DEVNULL, text=True).stdout
-    replies, written, acknowledged, at_crash, gone = iter(printed.splitlines()), [], [], None, False
+    replies, written, sizes, at_crash, gone = iter(printed.splitlines()), {}, {}, None, False
+    records, end = [], 0
     for line in script.splitlines():
         words = line.split() or ["#"]
         if words[:2] == ["#", "acknowledged"]:
-            acknowledged += [record for record in [bytes.fromhex(words[2])] if framed(record) in written]
+            frame = framed(bytes.fromhex(words[2]))
+            if written.get(end) == frame:
+                records, end = records + [bytes.fromhex(words[2])], end + len(frame)
         if words[0] in ("#", "seed", "words", "image"):
             continue
         reply = next(replies, "").split() or [""]
+        if reply[0] == "opened":
+            sizes[reply[1]] = int(reply[2])
         if words[0] == "write" and reply == ["ok"]:
-            written.append(bytes.fromhex(words[3]))
+            written[int(words[2])] = bytes.fromhex(words[3])
         if reply[0] == "crashed":
-            at_crash = list(acknowledged) if any("0" in row.split(":")[1] for row in reply[1:]) else None
-        if reply[0] == "bytes" and at_crash is not None:
-            found = records_in(bytes.fromhex(reply[1].replace("-", "")))[0]
-            gone = gone or found[: len(at_crash)] != at_crash
+            at_crash = records if any("0" in row.split(":")[1] for row in reply[1:]) else None
+        if reply[0] == "bytes" and words[2] == "0" and int(words[3]) >= sizes.get(words[1], 0):
+            found, end = records_in(bytes.fromhex(reply[1].replace("-", "")))
+            gone = gone or (at_crash is not None and found[: len(at_crash)] != at_crash)
+            records, at_crash = found, None
     return gone
 
 
