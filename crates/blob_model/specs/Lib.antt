@@ -1,7 +1,9 @@
 pub mod Bytes
 pub mod Directory
+pub mod DrawLaws
 pub mod Draws
 pub mod Durable
+pub mod FileLaws
 pub mod Files
 pub mod Holes
 pub mod Live
@@ -11,7 +13,9 @@ pub mod Opened
 pub mod Opening
 pub mod Order
 pub mod Pending
+pub mod PendingLaws
 pub mod Persistence
+pub mod PersistenceLaws
 pub mod Places
 pub mod Rates
 pub mod Runs
