@@ -1,10 +1,11 @@
 -- What a reader has left up to a byte that was found in what it showed.
-use Rattle.std.proofs.Common.{◌≡◌, ◌≢◌, ◌<◌, ◌≤◌, ◌+◌, ◌==◌, ℕ, zero, suc, List, [], ◌∷◌, ◌++◌, Option, Some, None, IfSome, length, take, drop, get_or, cond, refl, sym, ap, subst, ◌∙◌, eq-eqb, get_or-take, length-take, arith}
+use Rattle.std.proofs.Common.{◌≡◌, ◌≢◌, ◌<◌, ◌≤◌, ◌+◌, ◌==◌, ℕ, zero, suc, ◌-◌, List, [], ◌∷◌, ◌++◌, All, Bool, true, false, Option, Some, None, IfSome, length, take, drop, get_or, cond, refl, sym, ap, subst, ◌∙◌, eq-eqb, get_or-take, length-take, arith}
 use Rattle.std.proofs.lemmas.Bool.{ne_eqb}
-use Rattle.std.proofs.lemmas.List.{take-take}
-use Rattle.std.specs.Io.KnownBytes.{Keeps}
+use Rattle.std.proofs.lemmas.List.{get_or_default, take-take}
+use Rattle.std.proofs.Math.Seq.{drop-append_seam}
+use Rattle.std.specs.Io.KnownBytes.{Consumes, Keeps}
 use Rattle.std.specs.Io.BufRead.{DropsThrough, DropsConsumable, take_through, drop_through}
-use Rattle.std.specs.Io.{StartsWith}
+use Rattle.std.specs.Io.{StartsWith, StopsAt}
 
 -- the first place of a byte is k
 abbrev pub FirstAt : ℕ → List ℕ → ℕ → Type 0
@@ -64,3 +65,41 @@ takes_shown (Some xs) (Some ys) new limit shown byte k front kept fits drops h =
 pub appended : (old : Option (List ℕ)) (before after taken : List ℕ) (byte : ℕ) → after ≡ before ++ taken → IfSome old (λ xs. taken ≡ take_through byte xs) → IfSome old (λ xs. after ≡ before ++ take_through byte xs)
 appended None before after taken byte is h = tt
 appended (Some xs) before after taken byte is h = is ∙ ap (λ l. before ++ l) h
+
+-- the byte stands nowhere before the last of those that were taken
+pub stops_at : (byte k : ℕ) (shown : List ℕ) → FirstAt byte shown k → StopsAt (take (k + 1) shown) byte
+stops_at byte k shown h =
+    let last : length (take (k + 1) shown) - 1 ≡ k = omega (arith, length-take (k + 1) shown, h.0) in
+    let front : take k (take (k + 1) shown) ≡ take k shown = take-take k (k + 1) shown (omega arith) in
+    subst (λ n. All (λ x. x ≢ byte) (take n (take (k + 1) shown))) (sym last) (subst (All (λ x. x ≢ byte)) (sym front) before)
+  where
+    before : All (λ x. x ≢ byte) (take k shown)
+    before j d l e =
+        let low : j < k = omega (arith, l, length-take k shown) in
+        h.2 j low (get_or_default shown j 0 d (omega (arith, low, h.0)) ∙ sym (get_or-take k shown j d low) ∙ e)
+
+pub stops : (before after taken : List ℕ) (byte : ℕ) → after ≡ before ++ taken → StopsAt taken byte → StopsAt (drop (length before) after) byte
+stops before after taken byte is h = subst (λ l. StopsAt l byte) (sym (ap (drop (length before)) is ∙ drop-append_seam before taken)) h
+
+parts_at : (test : Bool) (x : ℕ) (xs ts ds : List ℕ) → ts ++ ds ≡ xs → cond test (x ∷ []) (x ∷ ts) ++ cond test xs ds ≡ x ∷ xs
+parts_at true x xs ts ds e = refl
+parts_at false x xs ts ds e = ap (λ l. x ∷ l) e
+
+through_parts : (byte : ℕ) (xs : List ℕ) → take_through byte xs ++ drop_through byte xs ≡ xs
+through_parts byte [] = refl
+through_parts byte (x ∷ xs) = parts_at (x == byte) x xs (take_through byte xs) (drop_through byte xs) (through_parts byte xs)
+
+pub consumed : (old new : Option (List ℕ)) (before after taken : List ℕ) (byte : ℕ) → after ≡ before ++ taken → IfSome old (λ xs. taken ≡ take_through byte xs) → DropsThrough old new byte
+    → Consumes old new (drop (length before) after)
+consumed None new before after taken byte is h d = tt
+consumed (Some xs) None before after taken byte is h d = cc d
+consumed (Some xs) (Some ys) before after taken byte is h d =
+    let left : ys ≡ drop_through byte xs = cc d in
+    sym (through_parts byte xs) ∙ ap (λ l. l ++ drop_through byte xs) (sym h) ∙ ap (λ l. taken ++ l) (sym left)
+    ∙ ap (λ l. l ++ ys) (sym (ap (drop (length before)) is ∙ drop-append_seam before taken))
+
+pub kept_Consumes : (a b c : Option (List ℕ)) (bs : List ℕ) → Keeps a b → Consumes b c bs → Consumes a c bs
+kept_Consumes None b c bs kept more = tt
+kept_Consumes (Some xs) None c bs kept more = absurd kept
+kept_Consumes (Some xs) (Some ys) None bs kept more = absurd more
+kept_Consumes (Some xs) (Some ys) (Some zs) bs kept more = sym kept ∙ more

@@ -1,6 +1,7 @@
 //! Reading up to a byte.
 ghost use Rattle.std.specs.Prelude.{◌≡◌, ◌+◌, ◌++◌, IfSome, IfNone, IfOk, OnOk, vec_len};
-ghost use Rattle.std.specs.Io.KnownBytes.{IsAtEnd, Keeps};
+ghost use Rattle.std.specs.Io.{StopsAt, appended_bytes};
+ghost use Rattle.std.specs.Io.KnownBytes.{Consumes, IsAtEnd, Keeps};
 ghost use Rattle.std.specs.Io.BufRead.{DropsThrough, take_through};
 
 use memchr::memchr;
@@ -15,6 +16,8 @@ fn take_ready<R: BufRead>(reader: &mut R, byte: u8, bytes: &mut Vec<u8>) -> Resu
     ensures end { IfOk result (λ taken. IfSome taken (λ n. n ≡ 0 → IsAtEnd (R.remaining reader.old))) }
     ensures none { IfOk result (λ taken. IfNone taken (Keeps (R.remaining reader.old) (R.remaining reader.new))) }
     ensures same { IfOk result (λ taken. IfNone taken (bytes.new ≡ bytes.old)) }
+    ensures stops { StopsAt (appended_bytes bytes.old.items bytes.new.items) byte }
+    ensures none_lost { Consumes (R.remaining reader.old) (R.remaining reader.new) (appended_bytes bytes.old.items bytes.new.items) }
 {
     let ready = match reader.fill_buf() {
         Ok(ready) => ready,
@@ -38,12 +41,14 @@ fn take_ready<R: BufRead>(reader: &mut R, byte: u8, bytes: &mut Vec<u8>) -> Resu
 ///
 /// # Errors
 ///
-/// The reader's, but for an interrupted read, which is tried again; `OutOfMemory`.
+/// The reader's, but for an interrupted read, which is tried again; `OutOfMemory`. What was taken then is what was appended.
 pub fn read_through<R: BufRead>(reader: &mut R, byte: u8, bytes: &mut Vec<u8>) -> Result<usize>
     ensures len { IfOk result (λ n. vec_len bytes.new ≡ vec_len bytes.old + n) }
     ensures bytes { OnOk result (IfSome (R.remaining reader.old) (λ xs. bytes.new.items ≡ bytes.old.items ++ take_through byte xs)) }
     ensures rest { OnOk result (DropsThrough (R.remaining reader.old) (R.remaining reader.new) byte) }
     ensures end { IfOk result (λ n. n ≡ 0 → IsAtEnd (R.remaining reader.old)) }
+    ensures stops { StopsAt (appended_bytes bytes.old.items bytes.new.items) byte }
+    ensures none_lost { Consumes (R.remaining reader.old) (R.remaining reader.new) (appended_bytes bytes.old.items bytes.new.items) }
 {
     if let Some(taken) = take_ready(reader, byte, bytes)? {
         return Ok(taken);
