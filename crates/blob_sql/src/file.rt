@@ -1,30 +1,121 @@
-//! Files that crash.
-ghost use Rattle.blob_faulty.specs.Certain.{IsNever, partial_resizes};
+//! A file that fails and crashes, in one of three ways.
+use sqlite_disk::{Disk, Tally};
+use std::io;
 
-use crate::lying::Lying;
-use blob_disk::BlobDisk;
-use blob_faulty::Config;
-use rand_xoshiro::Xoshiro256PlusPlus;
-use sqlite_disk::{Crash, Disk};
-
-pub type BlobFile = BlobDisk<Xoshiro256PlusPlus>;
-
-/// A disk under which the machine can stop.
-pub trait Crashing: Disk {
-    /// What wasn't durable is lost by its draws, and from here on its faults are drawn by these rates.
-    fn crash_to(&mut self, config: Config)
-        requires { IsNever (partial_resizes config.resize_rate) };
+/// One type for all three, so that the database is built once.
+#[derive(Drop)]
+pub enum File<A, B, C> {
+    /// Calls fail by their draws.
+    Drawn(A),
+    /// A sync does nothing, too.
+    Lying(B),
+    /// From some call on each one fails.
+    Fused(C),
 }
 
-impl Crashing for BlobFile {
-    fn crash_to(&mut self, config: Config) {
-        self.crash();
-        self.set_config(config);
+impl<A: Disk, B: Disk, C: Disk> Disk for File<A, B, C> {
+    ghost use Rattle.std.specs.Prelude.{ℕ, IsTrue};
+    ghost use Rattle.blob_sql.specs.File.{by_kind, leaves_by_kind, by_each};
+
+    ghost seen = { by_kind A.Disk.seen B.Disk.seen C.Disk.seen };
+
+    ghost may_leave = { leaves_by_kind A.Disk.may_leave B.Disk.may_leave C.Disk.may_leave };
+
+    ghost is_usable = { by_kind A.Disk.is_usable B.Disk.is_usable C.Disk.is_usable };
+
+    ghost faults = { by_kind A.Disk.faults B.Disk.faults C.Disk.faults };
+
+    ghost tally_of = { by_kind A.Disk.tally_of B.Disk.tally_of C.Disk.tally_of };
+
+    ghost is_clean = { by_kind A.Disk.is_clean B.Disk.is_clean C.Disk.is_clean };
+
+    ghost key_of = { by_kind A.Disk.key_of B.Disk.key_of C.Disk.key_of };
+
+    ghost is_fair = { by_kind A.Disk.is_fair B.Disk.is_fair C.Disk.is_fair };
+
+    ghost is_mixing = { by_kind A.Disk.is_mixing B.Disk.is_mixing C.Disk.is_mixing };
+
+    ghost seen_may_stay = { by_each (λ f. leaves_by_kind A.Disk.may_leave B.Disk.may_leave C.Disk.may_leave f (by_kind A.Disk.seen B.Disk.seen C.Disk.seen f)) A.Disk.seen_may_stay B.Disk.seen_may_stay C.Disk.seen_may_stay };
+
+    ghost fair_if_clean = { by_each (λ f. (key : ℕ) → IsTrue (by_kind A.Disk.is_clean B.Disk.is_clean C.Disk.is_clean f) → IsTrue (by_kind A.Disk.is_fair B.Disk.is_fair C.Disk.is_fair f key)) A.Disk.fair_if_clean B.Disk.fair_if_clean C.Disk.fair_if_clean };
+
+    fn mixes(&self) -> bool {
+        match self {
+            File::Drawn(disk) => disk.mixes(),
+            File::Lying(disk) => disk.mixes(),
+            File::Fused(disk) => disk.mixes(),
+        }
     }
-}
 
-impl Crashing for Lying<BlobFile> {
-    fn crash_to(&mut self, config: Config) {
-        self.inner.crash_to(config);
+    fn key(&self) -> u64 {
+        match self {
+            File::Drawn(disk) => disk.key(),
+            File::Lying(disk) => disk.key(),
+            File::Fused(disk) => disk.key(),
+        }
+    }
+
+    fn tally(&self) -> Tally {
+        match self {
+            File::Drawn(disk) => disk.tally(),
+            File::Lying(disk) => disk.tally(),
+            File::Fused(disk) => disk.tally(),
+        }
+    }
+
+    fn may_be_used(&self) -> bool {
+        match self {
+            File::Drawn(disk) => disk.may_be_used(),
+            File::Lying(disk) => disk.may_be_used(),
+            File::Fused(disk) => disk.may_be_used(),
+        }
+    }
+
+    fn len(&mut self) -> io::Result<usize> {
+        match self {
+            File::Drawn(disk) => disk.len(),
+            File::Lying(disk) => disk.len(),
+            File::Fused(disk) => disk.len(),
+        }
+    }
+
+    fn read_at(&mut self, at: usize, buf: &mut [u8]) -> io::Result<()> {
+        match self {
+            File::Drawn(disk) => disk.read_at(at, buf),
+            File::Lying(disk) => disk.read_at(at, buf),
+            File::Fused(disk) => disk.read_at(at, buf),
+        }
+    }
+
+    fn read_checked(&mut self, key: u64, want: u64, at: usize, buf: &mut [u8]) -> io::Result<()> {
+        match self {
+            File::Drawn(disk) => disk.read_checked(key, want, at, buf),
+            File::Lying(disk) => disk.read_checked(key, want, at, buf),
+            File::Fused(disk) => disk.read_checked(key, want, at, buf),
+        }
+    }
+
+    fn write_at(&mut self, at: usize, bytes: &[u8]) -> io::Result<()> {
+        match self {
+            File::Drawn(disk) => disk.write_at(at, bytes),
+            File::Lying(disk) => disk.write_at(at, bytes),
+            File::Fused(disk) => disk.write_at(at, bytes),
+        }
+    }
+
+    fn set_len(&mut self, len: usize) -> io::Result<()> {
+        match self {
+            File::Drawn(disk) => disk.set_len(len),
+            File::Lying(disk) => disk.set_len(len),
+            File::Fused(disk) => disk.set_len(len),
+        }
+    }
+
+    fn sync(&mut self) -> io::Result<()> {
+        match self {
+            File::Drawn(disk) => disk.sync(),
+            File::Lying(disk) => disk.sync(),
+            File::Fused(disk) => disk.sync(),
+        }
     }
 }

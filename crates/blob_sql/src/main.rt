@@ -9,6 +9,7 @@
 #![tactic(auto)]
 
 mod counts;
+mod disks;
 mod file;
 mod lying;
 mod mode;

@@ -1,20 +1,17 @@
 //! One seed: a database is filled, its files crash, it is opened again, and its rows are compared.
-ghost use Rattle.std.specs.Prelude.{◌≡◌};
 ghost use Rattle.blob_faulty.specs.Certain.{IsNever, partial_resizes};
 
 use crate::counts::{Counts, add};
-use crate::file::{BlobFile, Crashing};
-use crate::lying::Lying;
+use crate::disks::{Crashing, files};
 use crate::mode::{Faults, Mode, below};
 use crate::state::{State, read};
 use crate::transaction::fill;
 use anyhow::Result;
-use blob_disk::BlobDisk;
 use blob_faulty::Config;
 use rand_core::{Rng, SeedableRng};
 use rand_xoshiro::Xoshiro256PlusPlus;
 use sqlite::{Connection, FileStore, Files, Options};
-use sqlite_disk::{Crash, Disk, Fuse};
+use sqlite_disk::Disk;
 use std::alloc::Global;
 
 /// How often the machine stops, before a last time without faults.
@@ -152,33 +149,6 @@ fn ends<D: Disk + Drop>(
     Ok(None)
 }
 
-fn disk(
-    alloc: Global,
-    rng: &mut Xoshiro256PlusPlus,
-    config: Config,
-    is_mixing: bool,
-) -> Result<BlobFile>
-    requires { IsNever (partial_resizes config.resize_rate) }
-{
-    let draws = Xoshiro256PlusPlus::seed_from_u64(rng.next_u64());
-    Ok(BlobDisk::new(alloc, draws, config, is_mixing)?)
-}
-
-/// Files that fail from some call on, as where the machine stops.
-fn fused_files(
-    alloc: Global,
-    mode: &Mode,
-    rng: &mut Xoshiro256PlusPlus,
-) -> Result<Files<Fuse<BlobFile>>> {
-    let (log, db) = (mode.faults.config(rng), mode.faults.config(rng));
-    let log = disk(alloc, rng, log, mode.is_mixing)?;
-    let db = disk(alloc, rng, db, mode.is_mixing)?;
-    Ok(Files {
-        log: Fuse::new(log, below(rng, 150)),
-        db: Fuse::new(db, below(rng, 60)),
-    })
-}
-
 /// The files behind a first open and its transactions.
 fn filled<D: Disk + Drop>(
     alloc: Global,
@@ -199,24 +169,17 @@ fn filled<D: Disk + Drop>(
     }
 }
 
-/// Both files crash.
-fn crash_fused<D: Crash>(files: &mut Files<D>) {
-    files.log.crash();
-    files.db.crash();
-}
-
-/// A run of files that fail from some call on, over a crash.
-fn fused(
+/// A run of files that fail from some call on, over a crash. What was wrong, if anything was.
+fn fused<D: Crashing + Drop>(
     alloc: Global,
-    mode: &Mode,
+    files: Files<D>,
     rng: &mut Xoshiro256PlusPlus,
     counts: &mut Counts,
 ) -> Result<Option<String>> {
-    let files = fused_files(alloc, mode, rng)?;
     let mut state = State::new();
     let mut files = filled(alloc, files, rng, &mut state, counts)?;
     add(&mut counts.crashes);
-    crash_fused(&mut files);
+    crash(&mut files, Config::default(), Config::default());
     ends(alloc, files, rng, &mut state, counts)
 }
 
@@ -229,17 +192,9 @@ pub fn run(
     counts: &mut Counts,
 ) -> Result<Option<String>> {
     let mut rng = Xoshiro256PlusPlus::seed_from_u64(seed);
+    let files = files(alloc, mode, is_lying, &mut rng)?;
     if mode.is_fused {
-        return fused(alloc, mode, &mut rng, counts);
+        return fused(alloc, files, &mut rng, counts);
     }
-    let log = disk(alloc, &mut rng, Config::default(), mode.is_mixing)?;
-    let db = disk(alloc, &mut rng, Config::default(), mode.is_mixing)?;
-    if is_lying {
-        let files = Files {
-            log: Lying { inner: log },
-            db: Lying { inner: db },
-        };
-        return rounds(alloc, files, mode.faults, &mut rng, counts);
-    }
-    rounds(alloc, Files { log, db }, mode.faults, &mut rng, counts)
+    rounds(alloc, files, mode.faults, &mut rng, counts)
 }
