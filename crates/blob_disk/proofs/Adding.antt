@@ -1,34 +1,28 @@
 -- What a mutation that is recorded makes of the outcomes of a crash, and of the file.
-use Rattle.std.proofs.Common.{◌≡◌, ◌⊎◌, ℕ, List, length, Option, Some, None, Bool, true, ◌&&◌, refl, sym, ◌∙◌, ap, subst, inl, inr, arith, ◌==◌}
+use Rattle.std.proofs.Common.{◌≡◌, ◌⊎◌, ℕ, List, length, Option, Some, None, true, refl, sym, ◌∙◌, ap, subst, inl, inr}
 use Rattle.std.proofs.Math.Logic.{∥∥₁_map, ∥∥₁_elim}
-use Rattle.std.proofs.lemmas.Bool.Decides.{nat_tests}
 use Rattle.std.proofs.lemmas.Option.{none-some, same_Some}
-use Rattle.std.specs.Prelude.{option_map}
-use Rattle.blob_model.specs.Directory.{File, is_current, is_that}
+use Rattle.std.specs.Prelude.{option_map, codes}
+use Rattle.blob_model.specs.Directory.{is_current}
 use Rattle.blob_model.specs.Files.{Files, all_logged}
 use Rattle.blob_model.specs.Log.{Entry, Choices, crashed}
 use Rattle.blob_model.specs.Pending.{Pending}
 use Rattle.blob_model.specs.Places.{Place}
 use Rattle.blob_model.specs.Stands.{replayed_at}
 use Rattle.blob_model.specs.Bytes.{resized}
+use Rattle.blob_model.proofs.Opened.{current_is}
 use Rattle.blob_disk.proofs.Crashes.{one_way}
 use Rattle.blob_disk.proofs.Laying.{cut_not, cut_to, mixed_over, mixed_some}
-use Rattle.blob_disk.proofs.Outcomes.{named_so, there_so, whole_so}
-use Rattle.blob_disk.specs.Outcomes.{MayLeave, Wrapper, Opened, Keeps, IsStanding, IsTracked, IsNamed, IsThere, outcomes}
+use Rattle.blob_disk.proofs.Outcomes.{here_so, whole_so}
+use Rattle.blob_disk.specs.Outcomes.{MayLeave, Wrapper, Opened, Keeps, IsStanding, IsTracked, IsCurrent, outcomes}
 use Rattle.blob_faulty.specs.Outcomes.{LaysSome, WritesSome}
 use Rattle.blob_faulty.specs.Wrapper.{Stands, inner_of, config_of, pending_of, inside}
 use Rattle.blob_memory.specs.Store.{directory, durable, live, place}
 use Rattle.sqlite_disk.specs.Disk.{Cut, Follows, Mixed, Torn}
 
 -- the handle is on its name's current incarnation
-is_self : (n : ℕ) → (n == n) ≡ true
-is_self n = grind (arith, nat_tests)
-
-pub current_now : {R : Type 0} (b : Opened) (w : Wrapper R) → IsNamed b w → IsThere b → is_current (directory (inner_of w)) (place (inside b)) ≡ true
-current_now b w named there =
-    ap (λ (o : Place). is_current (directory (inner_of w)) o) there
-    ∙ ap (λ (f : Option File). is_that f (place (inside b)).number 4096) named
-    ∙ ap (λ (t : Bool). t && true) (is_self (place (inside b)).number)
+pub current_now : {R : Type 0} (b : Opened) (w : Wrapper R) → IsCurrent b w → is_current (directory (inner_of w)) (place (inside b)) ≡ true
+current_now b w here = current_is (directory (inner_of w)) (codes "disk") (codes "0") (place (inside b)) here
 
 -- an outcome after it is one before it with the mutation done
 pub follows : (P : List ℕ → List ℕ → Type 0) (es : List Entry) (x x' : List ℕ) (q q' : List Pending) (v v' : Option (List ℕ)) → P x x' → ((d : List ℕ) (t : Choices) → P d (crashed d es t)) →
@@ -58,8 +52,7 @@ keeps_added es b b' w w' named at config tracked stands = record {
   directory = named;
   place = at;
   config = config;
-  named = named_so b b' w w' named at;
-  there = there_so b b' at;
+  here = here_so b b' w w' named at;
   whole = whole_so w w' config;
 }
 

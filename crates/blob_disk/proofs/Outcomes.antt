@@ -4,16 +4,14 @@ use Rattle.std.proofs.Math.Logic.{∥∥₁_map}
 use Rattle.std.proofs.lemmas.Bool.{cond-true}
 use Rattle.std.proofs.lemmas.Option.{none-some, same_Some}
 use Rattle.std.specs.Prelude.{option_map, codes}
-use Rattle.blob_header.specs.declared.layout.Layout.TheVariants.{V1}
-use Rattle.blob_model.specs.Directory.{Directory, Incarnation}
-use Rattle.blob_model.specs.Opening.{place_of}
+use Rattle.blob_model.specs.Directory.{Directory, current}
 use Rattle.blob_model.specs.Durable.{Durable, with_at, changed}
 use Rattle.blob_model.specs.Log.{Choices}
 use Rattle.blob_model.specs.Pending.{Pending}
 use Rattle.blob_model.specs.Places.{Place, same_place}
 use Rattle.blob_model.specs.Stands.{replayed_at}
 use Rattle.blob_model.specs.SamePlace.{same_self}
-use Rattle.blob_disk.specs.Outcomes.{MayLeave, Wrapper, Opened, Keeps, IsTracked, IsNamed, IsThere, IsWhole, outcomes}
+use Rattle.blob_disk.specs.Outcomes.{MayLeave, Wrapper, Opened, Keeps, IsTracked, IsCurrent, IsWhole, outcomes}
 use Rattle.blob_faults.specs.declared.config.Config.{Config}
 use Rattle.blob_faulty.specs.Certain.{IsNever, partial_resizes}
 use Rattle.blob_faulty.specs.Wrapper.{Stands, KeepsRecords, inner_of, config_of, inside}
@@ -39,11 +37,8 @@ pub synced_outcomes : (x : List ℕ) (b : Option (List ℕ)) (c : List ℕ) → 
 synced_outcomes x b c (inl e) = e
 synced_outcomes x b c (inr (t, e)) = all_live x b c t e
 
-pub named_so : {R : Type 0} (b b' : Opened) (w w' : Wrapper R) → directory (inner_of w') ≡ directory (inner_of w) → place (inside b') ≡ place (inside b) → IsNamed b w → IsNamed b' w'
-named_so b b' w w' same at h = ap (λ (d : Directory). d.file (codes "disk") (codes "0")) same ∙ h ∙ ap (λ (o : Place). Some (Incarnation o.number V1 0)) (sym at)
-
-pub there_so : (b b' : Opened) → place (inside b') ≡ place (inside b) → IsThere b → IsThere b'
-there_so b b' at h = at ∙ h ∙ ap (λ (o : Place). place_of (codes "disk") (codes "0") o.number V1) (sym at)
+pub here_so : {R : Type 0} (b b' : Opened) (w w' : Wrapper R) → directory (inner_of w') ≡ directory (inner_of w) → place (inside b') ≡ place (inside b) → IsCurrent b w → IsCurrent b' w'
+here_so b b' w w' same at h = ap (λ (d : Directory). current d (codes "disk") (codes "0")) same ∙ h ∙ ap Some (sym at)
 
 pub whole_so : {R : Type 0} (w w' : Wrapper R) → config_of w' ≡ config_of w → IsWhole w → IsWhole w'
 whole_so w w' config h = subst (λ (c : Config). IsNever (partial_resizes c.resize_rate)) (sym config) h
@@ -62,8 +57,7 @@ keeps_all b b' w w' kept named same k at tracked = record {
   directory = named;
   place = at;
   config = k.numbers.config;
-  named = named_so b b' w w' named at;
-  there = there_so b b' at;
+  here = here_so b b' w w' named at;
   whole = whole_so w w' k.numbers.config;
 }
 
@@ -84,14 +78,13 @@ keeps_synced b b' w w' named p at config tracked = record {
   directory = named;
   place = at;
   config = config;
-  named = named_so b b' w w' named at;
-  there = there_so b b' at;
+  here = here_so b b' w w' named at;
   whole = whole_so w w' config;
 }
 
 -- another configuration
-pub configured_named : {R : Type 0} (b : Opened) (w w' : Wrapper R) (c : Config) → w' ≡ with_config w c → IsNamed b w → IsNamed b w'
-configured_named b w w' c set h = subst (λ z. IsNamed b z) (sym set) h
+pub configured_here : {R : Type 0} (b : Opened) (w w' : Wrapper R) (c : Config) → w' ≡ with_config w c → IsCurrent b w → IsCurrent b w'
+configured_here b w w' c set h = subst (λ z. IsCurrent b z) (sym set) h
 
 pub configured_whole : {R : Type 0} (w w' : Wrapper R) (c : Config) → w' ≡ with_config w c → IsNever (partial_resizes c.resize_rate) → IsWhole w'
 configured_whole w w' c set h = subst (λ z. IsWhole z) (sym set) h

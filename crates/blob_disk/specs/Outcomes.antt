@@ -1,9 +1,7 @@
 -- What a crash may leave of a file over the fault wrapper.
 use Rattle.std.specs.Prelude.{◌≡◌, ◌⊎◌, ℕ, List, Option, Some, None, length, codes}
 use Rattle.std.specs.Coded.{Coded-set, coded_ℕ, Unit-prop}
-use Rattle.blob_header.specs.declared.layout.Layout.TheVariants.{V1}
-use Rattle.blob_model.specs.Directory.{Incarnation}
-use Rattle.blob_model.specs.Opening.{place_of}
+use Rattle.blob_model.specs.Directory.{current}
 use Rattle.blob_model.specs.Files.{Files}
 use Rattle.blob_model.specs.Log.{Choices}
 use Rattle.blob_model.specs.Pending.{Pending}
@@ -45,12 +43,9 @@ IsStanding w = ∥ ((files : Files) × Stands (λ o. o) (directory (inner_of w))
 abbrev pub IsTracked : Opened → Type 0
 IsTracked b = size_of b ≡ length (live (inside b))
 
--- the disk's name has an incarnation of version 0, and the handle is on it
-abbrev pub IsNamed : {R : Type 0} → Opened → Wrapper R → Type 0
-IsNamed b w = (directory (inner_of w)).file (codes "disk") (codes "0") ≡ Some (Incarnation (place (inside b)).number V1 0)
-
-abbrev pub IsThere : Opened → Type 0
-IsThere b = place (inside b) ≡ place_of (codes "disk") (codes "0") (place (inside b)).number V1
+-- the handle is on the current incarnation of the disk's name
+abbrev pub IsCurrent : {R : Type 0} → Opened → Wrapper R → Type 0
+IsCurrent b w = current (directory (inner_of w)) (codes "disk") (codes "0") ≡ Some (place (inside b))
 
 -- no resize fails in part
 abbrev pub IsWhole : {R : Type 0} → Wrapper R → Type 0
@@ -67,8 +62,7 @@ whole_prop w = never_prop (partial_resizes (config_of w).resize_rate)
 pub record IsFile {R : Type 0} (b : Opened) (w : Wrapper R) : Type 0 where
   pub standing : IsStanding w
   pub tracked : IsTracked b
-  pub named : IsNamed b w
-  pub there : IsThere b
+  pub here : IsCurrent b w
   pub whole : IsWhole w
 
 -- what a call leaves as it was
@@ -78,6 +72,5 @@ pub record Keeps {R : Type 0} (b : Opened) (w : Wrapper R) (b' : Opened) (w' : W
   pub directory : directory (inner_of w') ≡ directory (inner_of w)
   pub place : place (inside b') ≡ place (inside b)
   pub config : config_of w' ≡ config_of w
-  pub named : IsNamed b w → IsNamed b' w'
-  pub there : IsThere b → IsThere b'
+  pub here : IsCurrent b w → IsCurrent b' w'
   pub whole : IsWhole w → IsWhole w'

@@ -4,9 +4,10 @@ ghost use Rattle.blob_faulty.specs.Wrapper.{inside, inner_of, KeepsRecords};
 ghost use Rattle.blob_memory.specs.Store.{live, place, durable};
 ghost use Rattle.sqlite_disk.specs.Disk.{Holds, Only, Torn, Mixed, Cut, Follows, MoreFaults};
 ghost use Rattle.sqlite_disk.specs.Refusal.{is_no_room};
-ghost use Rattle.blob_disk.specs.Outcomes.{Keeps, IsFile, IsDrawn, IsNamed, IsThere, outcomes};
+ghost use Rattle.blob_disk.specs.Outcomes.{Keeps, IsCurrent, IsFile, IsDrawn, outcomes};
 
 use crate::{NAME, PARTITION};
+use blob_base::laws::opens::accepted_opens;
 use blob_base::{Blob, Error, Storage};
 use blob_faulty::laws::current_handles::{found, live_bytes, sizes};
 use blob_faulty::laws::kept_records;
@@ -102,8 +103,7 @@ pub(crate) fn sync<R: Rng>(store: &mut Wrapper<R>, blob: &mut Handle) -> Result<
 
 /// Opens what is durable in the handle's place, or keeps the handle where it can't.
 fn reopen<R: Rng>(store: &mut Wrapper<R>, blob: &mut Handle) -> Result<(), Error>
-    requires named { IsNamed blob.old store.old }
-    requires there { IsThere blob.old }
+    requires { IsCurrent blob.old store.old }
     ensures found { OnOk result (durable (inner_of store.old) (place (inside blob.old)) ≡ Some (live (inside blob.new))) }
     ensures kept { OnErr result (live (inside blob.new) ≡ live (inside blob.old)) }
     ensures live { (live (inside blob.new) ≡ live (inside blob.old)) ⊎ (durable (inner_of store.old) (place (inside blob.old)) ≡ Some (live (inside blob.new))) }
@@ -111,6 +111,7 @@ fn reopen<R: Rng>(store: &mut Wrapper<R>, blob: &mut Handle) -> Result<(), Error
     ensures records { KeepsRecords (λ o. o) store.old store.new }
     ensures keeps { Keeps blob.old store.old blob.new store.new }
 {
+    accepted_opens();
     kept_records::<blob_memory::Storage, R>();
     match store.open(PARTITION, NAME) {
         Ok((opened, _)) => {
@@ -124,8 +125,7 @@ fn reopen<R: Rng>(store: &mut Wrapper<R>, blob: &mut Handle) -> Result<(), Error
 /// Loses what is drawn of what was not synced, and opens what is left. Where memory runs out for either, all that was written
 /// stays, as where the process alone dies.
 pub(crate) fn lose<R: Rng>(store: &mut Wrapper<R>, blob: &mut Handle) -> Result<(), Error>
-    requires named { IsNamed blob.old store.old }
-    requires there { IsThere blob.old }
+    requires { IsCurrent blob.old store.old }
     ensures lost { OnOk result (IsDrawn blob.old store.old (live (inside blob.new))) }
     ensures kept { OnErr result (live (inside blob.new) ≡ live (inside blob.old)) }
     ensures left { outcomes blob.old store.old (live (inside blob.new)) }

@@ -8,12 +8,13 @@
 
 ghost use Rattle.std.specs.Prelude.{◌≡◌, ℕ, List, [], true, IfOk};
 ghost use Rattle.blob_faulty.specs.Certain.{IsNever, partial_resizes};
-ghost use Rattle.blob_disk.specs.Outcomes.{IsNamed, IsStanding, IsThere, IsTracked, IsWhole, whole_prop};
+ghost use Rattle.blob_disk.specs.Outcomes.{IsCurrent, IsStanding, IsTracked, IsWhole, whole_prop};
 
 mod calls;
 mod disk;
 pub mod laws;
 
+use blob_base::laws::opens::accepted_opens;
 use blob_base::{Error, Storage};
 use blob_faulty::Config;
 use blob_faulty::laws::names::opens;
@@ -41,8 +42,7 @@ pub struct BlobDisk<R: Rng> {
     caught: u64,
     ghost standing: { IsStanding store },
     ghost tracked: { IsTracked blob },
-    ghost named: { IsNamed blob store },
-    ghost there: { IsThere blob },
+    ghost here: { IsCurrent blob store },
     ghost whole: { IsWhole store } by { whole_prop store },
 }
 
@@ -63,6 +63,7 @@ impl<R: Rng + Drop> BlobDisk<R> {
     {
         let memory = blob_memory::Storage::new(alloc);
         let mut store = blob_faulty::Storage::new(alloc, memory, rng, Config::default());
+        accepted_opens();
         opens::<blob_memory::Storage, R>();
         let (blob, _) = store.open(PARTITION, NAME)?;
         store.set_config(config);

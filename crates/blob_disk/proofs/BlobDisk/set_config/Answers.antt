@@ -1,6 +1,6 @@
 use Rattle.std.proofs.Math.Logic.{∥∥₁_map}
 use Rattle.blob_disk.proofs.BlobDisk.set_config.Goals as goal
-use Rattle.blob_disk.proofs.Outcomes.{configured_named, configured_outcomes, configured_whole}
+use Rattle.blob_disk.proofs.Outcomes.{configured_here, configured_outcomes, configured_whole}
 
 pub invariant_of-self : goal.invariant_of-self
 invariant_of-self g c =
@@ -9,8 +9,7 @@ invariant_of-self g c =
     record {
       standing = ∥∥₁_map d.standing (λ f. (f.0, c.set_config.ensures.files f.0 f.1));
       tracked = d.tracked;
-      named = configured_named d.blob d.store c.set_config.new.self c.args.config set d.named;
-      there = d.there;
+      here = configured_here d.blob d.store c.set_config.new.self c.args.config set d.here;
       whole = configured_whole d.store c.set_config.new.self c.args.config set c.requires;
     }
 

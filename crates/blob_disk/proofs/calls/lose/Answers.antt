@@ -7,17 +7,14 @@ use Rattle.blob_model.specs.Draws.{chosen_by}
 use Rattle.blob_model.specs.Places.{Place}
 use Rattle.blob_model.specs.Stands.{replayed_at}
 use Rattle.blob_disk.proofs.Crashes.{left_by_crash, no_more}
-use Rattle.blob_disk.proofs.Outcomes.{at_place, keeps_all, named_so, same_outcomes, whole_so}
+use Rattle.blob_disk.proofs.Outcomes.{at_place, here_so, keeps_all, same_outcomes, whole_so}
 use Rattle.blob_disk.proofs.calls.lose.Goals as goal
 use Rattle.blob_faults.specs.Rows.{table_of}
 use Rattle.blob_faulty.specs.Wrapper.{inner_of, inside, pending_of}
 use Rattle.blob_memory.specs.Store.{durable, live, place}
 
 pub reopen-requires : goal.reopen-requires
-reopen-requires g c = record {
-  named = named_so c.args.blob.now c.args.blob.now c.args.store.now c.crash.new.self c.in-Ok.ensures.directory refl c.requires.named;
-  there = c.requires.there;
-}
+reopen-requires g c = here_so c.args.blob.now c.args.blob.now c.args.store.now c.crash.new.self c.in-Ok.ensures.directory refl c.requires
 
 pub returns-in-Ok-clause-lost : goal.returns-in-Ok-clause-lost
 returns-in-Ok-clause-lost g c =
@@ -40,8 +37,7 @@ returns-in-Ok-clause-keeps g c =
       directory = k.directory ∙ e.directory;
       place = k.place;
       config = k.config ∙ e.numbers.config;
-      named = λ h. k.named (named_so c.args.blob.now c.args.blob.now c.args.store.now c.crash.new.self e.directory refl h);
-      there = k.there;
+      here = λ h. k.here (here_so c.args.blob.now c.args.blob.now c.args.store.now c.crash.new.self e.directory refl h);
       whole = λ h. k.whole (whole_so c.args.store.now c.crash.new.self e.numbers.config h);
     }
 

@@ -19,7 +19,7 @@ returns g c =
     let answer = refused c.resize.result in
     let fate = (resize_fate (config_of w).resize_rate (size_of b) c.args.len stream).0 in
     let es = recorded_resize fate c.args.len answer in
-    let now = current_now b w c.requires.named c.requires.there in
+    let now = current_now b w c.requires.here in
     let s = cut_so b c.resize.new.self w c.resize.new.store es c.args.len c.requires.standing e.directory e.place e.leaves.numbers.config
     (e.leaves.size_after refl ∙ c.sizes.ensures.resizes fate (size_of b) (live (inside b)) c.args.len answer c.requires.tracked ∙ sym (ap (λ (x : List ℕ). length x) (e.leaves.live_after refl)))
     (subst (λ (x : List ℕ). (x ≡ live (inside b)) ⊎ (x ≡ resized (live (inside b)) c.args.len)) (sym (e.leaves.live_after refl)) (c.live_bytes.ensures.resizes (config_of w).resize_rate (size_of b) c.args.len stream (live (inside b)) answer c.requires.whole))

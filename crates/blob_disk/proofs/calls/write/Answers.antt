@@ -19,7 +19,7 @@ returns g c =
     let stream = g.R.Rng.stream (rng_of w) in
     let answer = refused c.write_from.result in
     let es = recorded_write (config_of w) (next_write_of w) stream false c.args.at bytes answer in
-    let now = current_now b w c.requires.named c.requires.there in
+    let now = current_now b w c.requires.here in
     let there = c.found.ensures b w c.args.at bytes false answer now e.allowed in
     let s = wrote b c.write_from.new.self w c.write_from.new.store es c.args.at bytes c.requires.standing e.directory e.place e.leaves.config
     (e.leaves.size refl ∙ c.sizes.ensures.writes (config_of w) stream false (size_of b) (live (inside b)) c.args.at bytes answer there c.requires.tracked ∙ sym (ap (λ (x : List ℕ). length x) (e.leaves.live_after refl)))
