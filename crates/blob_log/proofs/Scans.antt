@@ -17,9 +17,9 @@ frame_length : (r rest : List ℕ) → length r < 2 ^ 32 → length_told (frame 
 unfolding length_told frame
 frame_length r rest short = from_be_bytes-to_be_bytes_4 (length r) short
 
-frame_sum : (r rest : List ℕ) → sum_told (frame r ++ rest) ≡ crc32c r
-unfolding sum_told frame crc32c
-frame_sum r rest = from_be_bytes-to_be_bytes_4 (crc32c r) (omega arith)
+frame_sum : (r rest : List ℕ) → crc32c r < 2 ^ 32 → sum_told (frame r ++ rest) ≡ crc32c r
+unfolding sum_told frame
+frame_sum r rest fits = from_be_bytes-to_be_bytes_4 (crc32c r) fits
 
 frame_payload : (r rest : List ℕ) → length r < 2 ^ 32 → payload (frame r ++ rest) ≡ r
 unfolding frame
@@ -39,11 +39,11 @@ frame_sealed b e = let p = (and_parts (nat_le (8 + length_told b) (length b)) (n
 is_frame-short : (b : List ℕ) → length b < 8 + length_told b → is_frame b ≡ false
 is_frame-short b cut = false_from_ne_true (is_frame b) (λ e. omega (arith, frame_fits b e))
 
-frame_is : (r rest : List ℕ) → length r < 2 ^ 32 → is_frame (frame r ++ rest) ≡ true
-frame_is r rest short =
+frame_is : (r rest : List ℕ) → crc32c r < 2 ^ 32 → length r < 2 ^ 32 → is_frame (frame r ++ rest) ≡ true
+frame_is r rest fits short =
     let e = frame_length r rest short in
     let long : 8 + length_told (frame r ++ rest) ≤ length (frame r ++ rest) = omega (arith, length-append (frame r) rest, length_frame r) in
-    is_frame-whole (frame r ++ rest) long (ap crc32c (frame_payload r rest short) ∙ sym (frame_sum r rest))
+    is_frame-whole (frame r ++ rest) long (ap crc32c (frame_payload r rest short) ∙ sym (frame_sum r rest fits))
 
 -- A scan, step by step.
 
@@ -79,14 +79,14 @@ scan-step b e =
     ∙ step_to (length b) b e
     ∙ ap (λ (l : List (List ℕ)). payload b ∷ l) (enough (length b) (length rest) rest (omega (arith, length-drop (8 + length_told b) b)) (omega arith))
 
--- what is written comes back, whatever stands behind it
-pub scan-frames : (rs : List (List ℕ)) (rest : List ℕ) → AreShort rs → scan (frames rs ++ rest) ≡ rs ++ scan rest
-scan-frames [] rest short = refl
-scan-frames (r ∷ rs) rest short =
+-- what is written comes back, whatever stands behind it; checksums fit
+pub scan-frames : ((b : List ℕ) → crc32c b < 2 ^ 32) → (rs : List (List ℕ)) (rest : List ℕ) → AreShort rs → scan (frames rs ++ rest) ≡ rs ++ scan rest
+scan-frames fit [] rest short = refl
+scan-frames fit (r ∷ rs) rest short =
     let more = frames rs ++ rest in
     let behind = drop_at (frame r) more _ (omega (arith, frame_length r more short.0, length_frame r)) in
-    ap scan (append_assoc (frame r) (frames rs) rest) ∙ scan-step (frame r ++ more) (frame_is r more short.0)
-    ∙ ap₂ (λ (x : List ℕ) (l : List (List ℕ)). x ∷ l) (frame_payload r more short.0) (ap scan behind ∙ scan-frames rs rest short.1)
+    ap scan (append_assoc (frame r) (frames rs) rest) ∙ scan-step (frame r ++ more) (frame_is r more (fit r) short.0)
+    ∙ ap₂ (λ (x : List ℕ) (l : List (List ℕ)). x ∷ l) (frame_payload r more short.0) (ap scan behind ∙ scan-frames fit rs rest short.1)
 
 -- What is read is what was written: bytes below 256 begin with the frames of their scan.
 
@@ -196,5 +196,6 @@ scanned_more b at found found' r s there told now =
 pub scanned_all : (b : List ℕ) (at : ℕ) (found : List (List ℕ)) → Scanned b at found → is_frame (take (length b - at) (drop at b)) ≡ false → found ≡ scan b
 scanned_all b at found s e = sym (append-nil found) ∙ ap (λ (l : List (List ℕ)). found ++ l) (sym (scan-stop (drop at b) (ap is_frame (sym (take_rest b at)) ∙ e))) ∙ s.so_far
 
-pub front_scanned : (rs : List (List ℕ)) (live : List ℕ) → AreShort rs → BeginsWith (frames rs) live → BeginsWith rs (scan live)
-front_scanned rs live short (rest, is) = (scan rest, sym (scan-frames rs rest short) ∙ ap scan is)
+-- frames are found at the front of bytes; `again` is that what is written comes back
+pub front_scanned : ((rs : List (List ℕ)) (rest : List ℕ) → AreShort rs → scan (frames rs ++ rest) ≡ rs ++ scan rest) → (rs : List (List ℕ)) (live : List ℕ) → AreShort rs → BeginsWith (frames rs) live → BeginsWith rs (scan live)
+front_scanned again rs live short (rest, is) = (scan rest, sym (again rs rest short) ∙ ap scan is)

@@ -5,6 +5,7 @@ ghost use Rattle.blob_header.specs.Fronts.{BeginsWith};
 ghost use Rattle.blob_log.specs.Frames.{AreShort, frame, frames, payload, is_frame, scan};
 
 use blob_base::Crc32;
+use blob_base::laws::checksums::checksums_fit;
 use std::alloc::{AllocError, Global};
 
 /// The frame of a record: its length and its checksum in four bytes each, and the record.
@@ -63,4 +64,6 @@ pub fn scan(alloc: Global, bytes: &[u8]) -> Result<(Vec<Vec<u8>>, usize), AllocE
 pub fn scans_find_frames()
     ensures again { (rs : List (List ℕ)) (rest : List ℕ) → AreShort rs → scan (frames rs ++ rest) ≡ rs ++ scan rest }
     ensures front { (bytes : List ℕ) → ((i : ℕ) → slice_index bytes i < 256) → BeginsWith (frames (scan bytes)) bytes }
-{}
+{
+    checksums_fit();
+}

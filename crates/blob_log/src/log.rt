@@ -8,7 +8,7 @@ ghost use Rattle.blob_faulty.specs.Keeps.{IsFor, Keeps};
 ghost use Rattle.blob_log.specs.Frames.{AreShort, frames};
 ghost use Rattle.blob_log.specs.Held.{Holds, place_of, items_of};
 
-use crate::frame::{frame_of, scan};
+use crate::frame::{frame_of, scan, scans_find_frames};
 use blob_base::laws::opens::accepted_opens;
 use blob_base::{Blob, Error, IoBufs, WriteOptions};
 use blob_faulty::laws::keeps::{unrecorded_calls, writes};
@@ -71,6 +71,7 @@ impl Log {
     {
         accepted_opens();
         unrecorded_calls::<blob_memory::Storage, R>();
+        scans_find_frames();
         let (blob, size) = store.open_admitted(partition, name)?;
         let mut bytes = Vec::new(alloc);
         bytes.resize(size as usize, 0)?;

@@ -15,7 +15,7 @@ returns-clause-found g c = λ o records named short k.
     let long : length c.as_mut_slice-found.result.now ≡ length bytes = first_of (search rules, grind (arith, common_steps)) in
     let read = c.in_ok-read_into.ensures.bytes ∙ take_all (length c.as_mut_slice-found.result.now) bytes (omega (arith, long)) in
     let there = c.in_ok-blob.ensures.found o (frames records) named k in
-    (there.0, subst (λ (l : List (List ℕ)). BeginsWith records l) (ap scan (sym read) ∙ sym c.in_ok-records.ensures.records) (front_scanned records bytes short there.1))
+    (there.0, subst (λ (l : List (List ℕ)). BeginsWith records l) (ap scan (sym read) ∙ sym c.in_ok-records.ensures.records) (front_scanned c.scans_find_frames.ensures.again records bytes short there.1))
 
 pub returns-clause-held : goal.returns-clause-held
 returns-clause-held g c = λ files stands.
