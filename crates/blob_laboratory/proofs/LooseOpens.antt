@@ -29,7 +29,7 @@ use Rattle.blob_laboratory.specs.Tables.{handles_of, syncs_of}
 use Rattle.blob_calls.specs.Told.{Tells}
 use Rattle.blob_states.proofs.Denying.{drawn_denial, not_memory}
 use Rattle.blob_laboratory.proofs.OpenSteps.{held_opened, size_found, version_found, given_opened}
-use Rattle.blob_states.proofs.Opened.{current_opened}
+use Rattle.blob_model.proofs.Opened.{current_opened}
 use Rattle.blob_laboratory.proofs.Performing.{state_of, performs}
 use Rattle.blob_states.proofs.Telling.{done_answers, failed_answers}
 

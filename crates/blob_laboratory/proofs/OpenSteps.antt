@@ -1,5 +1,5 @@
 -- Opens of a laboratory, from what the wrapper and the open names promise.
-use Rattle.std.proofs.Common.{◌≡◌, ℕ, ◌<◌, ◌++◌, List, [], ◌∷◌, Option, Some, None, IfSome, sym, ap, ◌∙◌, subst, length}
+use Rattle.std.proofs.Common.{◌≡◌, ℕ, ◌<◌, ◌++◌, List, [], ◌∷◌, Option, Some, None, IfSome, sym, ap, ◌∙◌, subst, length, arith}
 use Rattle.std.specs.Prelude.{is_some, option_map}
 use Rattle.std.proofs.lemmas.List.Elements.{All-push, All-weaker}
 use Rattle.blob_model.specs.Directory.{Directory, current}
@@ -9,6 +9,7 @@ use Rattle.blob_model.specs.Opening.{opening, IsOpened, Continued, Begun}
 use Rattle.blob_model.specs.Places.{Place}
 use Rattle.blob_model.specs.Stands.{StandsAt}
 use Rattle.blob_model.proofs.NameSteps.{read_by_open}
+use Rattle.blob_model.proofs.Opened.{next_opened}
 use Rattle.blob_faulty.specs.Wrapper.{inner_of as store_of, pending_of}
 use Rattle.blob_memory.specs.Laws.{currents, given}
 use Rattle.blob_memory.specs.Store.{directory, durable}
@@ -16,7 +17,6 @@ use Rattle.blob_states.specs.Answers.{size_of, version_of}
 use Rattle.blob_laboratory.specs.LabStands.{IsFor, Wrapper}
 use Rattle.blob_opens.specs.OpenNames.{Registration}
 use Rattle.blob_states.specs.States.{Held, AreGiven, held_on}
-use Rattle.blob_states.proofs.Opened.{next_opened}
 
 -- what is durable of a current incarnation is so of the files
 pub live_is : (w : Wrapper) (f : Files) (o : Place) (live : List ℕ) → IsFor w f → durable (store_of w) o ≡ Some live → live ≡ durable_at f o
@@ -57,7 +57,7 @@ given_opened w w' p n first last o live version handles h opens place before =
   where
     weaker : (slot : Option Held) → IfSome slot (λ g. g.place.number < (directory (store_of w)).next) → IfSome slot (λ g. g.place.number < (directory (store_of w')).next)
     weaker None i = tt
-    weaker (Some g) i = next_opened (directory (store_of w)) (directory (store_of w')) (durable (store_of w)) (durable (store_of w')) p n first last o live version g.place.number opens i
+    weaker (Some g) i = omega (arith, i, next_opened (directory (store_of w)) (directory (store_of w')) (durable (store_of w)) (durable (store_of w')) p n first last o live version opens)
 
 -- handles that were there stay on incarnations that were made
 pub given_kept : (d d' : Directory) (bytes bytes' : Durable) (p n : List ℕ) (first last : ℕ) (o : Place) (live : List ℕ) (version : ℕ) (handles : List (Option Held)) → IsOpened d bytes d' bytes' p n first last o live version → AreGiven d.next handles → AreGiven d'.next handles
@@ -66,4 +66,4 @@ given_kept d d' bytes bytes' p n first last o live version handles opens before 
   where
     weaker : (slot : Option Held) → IfSome slot (λ g. g.place.number < d.next) → IfSome slot (λ g. g.place.number < d'.next)
     weaker None i = tt
-    weaker (Some g) i = next_opened d d' bytes bytes' p n first last o live version g.place.number opens i
+    weaker (Some g) i = omega (arith, i, next_opened d d' bytes bytes' p n first last o live version opens)

@@ -22,7 +22,7 @@ use Rattle.blob_states.specs.Fixed.{Byte, is_of}
 use Rattle.blob_states.specs.States.{Held}
 use Rattle.blob_states.proofs.Firm.{IsFirm, Now, Behind, at, of_parts}
 use Rattle.blob_states.proofs.FirmFiles.{file_beside}
-use Rattle.blob_states.proofs.Opened.{with_file_here}
+use Rattle.blob_model.proofs.Opened.{with_file_here}
 
 -- A region has the version's low sixteen bits.
 

@@ -32,7 +32,7 @@ use Rattle.blob_states.proofs.Firm.{IsFirm, Now, Behind, at, of_parts, firm_has}
 use Rattle.blob_states.proofs.FirmSteps.{HasFirm, IsSound, firm_after}
 use Rattle.blob_states.proofs.Fixing.{fixes_firm}
 use Rattle.blob_states.proofs.FreshLogs.{reached_fresh}
-use Rattle.blob_states.proofs.Opened.{continued, with_file_here}
+use Rattle.blob_model.proofs.Opened.{continued, with_file_here}
 use Rattle.blob_states.proofs.OpensAgain.{valid_open}
 use Rattle.blob_states.proofs.GivenHandles.{given_at}
 use Rattle.blob_states.proofs.RunSteps.{reached_strictly}

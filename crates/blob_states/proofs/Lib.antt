@@ -13,7 +13,6 @@ pub mod FreshLogs
 pub mod GivenHandles
 pub mod LabLaws
 pub mod Lasting
-pub mod Opened
 pub mod OpensAgain
 pub mod PersistenceRows
 pub mod ReachedStates

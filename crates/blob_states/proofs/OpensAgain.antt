@@ -31,7 +31,7 @@ use Rattle.blob_calls.specs.Told as told
 use Rattle.blob_calls.specs.Told.{Told, Tells}
 use Rattle.blob_states.proofs.Accepting.{IsOf, of_again, still_run}
 use Rattle.blob_states.proofs.Exclusive.{or_then_none}
-use Rattle.blob_states.proofs.Opened.{with_file_here}
+use Rattle.blob_model.proofs.Opened.{with_file_here}
 use Rattle.blob_states.proofs.Stale.{admitted_directory}
 
 -- An open that was accepted.
