@@ -1,6 +1,6 @@
 #!/bin/sh
 # Times calls in-process from C, Rust and Python, for each language whose compiler is there, and by a pipe from Python. It prints
-# to standard error, and no test runs it. The seconds that each figure takes may be given in place of 0.5.
+# to standard error; a test runs it, but holds no time against it. The seconds that each figure takes may be given in place of 0.5.
 set -eu
 
 top=$(CDPATH='' cd -- "$(dirname -- "$0")/.." && pwd -P)

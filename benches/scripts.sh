@@ -1,6 +1,6 @@
 #!/bin/sh
 # Times scripts of mixed calls from end to end: reading, running, printing. It prints a line for each length to standard
-# error, and no test runs it. Lengths may be given in place of 10000, 20000 and 40000 lines.
+# error; a test runs it, but holds no time against it. Lengths may be given in place of 10000, 20000 and 40000 lines.
 set -eu
 
 top=$(CDPATH='' cd -- "$(dirname -- "$0")/.." && pwd -P)

@@ -1,7 +1,6 @@
 #!/bin/sh
 # The examples: each examples/NAME.script prints NAME.out to the byte; the log in Python keeps its promise over 1,000 seeds, and
-# breaks it where it forgets its sync, which is shown by a short script and what it prints; each command on the pages prints
-# what stands below it there, their Python runs, and their tables of lines have these replies. The last line is
+# breaks it where it forgets its sync, which is shown by a short script and what it prints. The last line is
 # `N passed, M failed`.
 set -u
 
@@ -39,7 +38,7 @@ for script in "$top"/examples/*.script; do
 done
 
 if ! python3 -c 'import sys; sys.exit(sys.version_info < (3, 8))' 2>/dev/null; then
-    echo "examples.sh: there is no Python from 3.8 on, so the log in Python and the commands of the pages aren't run"
+    echo "examples.sh: there is no Python from 3.8 on, so the log in Python isn't run"
     echo "$passed passed, $failed failed"
     [ "$failed" -eq 0 ]
     exit
@@ -55,11 +54,6 @@ sed -n '2,/^$/p' "$work/broken" | sed 1d >"$work/short"
 python3 "$top/examples/log.py" --judge <"$work/short"
 ok 'its short script shows the fault' [ $? -eq 1 ]
 ok 'what it prints is shown' grep -q '^crashed .*0' "$work/broken"
-
-cd "$top" || exit 1
-for page in README.md docs/GUIDE.md bindings/python/blobcrash.py; do
-    ok "the commands and examples of $page" python3 tests/pages.py "$page"
-done
 
 echo "$passed passed, $failed failed"
 [ "$failed" -eq 0 ]

@@ -1,11 +1,54 @@
-"""Runs each command of a page, `    $ COMMAND`, and compares what it prints with the lines below it there; runs each indented block of
-Python, which begins with an import, with the module of bindings/python; and runs each table of lines with their replies as a
-script."""
+"""The commands and examples of pages.
+
+    pages.py PAGE              runs each command of a page, `    $ COMMAND`, and compares what it prints with the lines below it there; each
+                               indented block of Python, which begins with an import, with the module of bindings/python; and each
+                               table of lines with their replies as a script
+    pages.py --listed PAGE ..  that each command which a page names in its text stands in tests/pages.list, that each of the list stands on
+                               a page, and that each block of a page is run, quoted from a source or tried in a scratch repository
+    pages.py --ways            the ways by which tests/pages.sh runs commands of the list itself, a line each
+    pages.py --scratch FOLDER  makes a repository by the steps of the README's "From Rattle", with a test of its blocks
+"""
 
 import difflib
 import os
+import re
+import shutil
 import subprocess
 import sys
+
+LIST = "tests/pages.list"
+BEGINNINGS = ("./", "cargo ", "cc ", "python3 ", "rt ", "sh ", "tools/")
+PYTHON = ("    from ", "    import ")
+TRIED = "<!-- tried in a scratch repository -->"
+# The crate of the scratch repository: what the page uses, and what it does with two lists of bytes.
+MY_LOG = """#![tactic(auto)]
+
+#[cfg(test)]
+mod tests {{
+{uses}
+use rand_core::SeedableRng;
+use std::test::Fail;
+
+#[test]
+fn the_page_runs(rt: HostRuntime) -> Result<(), Fail> {{
+let alloc = rt.alloc();
+let rng = rand_xoshiro::Xoshiro256PlusPlus::seed_from_u64(7);
+let first = IoBufs::from_vec(vec![in alloc; 97_u8; 100]?)?;
+let second = IoBufs::from_vec(vec![in alloc; 98_u8; 50]?)?;
+{body}
+let mut front = vec![in alloc; 0_u8; 100]?;
+log.read_into(&mut store, 0, front.as_mut_slice())?;
+assert!(rt; size >= 100 && front.iter().all(|byte| *byte == 97));
+assert!(rt; kept.rows().len() == 1);
+Ok(())
+}}
+}}
+"""
+
+
+def read(page):
+    with open(page, encoding="utf-8") as file:
+        return file.read().splitlines()
 
 
 def commands(lines):
@@ -25,7 +68,7 @@ def programs(lines):
     """The blocks of Python."""
     found, inside = [], False
     for line in lines:
-        if not inside and line.startswith(("    from ", "    import ")):
+        if not inside and line.startswith(PYTHON):
             found.append([])
             inside = True
         elif line.strip() and not line.startswith("    "):
@@ -49,6 +92,98 @@ def tables(lines):
     return [([row[0] for row in table], [row[1] for row in table]) for table in found]
 
 
+def blocks(lines):
+    """The blocks of code of a page, fenced or indented: each with what stands above it, and its lines."""
+    found, above, fence, inside = [], "", False, False
+    for line in lines:
+        starts = line.startswith("```")
+        if starts and not fence:
+            found.append((above, []))
+        if starts or fence:
+            fence = fence != starts
+            if not starts:
+                found[-1][1].append(line)
+            above, inside = "", False
+        elif line.startswith("    "):
+            if not inside:
+                found.append((above, []))
+            inside = True
+            found[-1][1].append(line)
+        elif line.strip():
+            inside, above = False, line.strip()
+        elif inside:
+            found[-1][1].append(line)
+    return found
+
+
+def named(lines):
+    """The commands that a page names in its text, between backquotes."""
+    in_blocks = {line for _, block in blocks(lines) for line in block}
+    spans = [span for line in lines if line not in in_blocks for span in re.findall(r"`([^`]+)`", line)]
+    return {span.replace("\\|", "|") for span in spans if span.startswith(BEGINNINGS)}
+
+
+def listed():
+    """The list: each command with the way in which it is run, which is a script of this repository or a command of its own."""
+    found, command = {}, None
+    for line in read(LIST):
+        if line.startswith("    "):
+            found[command] = line.strip()
+        elif line.strip() and not line.startswith("#"):
+            command = line
+            found[command] = ""
+    return found
+
+
+def is_script(way):
+    return os.path.isfile(way)
+
+
+def compare_with_list(pages):
+    """Prints what stands on a page and isn't run, and what the list has in vain."""
+    wrong, on_pages, ways = [], set(), listed()
+    for page in pages:
+        lines = read(page)
+        on_pages |= named(lines)
+        wrong += [f"{page}: `{command}` isn't in {LIST}" for command in sorted(named(lines) - set(ways))]
+        for above, block in blocks(lines):
+            is_run = block[0].startswith(("    $ ", *PYTHON)) or above.startswith(("<!-- quoted: ", TRIED))
+            if not is_run:
+                wrong.append(f"{page}: no test runs the block that begins with {block[0].strip()}")
+    wrong += [f"{LIST}: no page names `{command}`" for command in sorted(set(ways) - on_pages)]
+    wrong += [f"{LIST}: `{command}` isn't run" for command, way in ways.items() if not way]
+    print("\n".join(wrong), end="\n" if wrong else "")
+    return int(bool(wrong))
+
+
+def scratch(folder):
+    """A repository of the README's steps: its crates, its lines and a crate whose one test is its blocks."""
+    lines = read("README.md")
+    steps = lines[lines.index("## From Rattle") :]
+    text = "\n".join(steps)
+    crates = set(re.findall(r"`(blob_\w+)`", next(line for line in steps if line.startswith("1. "))))
+    own = re.search(r"`(my_log: [^`]*)`", text)[1]
+    below = {name: deps.split() for name, _, deps in (line.partition(":") for line in read("crates.txt"))}
+    for crate in sorted(crates | {"blob_names"}):
+        shutil.copytree(f"crates/{crate}", f"{folder}/crates/{crate}", ignore=shutil.ignore_patterns("out"))
+    shutil.copy("HANDLES", folder)
+    with open(f"{folder}/crates.txt", "w", encoding="utf-8") as file:
+        file.writelines(f"{crate}: {' '.join(below[crate])}\n" for crate in sorted(crates | {"blob_names"}))
+    subprocess.run(["git", "init", "-q", folder], check=True)
+    subprocess.run(["rt", "new", "crates/my_log", "start_lib"], cwd=folder, check=True, stdout=subprocess.DEVNULL)
+    for part in ("BUILD.bazel", "specs", "proofs"):
+        path = f"{folder}/crates/my_log/{part}"
+        shutil.rmtree(path) if os.path.isdir(path) else os.remove(path)
+    with open(f"{folder}/crates.txt", "a", encoding="utf-8") as file:
+        file.write(own + "\n")
+    tried = [line.strip() for above, block in blocks(steps) if above == TRIED for line in block]
+    uses = [line for line in tried if line.startswith("use ")]
+    body = [line for line in tried if not line.startswith("use ")]
+    with open(f"{folder}/crates/my_log/src/lib.rt", "w", encoding="utf-8") as file:
+        file.write(MY_LOG.format(uses="\n".join(uses), body="\n".join(body)))
+    return 0
+
+
 def trimmed(lines):
     lines = [line.rstrip() for line in lines]
     while lines and not lines[-1]:
@@ -56,28 +191,30 @@ def trimmed(lines):
     return lines
 
 
+def differs(what, wanted, run):
+    """Whether a run printed something else than was wanted, which is then shown."""
+    wanted, printed = trimmed(wanted), trimmed(run.stdout.splitlines())
+    if printed == wanted:
+        return False
+    print(what)
+    print("\n".join(difflib.unified_diff(wanted, printed, "page", "printed", lineterm="")))
+    print(run.stderr)
+    return True
+
+
 def main(page):
-    with open(page, encoding="utf-8") as file:
-        lines = file.read().splitlines()
+    lines = read(page)
+    how = {"stdout": subprocess.PIPE, "stderr": subprocess.PIPE, "text": True}
     failed = 0
     for command, wanted in commands(lines):
-        run = subprocess.run(["sh", "-c", command], stdout=subprocess.PIPE, stderr=subprocess.PIPE, text=True)
-        printed = trimmed(run.stdout.splitlines())
-        if printed != trimmed(wanted):
-            failed += 1
-            print(f"{page}: $ {command}")
-            print("\n".join(difflib.unified_diff(trimmed(wanted), printed, "page", "printed", lineterm="")))
-            print(run.stderr)
+        run = subprocess.run(["sh", "-c", command], **how)
+        failed += differs(f"{page}: $ {command}", wanted, run)
     for script, wanted in tables(lines):
-        run = subprocess.run(["./blobcrash"], input="\n".join(script), stdout=subprocess.PIPE, stderr=subprocess.PIPE, text=True)
-        if run.stdout.splitlines() != wanted:
-            failed += 1
-            print(f"{page}: a table that begins with {script[0]}")
-            print("\n".join(difflib.unified_diff(wanted, run.stdout.splitlines(), "page", "printed", lineterm="")))
-            print(run.stderr)
+        run = subprocess.run(["./blobcrash"], input="\n".join(script), **how)
+        failed += differs(f"{page}: a table that begins with {script[0]}", wanted, run)
     environment = dict(os.environ, PYTHONPATH="bindings/python", PYTHONDONTWRITEBYTECODE="1")
     for program in programs(lines):
-        run = subprocess.run([sys.executable, "-c", program], env=environment, stdout=subprocess.PIPE, stderr=subprocess.PIPE, text=True)
+        run = subprocess.run([sys.executable, "-c", program], env=environment, **how)
         if run.returncode != 0:
             failed += 1
             print(f"{page}: a block of Python\n{run.stderr}")
@@ -85,4 +222,9 @@ def main(page):
 
 
 if __name__ == "__main__":
-    sys.exit(main(sys.argv[1]))
+    if sys.argv[1] == "--listed":
+        sys.exit(compare_with_list(sys.argv[2:]))
+    if sys.argv[1] == "--ways":
+        print("\n".join(way for way in listed().values() if not is_script(way)))
+        sys.exit(0)
+    sys.exit(scratch(sys.argv[2]) if sys.argv[1] == "--scratch" else main(sys.argv[1]))
