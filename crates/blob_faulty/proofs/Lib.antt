@@ -1,9 +1,11 @@
 pub mod Adding
+pub mod AdmittedOpens
 pub mod Admitting
 pub mod AnswersGrow
 pub mod CertainAnswers
 pub mod Crashing
 pub mod CurrentWrites
+pub mod Exclusives
 pub mod FailedSteps
 pub mod Fating
 pub mod Keeping

@@ -1,6 +1,7 @@
 pub mod Admitted
 pub mod AnswerLaws
 pub mod Certain
+pub mod Exclusive
 pub mod HandleLeaves
 pub mod Keeps
 pub mod Lends

@@ -8,6 +8,7 @@ mod crash;
 pub mod laws;
 pub mod names;
 mod open_admitted;
+mod open_exclusive;
 mod replay;
 mod resizes;
 mod retired;

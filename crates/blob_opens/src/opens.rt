@@ -41,6 +41,9 @@ impl Opens {
     /// Opens a blob that isn't open yet, and answers its handle, its size in logical bytes and its version. The store's own open
     /// comes first. The caller hands a range of versions that isn't empty and wasn't iterated to its end.
     ///
+    /// Over a fault wrapper this alone fixes nothing: what is pending of the blob stays so. The wrapper's `open_exclusive` opens by
+    /// this and admits.
+    ///
     /// # Errors
     ///
     /// `GenerationsExhausted` where the name isn't open and no number is left: the store isn't asked. Then what the store's open

@@ -41,19 +41,15 @@ impl Lab {
         if let Err(e) = self.handles.reserve() {
             return Reply::Failed(e);
         }
-        opens::<blob_memory::Storage, ScriptedRng>();
         match self
-            .opens
-            .open(&mut self.wrapper, partition, name, versions)
+            .wrapper
+            .open_exclusive(&mut self.opens, partition, name, versions)
         {
-            Ok((blob, size, version)) => {
-                let _ = self.wrapper.admit(partition, name);
-                Reply::Opened {
-                    handle: self.handles.add(Handle::exclusive(blob)),
-                    size,
-                    version,
-                }
-            }
+            Ok((blob, size, version)) => Reply::Opened {
+                handle: self.handles.add(Handle::exclusive(blob)),
+                size,
+                version,
+            },
             Err(e) => Reply::Failed(e),
         }
     }

@@ -1,11 +1,9 @@
 use Rattle.std.proofs.Common.{rules, refl, ap, ◌≡◌, ◌∙◌, ◌++◌, ◌∷◌, [], Some, length}
 use Rattle.std.specs.Range.{range_inclusive_start, range_inclusive_end}
-use Rattle.blob_model.specs.Files.{after_open}
 use Rattle.blob_header.specs.Refusals.{Memory, refusal_of}
 use Rattle.blob_faulty.specs.Wrapper.{inside, size_of}
-use Rattle.blob_memory.specs.Store.{place, live, directory, durable}
+use Rattle.blob_memory.specs.Store.{place, live}
 use Rattle.blob_opens.specs.Opens.{inner_of}
-use Rattle.blob_states.specs.Scripted.{scripted}
 use Rattle.blob_laboratory.specs.Tables.{held_by}
 use Rattle.blob_laboratory.proofs.ExclusiveEnds.{exclusive_failed}
 use Rattle.blob_laboratory.proofs.ExclusiveOpens.{exclusive_done}
@@ -31,20 +29,13 @@ returns-in-Ok c =
     let q = taken _ _ _ _ _ _ _ _ c.in-Ok.ensures.answer refl in
     let leaves = q.asked.1 in
     open_for c.args.self.now _ c.args.partition.now c.args.name.now _ _ _ _ c.in-Some.ensures.versions
-    (exclusive_done c.args.self.now _ c.args.partition.now c.args.name.now first last c.open.new.store (place (inside inner)) (live (inside inner)) c.in-Ok.version.0 h _ _ _ c.in-Ok.ensures.opened
-    (c.add.ensures.number ∙ ap length c.reserve.ensures.handles) c.in-Ok.ensures.size refl (ap (λ b. place (inside b)) made) (ap (λ b. live (inside b)) made) (ap size_of made ∙ c.in-Ok.ensures.kept_size.0 ∙ c.in-Ok.ensures.size)
+    (exclusive_done c.args.self.now _ c.args.partition.now c.args.name.now first last c.open_exclusive.new.self (place (inside inner)) (live (inside inner)) c.in-Ok.version.0 h _ _ _ c.in-Ok.ensures.opened
+    (c.add.ensures.number ∙ ap length c.reserve.ensures.handles) c.in-Ok.ensures.size refl (ap (λ b. place (inside b)) made) (ap (λ b. live (inside b)) made) (ap size_of made ∙ c.in-Ok.ensures.tracked ∙ c.in-Ok.ensures.size)
     (c.exclusive.ensures.registration ∙ ap Some c.in-Ok.ensures.handle) (c.add.ensures.handles ∙ ap (λ hs. hs ++ Some h ∷ []) c.reserve.ensures.handles)
-    (ap directory c.admit.ensures.inner) (ap durable c.admit.ensures.inner) q.free q.left q.asked.0 c.in-Ok.ensures.registered refl
-    (c.admit.ensures.numbers.config ∙ leaves.records.numbers.config) (ap scripted c.admit.ensures.rng ∙ leaves.drawn)
-    (λ f s. c.admit.ensures.stands (after_open f c.args.partition.now c.args.name.now first last)
-    (c.opens.ensures.accepted c.args.self.now.wrapper c.open.new.store c.args.partition.now c.args.name.now first last (place (inside inner)) (live (inside inner)) c.in-Ok.version.0 c.in-Ok.ensures.opened leaves f s)))
+    refl refl q.free q.left q.asked.0 c.in-Ok.ensures.registered refl leaves.numbers.config leaves.drawn c.in-Ok.ensures.files)
 
-pub returns-in-Err-open : goal.returns-in-Err-open
-returns-in-Err-open c =
+pub returns-in-Err-open_exclusive : goal.returns-in-Err-open_exclusive
+returns-in-Err-open_exclusive c =
     let v = c.in-Some.versions in
-    let first = (range_inclusive_start v).0 in
-    let last = (range_inclusive_end v).0 in
     open_for c.args.self.now _ c.args.partition.now c.args.name.now _ _ _ _ c.in-Some.ensures.versions
-    (exclusive_failed c.args.self.now _ c.args.partition.now c.args.name.now first last _ refl c.reserve.ensures.handles c.in-Err-open.ensures.err _ c.in-Err-open.ensures.answer refl
-    (λ o live version is leaves. c.opens.ensures.accepted c.args.self.now.wrapper c.open.new.store c.args.partition.now c.args.name.now first last o live version is leaves)
-    (λ r names bytes leaves. c.opens.ensures.refused c.args.self.now.wrapper c.open.new.store c.args.partition.now c.args.name.now first last r names bytes leaves))
+    (exclusive_failed c.args.self.now _ c.args.partition.now c.args.name.now (range_inclusive_start v).0 (range_inclusive_end v).0 _ refl c.reserve.ensures.handles c.in-Err-open_exclusive.ensures.err _ c.in-Err-open_exclusive.ensures.answer refl)

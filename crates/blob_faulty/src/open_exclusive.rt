@@ -1,0 +1,64 @@
+//! Exclusive opens that are admitted at once.
+ghost use Rattle.std.specs.Prelude.{◌≡◌, ◌≤◌, false, ℕ, List, OnOk, OnErr, IfOk, length};
+ghost use Rattle.std.specs.Range.{range_inclusive_start, range_inclusive_end, range_inclusive_exhausted};
+ghost use Rattle.blob_model.specs.Files.{Files};
+ghost use Rattle.blob_header.specs.Fronts.{BeginsWith};
+ghost use Rattle.blob_model.specs.Opened.{IsNamed};
+ghost use Rattle.blob_model.specs.Opening.{IsOpened};
+ghost use Rattle.blob_model.specs.Places.{Place};
+ghost use Rattle.blob_header.specs.Refusals.{refused};
+ghost use Rattle.blob_faulty.specs.Exclusive.{ExclusiveAnswer, OpensAdmitted};
+ghost use Rattle.blob_faulty.specs.Keeps.{IsFor, Keeps};
+ghost use Rattle.blob_faulty.specs.Wrapper.{inner_of, inside, size_of};
+ghost use Rattle.blob_memory.specs.Store.{directory, durable, place, live};
+ghost use Rattle.blob_opens.specs.OpenNames.{opened};
+ghost use Rattle.blob_opens.specs.Opens.{names_of, registration_of, inner_of as handle_of};
+
+use crate::blob::Blob;
+use crate::laws::names::opens;
+use crate::storage::Storage;
+use blob_base::laws::opens::numbers_are_given;
+use blob_base::{BlobVersion, Error};
+use blob_opens::{Opens, open};
+use rand_core::Rng;
+use std::ops::RangeInclusive;
+
+impl<R: Rng> Storage<blob_memory::Storage, R> {
+    /// Opens a blob that isn't open by another handle of this registry, and admits it: what is pending of it is retired, so that
+    /// no crash loses what the handle found. This is the open of a caller that leaves it to a registry that a name has one
+    /// handle at a time; the handle is spent by `Opens::close`.
+    ///
+    /// # Errors
+    ///
+    /// As `Opens::open` over this store. Where the name is open, what the store's own open drew and made stays, else the files are
+    /// as before. Nothing is retired.
+    pub fn open_exclusive(
+        &mut self,
+        registry: &mut Opens,
+        partition: &str,
+        name: &[u8],
+        versions: RangeInclusive<BlobVersion>,
+    ) -> Result<(open::Blob<Blob<blob_memory::Blob>>, u64, BlobVersion), Error>
+        requires fresh { range_inclusive_exhausted versions ≡ false }
+        requires some { (range_inclusive_start versions).0 ≤ (range_inclusive_end versions).0 }
+        ensures answer { ExclusiveAnswer self.old self.new partition.now name.now (range_inclusive_start versions).0 (range_inclusive_end versions).0 R.stream (names_of registry.old) (refused result) }
+        ensures registered { OnOk result (names_of registry.new ≡ opened (names_of registry.old) partition.now name.now) }
+        ensures err { OnErr result (names_of registry.new ≡ names_of registry.old) }
+        ensures handle { IfOk result (λ opened. registration_of opened.0 ≡ record { partition = partition.now; name = name.now; number = (names_of registry.old).next }) }
+        ensures opened { IfOk result (λ opened. IsOpened (directory (inner_of self.old)) (durable (inner_of self.old)) (directory (inner_of self.new)) (durable (inner_of self.new)) partition.now name.now (range_inclusive_start versions).0 (range_inclusive_end versions).0 (place (inside (handle_of opened.0))) (live (inside (handle_of opened.0))) opened.2.0) }
+        ensures size { IfOk result (λ opened. opened.1 ≡ length (live (inside (handle_of opened.0)))) }
+        ensures tracked { IfOk result (λ opened. size_of (handle_of opened.0) ≡ opened.1) }
+        ensures files { OnOk result (OpensAdmitted self.old self.new partition.now name.now (range_inclusive_start versions).0 (range_inclusive_end versions).0) }
+
+        // what it finds is kept, and begins with what was kept; what was kept of any blob still is
+        ensures fixed { IfOk result (λ opened. (files : Files) → IsFor self.old files → Keeps self.new (place (inside (handle_of opened.0))) (live (inside (handle_of opened.0)))) }
+        ensures found { IfOk result (λ opened. (o : Place) (bytes : List ℕ) → IsNamed o partition.now name.now → Keeps self.old o bytes → (place (inside (handle_of opened.0)) ≡ o) × BeginsWith bytes (live (inside (handle_of opened.0)))) }
+        ensures keeps { (o : Place) (bytes : List ℕ) → Keeps self.old o bytes → Keeps self.new o bytes }
+    {
+        opens::<blob_memory::Storage, R>();
+        numbers_are_given::<blob_memory::Storage>();
+        let opened = registry.open(self, partition, name, versions)?;
+        let _ = self.admit(partition, name);
+        Ok(opened)
+    }
+}
