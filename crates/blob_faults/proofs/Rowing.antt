@@ -1,5 +1,5 @@
 -- The rows of a crash: which writes they are of, and how they are found.
-use Rattle.std.proofs.Common.{◌≡◌, ◌≢◌, ◌⊎◌, inl, inr, ⊎_elim, ℕ, zero, suc, ◌<◌, ◌≤◌, Bool, ltb, ltb-true, ltb-false, List, [], ◌∷◌, ◌++◌, length, get_or, refl, sym, ◌∙◌, ap, subst, arith, eqb, Vec}
+use Rattle.std.proofs.Common.{◌-◌, ◌≡◌, ◌≢◌, ◌⊎◌, inl, inr, ⊎_elim, ℕ, zero, suc, ◌<◌, ◌≤◌, Bool, ltb, ltb-true, ltb-false, List, [], ◌∷◌, ◌++◌, length, get_or, refl, sym, ◌∙◌, ap, subst, arith, eqb, Vec}
 use Rattle.std.specs.Prelude.{map}
 use Rattle.std.specs.Global.{Global}
 use Rattle.std.specs.List.Sorted.{IsPermutation, IsNonDecreasingBy, IsNonDecreasing}
@@ -99,3 +99,16 @@ row_other rows number i x up h e isnt below above = row_past rows number i below
 
     past : (k : ℕ) (d : ℕ × Vec Bool Global) → i ≤ k → k < length rows → number ≤ (get_or rows i x).0 → number < (get_or rows k d).0
     past k d a l least = omega (arith, first, isnt, least, up i k x a l, ap (λ (y : ℕ × Vec Bool Global). y.0) (get_or_default rows k x d l))
+
+-- a row that was found by its place
+pub first_at : (rows : List (ℕ × Vec Bool Global)) (number i : ℕ) → AreNumbered rows → i < length rows → ((d : ℕ × Vec Bool Global) → (get_or rows i d).0 ≡ number) → ((d : ℕ × Vec Bool Global) → (get_or rows (i - 1) d).0 ≢ number) →
+    (k : ℕ) (d : ℕ × Vec Bool Global) → k < i → (get_or rows k d).0 < number
+first_at rows number i up h here before k d l =
+    let mine : (get_or rows i d).0 ≡ number = here d in
+    let other : (get_or rows (i - 1) d).0 ≢ number = before d in
+    omega (arith, mine, other, up k (i - 1) d (omega arith) (omega arith), up (i - 1) i d (omega arith) h)
+
+pub row_here : (rows : List (ℕ × Vec Bool Global)) (number i : ℕ) (x : List Bool) → i < length rows → ((d : ℕ × Vec Bool Global) → x ≡ (get_or rows i d).1.items) → ((d : ℕ × Vec Bool Global) → (get_or rows i d).0 ≡ number) →
+    ((k : ℕ) (d : ℕ × Vec Bool Global) → k < i → (get_or rows k d).0 < number) → x ≡ row_of (rows_in rows) number
+row_here [] number i x h row is below = absurd (omega arith)
+row_here (r ∷ rows) number i x h row is below = row r ∙ row_at (r ∷ rows) number i (get_or (r ∷ rows) i r) h (get_or_default (r ∷ rows) i r (get_or (r ∷ rows) i r) h) below (is r)

@@ -1,5 +1,7 @@
 //! The rows of a crash: drawn one after the other, and found again by number.
-ghost use Rattle.std.specs.Prelude.{◌≡◌, IfOk};
+ghost use Rattle.std.specs.Prelude.{◌≡◌, ◌<◌, ℕ, Bool, length, slice_index_or, IfOk, IfSome};
+ghost use Rattle.std.specs.declared.vec.Vec.{Vec};
+ghost use Rattle.std.specs.declared.alloc.Global.{Global};
 ghost use Rattle.blob_model.specs.Draws.{row_of};
 ghost use Rattle.blob_faults.specs.Drawings.{drawings_in, rows_drawn};
 ghost use Rattle.blob_faults.specs.Rows.{rows_in, AreNumbered};
@@ -25,8 +27,55 @@ pub fn draw_rows<R: Rng>(
     Ok(rows)
 }
 
-/// The choices of the write with this number, none where it has no row.
-pub fn choices_in(rows: &[(u64, Vec<bool>)], number: u64) -> &[bool]
+/// The number of a row.
+fn number_at(rows: &[(u64, Vec<bool>)], i: usize) -> u64
+    requires { i < length rows.now }
+    ensures { (d : ℕ × Vec Bool Global) → result ≡ (slice_index_or rows.now i d).0 }
+{
+    let row = &rows[i];
+    row.0
+}
+
+/// The choices of a row.
+fn choices_at(rows: &[(u64, Vec<bool>)], i: usize) -> &[bool]
+    requires { i < length rows.now }
+    ensures { (d : ℕ × Vec Bool Global) → result.now ≡ (slice_index_or rows.now i d).1.items }
+{
+    let row = &rows[i];
+    row.1.as_slice()
+}
+
+/// Where the first row of a number is, if the numbers from the first row on follow one another, as they mostly do.
+fn guess(rows: &[(u64, Vec<bool>)], number: u64) -> Option<usize>
+    requires { AreNumbered rows.now }
+    ensures inside { IfSome result (λ i. i < length rows.now) }
+    ensures here { IfSome result (λ i. (d : ℕ × Vec Bool Global) → (slice_index_or rows.now i d).0 ≡ number) }
+    ensures below { IfSome result (λ i. (k : ℕ) (d : ℕ × Vec Bool Global) → k < i → (slice_index_or rows.now k d).0 < number) }
+{
+    if rows.is_empty() {
+        return None;
+    }
+    let first = number_at(rows, 0);
+    if number < first || number - first >= rows.len() as u64 {
+        return None;
+    }
+    let i = (number - first) as usize;
+    let here = number_at(rows, i);
+    if here != number {
+        return None;
+    }
+    if i == 0 {
+        return Some(i);
+    }
+    let before = number_at(rows, i - 1);
+    if before == number {
+        return None;
+    }
+    Some(i)
+}
+
+/// The choices of the write with this number by halving, none where it has no row.
+fn search_choices(rows: &[(u64, Vec<bool>)], number: u64) -> &[bool]
     requires { AreNumbered rows.now }
     ensures { result.now ≡ row_of (rows_in rows.now) number }
 {
@@ -39,4 +88,15 @@ pub fn choices_in(rows: &[(u64, Vec<bool>)], number: u64) -> &[bool]
         return &[];
     }
     row.1.as_slice()
+}
+
+/// The choices of the write with this number, none where it has no row.
+pub fn choices_in(rows: &[(u64, Vec<bool>)], number: u64) -> &[bool]
+    requires { AreNumbered rows.now }
+    ensures { result.now ≡ row_of (rows_in rows.now) number }
+{
+    match guess(rows, number) {
+        Some(i) => choices_at(rows, i),
+        None => search_choices(rows, number),
+    }
 }

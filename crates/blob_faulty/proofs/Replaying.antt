@@ -1,9 +1,9 @@
 -- The replays of a crash, entry by entry and list by list.
-use Rattle.std.proofs.Common.{◌≡◌, ⊎_elim, ℕ, zero, suc, ◌+◌, ◌-◌, ◌<◌, ◌≤◌, max, min, Bool, true, false, cond, not, ◌&&◌, ◌||◌, List, [], ◌∷◌, length, get_or, set, drop, replicate, Option, Some, None, Vec, Global, refl, sym, ◌∙◌, ap, ap₂, subst, arith, true≢false, nat_lt}
+use Rattle.std.proofs.Common.{◌≡◌, ⊎_elim, ℕ, zero, suc, ◌+◌, ◌-◌, ◌<◌, ◌≤◌, max, min, Bool, true, false, cond, not, ◌&&◌, ◌||◌, List, [], ◌∷◌, length, get_or, set, drop, replicate, Option, Some, None, Vec, Global, refl, sym, ◌∙◌, ap, ap₂, subst, arith, true≢false, nat_lt, take, ◌++◌}
 use Rattle.std.specs.Prelude.{option_map, is_some, nat_le, Result, Ok, OnOk}
-use Rattle.std.proofs.lemmas.Bool.{cases_Bool, cases_eq, cond-true, cond-false, and_parts, leb-true, ltb-true, le-leb, lt-ltb}
+use Rattle.std.proofs.lemmas.Bool.{cases_Bool, cases_eq, cond-true, cond-false, and_parts, leb-true, ltb-true, le-leb, lt-ltb, cases_lt}
 use Rattle.std.proofs.lemmas.Bool.Decides.{nat_tests}
-use Rattle.std.proofs.lemmas.List.{get_or-replicate, get_or-set_same, get_or-set_other, get_or_default, at_drop_more}
+use Rattle.std.proofs.lemmas.List.{get_or-replicate, get_or-set_same, get_or-set_other, get_or_default, at_drop_more, length-take, take_all, get_or_append_left, get_or-take, get_or-append_right, get_or_past}
 use Rattle.blob_model.specs.Bytes.{overlay_by, overlay, between, reach}
 use Rattle.blob_model.specs.Directory.{Directory, is_current}
 use Rattle.blob_model.specs.Durable.{Durable, changed}
@@ -183,3 +183,13 @@ ready_more s s' is i x h e same room before here k d l = ⊎_elim
 -- one list further
 pub held_more : (is : List (Incarnation Place)) (i : ℕ) (x : Incarnation Place) → i < length is → x ≡ get_or is i x → held (λ (o : Place). o) (drop i is) ≡ held_by (λ (o : Place). o) x ∷ held (λ (o : Place). o) (drop (i + 1) is)
 held_more is i x h e = at_drop_more (λ (l : List (Incarnation Place)). held (λ (o : Place). o) l) is i x h ∙ ap (λ (y : Incarnation Place). held_by (λ (o : Place). o) y ∷ held (λ (o : Place). o) (drop (i + 1) is)) (sym e)
+
+-- the front of a row, and nothing behind it
+pub padded : (row xs ys : List Bool) (count len : ℕ) → count ≡ min (length row) len → xs ≡ take count row → ys ≡ take len xs ++ replicate (len - length xs) false → (i : ℕ) → i < len → get_or ys i false ≡ get_or row i false
+padded row xs ys count len are front all i h =
+    let short : length xs ≡ count = omega (arith, ap (λ (x : List Bool). length x) front, length-take count row, are) in
+    let same : ys ≡ xs ++ replicate (len - length xs) false = all ∙ ap (λ (x : List Bool). x ++ replicate (len - length xs) false) (take_all len xs (omega (arith, short, are))) in
+    ap (λ (x : List Bool). get_or x i false) same ∙ ⊎_elim
+    (λ near. get_or_append_left xs (replicate (len - length xs) false) false i (omega (arith, near, short)) ∙ ap (λ (x : List Bool). get_or x i false) front ∙ get_or-take count row i false near)
+    (λ past. get_or-append_right xs (replicate (len - length xs) false) count i false short past ∙ get_or-replicate (len - length xs) (i - count) false false (omega (arith, short, past, h)) ∙ sym (get_or_past row i false (omega (arith, past, are, h))))
+    (cases_lt i count)

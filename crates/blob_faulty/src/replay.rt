@@ -33,10 +33,10 @@ fn put_row(chosen: &mut Vec<bool>, row: &[bool], len: usize)
     ensures each { (i : ℕ) → i < len → slice_index_or chosen.new.items i false ≡ slice_index_or row.now i false }
     ensures capacity { vec_capacity chosen.old ≤ vec_capacity chosen.new }
 {
+    let count = row.len().min(len);
     chosen.clear();
-    for i in 0..len {
-        chosen.push(i < row.len() && row[i]).unwrap();
-    }
+    chosen.extend_from_slice(&row[..count]).unwrap();
+    chosen.resize(len, false).unwrap();
 }
 
 /// All of so many bytes.
@@ -46,10 +46,7 @@ fn put_all(chosen: &mut Vec<bool>, len: usize)
     ensures capacity { vec_capacity chosen.old ≤ vec_capacity chosen.new }
 {
     chosen.clear();
-    for i in 0..len {
-        let _ = i;
-        chosen.push(true).unwrap();
-    }
+    chosen.resize(len, true).unwrap();
 }
 
 /// Nothing that a hole covers is chosen of the bytes at `offset`.
