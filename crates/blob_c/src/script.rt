@@ -1,10 +1,10 @@
 // A whole script at once.
-ghost use Rattle.std.specs.Prelude.{◌≡◌, ◌⊎◌, ◌<◌, Some, [], take, length};
+ghost use Rattle.std.specs.Prelude.{◌≡◌, ◌⊎◌, ◌<◌, ℕ, Some, [], take, length};
 ghost use Rattle.blob_lab.specs.Scripts.{Prints, PrintsBefore, no_script, lines_of, script_of};
 
 use crate::ran::{BAD_LINE, DONE, ENDLESS, NO_MEMORY, NO_ROOM, ScriptRan};
-use blob_lab::Ending;
 use blob_lab::run_script::run_script;
+use blob_lab::{Ending, Input, Output};
 use std::alloc::Global;
 
 /// Runs a script, and copies what it prints where there is room for it. Where there is none, `len` says how much is wanted.
@@ -14,9 +14,7 @@ pub(crate) fn run(alloc: Global, script: &[u8], replies: &mut [u8]) -> ScriptRan
     ensures no_room { result.status ≡ NO_ROOM → length replies.old < result.len }
     ensures unwritten { (result.status ≡ DONE) ⊎ (result.status ≡ BAD_LINE) ⊎ (replies.new ≡ replies.old) }
 {
-    let mut reader = script;
-    let mut printed = Vec::new(alloc);
-    let ending = run_script(alloc, &mut reader, &mut printed);
+    let (ending, printed) = printed_by(alloc, script);
     let (status, line) = match ending {
         Ending::Done => (DONE, 0),
         Ending::BadCall(line) => (BAD_LINE, line),
@@ -34,4 +32,15 @@ pub(crate) fn run(alloc: Global, script: &[u8], replies: &mut [u8]) -> ScriptRan
     }
     replies[..len].copy_from_slice(&printed);
     ScriptRan { status, len, line }
+}
+
+/// How a script ends, and what it prints.
+fn printed_by(alloc: Global, script: &[u8]) -> (Ending, Vec<u8>)
+    ensures done { result.0 ≡ Ending.Done → Prints (script_of (lines_of script.now)) (Some []) (Some result.1.items) }
+    ensures bad_call { (number : ℕ) → result.0 ≡ Ending.BadCall number → PrintsBefore no_script 1 number (lines_of script.now) (Some []) (Some result.1.items) }
+{
+    let mut input = Input::new(script);
+    let mut output = Output::new(Vec::new(alloc));
+    let ending = run_script(alloc, &mut input, &mut output);
+    (ending, output.into_writer())
 }

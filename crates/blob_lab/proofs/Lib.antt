@@ -1,6 +1,9 @@
 pub mod Reading
+pub mod ResolvedLines
+pub mod ScriptEnds
 pub mod ScriptLines
 pub mod ScriptRuns
 pub mod ScriptStarts
 pub mod ScriptSteps
+pub mod StreamSteps
 pub mod WorkedScripts

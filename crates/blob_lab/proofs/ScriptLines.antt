@@ -1,11 +1,13 @@
 -- The lines of an input from the front on.
-use Rattle.std.proofs.Common.{◌≡◌, ℕ, suc, ◌==◌, List, [], ◌∷◌, ◌++◌, Bool, true, false, Option, Some, None, IfSome, length, take, get_or, refl, sym, ap, ◌∙◌, cond, arith}
+use Rattle.std.proofs.Common.{◌≡◌, ◌≢◌, ℕ, suc, ◌==◌, List, [], ◌∷◌, ◌++◌, All, Bool, true, false, Option, Some, None, IfSome, length, take, drop, get_or, inl, inr, refl, sym, ap, ◌∙◌, subst, cond, arith}
 use Rattle.std.proofs.Math.Numerals.{sub-one}
-use Rattle.std.proofs.lemmas.Bool.{lt-ltb}
+use Rattle.std.proofs.lemmas.Bool.{eqb-true, lt-ltb}
 use Rattle.std.specs.Io.BufRead.{DropsThrough, take_through, drop_through, strip_last, first_piece}
+use Rattle.std.specs.Io.{StopsAt}
+use Rattle.std.specs.Io.KnownBytes.{Consumes}
 use Rattle.blob_calls.specs.Lines.{Said, line_of}
-use Rattle.blob_lab.specs.ScriptReading.{OfLines, TakesLine}
-use Rattle.blob_lab.specs.Scripts.{with_byte, lines_of}
+use Rattle.blob_lab.specs.ScriptReading.{TakesLine}
+use Rattle.blob_lab.specs.Scripts.{OfLines, TakesOne, behind_part, with_byte, lines_of}
 
 strip_cons : (x y : ℕ) (ys : List ℕ) → strip_last 10 (x ∷ y ∷ ys) ≡ x ∷ strip_last 10 (y ∷ ys)
 strip_cons x y ys = simp (sub-one, lt-ltb 0 (suc (suc (length ys))) (omega arith), lt-ltb 0 (suc (length ys)) (omega arith))
@@ -43,3 +45,38 @@ takes_line (Some (b ∷ bs)) (Some ys) kept buf line said none bytes drops some 
     let left : ys ≡ drop_through 10 (b ∷ bs) = cc drops in
     let first = is ∙ ap (strip_last 10) (bytes ∙ ap (λ l. l ++ take_through 10 (b ∷ bs)) none) in
     (line, lines_cons b bs ∙ ap (λ l. l ∷ lines_of (drop_through 10 (b ∷ bs))) (sym first) ∙ ap (λ zs. line ∷ lines_of zs) (sym left), says)
+
+-- A line that was begun.
+
+pub part_nil : (lines : List (List ℕ)) → lines ≡ behind_part [] lines
+part_nil [] = refl
+part_nil (line ∷ lines) = refl
+
+one_byte_more : (b : ℕ) (lines left : List (List ℕ)) → TakesOne lines left → TakesOne (with_byte b lines) left
+one_byte_more b lines left (inl (line, e)) = inl (b ∷ line, ap (with_byte b) e)
+one_byte_more b lines [] (inr (part, e)) = inl (b ∷ [], ap (with_byte b) e)
+one_byte_more b lines (line ∷ left) (inr (part, e)) = inr (b ∷ part, ap (with_byte b) e)
+
+begun_with : (b : ℕ) (bs : List ℕ) (left : List (List ℕ)) (test : Bool) → (b == 10) ≡ test → (test ≡ true → lines_of bs ≡ left) → (test ≡ false → TakesOne (lines_of bs) left) → TakesOne (lines_of (b ∷ bs)) left
+begun_with b bs left true h last more = inl ([], ap (λ t. cond t ([] ∷ lines_of bs) (with_byte b (lines_of bs))) h ∙ ap (λ l. [] ∷ l) (last refl))
+begun_with b bs left false h last more = subst (λ lines. TakesOne lines left) (ap (λ t. cond t ([] ∷ lines_of bs) (with_byte b (lines_of bs))) (sym h)) (one_byte_more b (lines_of bs) left (more refl))
+
+-- the bytes of one line at most stand before those that are left
+begun : (hand left : List ℕ) → StopsAt hand 10 → TakesOne (lines_of (hand ++ left)) (lines_of left)
+begun [] left one = inr ([], part_nil (lines_of left))
+begun (b ∷ []) left one = begun_with b left (lines_of left) (b == 10) refl (λ _. refl) (λ _. inr ([], part_nil (lines_of left)))
+begun (b ∷ c ∷ cs) left one =
+    let all : All (λ x. x ≢ 10) (take (suc (length cs)) (b ∷ c ∷ cs)) = subst (λ n. All (λ x. x ≢ 10) (take n (b ∷ c ∷ cs))) (sub-one (suc (suc (length cs)))) one in
+    let later : StopsAt (c ∷ cs) 10 = subst (λ n. All (λ x. x ≢ 10) (take n (c ∷ cs))) (sym (sub-one (suc (length cs)))) (λ k d lt. all (suc k) d (omega arith)) in
+    begun_with b (c ∷ cs ++ left) (lines_of left) (b == 10) refl (λ is. absurd (all 0 0 (omega arith) (eqb-true b 10 is))) (λ _. begun (c ∷ cs) left later)
+
+pub takes_one : (old new : Option (List ℕ)) (kept buf : List ℕ) → kept ≡ [] → StopsAt (drop (length kept) buf) 10 → Consumes old new (drop (length kept) buf) → OfLines old new TakesOne
+takes_one None new kept buf none one is = tt
+takes_one (Some xs) None kept buf none one is = absurd is
+takes_one (Some xs) (Some ys) kept buf none one is = subst (λ bytes. TakesOne (lines_of bytes) (lines_of ys)) (sym is) (begun (drop (length kept) buf) ys one)
+
+-- one line was taken
+pub taken_whole : (old new : Option (List ℕ)) (said : Option Said) → OfLines old new (TakesLine said) → OfLines old new TakesOne
+taken_whole None new said taken = tt
+taken_whole (Some xs) None said taken = absurd taken
+taken_whole (Some xs) (Some ys) said (line, is, says) = inl (line, is)

@@ -1,8 +1,9 @@
 -- A script from its first line on.
-use Rattle.std.proofs.Common.{◌≡◌, ℕ, ◌+◌, List, [], ◌∷◌, ◌++◌, Option, Some, None, IfSome, length, refl, sym, ap, ◌∙◌, subst, append_assoc, arith}
-use Rattle.std.proofs.KnownBytes.{Appends-nil}
+use Rattle.std.proofs.Common.{◌≡◌, ℕ, ◌+◌, List, [], ◌∷◌, ◌++◌, Option, Some, None, IfSome, length, inl, refl, sym, ap, ◌∙◌, subst, append_assoc, arith}
+use Rattle.std.proofs.KnownBytes.{Appends-kept, Appends-nil}
 use Rattle.std.proofs.Math.ListN.{length-append}
 use Rattle.std.specs.Io.Iter.{u64_saturate}
+use Rattle.std.specs.Io.KnownBytes.{Keeps}
 use Rattle.blob_faults.specs.declared.config.Config.{Config}
 use Rattle.blob_lab.specs.declared.ending.Ending.{Ending}
 use Rattle.blob_lab.specs.declared.ending.Ending.TheVariants.{Done, InputFailed, OutputFailed, BadCall, BadImage, Usage, NoMemory}
@@ -10,13 +11,13 @@ use Rattle.blob_laboratory.specs.declared.lab.Lab.{Lab}
 use Rattle.blob_lab.specs.declared.run_script.lines.Preamble.{Preamble}
 use Rattle.blob_calls.specs.Acts.{Act}
 use Rattle.blob_laboratory.specs.LabStands.{StandsFor}
-use Rattle.blob_lab.specs.ScriptReading.{OfLines, TakesCall, TakesBadCall, Begins, preamble_of}
-use Rattle.blob_lab.specs.Scripts.{Script, IsPrinted, Prints, PrintsFront, PrintsBefore, PrintsUpTo, lines_of, no_script, script_of, with_lines}
+use Rattle.blob_lab.specs.ScriptReading.{TakesCall, TakesBadCall, TakesPart, Begins, preamble_of}
+use Rattle.blob_lab.specs.Scripts.{OfLines, Script, IsPrinted, Prints, PrintsTaken, PrintsBefore, PrintsUpTo, lines_of, no_script, script_of, with_lines}
 use Rattle.blob_states.specs.Scripted.{only}
 use Rattle.blob_calls.specs.Settings.{cleared}
 use Rattle.blob_states.specs.States.{start}
 use Rattle.blob_laboratory.specs.Tables.{images_of}
-use Rattle.blob_lab.proofs.ScriptRuns.{unsaid}
+use Rattle.blob_lab.proofs.ScriptRuns.{kept_Appends, part_of_taken}
 use Rattle.blob_lab.proofs.ScriptSteps.{more_lines, one_line}
 
 pub empty_preamble : (p : Preamble) (config : Config) → p.images.items ≡ [] → p.words.items ≡ [] → p.seed ≡ None → config ≡ cleared → preamble_of p config ≡ no_script
@@ -31,91 +32,138 @@ empty_preamble p config images words seed same =
 none_printed : (t : Script) → t.calls ≡ [] → IsPrinted t []
 none_printed t none = (start t.images t.words cleared, record { calls = []; replies = []; are = sym none; run = refl; lines = refl })
 
-nothing : (o : Option Script) (t : Script) (old : Option (List ℕ)) → o ≡ Some t → t.calls ≡ [] → Prints o old old
-nothing o t old is none = record { of = t; is = is; printed = []; prints = none_printed t none; added = Appends-nil old }
-
-no_line_read : (lines : List (List ℕ)) (old : Option (List ℕ)) → PrintsFront no_script lines old old
-no_line_read lines old = record { front = []; rest = lines; parts = refl; prints = nothing (Some no_script) no_script old refl refl }
-
-pub no_laboratory : (a old : Option (List ℕ)) → IfSome a (λ input. PrintsFront no_script (lines_of input) old old)
-no_laboratory None old = tt
-no_laboratory (Some xs) old = no_line_read (lines_of xs) old
+nothing : (o : Option Script) (t : Script) (old new : Option (List ℕ)) → Keeps old new → o ≡ Some t → t.calls ≡ [] → Prints o old new
+nothing o t old new kept is none = record { of = t; is = is; printed = []; prints = none_printed t none; added = Appends-kept old old new [] (Appends-nil old) kept }
 
 -- Lines before those that were printed of.
 
-front_behind : (s t : Script) (front all rest : List (List ℕ)) (old new : Option (List ℕ)) → all ≡ front ++ rest → with_lines s front ≡ Some t → PrintsFront t rest old new → PrintsFront s all old new
-front_behind s t front all rest old new parts makes p = record {
-  front = front ++ p.front;
-  rest = p.rest;
-  parts = parts ∙ ap (λ l. front ++ l) p.parts ∙ sym (append_assoc front p.front p.rest);
-  prints = subst (λ (o : Option Script). Prints o old new) (sym (more_lines s t front p.front makes)) p.prints;
-}
+prints_kept : (o : Option Script) (old mid new : Option (List ℕ)) → Keeps old mid → Prints o mid new → Prints o old new
+prints_kept o old mid new kept p = record { of = p.of; is = p.is; printed = p.printed; prints = p.prints; added = kept_Appends old mid new p.printed kept p.added }
 
-pub behind : (ending : Ending) (s t : Script) (first n : ℕ) (front all rest : List (List ℕ)) (old new : Option (List ℕ)) → all ≡ front ++ rest → with_lines s front ≡ Some t → n ≡ u64_saturate (first + length front)
-    → PrintsUpTo ending t n rest old new → PrintsUpTo ending s first all old new
-behind (BadCall number) s t first n front all rest old new parts makes counted p = record {
-  front = front ++ p.front;
-  bad = p.bad;
-  rest = p.rest;
-  parts = parts ∙ ap (λ l. front ++ l) p.parts ∙ sym (append_assoc front p.front (p.bad ∷ p.rest));
-  numbered = rw (length-append front p.front) (omega (arith, counted, p.numbered));
-  refused = ap (with_lines s) (append_assoc front p.front (p.bad ∷ [])) ∙ more_lines s t front (p.front ++ p.bad ∷ []) makes ∙ p.refused;
-  prints = subst (λ (o : Option Script). Prints o old new) (sym (more_lines s t front p.front makes)) p.prints;
-}
-behind InputFailed s t first n front all rest old new parts makes counted p = front_behind s t front all rest old new parts makes p
-behind NoMemory s t first n front all rest old new parts makes counted p = front_behind s t front all rest old new parts makes p
-behind Done s t first n front all rest old new parts makes counted p = tt
-behind OutputFailed s t first n front all rest old new parts makes counted p = tt
-behind BadImage s t first n front all rest old new parts makes counted p = tt
-behind Usage s t first n front all rest old new parts makes counted p = tt
+module _ (s t : Script) (front all rest left : List (List ℕ)) (old mid : Option (List ℕ)) (kept : Keeps old mid) (parts : all ≡ front ++ rest) (makes : with_lines s front ≡ Some t) where
+  prints_behind : (more : List (List ℕ)) (new : Option (List ℕ)) → Prints (with_lines t more) mid new → Prints (with_lines s (front ++ more)) old new
+  prints_behind more new p = subst (λ (o : Option Script). Prints o old new) (sym (more_lines s t front more makes)) (prints_kept (with_lines t more) old mid new kept p)
 
--- a is what was left at the start, b behind the lines that the first call ends; they made t of s, a script of no line, and the first has the number `first`
-module _ (s : Script) (same : s ≡ no_script) (first : ℕ) (one : first ≡ 1) (t : Script) (none : t.calls ≡ []) (old : Option (List ℕ)) where
-  pub no_call : (a b : Option (List ℕ)) → OfLines a b (λ lines _. with_lines s lines ≡ Some t) → IfSome a (λ input. Prints (script_of (lines_of input)) old old)
+  taken_behind : (new : Option (List ℕ)) → PrintsTaken t rest left mid new → PrintsTaken s all left old new
+  taken_behind new p = record {
+    front = front ++ p.front;
+    rest = p.rest;
+    parts = parts ∙ ap (λ l. front ++ l) p.parts ∙ sym (append_assoc front p.front p.rest);
+    in_hand = p.in_hand;
+    prints = prints_behind p.front new p.prints;
+  }
+
+  pub behind : (ending : Ending) (first n : ℕ) (new : Option (List ℕ)) → n ≡ u64_saturate (first + length front) → PrintsUpTo ending t n rest left mid new → PrintsUpTo ending s first all left old new
+  behind (BadCall number) first n new counted (p, is) = (
+    record {
+      front = front ++ p.front;
+      bad = p.bad;
+      rest = p.rest;
+      parts = parts ∙ ap (λ l. front ++ l) p.parts ∙ sym (append_assoc front p.front (p.bad ∷ p.rest));
+      numbered = rw (length-append front p.front) (omega (arith, counted, p.numbered));
+      refused = ap (with_lines s) (append_assoc front p.front (p.bad ∷ [])) ∙ more_lines s t front (p.front ++ p.bad ∷ []) makes ∙ p.refused;
+      prints = prints_behind p.front new p.prints;
+    },
+    is,
+  )
+  behind InputFailed first n new counted p = taken_behind new p
+  behind NoMemory first n new counted p = taken_behind new p
+  behind OutputFailed first n new counted p = record {
+    front = front ++ p.front;
+    rest = p.rest;
+    parts = parts ∙ ap (λ l. front ++ l) p.parts ∙ sym (append_assoc front p.front p.rest);
+    in_hand = p.in_hand;
+    of = p.of;
+    is = more_lines s t front p.front makes ∙ p.is;
+    written = p.written;
+    unwritten = p.unwritten;
+    prints = p.prints;
+    added = kept_Appends old mid new p.written kept p.added;
+  }
+  behind Done first n new counted p = tt
+  behind BadImage first n new counted p = tt
+  behind Usage first n new counted p = tt
+
+-- a is what was left at the start, b behind the lines that the first call ends; they made t of s, a script of no line, and the first has the number `first`; nothing was printed
+module _ (s : Script) (same : s ≡ no_script) (first : ℕ) (one : first ≡ 1) (t : Script) (none : t.calls ≡ []) (old mid : Option (List ℕ)) (kept : Keeps old mid) where
+  pub no_call : (a b : Option (List ℕ)) → OfLines a b (λ lines _. with_lines s lines ≡ Some t) → IfSome a (λ input. Prints (script_of (lines_of input)) old mid)
   no_call None b over = tt
   no_call (Some xs) None over = absurd over
-  no_call (Some xs) (Some ys) over = nothing (script_of (lines_of xs)) t old (ap (λ u. with_lines u (lines_of xs)) (sym same) ∙ over) none
+  no_call (Some xs) (Some ys) over = nothing (script_of (lines_of xs)) t old mid kept (ap (λ u. with_lines u (lines_of xs)) (sym same) ∙ over) none
 
-  bad_first : (number : ℕ) (a b : Option (List ℕ)) → OfLines a b (TakesBadCall s t first number) → IfSome a (λ input. PrintsBefore no_script 1 number (lines_of input) old old)
-  bad_first number None b bad = tt
-  bad_first number (Some xs) None bad = absurd bad
-  bad_first number (Some xs) (Some ys) bad =
-      let made : with_lines no_script bad.front ≡ Some t = ap (λ u. with_lines u bad.front) (sym same) ∙ bad.makes in
-      record {
-        front = bad.front;
-        bad = bad.bad;
-        rest = lines_of ys;
-        parts = bad.parts;
-        numbered = bad.numbered ∙ ap (λ n. u64_saturate (n + length bad.front)) one;
-        refused = more_lines no_script t bad.front (bad.bad ∷ []) made ∙ one_line t bad.bad ∙ bad.refused;
-        prints = nothing (with_lines no_script bad.front) t old made none;
-      }
+  bad_first : (number : ℕ) (lines left : List (List ℕ)) → TakesBadCall s t first number lines left → (before : PrintsBefore no_script 1 number lines old mid) × (before.rest ≡ left)
+  bad_first number lines left bad =
+      let made : with_lines no_script bad.front ≡ Some t = ap (λ u. with_lines u bad.front) (sym same) ∙ bad.makes in (
+        record {
+          front = bad.front;
+          bad = bad.bad;
+          rest = left;
+          parts = bad.parts;
+          numbered = bad.numbered ∙ ap (λ n. u64_saturate (n + length bad.front)) one;
+          refused = more_lines no_script t bad.front (bad.bad ∷ []) made ∙ one_line t bad.bad ∙ bad.refused;
+          prints = nothing (with_lines no_script bad.front) t old mid kept made none;
+        },
+        refl,
+      )
 
-  pub no_first : (ending : Ending) (a b : Option (List ℕ)) → ((number : ℕ) → ending ≡ BadCall number → OfLines a b (TakesBadCall s t first number)) → IfSome a (λ input. PrintsUpTo ending no_script 1 (lines_of input) old old)
-  no_first (BadCall number) a b bad = bad_first number a b (bad number refl)
-  no_first InputFailed a b bad = no_laboratory a old
-  no_first NoMemory a b bad = no_laboratory a old
-  no_first Done a b bad = unsaid a
-  no_first OutputFailed a b bad = unsaid a
-  no_first BadImage a b bad = unsaid a
-  no_first Usage a b bad = unsaid a
+  -- a laboratory wasn't made
+  pub no_laboratory : (n : ℕ) (act : Act) (config : Config) (a b : Option (List ℕ)) → OfLines a b (TakesCall s t first n act config) → OfLines a b (λ lines left. PrintsTaken no_script lines left old mid)
+  no_laboratory n act config None b call = tt
+  no_laboratory n act config (Some xs) None call = absurd call
+  no_laboratory n act config (Some xs) (Some ys) call = record {
+    front = call.front;
+    rest = call.line ∷ lines_of ys;
+    parts = call.parts;
+    in_hand = inl (call.line, refl);
+    prints = nothing (with_lines no_script call.front) t old mid kept (ap (λ u. with_lines u call.front) (sym same) ∙ call.makes) none;
+  }
 
   module _ (n : ℕ) (act : Act) (config : Config) (lab : Lab) (stands : StandsFor lab (start t.images t.words cleared)) (new : Option (List ℕ)) where
     pub all_lines : (a b : Option (List ℕ)) → OfLines a b (TakesCall s t first n act config)
-        → ((s : Script) (line : List ℕ) → Begins lab s line act config → IfSome b (λ input. Prints (with_lines s (line ∷ lines_of input)) old new)) → IfSome a (λ input. Prints (script_of (lines_of input)) old new)
+        → ((s : Script) (line : List ℕ) → Begins lab s line act config → IfSome b (λ input. Prints (with_lines s (line ∷ lines_of input)) mid new)) → IfSome a (λ input. Prints (script_of (lines_of input)) old new)
     all_lines None b call prints = tt
     all_lines (Some xs) None call prints = absurd call
     all_lines (Some xs) (Some ys) call prints =
         let made : with_lines no_script call.front ≡ Some t = ap (λ u. with_lines u call.front) (sym same) ∙ call.makes in
-        subst (λ (o : Option Script). Prints o old new)
+        prints_kept (script_of (lines_of xs)) old mid new kept
+        (subst (λ (o : Option Script). Prints o mid new)
         (sym (ap script_of call.parts ∙ more_lines no_script t call.front (call.line ∷ lines_of ys) made))
-        (prints t call.line (record { none = none; adds = call.adds; stands = stands }))
+        (prints t call.line (record { none = none; adds = call.adds; stands = stands })))
 
-    pub front_lines : (ending : Ending) (a b : Option (List ℕ)) → OfLines a b (TakesCall s t first n act config)
-        → ((s : Script) (line : List ℕ) → Begins lab s line act config → IfSome b (λ input. PrintsUpTo ending s n (line ∷ lines_of input) old new)) → IfSome a (λ input. PrintsUpTo ending no_script 1 (lines_of input) old new)
-    front_lines ending None b call prints = tt
-    front_lines ending (Some xs) None call prints = absurd call
-    front_lines ending (Some xs) (Some ys) call prints =
-        behind ending no_script t 1 n call.front (lines_of xs) (call.line ∷ lines_of ys) old new call.parts (ap (λ u. with_lines u call.front) (sym same) ∙ call.makes)
+    pub front_lines : (ending : Ending) (a b c : Option (List ℕ)) → OfLines a b (TakesCall s t first n act config)
+        → ((s : Script) (line : List ℕ) → Begins lab s line act config → OfLines b c (λ all left. PrintsUpTo ending s n (line ∷ all) left mid new)) → OfLines a c (λ lines left. PrintsUpTo ending no_script 1 lines left old new)
+    front_lines ending None b c call prints = tt
+    front_lines ending (Some xs) None c call prints = absurd call
+    front_lines ending (Some xs) (Some ys) None call prints = absurd (prints t call.line (record { none = none; adds = call.adds; stands = stands }))
+    front_lines ending (Some xs) (Some ys) (Some zs) call prints =
+        behind no_script t call.front (lines_of xs) (call.line ∷ lines_of ys) (lines_of zs) old mid kept call.parts (ap (λ u. with_lines u call.front) (sym same) ∙ call.makes) ending 1 n new
         (call.numbered ∙ ap (λ k. u64_saturate (k + length call.front)) one)
         (prints t call.line (record { none = none; adds = call.adds; stands = stands }))
+
+-- the same where no call was read; u is what was made of s by then
+module _ (s : Script) (same : s ≡ no_script) (old mid : Option (List ℕ)) (kept : Keeps old mid) where
+  part_first : (u : Script) (none : u.calls ≡ []) (lines left : List (List ℕ)) → TakesPart s u lines left → PrintsTaken no_script lines left old mid
+  part_first u none lines left part = record {
+    front = part.front;
+    rest = part.rest;
+    parts = part.parts;
+    in_hand = part.in_hand;
+    prints = nothing (with_lines no_script part.front) u old mid kept (ap (λ v. with_lines v part.front) (sym same) ∙ part.makes) none;
+  }
+
+  module _ (first : ℕ) (one : first ≡ 1) (t : Script) (none : t.calls ≡ []) where
+    first_cut : (ending : Ending) (u : Script) (silent : u.calls ≡ []) (lines left : List (List ℕ)) → ((number : ℕ) → ending ≡ BadCall number → TakesBadCall s t first number lines left) → TakesPart s u lines left
+        → PrintsUpTo ending no_script 1 lines left old mid
+    first_cut (BadCall number) u silent lines left bad part = bad_first s same first one t none old mid kept number lines left (bad number refl)
+    first_cut InputFailed u silent lines left bad part = part_first u silent lines left part
+    first_cut NoMemory u silent lines left bad part = part_first u silent lines left part
+    first_cut OutputFailed u silent lines left bad part = part_of_taken no_script lines left old mid (part_first u silent lines left part)
+    first_cut Done u silent lines left bad part = tt
+    first_cut BadImage u silent lines left bad part = tt
+    first_cut Usage u silent lines left bad part = tt
+
+    pub no_first : (ending : Ending) (a b : Option (List ℕ)) → ((number : ℕ) → ending ≡ BadCall number → OfLines a b (TakesBadCall s t first number)) → (u : Script) × (u.calls ≡ []) × OfLines a b (TakesPart s u)
+        → OfLines a b (λ lines left. PrintsUpTo ending no_script 1 lines left old mid)
+    no_first ending None b bad part = tt
+    no_first ending (Some xs) None bad (u, silent, part) = absurd part
+    no_first ending (Some xs) (Some ys) bad (u, silent, part) = first_cut ending u silent (lines_of xs) (lines_of ys) bad part

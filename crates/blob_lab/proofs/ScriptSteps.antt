@@ -13,8 +13,8 @@ use Rattle.blob_calls.specs.declared.script.setting.Setting.{Setting}
 use Rattle.blob_calls.specs.Acts as acts
 use Rattle.blob_calls.specs.Acts.{Act, act_of}
 use Rattle.blob_calls.specs.Lines.{Said, Configure, Call, line_of, said_by}
-use Rattle.blob_lab.specs.ScriptReading.{OfLines, TakesLine, TakesCall, TakesBadCall, preamble_of}
-use Rattle.blob_lab.specs.Scripts.{Script, lines_of, with_call, before_calls, unseeded, with_said, with_line, with_lines}
+use Rattle.blob_lab.specs.ScriptReading.{TakesLine, TakesCall, TakesBadCall, TakesPart, preamble_of}
+use Rattle.blob_lab.specs.Scripts.{OfLines, Script, TakesOne, lines_of, with_call, before_calls, unseeded, with_said, with_line, with_lines}
 use Rattle.blob_states.specs.Scripted.{behind_seeded}
 use Rattle.blob_calls.specs.Settings.{configured}
 use Rattle.blob_laboratory.specs.Tables.{images_of}
@@ -144,3 +144,10 @@ lines_over s t first next None mid new taken over = tt
 lines_over s t first next (Some xs) None new taken over = absurd taken
 lines_over s t first next (Some xs) (Some ys) None taken over = absurd over
 lines_over s t first next (Some xs) (Some ys) (Some zs) taken over = ap (with_lines s) (taken.parts ∙ ap (λ l. taken.front ++ l) over ∙ append-nil taken.front) ∙ taken.makes
+
+-- a line that was begun, behind those so far
+pub line_part : (s t : Script) (first next : ℕ) (old mid new : Option (List ℕ)) → OfLines old mid (TakesFront s t first next) → OfLines mid new TakesOne → OfLines old new (TakesPart s t)
+line_part s t first next None mid new taken one = tt
+line_part s t first next (Some xs) None new taken one = absurd taken
+line_part s t first next (Some xs) (Some ys) None taken one = absurd one
+line_part s t first next (Some xs) (Some ys) (Some zs) taken one = record { front = taken.front; rest = lines_of ys; parts = taken.parts; makes = taken.makes; in_hand = one }

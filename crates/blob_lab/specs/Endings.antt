@@ -35,8 +35,20 @@ abbrev pub is_cut : Ending → Bool
 is_cut Done = false
 is_cut ending = is_of_script ending
 
+-- whether reading or writing ends so
+abbrev pub is_of_stream : Ending → Bool
+is_of_stream InputFailed = true
+is_of_stream OutputFailed = true
+is_of_stream NoMemory = true
+is_of_stream ending = false
+
 -- whether a run of `resolve` may end so: it has no script, and isn't called in a wrong way
 abbrev pub is_of_resolve : Ending → Bool
 is_of_resolve (BadCall line) = false
 is_of_resolve Usage = false
 is_of_resolve ending = true
+
+-- whether a run of `resolve` may be cut short so
+abbrev pub is_cut_of_resolve : Ending → Bool
+is_cut_of_resolve Done = false
+is_cut_of_resolve ending = is_of_resolve ending

@@ -3,6 +3,7 @@ pub mod Reading
 pub mod ResolveReplies
 pub mod ScriptReading
 pub mod Scripts
+pub mod Streams
 pub use Rattle.blob_names.specs.Names
 pub use Rattle.blob_opens.specs.OpenNames
 pub use Rattle.blob_opens.specs.Opens

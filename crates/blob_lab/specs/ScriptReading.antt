@@ -7,16 +7,10 @@ use Rattle.blob_lab.specs.declared.run_script.lines.Preamble.{Preamble}
 use Rattle.blob_calls.specs.Acts.{Act}
 use Rattle.blob_laboratory.specs.LabStands.{StandsFor}
 use Rattle.blob_calls.specs.Lines.{Said, line_of}
-use Rattle.blob_lab.specs.Scripts.{Script, lines_of, with_call, with_line, with_lines}
+use Rattle.blob_lab.specs.Scripts.{Script, TakesOne, with_call, with_line, with_lines}
 use Rattle.blob_calls.specs.Settings.{cleared}
 use Rattle.blob_states.specs.States.{start}
 use Rattle.blob_laboratory.specs.Tables.{images_of}
-
--- of the lines that were left, and those that are
-abbrev pub OfLines : Option (List ℕ) → Option (List ℕ) → (List (List ℕ) → List (List ℕ) → Type 0) → Type 0
-OfLines None new P = Unit {0}
-OfLines (Some old) None P = ⊥
-OfLines (Some old) (Some new) P = P (lines_of old) (lines_of new)
 
 -- one line was taken, which says this; with none it is a bad call
 abbrev pub TakesLine : Option Said → List (List ℕ) → List (List ℕ) → Type 0
@@ -43,6 +37,14 @@ pub record TakesBadCall (s t : Script) (first number : ℕ) (lines rest : List (
   pub makes : with_lines s front ≡ Some t
   pub refused : with_line t bad ≡ None
   pub numbered : number ≡ u64_saturate (first + length front)
+
+-- lines were taken that make t of s, and one more or a part of it
+pub record TakesPart (s t : Script) (lines left : List (List ℕ)) : Type 0 where
+  pub front : List (List ℕ)
+  pub rest : List (List ℕ)
+  pub parts : lines ≡ front ++ rest
+  pub makes : with_lines s front ≡ Some t
+  pub in_hand : TakesOne rest left
 
 -- a laboratory was made of a script with no call yet, and then a line that adds this call was taken
 pub record Begins (lab : Lab) (s : Script) (line : List ℕ) (act : Act) (config : Config) : Type 0 where

@@ -1,12 +1,12 @@
 -- A script: what its lines make, and what is printed of it.
-use Rattle.std.specs.Prelude.{◌≡◌, ℕ, ◌+◌, List, [], ◌∷◌, ◌++◌, ◌==◌, if◌then◌else◌, length, map, Option, Some, None, option_and_then}
+use Rattle.std.specs.Prelude.{◌≡◌, ◌⊎◌, ℕ, ◌+◌, List, [], ◌∷◌, ◌++◌, ◌==◌, if◌then◌else◌, length, map, Option, Some, None, option_and_then}
 use Rattle.std.specs.List.{flat_map}
 use Rattle.std.specs.Io.Iter.{u64_saturate}
 use Rattle.std.specs.Io.KnownBytes.{Appends}
 use Rattle.blob_faults.specs.declared.config.Config.{Config}
 use Rattle.blob_calls.specs.declared.call.Call.{Call as LabCall}
 use Rattle.blob_lab.specs.declared.ending.Ending.{Ending}
-use Rattle.blob_lab.specs.declared.ending.Ending.TheVariants.{BadCall, InputFailed, NoMemory}
+use Rattle.blob_lab.specs.declared.ending.Ending.TheVariants.{BadCall, InputFailed, OutputFailed, NoMemory}
 use Rattle.blob_calls.specs.declared.reply.Reply.{Reply}
 use Rattle.blob_calls.specs.Acts as acts
 use Rattle.blob_calls.specs.Acts.{Act, act_of}
@@ -29,6 +29,12 @@ with_byte byte (line ∷ lines) = (byte ∷ line) ∷ lines
 abbrev pub lines_of : List ℕ → List (List ℕ)
 lines_of [] = []
 lines_of (byte ∷ bytes) = if byte == 10 then [] ∷ lines_of bytes else with_byte byte (lines_of bytes)
+
+-- where the bytes that a reader had left are known: what holds of their lines, and of the lines that it has left
+abbrev pub OfLines : Option (List ℕ) → Option (List ℕ) → (List (List ℕ) → List (List ℕ) → Type 0) → Type 0
+OfLines None new P = Unit {0}
+OfLines (Some old) None P = ⊥
+OfLines (Some old) (Some new) P = P (lines_of old) (lines_of new)
 
 -- What they make.
 
@@ -102,13 +108,6 @@ pub record Prints (script : Option Script) (old new : Option (List ℕ)) : Type 
   pub prints : IsPrinted of printed
   pub added : Appends old new printed
 
--- the same of some lines at their front
-pub record PrintsFront (s : Script) (lines : List (List ℕ)) (old new : Option (List ℕ)) : Type 0 where
-  pub front : List (List ℕ)
-  pub rest : List (List ℕ)
-  pub parts : lines ≡ front ++ rest
-  pub prints : Prints (with_lines s front) old new
-
 -- the same of those before a line of this number, with which they aren't a script; the numbers go from `first` on
 pub record PrintsBefore (s : Script) (first number : ℕ) (lines : List (List ℕ)) (old new : Option (List ℕ)) : Type 0 where
   pub front : List (List ℕ)
@@ -119,9 +118,40 @@ pub record PrintsBefore (s : Script) (first number : ℕ) (lines : List (List �
   pub refused : with_lines s (front ++ bad ∷ []) ≡ None
   pub prints : Prints (with_lines s front) old new
 
--- the same by how its run was cut short; where the output failed, nothing is said
-abbrev pub PrintsUpTo : Ending → Script → ℕ → List (List ℕ) → Option (List ℕ) → Option (List ℕ) → Type 0
-PrintsUpTo (BadCall number) s first lines old new = PrintsBefore s first number lines old new
-PrintsUpTo InputFailed s first lines old new = PrintsFront s lines old new
-PrintsUpTo NoMemory s first lines old new = PrintsFront s lines old new
-PrintsUpTo ending s first lines old new = Unit {0}
+-- a line with this before it
+abbrev pub behind_part : List ℕ → List (List ℕ) → List (List ℕ)
+behind_part part [] = []
+behind_part part (line ∷ lines) = (part ++ line) ∷ lines
+
+-- of these lines one was taken, or a part of one, or none
+abbrev pub TakesOne : List (List ℕ) → List (List ℕ) → Type 0
+TakesOne lines left = ((line : List ℕ) × (lines ≡ line ∷ left)) ⊎ ((part : List ℕ) × (lines ≡ behind_part part left))
+
+-- the same of all lines that were taken, but for one in hand; `left` are left
+pub record PrintsTaken (s : Script) (lines left : List (List ℕ)) (old new : Option (List ℕ)) : Type 0 where
+  pub front : List (List ℕ)
+  pub rest : List (List ℕ)
+  pub parts : lines ≡ front ++ rest
+  pub in_hand : TakesOne rest left
+  pub prints : Prints (with_lines s front) old new
+
+-- what was added is a front of that
+pub record PrintsPart (s : Script) (lines left : List (List ℕ)) (old new : Option (List ℕ)) : Type 0 where
+  pub front : List (List ℕ)
+  pub rest : List (List ℕ)
+  pub parts : lines ≡ front ++ rest
+  pub in_hand : TakesOne rest left
+  pub of : Script
+  pub is : with_lines s front ≡ Some of
+  pub written : List ℕ
+  pub unwritten : List ℕ
+  pub prints : IsPrinted of (written ++ unwritten)
+  pub added : Appends old new written
+
+-- what is said by how a run was cut short
+abbrev pub PrintsUpTo : Ending → Script → ℕ → List (List ℕ) → List (List ℕ) → Option (List ℕ) → Option (List ℕ) → Type 0
+PrintsUpTo (BadCall number) s first lines left old new = (before : PrintsBefore s first number lines old new) × (before.rest ≡ left)
+PrintsUpTo InputFailed s first lines left old new = PrintsTaken s lines left old new
+PrintsUpTo NoMemory s first lines left old new = PrintsTaken s lines left old new
+PrintsUpTo OutputFailed s first lines left old new = PrintsPart s lines left old new
+PrintsUpTo ending s first lines left old new = Unit {0}

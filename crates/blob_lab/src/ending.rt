@@ -8,7 +8,7 @@ use std::fmt;
 pub enum Ending {
     /// Every reply was written.
     Done,
-    /// The input couldn't be read.
+    /// The input couldn't be read, or goes on behind 2^64 - 1 lines.
     InputFailed,
     /// The output couldn't be written; a part of a reply may have been.
     OutputFailed,

@@ -7,6 +7,7 @@ mod failing;
 pub mod resolution_line;
 pub mod run_resolve;
 pub mod run_script;
+pub mod streams;
 
 pub use blob_calls::{Call, Reply, call, reply, script};
 pub use blob_debt::{Generation, GenerationId, Pending, Receiver, Sender, pending};
@@ -15,3 +16,4 @@ pub use blob_opens::{Opens, open, opens};
 pub use blob_states::laws;
 pub use ending::Ending;
 pub use resolution_line::ResolutionLine;
+pub use streams::{Input, Output};

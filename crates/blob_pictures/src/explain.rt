@@ -7,8 +7,8 @@ ghost use Rattle.blob_pictures.specs.Explained.{Explains, IsExplained, Remarks};
 
 use crate::play::pictures_of;
 use crate::remarks::push_remarks;
-use blob_lab::Ending;
 use blob_lab::run_script::run_script;
+use blob_lab::{Ending, Input, Output};
 use std::alloc::{AllocError, Global};
 use std::io::{BufRead, ErrorKind, Write};
 
@@ -33,9 +33,9 @@ pub fn explain_script<R: BufRead, W: Write>(alloc: Global, reader: &mut R, write
             Ending::InputFailed
         };
     }
-    let mut replies = Vec::new(alloc);
-    let mut lines = script.as_slice();
-    let ending = run_script(alloc, &mut lines, &mut replies);
+    let mut input = Input::new(script.as_slice());
+    let mut output = Output::new(Vec::new(alloc));
+    let ending = run_script(alloc, &mut input, &mut output);
     if ending == Ending::OutputFailed {
         // A list is a writer that fails for want of memory alone.
         return Ending::NoMemory;
@@ -43,6 +43,7 @@ pub fn explain_script<R: BufRead, W: Write>(alloc: Global, reader: &mut R, write
     let Ok(pictures) = pictures_of(alloc, &script) else {
         return Ending::NoMemory;
     };
+    let replies = output.into_writer();
     let Ok(text) = explained(alloc, &replies, &pictures) else {
         return Ending::NoMemory;
     };

@@ -1,9 +1,9 @@
 // The program: arguments, buffered streams and the exit status. All else is the library's.
 #![tactic(auto)]
 
-use blob_lab::Ending;
 use blob_lab::run_resolve::run_resolve;
 use blob_lab::run_script::run_script;
+use blob_lab::{Ending, streams};
 use blob_pictures::explain_script;
 use std::env;
 use std::io::{self, BufReader, BufWriter, ErrorKind};
@@ -65,13 +65,15 @@ fn print_line<T: Print>(rt: &T, text: &str) -> Ending {
 }
 
 fn run_input<T: AllocGlobal + Input + Print>(rt: &T) -> Ending {
-    let Ok(mut reader) = BufReader::new(rt.alloc(), rt.reader()) else {
+    let Ok(reader) = BufReader::new(rt.alloc(), rt.reader()) else {
         return Ending::NoMemory;
     };
-    let Ok(mut writer) = BufWriter::new(rt.alloc(), io::writer(rt)) else {
+    let Ok(writer) = BufWriter::new(rt.alloc(), io::writer(rt)) else {
         return Ending::NoMemory;
     };
-    run_script(rt.alloc(), &mut reader, &mut writer)
+    let mut input = streams::Input::new(reader);
+    let mut output = streams::Output::new(writer);
+    run_script(rt.alloc(), &mut input, &mut output)
 }
 
 fn explain_input<T: AllocGlobal + Input + Print>(rt: &T) -> Ending {
@@ -86,11 +88,13 @@ fn explain_input<T: AllocGlobal + Input + Print>(rt: &T) -> Ending {
 
 // Without a buffer each byte of standard input would be a read of its own.
 fn resolve_input<T: AllocGlobal + Input + Print>(rt: &T) -> Ending {
-    let Ok(mut reader) = BufReader::new(rt.alloc(), rt.reader()) else {
+    let Ok(reader) = BufReader::new(rt.alloc(), rt.reader()) else {
         return Ending::NoMemory;
     };
-    let Ok(mut writer) = BufWriter::new(rt.alloc(), io::writer(rt)) else {
+    let Ok(writer) = BufWriter::new(rt.alloc(), io::writer(rt)) else {
         return Ending::NoMemory;
     };
-    run_resolve(rt.alloc(), &mut reader, &mut writer)
+    let mut input = streams::Input::new(reader);
+    let mut output = streams::Output::new(writer);
+    run_resolve(rt.alloc(), &mut input, &mut output)
 }

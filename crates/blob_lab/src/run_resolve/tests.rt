@@ -1,6 +1,6 @@
 use super::run_resolve;
-use crate::ending::Ending;
 use crate::failing::{Full, Halting};
+use crate::{Ending, Input, Output};
 use std::io::{BufReader, ErrorKind};
 use std::test::Fail;
 
@@ -31,11 +31,10 @@ fn each_line_has_its_reply(rt: HostRuntime) -> Result<(), Fail> {
         (b"4357494300000007\r\n", Ending::BadImage, b""),
     ];
     for (input, ending, output) in rows {
-        let mut reader = input;
-        let mut written = Vec::new(rt.alloc());
-        let found = run_resolve(rt.alloc(), &mut reader, &mut written);
+        let mut writer = Output::new(Vec::new(rt.alloc()));
+        let found = run_resolve(rt.alloc(), &mut Input::new(input), &mut writer);
         assert_eq!(rt; found, ending);
-        assert_eq!(rt; written.as_slice(), output);
+        assert_eq!(rt; writer.into_writer().as_slice(), output);
     }
     Ok(())
 }
@@ -56,11 +55,12 @@ fn a_failing_read_is_told(rt: HostRuntime) -> Result<(), Fail> {
             reads,
             kind,
         };
-        let mut reader = BufReader::new(rt.alloc(), halting)?;
-        let mut written = Vec::new(rt.alloc());
-        let found = run_resolve(rt.alloc(), &mut reader, &mut written);
+        let mut reader = Input::new(BufReader::new(rt.alloc(), halting)?);
+        let mut writer = Output::new(Vec::new(rt.alloc()));
+        let found = run_resolve(rt.alloc(), &mut reader, &mut writer);
         assert_eq!(rt; found, ending, "after {reads} reads");
-        assert_eq!(rt; written.is_empty(), ending != Ending::Done);
+        assert_eq!(rt; reader.has_failed(), ending == Ending::InputFailed);
+        assert_eq!(rt; writer.into_writer().is_empty(), ending != Ending::Done);
     }
     Ok(())
 }
@@ -74,15 +74,17 @@ fn a_failing_write_is_told(rt: HostRuntime) -> Result<(), Fail> {
         (12, true, Ending::Done, b"valid 0 7 8\n"),
     ];
     for (room, flushes, ending, output) in rows {
-        let mut full = Full {
+        let full = Full {
             bytes: Vec::new(rt.alloc()),
             room,
             flushes,
         };
-        let mut reader: &[u8] = b"4357494300000007\n";
-        let found = run_resolve(rt.alloc(), &mut reader, &mut full);
+        let line: &[u8] = b"4357494300000007\n";
+        let mut writer = Output::new(full);
+        let found = run_resolve(rt.alloc(), &mut Input::new(line), &mut writer);
         assert_eq!(rt; found, ending, "with room for {room}");
-        assert_eq!(rt; full.bytes.as_slice(), output);
+        assert_eq!(rt; writer.has_failed(), ending == Ending::OutputFailed);
+        assert_eq!(rt; writer.into_writer().bytes.as_slice(), output);
     }
     Ok(())
 }

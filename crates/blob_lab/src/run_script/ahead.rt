@@ -1,7 +1,6 @@
 // What lies ready in a reader.
 ghost use Rattle.std.specs.Prelude.{◌≡◌, ℕ, List};
 
-use memchr::memchr;
 use std::alloc::Allocator;
 use std::io::{BufRead, BufReader, Read};
 
@@ -32,24 +31,4 @@ impl Ahead for &[u8] {
     fn ready(&self) -> &[u8] {
         self
     }
-}
-
-/// Whether a line has a token that begins no comment.
-fn is_call(line: &[u8]) -> bool {
-    match line.iter().find(|byte| **byte != b' ') {
-        None => false,
-        Some(first) => *first != b'#',
-    }
-}
-
-/// Whether a whole line stands among these bytes that is neither empty nor a comment.
-pub(crate) fn has_call(bytes: &[u8]) -> bool {
-    let mut rest = bytes;
-    'lines: while let Some(end) = memchr(b'\n', rest) {
-        if is_call(&rest[..end]) {
-            return true;
-        }
-        rest = &rest[end + 1..];
-    }
-    false
 }

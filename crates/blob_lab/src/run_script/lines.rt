@@ -1,27 +1,30 @@
 // The lines of a script as they come in.
-ghost use Rattle.std.specs.Prelude.{◌≡◌, ◌≢◌, ℕ, ◌+◌, [], true, IfSome, IfNone, IfOk, IfErr, OnOk};
-ghost use Rattle.std.specs.Io.BufRead.{strip_last};
+ghost use Rattle.std.specs.Prelude.{◌≡◌, ◌≢◌, ℕ, ◌+◌, ◌<◌, [], true, IfSome, IfNone, IfOk, IfErr, OnOk};
 ghost use Rattle.std.specs.Io.Iter.{u64_saturate};
+ghost use Rattle.std.specs.Io.KnownBytes.{Keeps};
 ghost use Rattle.blob_calls.specs.Acts.{act_of};
 ghost use Rattle.blob_lab.specs.Endings.{is_cut};
 ghost use Rattle.blob_laboratory.specs.LabStands.{StandsFor};
 ghost use Rattle.blob_calls.specs.Lines.{said_by};
 ghost use Rattle.blob_lab.specs.Reading.{StaysKnown, IsReadOut};
-ghost use Rattle.blob_lab.specs.ScriptReading.{OfLines, TakesLine, TakesCall, TakesBadCall, preamble_of};
-ghost use Rattle.blob_lab.specs.Scripts.{Script, with_lines};
+ghost use Rattle.blob_lab.specs.ScriptReading.{TakesLine, TakesCall, TakesBadCall, TakesPart, preamble_of};
+ghost use Rattle.blob_lab.specs.Scripts.{OfLines, Script, TakesOne, with_lines};
 ghost use Rattle.blob_calls.specs.Settings.{cleared, configured};
 ghost use Rattle.blob_states.specs.States.{start};
+ghost use Rattle.blob_lab.specs.Streams.{reader_of, lines_left, writer_of, Told};
 ghost use Rattle.blob_laboratory.specs.Tables.{images_of};
 
-use crate::Ending;
+use super::Ahead;
+use crate::streams::drop_line_feed;
+use crate::{Ending, Input, Output};
 use blob_base::Error;
 use blob_calls::Call;
 use blob_calls::script::setting::copy_of;
-use blob_calls::script::{Line, RefusedLine, Setting, read_line, read_through};
+use blob_calls::script::{Line, RefusedLine, Setting, read_line};
 use blob_faulty::Config;
 use blob_laboratory::Lab;
 use std::alloc::Global;
-use std::io::{BufRead, ErrorKind};
+use std::io::Write;
 
 /// What the lines before the first call say.
 #[derive(Drop)]
@@ -81,23 +84,31 @@ impl Lines {
     }
 
     /// Reads up to the first call, and keeps what comes before it.
-    pub(crate) fn first_call<R: BufRead>(
+    pub(crate) fn first_call<R: Ahead, W: Write>(
         &mut self,
-        reader: &mut R,
+        input: &mut Input<R>,
+        output: &mut Output<W>,
         preamble: &mut Preamble,
     ) -> Result<Option<Call>, Ending>
         ensures cut { IfErr result (λ ending. is_cut ending ≡ true) }
-        ensures known { OnOk result (StaysKnown (R.remaining reader.old) (R.remaining reader.new)) }
-        ensures end { IfOk result (λ call. IfNone call (IsReadOut (R.remaining reader.old) (R.remaining reader.new))) }
-        ensures call { IfOk result (λ call. IfSome call (λ call. OfLines (R.remaining reader.old) (R.remaining reader.new)
-            (TakesCall (preamble_of preamble.old self.old.config) (preamble_of preamble.new self.old.config) (self.old.number + 1) self.new.number (act_of call) self.new.config))) }
-        ensures over { IfOk result (λ call. IfNone call (OfLines (R.remaining reader.old) (R.remaining reader.new)
+        ensures told { Told result input.old input.new output.old output.new }
+        ensures kept { Keeps (W.contents (writer_of output.old)) (W.contents (writer_of output.new)) }
+        ensures known { OnOk result (StaysKnown (R.remaining (reader_of input.old)) (R.remaining (reader_of input.new))) }
+        ensures end { IfOk result (λ call. IfNone call (IsReadOut (R.remaining (reader_of input.old)) (R.remaining (reader_of input.new)))) }
+        ensures call { IfOk result (λ call. IfSome call (λ call. OfLines (R.remaining (reader_of input.old)) (R.remaining (reader_of input.new))
+            (TakesCall (preamble_of preamble.old self.old.config) (preamble_of preamble.new self.old.config) (self.old.number + 1)
+            self.new.number (act_of call) self.new.config))) }
+        ensures over { IfOk result (λ call. IfNone call (OfLines (R.remaining (reader_of input.old)) (R.remaining (reader_of input.new))
             (λ lines _. with_lines (preamble_of preamble.old self.old.config) lines ≡ Some (preamble_of preamble.new self.old.config)))) }
-        ensures bad { (number : ℕ) → result ≡ Err (Ending.BadCall number) → OfLines (R.remaining reader.old) (R.remaining reader.new)
+        ensures bad { (number : ℕ) → result ≡ Err (Ending.BadCall number)
+            → OfLines (R.remaining (reader_of input.old)) (R.remaining (reader_of input.new))
             (TakesBadCall (preamble_of preamble.old self.old.config) (preamble_of preamble.new self.old.config) (self.old.number + 1) number) }
+        ensures part { IfErr result (λ _. (t : Script) × (t.calls ≡ []) × OfLines (R.remaining (reader_of input.old)) (R.remaining (reader_of input.new))
+            (TakesPart (preamble_of preamble.old self.old.config) t)) }
+        ensures fewer { IfOk result (λ call. IfSome call (λ _. lines_left input.new < lines_left input.old)) }
     {
-        'lines: for _ in 0..u64::MAX {
-            let Some(line) = self.next_line(reader)? else {
+        'lines: loop {
+            let Some(line) = self.next_line(input, output)? else {
                 return Ok(None);
             };
             match line {
@@ -124,22 +135,32 @@ impl Lines {
                 Line::Call(call) => return Ok(Some(call)),
             }
         }
-        Err(Ending::InputFailed)
     }
 
     /// Reads up to the next call. A line of the preamble can't come any more.
-    pub(crate) fn next_call<R: BufRead>(&mut self, reader: &mut R) -> Result<Option<Call>, Ending>
+    pub(crate) fn next_call<R: Ahead, W: Write>(
+        &mut self,
+        input: &mut Input<R>,
+        output: &mut Output<W>,
+    ) -> Result<Option<Call>, Ending>
         ensures cut { IfErr result (λ ending. is_cut ending ≡ true) }
-        ensures known { OnOk result (StaysKnown (R.remaining reader.old) (R.remaining reader.new)) }
-        ensures end { IfOk result (λ call. IfNone call (IsReadOut (R.remaining reader.old) (R.remaining reader.new))) }
-        ensures call { IfOk result (λ call. IfSome call (λ call. (s : Script) → s.config ≡ self.old.config → OfLines (R.remaining reader.old) (R.remaining reader.new)
+        ensures told { Told result input.old input.new output.old output.new }
+        ensures kept { Keeps (W.contents (writer_of output.old)) (W.contents (writer_of output.new)) }
+        ensures known { OnOk result (StaysKnown (R.remaining (reader_of input.old)) (R.remaining (reader_of input.new))) }
+        ensures end { IfOk result (λ call. IfNone call (IsReadOut (R.remaining (reader_of input.old)) (R.remaining (reader_of input.new)))) }
+        ensures call { IfOk result (λ call. IfSome call (λ call. (s : Script) → s.config ≡ self.old.config
+            → OfLines (R.remaining (reader_of input.old)) (R.remaining (reader_of input.new))
             (TakesCall s s (self.old.number + 1) self.new.number (act_of call) self.new.config))) }
-        ensures over { IfOk result (λ call. IfNone call ((s : Script) → OfLines (R.remaining reader.old) (R.remaining reader.new) (λ lines _. with_lines s lines ≡ Some s))) }
-        ensures bad { (number : ℕ) → result ≡ Err (Ending.BadCall number) → (s : Script) → s.calls ≢ [] → OfLines (R.remaining reader.old) (R.remaining reader.new)
+        ensures over { IfOk result (λ call. IfNone call ((s : Script)
+            → OfLines (R.remaining (reader_of input.old)) (R.remaining (reader_of input.new)) (λ lines _. with_lines s lines ≡ Some s))) }
+        ensures bad { (number : ℕ) → result ≡ Err (Ending.BadCall number) → (s : Script) → s.calls ≢ []
+            → OfLines (R.remaining (reader_of input.old)) (R.remaining (reader_of input.new))
             (TakesBadCall s s (self.old.number + 1) number) }
+        ensures part { IfErr result (λ _. (s : Script) → OfLines (R.remaining (reader_of input.old)) (R.remaining (reader_of input.new)) (TakesPart s s)) }
+        ensures fewer { IfOk result (λ call. IfSome call (λ _. lines_left input.new < lines_left input.old)) }
     {
-        'lines: for _ in 0..u64::MAX {
-            let Some(line) = self.next_line(reader)? else {
+        'lines: loop {
+            let Some(line) = self.next_line(input, output)? else {
                 return Ok(None);
             };
             match line {
@@ -151,26 +172,33 @@ impl Lines {
                 Line::Call(call) => return Ok(Some(call)),
             }
         }
-        Err(Ending::InputFailed)
     }
 
     /// Reads one line; none where the input is at its end.
-    fn next_line<R: BufRead>(&mut self, reader: &mut R) -> Result<Option<Line>, Ending>
+    fn next_line<R: Ahead, W: Write>(
+        &mut self,
+        input: &mut Input<R>,
+        output: &mut Output<W>,
+    ) -> Result<Option<Line>, Ending>
         ensures cut { IfErr result (λ ending. is_cut ending ≡ true) }
-        ensures known { OnOk result (StaysKnown (R.remaining reader.old) (R.remaining reader.new)) }
-        ensures end { IfOk result (λ line. IfNone line (IsReadOut (R.remaining reader.old) (R.remaining reader.new))) }
-        ensures line { IfOk result (λ line. IfSome line (λ line. OfLines (R.remaining reader.old) (R.remaining reader.new) (TakesLine (Some (said_by line))))) }
-        ensures over { IfOk result (λ line. IfNone line (OfLines (R.remaining reader.old) (R.remaining reader.new) (λ lines _. lines ≡ []))) }
-        ensures bad { (number : ℕ) → result ≡ Err (Ending.BadCall number) → (number ≡ u64_saturate (self.old.number + 1)) × OfLines (R.remaining reader.old) (R.remaining reader.new) (TakesLine None) }
+        ensures told { Told result input.old input.new output.old output.new }
+        ensures kept { Keeps (W.contents (writer_of output.old)) (W.contents (writer_of output.new)) }
+        ensures known { OnOk result (StaysKnown (R.remaining (reader_of input.old)) (R.remaining (reader_of input.new))) }
+        ensures end { IfOk result (λ line. IfNone line (IsReadOut (R.remaining (reader_of input.old)) (R.remaining (reader_of input.new)))) }
+        ensures line { IfOk result (λ line. IfSome line (λ line.
+            OfLines (R.remaining (reader_of input.old)) (R.remaining (reader_of input.new)) (TakesLine (Some (said_by line))))) }
+        ensures over { IfOk result (λ line. IfNone line
+            (OfLines (R.remaining (reader_of input.old)) (R.remaining (reader_of input.new)) (λ lines _. lines ≡ []))) }
+        ensures bad { (number : ℕ) → result ≡ Err (Ending.BadCall number) → (number ≡ u64_saturate (self.old.number + 1))
+            × OfLines (R.remaining (reader_of input.old)) (R.remaining (reader_of input.new)) (TakesLine None) }
+        ensures part { IfErr result (λ _. OfLines (R.remaining (reader_of input.old)) (R.remaining (reader_of input.new)) TakesOne) }
+        ensures fewer { IfOk result (λ line. IfSome line (λ _. lines_left input.new < lines_left input.old)) }
         ensures numbered { IfOk result (λ line. IfSome line (λ _. self.new.number ≡ u64_saturate (self.old.number + 1))) }
-        ensures kept { self.new.config ≡ self.old.config }
+        ensures same { self.new.config ≡ self.old.config }
     {
         self.line.clear();
-        match read_through(reader, b'\n', &mut self.line) {
-            Ok(0) => return Ok(None),
-            Ok(_) => {}
-            Err(e) if e.kind() == ErrorKind::OutOfMemory => return Err(Ending::NoMemory),
-            Err(_) => return Err(Ending::InputFailed),
+        if input.read_ahead(&mut self.line, output)? == 0 {
+            return Ok(None);
         }
         drop_line_feed(&mut self.line);
         self.number = self.number.saturating_add(1);
@@ -189,14 +217,5 @@ impl Lines {
     {
         self.config = setting.apply(copy_of(&self.config));
         Call::Configure(copy_of(&self.config))
-    }
-}
-
-/// Takes the end of a line off, if it has one.
-fn drop_line_feed(line: &mut Vec<u8>)
-    ensures { line.new.items ≡ strip_last 10 line.old.items }
-{
-    if line.last() == Some(&b'\n') {
-        let _ = line.pop();
     }
 }

@@ -1,7 +1,7 @@
 // The lines of scripts, and streams that fail. Worked scripts are data: tests/scripts at the top of the repository.
 use super::run_script;
-use crate::Ending;
 use crate::failing::{Full, Halting};
+use crate::{Ending, Input, Output};
 use std::alloc::Global;
 use std::io::{BufReader, ErrorKind};
 use std::process::Abort;
@@ -9,11 +9,11 @@ use std::test::Fail;
 
 /// Runs a script, which has to end so and print this.
 fn expect(rt: &impl Abort, alloc: Global, input: &[u8], ending: Ending, output: &[u8]) {
-    let mut reader = input;
-    let mut written = Vec::new(alloc);
-    let found = run_script(alloc, &mut reader, &mut written);
+    let mut reader = Input::new(input);
+    let mut writer = Output::new(Vec::new(alloc));
+    let found = run_script(alloc, &mut reader, &mut writer);
     assert_eq!(rt; found, ending, "of {input:?}");
-    assert_eq!(rt; written.as_slice(), output, "of {input:?}");
+    assert_eq!(rt; writer.into_writer().as_slice(), output, "of {input:?}");
 }
 
 #[test]
@@ -98,11 +98,16 @@ fn a_failing_read_is_told(rt: HostRuntime) -> Result<(), Fail> {
             reads,
             kind,
         };
-        let mut reader = BufReader::new(rt.alloc(), halting)?;
-        let mut written = Vec::new(rt.alloc());
-        let found = run_script(rt.alloc(), &mut reader, &mut written);
+        let mut reader = Input::new(BufReader::new(rt.alloc(), halting)?);
+        let mut writer = Output::new(Vec::new(rt.alloc()));
+        let found = run_script(rt.alloc(), &mut reader, &mut writer);
         assert_eq!(rt; found, ending, "after {reads} reads");
-        assert_eq!(rt; written.as_slice(), output, "after {reads} reads");
+        assert_eq!(rt; reader.has_failed(), ending == Ending::InputFailed);
+        assert_eq!(rt;
+            writer.into_writer().as_slice(),
+            output,
+            "after {reads} reads"
+        );
     }
     Ok(())
 }
@@ -149,14 +154,20 @@ fn a_failing_write_is_told(rt: HostRuntime) {
         ),
     ];
     for (input, room, flushes, ending, output) in rows {
-        let mut full = Full {
+        let full = Full {
             bytes: Vec::new(rt.alloc()),
             room,
             flushes,
         };
-        let mut reader = input;
-        let found = run_script(rt.alloc(), &mut reader, &mut full);
+        let mut writer = Output::new(full);
+        let found = run_script(rt.alloc(), &mut Input::new(input), &mut writer);
         assert_eq!(rt; found, ending, "with room for {room}");
-        assert_eq!(rt; full.bytes.as_slice(), output, "with room for {room}");
+        assert_eq!(rt; writer.has_failed(), ending == Ending::OutputFailed);
+        assert_eq!(rt; writer.is_flushed(), flushes);
+        assert_eq!(rt;
+            writer.into_writer().bytes.as_slice(),
+            output,
+            "with room for {room}"
+        );
     }
 }

@@ -1,8 +1,0 @@
-use Rattle.std.proofs.Common.{◌≤◌, length}
-use Rattle.blob_lab.proofs.run_script.ahead.has_call.Given as goal
-
-abbrev pub invariant-lines : goal.invariant-lines
-invariant-lines l = length l.rest ≤ length l.bytes
-
-abbrev pub decreases-lines : goal.decreases-lines
-decreases-lines l = length l.rest

@@ -1,0 +1,70 @@
+-- The streams of a run, and what came of reading and writing.
+use Rattle.std.specs.Prelude.{◌≡◌, ℕ, ◌+◌, ◌==◌, List, ◌++◌, length, Bool, true, Result, Option, IfSome, IfOk, OnOk, MatchResult}
+use Rattle.std.specs.List.{list_any}
+use Rattle.std.specs.Io.{StopsAt, appended_bytes}
+use Rattle.std.specs.Io.BufRead.{DropsThrough, take_through}
+use Rattle.std.specs.Io.KnownBytes.{Appends, Consumes, IsAtEnd}
+use Rattle.blob_lab.specs.declared.ending.Ending.{Ending}
+use Rattle.blob_lab.specs.declared.ending.Ending.TheVariants.{InputFailed, OutputFailed}
+use Rattle.blob_lab.specs.declared.streams.Input.{Input}
+use Rattle.blob_lab.specs.declared.streams.Output.{Output}
+
+abbrev pub reader_of : {R : Type 0} → Input R → R
+reader_of input = input.reader
+
+-- how many lines may still be read
+abbrev pub lines_left : {R : Type 0} → Input R → ℕ
+lines_left input = input.left
+
+-- whether reading failed
+abbrev pub read_failed : {R : Type 0} → Input R → Bool
+read_failed input = input.failed
+
+abbrev pub writer_of : {W : Type 0} → Output W → W
+writer_of output = output.writer
+
+-- whether a write or a flush failed
+abbrev pub write_failed : {W : Type 0} → Output W → Bool
+write_failed output = output.failed
+
+-- whether the writer was flushed behind the last write
+abbrev pub is_flushed : {W : Type 0} → Output W → Bool
+is_flushed output = output.flushed
+
+-- whether a whole line stands among these bytes, so that taking it doesn't wait
+abbrev pub has_line : List ℕ → Bool
+has_line bytes = list_any (λ b. b == 10) bytes
+
+-- What failed, and what is told of it.
+
+-- writing failed exactly where it is told so
+abbrev pub ToldOutput : {T E W : Type 0} → Result T E → Output W → Output W → Type 0
+ToldOutput result old new = MatchResult result (λ _. write_failed new ≡ write_failed old) (λ _. write_failed new ≡ true)
+
+-- neither stream failed
+abbrev pub StaySound : {R W : Type 0} → Input R → Input R → Output W → Output W → Type 0
+StaySound i i' o o' = (read_failed i' ≡ read_failed i) × (write_failed o' ≡ write_failed o)
+
+-- the one that this ending names failed, and no other
+abbrev pub Tells : {R W : Type 0} → Ending → Input R → Input R → Output W → Output W → Type 0
+Tells InputFailed i i' o o' = (read_failed i' ≡ true) × (write_failed o' ≡ write_failed o)
+Tells OutputFailed i i' o o' = (read_failed i' ≡ read_failed i) × (write_failed o' ≡ true)
+Tells ending i i' o o' = StaySound i i' o o'
+
+abbrev pub Told : {T R W : Type 0} → Result T Ending → Input R → Input R → Output W → Output W → Type 0
+Told result i i' o o' = MatchResult result (λ _. StaySound i i' o o') (λ ending. Tells ending i i' o o')
+
+-- Which bytes were taken and given.
+
+-- bytes that were to be appended were, up to one of them
+abbrev pub AppendsPart : Option (List ℕ) → Option (List ℕ) → List ℕ → Type 0
+AppendsPart old new bytes = (front : List ℕ) × (rest : List ℕ) × (bytes ≡ front ++ rest) × Appends old new front
+
+-- one line was read behind what a buffer had; where reading failed, a part of it at most
+pub record ReadsLine (result : Result ℕ Ending) (old new : Option (List ℕ)) (before after : List ℕ) : Type 0 where
+  pub count : IfOk result (λ n. length after ≡ length before + n)
+  pub bytes : OnOk result (IfSome old (λ xs. after ≡ before ++ take_through 10 xs))
+  pub rest : OnOk result (DropsThrough old new 10)
+  pub end : IfOk result (λ n. n ≡ 0 → IsAtEnd old)
+  pub one : StopsAt (appended_bytes before after) 10
+  pub none_lost : Consumes old new (appended_bytes before after)

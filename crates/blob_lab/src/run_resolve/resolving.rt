@@ -1,0 +1,87 @@
+// A line of hex, resolved and answered.
+ghost use Rattle.std.specs.Prelude.{true, ◌≡◌, OnOk, ◌≢◌, ◌⊎◌, IfSome, IfOk, IfErr, IsErr};
+ghost use Rattle.std.specs.Io.KnownBytes.{Keeps};
+ghost use Rattle.std.specs.Io.BufRead.{DropsThrough, first_piece};
+ghost use Rattle.hex.specs.Hex.{decode_of};
+ghost use Rattle.blob_header.specs.Resolve.{Answers};
+ghost use Rattle.blob_lab.specs.Endings.{is_cut_of_resolve, is_of_stream};
+ghost use Rattle.blob_lab.specs.ResolveReplies.{AnswersLine, resolved_image};
+ghost use Rattle.blob_lab.specs.Streams.{reader_of, writer_of, is_flushed, Told};
+
+use crate::resolution_line::ResolutionLine;
+use crate::streams::drop_line_feed;
+use crate::{Ending, Input, Output};
+use blob_base::{BlobVersion, Error, Layout, resolve};
+use hex::FromHexError;
+use std::alloc::Global;
+use std::io::{BufRead, Write};
+
+/// Answers one line, and flushes that answer.
+pub(super) fn resolve_line<R: BufRead, W: Write>(
+    alloc: Global,
+    input: &mut Input<R>,
+    output: &mut Output<W>,
+) -> Result<(), Ending>
+    ensures replied { OnOk result (IfSome (R.remaining (reader_of input.old))
+        (λ bytes. AnswersLine (first_piece 10 bytes) (W.contents (writer_of output.old)) (W.contents (writer_of output.new)))) }
+    ensures rest { OnOk result (DropsThrough (R.remaining (reader_of input.old)) (R.remaining (reader_of input.new)) 10) }
+    ensures bad_image { result ≡ Err Ending.BadImage → IfSome (R.remaining (reader_of input.old)) (λ bytes. IsErr (decode_of (first_piece 10 bytes))) }
+    ensures nothing_written { IfErr result (λ ending. ending ≢ Ending.OutputFailed
+        → Keeps (W.contents (writer_of output.old)) (W.contents (writer_of output.new))) }
+    ensures cut { IfErr result (λ ending. is_cut_of_resolve ending ≡ true) }
+    ensures handed_on { OnOk result (is_flushed output.new ≡ true) }
+    ensures told { Told result input.old input.new output.old output.new }
+{
+    let line = read_line(alloc, input, output)?;
+    let image = image_of(alloc, line.as_slice())?;
+    let answer = resolved(alloc, image.as_slice());
+    output.write_line(ResolutionLine(&answer))?;
+    output.flush()
+}
+
+// What the bytes are as a whole blob, under the names that the program gives it.
+fn resolved(alloc: Global, image: &[u8]) -> Result<Option<(u64, BlobVersion, u64)>, Error>
+    ensures { Answers result (resolved_image image.now) }
+{
+    let versions = BlobVersion::new(0)..=BlobVersion::new(u16::MAX);
+    let len = image.len() as u64;
+    resolve(
+        alloc,
+        image,
+        len,
+        &Layout::all(),
+        &versions,
+        "image",
+        b"blob",
+    )
+}
+
+// One line without its end.
+fn read_line<R: BufRead, W: Write>(
+    alloc: Global,
+    input: &mut Input<R>,
+    output: &mut Output<W>,
+) -> Result<Vec<u8>, Ending>
+    ensures line { IfOk result (λ line. IfSome (R.remaining (reader_of input.old)) (λ bytes. line.items ≡ first_piece 10 bytes)) }
+    ensures rest { OnOk result (DropsThrough (R.remaining (reader_of input.old)) (R.remaining (reader_of input.new)) 10) }
+    ensures ending { IfErr result (λ ending. is_of_stream ending ≡ true) }
+    ensures kept { Keeps (W.contents (writer_of output.old)) (W.contents (writer_of output.new)) }
+    ensures told { Told result input.old input.new output.old output.new }
+{
+    let mut line = Vec::new(alloc);
+    input.read_line(&mut line, output)?;
+    drop_line_feed(&mut line);
+    Ok(line)
+}
+
+// The bytes that a line of hex digits stands for.
+fn image_of(alloc: Global, line: &[u8]) -> Result<Vec<u8>, Ending>
+    ensures bytes { IfOk result (λ image. decode_of line.now ≡ Ok image.items) }
+    ensures refused { IfErr result (λ ending. (ending ≡ Ending.NoMemory) ⊎ ((ending ≡ Ending.BadImage) × IsErr (decode_of line.now))) }
+{
+    match hex::decode(alloc, line) {
+        Ok(image) => Ok(image),
+        Err(FromHexError::OutOfMemory) => Err(Ending::NoMemory),
+        Err(_) => Err(Ending::BadImage),
+    }
+}

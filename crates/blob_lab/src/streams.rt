@@ -1,0 +1,239 @@
+//! The streams of a run: a reader and a writer, and what came of using them.
+ghost use Rattle.std.specs.Prelude.{◌≡◌, ◌≢◌, ◌⊎◌, ◌+◌, ◌<◌, true, false, IfSome, IfErr, OnOk};
+ghost use Rattle.std.specs.Io.KnownBytes.{Appends, Keeps};
+ghost use Rattle.std.specs.Io.BufRead.{strip_last};
+ghost use Rattle.std.specs.Fmt.{with_newline};
+ghost use Rattle.blob_lab.specs.Endings.{is_of_stream};
+ghost use Rattle.blob_lab.specs.Streams.{reader_of, lines_left, read_failed, writer_of, write_failed, is_flushed, has_line, AppendsPart, ReadsLine, Told, ToldOutput};
+
+use crate::Ending;
+use crate::run_script::Ahead;
+use blob_calls::script::read_through;
+use memchr::memchr;
+use std::fmt::Display;
+use std::io::{BufRead, ErrorKind, Write};
+
+/// A reader of lines, at most 2^64 - 1 of them, with whether reading failed.
+#[derive(Drop)]
+pub struct Input<R> {
+    reader: R,
+    left: u64,
+    failed: bool,
+}
+
+impl<R> Input<R> {
+    /// The reader, of which nothing was read.
+    pub fn new(reader: R) -> Input<R>
+        ensures reader { reader_of result ≡ reader }
+        ensures sound { read_failed result ≡ false }
+    {
+        Input {
+            reader,
+            left: u64::MAX,
+            failed: false,
+        }
+    }
+
+    /// Whether reading failed, but for want of memory, or went on behind 2^64 - 1 lines.
+    pub fn has_failed(&self) -> bool
+        ensures { result ≡ read_failed self.now }
+    {
+        self.failed
+    }
+
+    /// The reader, behind what was read.
+    pub fn into_reader(self) -> R
+        ensures { result ≡ reader_of self }
+    {
+        self.reader
+    }
+}
+
+impl<R: BufRead> Input<R> {
+    /// Reads one line with its end behind what `line` has, and answers how many bytes; 0 at the end of the input. What was
+    /// written is handed on before, since reading may wait.
+    pub(crate) fn read_line<W: Write>(
+        &mut self,
+        line: &mut Vec<u8>,
+        output: &mut Output<W>,
+    ) -> Result<usize, Ending>
+        ensures handed_on { result ≢ Err Ending.OutputFailed → is_flushed output.new ≡ true }
+        ensures told { Told result self.old self.new output.old output.new }
+        ensures kept { Keeps (W.contents (writer_of output.old)) (W.contents (writer_of output.new)) }
+        ensures ending { IfErr result (λ ending. is_of_stream ending ≡ true) }
+        ensures read { ReadsLine result (R.remaining (reader_of self.old)) (R.remaining (reader_of self.new)) line.old.items line.new.items }
+    {
+        output.hand_on()?;
+        self.read_on(line)
+    }
+
+    fn read_on(&mut self, line: &mut Vec<u8>) -> Result<usize, Ending>
+        ensures failed { result ≡ Err Ending.InputFailed → read_failed self.new ≡ true }
+        ensures sound { result ≢ Err Ending.InputFailed → read_failed self.new ≡ read_failed self.old }
+        ensures ending { IfErr result (λ ending. (ending ≡ Ending.InputFailed) ⊎ (ending ≡ Ending.NoMemory)) }
+        ensures read { ReadsLine result (R.remaining (reader_of self.old)) (R.remaining (reader_of self.new)) line.old.items line.new.items }
+        ensures fewer { OnOk result (lines_left self.new < lines_left self.old) }
+    {
+        if self.left == 0 {
+            self.failed = true;
+            return Err(Ending::InputFailed);
+        }
+        self.left -= 1;
+        match read_through(&mut self.reader, b'\n', line) {
+            Ok(count) => Ok(count),
+            Err(e) if e.kind() == ErrorKind::OutOfMemory => Err(Ending::NoMemory),
+            Err(_) => {
+                self.failed = true;
+                Err(Ending::InputFailed)
+            }
+        }
+    }
+}
+
+impl<R: Ahead> Input<R> {
+    /// The same, but where a whole line lies ready, so that taking it doesn't wait, what was written may still be held.
+    pub(crate) fn read_ahead<W: Write>(
+        &mut self,
+        line: &mut Vec<u8>,
+        output: &mut Output<W>,
+    ) -> Result<usize, Ending>
+        ensures handed_on { result ≢ Err Ending.OutputFailed → (is_flushed output.new ≡ true) ⊎ (has_line (R.ready (reader_of self.old)) ≡ true) }
+        ensures told { Told result self.old self.new output.old output.new }
+        ensures kept { Keeps (W.contents (writer_of output.old)) (W.contents (writer_of output.new)) }
+        ensures ending { IfErr result (λ ending. is_of_stream ending ≡ true) }
+        ensures read { ReadsLine result (R.remaining (reader_of self.old)) (R.remaining (reader_of self.new)) line.old.items line.new.items }
+        ensures fewer { OnOk result (lines_left self.new < lines_left self.old) }
+    {
+        if memchr(b'\n', self.reader.ready()).is_none() {
+            output.hand_on()?;
+        }
+        self.read_on(line)
+    }
+}
+
+/// A writer with whether writing failed, and whether all that was written was handed on.
+#[derive(Drop)]
+pub struct Output<W> {
+    writer: W,
+    failed: bool,
+    flushed: bool,
+}
+
+impl<W> Output<W> {
+    /// The writer, to which nothing was written.
+    pub fn new(writer: W) -> Output<W>
+        ensures writer { writer_of result ≡ writer }
+        ensures sound { write_failed result ≡ false }
+        ensures flushed { is_flushed result ≡ true }
+    {
+        Output {
+            writer,
+            failed: false,
+            flushed: true,
+        }
+    }
+
+    /// Whether a write or a flush failed.
+    pub fn has_failed(&self) -> bool
+        ensures { result ≡ write_failed self.now }
+    {
+        self.failed
+    }
+
+    /// Whether the writer was flushed behind the last write.
+    pub fn is_flushed(&self) -> bool
+        ensures { result ≡ is_flushed self.now }
+    {
+        self.flushed
+    }
+
+    /// The writer, with what was written.
+    pub fn into_writer(self) -> W
+        ensures { result ≡ writer_of self }
+    {
+        self.writer
+    }
+}
+
+impl<W: Write> Output<W> {
+    /// Writes all of these bytes. Where that fails, some at their front were written.
+    pub(crate) fn write_all(&mut self, bytes: &[u8]) -> Result<(), Ending>
+        ensures written { OnOk result (Appends (W.contents (writer_of self.old)) (W.contents (writer_of self.new)) bytes.now) }
+        ensures part { IfErr result (λ _. AppendsPart (W.contents (writer_of self.old)) (W.contents (writer_of self.new)) bytes.now) }
+        ensures ending { IfErr result (λ ending. ending ≡ Ending.OutputFailed) }
+        ensures told { ToldOutput result self.old self.new }
+    {
+        self.flushed = false;
+        let mut rest = bytes;
+        for _ in 0..u64::MAX {
+            if rest.is_empty() {
+                return Ok(());
+            }
+            match self.writer.write(rest) {
+                Ok(0) => break,
+                Ok(count) => rest = &rest[count..],
+                Err(e) if e.kind() == ErrorKind::Interrupted => {}
+                Err(_) => break,
+            }
+        }
+        self.failed = true;
+        Err(Ending::OutputFailed)
+    }
+
+    /// Writes this text as a line.
+    pub(crate) fn write_line<D: Display + Drop>(&mut self, text: D) -> Result<(), Ending>
+        ensures written { OnOk result (IfSome (with_newline (D.output text)) (Appends (W.contents (writer_of self.old)) (W.contents (writer_of self.new)))) }
+        ensures ending { IfErr result (λ ending. ending ≡ Ending.OutputFailed) }
+        ensures told { ToldOutput result self.old self.new }
+    {
+        self.flushed = false;
+        match self.writer.writeln(text) {
+            Ok(()) => Ok(()),
+            Err(_) => {
+                self.failed = true;
+                Err(Ending::OutputFailed)
+            }
+        }
+    }
+
+    /// Flushes the writer.
+    pub(crate) fn flush(&mut self) -> Result<(), Ending>
+        ensures flushed { OnOk result (is_flushed self.new ≡ true) }
+        ensures kept { Keeps (W.contents (writer_of self.old)) (W.contents (writer_of self.new)) }
+        ensures ending { IfErr result (λ ending. ending ≡ Ending.OutputFailed) }
+        ensures told { ToldOutput result self.old self.new }
+    {
+        match self.writer.flush() {
+            Ok(()) => {
+                self.flushed = true;
+                Ok(())
+            }
+            Err(_) => {
+                self.failed = true;
+                Err(Ending::OutputFailed)
+            }
+        }
+    }
+
+    /// Flushes the writer, unless that was done behind the last write.
+    fn hand_on(&mut self) -> Result<(), Ending>
+        ensures flushed { OnOk result (is_flushed self.new ≡ true) }
+        ensures kept { Keeps (W.contents (writer_of self.old)) (W.contents (writer_of self.new)) }
+        ensures ending { IfErr result (λ ending. ending ≡ Ending.OutputFailed) }
+        ensures told { ToldOutput result self.old self.new }
+    {
+        if self.flushed {
+            return Ok(());
+        }
+        self.flush()
+    }
+}
+
+/// Takes the end of a line off, if it has one.
+pub(crate) fn drop_line_feed(line: &mut Vec<u8>)
+    ensures { line.new.items ≡ strip_last 10 line.old.items }
+{
+    if line.last() == Some(&b'\n') {
+        let _ = line.pop();
+    }
+}
