@@ -1,3 +1,4 @@
+pub mod Bounded
 pub mod CellLaws
 pub mod Covered
 pub mod CutSteps

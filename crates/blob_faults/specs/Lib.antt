@@ -1,4 +1,5 @@
 pub mod Answers
+pub mod Blocks
 pub mod Cells
 pub mod Drawings
 pub mod Fates

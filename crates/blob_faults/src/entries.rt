@@ -1,12 +1,14 @@
 //! What is pending of one incarnation, in issue order.
-ghost use Rattle.std.specs.Prelude.{◌≡◌, ◌<◌, ◌≤◌, ◌+◌, ◌^◌, ℕ, List, ◌++◌, ◌∷◌, [], All, OnOk, map, drop, length, vec_len, vec_capacity, true};
+ghost use Rattle.std.specs.Prelude.{◌≡◌, ◌<◌, ◌≤◌, ◌+◌, ◌^◌, ℕ, List, ◌++◌, ◌∷◌, [], All, OnOk, map, filter, drop, length, vec_len, vec_capacity, true};
 ghost use Rattle.blob_model.specs.Holes.{Holes};
-ghost use Rattle.blob_model.specs.Pending.{cut_by, laid, has_barrier, finished, ends};
+ghost use Rattle.blob_model.specs.Pending.{Pending, cut_by, laid, has_barrier, finished, ends};
+ghost use Rattle.blob_faults.specs.Blocks.{AreBounded};
 ghost use Rattle.blob_faults.specs.Marks.{marks_of};
 ghost use Rattle.blob_faults.specs.Replays.{unmarked, widest};
 ghost use Rattle.blob_faults.specs.Rooms.{AreWithin, HasRoomFor, HasRoomsFor, CanCut, KeepsRest};
-ghost use Rattle.blob_faults.specs.Views.{view, views, pared_by};
+ghost use Rattle.blob_faults.specs.Views.{view, views, pared_by, is_left};
 
+use crate::bounds::{Bounds, next_near};
 use crate::entry::{DurableRange, Entry};
 use blob_base::IoBufs;
 use std::alloc::AllocError;
@@ -14,66 +16,98 @@ use std::alloc::AllocError;
 /// Room in the writes for the holes of so many ranges from `start` up to `end`.
 fn reserve_holes(
     entries: &mut [Entry],
+    bounds: &[Bounds],
     start: u64,
     end: u64,
     count: usize,
 ) -> Result<(), AllocError>
+    requires { AreBounded bounds.now (views entries.old) }
     ensures views { views entries.new ≡ views entries.old }
     ensures ok { OnOk result ((ranges : Holes) → AreWithin start end count ranges → All (HasRoomFor ranges) entries.new) }
 {
-    for entry in entries.iter_mut() {
-        entry.reserve(start, end, count)?;
+    let len = entries.len();
+    let mut i = next_near(bounds, 0, len, start, end);
+    while i < len {
+        entries[i].reserve(start, end, count)?;
+        i = next_near(bounds, i + 1, len, start, end);
     }
     Ok(())
 }
 
-/// Room for so many more durable ranges, which lie from `start` up to `end`. A write that lies elsewhere needs none. A
-/// refusal leaves the list as it was.
-pub fn reserve_ranges(
+/// Room for so many more durable ranges, which lie from `start` up to `end`. A write that lies elsewhere needs none, and is
+/// passed over where its bounds say so. A refusal leaves the list as it was.
+pub(crate) fn reserve_ranges(
     entries: &mut Vec<Entry>,
+    bounds: &[Bounds],
     start: u64,
     end: u64,
     count: usize,
 ) -> Result<(), AllocError>
+    requires { AreBounded bounds.now (views entries.old.items) }
     ensures views { views entries.new.items ≡ views entries.old.items }
     ensures ok { OnOk result ((ranges : Holes) → AreWithin start end count ranges → HasRoomsFor ranges entries.new) }
 {
     entries.reserve(count)?;
-    reserve_holes(entries.as_mut_slice(), start, end, count)
+    reserve_holes(entries.as_mut_slice(), bounds, start, end, count)
 }
 
-/// Each write gives up what a durable range covers.
-fn cover_each(entries: &mut [Entry], start: u64, len: u64)
-    requires { CanCut start len (λ hs. All (HasRoomFor hs) entries.old) }
+/// Each write gives up what a durable range covers. Whether something is left of each entry: of those that are passed over
+/// something was.
+fn cover_each(entries: &mut [Entry], bounds: &[Bounds], start: u64, len: u64) -> bool
+    requires bounded { AreBounded bounds.now (views entries.old) }
+    requires room { CanCut start len (λ hs. All (HasRoomFor hs) entries.old) }
     ensures views { views entries.new ≡ map (pared_by start len) (views entries.old) }
     ensures room { KeepsRest start len (λ hs. All (HasRoomFor hs) entries.old) (λ hs. All (HasRoomFor hs) entries.new) }
+    ensures left { result ≡ true → All (λ entry. is_left (view entry) ≡ true) entries.new }
 {
-    for entry in entries.iter_mut() {
-        entry.cover(start, len);
+    let count = entries.len();
+    let mut all_left = true;
+    let mut i = next_near(bounds, 0, count, start, start + len);
+    while i < count {
+        entries[i].cover(start, len);
+        all_left = all_left && entries[i].is_left();
+        i = next_near(bounds, i + 1, count, start, start + len);
     }
+    all_left
 }
 
 /// Each write of a vector gives up what a durable range covers.
-fn cover_writes(entries: &mut Vec<Entry>, start: u64, len: u64)
-    requires { CanCut start len (λ hs. All (HasRoomFor hs) entries.old.items) }
+fn cover_writes(entries: &mut Vec<Entry>, bounds: &[Bounds], start: u64, len: u64) -> bool
+    requires bounded { AreBounded bounds.now (views entries.old.items) }
+    requires room { CanCut start len (λ hs. All (HasRoomFor hs) entries.old.items) }
     ensures views { views entries.new.items ≡ map (pared_by start len) (views entries.old.items) }
     ensures room { KeepsRest start len (λ hs. All (HasRoomFor hs) entries.old.items) (λ hs. All (HasRoomFor hs) entries.new.items) }
+    ensures left { result ≡ true → All (λ entry. is_left (view entry) ≡ true) entries.new.items }
     ensures capacity { vec_capacity entries.new ≡ vec_capacity entries.old }
     ensures len { vec_len entries.new ≡ vec_len entries.old }
 {
-    cover_each(entries.as_mut_slice(), start, len);
+    cover_each(entries.as_mut_slice(), bounds, start, len)
 }
 
-/// Each write gives up what a durable range covers, and one that is covered wholly goes.
-fn cover_all(entries: &mut Vec<Entry>, start: u64, len: u64)
-    requires { CanCut start len (λ hs. HasRoomsFor hs entries.old) }
+/// Those go of which nothing is left.
+fn drop_covered(entries: &mut Vec<Entry>)
+    ensures items { entries.new.items ≡ filter (λ entry. is_left (view entry)) entries.old.items }
+    ensures capacity { vec_capacity entries.old ≤ vec_capacity entries.new }
+    ensures len { vec_len entries.new ≤ vec_len entries.old }
+{
+    entries.retain(|entry| entry.is_left());
+}
+
+/// Each write gives up what a durable range covers, and one that is covered wholly goes. Whether none went.
+fn cover_all(entries: &mut Vec<Entry>, bounds: &[Bounds], start: u64, len: u64) -> bool
+    requires bounded { AreBounded bounds.now (views entries.old.items) }
+    requires room { CanCut start len (λ hs. HasRoomsFor hs entries.old) }
     ensures views { views entries.new.items ≡ cut_by start len (views entries.old.items) }
+    ensures bounded { result ≡ true → AreBounded bounds.now (views entries.new.items) }
     ensures room { KeepsRest start len (λ hs. HasRoomsFor hs entries.old) (λ hs. HasRoomsFor hs entries.new) }
     ensures capacity { vec_capacity entries.old ≤ vec_capacity entries.new }
     ensures len { vec_len entries.new ≤ vec_len entries.old }
 {
-    cover_writes(entries, start, len);
-    entries.retain(|entry| entry.is_left());
+    if cover_writes(entries, bounds, start, len) {
+        return true;
+    }
+    drop_covered(entries);
+    false
 }
 
 /// Whether a resize or a queued range is pending.
@@ -99,18 +133,39 @@ pub fn push(entries: &mut Vec<Entry>, entry: Entry)
     entries.push(entry).unwrap();
 }
 
+/// The bounds stay where the entries are still at their places, else none is left.
+fn keep_bounds(bounds: &mut Vec<Bounds>, kept: bool)
+    ensures { (q : List Pending) → (kept ≡ true → AreBounded bounds.old.items q) → AreBounded bounds.new.items q }
+{
+    if kept {
+        return;
+    }
+    bounds.clear();
+}
+
 /// A durable range: the writes give up what it covers, and it is queued where a crash would undo it. Only there its bytes
 /// have to be in `copy`.
-pub fn lay(entries: &mut Vec<Entry>, offset: u64, len: u64, copy: IoBufs)
+pub(crate) fn lay(
+    entries: &mut Vec<Entry>,
+    bounds: &mut Vec<Bounds>,
+    queues: bool,
+    offset: u64,
+    len: u64,
+    copy: IoBufs,
+)
+    requires queued { queues ≡ has_barrier (views entries.old.items) }
+    requires bounded { AreBounded bounds.old.items (views entries.old.items) }
     requires room { CanCut offset len (λ hs. HasRoomsFor hs entries.old) }
     requires copied { length copy ≤ len }
     ensures views { (bytes : List ℕ) → length bytes ≡ len → (has_barrier (views entries.old.items) ≡ true → copy ≡ bytes) → views entries.new.items ≡ laid offset bytes (views entries.old.items) }
     ensures marks { marks_of (views entries.new.items) ≡ marks_of (views entries.old.items) }
+    ensures queued { has_barrier (views entries.new.items) ≡ queues }
+    ensures bounded { AreBounded bounds.new.items (views entries.new.items) }
     ensures room { KeepsRest offset len (λ hs. HasRoomsFor hs entries.old) (λ hs. HasRoomsFor hs entries.new) }
 {
-    let queued = has_barrier(entries.as_slice());
-    cover_all(entries, offset, len);
-    if queued {
+    let kept = cover_all(entries, bounds, offset, len);
+    keep_bounds(bounds, kept);
+    if queues {
         push(
             entries,
             Entry::Range(DurableRange {

@@ -1,8 +1,11 @@
 //! What is pending of one incarnation, and which started syncs have a marker in it.
 ghost use Rattle.std.specs.Prelude.{◌≡◌, ◌≤◌, ◌==◌, drop, position, vec_len};
+ghost use Rattle.blob_model.specs.Pending.{has_barrier};
+ghost use Rattle.blob_faults.specs.Blocks.{AreBounded};
 ghost use Rattle.blob_faults.specs.Marks.{marks_of};
 ghost use Rattle.blob_faults.specs.Views.{views};
 
+use crate::bounds::{Bounds, add_bounds};
 use crate::entries;
 use crate::entry::Entry;
 use crate::room::Room;
@@ -19,7 +22,13 @@ pub struct Incarnation<O> {
     /// The numbers of the markers among the entries, in their order. A sync that isn't among them is finished with no look
     /// at the entries.
     pub marks: Vec<u64>,
+    /// Whether a resize or a queued range is among the entries.
+    pub queues: bool,
+    /// Where the writes of the first blocks of entries lie.
+    pub bounds: Vec<Bounds>,
     ghost marked: { marks.items ≡ marks_of (views entries.items) },
+    ghost queued: { queues ≡ has_barrier (views entries.items) },
+    ghost bounded: { AreBounded bounds.items (views entries.items) },
 }
 
 /// Where a marker's number stands among others.
@@ -40,7 +49,7 @@ fn drop_front(marks: &mut Vec<u64>, count: usize)
 impl<O> Incarnation<O> {
     ghost use Rattle.std.specs.Prelude.{◌<◌, ◌+◌, ◌^◌, ◌++◌, ◌∷◌, ℕ, List, [], OnOk, false, true, length};
     ghost use Rattle.blob_model.specs.Holes.{Holes};
-    ghost use Rattle.blob_model.specs.Pending.{Marker, laid, finished, has_barrier, is_marker};
+    ghost use Rattle.blob_model.specs.Pending.{Marker, laid, finished, is_marker};
     ghost use Rattle.blob_faults.specs.Lists.{Becomes, HasRoom};
     ghost use Rattle.blob_faults.specs.Rooms.{HasRoomsFor, CanCut, KeepsRest};
     ghost use Rattle.blob_faults.specs.Views.{view};
@@ -55,6 +64,8 @@ impl<O> Incarnation<O> {
             was_current: false,
             entries: Vec::new(alloc),
             marks: Vec::new(alloc),
+            queues: false,
+            bounds: Vec::new(alloc),
         }
     }
 
@@ -79,7 +90,8 @@ impl<O> Incarnation<O> {
                 self.entries.reserve(1)
             }
             Room::Ranges(start, end, count) => {
-                entries::reserve_ranges(&mut self.entries, start, end, count)
+                add_bounds(&mut self.bounds, &self.entries)?;
+                entries::reserve_ranges(&mut self.entries, &self.bounds, start, end, count)
             }
         }
     }
@@ -90,6 +102,7 @@ impl<O> Incarnation<O> {
         requires unmarked { is_marker (view entry) ≡ false }
         ensures { Becomes self.old self.new (views self.old.entries.items ++ view entry ∷ []) }
     {
+        self.queues = self.queues || entry.is_barrier();
         entries::push(&mut self.entries, entry);
     }
 
@@ -111,7 +124,14 @@ impl<O> Incarnation<O> {
         ensures origin { self.new.origin ≡ self.old.origin }
         ensures room { KeepsRest offset len (λ hs. HasRoomsFor hs self.old.entries) (λ hs. HasRoomsFor hs self.new.entries) }
     {
-        entries::lay(&mut self.entries, offset, len, copy);
+        entries::lay(
+            &mut self.entries,
+            &mut self.bounds,
+            self.queues,
+            offset,
+            len,
+            copy,
+        );
     }
 
     /// A started sync is finished: its marker and what stands before it go, where it is there.
@@ -120,7 +140,9 @@ impl<O> Incarnation<O> {
     {
         if let Some(i) = place_of(&self.marks, marker) {
             drop_front(&mut self.marks, i + 1);
+            self.bounds.clear();
             entries::finish(&mut self.entries, marker);
+            self.queues = entries::has_barrier(&self.entries);
         }
     }
 }

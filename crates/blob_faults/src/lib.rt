@@ -1,6 +1,7 @@
 //! Faults: their configuration, their draws, and the pending lists that a crash goes by.
 #![tactic(auto)]
 
+pub mod bounds;
 pub mod cells;
 pub mod config;
 pub mod draw;

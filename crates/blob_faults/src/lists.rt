@@ -11,7 +11,6 @@ ghost use Rattle.blob_faults.specs.Rooms.{CanCut, KeepsRest};
 ghost use Rattle.blob_faults.specs.Views.{view};
 ghost use Rattle.blob_faults.specs.Lists.{held, list_of, IsAt, HasRoomIn, IsRoomAt, HasRangesAt, SameLists, ChangesAt, AreDistinct, finished_in, AreNoted, has_ended};
 
-use crate::entries;
 use crate::entry::Entry;
 use crate::incarnation::Incarnation;
 use crate::room::Room;
@@ -185,7 +184,7 @@ impl<S: Durable> Lists<S> {
         ensures len { IfOk result (λ copy. length copy ≤ length bytes.now) }
         ensures memory { OnErr result (IsMemory result) }
     {
-        if entries::has_barrier(self.all.lists[i].entries.as_slice()) {
+        if self.all.lists[i].queues {
             return bytes.copied();
         }
         Ok(IoBufs::new(*self.all.lists.allocator()))

@@ -1,27 +1,60 @@
-use Rattle.std.proofs.Common.{◌≡◌, ◌<◌, ◌∙◌, ◌+◌, ◌∷◌, [], length, get_or, sym, subst, arith}
+use Rattle.std.proofs.Common.{rules, ◌≡◌, ◌<◌, ◌+◌, ◌∙◌, ◌∷◌, ◌&&◌, ℕ, true, refl, sym, ap, subst, length, get_or, arith}
+use Rattle.std.proofs.lemmas.Bool.{and_parts}
 use Rattle.std.proofs.lemmas.List.{get_or_default}
-use Rattle.blob_faults.specs.Views.{pared_by}
 use Rattle.blob_faults.specs.Rooms.{HasRoomFor}
+use Rattle.blob_faults.specs.Views.{view, pared_by, is_left}
 use Rattle.blob_model.specs.Holes.{Holes}
 use Rattle.blob_faults.specs.declared.entry.Entry.{Entry}
-use Rattle.blob_faults.proofs.CutSteps.{written, below_set, later_set}
+use Rattle.blob_faults.proofs.Bounded.{passed_pared, passed_left, rest_room, views_each, jump}
+use Rattle.blob_faults.proofs.CutSteps.{later_set}
 use Rattle.blob_faults.proofs.entries.cover_each.Goals as goal
 
-pub cover-requires : goal.cover-requires
-cover-requires c =
-    let i = c.loop-entry.entry-index in
-    record { fits = c.requires.fits; room_for = subst (λ (e : Entry). HasRoomFor ((c.args.start, c.args.start + c.args.len) ∷ []) e) (sym (c.loop-entry.invariant.later i c.entry-item.result (omega arith))) (c.requires.room_for i c.entry-item.result (omega arith)) }
-
-pub loop-entry-preserved : goal.loop-entry-preserved
-loop-entry-preserved c =
-    let i = c.loop-entry.entry-index in
-    let h : i < length c.loop-entry.entries = omega arith in
-    let here : (d : Entry) → get_or c.args.entries.now i d ≡ get_or c.loop-entry.entries i c.entry-item.result = λ d. sym (c.loop-entry.invariant.later i d (omega arith)) ∙ get_or_default c.loop-entry.entries i d c.entry-item.result h in
+pub loop-i-init : goal.loop-i-init
+loop-i-init c =
+    let bs = c.args.bounds.now in
+    let q = c.args.entries.now in
+    let passed = c.next_near-i.ensures.passed in
     record {
-      so_far = written (pared_by c.args.start c.args.len) c.loop-entry.entries i c.entry-item.result _ h c.cover.ensures.view ∙ c.loop-entry.invariant.so_far;
-      room = below_set (λ k d e. (later : Holes) → HasRoomFor ((c.args.start, c.args.start + c.args.len) ∷ later) (get_or c.args.entries.now k d) → HasRoomFor later e) c.loop-entry.entries i _ h c.loop-entry.invariant.room (λ d later r. c.cover.ensures.room later (subst (λ (e : Entry). HasRoomFor ((c.args.start, c.args.start + c.args.len) ∷ later) e) (here d) r));
-      later = later_set c.loop-entry.entries c.args.entries.now i _ c.loop-entry.invariant.later;
+      inside = c.next_near-i.ensures.len;
+      done = λ k d l. passed_pared bs q k c.args.start c.args.len d c.requires.bounded (passed k (omega arith) l);
+      left = λ is k d l. passed_left bs q k c.args.start (c.args.start + c.args.len) d c.requires.bounded (passed k (omega arith) l);
+      room = λ k d l later r. rest_room (get_or q k d) (c.args.start, c.args.start + c.args.len) later r;
+      later = λ k d l. refl;
     }
 
+pub loop-i-preserved : goal.loop-i-preserved
+loop-i-preserved c =
+    let bs = c.args.bounds.now in
+    let q = c.loop-i.entries in
+    let q0 = c.args.entries.now in
+    let i = c.loop-i.i in
+    let j = c.next_near-i-in-loop-i.result in
+    let e = c.cover.new.self in
+    let range : ℕ × ℕ = (c.args.start, c.args.start + c.args.len) in
+    let h : i < length q = omega arith in
+    let next = c.next_near-i-in-loop-i.ensures in
+    let kept = c.loop-i.invariant in
+    let here : (d : Entry) → get_or q0 i d ≡ get_or q i c.index-entries-i.result = λ d. sym (kept.later i d (omega arith)) ∙ get_or_default q i d c.index-entries-i.result h in
+    let told : view e ≡ pared_by c.args.start c.args.len (view (get_or q i c.index-entries-i.result)) = search rules in
+    let both : c.if-all_left.all_left ≡ (c.loop-i.all_left && is_left (view e)) = search rules in
+    record {
+      inside = next.len;
+      done = jump (λ k d x. view x ≡ pared_by c.args.start c.args.len (view (get_or q0 k d))) q q0 i j e h kept.done (λ d. told ∙ ap (λ (x : Entry). pared_by c.args.start c.args.len (view x)) (sym (here d))) kept.later
+          (λ k d a l. passed_pared bs q0 k c.args.start c.args.len d c.requires.bounded (next.passed k a l));
+      left = λ is.
+          let parts = and_parts c.loop-i.all_left (is_left (view e)) (sym both ∙ is) in
+          jump (λ k d x. is_left (view x) ≡ true) q q0 i j e h (kept.left parts.0) (λ d. parts.1) kept.later
+          (λ k d a l. passed_left bs q0 k c.args.start (c.args.start + c.args.len) d c.requires.bounded (next.passed k a l));
+      room = jump (λ k d x. (later : Holes) → HasRoomFor (range ∷ later) (get_or q0 k d) → HasRoomFor later x) q q0 i j e h kept.room
+          (λ d later r. c.cover.ensures.room later (subst (λ (x : Entry). HasRoomFor (range ∷ later) x) (here d) r)) kept.later
+          (λ k d a l later r. rest_room (get_or q0 k d) range later r);
+      later = λ k d l. later_set q q0 i e kept.later k d (omega (arith, l, next.from));
+    }
+
+pub returns-clause-views : goal.returns-clause-views
+returns-clause-views c =
+    views_each (pared_by c.args.start c.args.len) c.loop-i.entries c.args.entries.now c.loop-i.auto.entries (λ k d l. c.loop-i.invariant.done k d (omega (arith, l, c.loop-i-test.false)))
+
 pub returns-clause-room : goal.returns-clause-room
-returns-clause-room c later all k d h = c.loop-entry.invariant.room k d (omega arith) later (all k d (omega arith))
+returns-clause-room c later all k d l =
+    c.loop-i.invariant.room k d (omega (arith, l, c.loop-i.auto.entries, c.loop-i-test.false)) later (all k d (omega (arith, l, c.loop-i.auto.entries)))

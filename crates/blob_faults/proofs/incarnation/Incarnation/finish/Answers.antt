@@ -1,6 +1,9 @@
-use Rattle.std.proofs.Common.{refl, sym, ◌∙◌, ap, ◌+◌, drop}
+use Rattle.std.proofs.Common.{refl, sym, ◌∙◌, ap, ◌+◌, drop, List}
+use Rattle.blob_model.specs.Pending.{has_barrier}
+use Rattle.blob_faults.specs.declared.entry.Entry.{Entry}
 use Rattle.blob_faults.specs.Marks.{marks_of}
 use Rattle.blob_faults.specs.Views.{views}
+use Rattle.blob_faults.proofs.Bounded.{bounded_none}
 use Rattle.blob_faults.proofs.Marking.{finished_marks, finished_none}
 use Rattle.blob_faults.proofs.incarnation.Incarnation.finish.Goals as goal
 
@@ -9,6 +12,8 @@ invariant_of-self g c = record {
   marked = c.drop_front.ensures ∙ ap (drop (c.in-Some.i + 1)) (sym c.deref.ensures.value)
       ∙ finished_marks c.args.marker (views c.args.self.now.entries.items) c.deref.result.now c.in-Some.i (c.deref.ensures.value ∙ c.args.self.now.marked) (sym c.in-Some.is ∙ c.place_of.ensures)
       ∙ ap marks_of (sym c.finish.ensures);
+  queued = c.has_barrier-self.ensures ∙ ap (λ (q : List Entry). has_barrier (views q)) c.deref-in-Some.ensures.value;
+  bounded = bounded_none c.clear.new.self.items (views c.finish.new.entries.items) c.clear.ensures.items;
 }
 
 pub returns-in_default : goal.returns-in_default

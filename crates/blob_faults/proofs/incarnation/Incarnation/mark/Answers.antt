@@ -1,12 +1,18 @@
-use Rattle.std.proofs.Common.{rules, ◌≡◌, ◌++◌, ◌∷◌, [], List, ℕ, sym, ◌∙◌, ap}
+use Rattle.std.proofs.Common.{rules, ◌≡◌, ◌||◌, ◌++◌, ◌∷◌, [], List, ℕ, sym, ◌∙◌, ap, subst}
+use Rattle.blob_model.specs.Pending.{Pending, Marker, has_barrier}
+use Rattle.blob_faults.specs.Blocks.{AreBounded}
 use Rattle.blob_faults.specs.Marks.{marks_of}
 use Rattle.blob_faults.specs.Views.{views}
+use Rattle.blob_faults.proofs.Bounded.{bounded_push, barrier_mark}
 use Rattle.blob_faults.proofs.Marking.{marks-mark}
 use Rattle.blob_faults.proofs.incarnation.Incarnation.mark.Goals as goal
 
 pub invariant_of-self : goal.invariant_of-self
 invariant_of-self g c =
+    let q = views c.args.self.now.entries.items in
     let told : c.push.new.self.items ≡ c.args.self.now.marks.items ++ c.args.number ∷ [] = search rules in
     record {
-      marked = told ∙ ap (λ (ms : List ℕ). ms ++ c.args.number ∷ []) c.args.self.now.marked ∙ sym (ap marks_of c.push-2.ensures.views ∙ marks-mark (views c.args.self.now.entries.items) c.args.number);
+      marked = told ∙ ap (λ (ms : List ℕ). ms ++ c.args.number ∷ []) c.args.self.now.marked ∙ sym (ap marks_of c.push-2.ensures.views ∙ marks-mark q c.args.number);
+      queued = c.args.self.now.queued ∙ sym (ap has_barrier c.push-2.ensures.views ∙ barrier_mark q c.args.number);
+      bounded = subst (λ (r : List Pending). AreBounded c.args.self.now.bounds.items r) (sym c.push-2.ensures.views) (bounded_push c.args.self.now.bounds.items q (Marker c.args.number) c.args.self.now.bounded);
     }

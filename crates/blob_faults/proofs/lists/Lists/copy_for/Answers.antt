@@ -10,6 +10,6 @@ pub returns-clause-copied : goal.returns-clause-copied
 returns-clause-copied g c o i queued =
     let is = c.args.self.now.all.lists.items in
     let at : c.index.result.now ≡ get_or is c.args.i c.index.result.now = search rules in
-    let idle : has_barrier (views c.index.result.now.entries.items) ≡ false = search rules in
+    let idle : c.index.result.now.queues ≡ false = search rules in
     let here : views c.index.result.now.entries.items ≡ list_of g.S.Durable.place is o = found g.S.Durable.place is c.args.i c.index.result.now o (search rules) at i in
-    absurd (false≢true (sym idle ∙ ap has_barrier here ∙ queued))
+    absurd (false≢true (sym idle ∙ c.index.result.now.queued ∙ ap has_barrier here ∙ queued))

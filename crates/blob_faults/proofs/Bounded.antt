@@ -1,0 +1,189 @@
+-- Blocks of entries with bounds: a block more, an entry more, entries that are passed over.
+use Rattle.std.proofs.Common.{◌≡◌, ℕ, zero, suc, ◌+◌, ◌-◌, ◌*◌, ◌/◌, ◌<◌, ◌≤◌, min, max, ⊎_elim, Bool, true, false, cond, ◌&&◌, ◌||◌, List, [], ◌∷◌, ◌++◌, length, get_or, set, drop, map, refl, sym, subst, ◌∙◌, ap, ap₂, arith}
+use Rattle.std.proofs.lemmas.Bool.{and_parts, cases_Bool, cases_lt, cond-true, cond-false, cond_both, leb-true, le-ltb}
+use Rattle.std.proofs.lemmas.Bool.Decides.{nat_tests}
+use Rattle.std.proofs.lemmas.List.{get_or-map, get_or_append_left, get_or-drop, length-append, length-map}
+use Rattle.std.proofs.Math.Seq.{get_or-append_seam}
+use Rattle.std.specs.List.{All, filter}
+use Rattle.std.specs.Prelude.{nat_le, nat_lt}
+use Rattle.blob_model.specs.Holes.{Holes, need_in}
+use Rattle.blob_model.proofs.Holes.{need_dug}
+use Rattle.blob_model.specs.Log.{has_bare}
+use Rattle.blob_model.specs.Pending.{Pending, Waiting, Cut, Again, Marker, is_barrier, has_barrier, cut_by, pared_one}
+use Rattle.blob_faults.specs.Blocks.{AreBounded, IsPassed, is_within, is_apart}
+use Rattle.blob_faults.specs.Ranges.{ranges}
+use Rattle.blob_faults.specs.Rooms.{AreWithin, meets, HasRoomFor}
+use Rattle.blob_faults.specs.Views.{view, views, write_of, pared_by, is_left}
+use Rattle.blob_faults.specs.declared.bounds.Bounds.{Bounds}
+use Rattle.blob_faults.specs.declared.entry.Entry.{Entry}
+use Rattle.blob_faults.specs.declared.entry.Entry.TheVariants as entry
+use Rattle.blob_faults.proofs.CutSteps.{below_set, later_set}
+use Rattle.blob_faults.proofs.HoleRoom.{met_few, count-cons}
+
+-- an entry more
+pub bounded_push : (bs : List Bounds) (q : List Pending) (e : Pending) → AreBounded bs q → AreBounded bs (q ++ e ∷ [])
+bounded_push bs q e h k b d l =
+    let old = h k b d l in
+    (omega (arith, old.0, length-append q (e ∷ [])), ap (λ (p : Pending). is_within (get_or bs (k / 64) b) p) (get_or_append_left q (e ∷ []) d k old.0) ∙ old.1)
+
+or_false : (a : Bool) → (a || false) ≡ a
+or_false true = refl
+or_false false = refl
+
+or_more : (a b c : Bool) → (a || (b || c)) ≡ ((a || b) || c)
+or_more true b c = refl
+or_more false b c = refl
+
+pub barrier_push : (q : List Pending) (e : Pending) → has_barrier (q ++ e ∷ []) ≡ (has_barrier q || is_barrier e)
+barrier_push [] e = or_false (is_barrier e)
+barrier_push (x ∷ q) e = ap (λ (b : Bool). is_barrier x || b) (barrier_push q e) ∙ or_more (is_barrier x) (has_barrier q) (is_barrier e)
+
+-- a durable range takes no barrier
+pub barrier_cut : (o n : ℕ) (q : List Pending) → has_barrier (cut_by o n q) ≡ has_barrier q
+barrier_cut o n [] = refl
+barrier_cut o n (Waiting m ∷ q) = cond_both (has_bare (pared_one o n m)) (Waiting (pared_one o n m) ∷ cut_by o n q) (cut_by o n q) (λ r. has_barrier r ≡ has_barrier q) (λ _. barrier_cut o n q) (λ _. barrier_cut o n q)
+barrier_cut o n (Cut m ∷ q) = refl
+barrier_cut o n (Again p b ∷ q) = refl
+barrier_cut o n (Marker k ∷ q) = barrier_cut o n q
+
+-- a block more
+pub bounded_more : (bs : List Bounds) (b : Bounds) (q : List Entry) (start : ℕ) → start ≡ length bs * 64 → start + 64 ≤ length q → ((k : ℕ) (d : Entry) → k < 64 → is_within b (view (get_or (drop start q) k d)) ≡ true) →
+    AreBounded bs (views q) → AreBounded (bs ++ b ∷ []) (views q)
+bounded_more bs b q start at fits block old k c e l = ⊎_elim
+    (λ here. let o = old k c e here in (o.0, ap (λ (x : Bounds). is_within x (get_or (views q) k e)) (get_or_append_left bs (b ∷ []) c (k / 64) here) ∙ o.1))
+    (λ there.
+    let d : Entry = entry.Resize 0 in
+    let last : k / 64 ≡ length bs = omega (arith, there, l, length-append bs (b ∷ [])) in
+    let inside : k < length q = omega (arith, last, at, fits) in
+    let off : start + (k - start) ≡ k = omega (arith, last, at) in
+    let near : k - start < 64 = omega (arith, last, at) in (
+      omega (arith, inside, length-map q view),
+      ap (λ (x : Bounds). is_within x (get_or (views q) k e)) (ap (λ (j : ℕ). get_or (bs ++ b ∷ []) j c) last ∙ get_or-append_seam bs b [] c)
+          ∙ ap (λ (p : Pending). is_within b p) (get_or-map view q k d e inside)
+          ∙ ap (λ (x : Entry). is_within b (view x)) (sym (get_or-drop start q (k - start) d ∙ ap (λ (j : ℕ). get_or q j d) off)) ∙ block (k - start) d near,
+    ))
+    (cases_lt (k / 64) (length bs))
+
+-- what lies within bounds that are apart from a range doesn't meet it
+apart_le : (b : Bounds) (o e start end : ℕ) → nat_le b.start o ≡ true → nat_le e b.end ≡ true → is_apart start end b ≡ true → min end e ≤ max start o
+apart_le b o e start end low high apart =
+    let l : b.start ≤ o = leb-true b.start o low in
+    let h : e ≤ b.end = leb-true e b.end high in
+    ⊎_elim
+    (λ y. let x : b.end ≤ start = leb-true b.end start y in omega (arith, l, h, x))
+    (λ n. let x : end ≤ b.start = leb-true end b.start (ap (λ (c : Bool). c || nat_le end b.start) (sym n) ∙ apart) in omega (arith, l, h, x))
+    (cases_Bool (nat_le b.end start))
+
+pub room_apart : (b : Bounds) (e : Entry) (start end count : ℕ) (hs : Holes) → is_within b (view e) ≡ true → is_apart start end b ≡ true → AreWithin start end count hs → HasRoomFor hs e
+room_apart b (entry.Write w) start end count hs within apart few =
+    let a = and_parts (nat_le b.start w.offset) _ within in
+    let c = and_parts (nat_le (w.offset + length w.bytes) b.end) _ a.1 in
+    let met = met_few w.offset (w.offset + length w.bytes) start end count hs (omega (arith, w.some)) few in
+    omega (arith, met, apart_le b w.offset (w.offset + length w.bytes) start end a.0 c.0 apart, w.holes.ok)
+room_apart b (entry.Resize n) start end count hs within apart few = tt
+room_apart b (entry.Range r) start end count hs within apart few = tt
+room_apart b (entry.Marker k) start end count hs within apart few = tt
+
+pub pared_apart : (b : Bounds) (e : Entry) (o n : ℕ) → is_within b (view e) ≡ true → is_apart o (o + n) b ≡ true → pared_by o n (view e) ≡ view e
+pared_apart b (entry.Write w) o n within apart =
+    let a = and_parts (nat_le b.start w.offset) _ within in
+    let c = and_parts (nat_le (w.offset + length w.bytes) b.end) _ a.1 in
+    let le : min (o + n) (w.offset + length w.bytes) ≤ max o w.offset = apart_le b w.offset (w.offset + length w.bytes) o (o + n) a.0 c.0 apart in
+    ap Waiting (sym (need_dug o n (write_of w) (ranges w.holes.items)) ∙ ap (λ (hs : Holes). need_in (write_of w) hs) (cond-false (nat_lt (max o w.offset) (min (o + n) (w.offset + length w.bytes))) _ _ (le-ltb _ _ le)))
+pared_apart b (entry.Resize m) o n within apart = refl
+pared_apart b (entry.Range r) o n within apart = refl
+pared_apart b (entry.Marker k) o n within apart = refl
+
+pub left_within : (b : Bounds) (p : Pending) → is_within b p ≡ true → is_left p ≡ true
+left_within b (Waiting m) h = (and_parts (nat_le (m.write.offset + length m.write.bytes) b.end) _ (and_parts (nat_le b.start m.write.offset) _ h).1).1
+left_within b (Cut n) h = refl
+left_within b (Again o x) h = refl
+left_within b (Marker k) h = refl
+
+within_pared : (b : Bounds) (p : Pending) (o n : ℕ) → is_within b p ≡ true → is_left (pared_by o n p) ≡ true → is_within b (pared_by o n p) ≡ true
+within_pared b (Waiting m) o n h left =
+    let a = and_parts (nat_le b.start m.write.offset) _ h in
+    let c = and_parts (nat_le (m.write.offset + length m.write.bytes) b.end) _ a.1 in
+    ap₂ (λ (x y : Bool). x && y) a.0 (ap₂ (λ (x y : Bool). x && y) c.0 left)
+within_pared b (Cut m) o n h left = refl
+within_pared b (Again p x) o n h left = refl
+within_pared b (Marker k) o n h left = refl
+
+-- an entry that is passed over
+pub none : Bounds
+none = record { start = 0; end = 0 }
+
+abbrev pub Elsewhere : (bs : List Bounds) (q : List Entry) (k start end : ℕ) (d : Entry) → Type 0
+Elsewhere bs q k start end d = (k < length q) × (is_within (get_or bs (k / 64) none) (view (get_or q k d)) ≡ true) × (is_apart start end (get_or bs (k / 64) none) ≡ true)
+
+pub passed_at : (bs : List Bounds) (q : List Entry) (k start end : ℕ) (d : Entry) → AreBounded bs (views q) → IsPassed bs k start end → Elsewhere bs q k start end d
+passed_at bs q k start end d bounded passed =
+    let p = passed none in
+    let w = bounded k none (view d) p.0 in
+    let inside : k < length q = omega (arith, w.0, length-map q view) in
+    (inside, ap (λ (x : Pending). is_within (get_or bs (k / 64) none) x) (sym (get_or-map view q k d (view d) inside)) ∙ w.1, p.1)
+
+pub passed_room : (bs : List Bounds) (q : List Entry) (k start end count : ℕ) (d : Entry) (hs : Holes) → AreBounded bs (views q) → IsPassed bs k start end → AreWithin start end count hs → HasRoomFor hs (get_or q k d)
+passed_room bs q k start end count d hs bounded passed few =
+    let e = passed_at bs q k start end d bounded passed in
+    room_apart (get_or bs (k / 64) none) (get_or q k d) start end count hs e.1 e.2 few
+
+pub passed_pared : (bs : List Bounds) (q : List Entry) (k o n : ℕ) (d : Entry) → AreBounded bs (views q) → IsPassed bs k o (o + n) → view (get_or q k d) ≡ pared_by o n (view (get_or q k d))
+passed_pared bs q k o n d bounded passed =
+    let e = passed_at bs q k o (o + n) d bounded passed in
+    sym (pared_apart (get_or bs (k / 64) none) (get_or q k d) o n e.1 e.2)
+
+pub passed_left : (bs : List Bounds) (q : List Entry) (k start end : ℕ) (d : Entry) → AreBounded bs (views q) → IsPassed bs k start end → is_left (view (get_or q k d)) ≡ true
+passed_left bs q k start end d bounded passed =
+    let e = passed_at bs q k start end d bounded passed in
+    left_within (get_or bs (k / 64) none) (view (get_or q k d)) e.1
+
+-- all entries
+pub views_each : (f : Pending → Pending) (q r : List Entry) → length q ≡ length r → ((k : ℕ) (d : Entry) → k < length r → view (get_or q k d) ≡ f (view (get_or r k d))) → views q ≡ map f (views r)
+views_each f [] [] l h = refl
+views_each f [] (y ∷ r) l h = absurd (omega (arith, l))
+views_each f (x ∷ q) [] l h = absurd (omega (arith, l))
+views_each f (x ∷ q) (y ∷ r) l h = ap₂ (λ (p : Pending) (ps : List Pending). p ∷ ps) (h 0 x (omega arith)) (views_each f q r (omega (arith, l)) (λ k d m. h (suc k) d (omega (arith, m))))
+
+pub all_left : (q : List Entry) → All (λ e. is_left (view e) ≡ true) q → filter is_left (views q) ≡ views q
+all_left [] all = refl
+all_left (x ∷ q) all = cond-true (is_left (view x)) (view x ∷ filter is_left (views q)) (filter is_left (views q)) (all 0 x (omega arith)) ∙ ap (λ (r : List Pending). view x ∷ r) (all_left q (λ k d h. all (suc k) d (omega (arith, h))))
+
+pub bounded_pared : (bs : List Bounds) (q r : List Entry) (o n : ℕ) → AreBounded bs (views q) → views r ≡ map (pared_by o n) (views q) → All (λ e. is_left (view e) ≡ true) r → AreBounded bs (views r)
+bounded_pared bs q r o n old is left k b e l =
+    let d : Entry = entry.Resize 0 in
+    let w = old k b e l in
+    let len : length (views r) ≡ length (views q) = ap length is ∙ length-map (views q) (pared_by o n) in
+    let at : get_or (views r) k e ≡ pared_by o n (get_or (views q) k e) = ap (λ (x : List Pending). get_or x k e) is ∙ get_or-map (pared_by o n) (views q) k e e w.0 in
+    let inside : k < length r = omega (arith, w.0, len, length-map r view) in
+    let here : is_left (pared_by o n (get_or (views q) k e)) ≡ true = ap is_left (sym at ∙ get_or-map view r k d e inside) ∙ left k d inside in
+    (omega (arith, w.0, len), ap (λ (p : Pending). is_within (get_or bs (k / 64) b) p) at ∙ within_pared (get_or bs (k / 64) b) (get_or (views q) k e) o n w.1 here)
+
+-- a loop that writes the entry at i and then passes over those up to j
+pub jump : (P : ℕ → Entry → Entry → Type 0) (q q0 : List Entry) (i j : ℕ) (e : Entry) → i < length q → ((k : ℕ) (d : Entry) → k < i → P k d (get_or q k d)) → ((d : Entry) → P i d e) →
+    ((k : ℕ) (d : Entry) → i ≤ k → get_or q k d ≡ get_or q0 k d) → ((k : ℕ) (d : Entry) → i + 1 ≤ k → k < j → P k d (get_or q0 k d)) → (k : ℕ) (d : Entry) → k < j → P k d (get_or (set q i e) k d)
+jump P q q0 i j e h below one later far k d l = ⊎_elim
+    (λ near. below_set P q i e h below one k d near)
+    (λ past. subst (P k d) (sym (later_set q q0 i e later k d past)) (far k d past l))
+    (cases_lt k (i + 1))
+
+-- room for the ranges behind the first
+pub rest_room : (e : Entry) (h : ℕ × ℕ) (hs : Holes) → HasRoomFor (h ∷ hs) e → HasRoomFor hs e
+rest_room (entry.Write w) h hs room = omega (arith, room, count-cons (meets w.offset (w.offset + length w.bytes)) h hs)
+rest_room (entry.Resize n) h hs room = tt
+rest_room (entry.Range r) h hs room = tt
+rest_room (entry.Marker k) h hs room = tt
+
+pub barrier_mark : (q : List Pending) (k : ℕ) → has_barrier (q ++ Marker k ∷ []) ≡ has_barrier q
+barrier_mark q k = barrier_push q (Marker k) ∙ or_false (has_barrier q)
+
+-- no block has bounds
+pub bounded_none : (bs : List Bounds) (q : List Pending) → bs ≡ [] → AreBounded bs q
+bounded_none bs q e k b p l = absurd (omega (arith, l, ap (λ (x : List Bounds). length x) e))
+
+or_true : (a : Bool) → (a || true) ≡ true
+or_true true = refl
+or_true false = refl
+
+pub barrier_again : (q : List Pending) (o : ℕ) (b : List ℕ) → has_barrier (q ++ Again o b ∷ []) ≡ true
+barrier_again q o b = barrier_push q (Again o b) ∙ or_true (has_barrier q)
