@@ -118,38 +118,3 @@ fn joined(alloc: Global, pieces: &[Vec<u8>], len: usize) -> Result<Vec<u8>, Erro
     }
     Ok(bytes)
 }
-
-#[cfg(test)]
-mod tests {
-    use super::*;
-    use std::test::Fail;
-
-    #[test]
-    fn pieces_are_kept_until_they_are_joined(rt: HostRuntime) -> Result<(), Fail> {
-        let mut bufs = IoBufs::new(rt.alloc());
-        assert!(rt; bufs.is_empty());
-        bufs.push(Vec::from_slice(rt.alloc(), b"ab")?)?;
-        bufs.push(Vec::from_slice(rt.alloc(), b"cde")?)?;
-        assert_eq!(rt; bufs.remaining(), 5);
-        assert!(rt; !bufs.is_empty());
-        assert_eq!(rt; bufs.pieces().len(), 2);
-        let copy = bufs.copied()?;
-        assert_eq!(rt; copy.pieces().len(), 1);
-        assert_eq!(rt; copy.remaining(), 5);
-        let bytes = bufs.coalesce()?;
-        assert_eq!(rt; bytes.as_slice(), b"abcde".as_slice());
-        Ok(())
-    }
-
-    #[test]
-    fn one_piece_is_moved(rt: HostRuntime) -> Result<(), Fail> {
-        let mut piece = Vec::with_capacity(rt.alloc(), 100)?;
-        piece.push(7)?;
-        let bufs = IoBufs::from_vec(piece)?;
-        assert_eq!(rt; bufs.pieces().len(), 1);
-        let bytes = bufs.coalesce()?;
-        assert_eq!(rt; bytes.as_slice(), [7].as_slice());
-        assert_eq!(rt; bytes.capacity(), 100);
-        Ok(())
-    }
-}

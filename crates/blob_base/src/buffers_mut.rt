@@ -72,20 +72,3 @@ impl IoBufsMut {
         self.bytes
     }
 }
-
-#[cfg(test)]
-mod tests {
-    use super::*;
-    use std::test::Fail;
-
-    #[test]
-    fn bytes_are_replaced(rt: HostRuntime) -> Result<(), Fail> {
-        let mut buf = IoBufsMut::with_capacity(rt.alloc(), 4)?;
-        assert!(rt; buf.is_empty() && buf.capacity() >= 4);
-        buf.set(b"abcd");
-        buf.set(b"ef");
-        assert_eq!(rt; buf.len(), 2);
-        assert_eq!(rt; buf.coalesce().as_slice(), b"ef".as_slice());
-        Ok(())
-    }
-}

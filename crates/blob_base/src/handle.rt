@@ -56,19 +56,3 @@ impl Handle {
         self.marker
     }
 }
-
-#[cfg(test)]
-mod tests {
-    use super::*;
-
-    #[test]
-    fn handles_carry_outcome_and_marker(rt: HostRuntime) {
-        let ready = Handle::ready(Err(Error::Closed));
-        assert_eq!(rt; ready.outcome(), &Err(Error::Closed));
-        assert_eq!(rt; ready.marker(), None);
-        assert_eq!(rt; ready.into_outcome(), Err(Error::Closed));
-        let marked = Handle::marked(7);
-        assert_eq!(rt; marked.marker(), Some(7));
-        assert_eq!(rt; marked.into_outcome(), Ok(()));
-    }
-}

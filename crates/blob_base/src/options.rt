@@ -75,19 +75,3 @@ impl Flags for WriteOptions {
         WriteOptions { bits }
     }
 }
-
-#[cfg(test)]
-mod tests {
-    use super::*;
-
-    #[test]
-    fn options_are_sets(rt: HostRuntime) {
-        let none = WriteOptions::default();
-        let sync = none.union(WriteOptions::SYNC);
-        assert_eq!(rt; sync, WriteOptions::SYNC);
-        assert!(rt; sync.contains(WriteOptions::SYNC));
-        assert!(rt; !none.contains(WriteOptions::SYNC));
-        assert_eq!(rt; sync.without(WriteOptions::SYNC), none);
-        assert_eq!(rt; ReadOptions::default(), ReadOptions {});
-    }
-}

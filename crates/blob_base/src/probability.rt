@@ -111,6 +111,3 @@ impl PartialEq for Probability {
 impl Eq for Probability {
     ghost laws = { Prim.search (comparing, rules) };
 }
-
-#[cfg(test)]
-mod tests;

@@ -14,6 +14,3 @@ pub use reading::read_through;
 pub use refused_line::RefusedLine;
 pub use reply_line::print_reply;
 pub use setting::Setting;
-
-#[cfg(test)]
-mod tests;

@@ -2,8 +2,6 @@
 #![tactic(auto)]
 
 pub mod lab;
-#[cfg(test)]
-mod opens_tests;
 pub mod scripted_rng;
 
 pub use lab::Lab;

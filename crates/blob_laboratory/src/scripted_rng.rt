@@ -84,6 +84,3 @@ impl Rng for ScriptedRng {
         utils::fill_bytes_via_u64(self, dst)
     }
 }
-
-#[cfg(test)]
-mod tests;

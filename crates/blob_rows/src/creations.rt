@@ -1,12 +1,9 @@
 //! What an interrupted creation may have left: by a header's failure, by its magic, by the whole image.
 
-use crate::error::Error;
-use crate::header::Header;
-use crate::header_error::HeaderError;
-use crate::header_tests::region_of;
-use crate::layout::Layout;
-use crate::version::{BlobVersion, DEFAULT_BLOB_VERSION};
+use crate::header_values::region_of;
+use blob_header::{BlobVersion, DEFAULT_BLOB_VERSION, Error, Header, HeaderError, Layout};
 use std::alloc::Global;
+use std::process::Abort;
 use std::test::Fail;
 
 const ZERO: BlobVersion = DEFAULT_BLOB_VERSION;
@@ -69,13 +66,14 @@ fn a_magic_that_lost_bytes_is_none(rt: HostRuntime) {
 
 // The first bytes of the region of version 5, zeros behind them up to a length, and other bytes in place of some.
 fn image(
+    rt: &impl Abort,
     alloc: Global,
     kept: usize,
     len: usize,
     at: usize,
     other: &[u8],
 ) -> Result<Vec<u8>, Error> {
-    let mut bytes = region_of(alloc, 5)?;
+    let mut bytes = Vec::from_slice(alloc, &region_of(rt, alloc, BlobVersion::new(5))?)?;
     bytes.truncate(kept);
     bytes.resize(len, 0)?;
     for (i, new) in other.iter().enumerate() {
@@ -102,7 +100,7 @@ fn torn_states_are_interrupted_creations(rt: HostRuntime) -> Result<(), Fail> {
         (0, 108, 0, b"CWI"),
     ];
     for (kept, len, at, other) in rows {
-        let torn = image(rt.alloc(), kept, len, at, other)?;
+        let torn = image(&rt, rt.alloc(), kept, len, at, other)?;
         assert!(rt; Layout::V1.interrupted_creation(&torn), "{kept} of {len}");
         assert!(rt; !Layout::V0.interrupted_creation(&torn), "{kept} of {len}");
     }
@@ -130,7 +128,7 @@ fn foreign_bytes_are_no_interrupted_creation(rt: HostRuntime) -> Result<(), Fail
         (0, 10, 0, b"CWI\0\0\0\0\x05\xaa\xbb"),
     ];
     for (kept, len, at, other) in rows {
-        let foreign = image(rt.alloc(), kept, len, at, other)?;
+        let foreign = image(&rt, rt.alloc(), kept, len, at, other)?;
         assert!(rt;
             !Layout::V1.interrupted_creation(&foreign),
             "{other:?} at {at} of {len}"

@@ -1,8 +1,12 @@
+//! What a rate draws, and how many words it takes.
+
 ghost use Rattle.std.specs.Prelude.{◌≡◌, ◌↔◌, IsTrue, ℕ, ◌+◌, ◌%◌, ◌^◌};
 ghost use Rattle.rand_core.specs.Steps.{stream_of, steps_u64_low};
 
-use super::*;
+use blob_base::Probability;
+use rand_core::Rng;
 use rand_core::utils::{self, NextWord};
+use std::marker::Model;
 
 /// Gives its number as a word, and counts on.
 #[derive(Drop)]

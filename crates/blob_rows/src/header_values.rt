@@ -1,25 +1,15 @@
 //! Values of the format that come from outside: checksums, regions, what blobs resolve to, names.
 
-ghost use Rattle.std.specs.Prelude.{◌≡◌, ◌<◌, IfOk, length};
-ghost use Rattle.std.specs.Range.{range_inclusive_start, range_inclusive_end};
-
-use crate::checksum::Crc32;
-use crate::error::Error;
-use crate::header::Header;
-use crate::header_error::HeaderError;
-use crate::header_laws::decodes_what_encodes;
-use crate::layout::Layout;
-use crate::partition_name::validate_partition_name;
-use crate::resolution::resolve;
-use crate::version::BlobVersion;
+use blob_header::header_laws::decodes_what_encodes;
+use blob_header::{
+    BlobVersion, Crc32, Error, Header, HeaderError, Layout, resolve, validate_partition_name,
+};
 use std::alloc::Global;
 use std::ops::RangeInclusive;
+use std::process::Abort;
 use std::test::Fail;
 
-fn versions(first: u16, last: u16) -> RangeInclusive<BlobVersion>
-    ensures first { (range_inclusive_start result).0 ≡ first }
-    ensures last { (range_inclusive_end result).0 ≡ last }
-{
+fn versions(first: u16, last: u16) -> RangeInclusive<BlobVersion> {
     BlobVersion::new(first)..=BlobVersion::new(last)
 }
 
@@ -54,13 +44,16 @@ fn padded(alloc: Global, bytes: &[u8], len: usize) -> Result<Vec<u8>, Error> {
 }
 
 /// The V1 region of this version.
-#[tactic(auto, using(crate::proofs::NoneSide::length_region))]
-pub(crate) fn region_of(alloc: Global, version: u16) -> Result<Vec<u8>, Error>
-    ensures { IfOk result (λ bytes. length bytes.items ≡ 4096) }
-{
-    let only = Layout::V1..=Layout::V1;
-    let (bytes, _) = Header::create(alloc, &only, &versions(version, version))?;
-    Ok(bytes)
+pub(crate) fn region_of(
+    rt: &impl Abort,
+    alloc: Global,
+    version: BlobVersion,
+) -> Result<[u8; 4096], Error> {
+    let (bytes, _) = Header::create(alloc, &(Layout::V1..=Layout::V1), &(version..=version))?;
+    assert_eq!(rt; bytes.len(), 4096);
+    let mut region = [0; 4096];
+    region.copy_from_slice(bytes.as_slice());
+    Ok(region)
 }
 
 #[test]
@@ -83,13 +76,13 @@ fn checksums_are_the_published_ones(rt: HostRuntime) {
 #[test]
 fn creations_have_the_greatest_layout_and_version(rt: HostRuntime) -> Result<(), Fail> {
     let only = Layout::V0..=Layout::V0;
-    let (old, version) = Header::create(rt.alloc(), &only, &versions(0, 7))?;
+    let accepted = BlobVersion::new(0)..=BlobVersion::new(7);
+    let (old, version) = Header::create(rt.alloc(), &only, &accepted)?;
     assert_eq!(rt; old.as_slice(), b"CWIC\x00\x00\x00\x07".as_slice());
     assert_eq!(rt; version.get(), 7);
-    let parsed = Header::parse(old.as_slice(), 8, &only, &versions(0, 7));
+    let parsed = Header::parse(old.as_slice(), 8, &only, &accepted);
     assert_eq!(rt; parsed, Ok((0, BlobVersion::new(7), 8)));
-    let new = region_of(rt.alloc(), 3)?;
-    assert_eq!(rt; new.len(), 4096);
+    let new = region_of(&rt, rt.alloc(), BlobVersion::new(3))?;
     assert_eq!(rt;
         &new[..12],
         b"CWIK\x00\x01\x00\x03\x3b\x43\x2b\x28".as_slice()
@@ -129,13 +122,12 @@ fn headers_are_read_by_their_layout(rt: HostRuntime) -> Result<(), Fail> {
 }
 
 // The region of version 0 with one byte set, cut to a length.
-fn damaged(alloc: Global, at: usize, byte: u8, len: usize) -> Result<Vec<u8>, Error>
-    requires { at < 4096 }
-{
-    let mut region = region_of(alloc, 0)?;
-    region[at] = byte;
-    region.truncate(len);
-    Ok(region)
+fn damaged(rt: &impl Abort, alloc: Global, at: u8, byte: u8, len: usize) -> Result<Vec<u8>, Error> {
+    let mut region = region_of(rt, alloc, BlobVersion::new(0))?;
+    region[at as usize] = byte;
+    let mut blob = Vec::from_slice(alloc, &region)?;
+    blob.truncate(len);
+    Ok(blob)
 }
 
 fn parse_error(blob: &[u8]) -> Option<HeaderError> {
@@ -148,7 +140,7 @@ fn parse_error(blob: &[u8]) -> Option<HeaderError> {
 
 #[test]
 fn a_damaged_region_is_parsed_and_resolved(rt: HostRuntime) -> Result<(), Fail> {
-    let blob = damaged(rt.alloc(), 11, 0xdd, 4096)?;
+    let blob = damaged(&rt, rt.alloc(), 11, 0xdd, 4096)?;
     assert_eq!(rt;
         parse_error(blob.as_slice()),
         Some(HeaderError::InvalidChecksum)
@@ -157,14 +149,14 @@ fn a_damaged_region_is_parsed_and_resolved(rt: HostRuntime) -> Result<(), Fail> 
         told(rt.alloc(), blob.as_slice())?.as_str(),
         "invalid header checksum"
     );
-    let blob = damaged(rt.alloc(), 0, b'C', 4095)?;
+    let blob = damaged(&rt, rt.alloc(), 0, b'C', 4095)?;
     let truncated = HeaderError::Truncated {
         required_len: 4096,
         raw_len: 4095,
     };
     assert_eq!(rt; parse_error(blob.as_slice()), Some(truncated));
     assert_eq!(rt; told(rt.alloc(), blob.as_slice())?.as_str(), "create");
-    let blob = damaged(rt.alloc(), 12, 1, 4096)?;
+    let blob = damaged(&rt, rt.alloc(), 12, 1, 4096)?;
     assert_eq!(rt;
         parse_error(blob.as_slice()),
         Some(HeaderError::InvalidPadding)

@@ -1,4 +1,6 @@
-use super::ScriptedRng;
+//! The words of a laboratory's generator.
+
+use blob_laboratory::ScriptedRng;
 use rand_core::Rng;
 use std::test::Fail;
 

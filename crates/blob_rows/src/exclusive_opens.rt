@@ -1,3 +1,5 @@
+//! Exclusive opens over the memory store.
+
 use blob_base::{Blob, BlobVersion, Error, IoBufs, ReadOptions, WriteOptions};
 use blob_memory::Storage;
 use blob_opens::{Opens, open};

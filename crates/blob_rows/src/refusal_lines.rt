@@ -1,7 +1,6 @@
-use super::RefusalLine;
-use crate::error::Error;
-use crate::layout::Layout;
-use crate::version::BlobVersion;
+//! Errors as lines of a script's replies.
+
+use blob_header::{BlobVersion, Error, Layout, RefusalLine};
 use std::alloc::{AllocError, Global};
 use std::test::Fail;
 

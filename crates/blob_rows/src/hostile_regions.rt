@@ -1,32 +1,29 @@
 //! Images of a damaged region: each front of it, and each change of one byte.
 
-use crate::error::Error;
-use crate::header_tests::{region_of, told};
+use crate::header_values::{region_of, told};
+use blob_header::{BlobVersion, Error};
 use std::alloc::Global;
 use std::test::Fail;
 
 #[test]
 fn each_front_of_a_region_is_created_again(rt: HostRuntime) -> Result<(), Fail> {
-    let region = region_of(rt.alloc(), 5)?;
+    let region = region_of(&rt, rt.alloc(), BlobVersion::new(5))?;
     for kept in 0..4096 {
         assert_eq!(rt; told(rt.alloc(), &region[..kept])?.as_str(), "create");
     }
-    assert_eq!(rt;
-        told(rt.alloc(), region.as_slice())?.as_str(),
-        "valid 0 5 4096"
-    );
+    assert_eq!(rt; told(rt.alloc(), &region)?.as_str(), "valid 0 5 4096");
     Ok(())
 }
 
 #[test]
 fn each_change_of_one_byte_is_told(rt: HostRuntime) -> Result<(), Fail> {
-    let mut region = region_of(rt.alloc(), 5)?;
+    let mut region = region_of(&rt, rt.alloc(), BlobVersion::new(5))?;
     for at in 0..4096 {
         let kept = region[at];
         for byte in 0..=u8::MAX {
             if byte != kept {
                 region[at] = byte;
-                let answer = told(rt.alloc(), region.as_slice())?;
+                let answer = told(rt.alloc(), &region)?;
                 let expected = after_change(rt.alloc(), at, byte)?;
                 assert_eq!(rt; answer.as_str(), expected.as_str(), "byte {at} made {byte}");
             }

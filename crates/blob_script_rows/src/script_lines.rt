@@ -1,6 +1,8 @@
-use super::{RefusedLine, print_reply, read_line};
-use crate::Reply;
+//! Lines of scripts that are read, and replies that are printed.
+
 use blob_base::{BlobVersion, Error};
+use blob_calls::Reply;
+use blob_calls::script::{RefusedLine, print_reply, read_line};
 use std::alloc::Global;
 use std::process::Abort;
 use std::test::Fail;

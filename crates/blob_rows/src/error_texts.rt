@@ -1,4 +1,7 @@
-use super::*;
+//! What errors say in words.
+
+use blob_header::{BlobVersion, Error, Layout};
+use std::alloc::AllocError;
 use std::test::Fail;
 
 #[test]
