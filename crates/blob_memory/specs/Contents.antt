@@ -5,9 +5,9 @@ use Rattle.blob_header.specs.declared.layout.Layout.{Layout}
 use Rattle.blob_header.specs.declared.version.BlobVersion.{BlobVersion}
 use Rattle.blob_model.specs.Places.{Place}
 use Rattle.blob_model.specs.Directory as directory
-use Rattle.blob_model.specs.Directory.{File, Directory, with_file, with_partition}
+use Rattle.blob_model.specs.Directory.{File, Directory, place_made, with_file, with_partition}
 use Rattle.blob_header.specs.Header.{data_start, region}
-use Rattle.blob_model.specs.Durable.{Durable}
+use Rattle.blob_model.specs.Durable.{Durable, with_at}
 use Rattle.blob_memory.specs.declared.item.Item.{Item}
 use Rattle.blob_memory.specs.declared.item.Item.TheVariants.{Raw, Held}
 use Rattle.blob_memory.specs.declared.item.Held as held
@@ -45,10 +45,6 @@ items_of (Some v) = Some v.items
 abbrev pub durable_of : Contents → Durable
 durable_of s o = items_of (vec_at s o)
 
--- what there is of some places taken away
-abbrev pub without : {X : Type 0} → (Place → Option X) → (Place → Bool) → Place → Option X
-without f gone o = cond (gone o) None (f o)
-
 -- an incarnation that isn't current, or whose durable bytes can grow so far without memory
 abbrev pub Fits : Option (Vec ℕ Global) → ℕ → Type 0
 Fits None n = Unit {0}
@@ -81,6 +77,14 @@ logical_from start (Held h) = h.bytes.items
 abbrev pub logical_of : ℕ → Option Item → List ℕ
 logical_of start None = []
 logical_of start (Some item) = logical_from start item
+
+-- the logical bytes of a name's file under a header of this layout
+abbrev pub logical_at : Contents → List ℕ → List ℕ → Layout → List ℕ
+logical_at s p n layout = logical_of (data_start layout) (item_of s p n)
+
+-- the durable bytes with those of the incarnation that a name gets next
+abbrev pub durable_made : Contents → List ℕ → List ℕ → Layout → List ℕ → Durable
+durable_made s p n layout bytes = with_at (durable_of s) (place_made (directory_of s) p n layout) (Some bytes)
 
 -- a raw file that is so long, or an incarnation
 abbrev pub IsFrom : ℕ → Item → Type 0

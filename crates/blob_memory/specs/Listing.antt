@@ -35,8 +35,12 @@ raw_at s p n = option_map raw_bytes (item_at s p n)
 abbrev pub Names : Type 0
 Names = BTreeMap (Vec ℕ Global) Item
 
+-- a blob of a listing
+abbrev pub blob_of : List ℕ → List ℕ → Item → Listed
+blob_of p n item = record { partition = p; name = n; bytes = raw_bytes item }
+
 abbrev pub listed : List ℕ → Vec ℕ Global × Item → Listed
-listed p e = record { partition = p; name = e.0.items; bytes = raw_bytes e.1 }
+listed p e = blob_of p e.0.items e.1
 
 -- the blobs of a partition
 abbrev pub listing_in : List ℕ → List (Vec ℕ Global × Item) → List Listed

@@ -1,10 +1,10 @@
 // The checksum over all blobs, fed piece by piece.
-ghost use Rattle.std.specs.Prelude.{◌≡◌, ◌++◌, List, ℕ, codes};
-ghost use Rattle.blob_memory.specs.Audit.{pieces_of, audit, IsListing};
+ghost use Rattle.std.specs.Prelude.{◌≡◌, ◌++◌, List, ℕ};
+ghost use Rattle.blob_memory.specs.Audit.{piece_of, pieces_of, audit, IsListing};
 ghost use Rattle.blob_header.specs.Checksum.{crc32c};
 ghost use Rattle.blob_header.specs.Header.{region};
 ghost use Rattle.blob_header.specs.Register.{Holds};
-ghost use Rattle.blob_memory.specs.Listing.{raw_bytes, raw_in, listing_in, listing_all, AreOrdered, AreOrderedNames, AreAllOrdered};
+ghost use Rattle.blob_memory.specs.Listing.{raw_bytes, blob_of, raw_in, listing_in, listing_all, AreOrdered, AreOrderedNames, AreAllOrdered};
 
 use crate::item::Item;
 use blob_base::{BlobVersion, Crc32, Header, Layout};
@@ -45,7 +45,7 @@ fn feed_item(crc: &mut Crc32, item: &Item)
 
 /// Feeds a blob.
 fn feed_blob(crc: &mut Crc32, partition: &str, name: &[u8], item: &Item)
-    ensures { (before : List ℕ) → Holds crc.old before → Holds crc.new (before ++ (codes "partition" ++ partition.now ++ codes "blob" ++ name.now ++ codes "content" ++ raw_bytes item.now)) }
+    ensures { (before : List ℕ) → Holds crc.old before → Holds crc.new (before ++ piece_of (blob_of partition.now name.now item.now)) }
 {
     crc.update(b"partition");
     crc.update(partition.as_bytes());

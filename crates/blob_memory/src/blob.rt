@@ -244,7 +244,8 @@ impl blob_base::Blob<Storage> for Blob {
     ///
     /// The outcome is what `sync` answers: `BlobMissing` by a stale handle, or `Memory`. No durable byte changes then.
     fn start_sync(&mut self, store: &mut Storage) -> Handle {
-        Handle::ready(self.sync(store))
+        let outcome = self.sync(store);
+        Handle::ready(outcome)
     }
 
     /// Takes room for the live bytes, and by a current handle for the durable ones, up to the logical `end`.

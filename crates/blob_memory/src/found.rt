@@ -1,9 +1,9 @@
 // What an open finds of a name's file.
-ghost use Rattle.std.specs.Prelude.{◌≡◌, ◌≤◌, ◌<◌, ◌^◌, ◌⊎◌, List, ℕ, [], None, Some, true, false, IfOk, IfErr, OnErr, length, drop};
+ghost use Rattle.std.specs.Prelude.{◌≡◌, ◌≤◌, ◌<◌, ◌^◌, ◌⊎◌, [], None, Some, true, false, IfOk, IfErr, OnErr, length, drop};
 ghost use Rattle.std.specs.Range.{range_inclusive_start, range_inclusive_end};
 ghost use Rattle.blob_model.specs.Directory.{Raw};
 ghost use Rattle.blob_header.specs.Header.{data_start};
-ghost use Rattle.blob_model.specs.Opening.{opening, Begins, Declines, layout_from};
+ghost use Rattle.blob_model.specs.Opening.{Begins, Declines, layout_from};
 ghost use Rattle.blob_header.specs.Refusals.{refusal_of, IsMemory, IsMemoryError};
 ghost use Rattle.blob_header.specs.Versions.{is_in_range};
 
@@ -63,8 +63,7 @@ fn layout_at(offset: u64) -> Layout
 }
 
 impl Held {
-    ghost use Rattle.blob_memory.specs.Contents.{file_when};
-    ghost use Rattle.blob_memory.specs.Found.{opening_of};
+    ghost use Rattle.blob_memory.specs.Found.{opening_of, FindsHeld};
 
     /// What an open finds of an incarnation, current or ended. Its header is known, so nothing is resolved.
     pub fn found(
@@ -72,14 +71,14 @@ impl Held {
         is_ended: bool,
         versions: &RangeInclusive<BlobVersion>,
     ) -> Result<Found, Error>
-        ensures opening { IfOk result (λ found. (p n : List ℕ) → opening p n (Some (file_when is_ended self.now)) (range_inclusive_start versions.now).0 (range_inclusive_end versions.now).0 ≡ opening_of found) }
+        ensures opening { IfOk result (λ found. FindsHeld is_ended self.now versions.now (opening_of found)) }
         ensures ended { IfOk result (λ found. is_ended ≡ true → found.number ≡ None) }
         ensures current { IfOk result (λ found. is_ended ≡ false → found.number ≡ Some self.now.number) }
         ensures file { IfOk result (λ found. found.is_file ≡ true) }
         ensures layout { IfOk result (λ found. found.layout ≡ self.now.layout) }
         ensures version { IfOk result (λ found. found.version ≡ self.now.version) }
         ensures live { IfOk result (λ found. found.live.items ≡ self.now.bytes.items) }
-        ensures err { IfErr result (λ error. IsMemoryError error ⊎ ((p n : List ℕ) → opening p n (Some (file_when is_ended self.now)) (range_inclusive_start versions.now).0 (range_inclusive_end versions.now).0 ≡ Declines (refusal_of error))) }
+        ensures err { IfErr result (λ error. IsMemoryError error ⊎ FindsHeld is_ended self.now versions.now (Declines (refusal_of error))) }
     {
         if !has_version(versions, self.version) {
             return Err(Error::BlobVersionMismatch {
@@ -97,7 +96,7 @@ impl Held {
     }
 }
 
-ghost use Rattle.blob_memory.specs.Found.{opening_of, IsFoundRaw};
+ghost use Rattle.blob_memory.specs.Found.{opening_of, opening_for, IsDeclined, IsFoundRaw};
 
 /// What is found behind a header of a raw file.
 fn found_behind(
@@ -131,9 +130,9 @@ pub fn found_raw(
     partition: &str,
     name: &[u8],
 ) -> Result<Found, Error>
-    ensures opening { IfOk result (λ found. opening partition.now name.now (Some (Raw raw.now)) (range_inclusive_start versions.now).0 (range_inclusive_end versions.now).0 ≡ opening_of found) }
+    ensures opening { IfOk result (λ found. opening_for partition.now name.now (Some (Raw raw.now)) versions.now ≡ opening_of found) }
     ensures found { IfOk result (λ found. IsFoundRaw found.number found.is_file found.layout found.live.items raw.now) }
-    ensures err { IfErr result (λ error. IsMemoryError error ⊎ (opening partition.now name.now (Some (Raw raw.now)) (range_inclusive_start versions.now).0 (range_inclusive_end versions.now).0 ≡ Declines (refusal_of error))) }
+    ensures err { IfErr result (IsDeclined (opening_for partition.now name.now (Some (Raw raw.now)) versions.now)) }
 {
     resolved_has_header();
     let len = raw.len() as u64;

@@ -1,10 +1,8 @@
 // Incarnations that begin with what a file has, and all that end at once.
 ghost use Rattle.std.specs.Prelude.{◌≡◌, ◌≤◌, ◌<◌, ◌-◌, ◌^◌, List, ℕ, [], None, Some, false, length, unwrap_or};
-ghost use Rattle.blob_model.specs.Directory.{directory_made, place_made};
-ghost use Rattle.blob_header.specs.Header.{data_start};
-ghost use Rattle.blob_model.specs.Durable.{with_at};
+ghost use Rattle.blob_model.specs.Directory.{directory_made};
 ghost use Rattle.blob_model.specs.Files.{directory_again};
-ghost use Rattle.blob_memory.specs.Contents.{directory_of, durable_of, item_of, IsUnder, logical_from, logical_of, IsFrom};
+ghost use Rattle.blob_memory.specs.Contents.{directory_of, durable_of, item_of, IsUnder, logical_from, logical_at, durable_made, IsFrom};
 ghost use Rattle.blob_memory.specs.Listing.{listing_at};
 
 use super::Contents;
@@ -33,7 +31,7 @@ impl Contents {
         requires left { (directory_of self.old).next < 2 ^ 64 - 1 }
         requires under { IsUnder self.old layout version (item_of self.old partition.now name.now) }
         ensures directory { directory_of self.new ≡ directory_made (directory_of self.old) partition.now name.now layout version.0 }
-        ensures durable { durable_of self.new ≡ with_at (durable_of self.old) (place_made (directory_of self.old) partition.now name.now layout) (Some (logical_of (data_start layout) (item_of self.old partition.now name.now))) }
+        ensures durable { durable_of self.new ≡ durable_made self.old partition.now name.now layout (logical_at self.old partition.now name.now layout) }
     {
         let mut item = Item::Raw(Vec::new(self.alloc));
         self.partitions.exchange(partition, name, &mut item);

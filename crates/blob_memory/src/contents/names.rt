@@ -1,18 +1,16 @@
 // Contents by partition and name.
 ghost use Rattle.std.specs.Prelude.{◌≡◌, ◌<◌, ◌+◌, ◌-◌, ◌^◌, List, ℕ, None, Some, true, false, IsSome, is_some, is_none, IsTrue, IsOk, OnOk, OnErr, IfOk, map, option_copied};
-ghost use Rattle.blob_model.specs.Places.{Place};
-ghost use Rattle.blob_model.specs.Directory.{Raw, current, place_made, directory_made, removed};
+ghost use Rattle.blob_model.specs.Directory.{current, directory_made, removed};
 ghost use Rattle.blob_memory.specs.Audit.{audit, IsListing};
 ghost use Rattle.blob_header.specs.Checksum.{crc32c};
 ghost use Rattle.blob_base.specs.Names.{AreNames};
 ghost use Rattle.blob_memory.specs.Listing.{listing_at, raw_blob_of};
-ghost use Rattle.blob_model.specs.Durable.{with_at, is_under, durable_without};
+ghost use Rattle.blob_model.specs.Durable.{durable_without};
 ghost use Rattle.blob_memory.specs.Partitions.{item_at, is_there};
-ghost use Rattle.blob_memory.specs.Contents.{directory_raw, directory_of, durable_of, vec_at, without};
+ghost use Rattle.blob_memory.specs.Contents.{directory_raw, directory_of, durable_of, durable_made};
 
 use super::Contents;
 use crate::item::{Held, Item};
-use crate::origin::Origin;
 use crate::partitions::Partitions;
 use blob_base::{BlobVersion, Layout};
 use std::alloc::{AllocError, Global};
@@ -76,11 +74,9 @@ impl Contents {
     ) -> Result<(), AllocError>
         ensures directory { OnOk result (directory_of self.new ≡ directory_raw (directory_of self.old) partition.now name.now bytes.items) }
         ensures durable { OnOk result (durable_of self.new ≡ durable_without (durable_of self.old) partition.now (Some name.now)) }
-        ensures vecs { OnOk result ((o : Place) → vec_at self.new o ≡ without (vec_at self.old) (is_under partition.now (Some name.now)) o) }
         ensures err { OnErr result (directory_of self.new ≡ directory_of self.old) }
         ensures succeeds { IsSome ((directory_of self.old).file partition.now name.now) → IsOk result }
         ensures err_durable { OnErr result (durable_of self.new ≡ durable_of self.old) }
-        ensures err_vecs { OnErr result ((o : Place) → vec_at self.new o ≡ vec_at self.old o) }
     {
         self.partitions.put(partition, name, Item::Raw(bytes))?;
         Ok(())
@@ -99,11 +95,9 @@ impl Contents {
         requires left { (directory_of self.old).next < 2 ^ 64 - 1 }
         requires free { current (directory_of self.old) partition.now name.now ≡ None }
         ensures directory { OnOk result (directory_of self.new ≡ directory_made (directory_of self.old) partition.now name.now layout version.0) }
-        ensures durable { OnOk result (durable_of self.new ≡ with_at (durable_of self.old) (place_made (directory_of self.old) partition.now name.now layout) (Some bytes.items)) }
-        ensures vecs { OnOk result ((o : Place) → vec_at self.new o ≡ with_at (vec_at self.old) (place_made (directory_of self.old) partition.now name.now layout) (Some bytes) o) }
+        ensures durable { OnOk result (durable_of self.new ≡ durable_made self.old partition.now name.now layout bytes.items) }
         ensures err { OnErr result (directory_of self.new ≡ directory_of self.old) }
         ensures err_durable { OnErr result (durable_of self.new ≡ durable_of self.old) }
-        ensures err_vecs { OnErr result ((o : Place) → vec_at self.new o ≡ vec_at self.old o) }
         ensures succeeds { IsSome ((directory_of self.old).file partition.now name.now) → IsOk result }
     {
         let number = self.next;
@@ -122,7 +116,6 @@ impl Contents {
     pub fn remove(&mut self, partition: &str, name: &[u8])
         ensures directory { directory_of self.new ≡ removed (directory_of self.old) partition.now (Some name.now) }
         ensures durable { durable_of self.new ≡ durable_without (durable_of self.old) partition.now (Some name.now) }
-        ensures vecs { (o : Place) → vec_at self.new o ≡ without (vec_at self.old) (is_under partition.now (Some name.now)) o }
     {
         self.partitions.remove(partition, name);
     }
@@ -131,7 +124,6 @@ impl Contents {
     pub fn remove_partition(&mut self, partition: &str)
         ensures directory { directory_of self.new ≡ removed (directory_of self.old) partition.now None }
         ensures durable { durable_of self.new ≡ durable_without (durable_of self.old) partition.now None }
-        ensures vecs { (o : Place) → vec_at self.new o ≡ without (vec_at self.old) (is_under partition.now None) o }
     {
         self.partitions.remove_partition(partition);
     }

@@ -1,13 +1,10 @@
 // What opens find in the contents, and the incarnations that they begin.
-ghost use Rattle.std.specs.Prelude.{◌≡◌, ◌⊎◌, ◌-◌, ◌^◌, ◌==◌, List, ℕ, None, Some, IfOk, IfErr, OnOk, OnErr, if◌then◌else◌};
-ghost use Rattle.std.specs.Range.{range_inclusive_start, range_inclusive_end};
-ghost use Rattle.blob_model.specs.Directory.{directory_made, place_made};
-ghost use Rattle.blob_model.specs.Durable.{with_at};
-ghost use Rattle.blob_model.specs.Opening.{opening, Declines};
-ghost use Rattle.blob_header.specs.Refusals.{refused, refusal_of, GenerationsExhausted, IsMemoryError};
+ghost use Rattle.std.specs.Prelude.{◌≡◌, ◌-◌, ◌^◌, ◌==◌, None, Some, IfOk, IfErr, OnOk, OnErr, if◌then◌else◌};
+ghost use Rattle.blob_model.specs.Directory.{directory_made};
+ghost use Rattle.blob_header.specs.Refusals.{refused, GenerationsExhausted};
 ghost use Rattle.blob_memory.specs.Answers.{OrMemory};
-ghost use Rattle.blob_memory.specs.Contents.{directory_of, durable_of, is_ended};
-ghost use Rattle.blob_memory.specs.Found.{IsFound, opening_of};
+ghost use Rattle.blob_memory.specs.Contents.{directory_of, durable_of, durable_made, is_ended};
+ghost use Rattle.blob_memory.specs.Found.{IsFound, IsDeclined, opening_of, opening_in};
 
 use super::Contents;
 use crate::found::{Found, found_raw, nothing};
@@ -31,9 +28,9 @@ impl Contents {
         name: &[u8],
         versions: &RangeInclusive<BlobVersion>,
     ) -> Result<Found, Error>
-        ensures opening { IfOk result (λ found. opening partition.now name.now ((directory_of self.now).file partition.now name.now) (range_inclusive_start versions.now).0 (range_inclusive_end versions.now).0 ≡ opening_of found) }
+        ensures opening { IfOk result (λ found. opening_in self.now partition.now name.now versions.now ≡ opening_of found) }
         ensures found { IfOk result (λ found. IsFound self.now partition.now name.now found) }
-        ensures err { IfErr result (λ error. IsMemoryError error ⊎ (opening partition.now name.now ((directory_of self.now).file partition.now name.now) (range_inclusive_start versions.now).0 (range_inclusive_end versions.now).0 ≡ Declines (refusal_of error))) }
+        ensures err { IfErr result (IsDeclined (opening_in self.now partition.now name.now versions.now)) }
     {
         match self.item(partition, name) {
             None => Ok(nothing(self.alloc, versions)),
@@ -55,7 +52,7 @@ impl Contents {
         requires found { IsFound self.old partition.now name.now found.now }
         ensures allowed { OrMemory (if (directory_of self.old).next == 2 ^ 64 - 1 then Some GenerationsExhausted else None) (refused result) }
         ensures directory { OnOk result (directory_of self.new ≡ directory_made (directory_of self.old) partition.now name.now found.now.layout found.now.version.0) }
-        ensures durable { OnOk result (durable_of self.new ≡ with_at (durable_of self.old) (place_made (directory_of self.old) partition.now name.now found.now.layout) (Some found.now.live.items)) }
+        ensures durable { OnOk result (durable_of self.new ≡ durable_made self.old partition.now name.now found.now.layout found.now.live.items) }
         ensures err { OnErr result (directory_of self.new ≡ directory_of self.old) }
         ensures err_durable { OnErr result (durable_of self.new ≡ durable_of self.old) }
     {
