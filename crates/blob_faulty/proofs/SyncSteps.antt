@@ -1,17 +1,22 @@
 -- What a sync, and a started one, make of the files that a wrapper stands for.
 use Rattle.std.proofs.Common.{◌≡◌, ◌++◌, ◌∷◌, [], ℕ, ◌+◌, List, refl}
-use Rattle.std.specs.Prelude.{Result, Ok, Err, OnOk, OnErr, IsSome, None}
+use Rattle.std.specs.Prelude.{Option, Result, Ok, Err, OnOk, OnErr, IsSome, None}
+use Rattle.blob_base.specs.declared.storage.Blob as handles
+use Rattle.blob_base.specs.declared.storage.Durable as stores
 use Rattle.blob_header.specs.declared.error.Error.{Error}
 use Rattle.blob_model.specs.Directory.{Directory}
 use Rattle.blob_model.specs.Durable.{Durable, with_at, changed}
 use Rattle.blob_model.specs.Pending.{Marker}
 use Rattle.blob_model.specs.Places.{Place}
-use Rattle.blob_header.specs.Refusals.{refused}
+use Rattle.blob_header.specs.Refusals.{Refusal, refused}
 use Rattle.blob_model.proofs.FileSteps.{stands_synced, stands_begun}
+use Rattle.blob_faulty.specs.declared.blob.Blob.{Blob}
 use Rattle.blob_faulty.specs.declared.storage.Storage.{Storage}
+use Rattle.blob_faulty.specs.Names.{Steps}
 use Rattle.blob_faulty.specs.Syncs.{Publishes, Starts}
-use Rattle.blob_faulty.specs.Wrapper.{pending_of, next_write_of, next_marker_of}
-use Rattle.blob_faulty.proofs.Adding.{numbered_so, at_each}
+use Rattle.blob_faulty.specs.Wrapper.{pending_of, next_write_of, next_marker_of, KeepsRecords}
+use Rattle.blob_faulty.specs.Writes.{SameRecords, Synced, seen}
+use Rattle.blob_faulty.proofs.Adding.{numbered_so, at_each, keeps_stands}
 
 -- a sync
 pub sync_publishes : {S R O : Type 0} (place : O → Place) (names : Directory) (bytes bytes' : Durable) (old new : Storage S R O) (o : Place) (live : List ℕ) →
@@ -30,6 +35,16 @@ pub marker_starts : {S R O : Type 0} (place : O → Place) (names : Directory) (
 marker_starts place names bytes bytes' old new o live over lists write marker files below s =
     numbered_so names bytes' (pending_of place new) _ _ _ _ _ write marker
     (stands_begun names bytes bytes' (pending_of place old) (pending_of place new) (next_write_of old) (next_marker_of old) files o live below (at_each over) lists s)
+
+-- a refused one records nothing, and leaves the files
+pub records_of : {S R O B : Type 0} (store : stores.Ghosts S O) (handle : handles.Ghosts B S O) (b c : Blob B) (old new : Storage S R O) (rng : R) →
+    SameRecords (seen store handle b (record old { rng = rng })) (seen store handle c new) → new.config ≡ old.config → KeepsRecords store.place old new
+records_of store handle b c old new rng k config = record { pending = k.pending; numbers = record { next_write = k.next_write; next_marker = k.next_marker; config = config } }
+
+pub refused_steps : {S R O B : Type 0} (store : stores.Ghosts S O) (handle : handles.Ghosts B S O) (b c : Blob B) (old new : Storage S R O) (rng : R) (answer : Option Refusal) →
+    Synced (seen store handle b (record old { rng = rng })) (seen store handle c new) answer → IsSome answer → Steps store.place store.directory store.durable old new (λ files. files)
+refused_steps store handle b c old new rng answer synced some files s =
+    keeps_stands store.place _ _ _ _ old new files synced.directory (synced.refused some) (records_of store handle b c old new rng (synced.unrecorded some) synced.config) s
 
 -- a consequence of what a call ensures where it is answered Ok
 pub ok_of : {T A P : Type 0} (r : Result T Error) → OnOk r A → (refused r ≡ None → A → P) → OnOk r P

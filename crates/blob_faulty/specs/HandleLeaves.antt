@@ -13,6 +13,7 @@ use Rattle.blob_faulty.specs.declared.storage.Storage.{Storage}
 use Rattle.blob_faulty.specs.declared.blob.Blob.{Blob}
 use Rattle.blob_faults.specs.Faults.{Done, draw, ResizeFate, resize_fate, write_fate, after_write}
 use Rattle.blob_faults.specs.Recorded.{recorded_write, recorded_resize, live_of_write, live_of_resize, size_of_write, size_of_resize}
+use Rattle.blob_faulty.specs.Names.{Steps}
 use Rattle.blob_faulty.specs.Syncs.{Publishes, Starts}
 use Rattle.blob_faulty.specs.Wrapper.{inner_of, rng_of, config_of, next_write_of, next_marker_of, pending_of, inside, size_of, KeepsNumbers, KeepsRecords, Adds}
 
@@ -48,6 +49,7 @@ pub record ReadLeaves {S R O : Type 0} (store : stores.Ghosts S O) (stream : R �
   pub drawn : stream (rng_of after) ≡ (draw (config_of before).read_rate (stream (rng_of before))).1
   pub inner : MatchBool (draw (config_of before).read_rate (stream (rng_of before))).0 (inner_of after ≡ inner_of before) (asked (inner_of after))
   pub unrecorded : KeepsRecords store.place before after
+  pub files : Steps store.place store.directory store.durable before after (λ files. files)
 
 -- a write
 pub record WriteLeaves {S R O B : Type 0} (store : stores.Ghosts S O) (handle : handles.Ghosts B S O) (stream : R → Stream) (offset : ℕ) (bytes : List ℕ) (sync : Bool) (b : Blob B) (before : Storage S R O) (answer : Option Refusal) (c : Blob B) (after : Storage S R O) : Type 0 where
@@ -92,6 +94,7 @@ pub record SyncLeaves {S R O B : Type 0} (store : stores.Ghosts S O) (handle : h
   pub pending : answer ≡ None → (o : Place) → pending_of store.place after o ≡ with_at (pending_of store.place before) (handle.place (inside b)) [] o
   pub published : answer ≡ None → Publishes store.place (store.directory (inner_of before)) (store.durable (inner_of before)) (store.durable (inner_of after)) before after (handle.place (inside b)) (handle.live (inside b))
   pub unrecorded : IsSome answer → KeepsRecords store.place before after
+  pub same_files : IsSome answer → Steps store.place store.directory store.durable before after (λ files. files)
 
 -- a started sync: answered Ok, its handle carries the next marker, which stands behind what is pending; refused, it carries none
 pub record StartLeaves {S R O B : Type 0} (store : stores.Ghosts S O) (handle : handles.Ghosts B S O) (finishes : S → Option ℕ → S → Type 0) (stream : R → Stream) (marker : Option ℕ) (b : Blob B) (before : Storage S R O) (answer : Option Refusal) (c : Blob B) (after : Storage S R O) : Type 0 where
@@ -107,12 +110,14 @@ pub record StartLeaves {S R O B : Type 0} (store : stores.Ghosts S O) (handle : 
       pending_of store.place after o ≡ with_at (pending_of store.place before) (handle.place (inside b)) (pending_of store.place before (handle.place (inside b)) ++ Marker (next_marker_of before) ∷ []) o
   pub started : answer ≡ None → Starts store.place (store.directory (inner_of before)) (store.durable (inner_of before)) (store.durable (inner_of after)) before after (handle.place (inside b)) (handle.live (inside b))
   pub unrecorded : IsSome answer → KeepsRecords store.place before after
+  pub same_files : IsSome answer → Steps store.place store.directory store.durable before after (λ files. files)
 
 -- room: nothing is drawn
 pub record ReserveLeaves {S R O B : Type 0} (store : stores.Ghosts S O) (stream : R → Stream) (asked : S → Type 0) (b : Blob B) (before : Storage S R O) (c : Blob B) (after : Storage S R O) : Type 0 where
   pub drawn : stream (rng_of after) ≡ stream (rng_of before)
   pub inner : asked (inner_of after)
   pub unrecorded : KeepsRecords store.place before after
+  pub files : Steps store.place store.directory store.durable before after (λ files. files)
   pub size : size_of c ≡ size_of b
 
 -- any of these, where `finishes` is what a finished sync leaves of the inner store

@@ -6,6 +6,7 @@ ghost use Rattle.blob_model.specs.Places.{Place};
 ghost use Rattle.blob_header.specs.Refusals.{IsMemory};
 ghost use Rattle.blob_model.specs.Stands.{replayed_at};
 ghost use Rattle.blob_faulty.specs.Keeps.{Keeps};
+ghost use Rattle.blob_faulty.specs.Names.{Steps};
 ghost use Rattle.blob_faults.specs.Lists.{held, held_by};
 ghost use Rattle.blob_faults.specs.Replays.{widest_of_all};
 ghost use Rattle.blob_faulty.specs.Ready.{IsReady, KeepsRoom};
@@ -87,6 +88,7 @@ impl<R: Rng> Storage<blob_memory::Storage, R> {
         ensures memory { OnErr result (IsMemory result) }
         ensures unchanged { OnErr result (durable (inner_of self.new) ≡ durable (inner_of self.old)) }
         ensures records { OnErr result (KeepsRecords (λ o. o) self.old self.new) }
+        ensures same_files { OnErr result (Steps (λ o. o) directory durable self.old self.new (λ files. files)) }
         ensures directory { directory (inner_of self.new) ≡ directory (inner_of self.old) }
         ensures numbers { KeepsNumbers self.old self.new }
         ensures keeps { (o : Place) (bytes : List ℕ) → Keeps self.old o bytes → Keeps self.new o bytes }

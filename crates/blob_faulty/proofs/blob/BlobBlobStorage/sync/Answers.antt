@@ -1,6 +1,7 @@
 use Rattle.std.proofs.Common.{rules, arith}
 use Rattle.std.proofs.lemmas.Grind.{common_steps}
-use Rattle.blob_faulty.proofs.SyncSteps.{sync_publishes, when_ok}
+use Rattle.blob_header.specs.Refusals.{refused}
+use Rattle.blob_faulty.proofs.SyncSteps.{sync_publishes, when_ok, records_of, refused_steps}
 use Rattle.blob_faulty.proofs.blob.BlobBlobStorage.sync.Goals as goal
 
 pub returns-clause-leaves : goal.returns-clause-leaves
@@ -16,5 +17,6 @@ returns-clause-leaves g c =
       pending = λ ok. when_ok c.sync_drawn.result ok c.sync_drawn.ensures.retired;
       published = λ ok. sync_publishes g.S.Durable.place (g.S.Durable.directory old.inner) (g.S.Durable.durable old.inner) (g.S.Durable.durable new.inner) old new (g.B.Blob.place c.args.self.now.inner) (g.B.Blob.live c.args.self.now.inner)
           (synced.done ok) (when_ok c.sync_drawn.result ok c.sync_drawn.ensures.retired) synced.next_write c.sync_drawn.ensures.next_marker;
-      unrecorded = λ some. let k = synced.unrecorded some in record { pending = k.pending; numbers = record { next_write = k.next_write; next_marker = k.next_marker; config = synced.config } };
+      unrecorded = λ some. records_of g.S.Durable g.B.Blob c.args.self.now c.sync_drawn.new.self old new c.draws.new.rng (synced.unrecorded some) synced.config;
+      same_files = λ some. refused_steps g.S.Durable g.B.Blob c.args.self.now c.sync_drawn.new.self old new c.draws.new.rng (refused c.sync_drawn.result) synced some;
     }

@@ -19,6 +19,7 @@ use Rattle.blob_faulty.specs.Ready.{IsReady}
 use Rattle.blob_faults.specs.Rows.{rows_in, table_of, AreNumbered}
 use Rattle.blob_faults.proofs.Distinct.{apart_of}
 use Rattle.blob_faulty.proofs.Crashing.{crash_rows, crash_stands}
+use Rattle.blob_faulty.proofs.SyncSteps.{err_by}
 use Rattle.blob_faulty.proofs.Keeping.{keeps_crashed}
 use Rattle.blob_faults.proofs.Rowing.{rows_rise}
 use Rattle.blob_faulty.proofs.crash.Storage+blob_memory+Storage+R.crash.Goals as goal
@@ -67,6 +68,11 @@ returns-in_err-reserve_all-clause-keeps g c o bytes k =
       given = subst (λ (d : Directory). o.number < d.next) (sym w.directory) k.given;
       fixed = k.fixed;
     }
+
+pub returns-in_err-reserve_all-clause-same_files : goal.returns-in_err-reserve_all-clause-same_files
+returns-in_err-reserve_all-clause-same_files g c =
+    let w = c.in_err-reserve_all.ensures in
+    err_by c.from_residual-in_err-reserve_all.result (λ some files s. stands_same _ _ _ _ _ _ _ _ files w.directory (λ a. ap (λ (f : Durable). f a) w.durable) (λ a. refl) s)
 
 pub returns-clause-keeps : goal.returns-clause-keeps
 returns-clause-keeps g c o bytes k =
