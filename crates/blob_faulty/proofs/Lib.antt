@@ -2,6 +2,7 @@ pub mod Adding
 pub mod AdmittedOpens
 pub mod Admitting
 pub mod AnswersGrow
+pub mod Asking
 pub mod CertainAnswers
 pub mod Crashing
 pub mod CurrentWrites

@@ -1,6 +1,6 @@
 -- What a write leaves, from what its fate makes of a handle and its wrapper.
-use Rattle.std.specs.Prelude.{max}
-use Rattle.std.proofs.Common.{◌≡◌, ◌≢◌, ⊎_elim, ℕ, ◌+◌, ◌^◌, ◌<◌, Bool, true, false, cond, List, [], ◌∷◌, length, Option, Some, None, inl, inr, refl, sym, ◌∙◌, ap, arith}
+use Rattle.std.specs.Prelude.{max, is_some, MatchBool}
+use Rattle.std.proofs.Common.{◌≡◌, ◌≢◌, ⊎_elim, ℕ, ◌+◌, ◌^◌, ◌<◌, Bool, true, false, true≢false, cond, List, [], ◌∷◌, length, Option, Some, None, inl, inr, refl, sym, ◌∙◌, ap, subst, arith}
 use Rattle.std.proofs.lemmas.Bool.{cond-false, le-ltb}
 use Rattle.rand_core.specs.Stream.{Stream}
 use Rattle.blob_base.specs.declared.storage.Blob as handles
@@ -12,6 +12,7 @@ use Rattle.blob_faults.specs.Faults.{WriteFate, Done, Unsynced, Failed, write_fa
 use Rattle.blob_faults.specs.Recorded.{recorded_by, recorded_write, live_by, live_of_write, size_by, size_of_write}
 use Rattle.blob_faulty.specs.declared.blob.Blob.{Blob}
 use Rattle.blob_faulty.specs.declared.storage.Storage.{Storage}
+use Rattle.blob_faulty.specs.Asked.{InnerMade, Unasked, AsksWrite, AsksDrawn}
 use Rattle.blob_faulty.specs.HandleLeaves.{WriteLeaves, Logged, Untouched, size_written}
 use Rattle.blob_faulty.specs.Writes.{WroteBy, SameRecords, Logs, seen}
 use Rattle.blob_faulty.proofs.Adding.{nothing_not}
@@ -45,6 +46,15 @@ size_some true size offset [] some = absurd (some refl refl)
 size_some true size offset (x ∷ bytes) some = refl
 size_some false size offset bytes some = refl
 
+-- a case of a test
+match_false : (t : Bool) (A B : Type 0) → t ≡ false → B → MatchBool t A B
+match_false true A B is h = absurd (true≢false is)
+match_false false A B is h = h
+
+match_any : (t : Bool) (A B : Type 0) → A → B → MatchBool t A B
+match_any true A B a b = a
+match_any false A B a b = b
+
 -- the tables of a write with something to do whose end can be counted
 counted : (offset : ℕ) (bytes : List ℕ) → offset + length bytes < 2 ^ 64 → is_uncounted offset bytes ≡ false
 counted offset bytes fits = le-ltb _ _ (omega (arith, fits))
@@ -65,15 +75,37 @@ size_so config stream sync size offset bytes answer fate some fits is =
     cond-false (is_idle sync bytes) _ _ (nothing_not sync bytes some) ∙ cond-false (is_uncounted offset bytes) _ _ (counted offset bytes fits)
     ∙ ap (λ (f : WriteFate). size_by f size offset bytes answer) (sym is)
 
+-- what was asked by the fate was asked by the draws
+asked_so : {S R O B : Type 0} (handle : handles.Ghosts B S O) (b c : Blob B) (w w' : Storage S R O) (stream : Stream) (sync : Bool) (offset : ℕ) (bytes : List ℕ) (answer : Option Refusal) (fate : WriteFate) → (sync ≡ true → bytes ≢ []) → offset + length bytes < 2 ^ 64 →
+    fate ≡ (write_fate w.config sync offset (length bytes) stream).0 → AsksWrite handle b w c w' fate sync offset bytes answer → AsksDrawn handle b w c w' w.config stream sync offset bytes answer
+asked_so {S} {R} {O} {B} handle b c w w' stream sync offset bytes answer fate some fits is asked =
+    match_false (is_idle sync bytes) (InnerMade handle b w c w' [] answer) (MatchBool (is_uncounted offset bytes) (Unasked handle b w c w' answer) (AsksWrite handle b w c w' (write_fate w.config sync offset (length bytes) stream).0 sync offset bytes answer))
+    (nothing_not sync bytes some)
+    (match_false (is_uncounted offset bytes) (Unasked handle b w c w' answer) (AsksWrite handle b w c w' (write_fate w.config sync offset (length bytes) stream).0 sync offset bytes answer) (counted offset bytes fits)
+    (subst (λ (f : WriteFate). AsksWrite handle b w c w' f sync offset bytes answer) is asked))
+
+-- refused for memory before the draws
+unasked_so : {S R O B : Type 0} (handle : handles.Ghosts B S O) (b : Blob B) (w w' : Storage S R O) (stream : Stream) (sync : Bool) (offset : ℕ) (bytes : List ℕ) (answer : Option Refusal) →
+    (sync ≡ true → bytes ≢ []) → answer ≡ Some Memory → w'.inner ≡ w.inner → AsksDrawn handle b w b w' w.config stream sync offset bytes answer
+unasked_so {S} {R} {O} {B} handle b w w' stream sync offset bytes answer some memory same =
+    match_false (is_idle sync bytes) (InnerMade handle b w b w' [] answer) (MatchBool (is_uncounted offset bytes) (Unasked handle b w b w' answer) (AsksWrite handle b w b w' (write_fate w.config sync offset (length bytes) stream).0 sync offset bytes answer))
+    (nothing_not sync bytes some)
+    (match_any (is_uncounted offset bytes) _ _ unasked (inl unasked))
+  where
+    unasked : Unasked handle b w b w' answer
+    unasked = (ap is_some memory, refl, same)
+
 -- by its fate
 pub write_leaves : {S R O B : Type 0} (store : stores.Ghosts S O) (handle : handles.Ghosts B S O) (stream : R → Stream) (b c : Blob B) (w w' : Storage S R O) (rng : R) (sync : Bool) (offset : ℕ) (bytes : List ℕ) (answer : Option Refusal) (fate : WriteFate) →
     (sync ≡ true → bytes ≢ []) → offset + length bytes < 2 ^ 64 →
     fate ≡ (write_fate w.config sync offset (length bytes) (stream w.rng)).0 → stream rng ≡ (write_fate w.config sync offset (length bytes) (stream w.rng)).1 →
+    AsksWrite handle b w c w' fate sync offset bytes answer →
     WroteBy fate handle.is_direct (seen store handle b (record w { rng = rng })) (seen store handle c w') sync offset bytes answer →
     WriteLeaves store handle stream offset bytes sync b w answer c w'
-write_leaves {S} {R} {O} {B} store handle stream b c w w' rng sync offset bytes answer fate some fits is left wrote = record {
+write_leaves {S} {R} {O} {B} store handle stream b c w w' rng sync offset bytes answer fate some fits is left asked wrote = record {
   drawn = λ other. ap stream wrote.rng ∙ left ∙ sym (after_so w.config sync offset bytes (stream w.rng) some fits);
   config = wrote.config;
+  asked = asked_so handle b c w w' (stream w.rng) sync offset bytes answer fate some fits is asked;
   recorded = λ direct. logged answer (wrote.logs direct);
   live_after = λ direct. wrote.live direct ∙ sym (live_so w.config (stream w.rng) sync (handle.live b.inner) offset bytes answer fate some fits is);
   size = λ direct. wrote.size direct ∙ sym (size_so w.config (stream w.rng) sync b.size offset bytes answer fate some fits is);
@@ -92,18 +124,19 @@ write_leaves {S} {R} {O} {B} store handle stream b c w w' rng sync offset bytes 
     untouched k = record { records = record { pending = k.pending; numbers = record { next_write = k.next_write; next_marker = k.next_marker; config = wrote.config } }; size = k.size }
 
 -- refused for memory before its fate was drawn
-pub write_undrawn : {S R O B : Type 0} (store : stores.Ghosts S O) (handle : handles.Ghosts B S O) (stream : R → Stream) (b : Blob B) (w : Storage S R O) (rng : R) (sync : Bool) (offset : ℕ) (bytes : List ℕ) (answer : Option Refusal) →
+pub write_undrawn : {S R O B : Type 0} (store : stores.Ghosts S O) (handle : handles.Ghosts B S O) (stream : R → Stream) (b : Blob B) (w : Storage S R O) (rng : R) (sync : Bool) (offset : ℕ) (bytes : List ℕ) (answer : Option Refusal) → (sync ≡ true → bytes ≢ []) →
     answer ≡ Some Memory → WriteLeaves store handle stream offset bytes sync b w answer b (record w { rng = rng })
-write_undrawn {S} {R} {O} {B} store handle stream b w rng sync offset bytes answer memory = record {
+write_undrawn {S} {R} {O} {B} store handle stream b w rng sync offset bytes answer some memory = record {
   drawn = λ other. absurd (other memory);
   config = refl;
+  asked = unasked_so handle b w (record w { rng = rng }) (stream w.rng) sync offset bytes answer some memory refl;
   recorded = λ direct. drawn_adds store.place _ _ w rng _ _ (ap (recorded_write w.config w.next_write (stream w.rng) sync offset bytes) memory ∙ recorded_none w.config w.next_write (stream w.rng) sync offset bytes);
   live_after = λ direct. sym (ap (live_of_write w.config (stream w.rng) sync (handle.live b.inner) offset bytes) memory ∙ live_none w.config (stream w.rng) sync (handle.live b.inner) offset bytes);
   size = λ direct. sym (ap (size_of_write w.config (stream w.rng) sync b.size offset bytes) memory ∙ size_none w.config (stream w.rng) sync b.size offset bytes);
   done = λ ok. absurd (cc);
   done_size = λ ok. absurd (cc);
-  refused = λ done some. same;
-  unrecorded = λ some uninjected early. same;
+  refused = λ done refusal. same;
+  unrecorded = λ refusal uninjected early. same;
   injected = λ fault. inl same;
 }
   where

@@ -13,6 +13,7 @@ use Rattle.blob_faulty.specs.declared.storage.Storage.{Storage}
 use Rattle.blob_faulty.specs.declared.blob.Blob.{Blob}
 use Rattle.blob_faults.specs.Faults.{Done, draw, ResizeFate, resize_fate, write_fate, after_write}
 use Rattle.blob_faults.specs.Recorded.{recorded_write, recorded_resize, live_of_write, live_of_resize, size_of_write, size_of_resize}
+use Rattle.blob_faulty.specs.Asked.{AsksDrawn, AsksResize}
 use Rattle.blob_faulty.specs.Names.{Steps}
 use Rattle.blob_faulty.specs.Syncs.{Publishes, Starts}
 use Rattle.blob_faulty.specs.Wrapper.{inner_of, rng_of, config_of, next_write_of, next_marker_of, pending_of, inside, size_of, KeepsNumbers, KeepsRecords, Adds}
@@ -55,6 +56,8 @@ pub record ReadLeaves {S R O : Type 0} (store : stores.Ghosts S O) (stream : R �
 pub record WriteLeaves {S R O B : Type 0} (store : stores.Ghosts S O) (handle : handles.Ghosts B S O) (stream : R → Stream) (offset : ℕ) (bytes : List ℕ) (sync : Bool) (b : Blob B) (before : Storage S R O) (answer : Option Refusal) (c : Blob B) (after : Storage S R O) : Type 0 where
   pub drawn : answer ≢ Some Memory → stream (rng_of after) ≡ after_write (config_of before) sync offset bytes (stream (rng_of before))
   pub config : config_of after ≡ config_of before
+  -- what was asked of the inner blob
+  pub asked : AsksDrawn handle b before c after (config_of before) (stream (rng_of before)) sync offset bytes answer
   -- over a store that injects nothing
   pub recorded : handle.is_direct ≡ true → Logged store handle b before after (recorded_write (config_of before) (next_write_of before) (stream (rng_of before)) sync offset bytes answer)
   pub live_after : handle.is_direct ≡ true → handle.live (inside c) ≡ live_of_write (config_of before) (stream (rng_of before)) sync (handle.live (inside b)) offset bytes answer
@@ -72,6 +75,7 @@ pub record WriteLeaves {S R O B : Type 0} (store : stores.Ghosts S O) (handle : 
 -- a resize, by the fate that is drawn for it
 pub record ResizeLeaves {S R O B : Type 0} (store : stores.Ghosts S O) (handle : handles.Ghosts B S O) (stream : R → Stream) (len : ℕ) (fate : ResizeFate) (left : Stream) (b : Blob B) (before : Storage S R O) (answer : Option Refusal) (c : Blob B) (after : Storage S R O) : Type 0 where
   pub drawn : stream (rng_of after) ≡ left
+  pub asked : AsksResize handle b before c after fate len answer
   pub numbers : KeepsNumbers before after
   -- answered Ok, over any store
   pub size : answer ≡ None → size_of c ≡ len

@@ -1,5 +1,6 @@
 pub mod Admitted
 pub mod AnswerLaws
+pub mod Asked
 pub mod Certain
 pub mod Exclusive
 pub mod HandleLeaves

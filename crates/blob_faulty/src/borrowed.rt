@@ -7,6 +7,8 @@ ghost use Rattle.blob_model.specs.Places.{Place};
 ghost use Rattle.blob_faults.specs.Answers.{injected_or, or_memory, numbered, lacks_number, allows_fate};
 ghost use Rattle.blob_faults.specs.Fates.{write_fate_of, IsSized};
 ghost use Rattle.blob_faults.specs.Faults.{draw, retention};
+ghost use Rattle.blob_base.specs.HandleCalls.{Write};
+ghost use Rattle.blob_faulty.specs.Asked.{Asks, AsksWrite};
 ghost use Rattle.blob_faulty.specs.HandleLeaves.{ReadLeaves, WriteLeaves};
 ghost use Rattle.blob_faulty.specs.Keeps.{Keeps};
 ghost use Rattle.blob_faulty.specs.Names.{Steps};
@@ -60,6 +62,7 @@ impl Blob<blob_memory::Blob> {
     ) -> Result<(), Error>
         requires fits { offset + length bytes.now < 2 ^ 64 }
         ensures allowed { ⟦<blob_memory::Blob as blob_base::Blob<Memory>>⟧.allows_write self.old.inner store.old.inner offset bytes.now false (refused result) }
+        ensures asked { ⟦<blob_memory::Blob as blob_base::Blob<Memory>>⟧.leaves (Write offset bytes.now false) self.old.inner store.old.inner (refused result) self.new.inner store.new.inner }
         ensures wrote { Writes ⟦<Memory as blob_base::Durable>⟧ ⟦<blob_memory::Blob as blob_base::Blob<Memory>>⟧ self.old store.old self.new store.new (unrecorded false offset bytes.now) (refused result) }
         ensures untracked { OnErr result (self.new.size ≡ self.old.size) }
         ensures rest { store.new ≡ store.old }
@@ -80,6 +83,7 @@ impl Blob<blob_memory::Blob> {
     ) -> Result<(), Error>
         requires fits { offset + length bytes.now < 2 ^ 64 }
         ensures allowed { or_memory (numbered (lacks_number (is_some (retention store.old.config.write_rate)) store.old.next_write bytes.now) (⟦<blob_memory::Blob as blob_base::Blob<Memory>>⟧.allows_write self.old.inner store.old.inner offset bytes.now false)) (refused result) }
+        ensures asked { Asks ⟦<blob_memory::Blob as blob_base::Blob<Memory>>⟧ self.old store.old self.new store.new (Write offset bytes.now false) (refused result) }
         ensures recorded { Records ⟦<Memory as blob_base::Durable>⟧ ⟦<blob_memory::Blob as blob_base::Blob<Memory>>⟧ self.old store.old self.new store.new (plain offset bytes.now) (refused result) }
     {
         let Some(config) = retained(store.config.write_rate) else {
@@ -111,6 +115,7 @@ impl Blob<blob_memory::Blob> {
         requires fits { offset + length bytes.now < 2 ^ 64 }
         requires sized { IsSized (length bytes.now) (write_fate_of fate) }
         ensures allowed { or_memory (allows_fate (write_fate_of fate) (⟦<blob_memory::Blob as blob_base::Blob<Memory>>⟧.allows_write self.old.inner store.old.inner) (⟦<blob_memory::Blob as blob_base::Blob<Memory>>⟧.allows_reserve self.old.inner store.old.inner) true (is_some (retention store.old.config.write_rate)) store.old.next_write false offset bytes.now) (refused result) }
+        ensures asked { AsksWrite ⟦<blob_memory::Blob as blob_base::Blob<Memory>>⟧ self.old store.old self.new store.new (write_fate_of fate) false offset bytes.now (refused result) }
         ensures wrote { WritesBy ⟦<Memory as blob_base::Durable>⟧ ⟦<blob_memory::Blob as blob_base::Blob<Memory>>⟧ self.old store.old self.new store.new (write_fate_of fate) false offset bytes.now (refused result) }
     {
         if let WriteFate::Done = &fate {

@@ -4,6 +4,8 @@ ghost use Rattle.blob_model.specs.Log.{Resized};
 ghost use Rattle.blob_header.specs.Refusals.{refused};
 ghost use Rattle.blob_faults.specs.Answers.{or_memory, allows_resize};
 ghost use Rattle.blob_faults.specs.Fates.{resize_fate_of};
+ghost use Rattle.blob_base.specs.HandleCalls.{Resize};
+ghost use Rattle.blob_faulty.specs.Asked.{Asks, AsksResize};
 ghost use Rattle.blob_faulty.specs.Wrapper.{KeepsNumbers};
 ghost use Rattle.blob_faulty.specs.Writes.{Writes, Records, ResizesBy, cut};
 
@@ -24,6 +26,7 @@ impl<B> Blob<B> {
     where
         B: blob_base::Blob<S>,
         ensures allowed { B.allows_resize self.old.inner store.old.inner len (refused result) }
+        ensures asked { B.leaves (Resize len) self.old.inner store.old.inner (refused result) self.new.inner store.new.inner }
         ensures wrote { Writes S.Durable B.Blob self.old store.old self.new store.new (cut len []) (refused result) }
         ensures untracked { OnErr result (self.new.size ≡ self.old.size) }
         ensures durable { S.durable store.new.inner ≡ S.durable store.old.inner }
@@ -43,6 +46,7 @@ impl<B> Blob<B> {
     where
         B: blob_base::Blob<S>,
         ensures allowed { or_memory (B.allows_resize self.old.inner store.old.inner len) (refused result) }
+        ensures asked { Asks B.Blob self.old store.old self.new store.new (Resize len) (refused result) }
         ensures recorded { Records S.Durable B.Blob self.old store.old self.new store.new (cut len (Resized len ∷ [])) (refused result) }
         ensures durable { S.durable store.new.inner ≡ S.durable store.old.inner }
         ensures numbers { KeepsNumbers store.old store.new }
@@ -64,6 +68,7 @@ impl<B> Blob<B> {
     where
         B: blob_base::Blob<S>,
         ensures allowed { allows_resize (B.allows_resize self.old.inner store.old.inner) (resize_fate_of fate) len (refused result) }
+        ensures asked { AsksResize B.Blob self.old store.old self.new store.new (resize_fate_of fate) len (refused result) }
         ensures resized { ResizesBy S.Durable B.Blob self.old store.old self.new store.new (resize_fate_of fate) len (refused result) }
         ensures durable { S.durable store.new.inner ≡ S.durable store.old.inner }
         ensures numbers { KeepsNumbers store.old store.new }

@@ -96,6 +96,8 @@ impl<B> Blob<B> {
     ghost use Rattle.blob_model.specs.Runs.{runs, AreRunsApart};
     ghost use Rattle.blob_faults.specs.Answers.{or_memory, allows_laid, allows_runs, last_end};
     ghost use Rattle.blob_faults.specs.Lists.{HasRoomAt};
+    ghost use Rattle.blob_base.specs.HandleCalls.{Reserve};
+    ghost use Rattle.blob_faulty.specs.Asked.{InnerMade, Asks, AsksRuns, run_calls, or_failed};
     ghost use Rattle.blob_faulty.specs.Pieces.{run_of, runs_in, extents, EndsWithin};
     ghost use Rattle.blob_faulty.specs.Writes.{RecordsRuns, Keeps};
 
@@ -112,6 +114,7 @@ impl<B> Blob<B> {
         requires room { HasRoomAt S.place store.old.lists.all.lists.items list (B.place self.old.inner) (extents (runs_in pieces.items)) }
         requires current { is_current (S.directory store.old.inner) (B.place self.old.inner) ≡ true }
         requires within { B.is_direct ≡ true → All (EndsWithin (B.room self.old.inner store.old.inner)) (runs_in pieces.items) }
+        ensures asked { or_failed (InnerMade B.Blob self.old store.old self.new store.new (run_calls (runs_in pieces.items))) (refused result) }
         ensures recorded { RecordsRuns S.Durable B.Blob self.old store.old self.new store.new (runs_in pieces.items) (refused result) }
         ensures failed { OnErr result (refused result ≡ Some WriteFailed) }
         ensures indirect { OnErr result (B.is_direct ≡ false) }
@@ -147,6 +150,7 @@ impl<B> Blob<B> {
         requires room { HasRoomAt S.place store.old.lists.all.lists.items list (B.place self.old.inner) (extents (runs_in pieces.items)) }
         requires within { B.is_direct ≡ true → is_current (S.directory store.old.inner) (B.place self.old.inner) ≡ true → All (EndsWithin (B.room self.old.inner store.old.inner)) (runs_in pieces.items) }
         ensures allowed { allows_laid (B.allows_write self.old.inner store.old.inner) B.is_direct (runs_in pieces.items) (refused result) }
+        ensures asked { or_failed (InnerMade B.Blob self.old store.old self.new store.new (run_calls (runs_in pieces.items))) (refused result) }
         ensures recorded { RecordsRuns S.Durable B.Blob self.old store.old self.new store.new (runs_in pieces.items) (refused result) }
     {
         let mut pieces = pieces;
@@ -173,6 +177,7 @@ impl<B> Blob<B> {
         B: blob_base::Blob<S>,
         requires { AreRunsApart 0 (runs_in pieces.now) }
         ensures allowed { or_memory (B.allows_reserve self.old.inner store.old.inner (last_end 0 (runs_in pieces.now))) (refused result) }
+        ensures asked { Asks B.Blob self.old store.old self.new store.new (Reserve (last_end 0 (runs_in pieces.now))) (refused result) }
         ensures write_answers { (offset : ℕ) (bytes : List ℕ) (sync : Bool) (answer : Option Refusal) → B.allows_write self.new.inner store.new.inner offset bytes sync answer → B.allows_write self.old.inner store.old.inner offset bytes sync answer }
         ensures room { B.is_direct ≡ true → is_current (S.directory store.old.inner) (B.place self.old.inner) ≡ true → OnOk result (last_end 0 (runs_in pieces.now) ≤ B.room self.new.inner store.new.inner) }
         ensures ranges { IfOk result (λ i. HasRoomAt S.place store.new.lists.all.lists.items i (B.place self.new.inner) (extents (runs_in pieces.now))) }
@@ -198,6 +203,7 @@ impl<B> Blob<B> {
         requires fits { offset + length bytes < 2 ^ 64 }
         requires sized { kept.now ≢ [] → length kept.now ≡ length bytes }
         ensures allowed { or_memory (allows_runs (B.allows_write self.old.inner store.old.inner) (B.allows_reserve self.old.inner store.old.inner) B.is_direct (runs offset bytes kept.now)) (refused result) }
+        ensures asked { AsksRuns B.Blob self.old store.old self.new store.new (runs offset bytes kept.now) (refused result) }
         ensures recorded { RecordsRuns S.Durable B.Blob self.old store.old self.new store.new (runs offset bytes kept.now) (refused result) }
     {
         if kept.is_empty() {

@@ -8,6 +8,8 @@ ghost use Rattle.blob_model.specs.Log.{need_of};
 ghost use Rattle.blob_model.specs.Pending.{Waiting, has_barrier};
 ghost use Rattle.blob_faults.specs.Faults.{issued, retention};
 ghost use Rattle.blob_faults.specs.Lists.{HasRoomIn, IsRoomAt, HasRoomAt, SameLists, ChangesAt};
+ghost use Rattle.blob_base.specs.HandleCalls.{Write};
+ghost use Rattle.blob_faulty.specs.Asked.{Asks, AsksWrite};
 ghost use Rattle.blob_faulty.specs.Wrapper.{pending_of};
 ghost use Rattle.blob_faulty.specs.Writes.{Writes, Records, WritesBy, unrecorded, plain, laid_runs};
 ghost use Rattle.blob_faults.specs.Fates.{write_fate_of, IsSized};
@@ -87,6 +89,7 @@ impl<B> Blob<B> {
         B: blob_base::Blob<S>,
         requires fits { offset + length bytes < 2 ^ 64 }
         ensures allowed { B.allows_write self.old.inner store.old.inner offset bytes (is_sync options) (refused result) }
+        ensures asked { B.leaves (Write offset bytes (is_sync options)) self.old.inner store.old.inner (refused result) self.new.inner store.new.inner }
         ensures wrote { Writes S.Durable B.Blob self.old store.old self.new store.new (unrecorded (is_sync options) offset bytes) (refused result) }
         ensures untracked { OnErr result (self.new.size ≡ self.old.size) }
         ensures room { OnOk result (is_sync options ≡ true → B.room self.old.inner store.old.inner ≤ B.room self.new.inner store.new.inner) }
@@ -114,6 +117,7 @@ impl<B> Blob<B> {
         requires plain { is_sync options ≡ false }
         requires fits { offset + length bytes < 2 ^ 64 }
         ensures allowed { or_memory (numbered (lacks_number (is_some (retention store.old.config.write_rate)) store.old.next_write bytes) (B.allows_write self.old.inner store.old.inner offset bytes false)) (refused result) }
+        ensures asked { Asks B.Blob self.old store.old self.new store.new (Write offset bytes false) (refused result) }
         ensures recorded { Records S.Durable B.Blob self.old store.old self.new store.new (plain offset bytes) (refused result) }
     {
         let Some(config) = retained(store.config.write_rate) else {
@@ -154,6 +158,7 @@ impl<B> Blob<B> {
         requires room { let lists = store.old.lists.all.lists.items in
             HasRoomAt S.place lists list (B.place self.old.inner) ((offset, offset + length bytes) ∷ []) }
         ensures allowed { B.allows_write self.old.inner store.old.inner offset bytes true (refused result) }
+        ensures asked { B.leaves (Write offset bytes true) self.old.inner store.old.inner (refused result) self.new.inner store.new.inner }
         ensures recorded { Records S.Durable B.Blob self.old store.old self.new store.new (laid_runs ((offset, bytes) ∷ [])) (refused result) }
         ensures kept_room { OnOk result (B.room self.old.inner store.old.inner ≤ B.room self.new.inner store.new.inner) }
         ensures left { OnOk result ((later : Holes) →
@@ -180,6 +185,7 @@ impl<B> Blob<B> {
         requires some { bytes ≢ [] }
         requires fits { offset + length bytes < 2 ^ 64 }
         ensures allowed { or_memory (B.allows_write self.old.inner store.old.inner offset bytes true) (refused result) }
+        ensures asked { Asks B.Blob self.old store.old self.new store.new (Write offset bytes true) (refused result) }
         ensures recorded { Records S.Durable B.Blob self.old store.old self.new store.new (laid_runs ((offset, bytes) ∷ [])) (refused result) }
     {
         let len = bytes.remaining() as u64;
@@ -204,6 +210,7 @@ impl<B> Blob<B> {
         requires fits { offset + length bytes < 2 ^ 64 }
         requires sized { IsSized (length bytes) (write_fate_of fate) }
         ensures allowed { or_memory (allows_fate (write_fate_of fate) (B.allows_write self.old.inner store.old.inner) (B.allows_reserve self.old.inner store.old.inner) B.is_direct (is_some (retention store.old.config.write_rate)) store.old.next_write (is_sync options) offset bytes) (refused result) }
+        ensures asked { AsksWrite B.Blob self.old store.old self.new store.new (write_fate_of fate) (is_sync options) offset bytes (refused result) }
         ensures wrote { WritesBy S.Durable B.Blob self.old store.old self.new store.new (write_fate_of fate) (is_sync options) offset bytes (refused result) }
     {
         match fate {

@@ -1,8 +1,12 @@
-use Rattle.std.proofs.Common.{rules, ◌≡◌, ◌≤◌, List, [], None, refl, inr, sym, ◌∙◌, ap₂, subst, arith}
+use Rattle.std.proofs.Common.{rules, ◌≡◌, ◌≢◌, ◌≤◌, List, [], length, Option, None, refl, inl, inr, sym, ◌∙◌, ap₂, subst, arith}
+use Rattle.std.specs.Prelude.{IsSome}
 use Rattle.std.proofs.lemmas.Bool.{eqb-true}
 use Rattle.std.proofs.lemmas.Grind.{common_steps}
 use Rattle.blob_model.specs.Directory.{is_current}
-use Rattle.blob_header.specs.Refusals.{refused}
+use Rattle.blob_base.specs.HandleCalls.{Reserve}
+use Rattle.blob_header.specs.Refusals.{Refusal, refused}
+use Rattle.blob_faulty.specs.Asked.{Asks, AsksRuns}
+use Rattle.blob_faulty.proofs.Asking.{no_pieces, refused_room, laid_behind}
 use Rattle.blob_model.specs.Runs.{Run, runs, AreRunsApart}
 use Rattle.blob_faulty.specs.declared.write_runs.Piece.{Piece}
 use Rattle.blob_faults.specs.Answers.{or_memory, allows_runs, last_end}
@@ -45,3 +49,32 @@ returns-clause-recorded g c =
     let same : runs_in c.in_ok-pieces.pieces.items ≡ runs c.args.offset c.args.bytes c.args.kept.now = first_of (search rules, grind (arith, common_steps)) in
     subst (λ (rs : List Run). Recorded g.B.Blob.is_direct g.B.Blob.is_direct old new (laid_runs rs) (refused c.lay_runs.result)) same
     (runs_after g.B.Blob.is_direct g.B.Blob.is_direct old _ new (runs_in c.in_ok-pieces.pieces.items) (refused c.lay_runs.result) c.reserve_runs.ensures.unchanged c.lay_runs.ensures.recorded)
+
+pub returns-then-is_empty-clause-asked : goal.returns-then-is_empty-clause-asked
+returns-then-is_empty-clause-asked g c =
+    subst (λ (rs : List Run). AsksRuns g.B.Blob c.args.self.now c.args.store.now c.args.self.now c.args.store.now rs None) (sym (runs_of_none c.args.offset c.args.bytes c.args.kept.now (eqb-true _ _ (sym c.is_empty.ensures ∙ c.if-is_empty.true)))) (inr (inl (refl, refl, refl)))
+
+pub returns-then-is_empty-2-clause-asked : goal.returns-then-is_empty-2-clause-asked
+returns-then-is_empty-2-clause-asked g c =
+    let none : runs c.args.offset c.args.bytes c.args.kept.now ≡ [] = first_of (search rules, cc, grind (arith, common_steps)) in
+    subst (λ (rs : List Run). AsksRuns g.B.Blob c.args.self.now c.args.store.now c.args.self.now c.args.store.now rs None) (sym none) (inr (inl (refl, refl, refl)))
+
+pub returns-in_err-list-clause-asked : goal.returns-in_err-list-clause-asked
+returns-in_err-list-clause-asked g c =
+    let r = c.reserve_runs in
+    let told : runs_in c.deref.result.now ≡ runs c.args.offset c.args.bytes c.args.kept.now = first_of (search rules, cc, grind (arith, common_steps)) in
+    let some : runs_in c.deref.result.now ≢ [] = λ none. (let empty : length c.deref.result.now ≡ 0 = no_pieces c.deref.result.now none in first_of (search rules, cc, grind (arith, common_steps))) in
+    let same : refused r.result ≡ refused c.from_residual-in_err-list.result = first_of (search rules, cc, grind (arith, common_steps)) in
+    let refusal : IsSome (refused r.result) = first_of (search rules, cc, grind (arith, common_steps)) in
+    subst (λ (a : Option Refusal). AsksRuns g.B.Blob c.args.self.now c.args.store.now r.new.self r.new.store (runs c.args.offset c.args.bytes c.args.kept.now) a) same
+    (subst (λ (rs : List Run). AsksRuns g.B.Blob c.args.self.now c.args.store.now r.new.self r.new.store rs (refused r.result)) told
+    (refused_room g.B.Blob c.args.self.now c.args.store.now r.new.self r.new.store (runs_in c.deref.result.now) (refused r.result) some refusal r.ensures.asked))
+
+pub returns-clause-asked : goal.returns-clause-asked
+returns-clause-asked g c =
+    let r = c.lay_runs in
+    let same : runs_in c.in_ok-pieces.pieces.items ≡ runs c.args.offset c.args.bytes c.args.kept.now = first_of (search rules, cc, grind (arith, common_steps)) in
+    let some : runs_in c.in_ok-pieces.pieces.items ≢ [] = λ none. (let empty : length c.in_ok-pieces.pieces.items ≡ 0 = no_pieces c.in_ok-pieces.pieces.items none in first_of (search rules, cc, grind (arith, common_steps))) in
+    subst (λ (rs : List Run). AsksRuns g.B.Blob c.args.self.now c.args.store.now r.new.self r.new.store rs (refused r.result)) same
+    (laid_behind g.B.Blob c.args.self.now c.args.store.now r.new.self r.new.store c.reserve_runs.new.self c.reserve_runs.new.store (runs_in c.in_ok-pieces.pieces.items) (refused r.result) some
+    (subst (λ (ps : List Piece). Asks g.B.Blob c.args.self.now c.args.store.now c.reserve_runs.new.self c.reserve_runs.new.store (Reserve (last_end 0 (runs_in ps))) None) c.deref.ensures.value c.in_ok-list.ensures.asked) r.ensures.asked)

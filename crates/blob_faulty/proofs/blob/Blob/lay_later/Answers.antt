@@ -1,4 +1,4 @@
-use Rattle.std.proofs.Common.{rules, ◌≡◌, ⊎_elim, ◌+◌, true, false, List, [], ◌∷◌, length, All, Option, sym, ◌∙◌, ap₂, subst, arith}
+use Rattle.std.proofs.Common.{rules, ◌≡◌, ⊎_elim, ◌+◌, true, false, List, [], ◌∷◌, length, All, Option, Some, None, inl, inr, refl, sym, ◌∙◌, ap₂, subst, arith}
 use Rattle.std.specs.Prelude.{is_err}
 use Rattle.std.proofs.lemmas.Bool.{cases_Bool}
 use Rattle.std.proofs.lemmas.Grind.{common_steps}
@@ -9,6 +9,9 @@ use Rattle.blob_faults.specs.Lists.{HasRoomAt}
 use Rattle.blob_faulty.specs.Pieces.{run_of, runs_in, extents, EndsWithin}
 use Rattle.blob_faults.proofs.HoleRoom.{first_at}
 use Rattle.blob_faulty.proofs.RunSteps.{ok_holds, is_refused, is_done, popped, later_within, first_within}
+use Rattle.blob_base.specs.HandleCalls.{Write}
+use Rattle.blob_faulty.specs.Asked.{Made, run_calls}
+use Rattle.blob_faulty.proofs.Asking.{then_made}
 use Rattle.blob_faulty.proofs.Writing.{one_less, all_laid, later_refused}
 use Rattle.blob_faulty.proofs.blob.Blob.lay_later.Goals as goal
 
@@ -36,6 +39,26 @@ returns-then-is_err-clause-some g c none =
     let never : run_of c.in-Some.run' ∷ runs_in c.pop.new.self.items ≡ [] = sym e ∙ left in
     cc
 
+pub returns-then-is_err-clause-asked : goal.returns-then-is_err-clause-asked
+returns-then-is_err-clause-asked g c =
+    let e : runs_in c.loop-run.pieces.items ≡ run_of c.in-Some.run' ∷ runs_in c.pop.new.self.items = popped _ _ c.in-Some.run' c.in-Some.ensures.items in
+    let failed = is_refused c.lay_range.result (sym c.is_err.ensures.value ∙ c.if-is_err.true) in
+    inr (
+      refl,
+      record {
+        refusal = failed.0;
+        is = c.loop-run.invariant.asked (Some failed.0) c.lay_range.new.self.inner c.lay_range.new.store.inner
+            (subst (λ (rs : List Run). Made g.B.Blob.leaves (run_calls rs) (Some failed.0) c.loop-run.self.inner c.loop-run.store.inner c.lay_range.new.self.inner c.lay_range.new.store.inner) (sym e)
+            (inl (refl, subst (λ (a : Option Refusal). g.B.Blob.leaves (Write c.in-Some.run'.offset c.in-Some.run'.bytes true) c.loop-run.self.inner c.loop-run.store.inner a c.lay_range.new.self.inner c.lay_range.new.store.inner) failed.1 c.lay_range.ensures.asked)));
+      },
+    )
+
+pub returns-clause-asked : goal.returns-clause-asked
+returns-clause-asked g c =
+    let none : runs_in c.loop-run.pieces.items ≡ [] = first_of (search rules, grind (arith, common_steps)) in
+    inl (c.loop-run.invariant.asked None c.loop-run.self.inner c.loop-run.store.inner
+    (subst (λ (rs : List Run). Made g.B.Blob.leaves (run_calls rs) None c.loop-run.self.inner c.loop-run.store.inner c.loop-run.self.inner c.loop-run.store.inner) (sym none) (refl, refl, refl)))
+
 pub lay_range-requires-clause-room : goal.lay_range-requires-clause-room
 lay_range-requires-clause-room g c =
     first_at g.S.Durable.place c.loop-run.store.lists.all.lists.items c.args.list (g.B.Blob.place c.loop-run.self.inner) (c.in-Some.run'.offset, c.in-Some.run'.offset + length c.in-Some.run'.bytes) (extents (runs_in c.pop.new.self.items))
@@ -55,6 +78,9 @@ loop-run-preserved g c =
       some = λ none. never (sym e ∙ i.some none);
       left = one_less g.B.Blob.is_direct _ _ _ _ (run_of c.in-Some.run') rest (refused c.lay_range.result) (is_done c.lay_range.result ok)
           (rw e at i.left) l.recorded;
+      asked = λ answer x y later. i.asked answer x y (subst (λ (rs : List Run). Made g.B.Blob.leaves (run_calls rs) answer c.loop-run.self.inner c.loop-run.store.inner x y) (sym e)
+          (then_made g.B.Blob.leaves (Write c.in-Some.run'.offset c.in-Some.run'.bytes true) (run_calls rest) answer _ _ _ _ x y
+          (subst (λ (a : Option Refusal). g.B.Blob.leaves (Write c.in-Some.run'.offset c.in-Some.run'.bytes true) c.loop-run.self.inner c.loop-run.store.inner a c.lay_range.new.self.inner c.lay_range.new.store.inner) (is_done c.lay_range.result ok) l.asked) later));
     }
 
 pub returns-clause-recorded : goal.returns-clause-recorded

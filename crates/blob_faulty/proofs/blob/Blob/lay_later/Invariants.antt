@@ -1,4 +1,6 @@
-use Rattle.std.proofs.Common.{◌≡◌, true, vec_len, All, []}
+use Rattle.std.proofs.Common.{◌≡◌, true, vec_len, All, [], Option}
+use Rattle.blob_header.specs.Refusals.{Refusal}
+use Rattle.blob_faulty.specs.Asked.{Made, run_calls}
 use Rattle.blob_faults.specs.Lists.{HasRoomAt}
 use Rattle.blob_faulty.specs.Pieces.{runs_in, extents, EndsWithin}
 use Rattle.blob_faulty.specs.Writes.{seen, LeavesRuns}
@@ -11,6 +13,8 @@ invariant-loop-run g l = record {
   some : runs_in l.fn.pieces.items ≡ [] → runs_in l.pieces.items ≡ [];
   left : LeavesRuns (seen g.S.Durable g.B.Blob l.fn.self l.fn.store)
       (seen g.S.Durable g.B.Blob l.self l.store) (runs_in l.fn.pieces.items) (runs_in l.pieces.items);
+  asked : (answer : Option Refusal) (x : g.row.B.Denot) (y : g.row.S.Denot) → Made g.B.Blob.leaves (run_calls (runs_in l.pieces.items)) answer l.self.inner l.store.inner x y →
+      Made g.B.Blob.leaves (run_calls (runs_in l.fn.pieces.items)) answer l.fn.self.inner l.fn.store.inner x y;
 }
 
 abbrev pub decreases-loop-run : goal.decreases-loop-run

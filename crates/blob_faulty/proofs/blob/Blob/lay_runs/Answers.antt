@@ -1,6 +1,8 @@
-use Rattle.std.proofs.Common.{◌≡◌, ◌+◌, true, length, List, ◌∷◌, All, None, refl, sym, ◌∙◌, ap₂, subst}
+use Rattle.std.proofs.Common.{rules, ◌≡◌, ◌+◌, true, length, List, [], ◌∷◌, All, Option, None, inl, refl, sym, ◌∙◌, ap₂, subst, arith}
+use Rattle.std.specs.Prelude.{IsSome}
+use Rattle.std.proofs.lemmas.Grind.{common_steps}
 use Rattle.blob_model.specs.Directory.{is_current}
-use Rattle.blob_header.specs.Refusals.{refused}
+use Rattle.blob_header.specs.Refusals.{Refusal, refused}
 use Rattle.blob_model.specs.Runs.{Run}
 use Rattle.blob_faults.specs.Lists.{HasRoomAt}
 use Rattle.blob_faulty.specs.Pieces.{run_of, runs_in, extents, EndsWithin}
@@ -8,6 +10,9 @@ use Rattle.blob_faulty.specs.Writes.{View, Recorded, seen, laid_runs}
 use Rattle.blob_faulty.proofs.Adding.{bytes_some}
 use Rattle.blob_faults.proofs.HoleRoom.{first_at}
 use Rattle.blob_faulty.proofs.RunSteps.{not_stale, popped, later_within}
+use Rattle.blob_base.specs.HandleCalls.{Write}
+use Rattle.blob_faulty.specs.Asked.{Made, InnerMade, run_calls, or_failed}
+use Rattle.blob_faulty.proofs.Asking.{then_failed}
 use Rattle.blob_faulty.proofs.Writing.{then_runs}
 use Rattle.blob_faulty.proofs.blob.Blob.lay_runs.Goals as goal
 
@@ -43,3 +48,23 @@ returns-clause-recorded g c =
     let new : View g.row.R.Denot = seen g.S.Durable g.B.Blob c.lay_later.new.self c.lay_later.new.store in
     subst (λ (rs : List Run). Recorded g.B.Blob.is_direct g.B.Blob.is_direct old new (laid_runs rs) (refused c.lay_later.result)) (sym e)
     (then_runs g.B.Blob.is_direct old _ new (run_of c.in-Some.first) (runs_in c.pop.new.self.items) None c.lay_later.result refl c.lay_later.ensures.failed c.lay_later.ensures.indirect now c.in_ok-lay_range.ensures.recorded c.lay_later.ensures.recorded)
+
+pub returns-clause-asked : goal.returns-clause-asked
+returns-clause-asked g c =
+    let e : runs_in c.args.pieces.items ≡ run_of c.in-Some.first ∷ runs_in c.pop.new.self.items = popped _ _ c.in-Some.first c.in-Some.ensures.items in
+    subst (λ (rs : List Run). or_failed (λ a. Made g.B.Blob.leaves (run_calls rs) a c.args.self.now.inner c.args.store.now.inner c.lay_later.new.self.inner c.lay_later.new.store.inner) (refused c.lay_later.result)) (sym e)
+    (then_failed g.B.Blob.leaves (Write c.in-Some.first.offset c.in-Some.first.bytes true) (run_calls (runs_in c.pop.new.self.items)) (refused c.lay_later.result) _ _ _ _ _ _ c.in_ok-lay_range.ensures.asked c.lay_later.ensures.asked)
+
+pub returns-in_default-clause-asked : goal.returns-in_default-clause-asked
+returns-in_default-clause-asked g c =
+    let none : runs_in c.args.pieces.items ≡ [] = first_of (search rules, cc, grind (arith, common_steps)) in
+    subst (λ (rs : List Run). or_failed (InnerMade g.B.Blob c.args.self.now c.args.store.now c.args.self.now c.args.store.now (run_calls rs)) None) (sym none) (inl (refl, refl, refl))
+
+pub returns-in_err-lay_range-clause-asked : goal.returns-in_err-lay_range-clause-asked
+returns-in_err-lay_range-clause-asked g c =
+    let r = c.lay_range in
+    let e : runs_in c.args.pieces.items ≡ run_of c.in-Some.first ∷ runs_in c.pop.new.self.items = popped _ _ c.in-Some.first c.in-Some.ensures.items in
+    let same : refused r.result ≡ refused c.from_residual.result = first_of (search rules, cc, grind (arith, common_steps)) in
+    let some : IsSome (refused c.from_residual.result) = first_of (search rules, cc, grind (arith, common_steps)) in
+    subst (λ (rs : List Run). or_failed (InnerMade g.B.Blob c.args.self.now c.args.store.now r.new.self r.new.store (run_calls rs)) (refused c.from_residual.result)) (sym e)
+    (inl (inl (some, subst (λ (a : Option Refusal). g.B.Blob.leaves (Write c.in-Some.first.offset c.in-Some.first.bytes true) c.args.self.now.inner c.args.store.now.inner a r.new.self.inner r.new.store.inner) same r.ensures.asked)))

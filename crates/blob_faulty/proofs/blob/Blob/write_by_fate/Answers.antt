@@ -1,12 +1,15 @@
-use Rattle.std.proofs.Common.{rules, ◌≡◌, false, true, Option, Some, ap, sym, ◌∙◌, subst, arith}
-use Rattle.std.specs.Prelude.{is_some}
+use Rattle.std.proofs.Common.{rules, ◌≡◌, Bool, false, true, [], ◌∷◌, Option, Some, None, ap, sym, ◌∙◌, subst, arith}
+use Rattle.std.specs.Prelude.{◌⊎◌, is_some, IsSome}
 use Rattle.std.proofs.lemmas.Grind.{common_steps}
 use Rattle.blob_base.specs.Options.{is_sync}
 use Rattle.blob_header.specs.Refusals.{Refusal, refused, refusal_of}
 use Rattle.blob_model.specs.Runs.{runs}
-use Rattle.blob_faults.specs.Answers.{or_memory, lacks_number, allows_runs}
-use Rattle.blob_faults.specs.Faults.{Unsynced, Failed, retention}
+use Rattle.blob_faults.specs.Answers.{or_memory, injected_for, lacks_number, allows_runs}
+use Rattle.blob_faults.specs.Faults.{WriteFate, Done, Unsynced, Failed, retention}
 use Rattle.blob_faults.specs.Fates.{write_fate_of}
+use Rattle.blob_base.specs.HandleCalls.{Write}
+use Rattle.blob_faulty.specs.Asked.{Unasked, InnerMade, AsksWrite, or_failed, kept_calls}
+use Rattle.blob_faulty.proofs.Asking.{asked_once, faulted, refused_too}
 use Rattle.blob_faulty.proofs.Fating.{unsynced_refused, failed_refused, runs_uninjected, reserve_uninjected, of_fate}
 use Rattle.blob_faulty.proofs.blob.Blob.write_by_fate.Goals as goal
 
@@ -36,3 +39,55 @@ returns-in_err-lay_kept-in-Failed-clause-wrote g c =
     (λ end. reserve_uninjected _ (g.met.B.Blob.reserve_refused c.args.self.now.inner c.args.store.now.inner end _))
     (subst (λ (a : Option Refusal). or_memory (allows_runs (g.B.Blob.allows_write c.args.self.now.inner c.args.store.now.inner) (g.B.Blob.allows_reserve c.args.self.now.inner c.args.store.now.inner) g.B.Blob.is_direct (runs c.args.offset c.args.bytes c.deref.result.now)) a) is c.lay_kept.ensures.allowed))
     c.lay_kept.ensures.recorded)
+
+pub returns-then-contains-clause-asked : goal.returns-then-contains-clause-asked
+returns-then-contains-clause-asked g c =
+    let r = c.write_synced in
+    let fate : write_fate_of c.args.fate ≡ Done = first_of (search rules, cc, grind (arith, common_steps)) in
+    let sync : is_sync c.args.options ≡ true = first_of (search rules, cc, grind (arith, common_steps)) in
+    subst (λ (f : WriteFate). AsksWrite g.B.Blob c.args.self.now c.args.store.now r.new.self r.new.store f (is_sync c.args.options) c.args.offset c.args.bytes (refused r.result)) (sym fate)
+    (subst (λ (s : Bool). AsksWrite g.B.Blob c.args.self.now c.args.store.now r.new.self r.new.store Done s c.args.offset c.args.bytes (refused r.result)) (sym sync)
+    (asked_once g.B.Blob c.args.self.now c.args.store.now r.new.self r.new.store (Write c.args.offset c.args.bytes true) _ r.ensures.asked))
+
+pub returns-else-contains-clause-asked : goal.returns-else-contains-clause-asked
+returns-else-contains-clause-asked g c =
+    let r = c.write_plain in
+    let fate : write_fate_of c.args.fate ≡ Done = first_of (search rules, cc, grind (arith, common_steps)) in
+    let sync : is_sync c.args.options ≡ false = first_of (search rules, cc, grind (arith, common_steps)) in
+    subst (λ (f : WriteFate). AsksWrite g.B.Blob c.args.self.now c.args.store.now r.new.self r.new.store f (is_sync c.args.options) c.args.offset c.args.bytes (refused r.result)) (sym fate)
+    (subst (λ (s : Bool). AsksWrite g.B.Blob c.args.self.now c.args.store.now r.new.self r.new.store Done s c.args.offset c.args.bytes (refused r.result)) (sym sync)
+    (asked_once g.B.Blob c.args.self.now c.args.store.now r.new.self r.new.store (Write c.args.offset c.args.bytes false) _ r.ensures.asked))
+
+pub returns-in_ok-write_plain-in-Unsynced-clause-asked : goal.returns-in_ok-write_plain-in-Unsynced-clause-asked
+returns-in_ok-write_plain-in-Unsynced-clause-asked g c =
+    let r = c.write_plain-in-Unsynced in
+    let fate : write_fate_of c.args.fate ≡ Unsynced = ap write_fate_of c.in-Unsynced.is in
+    rw fate (faulted g.B.Blob c.args.self.now c.args.store.now r.new.self r.new.store (InnerMade g.B.Blob c.args.self.now c.args.store.now r.new.self r.new.store (Write c.args.offset c.args.bytes false ∷ []))
+    (asked_once g.B.Blob c.args.self.now c.args.store.now r.new.self r.new.store (Write c.args.offset c.args.bytes false) None c.in_ok-write_plain-in-Unsynced.ensures.asked))
+
+pub returns-in_err-write_plain-in-Unsynced-clause-asked : goal.returns-in_err-write_plain-in-Unsynced-clause-asked
+returns-in_err-write_plain-in-Unsynced-clause-asked g c =
+    let r = c.write_plain-in-Unsynced in
+    let fate : write_fate_of c.args.fate ≡ Unsynced = ap write_fate_of c.in-Unsynced.is in
+    let same : refused r.result ≡ refused c.from_residual.result = first_of (search rules, cc, grind (arith, common_steps)) in
+    let some : IsSome (refused r.result) = first_of (search rules, cc, grind (arith, common_steps)) in
+    rw fate (subst (λ (a : Option Refusal). Unasked g.B.Blob c.args.self.now c.args.store.now r.new.self r.new.store a ⊎ injected_for (InnerMade g.B.Blob c.args.self.now c.args.store.now r.new.self r.new.store (Write c.args.offset c.args.bytes false ∷ [])) a) same
+    (refused_too g.B.Blob c.args.self.now c.args.store.now r.new.self r.new.store (InnerMade g.B.Blob c.args.self.now c.args.store.now r.new.self r.new.store (Write c.args.offset c.args.bytes false ∷ [])) (refused r.result) some
+    (asked_once g.B.Blob c.args.self.now c.args.store.now r.new.self r.new.store (Write c.args.offset c.args.bytes false) _ r.ensures.asked)))
+
+pub returns-in_ok-lay_kept-in-Failed-clause-asked : goal.returns-in_ok-lay_kept-in-Failed-clause-asked
+returns-in_ok-lay_kept-in-Failed-clause-asked g c =
+    let r = c.lay_kept in
+    let fate : write_fate_of c.args.fate ≡ Failed c.deref.result.now = ap write_fate_of c.in-Failed.is ∙ ap Failed (sym c.deref.ensures.value) in
+    rw fate (faulted g.B.Blob c.args.self.now c.args.store.now r.new.self r.new.store (or_failed (InnerMade g.B.Blob c.args.self.now c.args.store.now r.new.self r.new.store (kept_calls (runs c.args.offset c.args.bytes c.deref.result.now))))
+    c.in_ok-lay_kept-in-Failed.ensures.asked)
+
+pub returns-in_err-lay_kept-in-Failed-clause-asked : goal.returns-in_err-lay_kept-in-Failed-clause-asked
+returns-in_err-lay_kept-in-Failed-clause-asked g c =
+    let r = c.lay_kept in
+    let fate : write_fate_of c.args.fate ≡ Failed c.deref.result.now = ap write_fate_of c.in-Failed.is ∙ ap Failed (sym c.deref.ensures.value) in
+    let same : refused r.result ≡ refused c.from_residual-in_err-lay_kept-in-Failed.result = first_of (search rules, cc, grind (arith, common_steps)) in
+    let some : IsSome (refused r.result) = first_of (search rules, cc, grind (arith, common_steps)) in
+    rw fate (subst (λ (a : Option Refusal). Unasked g.B.Blob c.args.self.now c.args.store.now r.new.self r.new.store a ⊎ injected_for (or_failed (InnerMade g.B.Blob c.args.self.now c.args.store.now r.new.self r.new.store (kept_calls (runs c.args.offset c.args.bytes c.deref.result.now)))) a) same
+    (refused_too g.B.Blob c.args.self.now c.args.store.now r.new.self r.new.store (or_failed (InnerMade g.B.Blob c.args.self.now c.args.store.now r.new.self r.new.store (kept_calls (runs c.args.offset c.args.bytes c.deref.result.now)))) (refused r.result) some
+    r.ensures.asked))

@@ -16,7 +16,8 @@ returns-then-len-eq0-clause-synced g c sync = nothing_changed _ _ c.args.offset 
 pub returns-in_err-fate-clause-leaves : goal.returns-in_err-fate-clause-leaves
 returns-in_err-fate-clause-leaves g c =
     let memory : refused c.from_residual.result ≡ Some Memory = first_of (search rules, grind (arith, common_steps)) in
-    write_undrawn g.S.Durable g.B.Blob g.R.Rng.stream c.args.self.now c.args.store.now c.draw_write.new.rng (is_sync c.args.options) c.args.offset c.args.bytes (refused c.from_residual.result) memory
+    let some : (is_sync c.args.options) ≡ true → c.args.bytes ≢ [] = first_of (search rules, grind (arith, common_steps)) in
+    write_undrawn g.S.Durable g.B.Blob g.R.Rng.stream c.args.self.now c.args.store.now c.draw_write.new.rng (is_sync c.args.options) c.args.offset c.args.bytes (refused c.from_residual.result) some memory
 
 -- what was drawn
 drawn : (g : Over) (c : goal.After-write_by_fate g) → write_fate_of c.in_ok-fate.fate ≡ (write_fate c.args.store.now.config (is_sync c.args.options) c.args.offset (length c.args.bytes) (g.R.Rng.stream c.args.store.now.rng)).0
@@ -30,4 +31,4 @@ returns-clause-leaves g c =
     let some : (is_sync c.args.options) ≡ true → c.args.bytes ≢ [] = first_of (search rules, grind (arith, common_steps)) in
     let fits : c.args.offset + length c.args.bytes < 2 ^ 64 = first_of (search rules, grind (arith, common_steps)) in
     write_leaves g.S.Durable g.B.Blob g.R.Rng.stream c.args.self.now c.write_by_fate.new.self c.args.store.now c.write_by_fate.new.store c.draw_write.new.rng (is_sync c.args.options) c.args.offset c.args.bytes (refused c.write_by_fate.result) (write_fate_of c.in_ok-fate.fate)
-    some fits (drawn g c) (left g c) c.write_by_fate.ensures.wrote
+    some fits (drawn g c) (left g c) c.write_by_fate.ensures.asked c.write_by_fate.ensures.wrote

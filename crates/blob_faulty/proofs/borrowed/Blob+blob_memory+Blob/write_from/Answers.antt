@@ -14,7 +14,7 @@ use Rattle.blob_faulty.proofs.borrowed.Blob+blob_memory+Blob.write_from.Goals as
 pub returns-in_err-fate-clause-leaves : goal.returns-in_err-fate-clause-leaves
 returns-in_err-fate-clause-leaves g c =
     let memory : refused c.from_residual.result ≡ Some Memory = first_of (search rules, grind (arith, common_steps)) in
-    write_undrawn store.ghosts handle.ghosts g.R.Rng.stream c.args.self.now c.args.store.now c.draw_write.new.rng false c.args.offset c.args.bytes.now (refused c.from_residual.result) memory
+    write_undrawn store.ghosts handle.ghosts g.R.Rng.stream c.args.self.now c.args.store.now c.draw_write.new.rng false c.args.offset c.args.bytes.now (refused c.from_residual.result) (λ e. absurd (false≢true e)) memory
 
 -- what was drawn
 drawn : (g : Over) (c : goal.After-write_from_by_fate g) → write_fate_of c.in_ok-fate.fate ≡ (write_fate c.args.store.now.config false c.args.offset (length c.args.bytes.now) (g.R.Rng.stream c.args.store.now.rng)).0
@@ -28,4 +28,4 @@ returns-clause-leaves g c =
     let some : false ≡ true → c.args.bytes.now ≢ [] = λ e. absurd (false≢true e) in
     let fits : c.args.offset + length c.args.bytes.now < 2 ^ 64 = first_of (search rules, grind (arith, common_steps)) in
     write_leaves store.ghosts handle.ghosts g.R.Rng.stream c.args.self.now c.write_from_by_fate.new.self c.args.store.now c.write_from_by_fate.new.store c.draw_write.new.rng false c.args.offset c.args.bytes.now (refused c.write_from_by_fate.result) (write_fate_of c.in_ok-fate.fate)
-    some fits (drawn g c) (left g c) c.write_from_by_fate.ensures.wrote
+    some fits (drawn g c) (left g c) c.write_from_by_fate.ensures.asked c.write_from_by_fate.ensures.wrote

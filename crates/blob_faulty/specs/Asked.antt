@@ -1,0 +1,85 @@
+-- What a wrapper's write or resize asks of its inner blob, by the fate that was drawn for it.
+use Rattle.std.specs.Prelude.{◌≡◌, ◌⊎◌, ℕ, Bool, true, false, List, [], ◌∷◌, map, length, Option, Some, None, IsSome, MatchBool}
+use Rattle.rand_core.specs.Stream.{Stream}
+use Rattle.blob_base.specs.HandleCalls.{HandleCall, Write, Resize, Reserve}
+use Rattle.blob_base.specs.declared.storage.Blob as handles
+use Rattle.blob_header.specs.Refusals.{Refusal, WriteFailed}
+use Rattle.blob_model.specs.Live.{is_idle}
+use Rattle.blob_model.specs.Runs.{Run, runs}
+use Rattle.blob_faults.specs.declared.config.Config.{Config}
+use Rattle.blob_faults.specs.Answers.{Allowed, injected_for, last_end}
+use Rattle.blob_faults.specs.Faults.{WriteFate, Done, Unsynced, Failed, ResizeFate, Resizes, Stays, Reaches, write_fate, is_uncounted}
+use Rattle.blob_faulty.specs.declared.blob.Blob.{Blob}
+use Rattle.blob_faulty.specs.declared.storage.Storage.{Storage}
+use Rattle.blob_faulty.specs.Wrapper.{inner_of, inside}
+
+-- one call and then others
+pub record Then {B S : Type 0} (first others : B → S → Type 0) : Type 0 where
+  pub blob : B
+  pub store : S
+  pub done : first blob store
+  pub behind : others blob store
+
+-- these calls were made one after the other, up to the first that was refused, whose answer this is
+abbrev pub Made : {B S : Type 0} → (HandleCall → B → S → Option Refusal → B → S → Type 0) → List HandleCall → Option Refusal → B → S → B → S → Type 0
+Made leaves [] answer b s c t = (answer ≡ None) × (c ≡ b) × (t ≡ s)
+Made leaves (call ∷ calls) answer b s c t = (IsSome answer × leaves call b s answer c t) ⊎ Then (leaves call b s None) (λ x y. Made leaves calls answer x y c t)
+
+-- a SYNC write for each run
+abbrev pub run_calls : List Run → List HandleCall
+run_calls rs = map (λ r. Write r.0 r.1 true) rs
+
+-- before them room up to the last one's end
+abbrev pub kept_calls : List Run → List HandleCall
+kept_calls [] = []
+kept_calls (r ∷ rs) = Reserve (last_end 0 (r ∷ rs)) ∷ run_calls (r ∷ rs)
+
+-- what any refusal may be answered as
+pub record Refuses (inner : Allowed) : Type 0 where
+  pub refusal : Refusal
+  pub is : inner (Some refusal)
+
+-- a refusal may be answered WriteFailed
+abbrev pub or_failed : Allowed → Allowed
+or_failed inner answer = inner answer ⊎ ((answer ≡ Some WriteFailed) × Refuses inner)
+
+-- which calls a write makes, where `made` says of calls that these were made and answered so
+abbrev pub write_calls : (List HandleCall → Allowed) → WriteFate → Bool → ℕ → List ℕ → Allowed
+write_calls made Done sync offset bytes answer = made (Write offset bytes sync ∷ []) answer
+write_calls made Unsynced sync offset bytes answer = injected_for (made (Write offset bytes false ∷ [])) answer
+write_calls made (Failed kept) sync offset bytes answer = injected_for (or_failed (made (kept_calls (runs offset bytes kept)))) answer
+
+-- and a resize
+abbrev pub resize_calls : (List HandleCall → Allowed) → ResizeFate → ℕ → Allowed
+resize_calls made (Resizes survives) len answer = made (Resize len ∷ []) answer
+resize_calls made Stays len answer = injected_for (made []) answer
+resize_calls made (Reaches size) len answer = injected_for (made (Resize size ∷ [])) answer
+
+-- Of a handle and its wrapper before a call and after it.
+
+module _ {S R O B : Type 0} (handle : handles.Ghosts B S O) (b : Blob B) (before : Storage S R O) (c : Blob B) (after : Storage S R O) where
+  -- the inner blob was asked these
+  abbrev pub InnerMade : List HandleCall → Allowed
+  InnerMade calls answer = Made handle.leaves calls answer (inside b) (inner_of before) (inside c) (inner_of after)
+
+  -- the call was refused before the inner blob was asked
+  abbrev pub Unasked : Allowed
+  Unasked answer = IsSome answer × (inside c ≡ inside b) × (inner_of after ≡ inner_of before)
+
+  abbrev pub Asks : HandleCall → Allowed
+  Asks call answer = Unasked answer ⊎ handle.leaves call (inside b) (inner_of before) answer (inside c) (inner_of after)
+
+  abbrev pub AsksRuns : List Run → Allowed
+  AsksRuns rs answer = Unasked answer ⊎ or_failed (InnerMade (kept_calls rs)) answer
+
+  abbrev pub AsksWrite : WriteFate → Bool → ℕ → List ℕ → Allowed
+  AsksWrite fate sync offset bytes answer = Unasked answer ⊎ write_calls InnerMade fate sync offset bytes answer
+
+  abbrev pub AsksResize : ResizeFate → ℕ → Allowed
+  AsksResize fate len answer = Unasked answer ⊎ resize_calls InnerMade fate len answer
+
+  -- by the draws: one that does nothing, and one whose end can't be counted, ask for nothing
+  abbrev pub AsksDrawn : Config → Stream → Bool → ℕ → List ℕ → Allowed
+  AsksDrawn config stream sync offset bytes answer =
+      MatchBool (is_idle sync bytes) (InnerMade [] answer) (MatchBool (is_uncounted offset bytes) (Unasked answer)
+      (AsksWrite (write_fate config sync offset (length bytes) stream).0 sync offset bytes answer))
