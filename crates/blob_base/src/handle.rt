@@ -35,14 +35,14 @@ impl Handle {
         }
     }
 
-    /// What the sync answers.
+    /// What the sync answers: `Ok`, or the error that the store ended it with, such as `Injected`.
     pub fn outcome(&self) -> &Result<(), Error>
         ensures { result.now ≡ outcome_of self.now }
     {
         &self.outcome
     }
 
-    /// What the sync answers, the handle spent.
+    /// What the sync answers, an error of the store too, and the handle is spent.
     pub fn into_outcome(self) -> Result<(), Error>
         ensures { result ≡ outcome_of self }
     {

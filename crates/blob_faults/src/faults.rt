@@ -85,7 +85,7 @@ fn draw_kept<R: Rng>(
     Ok(WriteFate::Failed(kept))
 }
 
-/// The draws of a write.
+/// The draws of a write. Its error is `Memory` alone; what the generator gave before stays taken.
 pub fn draw_write<R: Rng>(
     alloc: Global,
     config: &Config,

@@ -44,7 +44,7 @@ fn gather_all<O>(alloc: Global, lists: &[Incarnation<O>]) -> Result<Vec<Draw>, A
     Ok(draws)
 }
 
-/// What all lists wait for, in the order of the writes' numbers.
+/// What all lists wait for, in the order of the writes' numbers. Refused for memory, nothing has changed.
 pub fn gather<O>(alloc: Global, lists: &[Incarnation<O>]) -> Result<Vec<Draw>, AllocError>
     ensures all { IfOk result (λ draws. (place : O → Place) → IsPermutation (drawings_of (waiting_of_all (held place lists.now))) (drawings_in draws.items)) }
     ensures rising { IfOk result (λ draws. IsNonDecreasingBy (λ (d : Draw). d.number) draws.items) }

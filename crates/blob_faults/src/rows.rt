@@ -11,7 +11,7 @@ use crate::selection::draw_positions;
 use rand_core::Rng;
 use std::alloc::{AllocError, Global};
 
-/// One row for each, one read after the other.
+/// One row for each, one read after the other. Refused for memory, the words of the rows before stay taken.
 pub fn draw_rows<R: Rng>(
     alloc: Global,
     draws: &[Draw],

@@ -43,7 +43,7 @@ impl Span {
         Ok(())
     }
 
-    /// The maximal runs of the chosen positions, in rising order.
+    /// The maximal runs of the chosen positions, in rising order, or a refusal for memory.
     pub fn of(alloc: Global, chosen: &[bool]) -> Result<Vec<Span>, AllocError>
         ensures pieces { IfOk result (λ spans. (offset : ℕ) (bytes : List ℕ) → length bytes ≡ length chosen.now → pieces offset bytes spans.items ≡ runs offset bytes chosen.now) }
         ensures inside { IfOk result (λ spans. All (ends_by (length chosen.now)) spans.items) }

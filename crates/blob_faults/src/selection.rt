@@ -86,7 +86,8 @@ fn draw_sectors<R: Rng>(
     }
 }
 
-/// The choices of `len` bytes at the logical `offset`, one a byte. All room is taken before the first draw.
+/// The choices of `len` bytes at the logical `offset`, one a byte. All room is taken before the first draw, so that
+/// a refusal for memory leaves the generator as it was.
 pub fn draw_positions<R: Rng>(
     alloc: Global,
     mode: PartialWriteMode,

@@ -8,7 +8,7 @@ use blob_base::Crc32;
 use blob_base::laws::checksums::checksums_fit;
 use std::alloc::{AllocError, Global};
 
-/// The frame of a record: its length and its checksum in four bytes each, and the record.
+/// The frame of a record: its length and its checksum in four bytes each, and the record. Refused for memory alone.
 #[tactic(auto, using(std::proofs::lemmas::Grind::common_steps), unfolding(crate::specs::Frames::frame))]
 pub fn frame_of(alloc: Global, entry: &[u8]) -> Result<Vec<u8>, AllocError>
     requires { length entry.now < 2 ^ 32 }
@@ -44,7 +44,7 @@ pub fn first(bytes: &[u8]) -> Option<&[u8]>
     Some(entry)
 }
 
-/// The records that the bytes begin with, and where the last one's frame ends.
+/// The records that the bytes begin with, and where the last one's frame ends. Refused for memory alone.
 pub fn scan(alloc: Global, bytes: &[u8]) -> Result<(Vec<Vec<u8>>, usize), AllocError>
     ensures records { IfOk result (λ found. map (λ r. r.items) found.0.items ≡ scan bytes.now) }
     ensures end { IfOk result (λ found. found.1 ≡ length (frames (scan bytes.now))) }

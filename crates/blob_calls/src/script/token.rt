@@ -67,6 +67,10 @@ pub fn number(token: &str) -> Option<u64>
 }
 
 /// The bytes that a token is: hex digits, an even number of them, or `-` for none.
+///
+/// # Errors
+///
+/// `BadCall` where it is neither, `NoMemory` where its bytes find no room.
 pub fn bytes(alloc: Global, token: &str) -> Result<Vec<u8>, RefusedLine>
     ensures ok { IfOk result (λ bytes. bytes_of token.now ≡ Ok bytes.items) }
     ensures bad { result ≡ Err RefusedLine.BadCall → IsErr (bytes_of token.now) }
