@@ -4,6 +4,7 @@ pub mod Covered
 pub mod CutSteps
 pub mod Distinct
 pub mod DrawSteps
+pub mod EqualConfigs
 pub mod Finishing
 pub mod Gathering
 pub mod HoleRoom
