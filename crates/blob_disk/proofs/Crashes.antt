@@ -2,12 +2,7 @@
 use Rattle.std.proofs.Common.{◌≡◌, ◌⊎◌, ℕ, List, [], Option, Some, None, refl, sym, ◌∙◌, ap, subst, inl, inr}
 use Rattle.std.specs.Coded.{Coded-set, coded_option, coded_ℕ}
 use base.Stored.{coded_list}
-use Rattle.blob_header.specs.declared.layout.Layout.TheVariants.{V1}
-use Rattle.blob_model.specs.Directory.{Directory}
-use Rattle.blob_model.specs.Durable.{Durable}
 use Rattle.blob_model.specs.Log.{Choices}
-use Rattle.blob_model.specs.Opening.{Continues, Begins, opening, IsOpened, Continued, Begun}
-use Rattle.blob_model.specs.Places.{Place}
 use Rattle.blob_model.specs.Pending.{Pending}
 use Rattle.blob_model.specs.Stands.{replayed_at}
 use Rattle.blob_disk.specs.Outcomes.{MayLeave}
@@ -29,12 +24,3 @@ no_more x y q q' b b' t e none was c (inr (s, is)) = inr (t, sym e ∙ sym (repl
 -- two contents that may be missing are equal in one way
 pub one_way : (x y : Option (List ℕ)) → IsProp (x ≡ y)
 one_way x y = Coded-set (coded_option (coded_list coded_ℕ)) x y
-
--- a name that was missing begins without bytes
-pub begins_empty : (d d' : Directory) (f f' : Durable) (p n : List ℕ) (first last : ℕ) (o : Place) (live : List ℕ) (version : ℕ) → d.file p n ≡ None → IsOpened d f d' f' p n first last o live version → live ≡ []
-begins_empty d d' f f' p n first last o live version none (Continued number layout opens place holds same kept) =
-    let new : Begins V1 last [] ≡ Continues number layout version = sym (ap (λ file. opening p n file first last) none) ∙ opens in
-    absurd cc
-begins_empty d d' f f' p n first last o live version none (Begun layout opens place made kept) =
-    let new : Begins V1 last [] ≡ Begins layout version live = sym (ap (λ file. opening p n file first last) none) ∙ opens in
-    cc

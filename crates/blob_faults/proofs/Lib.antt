@@ -12,6 +12,7 @@ pub mod ListSteps
 pub mod Marking
 pub mod Queued
 pub mod Rowing
+pub mod Sizes
 pub mod Sorting
 pub mod SpanSteps
 pub mod Taking

@@ -21,7 +21,7 @@ use Rattle.blob_faulty.specs.Names.{OpenLeaves}
 use Rattle.blob_faulty.specs.Wrapper.{inner_of, rng_of, config_of, pending_of, KeepsNumbers}
 use Rattle.blob_memory.specs.Store.{directory, durable}
 use Rattle.blob_memory.specs.declared.storage.Storage as memory
-use Rattle.blob_faulty.proofs.Keeping.{keeps_admitted, keeps_open, keeps_found, kept_front, current_named}
+use Rattle.blob_faulty.proofs.Keeping.{keeps_found, kept_front, current_named}
 
 -- the same lists, retired
 retired_same : (f g : Place → List Pending) (c : Option Place) (a : Place) → ((o : Place) → f o ≡ g o) → retired f c a ≡ retired g c a
@@ -57,10 +57,6 @@ module _ {R : Type 0} (p n : List ℕ) (first last : ℕ) (before mid after : Ov
 
   pub files_admitted : OpensAdmitted before after p n first last
   files_admitted f s = stands _ (steps f s)
-
-  pub keeps_through : (a : Place) (bytes : List ℕ) → Keeps before a bytes → Keeps after a bytes
-  keeps_through a bytes k =
-      keeps_admitted (λ o. o) directory durable mid after a bytes (ap directory inside) (keeps_open (λ o. o) directory durable before mid p n first last steps a bytes k o live version opens) p n stands
 
   holds : durable (inner_of mid) o ≡ Some live
   holds = read_by_open _ _ _ _ _ _ _ _ _ _ _ opens

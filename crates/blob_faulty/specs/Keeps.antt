@@ -10,9 +10,11 @@ use Rattle.blob_faulty.specs.declared.blob.Blob.{Blob}
 use Rattle.blob_model.specs.Directory.{Directory, current}
 use Rattle.blob_model.specs.Durable.{Durable}
 use Rattle.blob_model.specs.Files.{Files}
+use Rattle.blob_model.specs.Opening.{IsOpened}
 use Rattle.blob_model.specs.Persistence.{AreFixed}
 use Rattle.blob_model.specs.Places.{Place}
 use Rattle.blob_faulty.specs.declared.storage.Storage.{Storage}
+use Rattle.blob_faulty.specs.Names.{OpenLeaves}
 use Rattle.blob_faulty.specs.Wrapper.{Stands, Adds, KeepsRecords, inner_of, rng_of, config_of, next_write_of}
 use Rattle.blob_memory.specs.Store.{directory, durable}
 use Rattle.blob_memory.specs.declared.storage.Storage as memory
@@ -44,6 +46,13 @@ module _ (R : Type 0) {S O : Type 0} (store : stores.Ghosts S O) where
   abbrev pub KeptFronts : Type 0
   KeptFronts = (w : Storage S R O) (o : Place) (front bytes : List ℕ) → BeginsWith front bytes →
       KeepsBytes store.place store.directory store.durable w o bytes → KeepsBytes store.place store.directory store.durable w o front
+
+  -- through an accepted open of any name, by what it may leave of the inner store
+  abbrev pub KeptOpens : (R → Stream) → (S → List ℕ → List ℕ → ℕ → ℕ → Option Refusal → S → Type 0) → Type 0
+  KeptOpens stream asked = (old new : Storage S R O) (p n : List ℕ) (first last : ℕ) (at : Place) (live : List ℕ) (version : ℕ) (o : Place) (bytes : List ℕ) →
+      IsOpened (store.directory (inner_of old)) (store.durable (inner_of old)) (store.directory (inner_of new)) (store.durable (inner_of new)) p n first last at live version →
+      OpenLeaves store.place stream (asked (inner_of old) p n first last None) old new →
+      KeepsBytes store.place store.directory store.durable old o bytes → KeepsBytes store.place store.directory store.durable new o bytes
 
   -- through a write behind it
   abbrev pub KeptBehind : (R → Stream) → Type 0

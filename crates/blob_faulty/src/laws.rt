@@ -7,7 +7,6 @@ pub mod current_handles;
 pub mod keeps;
 pub mod names;
 pub mod outcomes;
-pub mod recorded;
 
 use crate::blob::Blob;
 use crate::storage::Storage;

@@ -1,5 +1,5 @@
 //! Opens, removals, scans and finished syncs of the wrapper.
-ghost use Rattle.std.specs.Prelude.{◌≡◌, ◌≤◌, ℕ, Bool, true, false, Option, Some, None, is_some, IsTrue, OnOk, OnErr, IfOk, length, map, option_copied};
+ghost use Rattle.std.specs.Prelude.{◌≡◌, ◌≤◌, ℕ, List, Bool, true, false, Option, Some, None, is_some, IsTrue, OnOk, OnErr, IfOk, length, map, option_copied};
 ghost use Rattle.std.specs.Range.{range_inclusive_start, range_inclusive_end, range_inclusive_exhausted};
 ghost use Rattle.blob_model.specs.Directory.{removed};
 ghost use Rattle.blob_model.specs.Durable.{durable_without};
@@ -11,6 +11,7 @@ ghost use Rattle.blob_model.specs.Places.{Place};
 ghost use Rattle.blob_header.specs.Refusals.{refused};
 ghost use Rattle.blob_faults.specs.Answers.{injected_or};
 ghost use Rattle.blob_faults.specs.Faults.{draw};
+ghost use Rattle.blob_faulty.specs.Keeps.{KeepsBytes};
 ghost use Rattle.blob_faulty.specs.Names.{OpenLeaves, RemoveLeaves, ScanLeaves, FinishLeaves, Steps, emptied};
 ghost use Rattle.blob_faulty.specs.Wrapper.{inner_of, rng_of, config_of, pending_of, KeepsNumbers, KeepsRecords, finished_by, inside, size_of};
 
@@ -126,10 +127,12 @@ impl<S: blob_base::Storage, R: Rng> blob_base::Storage for Storage<S, R> {
 
     ghost keeps_size = { λ blob size. (size_of blob ≡ size) × S.keeps_size (inside blob) size };
 
-    /// Draws the open rate, then opens in the store inside. The handle's size is the one that is answered.
+    /// Draws the open rate, then opens in the store inside. The handle's size is the one that is answered. What was kept of any
+    /// blob still is.
     ///
     /// Alone it fixes nothing: what is pending of the blob stays so, and a later crash may replay it over what the handle found.
-    /// Over a memory store `admit` behind it retires that, and `open_versioned_admitted` does both.
+    /// Nor does it keep a second handle from the blob. Over a memory store `admit` behind it retires what is pending,
+    /// `open_versioned_admitted` does both, and `open_exclusive` sees to one handle at a time as well.
     ///
     /// # Errors
     ///
@@ -140,7 +143,17 @@ impl<S: blob_base::Storage, R: Rng> blob_base::Storage for Storage<S, R> {
         partition: &str,
         name: &[u8],
         versions: RangeInclusive<BlobVersion>,
-    ) -> Result<(Blob<S::Blob>, u64, BlobVersion), Error> {
+    ) -> Result<(Blob<S::Blob>, u64, BlobVersion), Error>
+        requires fresh { range_inclusive_exhausted versions ≡ false }
+        requires some { (range_inclusive_start versions).0 ≤ (range_inclusive_end versions).0 }
+        ensures allowed { injected_or (draw (config_of self.old).open_rate (R.stream (rng_of self.old))).0 (S.allows_open (inner_of self.old) partition.now name.now (range_inclusive_start versions).0 (range_inclusive_end versions).0) (refused result) }
+        ensures leaves { OpenLeaves S.place R.stream (S.leaves_open (inner_of self.old) partition.now name.now (range_inclusive_start versions).0 (range_inclusive_end versions).0 (refused result)) self.old self.new }
+        ensures opened { IfOk result (λ opened. IsOpened (S.directory (inner_of self.old)) (S.durable (inner_of self.old)) (S.directory (inner_of self.new)) (S.durable (inner_of self.new)) partition.now name.now (range_inclusive_start versions).0 (range_inclusive_end versions).0 (S.Blob.place (inside opened.0)) (S.Blob.live (inside opened.0)) opened.2.0) }
+        ensures size { IfOk result (λ opened. opened.1 ≡ length (S.Blob.live (inside opened.0))) }
+        ensures kept_size { IfOk result (λ opened. (size_of opened.0 ≡ opened.1) × S.keeps_size (inside opened.0) opened.1) }
+        ensures err { OnErr result ((S.directory (inner_of self.new) ≡ S.directory (inner_of self.old)) × (S.durable (inner_of self.new) ≡ S.durable (inner_of self.old))) }
+        ensures keeps { (o : Place) (bytes : List ℕ) → KeepsBytes S.place S.directory S.durable self.old o bytes → KeepsBytes S.place S.directory S.durable self.new o bytes }
+    {
         if draws(self.config.open_rate, &mut self.rng) {
             return Err(Error::Injected);
         }

@@ -15,6 +15,7 @@ ghost use Rattle.blob_opens.specs.OpenNames.{opened};
 ghost use Rattle.blob_opens.specs.Opens.{names_of, registration_of, inner_of as handle_of};
 
 use crate::blob::Blob;
+use crate::laws::keeps::accepted_opens;
 use crate::laws::names::opens;
 use crate::storage::Storage;
 use blob_base::laws::opens::numbers_are_given;
@@ -56,6 +57,7 @@ impl<R: Rng> Storage<blob_memory::Storage, R> {
         ensures keeps { (o : Place) (bytes : List ℕ) → Keeps self.old o bytes → Keeps self.new o bytes }
     {
         opens::<blob_memory::Storage, R>();
+        accepted_opens::<blob_memory::Storage, R>();
         numbers_are_given::<blob_memory::Storage>();
         let opened = registry.open(self, partition, name, versions)?;
         let _ = self.admit(partition, name);

@@ -1,7 +1,8 @@
--- An open answers a version that was asked for.
-use Rattle.std.proofs.Common.{◌≡◌, ℕ, ◌-◌, ◌≤◌, Bool, true, false, List, length, take, Option, Some, None, Result, Ok, Err, refl, ap, subst, if◌then◌else◌, nat_lt, arith}
+-- An open answers a version that was asked for, and a name without a file begins without bytes.
+use Rattle.std.proofs.Common.{◌≡◌, ℕ, ◌-◌, ◌≤◌, Bool, true, false, List, [], length, take, Option, Some, None, Result, Ok, Err, refl, sym, ap, ◌∙◌, subst, if◌then◌else◌, nat_lt, arith}
 use Rattle.std.proofs.lemmas.Bool.Decides.{nat_tests}
 use Rattle.blob_header.specs.declared.layout.Layout.{Layout}
+use Rattle.blob_header.specs.declared.layout.Layout.TheVariants.{V1}
 use Rattle.blob_header.specs.declared.version.BlobVersion.{BlobVersion}
 use Rattle.blob_model.specs.Directory.{Directory, File, Raw, Incarnation}
 use Rattle.blob_header.specs.Header.{data_start, number_at}
@@ -78,9 +79,21 @@ opened_within d f d' f' p n first last place live version some (Continued number
 opened_within d f d' f' p n first last place live version some (Begun layout e at same bytes) = begins_within p n (d.file p n) first last layout version live some e
 
 -- an open for one version answers that
+pub version_asked : (d d' : Directory) (f f' : Durable) (p n : List ℕ) (wanted : ℕ) (place : Place) (live : List ℕ) (version : ℕ) → IsOpened d f d' f' p n wanted wanted place live version → version ≡ wanted
+version_asked d d' f f' p n wanted place live version opened =
+    let within = opened_within d f d' f' p n wanted wanted place live version (omega arith) opened in
+    omega (arith, within.0, within.1)
+
 pub one_version : (d : Directory) (f : Durable) (d' : Directory) (f' : Durable) (p n : List ℕ) (first last wanted : ℕ) (place : Place) (live : List ℕ) (version : ℕ) → first ≡ wanted → last ≡ wanted → IsOpened d f d' f' p n first last place live version → IsOpened d f d' f' p n wanted wanted place live wanted
 one_version d f d' f' p n first last wanted place live version start end opened =
     let o = subst (λ (a : ℕ). IsOpened d f d' f' p n wanted a place live version) end (subst (λ (a : ℕ). IsOpened d f d' f' p n a last place live version) start opened) in
-    let within = opened_within d f d' f' p n wanted wanted place live version (omega arith) o in
-    let is : version ≡ wanted = omega (arith, within.0, within.1) in
-    subst (λ (v : ℕ). IsOpened d f d' f' p n wanted wanted place live v) is o
+    subst (λ (v : ℕ). IsOpened d f d' f' p n wanted wanted place live v) (version_asked d d' f f' p n wanted place live version o) o
+
+-- a name without a file begins without bytes
+pub begins_empty : (d d' : Directory) (f f' : Durable) (p n : List ℕ) (first last : ℕ) (place : Place) (live : List ℕ) (version : ℕ) → IsOpened d f d' f' p n first last place live version → d.file p n ≡ None → live ≡ []
+begins_empty d d' f f' p n first last place live version (Continued number layout opens at is same bytes) none =
+    let new : Begins V1 last [] ≡ Continues number layout version = sym (ap (λ (file : Option File). opening p n file first last) none) ∙ opens in
+    absurd cc
+begins_empty d d' f f' p n first last place live version (Begun layout opens at same bytes) none =
+    let new : Begins V1 last [] ≡ Begins layout version live = sym (ap (λ (file : Option File). opening p n file first last) none) ∙ opens in
+    cc

@@ -1,19 +1,17 @@
 -- The size that a handle tracks and the length of its live bytes, by each call through it.
-use Rattle.std.proofs.Common.{◌≡◌, inl, inr, ℕ, ◌+◌, max, Bool, true, false, not, ◌&&◌, List, [], ◌∷◌, length, Option, Some, None, refl, sym, ap, ◌∙◌, arith, if◌then◌else◌}
+use Rattle.std.proofs.Common.{◌≡◌, inl, inr, ℕ, ◌+◌, Bool, true, false, not, ◌&&◌, List, [], ◌∷◌, length, Option, Some, None, refl, sym, ap, ◌∙◌, if◌then◌else◌}
 use Rattle.std.specs.Prelude.{is_some}
 use Rattle.std.proofs.lemmas.Bool.{false≢true}
 use Rattle.rand_core.specs.Stream.{Stream}
 use Rattle.std.specs.Option.{option_or}
-use Rattle.blob_model.specs.Bytes.{written, resized}
 use Rattle.blob_model.specs.Directory.{Directory, is_current}
-use Rattle.blob_model.specs.Live.{live_written, all_written, is_idle}
+use Rattle.blob_model.specs.Live.{is_idle}
 use Rattle.blob_model.specs.Places.{Place}
 use Rattle.blob_header.specs.Refusals.{Refusal, BlobMissing, Injected, OffsetOverflow, GenerationsExhausted}
 use Rattle.blob_model.specs.Runs.{Run, runs}
-use Rattle.blob_model.proofs.Bytes.{length-overlay_by, length-resized, reach_all}
 use Rattle.blob_faults.specs.Answers.{lacks_number, last_end}
-use Rattle.blob_faults.specs.Faults.{WriteFate, Done, Unsynced, Failed, ResizeFate, Resizes, Stays, Reaches, write_fate, resize_fate, retention, is_uncounted}
-use Rattle.blob_faults.specs.Recorded.{live_by, live_of_resize, size_of_runs, size_by, size_of_resize}
+use Rattle.blob_faults.specs.Faults.{WriteFate, Done, Unsynced, Failed, write_fate, resize_fate, retention, is_uncounted}
+use Rattle.blob_faults.proofs.Sizes.{sized_after_write, sized_after_resize}
 use Rattle.blob_memory.specs.Answers.{write_refusal, end_refusal, sync_refusal, missing}
 use Rattle.blob_memory.specs.Answers as memory
 use Rattle.blob_calls.specs.declared.reply.Reply.{Reply}
@@ -87,72 +85,17 @@ reply_there : (r : Reply) (denial : Option Refusal) (grows : Bool) (left expecte
 reply_there r denial grows left expected there (inl m) = ap is_missing m.1
 reply_there r denial grows left expected there (inr t) = ap is_missing (denied r denial told.Done refl t.0) ∙ there
 
--- Lengths.
-
--- a write grows bytes to its end
-length-written : (x : List ℕ) (o : ℕ) (b : List ℕ) → length (written x o b) ≡ max (length x) (o + length b)
-length-written x o [] = length-overlay_by (resized x (max (length x) o)) o [] (λ _. true) ∙ omega (arith, length-resized x (max (length x) o))
-length-written x o (b ∷ bs) =
-    length-overlay_by (resized x (max (length x) o)) o (b ∷ bs) (λ _. true)
-    ∙ omega (arith, length-resized x (max (length x) o), reach_all o (length (b ∷ bs)) (omega arith))
-
-write_sized : (size : ℕ) (live : List ℕ) (offset : ℕ) (bytes : List ℕ) → size ≡ length live → max size (offset + length bytes) ≡ length (written live offset bytes)
-write_sized size live offset bytes e = ap (λ k. max k (offset + length bytes)) e ∙ sym (length-written live offset bytes)
-
-runs_sized : (size : ℕ) (live : List ℕ) (rs : List Run) → size ≡ length live → size_of_runs size rs ≡ length (all_written live rs)
-runs_sized size live [] e = e
-runs_sized size live (r ∷ rs) e = runs_sized (max size (r.0 + length r.1)) (written live r.0 r.1) rs (write_sized size live r.0 r.1 e)
-
-done_sized : (sync : Bool) (size : ℕ) (live : List ℕ) (offset : ℕ) (bytes : List ℕ) → is_idle sync bytes ≡ false → size ≡ length live → max size (offset + length bytes) ≡ length (live_written sync live offset bytes)
-done_sized true size live offset [] some e = absurd (false≢true (sym some))
-done_sized true size live offset (b ∷ bytes) some e = write_sized size live offset (b ∷ bytes) e
-done_sized false size live offset bytes some e = write_sized size live offset bytes e
-
-fate_sized : (fate : WriteFate) (sync : Bool) (size : ℕ) (live : List ℕ) (offset : ℕ) (bytes : List ℕ) (answer : Option Refusal) → is_idle sync bytes ≡ false → is_missing answer ≡ false → size ≡ length live
-    → size_by fate size offset bytes answer ≡ length (live_by fate sync live offset bytes answer)
-fate_sized Done sync size live offset bytes None some there e = done_sized sync size live offset bytes some e
-fate_sized Done sync size live offset bytes (Some (BlobMissing p n)) some there e = absurd (false≢true (sym there))
-fate_sized Done true size live offset bytes (Some r) some there e = e
-fate_sized Done false size live offset bytes (Some r) some there e = e
-fate_sized Unsynced sync size live offset bytes (Some Injected) some there e = write_sized size live offset bytes e
-fate_sized Unsynced sync size live offset bytes None some there e = e
-fate_sized Unsynced sync size live offset bytes (Some r) some there e = e
-fate_sized (Failed chosen) sync size live offset bytes (Some Injected) some there e = runs_sized size live (runs offset bytes chosen) e
-fate_sized (Failed chosen) sync size live offset bytes (Some (BlobMissing p n)) some there e = absurd (false≢true (sym there))
-fate_sized (Failed chosen) sync size live offset bytes None some there e = e
-fate_sized (Failed chosen) sync size live offset bytes (Some r) some there e = e
-
-resize_sized : (fate : ResizeFate) (size : ℕ) (live : List ℕ) (len : ℕ) (answer : Option Refusal) → size ≡ length live → size_of_resize fate size len answer ≡ length (live_of_resize fate live len answer)
-resize_sized (Resizes survives) size live len None e = sym (length-resized live len)
-resize_sized (Resizes survives) size live len (Some r) e = e
-resize_sized Stays size live len None e = e
-resize_sized Stays size live len (Some r) e = e
-resize_sized (Reaches reached) size live len None e = e
-resize_sized (Reaches reached) size live len (Some Injected) e = sym (length-resized live reached)
-resize_sized (Reaches reached) size live len (Some r) e = e
-
-abbrev IsSized : Held → Type 0
-IsSized h = h.size ≡ length h.live
-
--- a write that doesn't find its blob missing
-write_keeps : (v : State) (h : Held) (offset : ℕ) (bytes : List ℕ) (sync : Bool) (answer : Option Refusal) → is_missing answer ≡ false → IsSized h → IsSized (held_after v h (Write offset bytes sync) answer)
-write_keeps v h offset bytes sync answer there e = go (is_idle sync bytes) (is_uncounted offset bytes) refl where
-  fate : WriteFate
-  fate = (write_fate v.config sync offset (length bytes) v.stream).0
-
-  go : (nothing uncounted : Bool) → is_idle sync bytes ≡ nothing
-      → (if nothing then h.size else if uncounted then h.size else size_by fate h.size offset bytes answer)
-      ≡ length (if nothing then h.live else if uncounted then h.live else live_by fate sync h.live offset bytes answer)
-  go true uncounted is = e
-  go false true is = e
-  go false false is = fate_sized fate sync h.size h.live offset bytes answer is there e
+-- an answer that isn't that
+found : (answer : Option Refusal) → is_missing answer ≡ false → (p n : List ℕ) → answer ≡ Some (BlobMissing p n) → ⊥
+found answer there p n e = absurd (false≢true (sym there ∙ ap is_missing e))
 
 -- what is asked through a current handle
 pub asked_sized : (v : State) (h : Held) (ask : Ask) (r : Reply) (grows : Bool) (left : Stream) → IsAnswer grows (through v (Some h) ask) r left → is_current v.files.directory h.place ≡ true
     → h.size ≡ length h.live → (held_after v h ask (refused_by r)).size ≡ length (held_after v h ask (refused_by r)).live
 asked_sized v h (Write offset bytes sync) r grows left a now e =
-    write_keeps v h offset bytes sync (refused_by r) (reply_there r (write_denial v h offset bytes sync) grows left (through v (Some h) (Write offset bytes sync)).1 (denial_there v h offset bytes sync now) a) e
-asked_sized v h (Resize len) r grows left a now e = resize_sized (resize_fate v.config.resize_rate h.size len v.stream).0 h.size h.live len (refused_by r) e
+    sized_after_write v.config v.stream sync h.size h.live offset bytes (refused_by r)
+    (found (refused_by r) (reply_there r (write_denial v h offset bytes sync) grows left (through v (Some h) (Write offset bytes sync)).1 (denial_there v h offset bytes sync now) a)) e
+asked_sized v h (Resize len) r grows left a now e = sized_after_resize (resize_fate v.config.resize_rate h.size len v.stream).0 h.size h.live len (refused_by r) e
 asked_sized v h (Read offset len) r grows left a now e = e
 asked_sized v h Size r grows left a now e = e
 asked_sized v h Sync r grows left a now e = e

@@ -1,5 +1,5 @@
 //! What a handle on its name's current incarnation may rely on.
-ghost use Rattle.blob_faulty.specs.Outcomes.{FoundWhileCurrent, WriteSizes, ResizeSizes, WriteBytes, ResizeBytes};
+ghost use Rattle.blob_faulty.specs.Outcomes.{FoundWhileCurrent, WriteSizes, ResizeSizes, WriteBytes, LiveInRange, ResizeBytes};
 
 use crate::blob::Blob;
 use crate::storage::Storage;
@@ -17,9 +17,10 @@ pub fn sizes()
     ensures resizes { ResizeSizes }
 {}
 
-/// A write leaves live bytes with some of its bytes laid over them, whatever it is answered but `BlobMissing`. A resize leaves
-/// them or reaches the length that was asked for, where none fails in part.
+/// A write leaves live bytes with some of its bytes laid over them, whatever it is answered but `BlobMissing`, and whatever it is
+/// answered those outside its range. A resize leaves them or reaches the length that was asked for, where none fails in part.
 pub fn live_bytes()
     ensures writes { WriteBytes }
+    ensures in_range { LiveInRange }
     ensures resizes { ResizeBytes }
 {}

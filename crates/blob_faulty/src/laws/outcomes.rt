@@ -1,5 +1,5 @@
 //! What a crash may leave after a mutation, by what it might have left before it.
-ghost use Rattle.blob_faulty.specs.Outcomes.{RecordedStands, RecordedLeft, WritesLay, ResizesCut};
+ghost use Rattle.blob_faulty.specs.Outcomes.{RecordedStands, RecordedLeft, RecordedInRange, WritesLay, ResizesCut};
 
 use blob_base::Storage as Inner;
 use rand_core::Rng;
@@ -11,9 +11,11 @@ pub fn recorded<S: Inner, R: Rng>()
     ensures left { RecordedLeft R S.Durable }
 {}
 
-/// What a write records is laid by a crash as some of its bytes, all of a SYNC write's and of kept runs. What a resize records
-/// resizes to the length that was asked for, where none fails in part; a resize of which nothing is recorded is lost.
+/// What a write records is laid by a crash as some of its bytes, all of a SYNC write's and of kept runs, and lies in its range. What
+/// a resize records resizes to the length that was asked for, where none fails in part; a resize of which nothing is recorded is
+/// lost.
 pub fn entries()
     ensures writes { WritesLay }
+    ensures in_range { RecordedInRange }
     ensures resizes { ResizesCut }
 {}

@@ -7,7 +7,6 @@ use Rattle.blob_model.specs.Durable.{Durable}
 use Rattle.blob_model.specs.Files.{Files, wrapped, after_open}
 use Rattle.blob_model.specs.Places.{Place}
 use Rattle.blob_disk.proofs.BlobDisk.new.Goals as goal
-use Rattle.blob_disk.proofs.Crashes.{begins_empty}
 use Rattle.blob_disk.proofs.Outcomes.{configured_here, configured_whole}
 use Rattle.blob_faulty.specs.Wrapper.{inner_of, Stands}
 use Rattle.blob_memory.specs.Store.{directory, durable}
@@ -33,4 +32,4 @@ pub returns-clause-empty : goal.returns-clause-empty
 returns-clause-empty g c =
     let missing : (directory (inner_of c.new-store.result)).file (codes "disk") (codes "0") ≡ None =
     ap (λ m. (directory m).file (codes "disk") (codes "0")) c.new-store.ensures.inner ∙ ap (λ (d : Directory). d.file (codes "disk") (codes "0")) c.new-memory.ensures.directory in
-    begins_empty _ _ _ _ (codes "disk") (codes "0") 0 0 _ _ _ missing c.in_ok-blob.ensures.opened
+    c.accepted_opens.ensures.missing_names_begin_empty _ _ _ _ (codes "disk") (codes "0") 0 0 _ _ _ c.in_ok-blob.ensures.opened missing

@@ -1,4 +1,5 @@
 use Rattle.blob_model.proofs.NameSteps.{read_by_open}
+use Rattle.blob_model.proofs.Openings.{version_asked, begins_empty}
 use Rattle.blob_model.proofs.Opened.{named_opened, current_opened, goes_on, next_opened}
 use Rattle.blob_base.proofs.laws.opens.accepted_opens.Goals as goal
 
@@ -16,3 +17,9 @@ returns-clause-goes_on c = goes_on
 
 pub returns-clause-next : goal.returns-clause-next
 returns-clause-next c = next_opened
+
+pub returns-clause-one_version : goal.returns-clause-one_version
+returns-clause-one_version c = version_asked
+
+pub returns-clause-missing_names_begin_empty : goal.returns-clause-missing_names_begin_empty
+returns-clause-missing_names_begin_empty c = begins_empty

@@ -1,9 +1,7 @@
 use Rattle.std.specs.Range.{range_inclusive_start, range_inclusive_end}
 use Rattle.blob_header.specs.Refusals.{refusal_of}
 use Rattle.blob_faulty.specs.Exclusive.{OpensAlone, StaysSame}
-use Rattle.blob_memory.specs.Store.{directory, durable}
-use Rattle.blob_faulty.proofs.AdmittedOpens.{leaves_admitted, opened_admitted, files_admitted, keeps_through, keeps_all_found, found_kept}
-use Rattle.blob_faulty.proofs.Keeping.{keeps_same}
+use Rattle.blob_faulty.proofs.AdmittedOpens.{leaves_admitted, opened_admitted, files_admitted, keeps_all_found, found_kept}
 use Rattle.blob_faulty.proofs.SyncSteps.{err_by}
 use Rattle.blob_faulty.proofs.open_admitted.Storage+blob_memory+Storage+R.open_versioned_admitted.Given.{Over}
 use Rattle.blob_faulty.proofs.open_admitted.Storage+blob_memory+Storage+R.open_versioned_admitted.Goals as goal
@@ -23,9 +21,6 @@ returns-clause-opened g c = opened_admitted _ _ _ _ c.args.self.now c.open_versi
 pub returns-clause-files : goal.returns-clause-files
 returns-clause-files g c = files_admitted _ _ _ _ c.args.self.now c.open_versioned.new.self c.admit.new.self _ _ _ c.in_ok-opened.ensures.opened (steps g c) c.admit.ensures.inner c.admit.ensures.stands
 
-pub returns-clause-keeps : goal.returns-clause-keeps
-returns-clause-keeps g c = keeps_through _ _ _ _ c.args.self.now c.open_versioned.new.self c.admit.new.self _ _ _ c.in_ok-opened.ensures.opened (steps g c) c.admit.ensures.inner c.admit.ensures.stands
-
 pub returns-clause-fixed : goal.returns-clause-fixed
 returns-clause-fixed g c = keeps_all_found _ _ _ _ c.args.self.now c.open_versioned.new.self c.admit.new.self _ _ _ c.in_ok-opened.ensures.opened (steps g c) c.admit.ensures.inner c.admit.ensures.stands c.numbers_are_given.ensures.durable
 
@@ -39,8 +34,3 @@ stays g c =
 
 pub returns-in_err-opened-clause-same_files : goal.returns-in_err-opened-clause-same_files
 returns-in_err-opened-clause-same_files g c = err_by c.from_residual.result (λ _. stays g c)
-
-pub returns-in_err-opened-clause-keeps : goal.returns-in_err-opened-clause-keeps
-returns-in_err-opened-clause-keeps g c = λ o bytes k.
-    let w = c.in_err-opened.ensures in
-    keeps_same (λ o. o) directory durable c.args.self.now c.open_versioned.new.self o bytes w.err.0 k (stays g c)

@@ -3,16 +3,18 @@ use Rattle.std.specs.Range.{range_inclusive_start, range_inclusive_end}
 use Rattle.blob_header.specs.Refusals.{refused, refusal_of}
 use Rattle.blob_opens.specs.Opens.{names_of}
 use Rattle.blob_faulty.specs.Exclusive.{ExclusiveAnswer, OpensAlone}
-use Rattle.blob_faulty.proofs.AdmittedOpens.{leaves_admitted, opened_admitted, files_admitted, keeps_through, keeps_all_found, found_kept}
+use Rattle.blob_faulty.specs.Names.{OpenLeaves}
+use Rattle.blob_faulty.proofs.AdmittedOpens.{leaves_admitted, opened_admitted, files_admitted, keeps_all_found, found_kept}
 use Rattle.blob_faulty.proofs.Exclusives.{asked, told_admitted, told_refused, keeps_refused}
 use Rattle.blob_faulty.proofs.open_exclusive.Storage+blob_memory+Storage+R.open_exclusive.Given.{Over}
 use Rattle.blob_faulty.proofs.open_exclusive.Storage+blob_memory+Storage+R.open_exclusive.Goals as goal
 
--- the wrapper's own open
+-- what the wrapper's own open left
+left : (g : Over) (c : goal.After-admit g) → OpenLeaves (λ o. o) g.R.Rng.stream (λ _. Unit {0}) c.args.self.now c.open.new.store
+left g c = (asked g.R.Rng.stream (names_of c.args.registry.now) c.args.partition.now c.args.name.now (range_inclusive_start c.args.versions).0 (range_inclusive_end c.args.versions).0 c.args.self.now c.open.new.store _ c.in_ok-opened.ensures.answer refl).1
+
 steps : (g : Over) (c : goal.After-admit g) → OpensAlone c.args.self.now c.open.new.store c.args.partition.now c.args.name.now (range_inclusive_start c.args.versions).0 (range_inclusive_end c.args.versions).0
-steps g c =
-    let a = asked g.R.Rng.stream (names_of c.args.registry.now) c.args.partition.now c.args.name.now (range_inclusive_start c.args.versions).0 (range_inclusive_end c.args.versions).0 c.args.self.now c.open.new.store _ c.in_ok-opened.ensures.answer refl in
-    c.opens.ensures.accepted c.args.self.now c.open.new.store c.args.partition.now c.args.name.now _ _ _ _ _ c.in_ok-opened.ensures.opened a.1
+steps g c = c.opens.ensures.accepted c.args.self.now c.open.new.store c.args.partition.now c.args.name.now _ _ _ _ _ c.in_ok-opened.ensures.opened (left g c)
 
 pub returns-clause-answer : goal.returns-clause-answer
 returns-clause-answer g c =
@@ -28,7 +30,8 @@ pub returns-clause-files : goal.returns-clause-files
 returns-clause-files g c = files_admitted _ _ _ _ c.args.self.now c.open.new.store c.admit.new.self _ _ _ c.in_ok-opened.ensures.opened (steps g c) c.admit.ensures.inner c.admit.ensures.stands
 
 pub returns-clause-keeps : goal.returns-clause-keeps
-returns-clause-keeps g c = keeps_through _ _ _ _ c.args.self.now c.open.new.store c.admit.new.self _ _ _ c.in_ok-opened.ensures.opened (steps g c) c.admit.ensures.inner c.admit.ensures.stands
+returns-clause-keeps g c = λ o bytes k.
+    c.admit.ensures.keeps o bytes (c.accepted_opens.ensures c.args.self.now c.open.new.store c.args.partition.now c.args.name.now _ _ _ _ _ o bytes c.in_ok-opened.ensures.opened (left g c) k)
 
 pub returns-clause-fixed : goal.returns-clause-fixed
 returns-clause-fixed g c = keeps_all_found _ _ _ _ c.args.self.now c.open.new.store c.admit.new.self _ _ _ c.in_ok-opened.ensures.opened (steps g c) c.admit.ensures.inner c.admit.ensures.stands c.numbers_are_given.ensures.durable
