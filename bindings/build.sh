@@ -14,16 +14,16 @@ fi
 compiler=${CC:-cc}
 command -v "$compiler" >/dev/null || compiler=
 
-# Whether a file is there, and no source has changed since that build began.
-is_built() {
-    [ -f "$1" ] && [ -z "$(cd "$top" && find crates.txt crates -name out -prune -o -newer "$1" \
-        \( -name crates.txt -o -name '*.rt' -o -name '*.antt' \) -print | head -n 1)" ]
+. "$top/tools/building.sh"
+
+are_built() {
+    is_built "$out/libblobcrash.a" && { [ -z "$compiler" ] || is_built "$out/libblobcrash.so"; }
 }
 
-if is_built "$out/libblobcrash.a" && { [ -z "$compiler" ] || is_built "$out/libblobcrash.so"; }; then
-    exit 0
-fi
+! are_built || exit 0
 mkdir -p "$out"
+lock libblobcrash
+! are_built || exit 0
 library=$top/crates/blob_c/out/libblob_c.a
 kit=$(CDPATH='' cd -- "$(dirname -- "$(readlink -f "$rt")")/.." && pwd -P)
 # What the library allocates with: a part of the toolchain that is linked in.
@@ -64,7 +64,7 @@ build() {
 }
 
 echo "build.sh: building the library, which proves it first (tens of minutes on first use)" >&2
-if ! (build "$@") </dev/null >"$out/bindings.log" 2>&1; then
+if ! (build "$@") </dev/null >"$out/bindings.log" 2>&1 9>&-; then
     cat "$out/bindings.log" >&2
     echo "build.sh: the build failed" >&2
     exit 1

@@ -188,8 +188,9 @@ expect 'from another directory' 0 "valid 0 7 8$line" ''
 # The launcher, over a toolchain that only says that it was asked and leaves a program that tells its arguments.
 copy=$work/copy
 tools=$work/tools
-mkdir -p "$copy/crates/blobcrash/src" "$tools"
+mkdir -p "$copy/crates/blobcrash/src" "$copy/tools" "$tools"
 cp "$top/blobcrash" "$copy/blobcrash"
+cp "$top/tools/building.sh" "$copy/tools/building.sh"
 : >"$copy/crates.txt"
 : >"$copy/crates/blobcrash/src/main.rt"
 cat >"$tools/rt" <<'TOOL'
