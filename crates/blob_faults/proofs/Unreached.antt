@@ -41,6 +41,7 @@ module _ (p offset : ℕ) (bytes : List ℕ) (out : lies offset (length bytes) p
   by_fate_out fate retained number sync answer = refl
 
   pub write_out : (config : Config) (number : ℕ) (stream : Stream) (sync : Bool) (answer : Option Refusal) → any_touches p (recorded_write config number stream sync offset bytes answer) ≡ false
+  unfolding recorded_write
   write_out config number stream sync answer =
       cond_both (is_idle sync bytes) [] _ (λ es. any_touches p es ≡ false) (λ _. refl)
       (λ _. cond_both (is_uncounted offset bytes) [] _ (λ es. any_touches p es ≡ false) (λ _. refl)

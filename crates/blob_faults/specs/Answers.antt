@@ -63,7 +63,7 @@ allows_fate Unsynced writes reserves direct retained next sync offset bytes answ
 allows_fate (Failed kept) writes reserves direct retained next sync offset bytes answer = injected_for (allows_runs writes reserves direct (runs offset bytes kept)) answer
 
 -- `writes` and `reserves` are what the inner blob allows, `direct` whether it injects nothing
-abbrev pub allows_write : (ℕ → List ℕ → Bool → Allowed) → (ℕ → Allowed) → Bool → Config → ℕ → Stream → ℕ → List ℕ → Bool → Allowed
+unfoldable pub allows_write : (ℕ → List ℕ → Bool → Allowed) → (ℕ → Allowed) → Bool → Config → ℕ → Stream → ℕ → List ℕ → Bool → Allowed
 allows_write writes reserves direct config next stream offset bytes sync answer =
     MatchBool (is_idle sync bytes) (answer ≡ None) (MatchBool (is_uncounted offset bytes) (answer ≡ Some OffsetOverflow)
     (or_memory (allows_fate (write_fate config sync offset (length bytes) stream).0 writes reserves direct (is_some (retention config.write_rate)) next sync offset bytes) answer))

@@ -31,7 +31,7 @@ recorded_by (Failed chosen) retained number sync offset bytes (Some Injected) = 
 recorded_by fate retained number sync offset bytes answer = []
 
 -- what a write records, by its answer
-abbrev pub recorded_write : Config → ℕ → Stream → Bool → ℕ → List ℕ → Option Refusal → List Entry
+unfoldable pub recorded_write : Config → ℕ → Stream → Bool → ℕ → List ℕ → Option Refusal → List Entry
 recorded_write config number stream sync offset bytes answer = by_fate config sync offset bytes stream [] [] (λ d. recorded_by d.0 (retention config.write_rate) number sync offset bytes answer)
 
 -- a resize that survives, to the size that it reached

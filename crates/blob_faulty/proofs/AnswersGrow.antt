@@ -49,6 +49,7 @@ module _ (writes writes' : ℕ → List ℕ → Bool → Allowed) (reserves rese
 
   pub more_write : (direct : Bool) (config : Config) (next : ℕ) (stream : Stream) (o : ℕ) (b : List ℕ) (sync : Bool) (a : Option Refusal) →
       allows_write writes' reserves' direct config next stream o b sync a → allows_write writes reserves direct config next stream o b sync a
+  unfolding allows_write
   more_write direct config next stream o b sync a h = matched (is_idle sync b) (a ≡ None) _ _
       (matched (is_uncounted o b) (a ≡ Some OffsetOverflow) _ _
       (more_memory (allows_fate (write_fate config sync o (length b) stream).0 writes' reserves' direct (is_some (retention config.write_rate)) next sync o b)

@@ -124,6 +124,7 @@ done_same writes retained next false offset bytes answer left = numbered_same (l
 pub quiet_write : (writes : ℕ → List ℕ → Bool → Allowed) (reserves : ℕ → Allowed) (direct : Bool) (config : Config) (next : ℕ) (stream : Stream) (offset : ℕ) (bytes : List ℕ) (sync : Bool) (answer : Option Refusal) →
     IsNever (write_failure config.write_rate) → (sync ≡ true → IsNever config.sync_rate) → is_idle sync bytes ≡ false → is_uncounted offset bytes ≡ false → lacks_number (is_some (retention config.write_rate)) next bytes ≡ false →
     allows_write writes reserves direct config next stream offset bytes sync answer ↔ or_memory (writes offset bytes sync) answer
+unfolding allows_write
 quiet_write writes reserves direct config next stream offset bytes sync answer no_write no_sync some counted left =
     let retained : Bool = is_some (retention config.write_rate) in
     let fate : WriteFate = (write_fate config sync offset (length bytes) stream).0 in
@@ -169,6 +170,7 @@ beyond_overflow false P h = h
 
 pub write_injected : (writes : ℕ → List ℕ → Bool → Allowed) (reserves : ℕ → Allowed) (direct : Bool) (config : Config) (next : ℕ) (stream : Stream) (offset : ℕ) (bytes : List ℕ) (sync : Bool) →
     IsNever (write_failure config.write_rate) → (sync ≡ true → IsNever config.sync_rate) → allows_write writes reserves direct config next stream offset bytes sync (Some Injected) → writes offset bytes sync (Some Injected)
+unfolding allows_write
 write_injected writes reserves direct config next stream offset bytes sync no_write no_sync h =
     let retained : Bool = is_some (retention config.write_rate) in
     let allowed = beyond_overflow (is_uncounted offset bytes) _ (beyond_nothing (is_idle sync bytes) _ h) in
@@ -205,6 +207,7 @@ undone_none (Failed kept) writes reserves direct retained next sync offset bytes
 
 undone_write : (writes : ℕ → List ℕ → Bool → Allowed) (reserves : ℕ → Allowed) (direct : Bool) (config : Config) (next : ℕ) (stream : Stream) (offset : ℕ) (bytes : List ℕ) (sync : Bool) →
     is_done (write_fate config sync offset (length bytes) stream).0 ≡ false → is_idle sync bytes ≡ false → allows_write writes reserves direct config next stream offset bytes sync None → ⊥
+unfolding allows_write
 undone_write writes reserves direct config next stream offset bytes sync undone some h =
     let retained : Bool = is_some (retention config.write_rate) in
     let fate : WriteFate = (write_fate config sync offset (length bytes) stream).0 in

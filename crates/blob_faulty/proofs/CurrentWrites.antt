@@ -59,6 +59,7 @@ module _ (p n : List ℕ) where
     not_by_fate (Failed chosen) direct retained next sync offset bytes h = not_injected (allows_runs writes reserves direct (runs offset bytes chosen)) (not_runs direct (runs offset bytes chosen)) h
 
     not_missing : (direct : Bool) (config : Config) (next : ℕ) (stream : Stream) (offset : ℕ) (bytes : List ℕ) (sync : Bool) → allows_write writes reserves direct config next stream offset bytes sync gone → ⊥
+    unfolding allows_write
     not_missing direct config next stream offset bytes sync h =
         not_beyond (is_idle sync bytes) None _ (λ e. cc) (λ k.
         not_beyond (is_uncounted offset bytes) (Some OffsetOverflow) _ (λ e. cc) (λ m.

@@ -106,12 +106,14 @@ of_fate fate fate' direct old new sync offset bytes answer answer' f a w =
 -- what a write of some bytes whose end can be counted records
 pub recorded_so : (config : Config) (number : ℕ) (stream : Stream) (sync : Bool) (offset : ℕ) (bytes : List ℕ) (answer : Option Refusal) (fate : WriteFate) → (sync ≡ true → bytes ≢ []) → offset + length bytes < 2 ^ 64 →
     fate ≡ (write_fate config sync offset (length bytes) stream).0 → recorded_write config number stream sync offset bytes answer ≡ recorded_by fate (retention config.write_rate) number sync offset bytes answer
+unfolding recorded_write
 recorded_so config number stream sync offset bytes answer fate some fits is =
     cond-false (is_idle sync bytes) _ _ (nothing_not sync bytes some) ∙ cond-false (is_uncounted offset bytes) _ _ (le-ltb _ _ (omega (arith, fits)))
     ∙ ap (λ (f : WriteFate). recorded_by f (retention config.write_rate) number sync offset bytes answer) (sym is)
 
 -- refused for memory, nothing
 pub recorded_none : (config : Config) (number : ℕ) (stream : Stream) (sync : Bool) (offset : ℕ) (bytes : List ℕ) → recorded_write config number stream sync offset bytes (Some Memory) ≡ []
+unfolding recorded_write
 recorded_none config number stream sync offset bytes = go (is_idle sync bytes) (is_uncounted offset bytes) sync (write_fate config sync offset (length bytes) stream).0
   where
     go : (a b s : Bool) (fate : WriteFate) → cond a [] (cond b [] (recorded_by fate (retention config.write_rate) number s offset bytes (Some Memory))) ≡ []

@@ -51,6 +51,7 @@ by_fate_laid (Failed chosen) k n sync o b (Some Injected) t = runs_laid o b chos
 by_fate_laid fate k n sync o b answer t = none_laid o b t
 
 pub write_laid : (config : Config) (n : ℕ) (stream : Stream) (sync : Bool) (o : ℕ) (b : List ℕ) (answer : Option Refusal) (t : Choices) → LaysSome o b (recorded_write config n stream sync o b answer) t
+unfolding recorded_write
 write_laid config n stream sync o b answer t =
     cond_both (is_idle sync b) [] _ (λ es. LaysSome o b es t) (λ _. none_laid o b t)
     (λ _. cond_both (is_uncounted o b) [] _ (λ es. LaysSome o b es t) (λ _. none_laid o b t)

@@ -37,6 +37,7 @@ module _ (writes : ℕ → List ℕ → Bool → Allowed) (reserves : ℕ → Al
   pub recorded_whole : (config : Config) (next : ℕ) (stream : Stream) (at : ℕ) (bytes : List ℕ)
       → allows_write writes reserves direct config next stream at bytes true None
       → recorded_write config next stream true at bytes None ≡ kept at bytes
+  unfolding allows_write recorded_write
   recorded_whole config next stream at [] h = refl
   recorded_whole config next stream at (y ∷ ys) h =
       by_fate (is_uncounted at (y ∷ ys)) (write_fate config true at (length (y ∷ ys)) stream).0 (is_some (retention config.write_rate)) (retention config.write_rate) next at y ys h

@@ -40,6 +40,7 @@ uncounted_none false inner never a = never a
 -- the same, by the draws
 pub write_none : (writes : ℕ → List ℕ → Bool → Allowed) (reserves : ℕ → Allowed) (direct : Bool) (config : Config) (next : ℕ) (stream : Stream) (offset : ℕ) (bytes : List ℕ) → bytes ≢ [] →
     (writes offset bytes true None → ⊥) → allows_write writes reserves direct config next stream offset bytes true None → ⊥
+unfolding allows_write
 write_none writes reserves direct config next stream offset [] some never a = some refl
 write_none writes reserves direct config next stream offset (b ∷ bytes) some never a =
     uncounted_none (is_uncounted offset (b ∷ bytes)) (or_memory (allows_fate (write_fate config true offset (length (b ∷ bytes)) stream).0 writes reserves direct (is_some (retention config.write_rate)) next true offset (b ∷ bytes)))
@@ -50,5 +51,6 @@ write_none writes reserves direct config next stream offset (b ∷ bytes) some n
 -- a SYNC write of no bytes is answered Ok
 pub write_empty : (writes : ℕ → List ℕ → Bool → Allowed) (reserves : ℕ → Allowed) (direct : Bool) (config : Config) (next : ℕ) (stream : Stream) (offset : ℕ) (bytes : List ℕ) → offset + length bytes ≤ 0 →
     allows_write writes reserves direct config next stream offset bytes true (Some Memory) → ⊥
+unfolding allows_write
 write_empty writes reserves direct config next stream offset [] fits a = cc
 write_empty writes reserves direct config next stream offset (b ∷ bytes) fits a = absurd (omega arith)

@@ -128,6 +128,7 @@ impl<S: blob_base::Storage, R: Rng, B: blob_base::Blob<S>> blob_base::Blob<Stora
     ///   first run.
     /// - `WriteFailed` where the store inside refused a run behind the first: those before it stay. Memory stores refuse none.
     /// - `Memory`: nothing changes but the generator.
+    #[tactic(auto, unfolding(blob_faults::specs::Answers::allows_write, blob_faults::specs::Recorded::recorded_write))]
     fn write_at(
         &mut self,
         store: &mut Storage<S, R>,

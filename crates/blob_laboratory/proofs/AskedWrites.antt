@@ -61,6 +61,7 @@ module _ (w w' : Wrapper) (h h' : Held) (room : Bool → ℕ) (offset : ℕ) (by
   IsSize answer = h'.size ≡ size_of_write (config_of w) (stream_of w) sync h.size offset bytes answer
 
   denied : (answer : Option Refusal) → allowed answer → OrMemory (denial (directory (store_of w)) (next_write_of w)) answer
+  unfolding allows_write
   denied answer a =
       counted_denial (is_idle sync bytes) (is_uncounted offset bytes)
       (allows_fate (write_fate (config_of w) sync offset (length bytes) (stream_of w)).0 (λ o b s. AllowsWrite (directory (store_of w)) h.place room o b s) (λ end. OrMemory (end_refusal h.place end)) true (is_some (retention (config_of w).write_rate)) (next_write_of w) sync offset bytes)
@@ -143,6 +144,7 @@ size_memory Unsynced size offset bytes = refl
 size_memory (Failed chosen) size offset bytes = refl
 
 pub write_unasked : (w : Wrapper) (h : Held) (offset : ℕ) (bytes : List ℕ) (sync : Bool) (e : Error) → Some (refusal_of e) ≡ Some Memory → Asks w h (Write offset bytes sync) (reply.Failed e) w h
+unfolding recorded_write
 write_unasked w h offset bytes sync e memory =
     let fate = (write_fate (config_of w) sync offset (length bytes) (stream_of w)).0 in
     let entries : (n : ℕ) → recorded_write (config_of w) n (stream_of w) sync offset bytes (Some (refusal_of e)) ≡ [] = λ n.

@@ -72,6 +72,7 @@ module _ (v : State) (h : Held) (offset : ℕ) (bytes : List ℕ) (done : IsDone
   second false false x y z e f = refl
 
   pub kept_whole : recorded_write v.config v.files.next_write v.stream true offset bytes None ≡ Kept offset bytes ∷ []
+  unfolding recorded_write
   kept_whole =
       second (is_idle true bytes) (is_uncounted offset bytes) [] [] _ done.some done.counted
       ∙ ap (λ (f : WriteFate). recorded_by f (retention v.config.write_rate) v.files.next_write true offset bytes None) done.fate
