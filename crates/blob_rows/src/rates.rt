@@ -4,6 +4,7 @@ ghost use Rattle.std.specs.Prelude.{◌≡◌, ◌↔◌, IsTrue, ℕ, ◌+◌, 
 ghost use Rattle.rand_core.specs.Steps.{stream_of, steps_u64_low};
 
 use blob_base::Probability;
+use blob_faulty::{PartialWriteMode, write_config_from_cell};
 use rand_core::Rng;
 use rand_core::utils::{self, NextWord};
 use std::marker::Model;
@@ -96,4 +97,32 @@ fn rates_are_equal_where_both_numbers_are(rt: HostRuntime) {
         Probability::ONE.numerator(),
         Probability::ONE.denominator()
     );
+}
+
+#[test]
+fn cells_have_their_rates(rt: HostRuntime) {
+    let cells: [(u16, u64, u64, PartialWriteMode); 8] = [
+        (0, 0, 0, PartialWriteMode::Prefix),
+        (101, 0, 1, PartialWriteMode::Prefix),
+        (10200, 100, 100, PartialWriteMode::Prefix),
+        (10201, 0, 0, PartialWriteMode::Subset),
+        (12345, 23, 21, PartialWriteMode::Subset),
+        (20401, 100, 100, PartialWriteMode::Subset),
+        (20402, 0, 0, PartialWriteMode::Subset),
+        (65535, 87, 42, PartialWriteMode::Subset),
+    ];
+    for (cell, failure, retention, mode) in cells {
+        let config = write_config_from_cell(cell);
+        assert_eq!(rt;
+            Some(config.failure_rate),
+            Probability::new(failure, 100),
+            "at {cell}"
+        );
+        assert_eq!(rt;
+            Some(config.retention_rate),
+            Probability::new(retention, 100),
+            "at {cell}"
+        );
+        assert_eq!(rt; config.mode, mode, "at {cell}");
+    }
 }

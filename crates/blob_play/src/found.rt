@@ -1,0 +1,72 @@
+//! What a call found, and its line.
+
+use blob_base::Error;
+use blob_calls::Reply;
+use blob_calls::script::print_reply;
+use blob_memory::Origin;
+use std::alloc::{AllocError, Global};
+
+/// What a call found.
+#[derive(Drop)]
+pub enum Found {
+    /// What a script is told.
+    Told(Reply),
+    /// A sync was started, of this number, and has this marker.
+    Started(usize, Option<u64>),
+    Is(bool),
+    /// No blob.
+    Nothing,
+    Origin(Origin),
+    /// So many words were taken so far.
+    Taken(usize),
+}
+
+/// A call that has nothing to tell.
+pub fn done(answer: Result<(), Error>) -> Result<Found, Error> {
+    answer?;
+    Ok(Found::Told(Reply::Done))
+}
+
+/// Bytes that were read.
+pub fn bytes(bytes: Vec<u8>) -> Found {
+    Found::Told(Reply::Bytes(bytes))
+}
+
+/// Bytes, where there is a blob.
+pub fn bytes_of(blob: Option<Vec<u8>>) -> Found {
+    match blob {
+        Some(found) => bytes(found),
+        None => Found::Nothing,
+    }
+}
+
+fn print_origin(origin: &Origin, line: &mut String) -> Result<(), AllocError> {
+    write!(line, "origin {}", origin.partition())?;
+    let name = hex::encode(*line.allocator(), origin.name())?;
+    let (generation, offset) = (origin.generation(), origin.data_offset());
+    write!(line, " {name} {generation} {offset}")
+}
+
+fn print_found(found: &Found, line: &mut String) -> Result<(), AllocError> {
+    match found {
+        Found::Told(reply) => print_reply(reply, line),
+        Found::Started(number, None) => write!(line, "started {number}"),
+        Found::Started(number, Some(marker)) => write!(line, "started {number} marker {marker}"),
+        Found::Is(true) => line.push_str("yes"),
+        Found::Is(false) => line.push_str("no"),
+        Found::Nothing => line.push_str("none"),
+        Found::Origin(origin) => print_origin(origin, line),
+        Found::Taken(words) => write!(line, "taken {words}"),
+    }
+}
+
+/// The line of what a call found, or of its refusal.
+pub fn line_of(alloc: Global, found: Result<Found, Error>) -> Result<String, AllocError> {
+    let found = match found {
+        Ok(found) => found,
+        Err(e) => Found::Told(Reply::Failed(e)),
+    };
+    let mut line = String::new(alloc);
+    print_found(&found, &mut line)?;
+    Ok(line)
+}
