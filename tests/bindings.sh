@@ -58,20 +58,27 @@ lives() {
 compiler=${CC:-cc}
 if command -v "$compiler" >/dev/null; then
     build="$compiler -std=c11 -Wall -Wextra -Werror -O2 -I$top/bindings/c"
-    for program in first lines log; do
+    for program in first calls lines log; do
         $build -o "$work/$program" "$top/bindings/c/$program.c" "$top/out/libblobcrash.a" >"$work/out" 2>"$work/err"
         tell $? "C: $program.c"
     done
     "$work/first" >"$work/out" 2>"$work/err"
     [ "$(cat "$work/out")" = 'crashed 0:111111' ]
     tell $? 'C: the example of the page'
+    "$work/calls" >"$work/out" 2>"$work/err"
+    tell $? 'C: what each function answers'
     answers 'C, line by line' "$work/lines"
     answers 'C, at once' "$work/lines" --whole
     lives C "$work/log"
     # The memory of both sides under the sanitizer, which also tells what isn't given back.
     if $build -g -fsanitize=address,undefined -o "$work/lines.sanitized" "$top/bindings/c/lines.c" \
         "$top/out/libblobcrash.a" 2>"$work/err" && "$work/lines.sanitized" </dev/null 2>"$work/err"; then
-        $build -g -fsanitize=address,undefined -o "$work/log.sanitized" "$top/bindings/c/log.c" "$top/out/libblobcrash.a"
+        for program in calls log; do
+            $build -g -fsanitize=address,undefined -o "$work/$program.sanitized" "$top/bindings/c/$program.c" \
+                "$top/out/libblobcrash.a"
+        done
+        "$work/calls.sanitized" >"$work/out" 2>"$work/err"
+        tell $? 'C, sanitized: what each function answers'
         answers 'C, sanitized' "$work/lines.sanitized"
         answers 'C, at once, sanitized' "$work/lines.sanitized" --whole
         lives 'C, sanitized' "$work/log.sanitized"

@@ -149,6 +149,3 @@ pub extern "C" fn blobcrash_close(alloc: Global, session: &mut Session)
 {
     session.close(alloc)
 }
-
-#[cfg(test)]
-mod tests;

@@ -2,8 +2,6 @@
 #![tactic(auto)]
 
 pub mod ending;
-#[cfg(test)]
-mod failing;
 pub mod resolution_line;
 pub mod run_resolve;
 pub mod run_script;

@@ -37,6 +37,3 @@ pub fn run_resolve<R: BufRead, W: Write>(
         Err(ending) => ending,
     }
 }
-
-#[cfg(test)]
-mod tests;

@@ -48,6 +48,3 @@ pub fn run_script<R: Ahead, W: Write>(
         (Ok(()), Err(ending)) => ending,
     }
 }
-
-#[cfg(test)]
-mod tests;

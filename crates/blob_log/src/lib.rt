@@ -3,10 +3,6 @@
 
 pub mod frame;
 pub mod log;
-#[cfg(test)]
-mod seeds;
 pub mod sessions;
-#[cfg(test)]
-mod tests;
 
 pub use log::Log;

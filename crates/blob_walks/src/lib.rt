@@ -1,5 +1,5 @@
 //! Tests alone: long lists of calls of a laboratory, made by chance from fixed seeds. After each call every fixed byte has
-//! to have its value in the memory store.
+//! to have its value in the memory store. And a log over seeds of faults and crashes, which finds what it acknowledged.
 #![tactic(auto)]
 
 #[cfg(test)]
@@ -10,6 +10,10 @@ mod counts;
 mod files;
 #[cfg(test)]
 mod fixed;
+#[cfg(test)]
+mod log_seeds;
+#[cfg(test)]
+mod log_use;
 #[cfg(test)]
 mod record;
 #[cfg(test)]

@@ -1,8 +1,8 @@
 // A log is used as the README shows it, and its sessions over a new store.
-use crate::log::Log;
-use crate::sessions::{sessions_survive, sessions_survive_anew};
 use blob_base::{Error, Probability};
 use blob_faulty::{Config, PartialWriteMode, WriteConfig};
+use blob_log::Log;
+use blob_log::sessions::{sessions_survive, sessions_survive_anew};
 use rand_core::SeedableRng;
 use rand_xoshiro::Xoshiro256PlusPlus;
 use std::alloc::Global;

@@ -1,9 +1,9 @@
 // The log over seeds, with faults of every kind, crashes and reopens: what is found is compared with what was acknowledged.
 // The same log with one line wrong loses some of that.
-use crate::frame::{frame_of, scan};
-use crate::log::{Log, Store};
 use blob_base::{Blob, Error, IoBufs, Probability, ReadOptions, SectorSize, Storage, WriteOptions};
 use blob_faulty::{Config, PartialWriteMode, ResizeConfig, WriteConfig};
+use blob_log::frame::{frame_of, scan};
+use blob_log::log::{Log, Store};
 use rand_core::{Rng, SeedableRng};
 use rand_xoshiro::Xoshiro256PlusPlus;
 use std::alloc::Global;

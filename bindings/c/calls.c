@@ -1,0 +1,120 @@
+/*
+ * What each exported function answers: sessions, replies without room, bad lines, whole scripts. It prints each line that
+ * doesn't hold, and ends with the status 1 where there is one.
+ */
+#include "blobcrash.h"
+
+#include <stdio.h>
+#include <string.h>
+
+static int failed;
+
+static void check(bool holds, const char *what, int line) {
+    if (holds) return;
+    printf("line %d: %s\n", line, what);
+    failed = 1;
+}
+
+#define CHECK(holds) check(holds, #holds, __LINE__)
+
+/* A text with its length, as two arguments. */
+#define TEXT(text) (const uint8_t *)(text), strlen(text)
+
+static bool is_told(const uint8_t *room, size_t len, const char *reply) {
+    return len == strlen(reply) && memcmp(room, reply, len) == 0;
+}
+
+/* Whether the call of a line is done, and answered so. */
+static bool answers(struct blobcrash_session *session, const char *line, const char *reply) {
+    uint8_t room[64];
+    struct blobcrash_ran ran = blobcrash_call(session, TEXT(line), room, sizeof room);
+    return ran.status == BLOBCRASH_DONE && is_told(room, ran.len, reply);
+}
+
+static void a_session_is_opened_asked_and_closed(void) {
+    struct blobcrash_session session = {0};
+    uint8_t room[8], found[6];
+    CHECK(blobcrash_call(&session, TEXT("crash"), room, sizeof room).status == BLOBCRASH_CLOSED);
+    CHECK(blobcrash_write(&session, 0, 0, TEXT("a"), false) == BLOBCRASH_CLOSED);
+    CHECK(blobcrash_open(&session, TEXT("# faults\nwords 0 max\nconfig write 0 1 1 2 subset\n")).status == BLOBCRASH_DONE);
+    CHECK(answers(&session, "", ""));
+    CHECK(answers(&session, "open p 62", "opened 0 0 0"));
+    CHECK(blobcrash_write(&session, 0, 0, TEXT("abcdef"), true) == BLOBCRASH_DONE);
+    CHECK(blobcrash_write(&session, 0, 0, TEXT("AB"), false) == BLOBCRASH_DONE);
+    CHECK(answers(&session, "crash", "crashed 0:10"));
+    CHECK(answers(&session, "reopen", "ok"));
+    CHECK(answers(&session, "open p 62", "opened 1 6 0"));
+    CHECK(blobcrash_read(&session, 1, 0, found, sizeof found) == BLOBCRASH_DONE);
+    CHECK(memcmp(found, "Abcdef", 6) == 0);
+    blobcrash_close(&session);
+    CHECK(blobcrash_reply(&session, room, sizeof room).status == BLOBCRASH_CLOSED);
+}
+
+static void a_reply_without_room_is_kept(void) {
+    struct blobcrash_session session = {0};
+    uint8_t room[64], found[3] = {7, 7, 7};
+    CHECK(blobcrash_open(&session, TEXT("")).status == BLOBCRASH_DONE);
+    struct blobcrash_ran ran = blobcrash_call(&session, TEXT("open p 62"), room, 0);
+    CHECK(ran.status == BLOBCRASH_NO_ROOM);
+    CHECK(ran.len == 12);
+    for (int time = 0; time < 2; time++) {
+        ran = blobcrash_reply(&session, room, 16);
+        CHECK(ran.status == BLOBCRASH_DONE);
+        CHECK(is_told(room, ran.len, "opened 0 0 0"));
+    }
+    CHECK(blobcrash_read(&session, 0, 0, found, sizeof found) == BLOBCRASH_OTHER_REPLY);
+    CHECK(memcmp(found, "\7\7\7", 3) == 0);
+    ran = blobcrash_reply(&session, room, sizeof room);
+    CHECK(is_told(room, ran.len, "error BlobInsufficientLength"));
+    CHECK(blobcrash_write(&session, 5, 0, TEXT("a"), false) == BLOBCRASH_OTHER_REPLY);
+    ran = blobcrash_reply(&session, room, sizeof room);
+    CHECK(is_told(room, ran.len, "error NoHandle"));
+    blobcrash_close(&session);
+}
+
+static void bad_lines_change_nothing(void) {
+    static const struct { const char *preamble; uint64_t line; } rows[] = {
+        {"frob", 1},
+        {"\nopen p 62\n", 2},
+        {"words 1\nconfig clear\nwords 1\n", 3},
+        {"config clear\n\n# \xff\n", 3},
+        {"seed 1\nwords 1\nseed 1\n", 3},
+        {"config clear\nseed 1\n", 2},
+    };
+    static const char *const lines[] = {"frob", "words 1", "seed 1", "image p 62 -", "\xff"};
+    struct blobcrash_session session = {0};
+    uint8_t room[1];
+    CHECK(blobcrash_open(&session, TEXT("image p 62 43574943000000056162")).status == BLOBCRASH_DONE);
+    for (size_t row = 0; row < sizeof rows / sizeof *rows; row++) {
+        struct blobcrash_script_ran ran = blobcrash_open(&session, TEXT(rows[row].preamble));
+        check(ran.status == BLOBCRASH_BAD_LINE && ran.line == rows[row].line, rows[row].preamble, __LINE__);
+    }
+    for (size_t row = 0; row < sizeof lines / sizeof *lines; row++) {
+        struct blobcrash_ran ran = blobcrash_call(&session, TEXT(lines[row]), room, 0);
+        check(ran.status == BLOBCRASH_BAD_LINE, lines[row], __LINE__);
+    }
+    CHECK(answers(&session, "open p 62 0 9", "opened 0 2 5"));
+    blobcrash_close(&session);
+}
+
+static void a_script_is_run_at_once(void) {
+    uint8_t room[64];
+    struct blobcrash_script_ran ran = blobcrash_run(TEXT("open p 62\nsize 0\n"), room, sizeof room);
+    CHECK(ran.status == BLOBCRASH_DONE);
+    CHECK(is_told(room, ran.len, "opened 0 0 0\nsize 0\n"));
+    ran = blobcrash_run(TEXT("open p 62\nfrob\n"), room, sizeof room);
+    CHECK(ran.status == BLOBCRASH_BAD_LINE);
+    CHECK(ran.line == 2);
+    CHECK(is_told(room, ran.len, "opened 0 0 0\n"));
+    ran = blobcrash_run(TEXT("open p 62\n"), room, 0);
+    CHECK(ran.status == BLOBCRASH_NO_ROOM);
+    CHECK(ran.len == 13);
+}
+
+int main(void) {
+    a_session_is_opened_asked_and_closed();
+    a_reply_without_room_is_kept();
+    bad_lines_change_nothing();
+    a_script_is_run_at_once();
+    return failed;
+}

@@ -1,0 +1,73 @@
+//! `resolve` over streams that fail. What it replies over sound ones is data: tests/resolve at the top of the repository.
+
+use crate::failing::{Full, Halting};
+use blob_lab::run_resolve::run_resolve;
+use blob_lab::{Ending, Input, Output};
+use std::alloc::Global;
+use std::io::{BufReader, ErrorKind};
+use std::process::Abort;
+use std::test::Fail;
+
+const LINE: &[u8] = b"4357494300000007\n";
+
+/// Resolves the line of 17 bytes, which comes in six reads, over a reader that fails.
+fn halted(
+    rt: &impl Abort,
+    alloc: Global,
+    reads: u32,
+    kind: ErrorKind,
+    ending: Ending,
+) -> Result<(), Fail> {
+    let halting = Halting {
+        bytes: LINE,
+        reads,
+        kind,
+    };
+    let mut reader = Input::new(BufReader::new(alloc, halting)?);
+    let mut writer = Output::new(Vec::new(alloc));
+    let found = run_resolve(alloc, &mut reader, &mut writer);
+    assert!(rt; found == ending, "after {reads} reads");
+    assert!(rt; reader.has_failed() == (ending == Ending::InputFailed));
+    assert!(rt; writer.into_writer().is_empty() == (ending != Ending::Done));
+    Ok(())
+}
+
+#[test]
+fn a_failing_read_is_told(rt: HostRuntime) -> Result<(), Fail> {
+    let alloc = rt.alloc();
+    halted(&rt, alloc, 0, ErrorKind::Other, Ending::InputFailed)?;
+    halted(&rt, alloc, 3, ErrorKind::Other, Ending::InputFailed)?;
+    halted(&rt, alloc, 5, ErrorKind::Other, Ending::InputFailed)?;
+    halted(&rt, alloc, 5, ErrorKind::OutOfMemory, Ending::NoMemory)?;
+    halted(&rt, alloc, 6, ErrorKind::Other, Ending::Done)
+}
+
+/// Resolves the line over a writer that fails once `room` bytes are there, or when it is flushed.
+fn filled(
+    rt: &impl Abort,
+    alloc: Global,
+    (room, flushes): (usize, bool),
+    ending: Ending,
+    output: &[u8],
+) {
+    let bytes = Vec::new(alloc);
+    let mut writer = Output::new(Full {
+        bytes,
+        room,
+        flushes,
+    });
+    let found = run_resolve(alloc, &mut Input::new(LINE), &mut writer);
+    assert!(rt; found == ending, "with room for {room}");
+    assert!(rt; writer.has_failed() == (ending == Ending::OutputFailed));
+    assert!(rt; writer.into_writer().bytes.as_slice() == output);
+}
+
+#[test]
+fn a_failing_write_is_told(rt: HostRuntime) {
+    let alloc = rt.alloc();
+    let failed = Ending::OutputFailed;
+    filled(&rt, alloc, (0, true), failed, b"");
+    filled(&rt, alloc, (4, true), failed, b"vali");
+    filled(&rt, alloc, (12, false), failed, b"valid 0 7 8\n");
+    filled(&rt, alloc, (12, true), Ending::Done, b"valid 0 7 8\n");
+}
