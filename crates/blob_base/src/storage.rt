@@ -145,7 +145,7 @@ pub trait Blob<S: Durable> {
     ///
     /// A plain write changes no durable byte; one of no bytes past the end lengthens the live bytes with zeros up to `offset`;
     /// a stale handle's is answered Ok too. A SYNC write makes its own range durable and no other byte; one of no bytes is
-    /// answered Ok and changes nothing, by a stale handle too.
+    /// answered Ok and changes nothing, by a stale handle too. No write gives back room, whatever it is answered.
     ///
     /// # Errors
     ///
@@ -165,7 +165,7 @@ pub trait Blob<S: Durable> {
         ensures synced { OnOk result (is_sync options ≡ true → S.durable store.new ≡ changed (S.durable store.old) (place self.old) (λ x. overlay x offset bytes)) }
         ensures current { OnOk result (is_sync options ≡ true → bytes ≢ [] → is_current (S.directory store.old) (place self.old) ≡ true) }
         ensures plain { OnOk result (is_sync options ≡ false → S.durable store.new ≡ S.durable store.old) }
-        ensures room { OnOk result (is_sync options ≡ true → room self.old store.old ≤ room self.new store.new) }
+        ensures room { room self.old store.old ≤ room self.new store.new }
         ensures live_room { live_room self.old ≤ live_room self.new }
 
         // a refusal

@@ -77,7 +77,7 @@ impl Blob {
         ensures current { OnOk result (bytes.now ≢ [] → is_current (directory store.old) (place self.old) ≡ true) }
         ensures stale { is_current (directory store.old) (place self.old) ≡ false → durable store.new ≡ durable store.old }
         ensures err { OnErr result (durable store.new ≡ durable store.old) }
-        ensures room { OnOk result (room self.old store.old ≤ room self.new store.new) }
+        ensures room { room self.old store.old ≤ room self.new store.new }
         ensures live_room { live_room self.old ≤ live_room self.new }
         ensures directory { directory store.new ≡ directory store.old }
         ensures place { place self.new ≡ place self.old }

@@ -11,3 +11,6 @@ returns-then-is_empty-clause-durable c =
 
 pub returns-clause-room : goal.returns-clause-room
 returns-clause-room c = room_kept c.args.store.now.contents c.write_durable.new.self (place c.args.self.now) _ _ (omega (arith, c.write-2.ensures.capacity)) c.write_durable.ensures.directory c.write_durable.ensures.room
+
+pub returns-in_err-write_durable-clause-room : goal.returns-in_err-write_durable-clause-room
+returns-in_err-write_durable-clause-room c = room_kept c.args.store.now.contents c.write_durable.new.self (place c.args.self.now) _ _ (omega (arith, c.make_room-2.ensures.capacity)) c.write_durable.ensures.directory c.write_durable.ensures.room
