@@ -9,6 +9,7 @@ pub mod CurrentWrites
 pub mod Exclusives
 pub mod FailedSteps
 pub mod Fating
+pub mod Fronts
 pub mod Keeping
 pub mod Laying
 pub mod Leaving

@@ -5,7 +5,7 @@ use Rattle.std.proofs.lemmas.Bool.{cond-false, le-ltb}
 use Rattle.rand_core.specs.Stream.{Stream}
 use Rattle.blob_base.specs.declared.storage.Blob as handles
 use Rattle.blob_base.specs.declared.storage.Durable as stores
-use Rattle.blob_header.specs.Refusals.{Refusal, Memory, Injected}
+use Rattle.blob_header.specs.Refusals.{Refusal, Memory, Injected, WriteFailed}
 use Rattle.blob_model.specs.Live.{is_idle}
 use Rattle.blob_faults.specs.declared.config.Config.{Config}
 use Rattle.blob_faults.specs.Faults.{WriteFate, Done, Unsynced, Failed, write_fate, retention, is_uncounted, after_write}
@@ -13,8 +13,8 @@ use Rattle.blob_faults.specs.Recorded.{recorded_by, recorded_write, live_by, liv
 use Rattle.blob_faulty.specs.declared.blob.Blob.{Blob}
 use Rattle.blob_faulty.specs.declared.storage.Storage.{Storage}
 use Rattle.blob_faulty.specs.Asked.{InnerMade, Unasked, AsksWrite, AsksDrawn}
-use Rattle.blob_faulty.specs.HandleLeaves.{WriteLeaves, Logged, Untouched, size_written}
-use Rattle.blob_faulty.specs.Writes.{WroteBy, SameRecords, Logs, seen}
+use Rattle.blob_faulty.specs.HandleLeaves.{WriteLeaves, LeavesFailed, Logged, Untouched, size_written}
+use Rattle.blob_faulty.specs.Writes.{WroteBy, FailedBy, SameRecords, Logs, seen}
 use Rattle.blob_faulty.proofs.Adding.{nothing_not}
 use Rattle.blob_faulty.proofs.Fating.{recorded_so, recorded_none}
 use Rattle.blob_faulty.proofs.Writing.{adds_of, drawn_adds}
@@ -101,8 +101,9 @@ pub write_leaves : {S R O B : Type 0} (store : stores.Ghosts S O) (handle : hand
     fate ≡ (write_fate w.config sync offset (length bytes) (stream w.rng)).0 → stream rng ≡ (write_fate w.config sync offset (length bytes) (stream w.rng)).1 →
     AsksWrite handle b w c w' fate sync offset bytes answer →
     WroteBy fate handle.is_direct (seen store handle b (record w { rng = rng })) (seen store handle c w') sync offset bytes answer →
+    (answer ≡ Some WriteFailed → FailedBy store handle b (record w { rng = rng }) c w' fate offset bytes) →
     WriteLeaves store handle stream offset bytes sync b w answer c w'
-write_leaves {S} {R} {O} {B} store handle stream b c w w' rng sync offset bytes answer fate some fits is left asked wrote = record {
+write_leaves {S} {R} {O} {B} store handle stream b c w w' rng sync offset bytes answer fate some fits is left asked wrote failed = record {
   drawn = λ other. ap stream wrote.rng ∙ left ∙ sym (after_so w.config sync offset bytes (stream w.rng) some fits);
   config = wrote.config;
   asked = asked_so handle b c w w' (stream w.rng) sync offset bytes answer fate some fits is asked;
@@ -114,6 +115,7 @@ write_leaves {S} {R} {O} {B} store handle stream b c w w' rng sync offset bytes 
   refused = λ done refusal. untouched (wrote.undone (is ∙ done) refusal);
   unrecorded = λ refusal uninjected early. untouched (wrote.unrecorded refusal uninjected early);
   injected = λ fault. ⊎_elim (λ k. inl (untouched k)) (λ logs. inr (logged (Some Injected) logs)) (wrote.injected fault);
+  failed = λ early. subst (λ (f : WriteFate). LeavesFailed store handle f offset bytes b w c w') is (left_by fate (failed early));
 }
   where
     logged : (a : Option Refusal) → Logs (seen store handle b (record w { rng = rng })) (seen store handle c w') (recorded_by fate (retention w.config.write_rate) w.next_write sync offset bytes a) →
@@ -122,6 +124,19 @@ write_leaves {S} {R} {O} {B} store handle stream b c w w' rng sync offset bytes 
 
     untouched : SameRecords (seen store handle b (record w { rng = rng })) (seen store handle c w') → Untouched store b w c w'
     untouched k = record { records = record { pending = k.pending; numbers = record { next_write = k.next_write; next_marker = k.next_marker; config = wrote.config } }; size = k.size }
+
+    left_by : (f : WriteFate) → FailedBy store handle b (record w { rng = rng }) c w' f offset bytes → LeavesFailed store handle f offset bytes b w c w'
+    left_by Done k = untouched k
+    left_by Unsynced k = untouched k
+    left_by (Failed chosen) l = record {
+      front = l.1.front;
+      left = l.0;
+      parts = l.1.parts;
+      refused = l.1.is;
+      pending = l.1.lays.pending;
+      size = l.1.lays.size;
+      numbers = record { next_write = l.1.lays.next_write; next_marker = l.1.lays.next_marker; config = wrote.config };
+    }
 
 -- refused for memory before its fate was drawn
 pub write_undrawn : {S R O B : Type 0} (store : stores.Ghosts S O) (handle : handles.Ghosts B S O) (stream : R → Stream) (b : Blob B) (w : Storage S R O) (rng : R) (sync : Bool) (offset : ℕ) (bytes : List ℕ) (answer : Option Refusal) → (sync ≡ true → bytes ≢ []) →
@@ -138,6 +153,7 @@ write_undrawn {S} {R} {O} {B} store handle stream b w rng sync offset bytes answ
   refused = λ done refusal. same;
   unrecorded = λ refusal uninjected early. same;
   injected = λ fault. inl same;
+  failed = λ early. absurd (cc);
 }
   where
     same : Untouched store b w b (record w { rng = rng })

@@ -43,6 +43,11 @@ pub record Refuses (inner : Allowed) : Type 0 where
 abbrev pub or_failed : Allowed → Allowed
 or_failed inner answer = inner answer ⊎ ((answer ≡ Some WriteFailed) × Refuses inner)
 
+-- a SYNC write was done for each run of the front, one after the other, and then that of the first run left was refused
+abbrev pub RefusedBehind : {B S : Type 0} → (HandleCall → B → S → Option Refusal → B → S → Type 0) → List Run → List Run → B → S → B → S → Type 0
+RefusedBehind leaves front [] b s c t = ⊥
+RefusedBehind leaves front (r ∷ left) b s c t = Then (Made leaves (run_calls front) None b s) (λ x y. Refuses (λ answer. leaves (Write r.0 r.1 true) x y answer c t))
+
 -- which calls a write makes, where `made` says of calls that these were made and answered so
 abbrev pub write_calls : (List HandleCall → Allowed) → WriteFate → Bool → ℕ → List ℕ → Allowed
 write_calls made Done sync offset bytes answer = made (Write offset bytes sync ∷ []) answer
@@ -61,6 +66,13 @@ module _ {S R O B : Type 0} (handle : handles.Ghosts B S O) (b : Blob B) (before
   -- the inner blob was asked these
   abbrev pub InnerMade : List HandleCall → Allowed
   InnerMade calls answer = Made handle.leaves calls answer (inside b) (inner_of before) (inside c) (inner_of after)
+
+  -- the inner blob did the runs of the front and refused the first that is left; `InRoom` where room for all was taken before
+  abbrev pub InnerRefused : List Run → List Run → Type 0
+  InnerRefused front left = RefusedBehind handle.leaves front left (inside b) (inner_of before) (inside c) (inner_of after)
+
+  abbrev pub InnerRefusedInRoom : List Run → List Run → List Run → Type 0
+  InnerRefusedInRoom rs front left = Then (handle.leaves (Reserve (last_end 0 rs)) (inside b) (inner_of before) None) (λ x y. RefusedBehind handle.leaves front left x y (inside c) (inner_of after))
 
   -- the call was refused before the inner blob was asked
   abbrev pub Unasked : Allowed

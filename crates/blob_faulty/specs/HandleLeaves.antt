@@ -9,11 +9,12 @@ use Rattle.blob_base.specs.declared.storage.Durable as stores
 use Rattle.blob_model.specs.Pending.{Marker}
 use Rattle.blob_model.specs.Places.{Place}
 use Rattle.blob_header.specs.Refusals.{Refusal, Injected, Memory, WriteFailed}
+use Rattle.blob_model.specs.Runs.{Run, all_behind, runs}
 use Rattle.blob_faulty.specs.declared.storage.Storage.{Storage}
 use Rattle.blob_faulty.specs.declared.blob.Blob.{Blob}
-use Rattle.blob_faults.specs.Faults.{Done, draw, ResizeFate, resize_fate, write_fate, after_write}
-use Rattle.blob_faults.specs.Recorded.{recorded_write, recorded_resize, live_of_write, live_of_resize, size_of_write, size_of_resize}
-use Rattle.blob_faulty.specs.Asked.{AsksDrawn, AsksResize}
+use Rattle.blob_faults.specs.Faults.{WriteFate, Done, Failed, draw, ResizeFate, resize_fate, write_fate, after_write}
+use Rattle.blob_faults.specs.Recorded.{recorded_write, recorded_resize, live_of_write, live_of_resize, size_of_runs, size_of_write, size_of_resize}
+use Rattle.blob_faulty.specs.Asked.{AsksDrawn, AsksResize, InnerRefusedInRoom}
 use Rattle.blob_faulty.specs.Names.{Steps}
 use Rattle.blob_faulty.specs.Syncs.{Publishes, Starts}
 use Rattle.blob_faulty.specs.Wrapper.{inner_of, rng_of, config_of, next_write_of, next_marker_of, pending_of, inside, size_of, KeepsNumbers, KeepsRecords, Adds}
@@ -33,6 +34,22 @@ size_written false size offset bytes = max size (offset + length bytes)
 pub record Untouched {S R O B : Type 0} (store : stores.Ghosts S O) (b : Blob B) (before : Storage S R O) (c : Blob B) (after : Storage S R O) : Type 0 where
   pub records : KeepsRecords store.place before after
   pub size : size_of c ≡ size_of b
+
+-- runs were laid up to one that the inner blob refused, each as a durable range in the list of the handle's incarnation and in the size that it tracks.
+-- Nothing else was recorded
+pub record LaidSome {S R O B : Type 0} (store : stores.Ghosts S O) (handle : handles.Ghosts B S O) (rs : List Run) (b : Blob B) (before : Storage S R O) (c : Blob B) (after : Storage S R O) : Type 0 where
+  pub front : List Run
+  pub left : List Run
+  pub parts : rs ≡ front ++ left
+  pub refused : InnerRefusedInRoom handle b before c after rs front left
+  pub pending : (o : Place) → pending_of store.place after o ≡ with_at (pending_of store.place before) (handle.place (inside b)) (all_behind (pending_of store.place before (handle.place (inside b))) front) o
+  pub size : size_of c ≡ size_of_runs (size_of b) front
+  pub numbers : KeepsNumbers before after
+
+-- what a write that is answered WriteFailed leaves, by its fate
+abbrev pub LeavesFailed : {S R O B : Type 0} → stores.Ghosts S O → handles.Ghosts B S O → WriteFate → ℕ → List ℕ → Blob B → Storage S R O → Blob B → Storage S R O → Type 0
+LeavesFailed store handle (Failed chosen) offset bytes b before c after = LaidSome store handle (runs offset bytes chosen) b before c after
+LeavesFailed store handle fate offset bytes b before c after = Untouched store b before c after
 
 -- the inner store was asked once, or the call was refused before that
 abbrev pub AsksOnce : {S R O : Type 0} → (S → Type 0) → Option Refusal → Storage S R O → Storage S R O → Type 0
@@ -71,6 +88,8 @@ pub record WriteLeaves {S R O B : Type 0} (store : stores.Ghosts S O) (handle : 
   -- a fault leaves nothing recorded, or all that is kept of the write
   pub injected : answer ≡ Some Injected →
       Untouched store b before c after ⊎ Logged store handle b before after (recorded_write (config_of before) (next_write_of before) (stream (rng_of before)) sync offset bytes (Some Injected))
+  -- where the inner store refused a run, those before it are recorded
+  pub failed : answer ≡ Some WriteFailed → LeavesFailed store handle (write_fate (config_of before) sync offset (length bytes) (stream (rng_of before))).0 offset bytes b before c after
 
 -- a resize, by the fate that is drawn for it
 pub record ResizeLeaves {S R O B : Type 0} (store : stores.Ghosts S O) (handle : handles.Ghosts B S O) (stream : R → Stream) (len : ℕ) (fate : ResizeFate) (left : Stream) (b : Blob B) (before : Storage S R O) (answer : Option Refusal) (c : Blob B) (after : Storage S R O) : Type 0 where

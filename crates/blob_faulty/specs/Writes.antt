@@ -1,5 +1,5 @@
 -- What a write makes of a handle and of the wrapper that it is used with.
-use Rattle.std.specs.Prelude.{◌≡◌, ◌≢◌, ◌⊎◌, ℕ, ◌<◌, ◌+◌, max, Bool, true, false, List, [], ◌∷◌, length, Option, Some, None, IsSome}
+use Rattle.std.specs.Prelude.{◌≡◌, ◌≢◌, ◌⊎◌, ℕ, ◌<◌, ◌+◌, max, Bool, true, false, List, [], ◌∷◌, ◌++◌, length, Option, Some, None, IsSome}
 use Rattle.blob_model.specs.Bytes.{overlay, resized}
 use Rattle.blob_model.specs.Directory.{Directory, is_current}
 use Rattle.blob_model.specs.Durable.{Durable, changed, with_at}
@@ -10,7 +10,7 @@ use Rattle.blob_model.specs.Order.{Held, held_at}
 use Rattle.blob_model.specs.Pending.{Pending}
 use Rattle.blob_model.specs.Places.{Place}
 use Rattle.blob_header.specs.Refusals.{Refusal, Injected, Memory, WriteFailed}
-use Rattle.blob_model.specs.Runs.{Run, kept_runs}
+use Rattle.blob_model.specs.Runs.{Run, all_behind, kept_runs, runs}
 use Rattle.blob_model.specs.Stands.{StandsFor}
 use Rattle.blob_base.specs.declared.storage.Durable as stores
 use Rattle.blob_base.specs.declared.storage.Blob as handles
@@ -18,8 +18,9 @@ use Rattle.blob_faulty.specs.declared.blob.Blob.{Blob}
 use Rattle.blob_faults.specs.declared.config.Config.{Config}
 use Rattle.blob_faulty.specs.declared.storage.Storage.{Storage}
 use Rattle.blob_faults.specs.Lists.{held}
+use Rattle.blob_faulty.specs.Asked.{InnerRefused, InnerRefusedInRoom}
 use Rattle.blob_faulty.specs.Pieces.{first_after}
-use Rattle.blob_faults.specs.Faults.{WriteFate, Done, ResizeFate, retention}
+use Rattle.blob_faults.specs.Faults.{WriteFate, Done, Failed, ResizeFate, retention}
 use Rattle.blob_faults.specs.Recorded.{loose, size_of_runs, recorded_by, live_by, size_by, recorded_resize, live_of_resize, size_of_resize}
 
 -- a handle and its wrapper, over an inner store
@@ -64,6 +65,23 @@ pub record SameRecords {R : Type 0} (old new : View R) : Type 0 where
   pub pending : (o : Place) → held_at new.held o ≡ held_at old.held o
   pub next_write : new.next_write ≡ old.next_write
   pub next_marker : new.next_marker ≡ old.next_marker
+
+-- these runs were laid, each as a durable range in the list of the handle's incarnation, and nothing else was recorded
+pub record Lays {R : Type 0} (old new : View R) (rs : List Run) : Type 0 where
+  pub size : new.size ≡ size_of_runs old.size rs
+  pub pending : (o : Place) → held_at new.held o ≡ with_at (held_at old.held) old.place (all_behind (held_at old.held old.place) rs) o
+  pub next_write : new.next_write ≡ old.next_write
+  pub next_marker : new.next_marker ≡ old.next_marker
+
+-- all but those that are left, of which this is known
+pub record LaysUpTo {R : Type 0} (known : List Run → List Run → Type 0) (old new : View R) (all : List Run) (left : List Run) : Type 0 where
+  pub front : List Run
+  pub parts : all ≡ front ++ left
+  pub lays : Lays old new front
+  pub is : known front left
+
+abbrev pub LaysFront : {R : Type 0} → (List Run → List Run → Type 0) → View R → View R → List Run → Type 0
+LaysFront known old new all = (left : List Run) × LaysUpTo known old new all left
 
 -- what a write comes to where it is done; the live bytes go by its answer
 pub record Effect : Type 0 where
@@ -239,6 +257,18 @@ module _ {S R O B : Type 0} (store : stores.Ghosts S O) (handle : handles.Ghosts
   -- where a refusal may come behind runs that were laid
   abbrev pub RecordsRuns : List Run → Option Refusal → Type 0
   RecordsRuns rs answer = Recorded handle.is_direct handle.is_direct (seen store handle b w) (seen store handle b' w') (laid_runs rs) answer
+
+  abbrev pub LaidRuns : List Run → Type 0
+  LaidRuns rs = Lays (seen store handle b w) (seen store handle b' w') rs
+
+  -- up to a run that the inner blob refused
+  abbrev pub LaidFront : List Run → Type 0
+  LaidFront rs = LaysFront (InnerRefused handle b w b' w') (seen store handle b w) (seen store handle b' w') rs
+
+  -- what a write that is answered WriteFailed records, by its fate
+  abbrev pub FailedBy : WriteFate → ℕ → List ℕ → Type 0
+  FailedBy (Failed chosen) offset bytes = LaysFront (InnerRefusedInRoom handle b w b' w' (runs offset bytes chosen)) (seen store handle b w) (seen store handle b' w') (runs offset bytes chosen)
+  FailedBy fate offset bytes = SameRecords (seen store handle b w) (seen store handle b' w')
 
   abbrev pub WritesBy : WriteFate → Bool → ℕ → List ℕ → Option Refusal → Type 0
   WritesBy fate sync offset bytes answer = WroteBy fate handle.is_direct (seen store handle b w) (seen store handle b' w') sync offset bytes answer

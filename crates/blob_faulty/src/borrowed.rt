@@ -1,6 +1,6 @@
 //! Reads into a slice of the caller's, and plain writes of one, over a memory store. No list is made for the call.
-ghost use Rattle.std.specs.Prelude.{◌≡◌, ◌≤◌, ◌<◌, ◌+◌, ◌^◌, ℕ, List, true, false, is_some, OnOk, OnErr, length, take, drop};
-ghost use Rattle.blob_header.specs.Refusals.{refused, IsMemory};
+ghost use Rattle.std.specs.Prelude.{◌≡◌, ◌≤◌, ◌<◌, ◌+◌, ◌^◌, ℕ, List, true, false, Some, is_some, OnOk, OnErr, length, take, drop};
+ghost use Rattle.blob_header.specs.Refusals.{refused, IsMemory, WriteFailed};
 ghost use Rattle.blob_model.specs.Bytes.{written};
 ghost use Rattle.blob_model.specs.Directory.{is_current};
 ghost use Rattle.blob_model.specs.Places.{Place};
@@ -13,7 +13,7 @@ ghost use Rattle.blob_faulty.specs.HandleLeaves.{ReadLeaves, WriteLeaves};
 ghost use Rattle.blob_faulty.specs.Keeps.{Keeps};
 ghost use Rattle.blob_faulty.specs.Names.{Steps};
 ghost use Rattle.blob_faulty.specs.Wrapper.{inner_of, rng_of, config_of, inside};
-ghost use Rattle.blob_faulty.specs.Writes.{Writes, Records, WritesBy, unrecorded, plain};
+ghost use Rattle.blob_faulty.specs.Writes.{Writes, Records, FailedBy, WritesBy, unrecorded, plain};
 ghost use Rattle.blob_memory.specs.Answers.{read_refusal};
 ghost use Rattle.blob_memory.specs.Store.{directory, durable, place, live};
 
@@ -117,6 +117,8 @@ impl Blob<blob_memory::Blob> {
         ensures allowed { or_memory (allows_fate (write_fate_of fate) (⟦<blob_memory::Blob as blob_base::Blob<Memory>>⟧.allows_write self.old.inner store.old.inner) (⟦<blob_memory::Blob as blob_base::Blob<Memory>>⟧.allows_reserve self.old.inner store.old.inner) true (is_some (retention store.old.config.write_rate)) store.old.next_write false offset bytes.now) (refused result) }
         ensures asked { AsksWrite ⟦<blob_memory::Blob as blob_base::Blob<Memory>>⟧ self.old store.old self.new store.new (write_fate_of fate) false offset bytes.now (refused result) }
         ensures wrote { WritesBy ⟦<Memory as blob_base::Durable>⟧ ⟦<blob_memory::Blob as blob_base::Blob<Memory>>⟧ self.old store.old self.new store.new (write_fate_of fate) false offset bytes.now (refused result) }
+        ensures failed { refused result ≡ Some WriteFailed
+            → FailedBy ⟦<Memory as blob_base::Durable>⟧ ⟦<blob_memory::Blob as blob_base::Blob<Memory>>⟧ self.old store.old self.new store.new (write_fate_of fate) offset bytes.now }
     {
         if let WriteFate::Done = &fate {
             return self.write_plain_from(store, offset, bytes);

@@ -99,7 +99,8 @@ impl<B> Blob<B> {
     ghost use Rattle.blob_base.specs.HandleCalls.{Reserve};
     ghost use Rattle.blob_faulty.specs.Asked.{InnerMade, Asks, AsksRuns, run_calls, or_failed};
     ghost use Rattle.blob_faulty.specs.Pieces.{run_of, runs_in, extents, EndsWithin};
-    ghost use Rattle.blob_faulty.specs.Writes.{RecordsRuns, Keeps};
+    ghost use Rattle.blob_faults.specs.Faults.{Failed};
+    ghost use Rattle.blob_faulty.specs.Writes.{RecordsRuns, LaidFront, FailedBy, Keeps};
 
     /// The runs behind the first, in rising order. A refused one is answered `WriteFailed`, and those before it stay
     /// laid.
@@ -116,6 +117,7 @@ impl<B> Blob<B> {
         requires within { B.is_direct ≡ true → All (EndsWithin (B.room self.old.inner store.old.inner)) (runs_in pieces.items) }
         ensures asked { or_failed (InnerMade B.Blob self.old store.old self.new store.new (run_calls (runs_in pieces.items))) (refused result) }
         ensures recorded { RecordsRuns S.Durable B.Blob self.old store.old self.new store.new (runs_in pieces.items) (refused result) }
+        ensures front { refused result ≡ Some WriteFailed → LaidFront S.Durable B.Blob self.old store.old self.new store.new (runs_in pieces.items) }
         ensures failed { OnErr result (refused result ≡ Some WriteFailed) }
         ensures indirect { OnErr result (B.is_direct ≡ false) }
         ensures some { OnErr result (runs_in pieces.items ≢ []) }
@@ -152,6 +154,7 @@ impl<B> Blob<B> {
         ensures allowed { allows_laid (B.allows_write self.old.inner store.old.inner) B.is_direct (runs_in pieces.items) (refused result) }
         ensures asked { or_failed (InnerMade B.Blob self.old store.old self.new store.new (run_calls (runs_in pieces.items))) (refused result) }
         ensures recorded { RecordsRuns S.Durable B.Blob self.old store.old self.new store.new (runs_in pieces.items) (refused result) }
+        ensures front { refused result ≡ Some WriteFailed → LaidFront S.Durable B.Blob self.old store.old self.new store.new (runs_in pieces.items) }
     {
         let mut pieces = pieces;
         let Some(first) = pieces.pop() else {
@@ -205,6 +208,7 @@ impl<B> Blob<B> {
         ensures allowed { or_memory (allows_runs (B.allows_write self.old.inner store.old.inner) (B.allows_reserve self.old.inner store.old.inner) B.is_direct (runs offset bytes kept.now)) (refused result) }
         ensures asked { AsksRuns B.Blob self.old store.old self.new store.new (runs offset bytes kept.now) (refused result) }
         ensures recorded { RecordsRuns S.Durable B.Blob self.old store.old self.new store.new (runs offset bytes kept.now) (refused result) }
+        ensures front { refused result ≡ Some WriteFailed → FailedBy S.Durable B.Blob self.old store.old self.new store.new (Failed kept.now) offset bytes }
     {
         if kept.is_empty() {
             return Ok(());

@@ -2,7 +2,7 @@
 ghost use Rattle.std.specs.Prelude.{◌≡◌, ◌≢◌, ◌≤◌, ◌<◌, ◌+◌, ◌-◌, ◌^◌, ◌++◌, ◌∷◌, [], true, false, Some, is_some, OnOk, OnErr, IfOk, vec_len, length};
 ghost use Rattle.blob_model.specs.Holes.{Holes};
 ghost use Rattle.blob_base.specs.Options.{is_sync};
-ghost use Rattle.blob_header.specs.Refusals.{refused, IsMemory};
+ghost use Rattle.blob_header.specs.Refusals.{refused, IsMemory, WriteFailed};
 ghost use Rattle.blob_faults.specs.Answers.{or_memory, numbered, lacks_number, allows_fate};
 ghost use Rattle.blob_model.specs.Log.{need_of};
 ghost use Rattle.blob_model.specs.Pending.{Waiting, has_barrier};
@@ -11,7 +11,7 @@ ghost use Rattle.blob_faults.specs.Lists.{HasRoomIn, IsRoomAt, HasRoomAt, SameLi
 ghost use Rattle.blob_base.specs.HandleCalls.{Write};
 ghost use Rattle.blob_faulty.specs.Asked.{Asks, AsksWrite};
 ghost use Rattle.blob_faulty.specs.Wrapper.{pending_of};
-ghost use Rattle.blob_faulty.specs.Writes.{Writes, Records, WritesBy, unrecorded, plain, laid_runs};
+ghost use Rattle.blob_faulty.specs.Writes.{Writes, Records, LaidRuns, FailedBy, WritesBy, unrecorded, plain, laid_runs};
 ghost use Rattle.blob_faults.specs.Fates.{write_fate_of, IsSized};
 
 use crate::blob::Blob;
@@ -160,6 +160,7 @@ impl<B> Blob<B> {
         ensures allowed { B.allows_write self.old.inner store.old.inner offset bytes true (refused result) }
         ensures asked { B.leaves (Write offset bytes true) self.old.inner store.old.inner (refused result) self.new.inner store.new.inner }
         ensures recorded { Records S.Durable B.Blob self.old store.old self.new store.new (laid_runs ((offset, bytes) ∷ [])) (refused result) }
+        ensures laid { OnOk result (LaidRuns S.Durable B.Blob self.old store.old self.new store.new ((offset, bytes) ∷ [])) }
         ensures kept_room { OnOk result (B.room self.old.inner store.old.inner ≤ B.room self.new.inner store.new.inner) }
         ensures left { OnOk result ((later : Holes) →
             HasRoomAt S.place store.old.lists.all.lists.items list (B.place self.old.inner) ((offset, offset + length bytes) ∷ later) →
@@ -212,6 +213,8 @@ impl<B> Blob<B> {
         ensures allowed { or_memory (allows_fate (write_fate_of fate) (B.allows_write self.old.inner store.old.inner) (B.allows_reserve self.old.inner store.old.inner) B.is_direct (is_some (retention store.old.config.write_rate)) store.old.next_write (is_sync options) offset bytes) (refused result) }
         ensures asked { AsksWrite B.Blob self.old store.old self.new store.new (write_fate_of fate) (is_sync options) offset bytes (refused result) }
         ensures wrote { WritesBy S.Durable B.Blob self.old store.old self.new store.new (write_fate_of fate) (is_sync options) offset bytes (refused result) }
+        ensures failed { refused result ≡ Some WriteFailed
+            → FailedBy S.Durable B.Blob self.old store.old self.new store.new (write_fate_of fate) offset bytes }
     {
         match fate {
             WriteFate::Done => {

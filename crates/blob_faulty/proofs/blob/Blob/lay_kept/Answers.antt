@@ -5,14 +5,15 @@ use Rattle.std.proofs.lemmas.Grind.{common_steps}
 use Rattle.blob_model.specs.Directory.{is_current}
 use Rattle.blob_base.specs.HandleCalls.{Reserve}
 use Rattle.blob_header.specs.Refusals.{Refusal, refused}
-use Rattle.blob_faulty.specs.Asked.{Asks, AsksRuns}
+use Rattle.blob_faulty.specs.Asked.{Asks, AsksRuns, InnerRefusedInRoom}
 use Rattle.blob_faulty.proofs.Asking.{no_pieces, refused_room, laid_behind}
 use Rattle.blob_model.specs.Runs.{Run, runs, AreRunsApart}
 use Rattle.blob_faulty.specs.declared.write_runs.Piece.{Piece}
 use Rattle.blob_faults.specs.Answers.{or_memory, allows_runs, last_end}
 use Rattle.blob_faulty.specs.Pieces.{runs_in}
-use Rattle.blob_faulty.specs.Writes.{View, Recorded, seen, laid_runs}
+use Rattle.blob_faulty.specs.Writes.{View, Recorded, LaysFront, seen, laid_runs}
 use Rattle.blob_faulty.proofs.FailedSteps.{runs_of_none, end_by_last}
+use Rattle.blob_faulty.proofs.Fronts.{front_in_room, asked_of, never_failed}
 use Rattle.blob_faulty.proofs.RunRoom.{sooner}
 use Rattle.blob_faulty.proofs.Writing.{no_runs, runs_after}
 use Rattle.blob_faulty.proofs.blob.Blob.lay_kept.Goals as goal
@@ -78,3 +79,19 @@ returns-clause-asked g c =
     subst (λ (rs : List Run). AsksRuns g.B.Blob c.args.self.now c.args.store.now r.new.self r.new.store rs (refused r.result)) same
     (laid_behind g.B.Blob c.args.self.now c.args.store.now r.new.self r.new.store c.reserve_runs.new.self c.reserve_runs.new.store (runs_in c.in_ok-pieces.pieces.items) (refused r.result) some
     (subst (λ (ps : List Piece). Asks g.B.Blob c.args.self.now c.args.store.now c.reserve_runs.new.self c.reserve_runs.new.store (Reserve (last_end 0 (runs_in ps))) None) c.deref.ensures.value c.in_ok-list.ensures.asked) r.ensures.asked)
+
+pub returns-in_err-list-clause-front : goal.returns-in_err-list-clause-front
+returns-in_err-list-clause-front g c is =
+    let r = c.reserve_runs in
+    let same : refused r.result ≡ refused c.from_residual-in_err-list.result = first_of (search rules, cc, grind (arith, common_steps)) in
+    let end = last_end 0 (runs_in c.deref.result.now) in
+    absurd (never_failed (g.B.Blob.allows_reserve c.args.self.now.inner c.args.store.now.inner end) (refused r.result) (λ refusal. g.met.B.Blob.reserve_refused c.args.self.now.inner c.args.store.now.inner end refusal) (same ∙ is) r.ensures.allowed)
+
+pub returns-clause-front : goal.returns-clause-front
+returns-clause-front g c is =
+    let r = c.lay_runs in
+    let same : runs_in c.in_ok-pieces.pieces.items ≡ runs c.args.offset c.args.bytes c.args.kept.now = first_of (search rules, grind (arith, common_steps)) in
+    let room : Asks g.B.Blob c.args.self.now c.args.store.now c.reserve_runs.new.self c.reserve_runs.new.store (Reserve (last_end 0 (runs_in c.in_ok-pieces.pieces.items))) None =
+    subst (λ (ps : List Piece). Asks g.B.Blob c.args.self.now c.args.store.now c.reserve_runs.new.self c.reserve_runs.new.store (Reserve (last_end 0 (runs_in ps))) None) c.deref.ensures.value c.in_ok-list.ensures.asked in
+    subst (λ (rs : List Run). LaysFront (InnerRefusedInRoom g.B.Blob c.args.self.now c.args.store.now r.new.self r.new.store rs) (seen g.S.Durable g.B.Blob c.args.self.now c.args.store.now) (seen g.S.Durable g.B.Blob r.new.self r.new.store) rs) same
+    (front_in_room g.B.Blob.leaves _ _ _ _ _ _ _ _ _ (runs_in c.in_ok-pieces.pieces.items) c.reserve_runs.ensures.unchanged (asked_of g.B.Blob c.args.self.now c.args.store.now c.reserve_runs.new.self c.reserve_runs.new.store room) (r.ensures.front is))

@@ -11,7 +11,9 @@ use Rattle.blob_faults.proofs.HoleRoom.{first_at}
 use Rattle.blob_faulty.proofs.RunSteps.{ok_holds, is_refused, is_done, popped, later_within, first_within}
 use Rattle.blob_base.specs.HandleCalls.{Write}
 use Rattle.blob_faulty.specs.Asked.{Made, run_calls}
+use Rattle.blob_faulty.specs.Writes.{seen}
 use Rattle.blob_faulty.proofs.Asking.{then_made}
+use Rattle.blob_faulty.proofs.Fronts.{up_to_first, up_to_next, front_refused, some_refusal}
 use Rattle.blob_faulty.proofs.Writing.{one_less, all_laid, later_refused}
 use Rattle.blob_faulty.proofs.blob.Blob.lay_later.Goals as goal
 
@@ -64,6 +66,16 @@ lay_range-requires-clause-room g c =
     first_at g.S.Durable.place c.loop-run.store.lists.all.lists.items c.args.list (g.B.Blob.place c.loop-run.self.inner) (c.in-Some.run'.offset, c.in-Some.run'.offset + length c.in-Some.run'.bytes) (extents (runs_in c.pop.new.self.items))
     (subst (λ (rs : List Run). HasRoomAt g.S.Durable.place c.loop-run.store.lists.all.lists.items c.args.list (g.B.Blob.place c.loop-run.self.inner) (extents rs)) (popped _ _ c.in-Some.run' c.in-Some.ensures.items) c.loop-run.invariant.room)
 
+pub loop-run-init : goal.loop-run-init
+loop-run-init g c = record {
+  room = c.requires.room;
+  within = c.requires.within;
+  some = λ none. none;
+  left = record { live = refl; durable = refl; size = refl; logs = λ later k. k; directory = refl; place = refl; config = refl; rng = refl };
+  laid = up_to_first g.B.Blob.leaves c.args.self.now.inner c.args.store.now.inner (seen g.S.Durable g.B.Blob c.args.self.now c.args.store.now) (runs_in c.args.pieces.items);
+  asked = λ answer x y made. made;
+}
+
 pub loop-run-preserved : goal.loop-run-preserved
 loop-run-preserved g c =
     let i = c.loop-run.invariant in
@@ -78,6 +90,8 @@ loop-run-preserved g c =
       some = λ none. never (sym e ∙ i.some none);
       left = one_less g.B.Blob.is_direct _ _ _ _ (run_of c.in-Some.run') rest (refused c.lay_range.result) (is_done c.lay_range.result ok)
           (rw e at i.left) l.recorded;
+      laid = up_to_next g.B.Blob.leaves _ _ _ _ _ _ _ _ _ _ (run_of c.in-Some.run') rest i.left.place (rw e at i.laid) (ok_holds c.lay_range.result ok l.laid)
+          (subst (λ (a : Option Refusal). g.B.Blob.leaves (Write c.in-Some.run'.offset c.in-Some.run'.bytes true) c.loop-run.self.inner c.loop-run.store.inner a c.lay_range.new.self.inner c.lay_range.new.store.inner) (is_done c.lay_range.result ok) l.asked);
       asked = λ answer x y later. i.asked answer x y (subst (λ (rs : List Run). Made g.B.Blob.leaves (run_calls rs) answer c.loop-run.self.inner c.loop-run.store.inner x y) (sym e)
           (then_made g.B.Blob.leaves (Write c.in-Some.run'.offset c.in-Some.run'.bytes true) (run_calls rest) answer _ _ _ _ x y
           (subst (λ (a : Option Refusal). g.B.Blob.leaves (Write c.in-Some.run'.offset c.in-Some.run'.bytes true) c.loop-run.self.inner c.loop-run.store.inner a c.lay_range.new.self.inner c.lay_range.new.store.inner) (is_done c.lay_range.result ok) l.asked) later));
@@ -87,3 +101,11 @@ pub returns-clause-recorded : goal.returns-clause-recorded
 returns-clause-recorded g c =
     let none : runs_in c.loop-run.pieces.items ≡ [] = first_of (search rules, grind (arith, common_steps)) in
     all_laid _ _ _ _ _ c.requires.current none c.loop-run.invariant.left
+
+pub returns-then-is_err-clause-front : goal.returns-then-is_err-clause-front
+returns-then-is_err-clause-front g c _ =
+    let e : runs_in c.loop-run.pieces.items ≡ run_of c.in-Some.run' ∷ runs_in c.pop.new.self.items = popped _ _ c.in-Some.run' c.in-Some.ensures.items in
+    let failed = is_refused c.lay_range.result (sym c.is_err.ensures.value ∙ c.if-is_err.true) in
+    front_refused g.B.Blob.leaves _ _ _ _ _ _ _ _ _ _ (run_of c.in-Some.run') (runs_in c.pop.new.self.items) failed.0 (rw e at c.loop-run.invariant.laid)
+    (c.lay_range.ensures.recorded.refused refl (some_refusal (refused c.lay_range.result) failed.0 failed.1))
+    (subst (λ (a : Option Refusal). g.B.Blob.leaves (Write c.in-Some.run'.offset c.in-Some.run'.bytes true) c.loop-run.self.inner c.loop-run.store.inner a c.lay_range.new.self.inner c.lay_range.new.store.inner) failed.1 c.lay_range.ensures.asked)

@@ -2,17 +2,18 @@ use Rattle.std.proofs.Common.{rules, ◌≡◌, ◌+◌, true, length, List, [],
 use Rattle.std.specs.Prelude.{IsSome}
 use Rattle.std.proofs.lemmas.Grind.{common_steps}
 use Rattle.blob_model.specs.Directory.{is_current}
-use Rattle.blob_header.specs.Refusals.{Refusal, refused}
+use Rattle.blob_header.specs.Refusals.{Refusal, WriteFailed, refused}
 use Rattle.blob_model.specs.Runs.{Run}
 use Rattle.blob_faults.specs.Lists.{HasRoomAt}
 use Rattle.blob_faulty.specs.Pieces.{run_of, runs_in, extents, EndsWithin}
-use Rattle.blob_faulty.specs.Writes.{View, Recorded, seen, laid_runs}
+use Rattle.blob_faulty.specs.Writes.{View, LaidFront, Recorded, seen, laid_runs}
 use Rattle.blob_faulty.proofs.Adding.{bytes_some}
 use Rattle.blob_faults.proofs.HoleRoom.{first_at}
 use Rattle.blob_faulty.proofs.RunSteps.{not_stale, popped, later_within}
 use Rattle.blob_base.specs.HandleCalls.{Write}
 use Rattle.blob_faulty.specs.Asked.{Made, InnerMade, run_calls, or_failed}
 use Rattle.blob_faulty.proofs.Asking.{then_failed}
+use Rattle.blob_faulty.proofs.Fronts.{front_none, front_behind, some_refusal}
 use Rattle.blob_faulty.proofs.Writing.{then_runs}
 use Rattle.blob_faulty.proofs.blob.Blob.lay_runs.Goals as goal
 
@@ -68,3 +69,18 @@ returns-in_err-lay_range-clause-asked g c =
     let some : IsSome (refused c.from_residual.result) = first_of (search rules, cc, grind (arith, common_steps)) in
     subst (λ (rs : List Run). or_failed (InnerMade g.B.Blob c.args.self.now c.args.store.now r.new.self r.new.store (run_calls rs)) (refused c.from_residual.result)) (sym e)
     (inl (inl (some, subst (λ (a : Option Refusal). g.B.Blob.leaves (Write c.in-Some.first.offset c.in-Some.first.bytes true) c.args.self.now.inner c.args.store.now.inner a r.new.self.inner r.new.store.inner) same r.ensures.asked)))
+
+pub returns-in_err-lay_range-clause-front : goal.returns-in_err-lay_range-clause-front
+returns-in_err-lay_range-clause-front g c is =
+    let r = c.lay_range in
+    let e : runs_in c.args.pieces.items ≡ run_of c.in-Some.first ∷ runs_in c.pop.new.self.items = popped _ _ c.in-Some.first c.in-Some.ensures.items in
+    let same : refused r.result ≡ refused c.from_residual.result = first_of (search rules, cc, grind (arith, common_steps)) in
+    subst (λ (rs : List Run). LaidFront g.S.Durable g.B.Blob c.args.self.now c.args.store.now r.new.self r.new.store rs) (sym e)
+    (front_none g.B.Blob.leaves _ _ _ _ _ _ (run_of c.in-Some.first) (runs_in c.pop.new.self.items) WriteFailed (r.ensures.recorded.refused refl (some_refusal (refused r.result) WriteFailed (same ∙ is)))
+    (subst (λ (a : Option Refusal). g.B.Blob.leaves (Write c.in-Some.first.offset c.in-Some.first.bytes true) c.args.self.now.inner c.args.store.now.inner a r.new.self.inner r.new.store.inner) (same ∙ is) r.ensures.asked))
+
+pub returns-clause-front : goal.returns-clause-front
+returns-clause-front g c is =
+    let e : runs_in c.args.pieces.items ≡ run_of c.in-Some.first ∷ runs_in c.pop.new.self.items = popped _ _ c.in-Some.first c.in-Some.ensures.items in
+    subst (λ (rs : List Run). LaidFront g.S.Durable g.B.Blob c.args.self.now c.args.store.now c.lay_later.new.self c.lay_later.new.store rs) (sym e)
+    (front_behind g.B.Blob.leaves _ _ _ _ _ _ _ _ _ (run_of c.in-Some.first) (runs_in c.pop.new.self.items) c.lay_range.ensures.recorded.wrote.place c.in_ok-lay_range.ensures.laid c.in_ok-lay_range.ensures.asked (c.lay_later.ensures.front is))

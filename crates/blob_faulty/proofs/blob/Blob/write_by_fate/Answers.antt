@@ -1,4 +1,4 @@
-use Rattle.std.proofs.Common.{rules, ◌≡◌, Bool, false, true, [], ◌∷◌, Option, Some, None, ap, sym, ◌∙◌, subst, arith}
+use Rattle.std.proofs.Common.{rules, ◌≡◌, Bool, false, true, [], ◌∷◌, Option, Some, None, refl, ap, sym, ◌∙◌, subst, arith}
 use Rattle.std.specs.Prelude.{◌⊎◌, is_some, IsSome}
 use Rattle.std.proofs.lemmas.Grind.{common_steps}
 use Rattle.blob_base.specs.Options.{is_sync}
@@ -8,8 +8,10 @@ use Rattle.blob_faults.specs.Answers.{or_memory, injected_for, lacks_number, all
 use Rattle.blob_faults.specs.Faults.{WriteFate, Done, Unsynced, Failed, retention}
 use Rattle.blob_faults.specs.Fates.{write_fate_of}
 use Rattle.blob_base.specs.HandleCalls.{Write}
+use Rattle.blob_faulty.specs.Writes.{FailedBy}
 use Rattle.blob_faulty.specs.Asked.{Unasked, InnerMade, AsksWrite, or_failed, kept_calls}
 use Rattle.blob_faulty.proofs.Asking.{asked_once, faulted, refused_too}
+use Rattle.blob_faulty.proofs.Fronts.{some_refusal}
 use Rattle.blob_faulty.proofs.Fating.{unsynced_refused, failed_refused, runs_uninjected, reserve_uninjected, of_fate}
 use Rattle.blob_faulty.proofs.blob.Blob.write_by_fate.Goals as goal
 
@@ -91,3 +93,32 @@ returns-in_err-lay_kept-in-Failed-clause-asked g c =
     rw fate (subst (λ (a : Option Refusal). Unasked g.B.Blob c.args.self.now c.args.store.now r.new.self r.new.store a ⊎ injected_for (or_failed (InnerMade g.B.Blob c.args.self.now c.args.store.now r.new.self r.new.store (kept_calls (runs c.args.offset c.args.bytes c.deref.result.now)))) a) same
     (refused_too g.B.Blob c.args.self.now c.args.store.now r.new.self r.new.store (or_failed (InnerMade g.B.Blob c.args.self.now c.args.store.now r.new.self r.new.store (kept_calls (runs c.args.offset c.args.bytes c.deref.result.now)))) (refused r.result) some
     r.ensures.asked))
+
+pub returns-then-contains-clause-failed : goal.returns-then-contains-clause-failed
+returns-then-contains-clause-failed g c is =
+    let fate : write_fate_of c.args.fate ≡ Done = first_of (search rules, cc, grind (arith, common_steps)) in
+    let r = c.write_synced in
+    subst (λ (f : WriteFate). FailedBy g.S.Durable g.B.Blob c.args.self.now c.args.store.now r.new.self r.new.store f c.args.offset c.args.bytes) (sym fate)
+    (r.ensures.recorded.refused refl (some_refusal _ _ is))
+
+pub returns-else-contains-clause-failed : goal.returns-else-contains-clause-failed
+returns-else-contains-clause-failed g c is =
+    let fate : write_fate_of c.args.fate ≡ Done = first_of (search rules, cc, grind (arith, common_steps)) in
+    let r = c.write_plain in
+    subst (λ (f : WriteFate). FailedBy g.S.Durable g.B.Blob c.args.self.now c.args.store.now r.new.self r.new.store f c.args.offset c.args.bytes) (sym fate)
+    (r.ensures.recorded.refused refl (some_refusal _ _ is))
+
+pub returns-in_err-write_plain-in-Unsynced-clause-failed : goal.returns-in_err-write_plain-in-Unsynced-clause-failed
+returns-in_err-write_plain-in-Unsynced-clause-failed g c is =
+    let r = c.write_plain-in-Unsynced in
+    let fate : write_fate_of c.args.fate ≡ Unsynced = ap write_fate_of c.in-Unsynced.is in
+    let same : refused r.result ≡ refused c.from_residual.result = first_of (search rules, cc, grind (arith, common_steps)) in
+    subst (λ (f : WriteFate). FailedBy g.S.Durable g.B.Blob c.args.self.now c.args.store.now r.new.self r.new.store f c.args.offset c.args.bytes) (sym fate)
+    (r.ensures.recorded.refused refl (some_refusal (refused r.result) _ (same ∙ is)))
+
+pub returns-in_err-lay_kept-in-Failed-clause-failed : goal.returns-in_err-lay_kept-in-Failed-clause-failed
+returns-in_err-lay_kept-in-Failed-clause-failed g c is =
+    let r = c.lay_kept in
+    let fate : write_fate_of c.args.fate ≡ Failed c.deref.result.now = ap write_fate_of c.in-Failed.is ∙ ap Failed (sym c.deref.ensures.value) in
+    let same : refused r.result ≡ refused c.from_residual-in_err-lay_kept-in-Failed.result = first_of (search rules, cc, grind (arith, common_steps)) in
+    subst (λ (f : WriteFate). FailedBy g.S.Durable g.B.Blob c.args.self.now c.args.store.now r.new.self r.new.store f c.args.offset c.args.bytes) (sym fate) (r.ensures.front (same ∙ is))

@@ -31,4 +31,4 @@ returns-clause-leaves g c =
     let some : (is_sync c.args.options) ≡ true → c.args.bytes ≢ [] = first_of (search rules, grind (arith, common_steps)) in
     let fits : c.args.offset + length c.args.bytes < 2 ^ 64 = first_of (search rules, grind (arith, common_steps)) in
     write_leaves g.S.Durable g.B.Blob g.R.Rng.stream c.args.self.now c.write_by_fate.new.self c.args.store.now c.write_by_fate.new.store c.draw_write.new.rng (is_sync c.args.options) c.args.offset c.args.bytes (refused c.write_by_fate.result) (write_fate_of c.in_ok-fate.fate)
-    some fits (drawn g c) (left g c) c.write_by_fate.ensures.asked c.write_by_fate.ensures.wrote
+    some fits (drawn g c) (left g c) c.write_by_fate.ensures.asked c.write_by_fate.ensures.wrote c.write_by_fate.ensures.failed

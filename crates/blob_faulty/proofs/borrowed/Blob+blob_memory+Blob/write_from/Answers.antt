@@ -28,4 +28,4 @@ returns-clause-leaves g c =
     let some : false ≡ true → c.args.bytes.now ≢ [] = λ e. absurd (false≢true e) in
     let fits : c.args.offset + length c.args.bytes.now < 2 ^ 64 = first_of (search rules, grind (arith, common_steps)) in
     write_leaves store.ghosts handle.ghosts g.R.Rng.stream c.args.self.now c.write_from_by_fate.new.self c.args.store.now c.write_from_by_fate.new.store c.draw_write.new.rng false c.args.offset c.args.bytes.now (refused c.write_from_by_fate.result) (write_fate_of c.in_ok-fate.fate)
-    some fits (drawn g c) (left g c) c.write_from_by_fate.ensures.asked c.write_from_by_fate.ensures.wrote
+    some fits (drawn g c) (left g c) c.write_from_by_fate.ensures.asked c.write_from_by_fate.ensures.wrote c.write_from_by_fate.ensures.failed
