@@ -56,3 +56,15 @@ survive_more done done' s asked k entries after before count lt is now found =
     subst (λ (l : List Session). Survive l asked after) (sym now)
     (subst (λ (l : List (Session × Vec (Vec ℕ Global) Global)). All (λ t. BeginsWith (trusted t) after) l)
     (sym (zip_more done s asked entries (omega arith) (is ∙ ap (λ (i : ℕ). get_or asked i entries) (sym count)))) all)
+
+-- and each with an answer for each record
+abbrev pub Answered : List Session → List (Vec (Vec ℕ Global) Global) → Type 0
+Answered done asked = All (λ t. length t.0.answers.items ≡ length t.1.items) (zip done asked)
+
+pub answered_more : (done done' : List Session) (s : Session) (asked : List (Vec (Vec ℕ Global) Global)) (k : ℕ) (entries : Vec (Vec ℕ Global) Global) → Answered done asked → length done ≡ k → k < length asked
+    → entries ≡ get_or asked k entries → done' ≡ done ++ s ∷ [] → length s.answers.items ≡ length entries.items → Answered done' asked
+answered_more done done' s asked k entries before count lt is now new =
+    subst (λ (l : List Session). Answered l asked) (sym now)
+    (subst (λ (l : List (Session × Vec (Vec ℕ Global) Global)). All (λ t. length t.0.answers.items ≡ length t.1.items) l)
+    (sym (zip_more done s asked entries (omega arith) (is ∙ ap (λ (i : ℕ). get_or asked i entries) (sym count))))
+    (All-push (λ t. length t.0.answers.items ≡ length t.1.items) (zip done asked) (s, entries) before new))

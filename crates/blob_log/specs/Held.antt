@@ -5,7 +5,9 @@ use Rattle.blob_header.specs.Fronts.{BeginsWith}
 use Rattle.blob_model.specs.Places.{Place}
 use Rattle.blob_faulty.specs.Keeps.{OverMemory, Keeps}
 use Rattle.blob_faulty.specs.Wrapper.{inside}
+use Rattle.blob_faulty.specs.declared.blob.Blob.{Blob}
 use Rattle.blob_memory.specs.Store.{place}
+use Rattle.blob_memory.specs.declared.blob.Blob as memory_blob
 use Rattle.blob_log.specs.declared.log.Log.{Log}
 use Rattle.blob_log.specs.declared.sessions.Session.{Session}
 use Rattle.blob_log.specs.Frames.{frames, AreShort}
@@ -13,6 +15,13 @@ use Rattle.blob_log.specs.Frames.{frames, AreShort}
 -- the incarnation of a log's blob
 abbrev pub place_of : Log → Place
 place_of log = place (inside log.blob)
+
+-- the handle of a log's blob, and where its next frame goes
+abbrev pub blob_of : Log → Blob memory_blob.Blob
+blob_of log = log.blob
+
+abbrev pub end_of : Log → ℕ
+end_of log = log.end
 
 -- the wrapper keeps these records at the front of the log's blob, and the next frame goes right behind them
 pub record Holds {R : Type 0} (log : Log) (store : OverMemory R) (records : List (List ℕ)) : Type 0 where
@@ -37,3 +46,7 @@ trusted (session, records) = items_of session.before.items ++ acknowledged sessi
 -- of each of these sessions, which were asked to append these records, that is a front of what is found in the end
 abbrev pub Survive : List Session → List (Vec (Vec ℕ Global) Global) → List (List ℕ) → Type 0
 Survive sessions asked after = All (λ s. BeginsWith (trusted s) after) (zip sessions asked)
+
+-- one session for each list of records, with an answer for each of these
+abbrev pub AreAnswered : List Session → List (Vec (Vec ℕ Global) Global) → Type 0
+AreAnswered sessions asked = (length sessions ≡ length asked) × All (λ t. length t.0.answers.items ≡ length t.1.items) (zip sessions asked)

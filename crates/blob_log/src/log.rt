@@ -1,12 +1,14 @@
 //! A log of records in one blob of a fault wrapper.
-ghost use Rattle.std.specs.Prelude.{◌≡◌, ◌++◌, ◌∷◌, [], List, ℕ, OnOk, OnErr, IfOk};
+ghost use Rattle.std.specs.Prelude.{◌≡◌, ◌++◌, ◌∷◌, [], List, ℕ, true, OnOk, OnErr, IfOk};
 ghost use Rattle.blob_model.specs.Files.{Files};
 ghost use Rattle.blob_header.specs.Fronts.{BeginsWith};
+ghost use Rattle.blob_header.specs.Refusals.{refused};
 ghost use Rattle.blob_model.specs.Opened.{IsNamed};
 ghost use Rattle.blob_model.specs.Places.{Place};
 ghost use Rattle.blob_faulty.specs.Keeps.{IsFor, Keeps};
 ghost use Rattle.blob_log.specs.Frames.{AreShort, frames};
-ghost use Rattle.blob_log.specs.Held.{Holds, place_of, items_of};
+ghost use Rattle.blob_log.specs.Held.{Holds, place_of, blob_of, end_of, items_of};
+ghost use Rattle.blob_log.specs.Refused.{MayAppend, MayRecover};
 
 use crate::frame::{frame_of, scan, scans_find_frames};
 use blob_base::laws::opens::accepted_opens;
@@ -31,12 +33,14 @@ impl Log {
     ///
     /// # Errors
     ///
-    /// `OffsetOverflow` where the record has 2^32 bytes or more, and else what the wrapper's SYNC write is refused for. The
-    /// log holds what it held, and the next frame goes to the same place: over whatever a failed write left there.
+    /// `OffsetOverflow` where the record has 2^32 bytes or more or its frame's end can't be counted, `Memory`, and else what the
+    /// wrapper's SYNC write of the frame is refused for. The log holds what it held, and the next frame goes to the same place:
+    /// over whatever a failed write left there.
     pub fn append<R: Rng>(&mut self, store: &mut Store<R>, entry: &[u8]) -> Result<(), Error>
         ensures acknowledged { OnOk result ((records : List (List ℕ)) → Holds self.old store.old records → Holds self.new store.new (records ++ entry.now ∷ [])) }
         ensures refused { OnErr result ((records : List (List ℕ)) → Holds self.old store.old records → Holds self.new store.new records) }
         ensures place { place_of self.new ≡ place_of self.old }
+        ensures answer { MayAppend (end_of self.old) entry.now (λ bytes. ⟦<blob_faulty::Blob<blob_memory::Blob> as blob_base::Blob<Store<R>>>⟧.allows_write (blob_of self.old) store.old (end_of self.old) bytes true) (refused result) }
     {
         writes::<blob_memory::Storage, R, blob_memory::Blob>();
         if entry.len() > u32::MAX as usize {
@@ -57,7 +61,7 @@ impl Log {
     ///
     /// # Errors
     ///
-    /// What the wrapper's open and read are refused for. What was kept still is.
+    /// What the wrapper's open is refused for, `Injected` where the draw of its read is true, and `Memory`. What was kept still is.
     pub fn recover<R: Rng>(
         alloc: Global,
         store: &mut Store<R>,
@@ -68,6 +72,7 @@ impl Log {
         ensures found { IfOk result (λ r. (o : Place) (records : List (List ℕ)) → IsNamed o partition.now name.now → AreShort records → Keeps store.old o (frames records) → (place_of r.0 ≡ o) × BeginsWith records (items_of r.1.items)) }
         ensures keeps { (o : Place) (bytes : List ℕ) → Keeps store.old o bytes → Keeps store.new o bytes }
         ensures named { IfOk result (λ r. IsNamed (place_of r.0) partition.now name.now) }
+        ensures answer { MayRecover R.stream store.old partition.now name.now (refused result) }
     {
         accepted_opens();
         unrecorded_calls::<blob_memory::Storage, R>();

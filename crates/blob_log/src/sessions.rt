@@ -1,8 +1,10 @@
 //! A log through crashes: what was acknowledged is found again.
-ghost use Rattle.std.specs.Prelude.{◌≡◌, ◌++◌, List, ℕ, IfOk};
+ghost use Rattle.std.specs.Prelude.{◌≡◌, ◌++◌, List, ℕ, IfOk, length};
 ghost use Rattle.blob_model.specs.Files.{Files};
+ghost use Rattle.blob_header.specs.Refusals.{refused};
 ghost use Rattle.blob_faulty.specs.Keeps.{IsFor};
-ghost use Rattle.blob_log.specs.Held.{Holds, Survive, place_of, items_of, acknowledged};
+ghost use Rattle.blob_log.specs.Held.{AreAnswered, Holds, Survive, place_of, items_of, acknowledged};
+ghost use Rattle.blob_log.specs.Refused.{MayStop};
 
 use crate::log::{Log, Store};
 use blob_base::Error;
@@ -26,6 +28,7 @@ fn append_all<R: Rng>(
     store: &mut Store<R>,
     entries: &[Vec<u8>],
 ) -> Result<Vec<bool>, AllocError>
+    ensures count { IfOk result (λ answers. length answers.items ≡ length entries.now) }
     ensures held { IfOk result (λ answers. (records : List (List ℕ)) → Holds log.old store.old records → Holds log.new store.new (records ++ acknowledged answers.items (items_of entries.now))) }
     ensures place { place_of log.new ≡ place_of log.old }
 {
@@ -38,11 +41,11 @@ fn append_all<R: Rng>(
 
 /// Opens the log and, for each list of records, appends them, crashes, and opens what is left. Of each session all that it
 /// found and all that was answered Ok, in order, is at the front of what is found in the end, whatever the wrapper's faults,
-/// its generator and what it held before.
+/// its generator and what it held before. There is a session for each list, and an answer for each of its records.
 ///
 /// # Errors
 ///
-/// What an open, a read or a crash is refused for, and `Memory`.
+/// What a recovery is refused for, and `Memory`, as a crash too may be.
 pub fn sessions_survive<R: Rng>(
     alloc: Global,
     store: &mut Store<R>,
@@ -50,7 +53,9 @@ pub fn sessions_survive<R: Rng>(
     name: &[u8],
     sessions: &[Vec<Vec<u8>>],
 ) -> Result<(Vec<Session>, Vec<Vec<u8>>), Error>
-    ensures { IfOk result (λ r. (files : Files) → IsFor store.old files → Survive r.0.items sessions.now (items_of r.1.items)) }
+    ensures answer { MayStop R.stream partition.now name.now (refused result) }
+    ensures answered { IfOk result (λ r. AreAnswered r.0.items sessions.now) }
+    ensures survive { IfOk result (λ r. (files : Files) → IsFor store.old files → Survive r.0.items sessions.now (items_of r.1.items)) }
 {
     let (mut log, mut before) = Log::recover(alloc, store, partition, name)?;
     let mut done = Vec::with_capacity(alloc, sessions.len())?;
@@ -70,7 +75,7 @@ pub fn sessions_survive<R: Rng>(
 ///
 /// # Errors
 ///
-/// What an open, a read or a crash is refused for, and `Memory`.
+/// What a recovery is refused for, and `Memory`, as a crash too may be.
 pub fn sessions_survive_anew<R: Rng + Drop>(
     alloc: Global,
     rng: R,
@@ -79,7 +84,9 @@ pub fn sessions_survive_anew<R: Rng + Drop>(
     name: &[u8],
     sessions: &[Vec<Vec<u8>>],
 ) -> Result<(Vec<Session>, Vec<Vec<u8>>), Error>
-    ensures { IfOk result (λ r. Survive r.0.items sessions.now (items_of r.1.items)) }
+    ensures answer { MayStop R.stream partition.now name.now (refused result) }
+    ensures answered { IfOk result (λ r. AreAnswered r.0.items sessions.now) }
+    ensures survive { IfOk result (λ r. Survive r.0.items sessions.now (items_of r.1.items)) }
 {
     let memory = blob_memory::Storage::new(alloc);
     let mut store = blob_faulty::Storage::new(alloc, memory, rng, config);

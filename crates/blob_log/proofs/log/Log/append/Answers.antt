@@ -1,9 +1,13 @@
-use Rattle.std.proofs.Common.{List, ◌++◌, ◌∷◌, [], ℕ, length, true, arith, refl, sym, subst, ap, ◌∙◌}
-use Rattle.std.specs.Prelude.{Result, Ok, Err, OnErr}
+use Rattle.std.proofs.Common.{rules, ◌≡◌, List, ◌++◌, ◌∷◌, [], ℕ, length, true, arith, refl, sym, subst, ap, ◌∙◌}
+use Rattle.std.proofs.lemmas.Grind.{common_steps}
+use Rattle.std.specs.Prelude.{Result, Ok, Err, OnErr, Some, None}
+use Rattle.blob_header.specs.Refusals.{refused, refusal_of, Memory}
 use Rattle.blob_model.specs.Places.{Place}
 use Rattle.blob_faulty.specs.Keeps.{Keeps}
 use Rattle.blob_log.specs.Frames.{frames}
 use Rattle.blob_log.specs.Held.{place_of}
+use Rattle.blob_log.specs.Refused.{TooLong, Uncounted, NoMemory}
+use Rattle.blob_log.proofs.Refusing.{asked}
 use Rattle.blob_log.proofs.Scans.{frames_more, length_frame, length_frames_more, short_more}
 use Rattle.blob_log.proofs.log.Log.append.Goals as goal
 
@@ -34,3 +38,29 @@ returns-clause-acknowledged g c = λ records h.
       short = short_more records r h.short (omega arith);
       end = omega (arith, c.in-Some.ensures, c.remaining.ensures, h.end, length_frames_more records r, length_frame r, ap length is);
     }
+
+-- Why it is answered so.
+
+pub returns-then-entry-clause-answer : goal.returns-then-entry-clause-answer
+returns-then-entry-clause-answer g c = TooLong (omega (arith, c.if-entry.true))
+
+pub returns-in_err-frame_of-clause-answer : goal.returns-in_err-frame_of-clause-answer
+returns-in_err-frame_of-clause-answer g c =
+    let e : refused c.from_residual.result ≡ Some Memory = first_of (search rules, grind (arith, common_steps)) in
+    rw e NoMemory
+
+pub returns-in_err-bytes-clause-answer : goal.returns-in_err-bytes-clause-answer
+returns-in_err-bytes-clause-answer g c =
+    let e : refused c.from_residual-in_err-bytes.result ≡ Some Memory = first_of (search rules, grind (arith, common_steps)) in
+    rw e NoMemory
+
+pub returns-in_default-clause-answer : goal.returns-in_default-clause-answer
+returns-in_default-clause-answer g c = Uncounted (omega (arith, c.in_default.ensures, c.remaining.ensures, ap length (c.in_ok-bytes.ensures.ok ∙ c.in_ok-frame_of.ensures)))
+
+pub returns-in_err-write_at-clause-answer : goal.returns-in_err-write_at-clause-answer
+returns-in_err-write_at-clause-answer g c =
+    let e : refused c.from_residual-in_err-write_at.result ≡ Some (refusal_of c.in_err-write_at.field-0.0) = search rules in
+    rw e (asked _ _ _ c.in_ok-bytes.bytes _ (c.in_ok-bytes.ensures.ok ∙ c.in_ok-frame_of.ensures) c.in_err-write_at.ensures.allowed)
+
+pub returns-clause-answer : goal.returns-clause-answer
+returns-clause-answer g c = asked _ _ _ c.in_ok-bytes.bytes None (c.in_ok-bytes.ensures.ok ∙ c.in_ok-frame_of.ensures) c.in_ok-write_at.ensures.allowed

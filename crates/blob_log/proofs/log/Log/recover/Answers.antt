@@ -1,11 +1,14 @@
-use Rattle.std.proofs.Common.{rules, ◌≡◌, ℕ, List, ◌∙◌, length, sym, ap, subst, arith}
+use Rattle.std.proofs.Common.{rules, ◌≡◌, ℕ, ◌^◌, ◌<◌, Some, None, List, ◌∙◌, length, sym, ap, subst, arith}
 use Rattle.std.proofs.lemmas.Grind.{common_steps}
 use Rattle.std.proofs.lemmas.List.{take_all}
 use Rattle.blob_header.specs.Fronts.{BeginsWith}
+use Rattle.blob_header.specs.Refusals.{refused, refusal_of, Memory}
 use Rattle.blob_faulty.specs.Wrapper.{inside}
 use Rattle.blob_memory.specs.Store.{place, live}
 use Rattle.blob_log.specs.Frames.{frames, scan}
 use Rattle.blob_log.specs.Held.{Holds}
+use Rattle.blob_log.specs.Refused.{Opened, NoMemory}
+use Rattle.blob_log.proofs.Refusing.{starts, not_read}
 use Rattle.blob_log.proofs.Scans.{front_scanned}
 use Rattle.blob_log.proofs.log.Log.recover.Goals as goal
 
@@ -30,3 +33,34 @@ returns-clause-held g c = λ files stands.
       short = s.short;
       end = s.end;
     })
+
+-- Why it is answered so.
+
+pub returns-in_err-blob-clause-answer : goal.returns-in_err-blob-clause-answer
+returns-in_err-blob-clause-answer g c =
+    let e : refused c.from_residual.result ≡ Some (refusal_of c.in_err-blob.field-0.0) = search rules in
+    rw e (Opened _ c.in_err-blob.ensures.allowed)
+
+pub returns-in_err-resize-clause-answer : goal.returns-in_err-resize-clause-answer
+returns-in_err-resize-clause-answer g c =
+    let e : refused c.from_residual-in_err-resize.result ≡ Some Memory = first_of (search rules, grind (arith, common_steps)) in
+    rw e NoMemory
+
+pub returns-in_err-read_into-clause-answer : goal.returns-in_err-read_into-clause-answer
+returns-in_err-read_into-clause-answer g c =
+    let e : refused c.from_residual-in_err-read_into.result ≡ Some (refusal_of c.in_err-read_into.field-0.0) = search rules in
+    let live_bytes = live (inside c.in_ok-blob.blob) in
+    let long : length c.as_mut_slice-found.result.now ≡ length live_bytes = first_of (search rules, grind (arith, common_steps)) in
+    let opened = c.in_ok-blob.ensures in
+    let start = starts _ _ _ _ _ _ _ _ (place (inside c.in_ok-blob.blob)) live_bytes _ opened.opened in
+    let few : length c.as_mut_slice-found.result.now < 2 ^ 63 = omega (arith, c.as_mut_slice-found.ensures.len, c.resize.new.self.ok.1, c.resize.new.self.small) in
+    rw e (not_read g.R.Rng.stream c.args.store.now c.open_admitted.new.self c.args.partition.now c.args.name.now (place (inside c.in_ok-blob.blob)) live_bytes (length c.as_mut_slice-found.result.now) _
+    opened.allowed opened.leaves.numbers.config opened.leaves.drawn (omega (arith, start, few)) (omega (arith, long)) c.in_err-read_into.ensures.allowed)
+
+pub returns-in_err-records-clause-answer : goal.returns-in_err-records-clause-answer
+returns-in_err-records-clause-answer g c =
+    let e : refused c.from_residual-in_err-records.result ≡ Some Memory = first_of (search rules, grind (arith, common_steps)) in
+    rw e NoMemory
+
+pub returns-clause-answer : goal.returns-clause-answer
+returns-clause-answer g c = Opened None c.in_ok-blob.ensures.allowed
