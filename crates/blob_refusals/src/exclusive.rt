@@ -1,8 +1,7 @@
 //! Exclusive opens over the wrapper, with two handles at most.
 
-use crate::place::{self, More, done};
-use crate::window;
-use anyhow::Result;
+use crate::place::{self, done};
+use crate::{window, words};
 use blob_base::Error;
 use blob_lab::lab::Wrapper;
 use blob_lab::open::Blob;
@@ -122,7 +121,12 @@ impl Exclusive {
     }
 
     /// A call of a script. Opens aren't admitted.
-    pub fn perform(&mut self, alloc: Global, wrapper: &mut Wrapper, call: &Call) -> Result<Reply> {
+    pub fn perform(
+        &mut self,
+        alloc: Global,
+        wrapper: &mut Wrapper,
+        call: &Call,
+    ) -> Result<Reply, Error> {
         match call {
             Call::Open { .. } => Ok(self.open(alloc, wrapper, call)),
             Call::Remove { partition, name } => Ok(self.remove(alloc, wrapper, partition, name)),
@@ -146,22 +150,25 @@ impl Exclusive {
         }
     }
 
-    /// What a script has no line for, through a handle.
+    /// What a script has no line for.
     pub fn more(
         &mut self,
         alloc: Global,
         wrapper: &mut Wrapper,
-        handle: usize,
-        more: More,
-    ) -> Result<Reply> {
-        match self.held(handle) {
-            Some(blob) => place::ask_more(alloc, wrapper, blob, more),
+        words: &[&str],
+    ) -> Result<Reply, Error> {
+        if let ["replace", partition, name] = words {
+            let name = words::bytes(alloc, name)?;
+            return Ok(self.replace(alloc, partition, &name));
+        }
+        match self.held(place::handle_of(words)?) {
+            Some(blob) => place::ask_more(alloc, wrapper, blob, words),
             None => Ok(Reply::NoHandle),
         }
     }
 
-    /// A replacement whose closure does nothing and succeeds.
-    pub fn replace(&mut self, alloc: Global, partition: &str, name: &[u8]) -> Reply {
+    // A replacement whose closure does nothing and succeeds.
+    fn replace(&mut self, alloc: Global, partition: &str, name: &[u8]) -> Reply {
         window::begin(alloc);
         let answer: Result<(), Error> = self.opens.replace(partition, Some(name), || Ok(()));
         window::end(alloc);

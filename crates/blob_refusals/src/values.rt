@@ -1,7 +1,7 @@
 //! Calls of values: buffers, headers and names.
 
-use crate::window;
-use anyhow::Result;
+use crate::place::done;
+use crate::{window, words};
 use blob_base::{
     BlobVersion, Error, Header, HeaderError, IoBufs, IoBufsMut, Layout, resolve,
     validate_partition_name,
@@ -9,33 +9,17 @@ use blob_base::{
 use blob_lab::Reply;
 use std::alloc::Global;
 
-/// A call that goes by values alone, but for `Push`.
-#[derive(Clone, Copy)]
-pub enum ValueCall<'a> {
-    FromVec,
-    /// On the list of four pieces that is kept.
-    Push,
-    /// The bytes of the list that is kept.
-    Pieces,
-    Coalesce,
-    Copied,
-    Buffer,
-    Create,
-    IntoError,
-    Resolve(&'a [u8]),
-    PartitionName(&'a str),
-}
-
 /// A list of four pieces.
-pub fn pieces(alloc: Global) -> Result<IoBufs> {
+pub fn pieces(alloc: Global) -> Result<IoBufs, Error> {
     let mut bufs = IoBufs::new(alloc);
     for byte in 0..4u8 {
-        bufs.push(Vec::from_elem(alloc, byte, 2)?)?;
+        let piece = Vec::from_elem(alloc, byte, 2)?;
+        bufs.push(piece)?;
     }
     Ok(bufs)
 }
 
-fn done<T: Drop>(answer: Result<T, Error>) -> Reply {
+fn made(answer: Result<IoBufs, Error>) -> Reply {
     match answer {
         Ok(_) => Reply::Done,
         Err(e) => Reply::Failed(e),
@@ -49,15 +33,15 @@ fn bytes_of(answer: Result<Vec<u8>, Error>) -> Reply {
     }
 }
 
-fn from_vec(alloc: Global) -> Result<Reply> {
+fn from_vec(alloc: Global) -> Result<Reply, Error> {
     let bytes = Vec::from_slice(alloc, b"ab")?;
     window::begin(alloc);
     let answer = IoBufs::from_vec(bytes);
     window::end(alloc);
-    Ok(done(answer))
+    Ok(made(answer))
 }
 
-fn push(alloc: Global, bufs: &mut IoBufs) -> Result<Reply> {
+fn push(alloc: Global, bufs: &mut IoBufs) -> Result<Reply, Error> {
     let bytes = Vec::from_slice(alloc, b"ab")?;
     window::begin(alloc);
     let answer = bufs.push(bytes);
@@ -65,7 +49,7 @@ fn push(alloc: Global, bufs: &mut IoBufs) -> Result<Reply> {
     Ok(done(answer))
 }
 
-fn coalesce(alloc: Global) -> Result<Reply> {
+fn coalesce(alloc: Global) -> Result<Reply, Error> {
     let bufs = pieces(alloc)?;
     window::begin(alloc);
     let answer = bufs.coalesce();
@@ -77,14 +61,17 @@ fn copied(alloc: Global, bufs: &IoBufs) -> Reply {
     window::begin(alloc);
     let answer = bufs.copied();
     window::end(alloc);
-    done(answer)
+    made(answer)
 }
 
 fn buffer(alloc: Global) -> Reply {
     window::begin(alloc);
     let answer = IoBufsMut::with_capacity(alloc, 100);
     window::end(alloc);
-    done(answer)
+    match answer {
+        Ok(_) => Reply::Done,
+        Err(e) => Reply::Failed(e),
+    }
 }
 
 fn create(alloc: Global) -> Reply {
@@ -126,18 +113,19 @@ fn partition_name(alloc: Global, partition: &str) -> Reply {
     done(answer)
 }
 
-/// Makes a call; `kept` is the list of four pieces.
-pub fn perform(alloc: Global, kept: &mut IoBufs, call: ValueCall<'_>) -> Result<Reply> {
-    match call {
-        ValueCall::FromVec => from_vec(alloc),
-        ValueCall::Push => push(alloc, kept),
-        ValueCall::Pieces => Ok(bytes_of(kept.copied()?.coalesce())),
-        ValueCall::Coalesce => coalesce(alloc),
-        ValueCall::Copied => Ok(copied(alloc, kept)),
-        ValueCall::Buffer => Ok(buffer(alloc)),
-        ValueCall::Create => Ok(create(alloc)),
-        ValueCall::IntoError => Ok(into_error(alloc)),
-        ValueCall::Resolve(raw) => Ok(resolved(alloc, raw)),
-        ValueCall::PartitionName(partition) => Ok(partition_name(alloc, partition)),
+/// Makes a call that goes by values alone; `kept` is the list of four pieces.
+pub fn perform(alloc: Global, kept: &mut IoBufs, words: &[&str]) -> Result<Reply, Error> {
+    match words {
+        ["fromvec"] => from_vec(alloc),
+        ["push"] => push(alloc, kept),
+        ["pieces"] => Ok(bytes_of(kept.copied()?.coalesce())),
+        ["coalesce"] => coalesce(alloc),
+        ["copied"] => Ok(copied(alloc, kept)),
+        ["buffer"] => Ok(buffer(alloc)),
+        ["create"] => Ok(create(alloc)),
+        ["intoerror"] => Ok(into_error(alloc)),
+        ["resolve", raw] => Ok(resolved(alloc, &words::bytes(alloc, raw)?)),
+        ["partition", partition] => Ok(partition_name(alloc, partition)),
+        _ => Err(Error::Closed),
     }
 }
