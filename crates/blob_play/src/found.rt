@@ -3,6 +3,7 @@
 use blob_base::Error;
 use blob_calls::Reply;
 use blob_calls::script::print_reply;
+use blob_faulty::{PartialWriteMode, WriteConfig};
 use blob_memory::Origin;
 use std::alloc::{AllocError, Global};
 
@@ -17,6 +18,8 @@ pub enum Found {
     /// No blob.
     Nothing,
     Origin(Origin),
+    /// How writes fail, and what of them is kept.
+    Writes(WriteConfig),
     /// So many words were taken so far.
     Taken(usize),
 }
@@ -47,6 +50,22 @@ fn print_origin(origin: &Origin, line: &mut String) -> Result<(), AllocError> {
     write!(line, " {name} {generation} {offset}")
 }
 
+fn print_writes(config: &WriteConfig, line: &mut String) -> Result<(), AllocError> {
+    let (failure, retention) = (config.failure_rate, config.retention_rate);
+    let (n, d) = (failure.numerator(), failure.denominator());
+    write!(line, "write {n} {d}")?;
+    let (n, d) = (retention.numerator(), retention.denominator());
+    write!(line, " {n} {d} ")?;
+    match config.mode {
+        PartialWriteMode::Prefix => line.push_str("prefix"),
+        PartialWriteMode::Subset => line.push_str("subset"),
+        PartialWriteMode::Sectors(size) => {
+            let size = size.get();
+            write!(line, "sectors {size}")
+        }
+    }
+}
+
 fn print_found(found: &Found, line: &mut String) -> Result<(), AllocError> {
     match found {
         Found::Told(reply) => print_reply(reply, line),
@@ -56,6 +75,7 @@ fn print_found(found: &Found, line: &mut String) -> Result<(), AllocError> {
         Found::Is(false) => line.push_str("no"),
         Found::Nothing => line.push_str("none"),
         Found::Origin(origin) => print_origin(origin, line),
+        Found::Writes(config) => print_writes(config, line),
         Found::Taken(words) => write!(line, "taken {words}"),
     }
 }

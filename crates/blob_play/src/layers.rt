@@ -80,8 +80,7 @@ impl Layers {
         let alloc = place.alloc;
         let (inner, rng, _config) = place.store.into_inner();
         self.below.put_back(inner);
-        let left = words::left(alloc, rng, given)?;
-        Ok(Found::Taken(given.wrapping_sub(left.len())))
+        Ok(Found::Taken(words::taken(alloc, rng, given, given)?))
     }
 
     /// A call that no script has.

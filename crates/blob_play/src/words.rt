@@ -14,15 +14,24 @@ pub fn generator(mut words: Vec<u64>) -> Result<ScriptedRng, Error> {
     Ok(ScriptedRng::new(words))
 }
 
-/// The words that are left in a generator that had so many. `Closed` where more were taken than given.
-pub fn left(alloc: Global, mut rng: ScriptedRng, given: usize) -> Result<Vec<u64>, Error> {
+/// The words that are left in a generator that had so many. None where more were taken.
+pub fn left(alloc: Global, mut rng: ScriptedRng, had: usize) -> Result<Option<Vec<u64>>, Error> {
     let mut words = Vec::new(alloc);
-    for _ in 0..=given {
+    for _ in 0..=had {
         let word = rng.next_u64();
         if word == END {
-            return Ok(words);
+            return Ok(Some(words));
         }
         words.push(word)?;
     }
-    Err(Error::Closed)
+    Ok(None)
+}
+
+/// How many of the given words were taken, where a generator had so many of them at last: one more than given where it was
+/// more.
+pub fn taken(alloc: Global, rng: ScriptedRng, given: usize, had: usize) -> Result<usize, Error> {
+    Ok(match left(alloc, rng, had)? {
+        Some(words) => given.wrapping_sub(words.len()),
+        None => given.wrapping_add(1),
+    })
 }

@@ -6,7 +6,7 @@ use crate::{tokens, words};
 use blob_base::{Error, Storage};
 use blob_calls::script::Setting;
 use blob_calls::{Call, Reply};
-use blob_faulty::Config;
+use blob_faulty::{Config, write_config_from_cell};
 use blob_laboratory::ScriptedRng;
 use blob_memory::Storage as Memory;
 use std::alloc::Global;
@@ -71,6 +71,14 @@ fn empty(alloc: Global) -> Wrapper<Memory> {
     Wrapper::new(alloc, Memory::new(alloc), rng, Config::default())
 }
 
+// How writes fail by a cell of 16 bits.
+fn cell(number: u64) -> Result<Found, Error> {
+    match u16::try_from(number) {
+        Ok(number) => Ok(Found::Writes(write_config_from_cell(number))),
+        Err(_) => Err(Error::Closed),
+    }
+}
+
 impl WrapperPlace {
     /// An empty memory store, wrapped with these words and first numbers.
     pub fn new(
@@ -130,7 +138,7 @@ impl WrapperPlace {
         if is_rebuilt {
             memory = Memory::from_snapshot(memory.take_snapshot());
         }
-        let left = words::left(alloc, rng, self.left)?;
+        let left = words::left(alloc, rng, self.left)?.ok_or(Error::Closed)?;
         self.left = left.len();
         let rng = words::generator(left)?;
         self.place.store = Wrapper::new(alloc, memory, rng, config);
@@ -142,16 +150,16 @@ impl WrapperPlace {
         match words {
             ["rewrap"] => self.rewrap(false),
             ["rebuild"] => self.rewrap(true),
+            ["cell", number] => cell(tokens::number(number)?),
             _ => self.place.more_of_wrapper(words),
         }
     }
 
-    /// How many words were taken, at the end.
+    /// How many words were taken, at the end: one more than given where more were taken.
     pub fn taken(self) -> Result<usize, Error> {
         let WrapperPlace { place, given, left } = self;
         let alloc = place.alloc;
         let (_memory, rng, _config) = place.store.into_inner();
-        let left = words::left(alloc, rng, left)?;
-        Ok(given.wrapping_sub(left.len()))
+        words::taken(alloc, rng, given, left)
     }
 }
