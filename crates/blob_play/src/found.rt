@@ -1,6 +1,6 @@
 //! What a call found, and its line.
 
-use blob_base::Error;
+use blob_base::{BlobVersion, Error, Layout};
 use blob_calls::Reply;
 use blob_calls::script::print_reply;
 use blob_faulty::{PartialWriteMode, WriteConfig};
@@ -20,6 +20,13 @@ pub enum Found {
     Origin(Origin),
     /// How writes fail, and what of them is kept.
     Writes(WriteConfig),
+    /// A blob is to be created.
+    Creates,
+    /// A blob's logical size, its version, and where its data begin.
+    Valid(u64, BlobVersion, u64),
+    Layout(Layout),
+    /// A draw, and how many words it took.
+    Drawn(bool, usize),
     /// So many words were taken so far.
     Taken(usize),
 }
@@ -76,6 +83,15 @@ fn print_found(found: &Found, line: &mut String) -> Result<(), AllocError> {
         Found::Nothing => line.push_str("none"),
         Found::Origin(origin) => print_origin(origin, line),
         Found::Writes(config) => print_writes(config, line),
+        Found::Creates => line.push_str("create"),
+        Found::Valid(size, version, offset) => {
+            let number = version.get();
+            write!(line, "valid {size} {number} {offset}")
+        }
+        Found::Layout(Layout::V0) => line.push_str("V0"),
+        Found::Layout(Layout::V1) => line.push_str("V1"),
+        Found::Drawn(true, words) => write!(line, "yes {words}"),
+        Found::Drawn(false, words) => write!(line, "no {words}"),
         Found::Taken(words) => write!(line, "taken {words}"),
     }
 }

@@ -13,6 +13,7 @@ mod place;
 mod preamble;
 mod table;
 mod tokens;
+mod values;
 mod words;
 mod world;
 mod wrapper_calls;

@@ -2,6 +2,7 @@
 
 use crate::found::{Found, bytes, done};
 use crate::tokens::{self, index, number};
+use crate::values;
 use blob_base::{
     Blob, BlobVersion, DEFAULT_BLOB_VERSION, Durable, Error, Handle, IoBufs, IoBufsMut,
     ReadOptions, Storage, WriteOptions,
@@ -242,7 +243,7 @@ impl<S: Storage + Drop> Place<S> {
                 let name = tokens::bytes(self.alloc, name)?;
                 self.fresh(&partition, &name)
             }
-            _ => Err(Error::Closed),
+            _ => values::perform(self.alloc, words),
         }
     }
 }

@@ -1,6 +1,6 @@
-//! Exclusive opens over the memory store.
+//! A replacement behind exclusive opens, over the memory store. What a script can say of them is in tests/scripts.
 
-use blob_base::{Blob, BlobVersion, Error, IoBufs, ReadOptions, WriteOptions};
+use blob_base::{BlobVersion, Error};
 use blob_memory::Storage;
 use blob_opens::{Opens, open};
 use std::process::Abort;
@@ -43,34 +43,6 @@ fn is_held(opens: &mut Opens, store: &mut Storage, partition: &str, name: &[u8])
 }
 
 #[test]
-fn an_open_name_is_refused_until_it_is_closed(rt: HostRuntime) -> Result<(), Fail> {
-    let alloc = rt.alloc();
-    let partition = String::from_str(alloc, "partition")?;
-    let name = String::from_str(alloc, "626c6f62")?;
-    let bytes = IoBufs::from_vec(Vec::from_slice(alloc, b"saved")?)?;
-    let mut store = Storage::new(alloc);
-    let mut opens = Opens::new(alloc);
-
-    let (mut blob, size) = opened(&rt, &mut opens, &mut store, "partition", b"blob");
-    assert_eq!(rt; size, 0);
-    let written = blob.write_at(&mut store, 0, bytes, WriteOptions::default());
-    assert_eq!(rt; written, Ok(()));
-    assert_eq!(rt; blob.sync(&mut store), Ok(()));
-    let refused = refusal(&mut opens, &mut store, "partition", b"blob");
-    assert_eq!(rt; refused, Some(Error::BlobAlreadyOpen(partition, name)));
-    opens.close(blob);
-
-    let (blob, size) = opened(&rt, &mut opens, &mut store, "partition", b"blob");
-    assert_eq!(rt; size, 5);
-    let read = blob
-        .read_at(&mut store, 0, 5, ReadOptions::default())
-        .expect(&rt, "read");
-    assert_eq!(rt; read.coalesce().as_slice(), b"saved".as_slice());
-    opens.close(blob);
-    Ok(())
-}
-
-#[test]
 fn a_replacement_ends_opens_where_it_succeeds(rt: HostRuntime) -> Result<(), Fail> {
     let alloc = rt.alloc();
     let mut store = Storage::new(alloc);
@@ -98,22 +70,5 @@ fn a_replacement_ends_opens_where_it_succeeds(rt: HostRuntime) -> Result<(), Fai
     assert!(rt; !is_held(&mut opens, &mut store, "a", b"x"));
     assert!(rt; !is_held(&mut opens, &mut store, "a", b"y"));
     assert!(rt; !is_held(&mut opens, &mut store, "b", b"x"));
-    Ok(())
-}
-
-#[test]
-fn a_removed_partition_has_no_open_names(rt: HostRuntime) -> Result<(), Fail> {
-    let alloc = rt.alloc();
-    let mut store = Storage::new(alloc);
-    let mut opens = Opens::new(alloc);
-    let (first, _size) = opened(&rt, &mut opens, &mut store, "a", b"x");
-    let (second, _size) = opened(&rt, &mut opens, &mut store, "b", b"x");
-    assert_eq!(rt; opens.remove(&mut store, "a", None), Ok(()));
-    assert_eq!(rt; refusal(&mut opens, &mut store, "a", b"x"), None);
-    assert!(rt; is_held(&mut opens, &mut store, "b", b"x"));
-    opens.close(first);
-    opens.close(second);
-    assert_eq!(rt; refusal(&mut opens, &mut store, "a", b"x"), None);
-    assert_eq!(rt; refusal(&mut opens, &mut store, "b", b"x"), None);
     Ok(())
 }

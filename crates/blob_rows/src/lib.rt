@@ -4,8 +4,6 @@
 #[cfg(test)]
 mod any_store;
 #[cfg(test)]
-mod creations;
-#[cfg(test)]
 mod errors;
 #[cfg(test)]
 mod exclusive_opens;
