@@ -1,5 +1,5 @@
 //! The streams of a run: a reader and a writer, and what came of using them.
-ghost use Rattle.std.specs.Prelude.{◌≡◌, ◌≢◌, ◌⊎◌, ◌+◌, ◌<◌, true, false, IfSome, IfErr, OnOk};
+ghost use Rattle.std.specs.Prelude.{◌≡◌, ◌≢◌, ◌⊎◌, ◌+◌, ◌++◌, ◌<◌, true, false, IfSome, IfErr, OnOk};
 ghost use Rattle.std.specs.Io.KnownBytes.{Appends, Keeps};
 ghost use Rattle.std.specs.Io.BufRead.{strip_last};
 ghost use Rattle.std.specs.Fmt.{with_newline};
@@ -65,6 +65,27 @@ impl<R: BufRead> Input<R> {
     {
         output.hand_on()?;
         self.read_on(line)
+    }
+
+    /// Reads all that is left behind what `bytes` has.
+    ///
+    /// # Errors
+    ///
+    /// `InputFailed` where reading failed, `NoMemory`. `bytes` may have a part then.
+    pub fn read_all(&mut self, bytes: &mut Vec<u8>) -> Result<(), Ending>
+        ensures failed { result ≡ Err Ending.InputFailed → read_failed self.new ≡ true }
+        ensures sound { result ≢ Err Ending.InputFailed → read_failed self.new ≡ read_failed self.old }
+        ensures ending { IfErr result (λ ending. (ending ≡ Ending.InputFailed) ⊎ (ending ≡ Ending.NoMemory)) }
+        ensures read { OnOk result (IfSome (R.remaining (reader_of self.old)) (λ left. bytes.new.items ≡ bytes.old.items ++ left)) }
+    {
+        match self.reader.read_to_end(bytes) {
+            Ok(_) => Ok(()),
+            Err(e) if e.kind() == ErrorKind::OutOfMemory => Err(Ending::NoMemory),
+            Err(_) => {
+                self.failed = true;
+                Err(Ending::InputFailed)
+            }
+        }
     }
 
     fn read_on(&mut self, line: &mut Vec<u8>) -> Result<usize, Ending>
@@ -156,8 +177,12 @@ impl<W> Output<W> {
 }
 
 impl<W: Write> Output<W> {
-    /// Writes all of these bytes. Where that fails, some at their front were written.
-    pub(crate) fn write_all(&mut self, bytes: &[u8]) -> Result<(), Ending>
+    /// Writes all of these bytes.
+    ///
+    /// # Errors
+    ///
+    /// `OutputFailed`. Some bytes at their front may have been written.
+    pub fn write_all(&mut self, bytes: &[u8]) -> Result<(), Ending>
         ensures written { OnOk result (Appends (W.contents (writer_of self.old)) (W.contents (writer_of self.new)) bytes.now) }
         ensures part { IfErr result (λ _. AppendsPart (W.contents (writer_of self.old)) (W.contents (writer_of self.new)) bytes.now) }
         ensures ending { IfErr result (λ ending. ending ≡ Ending.OutputFailed) }
@@ -197,7 +222,11 @@ impl<W: Write> Output<W> {
     }
 
     /// Flushes the writer.
-    pub(crate) fn flush(&mut self) -> Result<(), Ending>
+    ///
+    /// # Errors
+    ///
+    /// `OutputFailed`.
+    pub fn flush(&mut self) -> Result<(), Ending>
         ensures flushed { OnOk result (is_flushed self.new ≡ true) }
         ensures kept { Keeps (W.contents (writer_of self.old)) (W.contents (writer_of self.new)) }
         ensures ending { IfErr result (λ ending. ending ≡ Ending.OutputFailed) }

@@ -1,76 +1,96 @@
 // A script's replies with the pictures between them.
-ghost use Rattle.std.specs.Prelude.{◌≡◌, ◌<◌, ◌++◌, ◌∷◌, ℕ, true, IfSome, IfOk, IfErr, OnOk, length};
-ghost use Rattle.std.specs.Io.KnownBytes.{Appends, Keeps};
+ghost use Rattle.std.specs.Prelude.{◌≡◌, ◌≢◌, ◌⊎◌, ◌<◌, ◌++◌, ◌∷◌, ℕ, true, IfSome, IfOk, IfErr, OnOk, length};
+ghost use Rattle.std.specs.Io.KnownBytes.{Keeps};
 ghost use Rattle.blob_lab.specs.Endings.{is_of_script};
 ghost use Rattle.blob_lab.specs.Scripts.{Prints, PrintsBefore, lines_of, no_script, script_of};
+ghost use Rattle.blob_lab.specs.Streams.{reader_of, read_failed, writer_of, write_failed, is_flushed};
 ghost use Rattle.blob_pictures.specs.Explained.{Explains, IsExplained, Remarks};
+ghost use Rattle.blob_pictures.specs.Explanations.{IsExplanation, WritesExplanation};
 
 use crate::play::pictures_of;
 use crate::remarks::push_remarks;
 use blob_lab::run_script::run_script;
 use blob_lab::{Ending, Input, Output};
 use std::alloc::{AllocError, Global};
-use std::io::{BufRead, ErrorKind, Write};
+use std::io::{BufRead, Write};
 
 /// Runs a script to its end, and writes what `run_script` writes with remarks behind each reply to a crash that was drawn: lines
 /// that begin with `# ` and show what became of each file that had something pending.
 ///
 /// All of it is written at the end, and the script is run twice, for its replies and for the pictures. Where it ends as
-/// `InputFailed` or `NoMemory` nothing may have been written; `OutputFailed` as `run_script`.
-#[tactic(auto, using(crate::proofs::Explaining::tells))]
-pub fn explain_script<R: BufRead, W: Write>(alloc: Global, reader: &mut R, writer: &mut W) -> Ending
+/// `InputFailed` nothing was written, nor may it be where it ends as `NoMemory`. The writer is flushed at the end, whatever came
+/// before; where that fails it ends as `OutputFailed`.
+pub fn explain_script<R: BufRead, W: Write>(
+    alloc: Global,
+    input: &mut Input<R>,
+    output: &mut Output<W>,
+) -> Ending
     ensures ending { is_of_script result ≡ true }
-    ensures done { result ≡ Ending.Done → IfSome (R.remaining reader.old)
-        (λ input. Explains (Prints (script_of (lines_of input))) (W.contents writer.old) (W.contents writer.new)) }
-    ensures bad_call { (number : ℕ) → result ≡ Ending.BadCall number → IfSome (R.remaining reader.old)
-        (λ input. Explains (PrintsBefore no_script 1 number (lines_of input)) (W.contents writer.old) (W.contents writer.new)) }
+    ensures done { result ≡ Ending.Done → IfSome (R.remaining (reader_of input.old))
+        (λ input. Explains (Prints (script_of (lines_of input))) (W.contents (writer_of output.old)) (W.contents (writer_of output.new))) }
+    ensures bad_call { (number : ℕ) → result ≡ Ending.BadCall number → IfSome (R.remaining (reader_of input.old))
+        (λ input. Explains (PrintsBefore no_script 1 number (lines_of input)) (W.contents (writer_of output.old)) (W.contents (writer_of output.new))) }
+    ensures unwritten { result ≡ Ending.InputFailed → Keeps (W.contents (writer_of output.old)) (W.contents (writer_of output.new)) }
+    ensures handed_on { result ≢ Ending.OutputFailed → is_flushed output.new ≡ true }
+    ensures input_failed { result ≡ Ending.InputFailed → read_failed input.new ≡ true }
+    ensures output_failed { result ≡ Ending.OutputFailed → write_failed output.new ≡ true }
+    ensures input_sound { result ≢ Ending.InputFailed → result ≢ Ending.OutputFailed → read_failed input.new ≡ read_failed input.old }
+    ensures output_sound { result ≢ Ending.OutputFailed → write_failed output.new ≡ write_failed output.old }
+{
+    let ran = write_explanation(alloc, input, output);
+    match (output.flush(), ran) {
+        (Err(failed), _) => failed,
+        (Ok(()), Ok(ending)) => ending,
+        (Ok(()), Err(ending)) => ending,
+    }
+}
+
+/// Writes the explanation, and answers how the script ended.
+fn write_explanation<R: BufRead, W: Write>(
+    alloc: Global,
+    input: &mut Input<R>,
+    output: &mut Output<W>,
+) -> Result<Ending, Ending>
+    ensures ended { IfOk result (λ ending. (is_of_script ending ≡ true) × (ending ≢ Ending.InputFailed) × (ending ≢ Ending.OutputFailed)) }
+    ensures cut { IfErr result (λ ending. (ending ≡ Ending.InputFailed) ⊎ (ending ≡ Ending.NoMemory) ⊎ (ending ≡ Ending.OutputFailed)) }
+    ensures text { IfOk result (λ ending. IfSome (R.remaining (reader_of input.old))
+        (λ bytes. WritesExplanation bytes ending (W.contents (writer_of output.old)) (W.contents (writer_of output.new)))) }
+    ensures unwritten { result ≡ Err Ending.InputFailed → Keeps (W.contents (writer_of output.old)) (W.contents (writer_of output.new)) }
+    ensures input_failed { result ≡ Err Ending.InputFailed → read_failed input.new ≡ true }
+    ensures input_sound { result ≢ Err Ending.InputFailed → read_failed input.new ≡ read_failed input.old }
+    ensures output_failed { result ≡ Err Ending.OutputFailed → write_failed output.new ≡ true }
+    ensures output_sound { result ≢ Err Ending.OutputFailed → write_failed output.new ≡ write_failed output.old }
+{
+    let (text, ending) = explanation(alloc, input)?;
+    output.write_all(&text)?;
+    Ok(ending)
+}
+
+/// What is to be written, and how the script ended.
+fn explanation<R: BufRead>(alloc: Global, input: &mut Input<R>) -> Result<(Vec<u8>, Ending), Ending>
+    ensures ended { IfOk result (λ ran. (is_of_script ran.1 ≡ true) × (ran.1 ≢ Ending.InputFailed) × (ran.1 ≢ Ending.OutputFailed)) }
+    ensures cut { IfErr result (λ ending. (ending ≡ Ending.InputFailed) ⊎ (ending ≡ Ending.NoMemory)) }
+    ensures text { IfOk result (λ ran. IfSome (R.remaining (reader_of input.old)) (λ bytes. IsExplanation bytes ran.1 ran.0.items)) }
+    ensures failed { result ≡ Err Ending.InputFailed → read_failed input.new ≡ true }
+    ensures sound { result ≢ Err Ending.InputFailed → read_failed input.new ≡ read_failed input.old }
 {
     let mut script = Vec::new(alloc);
-    if let Err(e) = reader.read_to_end(&mut script) {
-        return if e.kind() == ErrorKind::OutOfMemory {
-            Ending::NoMemory
-        } else {
-            Ending::InputFailed
-        };
-    }
-    let mut input = Input::new(script.as_slice());
-    let mut output = Output::new(Vec::new(alloc));
-    let ending = run_script(alloc, &mut input, &mut output);
-    if ending == Ending::OutputFailed {
-        // A list is a writer that fails for want of memory alone.
-        return Ending::NoMemory;
+    input.read_all(&mut script)?;
+    let mut lines = Input::new(script.as_slice());
+    let mut replies = Output::new(Vec::new(alloc));
+    let ending = run_script(alloc, &mut lines, &mut replies);
+    // A list is a reader that doesn't fail, and a writer that fails for want of memory alone.
+    if ending == Ending::InputFailed || ending == Ending::OutputFailed {
+        return Err(Ending::NoMemory);
     }
     let Ok(pictures) = pictures_of(alloc, &script) else {
-        return Ending::NoMemory;
+        return Err(Ending::NoMemory);
     };
-    let replies = output.into_writer();
-    let Ok(text) = explained(alloc, &replies, &pictures) else {
-        return Ending::NoMemory;
+    let printed = replies.into_writer();
+    let Ok(text) = explained(alloc, &printed, &pictures) else {
+        return Err(Ending::NoMemory);
     };
-    match write_whole(&text, writer) {
-        Ok(()) => ending,
-        Err(failed) => failed,
-    }
-}
-
-fn write_whole<W: Write>(text: &[u8], writer: &mut W) -> Result<(), Ending>
-    ensures added { OnOk result (Appends (W.contents writer.old) (W.contents writer.new) text.now) }
-    ensures failed { IfErr result (λ ending. ending ≡ Ending.OutputFailed) }
-{
-    match writer.write_all(text) {
-        Ok(()) => flush(writer),
-        Err(_) => Err(Ending::OutputFailed),
-    }
-}
-
-fn flush<W: Write>(writer: &mut W) -> Result<(), Ending>
-    ensures kept { Keeps (W.contents writer.old) (W.contents writer.new) }
-    ensures failed { IfErr result (λ ending. ending ≡ Ending.OutputFailed) }
-{
-    match writer.flush() {
-        Ok(()) => Ok(()),
-        Err(_) => Err(Ending::OutputFailed),
-    }
+    Ok((text, ending))
 }
 
 /// The replies, with the pictures in turn behind those of crashes.

@@ -77,13 +77,15 @@ fn run_input<T: AllocGlobal + Input + Print>(rt: &T) -> Ending {
 }
 
 fn explain_input<T: AllocGlobal + Input + Print>(rt: &T) -> Ending {
-    let Ok(mut reader) = BufReader::new(rt.alloc(), rt.reader()) else {
+    let Ok(reader) = BufReader::new(rt.alloc(), rt.reader()) else {
         return Ending::NoMemory;
     };
-    let Ok(mut writer) = BufWriter::new(rt.alloc(), io::writer(rt)) else {
+    let Ok(writer) = BufWriter::new(rt.alloc(), io::writer(rt)) else {
         return Ending::NoMemory;
     };
-    explain_script(rt.alloc(), &mut reader, &mut writer)
+    let mut input = streams::Input::new(reader);
+    let mut output = streams::Output::new(writer);
+    explain_script(rt.alloc(), &mut input, &mut output)
 }
 
 // Without a buffer each byte of standard input would be a read of its own.
