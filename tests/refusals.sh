@@ -39,8 +39,7 @@ give_up() {
 
 cc -shared -fPIC -O2 -o "$library" "$top/tests/refusals/refuse.c" || give_up "the library can't be built"
 "$top/blobcrash" resolve </dev/null >/dev/null || give_up "blobcrash can't be built or started"
-table=$top/crates/blob_refusals/data/calls.txt
-calls=$("$top/tools/built" blob_refusals "$table" steady) || give_up "blob_refusals can't be built"
+calls=$("$top/tools/built" blob_refusals steady) || give_up "blob_refusals can't be built"
 program=$top/out/blobcrash
 
 # under NAME=VALUE.. COMMAND..: runs it with the library, and leaves its status, what it printed and the library's counts.
@@ -65,7 +64,7 @@ sweep() {
     n=0
     while :; do
         n=$((n + 1))
-        under REFUSE="$n" ${2:-} "$calls" "$table" "$name"
+        under REFUSE="$n" ${2:-} "$calls" "$name"
         tally
         if [ "$status" -ne 0 ] || [ -z "$refusals" ]; then
             fail "'$name' with request $n refused${2:+, and all after it}"
@@ -87,17 +86,17 @@ all_comparisons=0
 growing=0
 steady=0
 
-"$calls" "$table" growing >"$work/growing"
+"$calls" growing >"$work/growing"
 while IFS= read -r name; do
     growing=$((growing + 1))
     sweep "$name"
     sweep "$name" REFUSE_ON=1
 done <"$work/growing"
 
-"$calls" "$table" steady >"$work/steady"
+"$calls" steady >"$work/steady"
 while IFS= read -r name; do
     steady=$((steady + 1))
-    under REFUSE=1 REFUSE_ON=1 "$calls" "$table" "$name"
+    under REFUSE=1 REFUSE_ON=1 "$calls" "$name"
     tally
     if [ "$status" -eq 0 ] && [ "$refusals" = 0 ] && [ "$counted" = 0 ]; then
         pass

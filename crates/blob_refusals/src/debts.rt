@@ -1,10 +1,30 @@
 //! The registry of durability debt, with the open that was admitted last and the token that was released last.
 
 use crate::place::done;
-use crate::{window, words};
+use crate::window;
+use anyhow::Result;
 use blob_base::Error;
 use blob_lab::{Generation, Pending, Receiver, Reply, Sender};
 use std::alloc::{AllocError, Global};
+
+/// A call of the registry. But for `Admit` and `Forget` they go by the open that was admitted last.
+///
+/// Answers of yes and no are the sizes 1 and 0.
+#[derive(Clone, Copy)]
+pub enum DebtCall<'a> {
+    Admit(&'a str, &'a [u8], bool),
+    Release,
+    /// Dirty, or else with a failure.
+    Settle(bool),
+    IsSettled,
+    Owes,
+    Clear,
+    Fail,
+    Close,
+    Forget(&'a str, &'a [u8]),
+    /// Begins a registry in which nothing happened.
+    Renew,
+}
 
 /// The registry, and what it gave.
 pub struct Debts {
@@ -184,29 +204,19 @@ impl Debts {
         Reply::Done
     }
 
-    /// Makes a call of the registry. But for `admit` and `forget` they go by the open that was admitted last.
-    ///
-    /// Answers of yes and no are the sizes 1 and 0.
-    pub fn perform(&mut self, words: &[&str]) -> Result<Reply, Error> {
-        match words {
-            ["admit", partition, name, state] => {
-                let name = words::bytes(self.alloc, name)?;
-                Ok(self.admit(partition, &name, *state == "existing")?)
-            }
-            ["release"] => Ok(self.release()),
-            ["settle", state] => Ok(self.settle(*state == "dirty")?),
-            ["issettled"] => Ok(self.is_settled()),
-            ["owes"] => Ok(self.owes()),
-            ["clear"] => Ok(self.clear()),
-            ["fail"] => Ok(self.fail()?),
-            ["close"] => Ok(self.close()),
-            ["forget", partition, name] => {
-                let name = words::bytes(self.alloc, name)?;
-                Ok(self.forget(partition, &name))
-            }
-            // Begins a registry in which nothing happened.
-            ["renew"] => Ok(self.renew()),
-            _ => Err(Error::Closed),
+    /// Makes a call.
+    pub fn perform(&mut self, call: DebtCall<'_>) -> Result<Reply, AllocError> {
+        match call {
+            DebtCall::Admit(partition, name, existing) => self.admit(partition, name, existing),
+            DebtCall::Release => Ok(self.release()),
+            DebtCall::Settle(dirty) => self.settle(dirty),
+            DebtCall::IsSettled => Ok(self.is_settled()),
+            DebtCall::Owes => Ok(self.owes()),
+            DebtCall::Clear => Ok(self.clear()),
+            DebtCall::Fail => self.fail(),
+            DebtCall::Close => Ok(self.close()),
+            DebtCall::Forget(partition, name) => Ok(self.forget(partition, name)),
+            DebtCall::Renew => Ok(self.renew()),
         }
     }
 }

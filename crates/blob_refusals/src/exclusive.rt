@@ -1,7 +1,8 @@
 //! Exclusive opens over the wrapper, with two handles at most.
 
-use crate::place::{self, done};
-use crate::{window, words};
+use crate::place::{self, More, done};
+use crate::window;
+use anyhow::Result;
 use blob_base::Error;
 use blob_lab::lab::Wrapper;
 use blob_lab::open::Blob;
@@ -121,12 +122,7 @@ impl Exclusive {
     }
 
     /// A call of a script. Opens aren't admitted.
-    pub fn perform(
-        &mut self,
-        alloc: Global,
-        wrapper: &mut Wrapper,
-        call: &Call,
-    ) -> Result<Reply, Error> {
+    pub fn perform(&mut self, alloc: Global, wrapper: &mut Wrapper, call: &Call) -> Result<Reply> {
         match call {
             Call::Open { .. } => Ok(self.open(alloc, wrapper, call)),
             Call::Remove { partition, name } => Ok(self.remove(alloc, wrapper, partition, name)),
@@ -150,25 +146,22 @@ impl Exclusive {
         }
     }
 
-    /// What a script has no line for.
+    /// What a script has no line for, through a handle.
     pub fn more(
         &mut self,
         alloc: Global,
         wrapper: &mut Wrapper,
-        words: &[&str],
-    ) -> Result<Reply, Error> {
-        if let ["replace", partition, name] = words {
-            let name = words::bytes(alloc, name)?;
-            return Ok(self.replace(alloc, partition, &name));
-        }
-        match self.held(place::handle_of(words)?) {
-            Some(blob) => place::ask_more(alloc, wrapper, blob, words),
+        handle: usize,
+        more: More,
+    ) -> Result<Reply> {
+        match self.held(handle) {
+            Some(blob) => place::ask_more(alloc, wrapper, blob, more),
             None => Ok(Reply::NoHandle),
         }
     }
 
-    // A replacement whose closure does nothing and succeeds.
-    fn replace(&mut self, alloc: Global, partition: &str, name: &[u8]) -> Reply {
+    /// A replacement whose closure does nothing and succeeds.
+    pub fn replace(&mut self, alloc: Global, partition: &str, name: &[u8]) -> Reply {
         window::begin(alloc);
         let answer: Result<(), Error> = self.opens.replace(partition, Some(name), || Ok(()));
         window::end(alloc);

@@ -1,6 +1,7 @@
 //! A script's lines: reading one, and printing a reply.
 
 use crate::window;
+use anyhow::Result;
 use blob_base::Error;
 use blob_lab::Reply;
 use blob_lab::script::{RefusedLine, print_reply, read_line};
@@ -19,7 +20,7 @@ pub fn read(alloc: Global, line: &str) -> Reply {
 }
 
 /// Prints the reply of a read, and answers it again.
-pub fn print(alloc: Global) -> Result<Reply, Error> {
+pub fn print(alloc: Global) -> Result<Reply> {
     let reply = Reply::Bytes(Vec::from_slice(alloc, b"ab")?);
     let mut line = String::new(alloc);
     window::begin(alloc);

@@ -1,11 +1,34 @@
 //! The memory store's own calls.
 
 use crate::place::{Place, done};
-use crate::{window, words};
+use crate::window;
+use anyhow::{Result, bail};
 use blob_base::{Blob, Error, IoBufs};
 use blob_lab::Reply;
 use blob_memory::{Origin, Storage};
 use std::alloc::{AllocError, Global};
+
+/// A call that the memory store alone has. Handles go by their place in the list of opens.
+#[derive(Clone, Copy)]
+pub enum MemoryCall<'a> {
+    Raw(&'a str, &'a [u8]),
+    Logical(&'a str, &'a [u8]),
+    SetRaw(&'a str, &'a [u8], &'a [u8]),
+    /// By the origin of a handle; every byte is kept.
+    RetainWrite(usize, u64, &'a [u8]),
+    RetainResize(usize, u64),
+    ReserveCrash(usize, u64),
+    /// By the handle itself.
+    RetainCrashWrite(usize, u64, &'a [u8]),
+    RetainCrashResize(usize, u64),
+    Audit,
+    /// A snapshot is taken, and a store of it takes the store's place.
+    Rebuild,
+    /// The number of the incarnation that a handle was opened on.
+    Generation(usize),
+    NewOrigin,
+    CopiedOrigin(usize),
+}
 
 fn maybe(answer: Result<Option<Vec<u8>>, Error>) -> Reply {
     match answer {
@@ -34,17 +57,20 @@ fn set_raw(
     store: &mut Storage,
     partition: &str,
     name: &[u8],
-    bytes: Vec<u8>,
-) -> Reply {
+    bytes: &[u8],
+) -> Result<Reply> {
+    let bytes = Vec::from_slice(alloc, bytes)?;
     window::begin(alloc);
     let answer = store.set_raw_blob(partition, name, bytes);
     window::end(alloc);
-    done(answer)
+    Ok(done(answer))
 }
 
-fn origin_of(place: &Place<Storage>, handle: usize) -> Result<Origin, Error> {
-    let blob = place.blobs.get(handle).ok_or(Error::Closed)?;
-    blob.origin()
+fn origin_of(place: &Place<Storage>, handle: usize) -> Result<Origin> {
+    let Some(blob) = place.blobs.get(handle) else {
+        bail!("no handle {handle}");
+    };
+    Ok(blob.origin()?)
 }
 
 fn retain_write(
@@ -52,10 +78,10 @@ fn retain_write(
     place: &mut Place<Storage>,
     handle: usize,
     offset: u64,
-    bytes: Vec<u8>,
-) -> Result<Reply, Error> {
+    bytes: &[u8],
+) -> Result<Reply> {
     let origin = origin_of(place, handle)?;
-    let bytes = IoBufs::from_vec(bytes)?;
+    let bytes = IoBufs::from_vec(Vec::from_slice(alloc, bytes)?)?;
     let keep = Vec::from_elem(alloc, true, bytes.remaining())?;
     window::begin(alloc);
     let answer = place.store.retain_write(&origin, offset, &bytes, &keep);
@@ -68,11 +94,13 @@ fn retain_crash_write(
     place: &mut Place<Storage>,
     handle: usize,
     offset: u64,
-    bytes: Vec<u8>,
-) -> Result<Reply, Error> {
-    let bytes = IoBufs::from_vec(bytes)?;
+    bytes: &[u8],
+) -> Result<Reply> {
+    let bytes = IoBufs::from_vec(Vec::from_slice(alloc, bytes)?)?;
     let keep = Vec::from_elem(alloc, true, bytes.remaining())?;
-    let blob = place.blobs.get(handle).ok_or(Error::Closed)?;
+    let Some(blob) = place.blobs.get(handle) else {
+        bail!("no handle {handle}");
+    };
     window::begin(alloc);
     let answer = blob.retain_crash_write(&mut place.store, offset, &bytes, &keep);
     window::end(alloc);
@@ -84,7 +112,7 @@ fn retain_resize(
     place: &mut Place<Storage>,
     handle: usize,
     len: u64,
-) -> Result<Reply, Error> {
+) -> Result<Reply> {
     let origin = origin_of(place, handle)?;
     window::begin(alloc);
     let answer = place.store.retain_resize(&origin, len);
@@ -97,8 +125,10 @@ fn retain_crash_resize(
     place: &mut Place<Storage>,
     handle: usize,
     len: u64,
-) -> Result<Reply, Error> {
-    let blob = place.blobs.get(handle).ok_or(Error::Closed)?;
+) -> Result<Reply> {
+    let Some(blob) = place.blobs.get(handle) else {
+        bail!("no handle {handle}");
+    };
     window::begin(alloc);
     let answer = blob.retain_crash_resize(&mut place.store, len);
     window::end(alloc);
@@ -110,7 +140,7 @@ fn reserve_crash(
     place: &mut Place<Storage>,
     handle: usize,
     len: u64,
-) -> Result<Reply, Error> {
+) -> Result<Reply> {
     let origin = origin_of(place, handle)?;
     window::begin(alloc);
     let answer = place.store.reserve_crash(&origin, len);
@@ -154,62 +184,31 @@ fn made(answer: Result<Origin, AllocError>) -> Reply {
     }
 }
 
-fn set(alloc: Global, store: &mut Storage, words: [&str; 3]) -> Result<Reply, Error> {
-    let [partition, name, raw] = words;
-    let name = words::bytes(alloc, name)?;
-    let raw = words::bytes(alloc, raw)?;
-    Ok(set_raw(alloc, store, partition, &name, raw))
-}
-
-// What a crash retains, by the origin of a handle or by the handle itself; every byte is kept.
-fn retain(alloc: Global, place: &mut Place<Storage>, words: &[&str]) -> Result<Reply, Error> {
-    match words {
-        ["retain", handle, offset, bytes] => {
-            let (handle, offset) = (words::index(handle)?, words::number(offset)?);
-            retain_write(alloc, place, handle, offset, words::bytes(alloc, bytes)?)
+/// A call that the memory store alone has.
+pub fn perform(alloc: Global, place: &mut Place<Storage>, call: MemoryCall<'_>) -> Result<Reply> {
+    match call {
+        MemoryCall::Raw(partition, name) => Ok(raw(alloc, &place.store, partition, name)),
+        MemoryCall::Logical(partition, name) => Ok(logical(alloc, &place.store, partition, name)),
+        MemoryCall::SetRaw(partition, name, bytes) => {
+            set_raw(alloc, &mut place.store, partition, name, bytes)
         }
-        ["retainresize", handle, len] => {
-            retain_resize(alloc, place, words::index(handle)?, words::number(len)?)
+        MemoryCall::RetainWrite(handle, offset, bytes) => {
+            retain_write(alloc, place, handle, offset, bytes)
         }
-        ["reservecrash", handle, len] => {
-            reserve_crash(alloc, place, words::index(handle)?, words::number(len)?)
+        MemoryCall::RetainResize(handle, len) => retain_resize(alloc, place, handle, len),
+        MemoryCall::ReserveCrash(handle, len) => reserve_crash(alloc, place, handle, len),
+        MemoryCall::RetainCrashWrite(handle, offset, bytes) => {
+            retain_crash_write(alloc, place, handle, offset, bytes)
         }
-        ["retaincrash", handle, offset, bytes] => {
-            let (handle, offset) = (words::index(handle)?, words::number(offset)?);
-            retain_crash_write(alloc, place, handle, offset, words::bytes(alloc, bytes)?)
+        MemoryCall::RetainCrashResize(handle, len) => {
+            retain_crash_resize(alloc, place, handle, len)
         }
-        ["retaincrashresize", handle, len] => {
-            retain_crash_resize(alloc, place, words::index(handle)?, words::number(len)?)
+        MemoryCall::Audit => Ok(audit(alloc, &place.store)),
+        MemoryCall::Rebuild => Ok(rebuild(alloc, &mut place.store)),
+        MemoryCall::NewOrigin => Ok(new_origin(alloc)),
+        MemoryCall::CopiedOrigin(handle) => Ok(copied_origin(alloc, &origin_of(place, handle)?)),
+        MemoryCall::Generation(handle) => {
+            Ok(Reply::Size(origin_of(place, handle)?.generation()))
         }
-        _ => place.more(alloc, words),
-    }
-}
-
-/// A call that the memory store alone has. Handles go by their place in the list of opens.
-pub fn more(alloc: Global, place: &mut Place<Storage>, words: &[&str]) -> Result<Reply, Error> {
-    match words {
-        ["raw", partition, name] => {
-            let name = words::bytes(alloc, name)?;
-            Ok(raw(alloc, &place.store, partition, &name))
-        }
-        ["logical", partition, name] => {
-            let name = words::bytes(alloc, name)?;
-            Ok(logical(alloc, &place.store, partition, &name))
-        }
-        ["setraw", partition, name, raw] => {
-            set(alloc, &mut place.store, [*partition, *name, *raw])
-        }
-        ["audit"] => Ok(audit(alloc, &place.store)),
-        ["rebuild"] => Ok(rebuild(alloc, &mut place.store)),
-        ["neworigin"] => Ok(new_origin(alloc)),
-        ["copiedorigin", handle] => {
-            let origin = origin_of(place, words::index(handle)?)?;
-            Ok(copied_origin(alloc, &origin))
-        }
-        ["generation", handle] => {
-            let origin = origin_of(place, words::index(handle)?)?;
-            Ok(Reply::Size(origin.generation()))
-        }
-        _ => retain(alloc, place, words),
     }
 }

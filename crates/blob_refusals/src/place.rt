@@ -1,6 +1,7 @@
 //! A store with its handles, and a script's calls over it.
 
-use crate::{window, words};
+use crate::window;
+use anyhow::Result;
 use blob_base::{
     Blob, BlobVersion, Durable, Error, Handle, IoBufs, IoBufsMut, ReadOptions, Storage,
     WriteOptions,
@@ -15,6 +16,17 @@ pub struct Place<S: Storage + Drop> {
     pub store: S,
     pub blobs: Vec<S::Blob>,
     pub started: Option<Handle>,
+}
+
+/// What a script has no line for, through a handle.
+#[derive(Clone, Copy)]
+pub enum More {
+    /// Up to 16 bytes from an offset, into a buffer that has room for them.
+    ReadInto(u64, usize),
+    Reserve(u64),
+    Origin,
+    /// All live bytes.
+    Live,
 }
 
 /// The answer to a call that has nothing to tell.
@@ -52,7 +64,7 @@ fn write<S: Durable, B: Blob<S>>(
     offset: u64,
     bytes: &[u8],
     sync: bool,
-) -> Result<Reply, Error> {
+) -> Result<Reply> {
     let bytes = IoBufs::from_vec(Vec::from_slice(alloc, bytes)?)?;
     let options = if sync {
         WriteOptions::SYNC
@@ -85,7 +97,7 @@ pub fn ask<S: Durable, B: Blob<S>>(
     store: &mut S,
     blob: &mut B,
     call: &Call,
-) -> Result<Reply, Error> {
+) -> Result<Reply> {
     match call {
         Call::Read { offset, len, .. } => Ok(read(alloc, store, blob, *offset, *len)),
         Call::Write {
@@ -114,7 +126,7 @@ fn read_into<S: Durable, B: Blob<S>>(
     blob: &B,
     offset: u64,
     len: usize,
-) -> Result<Reply, Error> {
+) -> Result<Reply> {
     let buf = IoBufsMut::with_capacity(alloc, 16)?;
     let len = len.min(16);
     window::begin(alloc);
@@ -141,7 +153,7 @@ fn origin<S: Durable, B: Blob<S>>(alloc: Global, store: &S, blob: &B) -> Reply {
 }
 
 // The greatest length that can be read from the start, below 32 KiB.
-fn live<S: Durable, B: Blob<S>>(store: &mut S, blob: &B) -> Result<Reply, Error> {
+fn live<S: Durable, B: Blob<S>>(store: &mut S, blob: &B) -> Result<Reply> {
     let mut len: usize = 0;
     for bit in 0..15u32 {
         let longer = len | (1usize << (14 - bit));
@@ -155,30 +167,18 @@ fn live<S: Durable, B: Blob<S>>(store: &mut S, blob: &B) -> Result<Reply, Error>
     Ok(Reply::Bytes(bytes.coalesce()))
 }
 
-/// What a script has no line for, through a handle: `into` reads up to 16 bytes into a buffer that has room for them.
+/// What a script has no line for.
 pub fn ask_more<S: Durable, B: Blob<S>>(
     alloc: Global,
     store: &mut S,
     blob: &mut B,
-    words: &[&str],
-) -> Result<Reply, Error> {
-    match words {
-        ["into", _, offset, len] => {
-            let (offset, len) = (words::number(offset)?, words::index(len)?);
-            read_into(alloc, store, blob, offset, len)
-        }
-        ["reserve", _, end] => Ok(reserve(alloc, store, blob, words::number(end)?)),
-        ["origin", _] => Ok(origin(alloc, store, blob)),
-        ["live", _] => live(store, blob),
-        _ => Err(Error::Closed),
-    }
-}
-
-/// The handle that a call of `ask_more` names.
-pub fn handle_of(words: &[&str]) -> Result<usize, Error> {
-    match words {
-        [_, handle, ..] => words::index(handle),
-        _ => Err(Error::Closed),
+    more: More,
+) -> Result<Reply> {
+    match more {
+        More::ReadInto(offset, len) => read_into(alloc, store, blob, offset, len),
+        More::Reserve(end) => Ok(reserve(alloc, store, blob, end)),
+        More::Origin => Ok(origin(alloc, store, blob)),
+        More::Live => live(store, blob),
     }
 }
 
@@ -198,7 +198,7 @@ impl<S: Storage + Drop> Place<S> {
         partition: &str,
         name: &[u8],
         versions: &RangeInclusive<BlobVersion>,
-    ) -> Result<Reply, Error> {
+    ) -> Result<Reply> {
         if versions.is_empty() {
             return Ok(Reply::EmptyRange);
         }
@@ -220,8 +220,8 @@ impl<S: Storage + Drop> Place<S> {
         }
     }
 
-    // The trait's own open, for the default version.
-    fn open_default(&mut self, alloc: Global, partition: &str, name: &[u8]) -> Reply {
+    /// The trait's own open, for the default version.
+    pub fn open_default(&mut self, alloc: Global, partition: &str, name: &[u8]) -> Reply {
         window::begin(alloc);
         let answer = self.store.open(partition, name);
         window::end(alloc);
@@ -271,7 +271,7 @@ impl<S: Storage + Drop> Place<S> {
     }
 
     /// A call of a script. Its opens are the store's own, and `finish` is of the sync that was started last.
-    pub fn perform(&mut self, alloc: Global, call: &Call) -> Result<Reply, Error> {
+    pub fn perform(&mut self, alloc: Global, call: &Call) -> Result<Reply> {
         match call {
             Call::Open {
                 partition,
@@ -293,21 +293,17 @@ impl<S: Storage + Drop> Place<S> {
         }
     }
 
-    fn ask(&mut self, alloc: Global, handle: usize, call: &Call) -> Result<Reply, Error> {
+    fn ask(&mut self, alloc: Global, handle: usize, call: &Call) -> Result<Reply> {
         match self.blobs.get_mut(handle) {
             Some(blob) => ask(alloc, &mut self.store, blob, call),
             None => Ok(Reply::NoHandle),
         }
     }
 
-    /// What a script has no line for: the trait's own open, or a call through a handle.
-    pub fn more(&mut self, alloc: Global, words: &[&str]) -> Result<Reply, Error> {
-        if let ["default", partition, name] = words {
-            let name = words::bytes(alloc, name)?;
-            return Ok(self.open_default(alloc, partition, &name));
-        }
-        match self.blobs.get_mut(handle_of(words)?) {
-            Some(blob) => ask_more(alloc, &mut self.store, blob, words),
+    /// What a script has no line for, through a handle.
+    pub fn more(&mut self, alloc: Global, handle: usize, asked: More) -> Result<Reply> {
+        match self.blobs.get_mut(handle) {
+            Some(blob) => ask_more(alloc, &mut self.store, blob, asked),
             None => Ok(Reply::NoHandle),
         }
     }

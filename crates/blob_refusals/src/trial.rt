@@ -1,8 +1,9 @@
 //! One call, made while requests for memory are refused, beside a world where it isn't made.
 
-use crate::table::{section, step_of};
+use crate::cases::Case;
+use crate::prepared::{CRASHES, DEBTS, FILES, KEPT, LOST, RESIZES, SHOWN, TOLD, WRITES};
 use crate::window;
-use crate::world::World;
+use crate::world::{Step, World};
 use anyhow::{Result, ensure};
 use blob_base::Error;
 use blob_lab::Reply;
@@ -18,20 +19,54 @@ pub struct Tally {
     pub compared: u32,
 }
 
-/// The table by which calls are tried.
+// What is done after a refusal.
 #[derive(Clone, Copy)]
-pub struct Trial<'a> {
-    pub alloc: Global,
-    pub text: &'a str,
+enum After {
+    Crash,
+    CallAgain,
 }
 
-// How a call is tried.
-#[derive(Clone, Copy)]
-struct Way {
-    // Whether a crash keeps all of the pending writes, or nothing.
-    is_kept: bool,
-    // After a refusal both worlds crash, or else the call is made again.
-    crashes: bool,
+fn line_of(alloc: Global, reply: &Reply) -> Result<String> {
+    let mut line = String::new(alloc);
+    print_reply(reply, &mut line)?;
+    Ok(line)
+}
+
+// Makes a call, and checks its answer.
+fn make(alloc: Global, world: &mut World, step: &Step, answer: &str) -> Result<()> {
+    let reply = world.perform(step)?;
+    let line = line_of(alloc, &reply)?;
+    ensure!(line.as_str() == answer, "{line} in place of {answer}");
+    Ok(())
+}
+
+fn make_all(alloc: Global, world: &mut World, rows: &[(Step, &str)]) -> Result<()> {
+    for (step, answer) in rows {
+        make(alloc, world, step, *answer)?;
+    }
+    Ok(())
+}
+
+fn prepare(alloc: Global, world: &mut World, case: &Case, is_kept: bool) -> Result<()> {
+    make_all(alloc, world, &FILES)?;
+    make_all(alloc, world, &RESIZES)?;
+    make_all(alloc, world, if is_kept { &KEPT } else { &LOST })?;
+    make_all(alloc, world, &WRITES)?;
+    make_all(alloc, world, &DEBTS)?;
+    for step in case.before {
+        world.perform(step)?;
+    }
+    Ok(())
+}
+
+// Makes calls in both worlds, which have to answer the same.
+fn compare(alloc: Global, worlds: &mut Worlds, steps: &[Step]) -> Result<()> {
+    for step in steps {
+        let found = line_of(alloc, &worlds.tried.perform(step)?)?;
+        let wanted = line_of(alloc, &worlds.spared.perform(step)?)?;
+        ensure!(found == wanted, "{found} in place of {wanted}");
+    }
+    Ok(())
 }
 
 // The world whose call is refused memory, and the other.
@@ -41,7 +76,7 @@ struct Worlds {
 }
 
 impl Worlds {
-    fn new(alloc: Global) -> Result<Worlds, Error> {
+    fn new(alloc: Global) -> Result<Worlds> {
         let tried = World::new(alloc)?;
         match World::new(alloc) {
             Ok(spared) => Ok(Worlds { tried, spared }),
@@ -59,139 +94,83 @@ impl Worlds {
     }
 }
 
-fn line_of(alloc: Global, reply: &Reply) -> Result<String> {
-    let mut line = String::new(alloc);
-    print_reply(reply, &mut line)?;
-    Ok(line)
+// The refused call left no trace: a crash of both worlds keeps the same, or all that they show is the same, and the call with
+// memory answers as it is to and leaves the same.
+fn follow(
+    alloc: Global,
+    worlds: &mut Worlds,
+    case: &Case,
+    answer: &str,
+    after: After,
+) -> Result<u32> {
+    match after {
+        After::Crash => {
+            compare(alloc, worlds, &CRASHES)?;
+            compare(alloc, worlds, &SHOWN)?;
+            compare(alloc, worlds, &TOLD)?;
+            Ok(3)
+        }
+        After::CallAgain => {
+            compare(alloc, worlds, &SHOWN)?;
+            make(alloc, &mut worlds.tried, &case.call, answer)?;
+            make(alloc, &mut worlds.spared, &case.call, answer)?;
+            compare(alloc, worlds, &SHOWN)?;
+            compare(alloc, worlds, &CRASHES)?;
+            compare(alloc, worlds, &SHOWN)?;
+            Ok(4)
+        }
+    }
 }
 
-// Makes a call, and checks its answer where there is one.
-fn make(alloc: Global, world: &mut World, step: &str, answer: &str) -> Result<()> {
-    let reply = world.perform(step)?;
-    let found = line_of(alloc, &reply)?;
-    ensure!(
-        answer.is_empty() || found.as_str() == answer,
-        "{found} in place of {answer}"
-    );
-    Ok(())
+// One trial, and how often it compared where the call was refused memory.
+fn try_in(
+    alloc: Global,
+    worlds: &mut Worlds,
+    case: &Case,
+    is_kept: bool,
+    after: After,
+) -> Result<Option<u32>> {
+    let answer = if is_kept { case.answer } else { case.lost };
+    prepare(alloc, &mut worlds.tried, case, is_kept)?;
+    prepare(alloc, &mut worlds.spared, case, is_kept)?;
+    window::arm(alloc);
+    let reply = worlds.tried.perform(&case.call)?;
+    let was_refused = window::was_refused(alloc);
+    let line = line_of(alloc, &reply)?;
+    if !was_refused {
+        ensure!(line.as_str() == answer, "{line} in place of {answer}");
+        return Ok(None);
+    }
+    ensure!(case.grows, "the call asks for memory");
+    let is_memory = matches!(&reply, Reply::Failed(Error::Memory(_)));
+    ensure!(is_memory, "{line} after a refusal");
+    Ok(Some(follow(alloc, worlds, case, answer, after)?))
 }
 
-impl Trial<'_> {
-    /// Of a table's text.
-    pub fn new(alloc: Global, text: &str) -> Trial<'_> {
-        Trial { alloc, text }
-    }
+fn try_once(alloc: Global, case: &Case, is_kept: bool, after: After) -> Result<Option<u32>> {
+    let mut worlds = Worlds::new(alloc)?;
+    let outcome = try_in(alloc, &mut worlds, case, is_kept, after);
+    worlds.end();
+    outcome
+}
 
-    fn make_all(&self, world: &mut World, name: &str) -> Result<()> {
-        for line in section(self.alloc, self.text, name)? {
-            let (step, answer) = step_of(line);
-            make(self.alloc, world, step, answer)?;
+/// Tries a call where a crash keeps all of the pending writes, and where it keeps nothing.
+pub fn try_case(alloc: Global, case: &Case) -> Result<Tally> {
+    let trials = [
+        (true, After::Crash),
+        (true, After::CallAgain),
+        (false, After::Crash),
+        (false, After::CallAgain),
+    ];
+    let mut tally = Tally {
+        refused: 0,
+        compared: 0,
+    };
+    for (is_kept, after) in trials {
+        if let Some(compared) = try_once(alloc, case, is_kept, after)? {
+            tally.refused = tally.refused.saturating_add(1);
+            tally.compared = tally.compared.saturating_add(compared);
         }
-        Ok(())
     }
-
-    // All that comes before the call.
-    fn prepare(&self, world: &mut World, before: &[&str], way: Way) -> Result<()> {
-        self.make_all(world, "files")?;
-        self.make_all(world, "resizes")?;
-        self.make_all(world, if way.is_kept { "kept" } else { "lost" })?;
-        self.make_all(world, "writes")?;
-        self.make_all(world, "debts")?;
-        for step in before {
-            make(self.alloc, world, step, "")?;
-        }
-        Ok(())
-    }
-
-    // Makes calls in both worlds, which have to answer the same.
-    fn compare(&self, worlds: &mut Worlds, name: &str) -> Result<()> {
-        for step in section(self.alloc, self.text, name)? {
-            let found = line_of(self.alloc, &worlds.tried.perform(step)?)?;
-            let wanted = line_of(self.alloc, &worlds.spared.perform(step)?)?;
-            ensure!(found == wanted, "{found} in place of {wanted}");
-        }
-        Ok(())
-    }
-
-    // The refused call left no trace: a crash of both worlds keeps the same, or all that they show is the same, and the call
-    // with memory answers as it is to and leaves the same. Answers how often they were compared.
-    fn follow(
-        &self,
-        worlds: &mut Worlds,
-        (step, answer): (&str, &str),
-        crashes: bool,
-    ) -> Result<u32> {
-        if crashes {
-            self.compare(worlds, "crashes")?;
-            self.compare(worlds, "shown")?;
-            self.compare(worlds, "told")?;
-            return Ok(3);
-        }
-        self.compare(worlds, "shown")?;
-        make(self.alloc, &mut worlds.tried, step, answer)?;
-        make(self.alloc, &mut worlds.spared, step, answer)?;
-        self.compare(worlds, "shown")?;
-        self.compare(worlds, "crashes")?;
-        self.compare(worlds, "shown")?;
-        Ok(4)
-    }
-
-    // One trial, and how often it compared where the call was refused memory.
-    fn try_in(
-        &self,
-        worlds: &mut Worlds,
-        (before, call): (&[&str], &str),
-        grows: bool,
-        way: Way,
-    ) -> Result<Option<u32>> {
-        self.prepare(&mut worlds.tried, before, way)?;
-        self.prepare(&mut worlds.spared, before, way)?;
-        let (step, mut answer) = step_of(call);
-        // Where nothing is kept, a crash of what is pending has no row.
-        if !way.is_kept && answer.starts_with("crashed") {
-            answer = "crashed";
-        }
-        window::arm(self.alloc);
-        let reply = worlds.tried.perform(step)?;
-        let was_refused = window::was_refused(self.alloc);
-        let line = line_of(self.alloc, &reply)?;
-        if !was_refused {
-            ensure!(line.as_str() == answer, "{line} in place of {answer}");
-            return Ok(None);
-        }
-        ensure!(grows, "the call asks for memory");
-        let is_memory = matches!(&reply, Reply::Failed(Error::Memory(_)));
-        ensure!(is_memory, "{line} after a refusal");
-        Ok(Some(self.follow(worlds, (step, answer), way.crashes)?))
-    }
-
-    fn try_once(&self, steps: &[&str], grows: bool, way: Way) -> Result<Option<u32>> {
-        let Some((call, before)) = steps.split_last() else {
-            return Ok(None);
-        };
-        let mut worlds = Worlds::new(self.alloc)?;
-        let outcome = self.try_in(&mut worlds, (before, call), grows, way);
-        worlds.end();
-        outcome
-    }
-
-    /// Tries a call where a crash keeps all of the pending writes, and where it keeps nothing.
-    pub fn try_case(&self, steps: &str, grows: bool) -> Result<Tally> {
-        let mut tally = Tally {
-            refused: 0,
-            compared: 0,
-        };
-        let all: Vec<&str> = steps.split(" | ").collect(self.alloc)?;
-        for number in 0..4u8 {
-            let way = Way {
-                is_kept: number < 2,
-                crashes: number % 2 == 0,
-            };
-            if let Some(compared) = self.try_once(&all, grows, way)? {
-                tally.refused = tally.refused.saturating_add(1);
-                tally.compared = tally.compared.saturating_add(compared);
-            }
-        }
-        Ok(tally)
-    }
+    Ok(tally)
 }

@@ -1,7 +1,7 @@
 //! Calls of values: buffers, headers and names.
 
-use crate::place::done;
-use crate::{window, words};
+use crate::window;
+use anyhow::Result;
 use blob_base::{
     BlobVersion, Error, Header, HeaderError, IoBufs, IoBufsMut, Layout, resolve,
     validate_partition_name,
@@ -9,17 +9,33 @@ use blob_base::{
 use blob_lab::Reply;
 use std::alloc::Global;
 
+/// A call that goes by values alone, but for `Push`.
+#[derive(Clone, Copy)]
+pub enum ValueCall<'a> {
+    FromVec,
+    /// On the list of four pieces that is kept.
+    Push,
+    /// The bytes of the list that is kept.
+    Pieces,
+    Coalesce,
+    Copied,
+    Buffer,
+    Create,
+    IntoError,
+    Resolve(&'a [u8]),
+    PartitionName(&'a str),
+}
+
 /// A list of four pieces.
-pub fn pieces(alloc: Global) -> Result<IoBufs, Error> {
+pub fn pieces(alloc: Global) -> Result<IoBufs> {
     let mut bufs = IoBufs::new(alloc);
     for byte in 0..4u8 {
-        let piece = Vec::from_elem(alloc, byte, 2)?;
-        bufs.push(piece)?;
+        bufs.push(Vec::from_elem(alloc, byte, 2)?)?;
     }
     Ok(bufs)
 }
 
-fn made(answer: Result<IoBufs, Error>) -> Reply {
+fn done<T: Drop>(answer: Result<T, Error>) -> Reply {
     match answer {
         Ok(_) => Reply::Done,
         Err(e) => Reply::Failed(e),
@@ -33,15 +49,15 @@ fn bytes_of(answer: Result<Vec<u8>, Error>) -> Reply {
     }
 }
 
-fn from_vec(alloc: Global) -> Result<Reply, Error> {
+fn from_vec(alloc: Global) -> Result<Reply> {
     let bytes = Vec::from_slice(alloc, b"ab")?;
     window::begin(alloc);
     let answer = IoBufs::from_vec(bytes);
     window::end(alloc);
-    Ok(made(answer))
+    Ok(done(answer))
 }
 
-fn push(alloc: Global, bufs: &mut IoBufs) -> Result<Reply, Error> {
+fn push(alloc: Global, bufs: &mut IoBufs) -> Result<Reply> {
     let bytes = Vec::from_slice(alloc, b"ab")?;
     window::begin(alloc);
     let answer = bufs.push(bytes);
@@ -49,7 +65,7 @@ fn push(alloc: Global, bufs: &mut IoBufs) -> Result<Reply, Error> {
     Ok(done(answer))
 }
 
-fn coalesce(alloc: Global) -> Result<Reply, Error> {
+fn coalesce(alloc: Global) -> Result<Reply> {
     let bufs = pieces(alloc)?;
     window::begin(alloc);
     let answer = bufs.coalesce();
@@ -61,17 +77,14 @@ fn copied(alloc: Global, bufs: &IoBufs) -> Reply {
     window::begin(alloc);
     let answer = bufs.copied();
     window::end(alloc);
-    made(answer)
+    done(answer)
 }
 
 fn buffer(alloc: Global) -> Reply {
     window::begin(alloc);
     let answer = IoBufsMut::with_capacity(alloc, 100);
     window::end(alloc);
-    match answer {
-        Ok(_) => Reply::Done,
-        Err(e) => Reply::Failed(e),
-    }
+    done(answer)
 }
 
 fn create(alloc: Global) -> Reply {
@@ -113,19 +126,18 @@ fn partition_name(alloc: Global, partition: &str) -> Reply {
     done(answer)
 }
 
-/// Makes a call that goes by values alone; `kept` is the list of four pieces.
-pub fn perform(alloc: Global, kept: &mut IoBufs, words: &[&str]) -> Result<Reply, Error> {
-    match words {
-        ["fromvec"] => from_vec(alloc),
-        ["push"] => push(alloc, kept),
-        ["pieces"] => Ok(bytes_of(kept.copied()?.coalesce())),
-        ["coalesce"] => coalesce(alloc),
-        ["copied"] => Ok(copied(alloc, kept)),
-        ["buffer"] => Ok(buffer(alloc)),
-        ["create"] => Ok(create(alloc)),
-        ["intoerror"] => Ok(into_error(alloc)),
-        ["resolve", raw] => Ok(resolved(alloc, &words::bytes(alloc, raw)?)),
-        ["partition", partition] => Ok(partition_name(alloc, partition)),
-        _ => Err(Error::Closed),
+/// Makes a call; `kept` is the list of four pieces.
+pub fn perform(alloc: Global, kept: &mut IoBufs, call: ValueCall<'_>) -> Result<Reply> {
+    match call {
+        ValueCall::FromVec => from_vec(alloc),
+        ValueCall::Push => push(alloc, kept),
+        ValueCall::Pieces => Ok(bytes_of(kept.copied()?.coalesce())),
+        ValueCall::Coalesce => coalesce(alloc),
+        ValueCall::Copied => Ok(copied(alloc, kept)),
+        ValueCall::Buffer => Ok(buffer(alloc)),
+        ValueCall::Create => Ok(create(alloc)),
+        ValueCall::IntoError => Ok(into_error(alloc)),
+        ValueCall::Resolve(raw) => Ok(resolved(alloc, raw)),
+        ValueCall::PartitionName(partition) => Ok(partition_name(alloc, partition)),
     }
 }

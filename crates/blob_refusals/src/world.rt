@@ -1,16 +1,52 @@
 //! All that the calls are made on.
 
-use crate::debts::Debts;
+use crate::debts::{DebtCall, Debts};
 use crate::exclusive::Exclusive;
-use crate::place::Place;
-use crate::{lines, memory_calls, values, window, words, wrapper_calls};
-use blob_base::{Error, IoBufs};
+use crate::memory_calls::{self, MemoryCall};
+use crate::place::{More, Place};
+use crate::values::{self, ValueCall};
+use crate::wrapper_calls::{self, WrapperCall};
+use crate::{lines, window};
+use anyhow::{Result, bail};
+use blob_base::IoBufs;
 use blob_faulty::Config;
 use blob_lab::lab::Wrapper;
-use blob_lab::script::{Line, RefusedLine, Setting, read_line};
+use blob_lab::script::{Line, Setting, read_line};
 use blob_lab::{Call, Lab, Reply, ScriptedRng};
 use blob_memory::Storage as Memory;
-use std::alloc::{AllocError, Global};
+use std::alloc::Global;
+
+/// One call. A text is the line of a script.
+#[derive(Clone, Copy)]
+pub enum Step<'a> {
+    Value(ValueCall<'a>),
+    Memory(&'a str),
+    MemoryMore(usize, More),
+    MemoryOwn(MemoryCall<'a>),
+    /// The trait's own open.
+    MemoryOpen(&'a str, &'a [u8]),
+    Wrapper(&'a str),
+    WrapperMore(usize, More),
+    WrapperOwn(WrapperCall<'a>),
+    WrapperOpen(&'a str, &'a [u8]),
+    Exclusive(&'a str),
+    ExclusiveMore(usize, More),
+    Replace(&'a str, &'a [u8]),
+    Debt(DebtCall<'a>),
+    Lab(&'a str),
+    /// All live bytes of a handle of the laboratory.
+    LabLive(usize),
+    /// The raw bytes in the laboratory's store.
+    LabRaw(&'a str, &'a [u8]),
+    /// A line is read.
+    ReadLine(&'a str),
+    /// A reply is printed.
+    PrintReply,
+    /// Two calls that take no memory, as one list.
+    LabRun,
+    LabNew,
+    LabEnd,
+}
 
 /// The stores and registries of every layer.
 pub struct World {
@@ -25,7 +61,7 @@ pub struct World {
 }
 
 // Words by which every second draw of a rate of one half is true, from the second on.
-fn words(alloc: Global) -> Result<Vec<u64>, Error> {
+fn words(alloc: Global) -> Result<Vec<u64>> {
     let mut words = Vec::with_capacity(alloc, 64)?;
     for _ in 0..32u32 {
         words.push(u64::MAX)?;
@@ -34,31 +70,29 @@ fn words(alloc: Global) -> Result<Vec<u64>, Error> {
     Ok(words)
 }
 
-fn new_lab(alloc: Global) -> Result<Lab, Error> {
+fn new_lab(alloc: Global) -> Result<Lab> {
     let words = words(alloc)?;
     Ok(Lab::new(Vec::new(alloc), words, Config::default())?)
 }
 
-// A line of a script, a setting of one, or words that no script has.
-enum Asked<'a> {
-    Call(Call),
-    Setting(Setting),
-    Words(Vec<&'a str>),
+fn call_of(alloc: Global, line: &str) -> Result<Call> {
+    match read_line(alloc, line.as_bytes()) {
+        Ok(Line::Call(call)) => Ok(call),
+        _ => bail!("no call: {line}"),
+    }
 }
 
-fn read(alloc: Global, line: &str) -> Result<Asked<'_>, Error> {
-    match read_line(alloc, line.as_bytes()) {
-        Ok(Line::Call(call)) => Ok(Asked::Call(call)),
-        Ok(Line::Configure(setting)) => Ok(Asked::Setting(setting)),
-        Ok(_) => Err(Error::Closed),
-        Err(RefusedLine::NoMemory) => Err(Error::Memory(AllocError)),
-        Err(RefusedLine::BadCall) => Ok(Asked::Words(line.split(' ').collect(alloc)?)),
+fn setting_of(alloc: Global, line: &str) -> Option<Setting> {
+    let read = read_line(alloc, line.as_bytes());
+    match &read {
+        Ok(Line::Configure(setting)) => Some(*setting),
+        _ => None,
     }
 }
 
 impl World {
     /// Empty stores and registries, and a list of four pieces.
-    pub fn new(alloc: Global) -> Result<World, Error> {
+    pub fn new(alloc: Global) -> Result<World> {
         let bufs = values::pieces(alloc)?;
         let rng = ScriptedRng::new(words(alloc)?);
         let memory = Memory::new(alloc);
@@ -93,62 +127,34 @@ impl World {
         lab.end();
     }
 
-    fn memory(&mut self, line: &str) -> Result<Reply, Error> {
-        match read(self.alloc, line)? {
-            Asked::Call(call) => self.memory.perform(self.alloc, &call),
-            Asked::Setting(_) => Err(Error::Closed),
-            Asked::Words(words) => memory_calls::more(self.alloc, &mut self.memory, &words),
+    fn wrapper(&mut self, line: &str) -> Result<Reply> {
+        if let Some(setting) = setting_of(self.alloc, line) {
+            let wrapper = &mut self.wrapper.store;
+            return Ok(wrapper_calls::configure(self.alloc, wrapper, setting));
         }
+        let call = call_of(self.alloc, line)?;
+        wrapper_calls::perform(self.alloc, &mut self.wrapper, &call)
     }
 
-    fn wrapper(&mut self, line: &str) -> Result<Reply, Error> {
-        match read(self.alloc, line)? {
-            Asked::Call(call) => wrapper_calls::perform(self.alloc, &mut self.wrapper, &call),
-            Asked::Setting(setting) => {
-                let wrapper = &mut self.wrapper.store;
-                Ok(wrapper_calls::configure(self.alloc, wrapper, setting))
-            }
-            Asked::Words(words) => wrapper_calls::more(self.alloc, &mut self.wrapper, &words),
-        }
-    }
-
-    fn exclusive(&mut self, line: &str) -> Result<Reply, Error> {
+    fn exclusive(&mut self, line: &str) -> Result<Reply> {
+        let call = call_of(self.alloc, line)?;
         let wrapper = &mut self.wrapper.store;
-        match read(self.alloc, line)? {
-            Asked::Call(call) => self.exclusive.perform(self.alloc, wrapper, &call),
-            Asked::Setting(_) => Err(Error::Closed),
-            Asked::Words(words) => self.exclusive.more(self.alloc, wrapper, &words),
-        }
+        self.exclusive.perform(self.alloc, wrapper, &call)
     }
 
-    fn lab(&mut self, line: &str) -> Result<Reply, Error> {
-        let call = match read(self.alloc, line)? {
-            Asked::Call(call) => call,
-            Asked::Setting(setting) => {
+    fn lab(&mut self, line: &str) -> Result<Reply> {
+        let call = match setting_of(self.alloc, line) {
+            Some(setting) => {
                 let config = setting.apply(std::mem::take(&mut self.lab_config));
                 self.lab_config = config.clone()?;
                 Call::Configure(config)
             }
-            Asked::Words(words) => return self.lab_more(&words),
+            None => call_of(self.alloc, line)?,
         };
         window::begin(self.alloc);
         let reply = self.lab.apply(&call);
         window::end(self.alloc);
         Ok(reply)
-    }
-
-    // What a script has no line for.
-    fn lab_more(&mut self, words: &[&str]) -> Result<Reply, Error> {
-        match words {
-            ["live", handle] => Ok(self.lab_live(words::index(handle)?)),
-            ["raw", partition, name] => {
-                self.lab_raw(partition, &words::bytes(self.alloc, name)?)
-            }
-            ["run"] => self.lab_run(),
-            ["new"] => self.lab_new(),
-            ["end"] => self.lab_end(),
-            _ => Err(Error::Closed),
-        }
     }
 
     // The greatest length that can be read from the start, below 32 KiB.
@@ -172,14 +178,14 @@ impl World {
         })
     }
 
-    fn lab_raw(&self, partition: &str, name: &[u8]) -> Result<Reply, Error> {
+    fn lab_raw(&self, partition: &str, name: &[u8]) -> Result<Reply> {
         match self.lab.wrapper().inner().raw_blob(partition, name)? {
             Some(bytes) => Ok(Reply::Bytes(bytes)),
             None => Ok(Reply::NoHandle),
         }
     }
 
-    fn lab_run(&mut self) -> Result<Reply, Error> {
+    fn lab_run(&mut self) -> Result<Reply> {
         let mut calls = Vec::with_capacity(self.alloc, 2)?;
         calls.push(Call::Close(0))?;
         calls.push(Call::Size(1))?;
@@ -192,7 +198,7 @@ impl World {
         })
     }
 
-    fn lab_new(&mut self) -> Result<Reply, Error> {
+    fn lab_new(&mut self) -> Result<Reply> {
         let mut images = Vec::with_capacity(self.alloc, 1)?;
         let partition = String::from_str(self.alloc, "p")?;
         let name = Vec::from_slice(self.alloc, b"b")?;
@@ -211,7 +217,7 @@ impl World {
         })
     }
 
-    fn lab_end(&mut self) -> Result<Reply, Error> {
+    fn lab_end(&mut self) -> Result<Reply> {
         let mut lab = new_lab(self.alloc)?;
         std::mem::swap(&mut self.lab, &mut lab);
         window::begin(self.alloc);
@@ -220,33 +226,50 @@ impl World {
         Ok(Reply::Done)
     }
 
-    // A line that is read, or a reply that is printed.
-    fn line(&self, line: &str) -> Result<Reply, Error> {
-        match line.split_once(' ') {
-            Some(("read", line)) => Ok(lines::read(self.alloc, line)),
-            _ => lines::print(self.alloc),
+    /// Makes a call.
+    pub fn perform(&mut self, step: &Step<'_>) -> Result<Reply> {
+        match *step {
+            Step::Value(call) => values::perform(self.alloc, &mut self.bufs, call),
+            Step::Memory(line) => {
+                let call = call_of(self.alloc, line)?;
+                self.memory.perform(self.alloc, &call)
+            }
+            Step::MemoryMore(handle, more) => self.memory.more(self.alloc, handle, more),
+            Step::MemoryOwn(call) => memory_calls::perform(self.alloc, &mut self.memory, call),
+            Step::MemoryOpen(partition, name) => {
+                Ok(self.memory.open_default(self.alloc, partition, name))
+            }
+            Step::Wrapper(line) => self.wrapper(line),
+            Step::WrapperMore(handle, more) => self.wrapper.more(self.alloc, handle, more),
+            Step::WrapperOwn(call) => wrapper_calls::more(self.alloc, &mut self.wrapper, call),
+            Step::WrapperOpen(partition, name) => {
+                Ok(self.wrapper.open_default(self.alloc, partition, name))
+            }
+            _ => self.perform_above(step),
         }
     }
 
-    /// Makes the call of a step: the layer that it is made on, and the line of a script, or words that no script has.
-    pub fn perform(&mut self, step: &str) -> Result<Reply, Error> {
-        let (layer, line) = step.split_once(' ').ok_or(Error::Closed)?;
-        match layer {
-            "memory" => self.memory(line),
-            "wrapper" => self.wrapper(line),
-            "exclusive" => self.exclusive(line),
-            "lab" => self.lab(line),
-            "line" => self.line(line),
-            _ => self.perform_words(layer, line),
-        }
-    }
-
-    fn perform_words(&mut self, layer: &str, line: &str) -> Result<Reply, Error> {
-        let words: Vec<&str> = line.split(' ').collect(self.alloc)?;
-        match layer {
-            "value" => values::perform(self.alloc, &mut self.bufs, &words),
-            "debt" => self.debts.perform(&words),
-            _ => Err(Error::Closed),
+    // The calls of the laboratory's crate.
+    fn perform_above(&mut self, step: &Step<'_>) -> Result<Reply> {
+        match *step {
+            Step::Exclusive(line) => self.exclusive(line),
+            Step::ExclusiveMore(handle, more) => {
+                let wrapper = &mut self.wrapper.store;
+                self.exclusive.more(self.alloc, wrapper, handle, more)
+            }
+            Step::Replace(partition, name) => {
+                Ok(self.exclusive.replace(self.alloc, partition, name))
+            }
+            Step::Debt(call) => Ok(self.debts.perform(call)?),
+            Step::Lab(line) => self.lab(line),
+            Step::LabLive(handle) => Ok(self.lab_live(handle)),
+            Step::LabRaw(partition, name) => self.lab_raw(partition, name),
+            Step::ReadLine(line) => Ok(lines::read(self.alloc, line)),
+            Step::PrintReply => lines::print(self.alloc),
+            Step::LabRun => self.lab_run(),
+            Step::LabNew => self.lab_new(),
+            Step::LabEnd => self.lab_end(),
+            _ => Ok(Reply::NoHandle),
         }
     }
 }

@@ -1,12 +1,22 @@
 //! The wrapper's own calls, over the memory store.
 
 use crate::place::Place;
-use crate::{window, words};
-use blob_base::Error;
+use crate::window;
+use anyhow::Result;
 use blob_lab::lab::Wrapper;
 use blob_lab::script::Setting;
 use blob_lab::{Call, Reply};
 use std::alloc::Global;
+
+/// A call that the wrapper alone has, and no script.
+#[derive(Clone, Copy)]
+pub enum WrapperCall<'a> {
+    RemoveRetired(&'a str, &'a [u8]),
+    /// The raw bytes in the wrapped store.
+    Raw(&'a str, &'a [u8]),
+    /// The size that a handle tracks.
+    Size(usize),
+}
 
 /// Changes one setting of the wrapper.
 pub fn configure(alloc: Global, wrapper: &mut Wrapper, setting: Setting) -> Reply {
@@ -45,7 +55,15 @@ fn remove_retired(alloc: Global, wrapper: &mut Wrapper, partition: &str, name: &
     }
 }
 
-// The size that a handle tracks.
+/// A call of a script.
+pub fn perform(alloc: Global, place: &mut Place<Wrapper>, call: &Call) -> Result<Reply> {
+    match call {
+        Call::Admit { partition, name } => Ok(admit(alloc, &mut place.store, partition, name)),
+        Call::Crash => Ok(crash(alloc, &mut place.store)),
+        _ => place.perform(alloc, call),
+    }
+}
+
 fn size(place: &Place<Wrapper>, handle: usize) -> Reply {
     match place.blobs.get(handle) {
         Some(blob) => Reply::Size(blob.size()),
@@ -53,31 +71,16 @@ fn size(place: &Place<Wrapper>, handle: usize) -> Reply {
     }
 }
 
-/// A call of a script.
-pub fn perform(alloc: Global, place: &mut Place<Wrapper>, call: &Call) -> Result<Reply, Error> {
+/// A call that no script has.
+pub fn more(alloc: Global, place: &mut Place<Wrapper>, call: WrapperCall<'_>) -> Result<Reply> {
     match call {
-        Call::Admit { partition, name } => Ok(admit(alloc, &mut place.store, partition, name)),
-        Call::Crash => Ok(crash(alloc, &mut place.store)),
-        Call::Size(handle) => Ok(size(place, *handle)),
-        _ => place.perform(alloc, call),
-    }
-}
-
-fn raw(wrapper: &Wrapper, partition: &str, name: &[u8]) -> Result<Reply, Error> {
-    match wrapper.inner().raw_blob(partition, name)? {
-        Some(bytes) => Ok(Reply::Bytes(bytes)),
-        None => Ok(Reply::NoHandle),
-    }
-}
-
-/// A call that no script has. `raw` is of the wrapped store.
-pub fn more(alloc: Global, place: &mut Place<Wrapper>, words: &[&str]) -> Result<Reply, Error> {
-    match words {
-        ["removeretired", partition, name] => {
-            let name = words::bytes(alloc, name)?;
-            Ok(remove_retired(alloc, &mut place.store, partition, &name))
+        WrapperCall::RemoveRetired(partition, name) => {
+            Ok(remove_retired(alloc, &mut place.store, partition, name))
         }
-        ["raw", partition, name] => { raw(&place.store, partition, &words::bytes(alloc, name)?) }
-        _ => place.more(alloc, words),
+        WrapperCall::Raw(partition, name) => match place.store.inner().raw_blob(partition, name)? {
+            Some(bytes) => Ok(Reply::Bytes(bytes)),
+            None => Ok(Reply::NoHandle),
+        },
+        WrapperCall::Size(handle) => Ok(size(place, handle)),
     }
 }
