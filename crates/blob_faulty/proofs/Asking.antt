@@ -1,17 +1,17 @@
 -- What is asked of an inner blob, call by call.
-use Rattle.std.proofs.Common.{◌≡◌, ◌≢◌, ◌⊎◌, inl, inr, refl, sym, ◌∙◌, ap, List, ◌∷◌, [], length, reverse, Option, Some, None, subst}
+use Rattle.std.proofs.Common.{◌≡◌, ◌≢◌, ◌⊎◌, inl, inr, refl, sym, ◌∙◌, ap, List, ◌∷◌, [], length, reverse, Option, Some, None}
 use Rattle.std.specs.Prelude.{IsSome}
 use Rattle.std.proofs.lemmas.Bool.{false≢true}
 use Rattle.std.proofs.lemmas.List.{length-map, length-reverse}
 use Rattle.blob_base.specs.HandleCalls.{HandleCall, Reserve}
-use Rattle.blob_header.specs.Refusals.{Refusal, Injected, WriteFailed}
+use Rattle.blob_header.specs.Refusals.{Refusal, Injected}
 use Rattle.blob_model.specs.Runs.{Run}
 use Rattle.blob_faults.specs.Answers.{Allowed, injected_for, last_end}
 use Rattle.blob_faulty.specs.declared.write_runs.Piece.{Piece}
 use Rattle.blob_base.specs.declared.storage.Blob as handles
 use Rattle.blob_faulty.specs.declared.blob.Blob.{Blob}
 use Rattle.blob_faulty.specs.declared.storage.Storage.{Storage}
-use Rattle.blob_faulty.specs.Asked.{Made, Then, Unasked, InnerMade, Asks, AsksRuns, or_failed, run_calls, kept_calls}
+use Rattle.blob_faulty.specs.Asked.{Made, Unasked, InnerMade, Asks, AsksRuns, or_failed, run_calls, kept_calls}
 use Rattle.blob_faulty.specs.Pieces.{run_of, runs_in}
 
 -- one call

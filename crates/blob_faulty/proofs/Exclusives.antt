@@ -1,7 +1,6 @@
 -- What the registry of open names answers an exclusive open, as a wrapper over the memory store leaves it.
-use Rattle.std.proofs.Common.{◌≡◌, ℕ, List, Option, Some, None, sym, subst}
+use Rattle.std.proofs.Common.{◌≡◌, ℕ, List, Option, None, sym, subst}
 use Rattle.std.proofs.lemmas.Bool.{false≢true}
-use Rattle.std.proofs.lemmas.Option.{none-some}
 use Rattle.std.specs.Prelude.{IsSome}
 use Rattle.rand_core.specs.Stream.{Stream}
 use Rattle.blob_header.specs.Refusals.{Refusal}
@@ -11,26 +10,16 @@ use Rattle.blob_opens.specs.OpenNames.{OpenNames, OpenAnswer, Accepted, Held, De
 use Rattle.blob_opens.specs.Opens.{IsMade}
 use Rattle.blob_faults.specs.Answers.{injected_or}
 use Rattle.blob_faults.specs.Faults.{draw}
-use Rattle.blob_faulty.specs.Admitted.{AdmittedOpenLeaves}
-use Rattle.blob_faulty.specs.Exclusive.{ExclusiveAnswer, OpensAdmitted, OpensAlone, StaysSame}
-use Rattle.blob_faulty.specs.Keeps.{OverMemory, Keeps}
+use Rattle.blob_faulty.specs.Admitted.{AdmittedOpenLeaves, OpensAdmitted, OpensAlone, StaysSame}
+use Rattle.blob_faulty.specs.Exclusive.{ExclusiveAnswer}
+use Rattle.blob_faulty.specs.Keeps.{OverMemory, Keeps, LosesNothing}
 use Rattle.blob_faulty.specs.Names.{OpenLeaves}
 use Rattle.blob_faulty.specs.Wrapper.{inner_of, rng_of, config_of}
 use Rattle.blob_memory.specs.Answers.{OrMemory, open_refusal}
 use Rattle.blob_memory.specs.Store.{directory, durable}
 use Rattle.blob_memory.specs.declared.storage.Storage as memory
+use Rattle.blob_faulty.proofs.AdmittedOpens.{leaves_alone}
 use Rattle.blob_faulty.proofs.Keeping.{keeps_same, keeps_open}
-
--- an open that isn't admitted behind it
-leaves_alone : {R : Type 0} (stream : R → Stream) (p n : List ℕ) (before after : OverMemory R) (r : Refusal) → OpenLeaves (λ o. o) stream (λ _. Unit {0}) before after →
-    AdmittedOpenLeaves (λ o. o) directory stream (λ _. Unit {0}) p n (Some r) before after
-leaves_alone stream p n before after r w = record {
-  drawn = w.drawn;
-  inner = w.inner;
-  retired = λ none. absurd (none-some r (sym none));
-  kept = λ some. w.records.pending;
-  numbers = w.records.numbers;
-}
 
 -- What the registry was answered by the wrapper's own open.
 
@@ -72,16 +61,16 @@ module _ {R : Type 0} (stream : R → Stream) (s : OpenNames) (p n : List ℕ) (
     pub told_refused : (answer : Option Refusal) → Told answer → IsSome answer → ExclusiveAnswer before mid p n first last stream s answer
     told_refused answer (Accepted free left a m) some = absurd (false≢true some)
     told_refused answer (Held number here a m) some = Held number here (a.0, leaves_alone stream p n before mid _ a.1) (m, accepts m.place m.live m.version m.is a.1)
-    told_refused answer (Declined refusal more a k) some = Declined refusal more (a.0, leaves_alone stream p n before mid _ a.1) (k.0, k.1, declines refusal k.0 k.1 a.1)
+    told_refused answer (Declined refusal more a k) some = Declined refusal more (a.0, leaves_alone stream p n before mid _ a.1) (record { directory = k.0; durable = k.1; same_files = declines refusal k.0 k.1 a.1 })
     told_refused answer (NoMemory u) some = NoMemory u
     told_refused answer (NoNumber out u) some = NoNumber out u
 
 -- bytes that were kept
 pub keeps_refused : {R : Type 0} (stream : R → Stream) (s : OpenNames) (p n : List ℕ) (first last : ℕ) (before after : OverMemory R) (answer : Option Refusal) →
-    ExclusiveAnswer before after p n first last stream s answer → IsSome answer → (o : Place) (bytes : List ℕ) → Keeps before o bytes → Keeps after o bytes
+    ExclusiveAnswer before after p n first last stream s answer → IsSome answer → LosesNothing before after
 keeps_refused stream s p n first last before after answer (Accepted free left a m) some o bytes k = absurd (false≢true some)
 keeps_refused stream s p n first last before after answer (Held number here a m) some o bytes k =
     keeps_open (λ o. o) directory durable before after p n first last m.1 o bytes k m.0.place m.0.live m.0.version m.0.is
-keeps_refused stream s p n first last before after answer (Declined refusal more a u) some o bytes k = keeps_same (λ o. o) directory durable before after o bytes u.0 k u.2
+keeps_refused stream s p n first last before after answer (Declined refusal more a u) some o bytes k = keeps_same (λ o. o) directory durable before after o bytes u.directory k u.same_files
 keeps_refused stream s p n first last before after answer (NoMemory u) some o bytes k = subst (λ w. Keeps w o bytes) (sym u) k
 keeps_refused stream s p n first last before after answer (NoNumber out u) some o bytes k = subst (λ w. Keeps w o bytes) (sym u) k

@@ -15,7 +15,7 @@ use Rattle.blob_faults.specs.Recorded.{size_of_runs}
 use Rattle.blob_faults.specs.Answers.{last_end, or_memory}
 use Rattle.blob_faulty.specs.declared.blob.Blob.{Blob}
 use Rattle.blob_faulty.specs.declared.storage.Storage.{Storage}
-use Rattle.blob_faulty.specs.Asked.{Asks, Made, Then, Refuses, RefusedBehind, run_calls}
+use Rattle.blob_faulty.specs.Asked.{Asks, Made, Then, RefusedBehind, run_calls}
 use Rattle.blob_faulty.specs.Writes.{View, SameRecords, Unchanged, Lays, LaysUpTo, LaysFront}
 use Rattle.blob_faulty.proofs.Asking.{once, then_made}
 

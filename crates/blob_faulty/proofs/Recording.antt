@@ -3,7 +3,6 @@ use Rattle.std.proofs.Common.{◌≡◌, inl, inr, ℕ, List, [], ◌∷◌, Boo
 use Rattle.std.specs.Prelude.{is_some, MatchBool}
 use Rattle.std.proofs.lemmas.Bool.{false≢true}
 use Rattle.rand_core.specs.Stream.{Stream}
-use Rattle.blob_model.specs.Live.{is_idle}
 use Rattle.blob_model.specs.Log.{Kept}
 use Rattle.blob_model.specs.Modes.{Mode}
 use Rattle.blob_model.specs.Rates.{Rate}

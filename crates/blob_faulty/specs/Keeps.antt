@@ -81,3 +81,7 @@ IsFor w f = Stands (λ o. o) (directory (inner_of w)) (durable (inner_of w)) w f
 -- it keeps these bytes
 abbrev pub Keeps : {R : Type 0} → OverMemory R → Place → List ℕ → Type 0
 Keeps w o bytes = KeepsBytes (λ o. o) directory durable w o bytes
+
+-- whatever it kept it still keeps
+abbrev pub LosesNothing : {R : Type 0} → OverMemory R → OverMemory R → Type 0
+LosesNothing before after = (o : Place) (bytes : List ℕ) → Keeps before o bytes → Keeps after o bytes

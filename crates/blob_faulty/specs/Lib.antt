@@ -7,6 +7,7 @@ pub mod HandleLeaves
 pub mod Keeps
 pub mod Lends
 pub mod Names
+pub mod New
 pub mod Outcomes
 pub mod Pieces
 pub mod Ready

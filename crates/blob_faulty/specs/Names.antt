@@ -1,5 +1,7 @@
 -- What opens and removals leave of a wrapper, and what that makes of the files that it stands for.
 use Rattle.std.specs.Prelude.{◌≡◌, ℕ, Bool, List, [], cond, Option, Some, None, IsSome, MatchBool}
+use Rattle.std.specs.Range.{range_inclusive_start, range_inclusive_end}
+use Rattle.std.specs.declared.ops.RangeInclusive.{RangeInclusive}
 use Rattle.rand_core.specs.Stream.{Stream}
 use Rattle.blob_base.specs.declared.storage.Durable as stores
 use Rattle.blob_model.specs.Directory.{Directory, removed}
@@ -9,9 +11,17 @@ use Rattle.blob_model.specs.Opening.{IsOpened}
 use Rattle.blob_model.specs.Pending.{Pending}
 use Rattle.blob_model.specs.Places.{Place}
 use Rattle.blob_header.specs.Refusals.{Refusal}
+use Rattle.blob_header.specs.declared.version.BlobVersion.{BlobVersion}
 use Rattle.blob_faulty.specs.declared.storage.Storage.{Storage}
 use Rattle.blob_faults.specs.Faults.{draw}
 use Rattle.blob_faulty.specs.Wrapper.{inner_of, rng_of, config_of, pending_of, finished_by, KeepsNumbers, KeepsRecords, Stands}
+
+-- the versions that an open accepts
+abbrev pub least_of : RangeInclusive BlobVersion → ℕ
+least_of versions = (range_inclusive_start versions).0
+
+abbrev pub greatest_of : RangeInclusive BlobVersion → ℕ
+greatest_of versions = (range_inclusive_end versions).0
 
 -- pending lists, where those of some incarnations are retired
 abbrev pub emptied : (Place → Bool) → (Place → List Pending) → Place → List Pending

@@ -1,12 +1,8 @@
 //! What is pending of a name is retired.
-ghost use Rattle.std.specs.Prelude.{◌≡◌, ℕ, List, Some, filter, not};
-ghost use Rattle.blob_model.specs.Directory.{current};
-ghost use Rattle.blob_model.specs.Files.{Files, admitted, ends_by};
-ghost use Rattle.blob_model.specs.Places.{Place};
-ghost use Rattle.blob_model.specs.Stands.{retired};
-ghost use Rattle.blob_faulty.specs.Keeps.{Keeps};
-ghost use Rattle.blob_faulty.specs.Wrapper.{KeepsNumbers, Stands, inner_of, rng_of, pending_of};
-ghost use Rattle.blob_memory.specs.Store.{directory, durable};
+ghost use Rattle.std.specs.Prelude.{◌≡◌, Some, filter, not};
+ghost use Rattle.blob_model.specs.Files.{ends_by};
+ghost use Rattle.blob_faulty.specs.Admitted.{Admits};
+ghost use Rattle.blob_memory.specs.Store.{directory};
 
 use crate::retired::Retired;
 use crate::storage::Storage;
@@ -43,12 +39,7 @@ impl<R> Storage<blob_memory::Storage, R> {
     /// are. To be called behind an open that is to stand. What is pending of incarnations that ended stays, and changes no byte.
     /// An unknown name changes nothing. Never refused; takes no memory and draws nothing.
     pub fn admit(&mut self, partition: &str, name: &[u8]) -> Retired
-        ensures pending { (o : Place) → pending_of (λ o. o) self.new o ≡ retired (pending_of (λ o. o) self.old) (current (directory (inner_of self.old)) partition.now name.now) o }
-        ensures stands { (files : Files) → Stands (λ o. o) (directory (inner_of self.old)) (durable (inner_of self.old)) self.old files → Stands (λ o. o) (directory (inner_of self.new)) (durable (inner_of self.new)) self.new (admitted files partition.now name.now) }
-        ensures inner { inner_of self.new ≡ inner_of self.old }
-        ensures rng { rng_of self.new ≡ rng_of self.old }
-        ensures numbers { KeepsNumbers self.old self.new }
-        ensures keeps { (o : Place) (bytes : List ℕ) → Keeps self.old o bytes → Keeps self.new o bytes }
+        ensures { Admits self.old self.new partition.now name.now }
     {
         drop_current(&mut self.lists.all.lists, &self.inner, partition, name);
         Retired { _private: () }

@@ -1,19 +1,14 @@
 //! Opens, removals, scans and finished syncs of the wrapper.
-ghost use Rattle.std.specs.Prelude.{◌≡◌, ◌≤◌, ℕ, List, Bool, true, false, Option, Some, None, is_some, IsTrue, OnOk, OnErr, IfOk, length, map, option_copied};
-ghost use Rattle.std.specs.Range.{range_inclusive_start, range_inclusive_end, range_inclusive_exhausted};
+ghost use Rattle.std.specs.Prelude.{◌≡◌, OnOk, OnErr, option_copied};
 ghost use Rattle.blob_model.specs.Directory.{removed};
 ghost use Rattle.blob_model.specs.Durable.{durable_without};
-ghost use Rattle.blob_model.specs.Files.{after_open, after_remove, ends_by};
+ghost use Rattle.blob_model.specs.Files.{after_remove, ends_by};
 ghost use Rattle.blob_base.specs.Handles.{outcome_of, marker_of};
-ghost use Rattle.blob_base.specs.Names.{AreNames};
-ghost use Rattle.blob_model.specs.Opening.{IsOpened};
-ghost use Rattle.blob_model.specs.Places.{Place};
 ghost use Rattle.blob_header.specs.Refusals.{refused};
 ghost use Rattle.blob_faults.specs.Answers.{injected_or};
 ghost use Rattle.blob_faults.specs.Faults.{draw};
-ghost use Rattle.blob_faulty.specs.Keeps.{KeepsBytes};
-ghost use Rattle.blob_faulty.specs.Names.{OpenLeaves, RemoveLeaves, ScanLeaves, FinishLeaves, Steps, emptied};
-ghost use Rattle.blob_faulty.specs.Wrapper.{inner_of, rng_of, config_of, pending_of, KeepsNumbers, KeepsRecords, finished_by, inside, size_of};
+ghost use Rattle.blob_faulty.specs.Names.{OpenLeaves, RemoveLeaves, ScanLeaves, FinishLeaves, Steps};
+ghost use Rattle.blob_faulty.specs.Wrapper.{inner_of, rng_of, config_of, inside, size_of};
 
 use crate::blob::Blob;
 use crate::retired::Retired;
@@ -22,55 +17,6 @@ use blob_base::{BlobVersion, Error, Handle};
 use blob_faults::faults::draws;
 use rand_core::Rng;
 use std::ops::RangeInclusive;
-
-impl<S: blob_base::Storage, R> Storage<S, R> {
-    /// The inner store's own open. Its handle tracks the size that it answered.
-    fn open_inner(
-        &mut self,
-        partition: &str,
-        name: &[u8],
-        versions: RangeInclusive<BlobVersion>,
-    ) -> Result<(Blob<S::Blob>, u64, BlobVersion), Error>
-        requires fresh { range_inclusive_exhausted versions ≡ false }
-        requires some { (range_inclusive_start versions).0 ≤ (range_inclusive_end versions).0 }
-        ensures allowed { S.allows_open self.old.inner partition.now name.now (range_inclusive_start versions).0 (range_inclusive_end versions).0 (refused result) }
-        ensures leaves { S.leaves_open self.old.inner partition.now name.now (range_inclusive_start versions).0 (range_inclusive_end versions).0 (refused result) self.new.inner }
-        ensures opened { IfOk result (λ opened. IsOpened (S.directory self.old.inner) (S.durable self.old.inner) (S.directory self.new.inner) (S.durable self.new.inner) partition.now name.now (range_inclusive_start versions).0 (range_inclusive_end versions).0 (S.Blob.place (inside opened.0)) (S.Blob.live (inside opened.0)) opened.2.0) }
-        ensures size { IfOk result (λ opened. opened.1 ≡ length (S.Blob.live (inside opened.0))) }
-        ensures tracked { IfOk result (λ opened. size_of opened.0 ≡ opened.1) }
-        ensures kept_size { IfOk result (λ opened. S.keeps_size (inside opened.0) opened.1) }
-        ensures err { OnErr result ((S.directory self.new.inner ≡ S.directory self.old.inner) × (S.durable self.new.inner ≡ S.durable self.old.inner)) }
-        ensures rest { self.new ≡ record self.old { inner = self.new.inner } }
-    {
-        let (inner, size, version) = self.inner.open_versioned(partition, name, versions)?;
-        Ok((
-            Blob {
-                inner,
-                size,
-                list: 0,
-            },
-            size,
-            version,
-        ))
-    }
-
-    /// The inner store's own removal, and then the lists of the incarnations that it ended go.
-    fn remove_inner(&mut self, partition: &str, name: Option<&[u8]>) -> Result<Retired, Error>
-        ensures allowed { S.allows_remove self.old.inner partition.now (option_copied name.entry) (refused result) }
-        ensures leaves { S.leaves_remove self.old.inner partition.now (option_copied name.entry) (refused result) self.new.inner }
-        ensures directory { OnOk result (S.directory self.new.inner ≡ removed (S.directory self.old.inner) partition.now (option_copied name.entry)) }
-        ensures durable { OnOk result (S.durable self.new.inner ≡ durable_without (S.durable self.old.inner) partition.now (option_copied name.entry)) }
-        ensures err { OnErr result ((S.directory self.new.inner ≡ S.directory self.old.inner) × (S.durable self.new.inner ≡ S.durable self.old.inner)) }
-        ensures retired { OnOk result ((o : Place) → pending_of S.place self.new o ≡ emptied (ends_by (S.directory self.old.inner) partition.now (option_copied name.entry)) (pending_of S.place self.old) o) }
-        ensures kept { OnErr result ((o : Place) → pending_of S.place self.new o ≡ pending_of S.place self.old o) }
-        ensures rest { self.new ≡ record self.old { inner = self.new.inner; lists = self.new.lists } }
-    {
-        self.lists.note_current(&self.inner);
-        self.inner.remove(partition, name)?;
-        self.lists.retire_ended(&self.inner);
-        Ok(Retired { _private: () })
-    }
-}
 
 impl<S: blob_base::Storage, R: Rng> Storage<S, R> {
     /// The trait's `remove` under a name of its own, which answers that it retired: draws the remove rate, then removes the
@@ -92,19 +38,10 @@ impl<S: blob_base::Storage, R: Rng> Storage<S, R> {
         if draws(self.config.remove_rate, &mut self.rng) {
             return Err(Error::Injected);
         }
-        self.remove_inner(partition, name)
-    }
-}
-
-impl<S: blob_base::Storage, R> Storage<S, R> {
-    /// A started sync is finished, where it left a marker.
-    fn finish_marker(&mut self, marker: Option<u64>)
-        ensures pending { (o : Place) → pending_of S.place self.new o ≡ finished_by marker (pending_of S.place self.old o) }
-        ensures rest { self.new ≡ record self.old { lists = self.new.lists } }
-    {
-        if let Some(marker) = marker {
-            self.lists.finish(marker);
-        }
+        self.lists.note_current(&self.inner);
+        self.inner.remove(partition, name)?;
+        self.lists.retire_ended(&self.inner);
+        Ok(Retired { _private: () })
     }
 }
 
@@ -143,21 +80,13 @@ impl<S: blob_base::Storage, R: Rng> blob_base::Storage for Storage<S, R> {
         partition: &str,
         name: &[u8],
         versions: RangeInclusive<BlobVersion>,
-    ) -> Result<(Blob<S::Blob>, u64, BlobVersion), Error>
-        requires fresh { range_inclusive_exhausted versions ≡ false }
-        requires some { (range_inclusive_start versions).0 ≤ (range_inclusive_end versions).0 }
-        ensures allowed { injected_or (draw (config_of self.old).open_rate (R.stream (rng_of self.old))).0 (S.allows_open (inner_of self.old) partition.now name.now (range_inclusive_start versions).0 (range_inclusive_end versions).0) (refused result) }
-        ensures leaves { OpenLeaves S.place R.stream (S.leaves_open (inner_of self.old) partition.now name.now (range_inclusive_start versions).0 (range_inclusive_end versions).0 (refused result)) self.old self.new }
-        ensures opened { IfOk result (λ opened. IsOpened (S.directory (inner_of self.old)) (S.durable (inner_of self.old)) (S.directory (inner_of self.new)) (S.durable (inner_of self.new)) partition.now name.now (range_inclusive_start versions).0 (range_inclusive_end versions).0 (S.Blob.place (inside opened.0)) (S.Blob.live (inside opened.0)) opened.2.0) }
-        ensures size { IfOk result (λ opened. opened.1 ≡ length (S.Blob.live (inside opened.0))) }
-        ensures kept_size { IfOk result (λ opened. (size_of opened.0 ≡ opened.1) × S.keeps_size (inside opened.0) opened.1) }
-        ensures err { OnErr result ((S.directory (inner_of self.new) ≡ S.directory (inner_of self.old)) × (S.durable (inner_of self.new) ≡ S.durable (inner_of self.old))) }
-        ensures keeps { (o : Place) (bytes : List ℕ) → KeepsBytes S.place S.directory S.durable self.old o bytes → KeepsBytes S.place S.directory S.durable self.new o bytes }
-    {
+    ) -> Result<(Blob<S::Blob>, u64, BlobVersion), Error> {
         if draws(self.config.open_rate, &mut self.rng) {
             return Err(Error::Injected);
         }
-        self.open_inner(partition, name, versions)
+        let (inner, size, version) = self.inner.open_versioned(partition, name, versions)?;
+        let list = 0;
+        Ok((Blob { inner, size, list }, size, version))
     }
 
     /// Draws the remove rate, then removes, and retires what is pending of what ends, as `remove_retired` does.
@@ -187,13 +116,12 @@ impl<S: blob_base::Storage, R: Rng> blob_base::Storage for Storage<S, R> {
     /// the outcome.
     fn finish(&mut self, handle: Handle) -> Result<(), Error>
         ensures outcome { result ≡ outcome_of handle }
-        ensures pending { (o : Place) → pending_of S.place self.new o ≡ finished_by (marker_of handle) (pending_of S.place self.old o) }
-        ensures numbers { KeepsNumbers self.old self.new }
-        ensures rng { rng_of self.new ≡ rng_of self.old }
-        ensures inner { inner_of self.new ≡ inner_of self.old }
+        ensures leaves { FinishLeaves S.place (marker_of handle) self.old self.new }
         ensures files { Steps S.place S.directory S.durable self.old self.new (λ files. files) }
     {
-        self.finish_marker(handle.marker());
+        if let Some(marker) = handle.marker() {
+            self.lists.finish(marker);
+        }
         handle.into_outcome()
     }
 }

@@ -1,16 +1,11 @@
 //! Exclusive opens that are admitted at once.
-ghost use Rattle.std.specs.Prelude.{◌≡◌, ◌≤◌, false, ℕ, List, OnOk, OnErr, IfOk, length};
+ghost use Rattle.std.specs.Prelude.{◌≡◌, ◌≤◌, false, OnOk, OnErr, IfOk};
 ghost use Rattle.std.specs.Range.{range_inclusive_start, range_inclusive_end, range_inclusive_exhausted};
-ghost use Rattle.blob_model.specs.Files.{Files};
-ghost use Rattle.blob_header.specs.Fronts.{BeginsWith};
-ghost use Rattle.blob_model.specs.Opened.{IsNamed};
-ghost use Rattle.blob_model.specs.Opening.{IsOpened};
-ghost use Rattle.blob_model.specs.Places.{Place};
 ghost use Rattle.blob_header.specs.Refusals.{refused};
-ghost use Rattle.blob_faulty.specs.Exclusive.{ExclusiveAnswer, OpensAdmitted};
-ghost use Rattle.blob_faulty.specs.Keeps.{IsFor, Keeps};
-ghost use Rattle.blob_faulty.specs.Wrapper.{inner_of, inside, size_of};
-ghost use Rattle.blob_memory.specs.Store.{directory, durable, place, live};
+ghost use Rattle.blob_faulty.specs.Admitted.{FindsKept};
+ghost use Rattle.blob_faulty.specs.Exclusive.{ExclusiveAnswer};
+ghost use Rattle.blob_faulty.specs.Keeps.{LosesNothing};
+ghost use Rattle.blob_faulty.specs.Names.{least_of, greatest_of};
 ghost use Rattle.blob_opens.specs.OpenNames.{opened};
 ghost use Rattle.blob_opens.specs.Opens.{names_of, registration_of, inner_of as handle_of};
 
@@ -42,19 +37,12 @@ impl<R: Rng> Storage<blob_memory::Storage, R> {
     ) -> Result<(open::Blob<Blob<blob_memory::Blob>>, u64, BlobVersion), Error>
         requires fresh { range_inclusive_exhausted versions ≡ false }
         requires some { (range_inclusive_start versions).0 ≤ (range_inclusive_end versions).0 }
-        ensures answer { ExclusiveAnswer self.old self.new partition.now name.now (range_inclusive_start versions).0 (range_inclusive_end versions).0 R.stream (names_of registry.old) (refused result) }
+        ensures answer { ExclusiveAnswer self.old self.new partition.now name.now (least_of versions) (greatest_of versions) R.stream (names_of registry.old) (refused result) }
         ensures registered { OnOk result (names_of registry.new ≡ opened (names_of registry.old) partition.now name.now) }
         ensures err { OnErr result (names_of registry.new ≡ names_of registry.old) }
-        ensures handle { IfOk result (λ opened. registration_of opened.0 ≡ record { partition = partition.now; name = name.now; number = (names_of registry.old).next }) }
-        ensures opened { IfOk result (λ opened. IsOpened (directory (inner_of self.old)) (durable (inner_of self.old)) (directory (inner_of self.new)) (durable (inner_of self.new)) partition.now name.now (range_inclusive_start versions).0 (range_inclusive_end versions).0 (place (inside (handle_of opened.0))) (live (inside (handle_of opened.0))) opened.2.0) }
-        ensures size { IfOk result (λ opened. opened.1 ≡ length (live (inside (handle_of opened.0)))) }
-        ensures tracked { IfOk result (λ opened. size_of (handle_of opened.0) ≡ opened.1) }
-        ensures files { OnOk result (OpensAdmitted self.old self.new partition.now name.now (range_inclusive_start versions).0 (range_inclusive_end versions).0) }
-
-        // what it finds is kept, and begins with what was kept; what was kept of any blob still is
-        ensures fixed { IfOk result (λ opened. (files : Files) → IsFor self.old files → Keeps self.new (place (inside (handle_of opened.0))) (live (inside (handle_of opened.0)))) }
-        ensures found { IfOk result (λ opened. (o : Place) (bytes : List ℕ) → IsNamed o partition.now name.now → Keeps self.old o bytes → (place (inside (handle_of opened.0)) ≡ o) × BeginsWith bytes (live (inside (handle_of opened.0)))) }
-        ensures keeps { (o : Place) (bytes : List ℕ) → Keeps self.old o bytes → Keeps self.new o bytes }
+        ensures handle { IfOk result (λ o. registration_of o.0 ≡ record { partition = partition.now; name = name.now; number = (names_of registry.old).next }) }
+        ensures accepted { IfOk result (λ o. FindsKept self.old self.new partition.now name.now (least_of versions) (greatest_of versions) (handle_of o.0) o.1 o.2.0) }
+        ensures keeps { LosesNothing self.old self.new }
     {
         opens::<blob_memory::Storage, R>();
         accepted_opens::<blob_memory::Storage, R>();

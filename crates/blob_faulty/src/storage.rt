@@ -1,13 +1,11 @@
 //! The wrapper of a store.
-ghost use Rattle.std.specs.Prelude.{◌≡◌, ℕ, List, [], Some};
+ghost use Rattle.std.specs.Prelude.{◌≡◌};
 ghost use Rattle.std.specs.Borrow.{sem};
-ghost use Rattle.blob_model.specs.Files.{wrapped};
-ghost use Rattle.blob_model.specs.Places.{Place};
-ghost use Rattle.blob_faulty.specs.Keeps.{found_in};
 ghost use Rattle.blob_faulty.specs.Lends.{LendsConfig, with_config};
 ghost use Rattle.blob_faulty.specs.Names.{Steps};
+ghost use Rattle.blob_faulty.specs.New.{IsNew};
 ghost use Rattle.blob_faults.specs.Lists.{list_of};
-ghost use Rattle.blob_faulty.specs.Wrapper.{inner_of, rng_of, config_of, next_write_of, next_marker_of, pending_of, Stands};
+ghost use Rattle.blob_faulty.specs.Wrapper.{inner_of, rng_of, config_of, pending_of};
 
 use blob_base::Durable;
 use blob_faults::config::Config;
@@ -35,14 +33,7 @@ impl<S: Durable, R> Storage<S, R> {
     /// A wrapper of the store that draws from the generator. Nothing is pending, and writes and markers are
     /// numbered from 0.
     pub fn new(alloc: Global, inner: S, rng: R, config: Config) -> Storage<S, R>
-        ensures inner { inner_of result ≡ inner }
-        ensures rng { rng_of result ≡ rng }
-        ensures config { config_of result ≡ config }
-        ensures pending { pending_of S.place result ≡ (λ _. []) }
-        ensures next_write { next_write_of result ≡ 0 }
-        ensures next_marker { next_marker_of result ≡ 0 }
-        ensures files { (bytes : Place → List ℕ) → ((o : Place) (x : List ℕ) → S.durable inner o ≡ Some x → bytes o ≡ x) → Stands S.place (S.directory inner) (S.durable inner) result (wrapped (S.directory inner) bytes 0 0) }
-        ensures represents { Stands S.place (S.directory (inner_of result)) (S.durable (inner_of result)) result (wrapped (S.directory inner) (found_in (S.durable inner)) 0 0) }
+        ensures { IsNew S.Durable inner rng config 0 0 result }
     {
         Storage::new_numbered(alloc, inner, rng, config, 0, 0)
     }
@@ -57,14 +48,7 @@ impl<S: Durable, R> Storage<S, R> {
         next_write: u64,
         next_marker: u64,
     ) -> Storage<S, R>
-        ensures inner { inner_of result ≡ inner }
-        ensures rng { rng_of result ≡ rng }
-        ensures config { config_of result ≡ config }
-        ensures pending { pending_of S.place result ≡ (λ _. []) }
-        ensures next_write { next_write_of result ≡ next_write }
-        ensures next_marker { next_marker_of result ≡ next_marker }
-        ensures files { (bytes : Place → List ℕ) → ((o : Place) (x : List ℕ) → S.durable inner o ≡ Some x → bytes o ≡ x) → Stands S.place (S.directory inner) (S.durable inner) result (wrapped (S.directory inner) bytes next_write next_marker) }
-        ensures represents { Stands S.place (S.directory (inner_of result)) (S.durable (inner_of result)) result (wrapped (S.directory inner) (found_in (S.durable inner)) next_write next_marker) }
+        ensures { IsNew S.Durable inner rng config next_write next_marker result }
     {
         Storage {
             inner,

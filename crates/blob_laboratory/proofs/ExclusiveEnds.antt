@@ -33,7 +33,7 @@ module _ (lab lab' : Lab) (p n : List ℕ) (first last : ℕ) (e : Error) (syncs
       m.1
   exclusive_failed answer (names.Declined r some a u) same =
       let is : r ≡ refusal_of e = cc in
-      exclusive_declined lab lab' p n first last e syncs handles held a.1.numbers.config u.2 some (subst (λ (x : Refusal). IsOpenAllowed lab.wrapper p n first last (Some x)) is a.0) a.1.drawn
+      exclusive_declined lab lab' p n first last e syncs handles held a.1.numbers.config u.same_files some (subst (λ (x : Refusal). IsOpenAllowed lab.wrapper p n first last (Some x)) is a.0) a.1.drawn
   exclusive_failed answer (names.NoMemory u) same =
       let is : refusal_of e ≡ Memory = cc in
       exclusive_memory lab lab' p n first last e syncs handles held (ap config_of u) (λ f s. subst (λ (w : Wrapper). IsFor w f) (sym u) s) is

@@ -1,9 +1,11 @@
 use Rattle.std.proofs.Common.{not, ◌≡◌, ◌≢◌, ◌∙◌, List, Some, refl, ap, subst, sym}
 use Rattle.std.proofs.lemmas.List.Kept.{AllPairs-filter}
 use Rattle.std.specs.List.{filter}
+use Rattle.blob_model.specs.Directory.{current}
 use Rattle.blob_model.specs.Files.{ends_by}
 use Rattle.blob_model.specs.Order.{Held, held_at}
 use Rattle.blob_model.specs.Places.{Place}
+use Rattle.blob_model.specs.Stands.{retired}
 use Rattle.blob_model.proofs.FileSteps.{stands_admitted}
 use Rattle.blob_memory.specs.Store.{directory, durable}
 use Rattle.blob_faults.specs.declared.incarnation.Incarnation.{Incarnation}
@@ -17,18 +19,23 @@ use Rattle.blob_faulty.proofs.admit.Storage+blob_memory+Storage+R.admit.Goals as
 kept : (g : Over) (c : goal.After-self-1 g) → held (λ (o : Place). o) c.drop_current.new.lists.items ≡ filter (λ h. not (ends_by (directory c.args.self.now.inner) c.args.partition.now (Some c.args.name.now) h.0)) (held (λ (o : Place). o) c.args.self.now.lists.all.lists.items)
 kept g c = ap (held (λ (o : Place). o)) c.drop_current.ensures ∙ held_filter (λ (o : Place). o) (λ o. not (ends_by (directory c.args.self.now.inner) c.args.partition.now (Some c.args.name.now) o)) c.args.self.now.lists.all.lists.items
 
-pub returns-clause-pending : goal.returns-clause-pending
-returns-clause-pending g c a = ap (λ (hs : List Held). held_at hs a) (kept g c) ∙ held_at_filter (held (λ (o : Place). o) c.args.self.now.lists.all.lists.items) (ends_by (directory c.args.self.now.inner) c.args.partition.now (Some c.args.name.now)) a
+pending : (g : Over) (c : goal.After-self-1 g) (a : Place) → held_at (held (λ (o : Place). o) c.drop_current.new.lists.items) a ≡ retired (held_at (held (λ (o : Place). o) c.args.self.now.lists.all.lists.items)) (current (directory c.args.self.now.inner) c.args.partition.now c.args.name.now) a
+pending g c a = ap (λ (hs : List Held). held_at hs a) (kept g c) ∙ held_at_filter (held (λ (o : Place). o) c.args.self.now.lists.all.lists.items) (ends_by (directory c.args.self.now.inner) c.args.partition.now (Some c.args.name.now)) a
     ∙ admits_current (directory c.args.self.now.inner) c.args.partition.now c.args.name.now (held_at (held (λ (o : Place). o) c.args.self.now.lists.all.lists.items)) a
-
-pub returns-clause-stands : goal.returns-clause-stands
-returns-clause-stands g c files s =
-    stands_admitted (directory c.args.self.now.inner) (durable c.args.self.now.inner) (held_at (held (λ (o : Place). o) c.args.self.now.lists.all.lists.items)) (held_at (held (λ (o : Place). o) c.drop_current.new.lists.items)) c.args.self.now.next_write c.args.self.now.next_marker files c.args.partition.now c.args.name.now (returns-clause-pending g c) s
 
 pub invariant_of-self : goal.invariant_of-self
 invariant_of-self g c = record {
   distinct = subst (λ (is : List (Incarnation Place)). AreDistinct is) (sym c.drop_current.ensures) (AllPairs-filter (λ a b. a.origin ≢ b.origin) _ c.args.self.now.lists.all.lists.items c.args.self.now.lists.all.distinct);
 }
 
-pub returns-clause-keeps : goal.returns-clause-keeps
-returns-clause-keeps g c o bytes k = keeps_admitted (λ (a : Place). a) directory durable c.args.self.now _ o bytes refl k c.args.partition.now c.args.name.now (returns-clause-stands g c)
+pub returns : goal.returns
+returns g c = record {
+  pending = pending g c;
+  stands = λ files s.
+      stands_admitted (directory c.args.self.now.inner) (durable c.args.self.now.inner) (held_at (held (λ (o : Place). o) c.args.self.now.lists.all.lists.items)) (held_at (held (λ (o : Place). o) c.drop_current.new.lists.items)) c.args.self.now.next_write c.args.self.now.next_marker files c.args.partition.now c.args.name.now (pending g c) s;
+  keeps = λ o bytes k. keeps_admitted (λ (a : Place). a) directory durable c.args.self.now _ o bytes refl k c.args.partition.now c.args.name.now
+      (λ files s. stands_admitted (directory c.args.self.now.inner) (durable c.args.self.now.inner) (held_at (held (λ (o : Place). o) c.args.self.now.lists.all.lists.items)) (held_at (held (λ (o : Place). o) c.drop_current.new.lists.items)) c.args.self.now.next_write c.args.self.now.next_marker files c.args.partition.now c.args.name.now (pending g c) s);
+  rng = refl;
+  inner = refl;
+  numbers = record { next_write = refl; next_marker = refl; config = refl };
+}

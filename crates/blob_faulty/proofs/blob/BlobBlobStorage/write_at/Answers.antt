@@ -1,9 +1,9 @@
-use Rattle.std.proofs.Common.{rules, ◌≡◌, ◌≢◌, ◌+◌, ◌^◌, ◌<◌, [], true, length, Option, Some, arith, ap}
+use Rattle.std.proofs.Common.{rules, ◌≡◌, ◌≢◌, ◌+◌, ◌^◌, ◌<◌, [], true, length, Some, arith, ap}
 use Rattle.std.proofs.lemmas.Grind.{common_steps}
 use Rattle.rand_core.specs.Stream.{Stream}
 use Rattle.blob_base.specs.Options.{is_sync}
 use Rattle.blob_faulty.proofs.Adding.{nothing_changed}
-use Rattle.blob_header.specs.Refusals.{Refusal, refused, Memory}
+use Rattle.blob_header.specs.Refusals.{refused, Memory}
 use Rattle.blob_faults.specs.Faults.{WriteFate, write_fate}
 use Rattle.blob_faults.specs.Fates.{write_fate_of}
 use Rattle.blob_faulty.proofs.WriteLeaving.{write_leaves, write_undrawn}

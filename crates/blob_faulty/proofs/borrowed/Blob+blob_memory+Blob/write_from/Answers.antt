@@ -1,10 +1,10 @@
-use Rattle.std.proofs.Common.{rules, ◌≡◌, ◌≢◌, ◌+◌, ◌^◌, ◌<◌, [], true, false, length, Option, Some, arith, ap}
+use Rattle.std.proofs.Common.{rules, ◌≡◌, ◌≢◌, ◌+◌, ◌^◌, ◌<◌, [], true, false, length, Some, arith, ap}
 use Rattle.std.proofs.lemmas.Grind.{common_steps}
 use Rattle.rand_core.specs.Stream.{Stream}
 use Rattle.std.proofs.lemmas.Bool.{false≢true}
 use Rattle.blob_memory.specs.contracts.blob.BlobBlobStorage.TheImpl as handle
 use Rattle.blob_memory.specs.contracts.storage.StorageDurable.TheImpl as store
-use Rattle.blob_header.specs.Refusals.{Refusal, refused, Memory}
+use Rattle.blob_header.specs.Refusals.{refused, Memory}
 use Rattle.blob_faults.specs.Faults.{WriteFate, write_fate}
 use Rattle.blob_faults.specs.Fates.{write_fate_of}
 use Rattle.blob_faulty.proofs.WriteLeaving.{write_leaves, write_undrawn}

@@ -1,36 +1,44 @@
-use Rattle.std.specs.Range.{range_inclusive_start, range_inclusive_end}
-use Rattle.blob_header.specs.Refusals.{refusal_of}
-use Rattle.blob_faulty.specs.Exclusive.{OpensAlone, StaysSame}
-use Rattle.blob_faulty.proofs.AdmittedOpens.{leaves_admitted, opened_admitted, files_admitted, keeps_all_found, found_kept}
-use Rattle.blob_faulty.proofs.SyncSteps.{err_by}
+use Rattle.std.proofs.Common.{◌≡◌, Some, rules}
+use Rattle.std.proofs.lemmas.Bool.{false≢true}
+use Rattle.blob_header.specs.Refusals.{refused, refusal_of}
+use Rattle.blob_faulty.specs.Admitted.{OpensAlone, StaysSame}
+use Rattle.blob_faulty.specs.Names.{least_of, greatest_of}
+use Rattle.blob_memory.specs.Store.{directory, durable}
+use Rattle.blob_faulty.proofs.AdmittedOpens.{leaves_admitted, leaves_alone, finds_kept}
+use Rattle.blob_faulty.proofs.Keeping.{keeps_open, keeps_same}
 use Rattle.blob_faulty.proofs.open_admitted.Storage+blob_memory+Storage+R.open_versioned_admitted.Given.{Over}
 use Rattle.blob_faulty.proofs.open_admitted.Storage+blob_memory+Storage+R.open_versioned_admitted.Goals as goal
 
-pub returns-clause-leaves : goal.returns-clause-leaves
-returns-clause-leaves g c =
-    let now = c.admit.ensures in
-    leaves_admitted g.R.Rng.stream c.args.partition.now c.args.name.now c.args.self.now c.open_versioned.new.self c.admit.new.self c.in_ok-opened.ensures.leaves now.pending now.inner now.rng now.numbers
-
 -- the open alone
-steps : (g : Over) (c : goal.After-admit g) → OpensAlone c.args.self.now c.open_versioned.new.self c.args.partition.now c.args.name.now (range_inclusive_start c.args.versions).0 (range_inclusive_end c.args.versions).0
+steps : (g : Over) (c : goal.After-admit g) → OpensAlone c.args.self.now c.open_versioned.new.self c.args.partition.now c.args.name.now (least_of c.args.versions) (greatest_of c.args.versions)
 steps g c = c.opens.ensures.accepted c.args.self.now c.open_versioned.new.self c.args.partition.now c.args.name.now _ _ _ _ _ c.in_ok-opened.ensures.opened c.in_ok-opened.ensures.leaves
 
-pub returns-clause-opened : goal.returns-clause-opened
-returns-clause-opened g c = opened_admitted _ _ _ _ c.args.self.now c.open_versioned.new.self c.admit.new.self _ _ _ c.in_ok-opened.ensures.opened (steps g c) c.admit.ensures.inner c.admit.ensures.stands
+pub returns-clause-answer : goal.returns-clause-answer
+returns-clause-answer g c = record {
+  allowed = c.in_ok-opened.ensures.allowed;
+  leaves = leaves_admitted g.R.Rng.stream c.args.partition.now c.args.name.now c.args.self.now c.open_versioned.new.self c.admit.new.self c.in_ok-opened.ensures.leaves c.admit.ensures;
+  err = λ some. absurd (false≢true some);
+  keeps = λ o bytes k. c.admit.ensures.keeps o bytes
+      (keeps_open (λ o. o) directory durable c.args.self.now c.open_versioned.new.self c.args.partition.now c.args.name.now _ _ (steps g c) o bytes k _ _ _ c.in_ok-opened.ensures.opened);
+}
 
-pub returns-clause-files : goal.returns-clause-files
-returns-clause-files g c = files_admitted _ _ _ _ c.args.self.now c.open_versioned.new.self c.admit.new.self _ _ _ c.in_ok-opened.ensures.opened (steps g c) c.admit.ensures.inner c.admit.ensures.stands
-
-pub returns-clause-fixed : goal.returns-clause-fixed
-returns-clause-fixed g c = keeps_all_found _ _ _ _ c.args.self.now c.open_versioned.new.self c.admit.new.self _ _ _ c.in_ok-opened.ensures.opened (steps g c) c.admit.ensures.inner c.admit.ensures.stands c.numbers_are_given.ensures.durable
-
-pub returns-clause-found : goal.returns-clause-found
-returns-clause-found g c = found_kept _ _ _ _ c.args.self.now c.open_versioned.new.self c.admit.new.self _ _ _ c.in_ok-opened.ensures.opened (steps g c) c.admit.ensures.inner c.admit.ensures.stands
+pub returns-clause-accepted : goal.returns-clause-accepted
+returns-clause-accepted g c =
+    let found = c.in_ok-opened.ensures in
+    finds_kept c.args.partition.now c.args.name.now _ _ c.args.self.now c.open_versioned.new.self c.admit.new.self _ _ _ found.opened (steps g c) c.admit.ensures c.numbers_are_given.ensures.durable found.size found.kept_size.0
 
 stays : (g : Over) (c : goal.After-from_residual g) → StaysSame c.args.self.now c.open_versioned.new.self
 stays g c =
     let w = c.in_err-opened.ensures in
-    c.opens.ensures.refused c.args.self.now c.open_versioned.new.self c.args.partition.now c.args.name.now (range_inclusive_start c.args.versions).0 (range_inclusive_end c.args.versions).0 (refusal_of c.in_err-opened.field-0.0) w.err.0 w.err.1 w.leaves
+    c.opens.ensures.refused c.args.self.now c.open_versioned.new.self c.args.partition.now c.args.name.now (least_of c.args.versions) (greatest_of c.args.versions) (refusal_of c.in_err-opened.field-0.0) w.err.0 w.err.1 w.leaves
 
-pub returns-in_err-opened-clause-same_files : goal.returns-in_err-opened-clause-same_files
-returns-in_err-opened-clause-same_files g c = err_by c.from_residual.result (λ _. stays g c)
+pub returns-in_err-opened-clause-answer : goal.returns-in_err-opened-clause-answer
+returns-in_err-opened-clause-answer g c =
+    let w = c.in_err-opened.ensures in
+    let e : refused c.from_residual.result ≡ Some (refusal_of c.in_err-opened.field-0.0) = search rules in
+    rw e (record {
+      allowed = w.allowed;
+      leaves = leaves_alone g.R.Rng.stream c.args.partition.now c.args.name.now c.args.self.now c.open_versioned.new.self _ w.leaves;
+      err = λ _. record { directory = w.err.0; durable = w.err.1; same_files = stays g c };
+      keeps = λ o bytes k. keeps_same (λ o. o) directory durable c.args.self.now c.open_versioned.new.self o bytes w.err.0 k (stays g c);
+    })

@@ -17,10 +17,10 @@ pub returns-in-Ok : goal.returns-in-Ok
 returns-in-Ok c =
     finish_some c.args.self.now _ refl refl c.args.number (started_by c.in-Some.started) _ (sym c.in-Some.ensures.sync)
     (subst (λ (r : Result (Unit {0}) Error). Tells Done (unless_denied (refused r) told.Done)) c.in-Ok.ensures.outcome tt)
-    c.in-Some.ensures.taken c.in-Ok.ensures.numbers.config (ap scripted c.in-Ok.ensures.rng) c.in-Ok.ensures.files
+    c.in-Some.ensures.taken c.in-Ok.ensures.leaves.numbers.config (ap scripted c.in-Ok.ensures.leaves.rng) c.in-Ok.ensures.files
 
 pub returns-in-Err : goal.returns-in-Err
 returns-in-Err c =
     finish_some c.args.self.now _ refl refl c.args.number (started_by c.in-Some.started) _ (sym c.in-Some.ensures.sync)
     (subst (λ (r : Result (Unit {0}) Error). Tells (Failed c.in-Err.e) (unless_denied (refused r) told.Done)) c.in-Err.ensures.outcome refl)
-    c.in-Some.ensures.taken c.in-Err.ensures.numbers.config (ap scripted c.in-Err.ensures.rng) c.in-Err.ensures.files
+    c.in-Some.ensures.taken c.in-Err.ensures.leaves.numbers.config (ap scripted c.in-Err.ensures.leaves.rng) c.in-Err.ensures.files

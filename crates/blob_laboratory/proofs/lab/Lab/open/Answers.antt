@@ -28,11 +28,12 @@ returns-in-Ok c =
     let inner = inner_of c.in-Ok.blob in
     let q = taken _ _ _ _ _ _ _ _ c.in-Ok.ensures.answer refl in
     let leaves = q.asked.1 in
+    let found = c.in-Ok.ensures.accepted in
     open_for c.args.self.now _ c.args.partition.now c.args.name.now _ _ _ _ c.in-Some.ensures.versions
-    (exclusive_done c.args.self.now _ c.args.partition.now c.args.name.now first last c.open_exclusive.new.self (place (inside inner)) (live (inside inner)) c.in-Ok.version.0 h _ _ _ c.in-Ok.ensures.opened
-    (c.add.ensures.number ∙ ap length c.reserve.ensures.handles) c.in-Ok.ensures.size refl (ap (λ b. place (inside b)) made) (ap (λ b. live (inside b)) made) (ap size_of made ∙ c.in-Ok.ensures.tracked ∙ c.in-Ok.ensures.size)
+    (exclusive_done c.args.self.now _ c.args.partition.now c.args.name.now first last c.open_exclusive.new.self (place (inside inner)) (live (inside inner)) c.in-Ok.version.0 h _ _ _ found.opened
+    (c.add.ensures.number ∙ ap length c.reserve.ensures.handles) found.size refl (ap (λ b. place (inside b)) made) (ap (λ b. live (inside b)) made) (ap size_of made ∙ found.tracked ∙ found.size)
     (c.exclusive.ensures.registration ∙ ap Some c.in-Ok.ensures.handle) (c.add.ensures.handles ∙ ap (λ hs. hs ++ Some h ∷ []) c.reserve.ensures.handles)
-    refl refl q.free q.left q.asked.0 c.in-Ok.ensures.registered refl leaves.numbers.config leaves.drawn c.in-Ok.ensures.files)
+    refl refl q.free q.left q.asked.0 c.in-Ok.ensures.registered refl leaves.numbers.config leaves.drawn found.files)
 
 pub returns-in-Err-open_exclusive : goal.returns-in-Err-open_exclusive
 returns-in-Err-open_exclusive c =

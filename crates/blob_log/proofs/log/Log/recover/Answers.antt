@@ -17,7 +17,7 @@ returns-clause-found g c = λ o records named short k.
     let bytes = live (inside c.in_ok-blob.blob) in
     let long : length c.as_mut_slice-found.result.now ≡ length bytes = first_of (search rules, grind (arith, common_steps)) in
     let read = c.in_ok-read_into.ensures.bytes ∙ take_all (length c.as_mut_slice-found.result.now) bytes (omega (arith, long)) in
-    let there = c.in_ok-blob.ensures.found o (frames records) named k in
+    let there = c.in_ok-blob.ensures.accepted.found o (frames records) named k in
     (there.0, subst (λ (l : List (List ℕ)). BeginsWith records l) (ap scan (sym read) ∙ sym c.in_ok-records.ensures.records) (front_scanned c.scans_find_frames.ensures.again records bytes short there.1))
 
 pub returns-clause-held : goal.returns-clause-held
@@ -27,7 +27,7 @@ returns-clause-held g c = λ files stands.
     let read = c.in_ok-read_into.ensures.bytes ∙ take_all (length c.as_mut_slice-found.result.now) bytes (omega (arith, long)) in
     let o = place (inside c.in_ok-blob.blob) in
     let s = c.in_ok-records.ensures in
-    let kept = c.in_ok-read_into.ensures.keeps o bytes (c.in_ok-blob.ensures.fixed files stands) in
+    let kept = c.in_ok-read_into.ensures.keeps o bytes (c.in_ok-blob.ensures.accepted.fixed files stands) in
     subst (λ (l : List (List ℕ)). Holds (record { alloc = c.args.alloc; blob = c.in_ok-blob.blob; end = c.in_ok-records.end }) c.read_into.new.store l) (sym s.records) (record {
       kept = c.unrecorded_calls.ensures.front c.read_into.new.store o (frames (scan c.read_into.new.buf)) bytes (subst (λ (b : List ℕ). BeginsWith (frames (scan c.read_into.new.buf)) b) read s.front) kept;
       short = s.short;
@@ -39,7 +39,7 @@ returns-clause-held g c = λ files stands.
 pub returns-in_err-blob-clause-answer : goal.returns-in_err-blob-clause-answer
 returns-in_err-blob-clause-answer g c =
     let e : refused c.from_residual.result ≡ Some (refusal_of c.in_err-blob.field-0.0) = search rules in
-    rw e (Opened _ c.in_err-blob.ensures.allowed)
+    rw e (Opened _ c.in_err-blob.ensures.answer.allowed)
 
 pub returns-in_err-resize-clause-answer : goal.returns-in_err-resize-clause-answer
 returns-in_err-resize-clause-answer g c =
@@ -52,10 +52,10 @@ returns-in_err-read_into-clause-answer g c =
     let live_bytes = live (inside c.in_ok-blob.blob) in
     let long : length c.as_mut_slice-found.result.now ≡ length live_bytes = first_of (search rules, grind (arith, common_steps)) in
     let opened = c.in_ok-blob.ensures in
-    let start = starts _ _ _ _ _ _ _ _ (place (inside c.in_ok-blob.blob)) live_bytes _ opened.opened in
+    let start = starts _ _ _ _ _ _ _ _ (place (inside c.in_ok-blob.blob)) live_bytes _ opened.accepted.opened in
     let few : length c.as_mut_slice-found.result.now < 2 ^ 63 = omega (arith, c.as_mut_slice-found.ensures.len, c.resize.new.self.ok.1, c.resize.new.self.small) in
     rw e (not_read g.R.Rng.stream c.args.store.now c.open_admitted.new.self c.args.partition.now c.args.name.now (place (inside c.in_ok-blob.blob)) live_bytes (length c.as_mut_slice-found.result.now) _
-    opened.allowed opened.leaves.numbers.config opened.leaves.drawn (omega (arith, start, few)) (omega (arith, long)) c.in_err-read_into.ensures.allowed)
+    opened.answer.allowed opened.answer.leaves.numbers.config opened.answer.leaves.drawn (omega (arith, start, few)) (omega (arith, long)) c.in_err-read_into.ensures.allowed)
 
 pub returns-in_err-records-clause-answer : goal.returns-in_err-records-clause-answer
 returns-in_err-records-clause-answer g c =
@@ -63,4 +63,4 @@ returns-in_err-records-clause-answer g c =
     rw e NoMemory
 
 pub returns-clause-answer : goal.returns-clause-answer
-returns-clause-answer g c = Opened None c.in_ok-blob.ensures.allowed
+returns-clause-answer g c = Opened None c.in_ok-blob.ensures.answer.allowed
