@@ -81,6 +81,9 @@ module _ {S R O B : Type 0} (handle : handles.Ghosts B S O) (b : Blob B) (before
   abbrev pub Asks : HandleCall → Allowed
   Asks call answer = Unasked answer ⊎ handle.leaves call (inside b) (inner_of before) answer (inside c) (inner_of after)
 
+  abbrev pub AsksLaid : List Run → Allowed
+  AsksLaid rs answer = or_failed (InnerMade (run_calls rs)) answer
+
   abbrev pub AsksRuns : List Run → Allowed
   AsksRuns rs answer = Unasked answer ⊎ or_failed (InnerMade (kept_calls rs)) answer
 

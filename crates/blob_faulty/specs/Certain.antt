@@ -76,6 +76,22 @@ module _ {S R O B : Type 0} (wrapped : handles.Ghosts (Blob B) (Storage S R O) O
   DrawnStarts = (b : Blob B) (s : Storage S R O) → IsNever (config_of s).sync_rate →
       wrapped.allows_start_sync b s (Some Injected) → inner.allows_start_sync (inside b) (inner_of s) (Some Injected)
 
+-- Of all calls of a handle.
+
+pub record IsQuiet {S R O B : Type 0} (wrapped : handles.Ghosts (Blob B) (Storage S R O) O) (inner : handles.Ghosts B S O) : Type 0 where
+  pub reads : QuietReads wrapped inner
+  pub writes : QuietWrites wrapped inner
+  pub resizes : QuietResizes wrapped inner
+  pub syncs : QuietSyncs wrapped inner
+  pub started : QuietStarts wrapped inner
+
+pub record DrawsFaults {S R O B : Type 0} (wrapped : handles.Ghosts (Blob B) (Storage S R O) O) (inner : handles.Ghosts B S O) : Type 0 where
+  pub reads : DrawnReads wrapped inner
+  pub writes : DrawnWrites wrapped inner
+  pub resizes : DrawnResizes wrapped inner
+  pub syncs : DrawnSyncs wrapped inner
+  pub started : DrawnStarts wrapped inner
+
 -- where a rate is one, a call that reaches its draw isn't answered Ok
 module _ {S R O B : Type 0} (wrapped : handles.Ghosts (Blob B) (Storage S R O) O) where
   abbrev pub ReadsFail : Type 0
@@ -97,6 +113,14 @@ module _ {S R O B : Type 0} (wrapped : handles.Ghosts (Blob B) (Storage S R O) O
 
   abbrev pub StartsFail : Type 0
   StartsFail = (b : Blob B) (s : Storage S R O) → IsAlways (config_of s).sync_rate → wrapped.allows_start_sync b s None → ⊥
+
+pub record FailsCertainly {S R O B : Type 0} (wrapped : handles.Ghosts (Blob B) (Storage S R O) O) : Type 0 where
+  pub reads : ReadsFail wrapped
+  pub writes : WritesFail wrapped
+  pub synced_writes : SyncedWritesFail wrapped
+  pub resizes : ResizesFail wrapped
+  pub syncs : SyncsFail wrapped
+  pub started : StartsFail wrapped
 
 -- The same of opens, removals and scans, by what the wrapper and the store inside allow.
 

@@ -62,6 +62,14 @@ pub record Finishes {S : Type 0} (starts : Option ℕ → S → Type 0) (finishe
   pub started : starts marker between
   pub finished : finishes between marker after
 
+-- a sync, and a started one, by the inner blob
+module _ {S R O B : Type 0} (handle : handles.Ghosts B S O) (b : Blob B) (before : Storage S R O) (c : Blob B) (after : Storage S R O) where
+  abbrev pub AsksSync : Option Refusal → Type 0
+  AsksSync answer = AsksOnce (handle.leaves Sync (inside b) (inner_of before) answer (inside c)) answer before after
+
+  abbrev pub AsksStart : (S → Option ℕ → S → Type 0) → Option Refusal → Type 0
+  AsksStart finishes answer = AsksOnce (Finishes (λ marker. handle.leaves (StartSync marker) (inside b) (inner_of before) answer (inside c)) finishes) answer before after
+
 -- a read: one draw of the read rate is taken, and where it is true the inner store isn't asked
 pub record ReadLeaves {S R O : Type 0} (store : stores.Ghosts S O) (stream : R → Stream) (asked : S → Type 0) (before after : Storage S R O) : Type 0 where
   pub drawn : stream (rng_of after) ≡ (draw (config_of before).read_rate (stream (rng_of before))).1
@@ -110,8 +118,7 @@ pub record ResizeLeaves {S R O B : Type 0} (store : stores.Ghosts S O) (handle :
 -- a sync
 pub record SyncLeaves {S R O B : Type 0} (store : stores.Ghosts S O) (handle : handles.Ghosts B S O) (stream : R → Stream) (b : Blob B) (before : Storage S R O) (answer : Option Refusal) (c : Blob B) (after : Storage S R O) : Type 0 where
   pub drawn : stream (rng_of after) ≡ (draw (config_of before).sync_rate (stream (rng_of before))).1
-  pub inner : MatchBool (draw (config_of before).sync_rate (stream (rng_of before))).0 (inner_of after ≡ inner_of before)
-      (AsksOnce (handle.leaves Sync (inside b) (inner_of before) answer (inside c)) answer before after)
+  pub inner : MatchBool (draw (config_of before).sync_rate (stream (rng_of before))).0 (inner_of after ≡ inner_of before) (AsksSync handle b before c after answer)
   pub numbers : KeepsNumbers before after
   pub size : size_of c ≡ size_of b
   pub pending : answer ≡ None → (o : Place) → pending_of store.place after o ≡ with_at (pending_of store.place before) (handle.place (inside b)) [] o
@@ -122,8 +129,7 @@ pub record SyncLeaves {S R O B : Type 0} (store : stores.Ghosts S O) (handle : h
 -- a started sync: answered Ok, its handle carries the next marker, which stands behind what is pending; refused, it carries none
 pub record StartLeaves {S R O B : Type 0} (store : stores.Ghosts S O) (handle : handles.Ghosts B S O) (finishes : S → Option ℕ → S → Type 0) (stream : R → Stream) (marker : Option ℕ) (b : Blob B) (before : Storage S R O) (answer : Option Refusal) (c : Blob B) (after : Storage S R O) : Type 0 where
   pub drawn : stream (rng_of after) ≡ (draw (config_of before).sync_rate (stream (rng_of before))).1
-  pub inner : MatchBool (draw (config_of before).sync_rate (stream (rng_of before))).0 (inner_of after ≡ inner_of before)
-      (AsksOnce (Finishes (λ marker. handle.leaves (StartSync marker) (inside b) (inner_of before) answer (inside c)) finishes) answer before after)
+  pub inner : MatchBool (draw (config_of before).sync_rate (stream (rng_of before))).0 (inner_of after ≡ inner_of before) (AsksStart handle b before c after finishes answer)
   pub config : config_of after ≡ config_of before
   pub next_write : next_write_of after ≡ next_write_of before
   pub size : size_of c ≡ size_of b

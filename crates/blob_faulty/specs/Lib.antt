@@ -1,4 +1,5 @@
 pub mod Admitted
+pub mod Allowed
 pub mod AnswerLaws
 pub mod Asked
 pub mod Certain
@@ -9,6 +10,7 @@ pub mod Lends
 pub mod Names
 pub mod New
 pub mod Outcomes
+pub mod OverMemory
 pub mod Pieces
 pub mod Ready
 pub mod Syncs

@@ -1,6 +1,6 @@
 -- What opens and removals leave of a wrapper, and what that makes of the files that it stands for.
-use Rattle.std.specs.Prelude.{◌≡◌, ℕ, Bool, List, [], cond, Option, Some, None, IsSome, MatchBool}
-use Rattle.std.specs.Range.{range_inclusive_start, range_inclusive_end}
+use Rattle.std.specs.Prelude.{◌≡◌, ℕ, ◌≤◌, Bool, false, List, [], cond, Option, Some, None, IsSome, MatchBool}
+use Rattle.std.specs.Range.{range_inclusive_start, range_inclusive_end, range_inclusive_exhausted}
 use Rattle.std.specs.declared.ops.RangeInclusive.{RangeInclusive}
 use Rattle.rand_core.specs.Stream.{Stream}
 use Rattle.blob_base.specs.declared.storage.Durable as stores
@@ -13,15 +13,21 @@ use Rattle.blob_model.specs.Places.{Place}
 use Rattle.blob_header.specs.Refusals.{Refusal}
 use Rattle.blob_header.specs.declared.version.BlobVersion.{BlobVersion}
 use Rattle.blob_faulty.specs.declared.storage.Storage.{Storage}
+use Rattle.blob_faults.specs.Answers.{Allowed, injected_or}
 use Rattle.blob_faults.specs.Faults.{draw}
 use Rattle.blob_faulty.specs.Wrapper.{inner_of, rng_of, config_of, pending_of, finished_by, KeepsNumbers, KeepsRecords, Stands}
 
--- the versions that an open accepts
-abbrev pub least_of : RangeInclusive BlobVersion → ℕ
-least_of versions = (range_inclusive_start versions).0
+-- the bounds of the versions that an open accepts
+abbrev pub lower : RangeInclusive BlobVersion → ℕ
+lower versions = (range_inclusive_start versions).0
 
-abbrev pub greatest_of : RangeInclusive BlobVersion → ℕ
-greatest_of versions = (range_inclusive_end versions).0
+abbrev pub upper : RangeInclusive BlobVersion → ℕ
+upper versions = (range_inclusive_end versions).0
+
+-- a range of some versions, not iterated to its end
+pub record AreVersions (versions : RangeInclusive BlobVersion) : Type 0 where
+  pub fresh : range_inclusive_exhausted versions ≡ false
+  pub some : lower versions ≤ upper versions
 
 -- pending lists, where those of some incarnations are retired
 abbrev pub emptied : (Place → Bool) → (Place → List Pending) → Place → List Pending
@@ -47,6 +53,17 @@ pub record RemoveLeaves {S R O : Type 0} (place : O → Place) (stream : R → S
   -- after a refusal the same is pending
   pub kept : IsSome answer → (o : Place) → pending_of place after o ≡ pending_of place before o
   pub numbers : KeepsNumbers before after
+
+-- a removal through a wrapper over any store, by what that store's own may answer and leave
+abbrev pub MayRemove : {S R O : Type 0} → (R → Stream) → (S → List ℕ → Option (List ℕ) → Allowed) → Storage S R O → List ℕ → Option (List ℕ) → Allowed
+MayRemove stream allows w p n = injected_or (draw (config_of w).remove_rate (stream (rng_of w))).0 (allows (inner_of w) p n)
+
+abbrev pub Removes : {S R O : Type 0} → stores.Ghosts S O → (R → Stream) → (S → List ℕ → Option (List ℕ) → Option Refusal → S → Type 0) → Storage S R O → List ℕ → Option (List ℕ) → Option Refusal → Storage S R O → Type 0
+Removes store stream asked before p n answer after = RemoveLeaves store.place stream (asked (inner_of before) p n answer) answer (ends_by (store.directory (inner_of before)) p n) before after
+
+-- the store inside shows the same directory and durable bytes
+abbrev pub SameStore : {S R O : Type 0} → stores.Ghosts S O → Storage S R O → Storage S R O → Type 0
+SameStore store before after = (store.directory (inner_of after) ≡ store.directory (inner_of before)) × (store.durable (inner_of after) ≡ store.durable (inner_of before))
 
 -- whatever files a wrapper stood for, it now stands for what this step makes of them
 abbrev pub Steps : {S R O : Type 0} → (O → Place) → (S → Directory) → (S → Durable) → Storage S R O → Storage S R O → (Files → Files) → Type 0

@@ -1,16 +1,18 @@
 -- A wrapper, seen as its inner store, its configuration, and what it has recorded.
-use Rattle.std.specs.Prelude.{◌≡◌, ℕ, ◌<◌, List, Option, Some, None}
+use Rattle.std.specs.Prelude.{◌≡◌, ℕ, ◌<◌, List, [], ◌∷◌, ◌++◌, Option, Some, None}
 use Rattle.blob_model.specs.Directory.{Directory}
 use Rattle.blob_model.specs.Durable.{Durable}
 use Rattle.blob_model.specs.Files.{Files, all_logged}
-use Rattle.blob_model.specs.Log.{Entry}
-use Rattle.blob_model.specs.Pending.{Pending, finished}
+use Rattle.blob_model.specs.Log.{Entry, need_of}
+use Rattle.blob_model.specs.Pending.{Pending, Waiting, finished}
 use Rattle.blob_model.specs.Places.{Place}
 use Rattle.blob_model.specs.Stands.{StandsFor}
 use Rattle.blob_faults.specs.declared.config.Config.{Config}
+use Rattle.blob_faults.specs.declared.config.WriteConfig.{WriteConfig}
+use Rattle.blob_faults.specs.Faults.{issued}
 use Rattle.blob_faulty.specs.declared.storage.Storage.{Storage}
 use Rattle.blob_faulty.specs.declared.blob.Blob.{Blob}
-use Rattle.blob_faults.specs.Lists.{list_of}
+use Rattle.blob_faults.specs.Lists.{list_of, ChangesAt}
 
 abbrev pub inner_of : {S R O : Type 0} → Storage S R O → S
 inner_of w = w.inner
@@ -42,10 +44,20 @@ pub record KeepsNumbers {S R O : Type 0} (old new : Storage S R O) : Type 0 wher
   pub next_marker : next_marker_of new ≡ next_marker_of old
   pub config : config_of new ≡ config_of old
 
+-- nor does a durable byte of the store change, by what `bytes_of` shows of it
+pub record KeepsDurable {S R O : Type 0} (bytes_of : S → Durable) (old new : Storage S R O) : Type 0 where
+  pub durable : bytes_of (inner_of new) ≡ bytes_of (inner_of old)
+  pub numbers : KeepsNumbers old new
+
 -- nothing was recorded and nothing retired
 pub record KeepsRecords {S R O : Type 0} (place : O → Place) (old new : Storage S R O) : Type 0 where
   pub pending : (o : Place) → pending_of place new o ≡ pending_of place old o
   pub numbers : KeepsNumbers old new
+
+-- a write waits behind what else the list at this index holds
+abbrev pub GainsWrite : {S R O : Type 0} → (O → Place) → Storage S R O → Storage S R O → ℕ → ℕ → List ℕ → WriteConfig → Type 0
+GainsWrite place old new list offset bytes config =
+    ChangesAt place old.lists.all.lists.items new.lists.all.lists.items list (λ q. q ++ Waiting (need_of (issued (next_write_of old) offset bytes config) []) ∷ [])
 
 -- a wrapper, over a store with this directory and these durable bytes, stands for files
 abbrev pub Stands : {S R O : Type 0} → (O → Place) → Directory → Durable → Storage S R O → Files → Type 0

@@ -7,7 +7,7 @@ use Rattle.blob_model.specs.Files.{Files, all_logged}
 use Rattle.blob_model.specs.Live.{live_after, live_written, all_written}
 use Rattle.blob_model.specs.Log.{Entry}
 use Rattle.blob_model.specs.Order.{Held, held_at}
-use Rattle.blob_model.specs.Pending.{Pending}
+use Rattle.blob_model.specs.Pending.{Pending, Marker}
 use Rattle.blob_model.specs.Places.{Place}
 use Rattle.blob_header.specs.Refusals.{Refusal, Injected, Memory, WriteFailed}
 use Rattle.blob_model.specs.Runs.{Run, all_behind, kept_runs, runs}
@@ -18,8 +18,9 @@ use Rattle.blob_faulty.specs.declared.blob.Blob.{Blob}
 use Rattle.blob_faults.specs.declared.config.Config.{Config}
 use Rattle.blob_faulty.specs.declared.storage.Storage.{Storage}
 use Rattle.blob_faults.specs.Lists.{held}
-use Rattle.blob_faulty.specs.Asked.{InnerRefused, InnerRefusedInRoom}
+use Rattle.blob_faulty.specs.Asked.{AsksLaid, InnerRefused, InnerRefusedInRoom}
 use Rattle.blob_faulty.specs.Pieces.{first_after}
+use Rattle.blob_faulty.specs.Wrapper.{pending_of}
 use Rattle.blob_faults.specs.Faults.{WriteFate, Done, Failed, ResizeFate, retention}
 use Rattle.blob_faults.specs.Recorded.{loose, size_of_runs, recorded_by, live_by, size_by, recorded_resize, live_of_resize, size_of_resize}
 
@@ -270,6 +271,9 @@ module _ {S R O B : Type 0} (store : stores.Ghosts S O) (handle : handles.Ghosts
   FailedBy (Failed chosen) offset bytes = LaysFront (InnerRefusedInRoom handle b w b' w' (runs offset bytes chosen)) (seen store handle b w) (seen store handle b' w') (runs offset bytes chosen)
   FailedBy fate offset bytes = SameRecords (seen store handle b w) (seen store handle b' w')
 
+  abbrev pub FailsBy : WriteFate → ℕ → List ℕ → Option Refusal → Type 0
+  FailsBy fate offset bytes answer = answer ≡ Some WriteFailed → FailedBy fate offset bytes
+
   abbrev pub WritesBy : WriteFate → Bool → ℕ → List ℕ → Option Refusal → Type 0
   WritesBy fate sync offset bytes answer = WroteBy fate handle.is_direct (seen store handle b w) (seen store handle b' w') sync offset bytes answer
 
@@ -281,3 +285,13 @@ module _ {S R O B : Type 0} (store : stores.Ghosts S O) (handle : handles.Ghosts
 
   abbrev pub Retires : List Pending → Type 0
   Retires list = Holds (seen store handle b w) (seen store handle b' w') list
+
+  -- the next marker stands behind it
+  abbrev pub Marks : Type 0
+  Marks = Retires (pending_of store.place w (handle.place b.inner) ++ Marker w.next_marker ∷ [])
+
+-- runs that were to be laid: what was asked of the inner blob, what is recorded, and where it was refused behind the first what is laid
+pub record LaysAll {S R O B : Type 0} (store : stores.Ghosts S O) (handle : handles.Ghosts B S O) (b : Blob B) (w : Storage S R O) (b' : Blob B) (w' : Storage S R O) (rs : List Run) (answer : Option Refusal) : Type 0 where
+  pub asked : AsksLaid handle b w b' w' rs answer
+  pub recorded : RecordsRuns store handle b w b' w' rs answer
+  pub front : answer ≡ Some WriteFailed → LaidFront store handle b w b' w' rs

@@ -1,20 +1,18 @@
 //! Reads into a slice of the caller's, and plain writes of one, over a memory store. No list is made for the call.
-ghost use Rattle.std.specs.Prelude.{◌≡◌, ◌≤◌, ◌<◌, ◌+◌, ◌^◌, ℕ, List, true, false, Some, is_some, OnOk, OnErr, length, take, drop};
-ghost use Rattle.blob_header.specs.Refusals.{refused, IsMemory, WriteFailed};
+ghost use Rattle.std.specs.Prelude.{◌≡◌, ◌≤◌, ◌<◌, ◌+◌, ◌^◌, false, Some, OnOk, OnErr, length, take, drop};
+ghost use Rattle.blob_header.specs.Refusals.{refused, IsMemory};
 ghost use Rattle.blob_model.specs.Bytes.{written};
 ghost use Rattle.blob_model.specs.Directory.{is_current};
-ghost use Rattle.blob_model.specs.Places.{Place};
-ghost use Rattle.blob_faults.specs.Answers.{injected_or, or_memory, numbered, lacks_number, allows_fate};
 ghost use Rattle.blob_faults.specs.Fates.{write_fate_of, IsSized};
-ghost use Rattle.blob_faults.specs.Faults.{draw, retention};
 ghost use Rattle.blob_base.specs.HandleCalls.{Write};
+ghost use Rattle.blob_faulty.specs.Allowed.{MayWritePlain, MayWriteBy};
 ghost use Rattle.blob_faulty.specs.Asked.{Asks, AsksWrite};
 ghost use Rattle.blob_faulty.specs.HandleLeaves.{ReadLeaves, WriteLeaves};
-ghost use Rattle.blob_faulty.specs.Keeps.{Keeps};
+ghost use Rattle.blob_faulty.specs.Keeps.{LosesNothing};
 ghost use Rattle.blob_faulty.specs.Names.{Steps};
-ghost use Rattle.blob_faulty.specs.Wrapper.{inner_of, rng_of, config_of, inside};
-ghost use Rattle.blob_faulty.specs.Writes.{Writes, Records, FailedBy, WritesBy, unrecorded, plain};
-ghost use Rattle.blob_memory.specs.Answers.{read_refusal};
+ghost use Rattle.blob_faulty.specs.OverMemory.{memory_store, memory_handle, MayReadInto};
+ghost use Rattle.blob_faulty.specs.Wrapper.{inner_of, inside};
+ghost use Rattle.blob_faulty.specs.Writes.{Writes, Records, FailsBy, WritesBy, unrecorded, plain};
 ghost use Rattle.blob_memory.specs.Store.{directory, durable, place, live};
 
 use crate::blob::Blob;
@@ -38,14 +36,14 @@ impl Blob<blob_memory::Blob> {
         offset: u64,
         buf: &mut [u8],
     ) -> Result<(), Error>
-        ensures allowed { injected_or (draw (config_of store.old).read_rate (R.stream (rng_of store.old))).0 (λ answer. answer ≡ read_refusal (place (inside self.now)) (live (inside self.now)) offset (length buf.old)) (refused result) }
+        ensures allowed { MayReadInto R.stream self.now store.old offset (length buf.old) (refused result) }
         ensures bytes { OnOk result (buf.new ≡ take (length buf.old) (drop offset (live (inside self.now)))) }
         ensures within { OnOk result (offset + length buf.old ≤ length (live (inside self.now))) }
         ensures err { OnErr result (buf.new ≡ buf.old) }
         ensures inner { inner_of store.new ≡ inner_of store.old }
-        ensures leaves { ReadLeaves ⟦<Memory as blob_base::Durable>⟧ R.stream (λ inner. inner ≡ inner_of store.old) store.old store.new }
+        ensures leaves { ReadLeaves memory_store R.stream (λ inner. inner ≡ inner_of store.old) store.old store.new }
         ensures files { Steps (λ o. o) directory durable store.old store.new (λ files. files) }
-        ensures keeps { (o : Place) (bytes : List ℕ) → Keeps store.old o bytes → Keeps store.new o bytes }
+        ensures keeps { LosesNothing store.old store.new }
     {
         if draws(store.config.read_rate, &mut store.rng) {
             return Err(Error::Injected);
@@ -61,9 +59,9 @@ impl Blob<blob_memory::Blob> {
         bytes: &[u8],
     ) -> Result<(), Error>
         requires fits { offset + length bytes.now < 2 ^ 64 }
-        ensures allowed { ⟦<blob_memory::Blob as blob_base::Blob<Memory>>⟧.allows_write self.old.inner store.old.inner offset bytes.now false (refused result) }
-        ensures asked { ⟦<blob_memory::Blob as blob_base::Blob<Memory>>⟧.leaves (Write offset bytes.now false) self.old.inner store.old.inner (refused result) self.new.inner store.new.inner }
-        ensures wrote { Writes ⟦<Memory as blob_base::Durable>⟧ ⟦<blob_memory::Blob as blob_base::Blob<Memory>>⟧ self.old store.old self.new store.new (unrecorded false offset bytes.now) (refused result) }
+        ensures allowed { memory_handle.allows_write self.old.inner store.old.inner offset bytes.now false (refused result) }
+        ensures asked { memory_handle.leaves (Write offset bytes.now false) self.old.inner store.old.inner (refused result) self.new.inner store.new.inner }
+        ensures wrote { Writes memory_store memory_handle self.old store.old self.new store.new (unrecorded false offset bytes.now) (refused result) }
         ensures untracked { OnErr result (self.new.size ≡ self.old.size) }
         ensures rest { store.new ≡ store.old }
     {
@@ -82,9 +80,9 @@ impl Blob<blob_memory::Blob> {
         bytes: &[u8],
     ) -> Result<(), Error>
         requires fits { offset + length bytes.now < 2 ^ 64 }
-        ensures allowed { or_memory (numbered (lacks_number (is_some (retention store.old.config.write_rate)) store.old.next_write bytes.now) (⟦<blob_memory::Blob as blob_base::Blob<Memory>>⟧.allows_write self.old.inner store.old.inner offset bytes.now false)) (refused result) }
-        ensures asked { Asks ⟦<blob_memory::Blob as blob_base::Blob<Memory>>⟧ self.old store.old self.new store.new (Write offset bytes.now false) (refused result) }
-        ensures recorded { Records ⟦<Memory as blob_base::Durable>⟧ ⟦<blob_memory::Blob as blob_base::Blob<Memory>>⟧ self.old store.old self.new store.new (plain offset bytes.now) (refused result) }
+        ensures allowed { MayWritePlain memory_handle self.old store.old offset bytes.now (refused result) }
+        ensures asked { Asks memory_handle self.old store.old self.new store.new (Write offset bytes.now false) (refused result) }
+        ensures recorded { Records memory_store memory_handle self.old store.old self.new store.new (plain offset bytes.now) (refused result) }
     {
         let Some(config) = retained(store.config.write_rate) else {
             return self.write_unrecorded_from(store, offset, bytes);
@@ -114,11 +112,10 @@ impl Blob<blob_memory::Blob> {
     ) -> Result<(), Error>
         requires fits { offset + length bytes.now < 2 ^ 64 }
         requires sized { IsSized (length bytes.now) (write_fate_of fate) }
-        ensures allowed { or_memory (allows_fate (write_fate_of fate) (⟦<blob_memory::Blob as blob_base::Blob<Memory>>⟧.allows_write self.old.inner store.old.inner) (⟦<blob_memory::Blob as blob_base::Blob<Memory>>⟧.allows_reserve self.old.inner store.old.inner) true (is_some (retention store.old.config.write_rate)) store.old.next_write false offset bytes.now) (refused result) }
-        ensures asked { AsksWrite ⟦<blob_memory::Blob as blob_base::Blob<Memory>>⟧ self.old store.old self.new store.new (write_fate_of fate) false offset bytes.now (refused result) }
-        ensures wrote { WritesBy ⟦<Memory as blob_base::Durable>⟧ ⟦<blob_memory::Blob as blob_base::Blob<Memory>>⟧ self.old store.old self.new store.new (write_fate_of fate) false offset bytes.now (refused result) }
-        ensures failed { refused result ≡ Some WriteFailed
-            → FailedBy ⟦<Memory as blob_base::Durable>⟧ ⟦<blob_memory::Blob as blob_base::Blob<Memory>>⟧ self.old store.old self.new store.new (write_fate_of fate) offset bytes.now }
+        ensures allowed { MayWriteBy memory_handle self.old store.old (write_fate_of fate) false offset bytes.now (refused result) }
+        ensures asked { AsksWrite memory_handle self.old store.old self.new store.new (write_fate_of fate) false offset bytes.now (refused result) }
+        ensures wrote { WritesBy memory_store memory_handle self.old store.old self.new store.new (write_fate_of fate) false offset bytes.now (refused result) }
+        ensures failed { FailsBy memory_store memory_handle self.old store.old self.new store.new (write_fate_of fate) offset bytes.now (refused result) }
     {
         if let WriteFate::Done = &fate {
             return self.write_plain_from(store, offset, bytes);
@@ -141,7 +138,7 @@ impl Blob<blob_memory::Blob> {
         bytes: &[u8],
     ) -> Result<(), Error>
         ensures allowed { ⟦<Blob<blob_memory::Blob> as blob_base::Blob<Storage<Memory, R>>>⟧.allows_write self.old store.old offset bytes.now false (refused result) }
-        ensures leaves { WriteLeaves ⟦<Memory as blob_base::Durable>⟧ ⟦<blob_memory::Blob as blob_base::Blob<Memory>>⟧ R.stream offset bytes.now false self.old store.old (refused result) self.new store.new }
+        ensures leaves { WriteLeaves memory_store memory_handle R.stream offset bytes.now false self.old store.old (refused result) self.new store.new }
         ensures live { OnOk result (live (inside self.new) ≡ written (live (inside self.old)) offset bytes.now) }
         ensures durable { OnOk result (durable (inner_of store.new) ≡ durable (inner_of store.old)) }
         ensures stale { is_current (directory (inner_of store.old)) (place (inside self.old)) ≡ false → durable (inner_of store.new) ≡ durable (inner_of store.old) }

@@ -1,6 +1,5 @@
 //! What a wrapper's handles may answer where their draws are certain, and what a call that records nothing keeps.
-ghost use Rattle.blob_faulty.specs.Certain.{QuietReads, QuietWrites, QuietResizes, QuietSyncs, QuietStarts, DrawnReads, DrawnWrites, DrawnResizes, DrawnSyncs, DrawnStarts};
-ghost use Rattle.blob_faulty.specs.Certain.{ReadsFail, WritesFail, SyncedWritesFail, ResizesFail, SyncsFail, StartsFail};
+ghost use Rattle.blob_faulty.specs.Certain.{IsQuiet, DrawsFaults, FailsCertainly};
 ghost use Rattle.blob_faulty.specs.Wrapper.{KeepsFiles};
 
 pub mod current_handles;
@@ -15,30 +14,17 @@ use rand_core::Rng;
 /// Where each rate that a call draws is zero or not set, and no number used up, the wrapper may answer what its inner store may, or `Memory`.
 /// An empty SYNC write and one whose end can't be counted are answered before any draw.
 pub fn without_faults<S: blob_base::Storage, R: Rng, B: blob_base::Blob<S>>()
-    ensures reads { QuietReads ⟦<Blob<B> as blob_base::Blob<Storage<S, R>>>⟧ B.Blob }
-    ensures writes { QuietWrites ⟦<Blob<B> as blob_base::Blob<Storage<S, R>>>⟧ B.Blob }
-    ensures resizes { QuietResizes ⟦<Blob<B> as blob_base::Blob<Storage<S, R>>>⟧ B.Blob }
-    ensures syncs { QuietSyncs ⟦<Blob<B> as blob_base::Blob<Storage<S, R>>>⟧ B.Blob }
-    ensures started { QuietStarts ⟦<Blob<B> as blob_base::Blob<Storage<S, R>>>⟧ B.Blob }
+    ensures { IsQuiet ⟦<Blob<B> as blob_base::Blob<Storage<S, R>>>⟧ B.Blob }
 {}
 
 /// A fault is injected only where a rate that the call draws isn't zero, or where the inner store may answer it.
 pub fn faults_are_drawn<S: blob_base::Storage, R: Rng, B: blob_base::Blob<S>>()
-    ensures reads { DrawnReads ⟦<Blob<B> as blob_base::Blob<Storage<S, R>>>⟧ B.Blob }
-    ensures writes { DrawnWrites ⟦<Blob<B> as blob_base::Blob<Storage<S, R>>>⟧ B.Blob }
-    ensures resizes { DrawnResizes ⟦<Blob<B> as blob_base::Blob<Storage<S, R>>>⟧ B.Blob }
-    ensures syncs { DrawnSyncs ⟦<Blob<B> as blob_base::Blob<Storage<S, R>>>⟧ B.Blob }
-    ensures started { DrawnStarts ⟦<Blob<B> as blob_base::Blob<Storage<S, R>>>⟧ B.Blob }
+    ensures { DrawsFaults ⟦<Blob<B> as blob_base::Blob<Storage<S, R>>>⟧ B.Blob }
 {}
 
 /// Where a rate that a call draws is one, the call isn't answered Ok, unless it is answered before its draw.
 pub fn certain_faults<S: blob_base::Storage, R: Rng, B: blob_base::Blob<S>>()
-    ensures reads { ReadsFail ⟦<Blob<B> as blob_base::Blob<Storage<S, R>>>⟧ }
-    ensures writes { WritesFail ⟦<Blob<B> as blob_base::Blob<Storage<S, R>>>⟧ }
-    ensures synced_writes { SyncedWritesFail ⟦<Blob<B> as blob_base::Blob<Storage<S, R>>>⟧ }
-    ensures resizes { ResizesFail ⟦<Blob<B> as blob_base::Blob<Storage<S, R>>>⟧ }
-    ensures syncs { SyncsFail ⟦<Blob<B> as blob_base::Blob<Storage<S, R>>>⟧ }
-    ensures started { StartsFail ⟦<Blob<B> as blob_base::Blob<Storage<S, R>>>⟧ }
+    ensures { FailsCertainly ⟦<Blob<B> as blob_base::Blob<Storage<S, R>>>⟧ }
 {}
 
 /// A call that records and retires nothing, and leaves the directory and the durable bytes, leaves a wrapper that stands for the same files.

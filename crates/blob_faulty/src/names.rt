@@ -2,12 +2,12 @@
 ghost use Rattle.std.specs.Prelude.{◌≡◌, OnOk, OnErr, option_copied};
 ghost use Rattle.blob_model.specs.Directory.{removed};
 ghost use Rattle.blob_model.specs.Durable.{durable_without};
-ghost use Rattle.blob_model.specs.Files.{after_remove, ends_by};
+ghost use Rattle.blob_model.specs.Files.{after_remove};
 ghost use Rattle.blob_base.specs.Handles.{outcome_of, marker_of};
 ghost use Rattle.blob_header.specs.Refusals.{refused};
 ghost use Rattle.blob_faults.specs.Answers.{injected_or};
 ghost use Rattle.blob_faults.specs.Faults.{draw};
-ghost use Rattle.blob_faulty.specs.Names.{OpenLeaves, RemoveLeaves, ScanLeaves, FinishLeaves, Steps};
+ghost use Rattle.blob_faulty.specs.Names.{OpenLeaves, MayRemove, Removes, ScanLeaves, FinishLeaves, SameStore, Steps};
 ghost use Rattle.blob_faulty.specs.Wrapper.{inner_of, rng_of, config_of, inside, size_of};
 
 use crate::blob::Blob;
@@ -27,11 +27,11 @@ impl<S: blob_base::Storage, R: Rng> Storage<S, R> {
     /// `Injected`; then as the store inside: over memory `PartitionNameInvalid`, `PartitionMissing`, `BlobMissing`, or `Memory`
     /// for their texts. Nothing is removed or retired.
     pub fn remove_retired(&mut self, partition: &str, name: Option<&[u8]>) -> Result<Retired, Error>
-        ensures allowed { injected_or (draw (config_of self.old).remove_rate (R.stream (rng_of self.old))).0 (S.allows_remove (inner_of self.old) partition.now (option_copied name.entry)) (refused result) }
-        ensures leaves { RemoveLeaves S.place R.stream (S.leaves_remove (inner_of self.old) partition.now (option_copied name.entry) (refused result)) (refused result) (ends_by (S.directory (inner_of self.old)) partition.now (option_copied name.entry)) self.old self.new }
+        ensures allowed { MayRemove R.stream S.allows_remove self.old partition.now (option_copied name.entry) (refused result) }
+        ensures leaves { Removes S.Durable R.stream S.leaves_remove self.old partition.now (option_copied name.entry) (refused result) self.new }
         ensures directory { OnOk result (S.directory (inner_of self.new) ≡ removed (S.directory (inner_of self.old)) partition.now (option_copied name.entry)) }
         ensures durable { OnOk result (S.durable (inner_of self.new) ≡ durable_without (S.durable (inner_of self.old)) partition.now (option_copied name.entry)) }
-        ensures err { OnErr result ((S.directory (inner_of self.new) ≡ S.directory (inner_of self.old)) × (S.durable (inner_of self.new) ≡ S.durable (inner_of self.old))) }
+        ensures err { OnErr result (SameStore S.Durable self.old self.new) }
         ensures files { OnOk result (Steps S.place S.directory S.durable self.old self.new (λ files. after_remove files partition.now (option_copied name.entry))) }
         ensures same_files { OnErr result (Steps S.place S.directory S.durable self.old self.new (λ files. files)) }
     {
@@ -50,13 +50,13 @@ impl<S: blob_base::Storage, R: Rng> blob_base::Storage for Storage<S, R> {
 
     ghost allows_open = { λ s p n first last. injected_or (draw (config_of s).open_rate (R.stream (rng_of s))).0 (S.allows_open (inner_of s) p n first last) };
 
-    ghost allows_remove = { λ s p n. injected_or (draw (config_of s).remove_rate (R.stream (rng_of s))).0 (S.allows_remove (inner_of s) p n) };
+    ghost allows_remove = { MayRemove R.stream S.allows_remove };
 
     ghost allows_scan = { λ s p. injected_or (draw (config_of s).scan_rate (R.stream (rng_of s))).0 (S.allows_scan (inner_of s) p) };
 
     ghost leaves_open = { λ before p n first last answer after. OpenLeaves S.place R.stream (S.leaves_open (inner_of before) p n first last answer) before after };
 
-    ghost leaves_remove = { λ before p n answer after. RemoveLeaves S.place R.stream (S.leaves_remove (inner_of before) p n answer) answer (ends_by (S.directory (inner_of before)) p n) before after };
+    ghost leaves_remove = { Removes S.Durable R.stream S.leaves_remove };
 
     ghost leaves_scan = { λ before p answer after. ScanLeaves S.Durable R.stream (S.leaves_scan (inner_of before) p answer) before after };
 

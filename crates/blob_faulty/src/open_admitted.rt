@@ -1,9 +1,8 @@
 //! Opens that are admitted at once.
-ghost use Rattle.std.specs.Prelude.{◌≡◌, ◌≤◌, false, IfOk};
-ghost use Rattle.std.specs.Range.{range_inclusive_start, range_inclusive_end, range_inclusive_exhausted};
+ghost use Rattle.std.specs.Prelude.{IfOk};
 ghost use Rattle.blob_header.specs.Refusals.{refused};
 ghost use Rattle.blob_faulty.specs.Admitted.{AdmitsOpen, FindsKept};
-ghost use Rattle.blob_faulty.specs.Names.{least_of, greatest_of};
+ghost use Rattle.blob_faulty.specs.Names.{AreVersions, lower, upper};
 
 use crate::blob::Blob;
 use crate::laws::names::opens;
@@ -26,10 +25,9 @@ impl<R: Rng> Storage<blob_memory::Storage, R> {
         name: &[u8],
         versions: RangeInclusive<BlobVersion>,
     ) -> Result<(Blob<blob_memory::Blob>, u64, BlobVersion), Error>
-        requires fresh { range_inclusive_exhausted versions ≡ false }
-        requires some { (range_inclusive_start versions).0 ≤ (range_inclusive_end versions).0 }
-        ensures answer { AdmitsOpen self.old self.new partition.now name.now (least_of versions) (greatest_of versions) R.stream (refused result) }
-        ensures accepted { IfOk result (λ opened. FindsKept self.old self.new partition.now name.now (least_of versions) (greatest_of versions) opened.0 opened.1 opened.2.0) }
+        requires { AreVersions versions }
+        ensures answer { AdmitsOpen self.old self.new partition.now name.now (lower versions) (upper versions) R.stream (refused result) }
+        ensures accepted { IfOk result (λ o. FindsKept self.old self.new partition.now name.now (lower versions) (upper versions) o.0 o.1 o.2.0) }
     {
         opens::<blob_memory::Storage, R>();
         numbers_are_given::<blob_memory::Storage>();
@@ -50,7 +48,7 @@ impl<R: Rng> Storage<blob_memory::Storage, R> {
         name: &[u8],
     ) -> Result<(Blob<blob_memory::Blob>, u64), Error>
         ensures answer { AdmitsOpen self.old self.new partition.now name.now 0 0 R.stream (refused result) }
-        ensures accepted { IfOk result (λ opened. FindsKept self.old self.new partition.now name.now 0 0 opened.0 opened.1 0) }
+        ensures accepted { IfOk result (λ o. FindsKept self.old self.new partition.now name.now 0 0 o.0 o.1 0) }
     {
         let versions = DEFAULT_BLOB_VERSION..=DEFAULT_BLOB_VERSION;
         let (blob, size, _) = self.open_versioned_admitted(partition, name, versions)?;

@@ -1,11 +1,10 @@
 //! Exclusive opens that are admitted at once.
-ghost use Rattle.std.specs.Prelude.{◌≡◌, ◌≤◌, false, OnOk, OnErr, IfOk};
-ghost use Rattle.std.specs.Range.{range_inclusive_start, range_inclusive_end, range_inclusive_exhausted};
+ghost use Rattle.std.specs.Prelude.{◌≡◌, OnOk, OnErr, IfOk};
 ghost use Rattle.blob_header.specs.Refusals.{refused};
 ghost use Rattle.blob_faulty.specs.Admitted.{FindsKept};
 ghost use Rattle.blob_faulty.specs.Exclusive.{ExclusiveAnswer};
 ghost use Rattle.blob_faulty.specs.Keeps.{LosesNothing};
-ghost use Rattle.blob_faulty.specs.Names.{least_of, greatest_of};
+ghost use Rattle.blob_faulty.specs.Names.{AreVersions, lower, upper};
 ghost use Rattle.blob_opens.specs.OpenNames.{opened};
 ghost use Rattle.blob_opens.specs.Opens.{names_of, registration_of, inner_of as handle_of};
 
@@ -35,13 +34,12 @@ impl<R: Rng> Storage<blob_memory::Storage, R> {
         name: &[u8],
         versions: RangeInclusive<BlobVersion>,
     ) -> Result<(open::Blob<Blob<blob_memory::Blob>>, u64, BlobVersion), Error>
-        requires fresh { range_inclusive_exhausted versions ≡ false }
-        requires some { (range_inclusive_start versions).0 ≤ (range_inclusive_end versions).0 }
-        ensures answer { ExclusiveAnswer self.old self.new partition.now name.now (least_of versions) (greatest_of versions) R.stream (names_of registry.old) (refused result) }
+        requires { AreVersions versions }
+        ensures answer { ExclusiveAnswer self.old self.new partition.now name.now (lower versions) (upper versions) R.stream (names_of registry.old) (refused result) }
         ensures registered { OnOk result (names_of registry.new ≡ opened (names_of registry.old) partition.now name.now) }
         ensures err { OnErr result (names_of registry.new ≡ names_of registry.old) }
         ensures handle { IfOk result (λ o. registration_of o.0 ≡ record { partition = partition.now; name = name.now; number = (names_of registry.old).next }) }
-        ensures accepted { IfOk result (λ o. FindsKept self.old self.new partition.now name.now (least_of versions) (greatest_of versions) (handle_of o.0) o.1 o.2.0) }
+        ensures accepted { IfOk result (λ o. FindsKept self.old self.new partition.now name.now (lower versions) (upper versions) (handle_of o.0) o.1 o.2.0) }
         ensures keeps { LosesNothing self.old self.new }
     {
         opens::<blob_memory::Storage, R>();

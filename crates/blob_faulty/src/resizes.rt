@@ -6,7 +6,7 @@ ghost use Rattle.blob_faults.specs.Answers.{or_memory, allows_resize};
 ghost use Rattle.blob_faults.specs.Fates.{resize_fate_of};
 ghost use Rattle.blob_base.specs.HandleCalls.{Resize};
 ghost use Rattle.blob_faulty.specs.Asked.{Asks, AsksResize};
-ghost use Rattle.blob_faulty.specs.Wrapper.{KeepsNumbers};
+ghost use Rattle.blob_faulty.specs.Wrapper.{KeepsDurable};
 ghost use Rattle.blob_faulty.specs.Writes.{Writes, Records, ResizesBy, cut};
 
 use crate::blob::Blob;
@@ -48,8 +48,7 @@ impl<B> Blob<B> {
         ensures allowed { or_memory (B.allows_resize self.old.inner store.old.inner len) (refused result) }
         ensures asked { Asks B.Blob self.old store.old self.new store.new (Resize len) (refused result) }
         ensures recorded { Records S.Durable B.Blob self.old store.old self.new store.new (cut len (Resized len ∷ [])) (refused result) }
-        ensures durable { S.durable store.new.inner ≡ S.durable store.old.inner }
-        ensures numbers { KeepsNumbers store.old store.new }
+        ensures kept { KeepsDurable S.durable store.old store.new }
     {
         let list = self.room_for(store, Room::Entry)?;
         self.resize_unrecorded(store, len)?;
@@ -70,8 +69,7 @@ impl<B> Blob<B> {
         ensures allowed { allows_resize (B.allows_resize self.old.inner store.old.inner) (resize_fate_of fate) len (refused result) }
         ensures asked { AsksResize B.Blob self.old store.old self.new store.new (resize_fate_of fate) len (refused result) }
         ensures resized { ResizesBy S.Durable B.Blob self.old store.old self.new store.new (resize_fate_of fate) len (refused result) }
-        ensures durable { S.durable store.new.inner ≡ S.durable store.old.inner }
-        ensures numbers { KeepsNumbers store.old store.new }
+        ensures kept { KeepsDurable S.durable store.old store.new }
     {
         match fate {
             ResizeFate::Resizes(true) => self.resize_pending(store, len),

@@ -1,12 +1,9 @@
 //! How a sync goes to the inner blob, and what it retires.
-ghost use Rattle.std.specs.Prelude.{◌≡◌, ◌<◌, ◌+◌, ◌-◌, ◌^◌, ◌++◌, [], ◌∷◌, OnOk, IfOk, ℕ, Option};
-ghost use Rattle.blob_base.specs.HandleCalls.{Sync, StartSync};
-ghost use Rattle.blob_model.specs.Pending.{Marker};
+ghost use Rattle.std.specs.Prelude.{◌≡◌, ◌<◌, ◌+◌, ◌-◌, ◌^◌, [], OnOk, IfOk};
 ghost use Rattle.blob_header.specs.Refusals.{refused};
 ghost use Rattle.blob_faults.specs.Answers.{or_memory};
-ghost use Rattle.blob_faulty.specs.HandleLeaves.{AsksOnce, Finishes};
-ghost use Rattle.blob_faulty.specs.Wrapper.{pending_of};
-ghost use Rattle.blob_faulty.specs.Writes.{Syncs, Retires};
+ghost use Rattle.blob_faulty.specs.HandleLeaves.{AsksSync, AsksStart};
+ghost use Rattle.blob_faulty.specs.Writes.{Syncs, Retires, Marks};
 
 use crate::blob::Blob;
 use crate::storage::Storage;
@@ -23,7 +20,7 @@ impl<B> Blob<B> {
         B: blob_base::Blob<S>,
         ensures allowed { or_memory (B.allows_sync self.old.inner store.old.inner) (refused result) }
         ensures synced { Syncs S.Durable B.Blob self.old store.old self.new store.new (refused result) }
-        ensures asked { AsksOnce (B.leaves Sync self.old.inner store.old.inner (refused result) self.new.inner) (refused result) store.old store.new }
+        ensures asked { AsksSync B.Blob self.old store.old self.new store.new (refused result) }
         ensures retired { OnOk result (Retires S.Durable B.Blob self.old store.old self.new store.new []) }
         ensures next_marker { store.new.next_marker ≡ store.old.next_marker }
     {
@@ -43,11 +40,9 @@ impl<B> Blob<B> {
         requires left { store.old.next_marker < 2 ^ 64 - 1 }
         ensures allowed { or_memory (B.allows_start_sync self.old.inner store.old.inner) (refused result) }
         ensures synced { Syncs S.Durable B.Blob self.old store.old self.new store.new (refused result) }
-        ensures asked { let starts = λ (marker : Option ℕ). B.leaves (StartSync marker) self.old.inner store.old.inner (refused result) self.new.inner in
-            AsksOnce (Finishes starts S.leaves_finish) (refused result) store.old store.new }
+        ensures asked { AsksStart B.Blob self.old store.old self.new store.new S.leaves_finish (refused result) }
         ensures marker { IfOk result (λ marker. marker ≡ store.old.next_marker) }
-        ensures marked { let before = pending_of S.place store.old (B.place self.old.inner) in
-            OnOk result (Retires S.Durable B.Blob self.old store.old self.new store.new (before ++ Marker store.old.next_marker ∷ [])) }
+        ensures marked { OnOk result (Marks S.Durable B.Blob self.old store.old self.new store.new) }
         ensures next { OnOk result (store.new.next_marker ≡ store.old.next_marker + 1) }
     {
         let list = self.room_for(store, Room::Mark)?;

@@ -4,7 +4,7 @@ ghost use Rattle.std.specs.Prelude.{◌≡◌, ◌<◌, ◌+◌, ◌^◌, length
 use crate::blob::Blob;
 use crate::storage::Storage;
 use blob_base::laws::overlays::runs_are_choices;
-use blob_base::{Error, IoBufs, WriteOptions};
+use blob_base::{Error, IoBufs};
 use blob_faults::room::Room;
 use blob_faults::runs::Span;
 
@@ -90,17 +90,17 @@ impl Piece {
 }
 
 impl<B> Blob<B> {
-    ghost use Rattle.std.specs.Prelude.{◌≢◌, ◌≤◌, ℕ, List, [], Bool, true, false, Option, Some, OnOk, OnErr, IfOk, All};
+    ghost use Rattle.std.specs.Prelude.{◌≢◌, ◌≤◌, [], true, false, Some, OnOk, OnErr, IfOk, All};
     ghost use Rattle.blob_model.specs.Directory.{is_current};
-    ghost use Rattle.blob_header.specs.Refusals.{Refusal, refused, WriteFailed};
+    ghost use Rattle.blob_header.specs.Refusals.{refused, WriteFailed};
     ghost use Rattle.blob_model.specs.Runs.{runs, AreRunsApart};
-    ghost use Rattle.blob_faults.specs.Answers.{or_memory, allows_laid, allows_runs, last_end};
-    ghost use Rattle.blob_faults.specs.Lists.{HasRoomAt};
+    ghost use Rattle.blob_faults.specs.Answers.{or_memory, last_end};
+    ghost use Rattle.blob_faulty.specs.Allowed.{MayLay, MayLayKept, AllowsAsMuch, HasListRoom, IfRoomIsKept, HasInnerRoom};
     ghost use Rattle.blob_base.specs.HandleCalls.{Reserve};
-    ghost use Rattle.blob_faulty.specs.Asked.{InnerMade, Asks, AsksRuns, run_calls, or_failed};
+    ghost use Rattle.blob_faulty.specs.Asked.{Asks, AsksRuns};
     ghost use Rattle.blob_faulty.specs.Pieces.{run_of, runs_in, extents, EndsWithin};
     ghost use Rattle.blob_faults.specs.Faults.{Failed};
-    ghost use Rattle.blob_faulty.specs.Writes.{RecordsRuns, LaidFront, FailedBy, Keeps};
+    ghost use Rattle.blob_faulty.specs.Writes.{LaysAll, RecordsRuns, FailsBy, Keeps};
 
     /// The runs behind the first, in rising order. A refused one is answered `WriteFailed`, and those before it stay
     /// laid.
@@ -112,12 +112,10 @@ impl<B> Blob<B> {
     ) -> Result<(), Error>
     where
         B: blob_base::Blob<S>,
-        requires room { HasRoomAt S.place store.old.lists.all.lists.items list (B.place self.old.inner) (extents (runs_in pieces.items)) }
+        requires room { HasListRoom S.Durable B.Blob self.old store.old list (extents (runs_in pieces.items)) }
         requires current { is_current (S.directory store.old.inner) (B.place self.old.inner) ≡ true }
         requires within { B.is_direct ≡ true → All (EndsWithin (B.room self.old.inner store.old.inner)) (runs_in pieces.items) }
-        ensures asked { or_failed (InnerMade B.Blob self.old store.old self.new store.new (run_calls (runs_in pieces.items))) (refused result) }
-        ensures recorded { RecordsRuns S.Durable B.Blob self.old store.old self.new store.new (runs_in pieces.items) (refused result) }
-        ensures front { refused result ≡ Some WriteFailed → LaidFront S.Durable B.Blob self.old store.old self.new store.new (runs_in pieces.items) }
+        ensures laid { LaysAll S.Durable B.Blob self.old store.old self.new store.new (runs_in pieces.items) (refused result) }
         ensures failed { OnErr result (refused result ≡ Some WriteFailed) }
         ensures indirect { OnErr result (B.is_direct ≡ false) }
         ensures some { OnErr result (runs_in pieces.items ≢ []) }
@@ -129,10 +127,7 @@ impl<B> Blob<B> {
                 bytes,
                 copy,
             } = run;
-            if self
-                .lay_range(store, list, offset, bytes, copy, WriteOptions::SYNC)
-                .is_err()
-            {
+            if self.lay_range(store, list, offset, bytes, copy).is_err() {
                 return Err(Error::WriteFailed);
             }
         }
@@ -149,12 +144,10 @@ impl<B> Blob<B> {
     ) -> Result<(), Error>
     where
         B: blob_base::Blob<S>,
-        requires room { HasRoomAt S.place store.old.lists.all.lists.items list (B.place self.old.inner) (extents (runs_in pieces.items)) }
-        requires within { B.is_direct ≡ true → is_current (S.directory store.old.inner) (B.place self.old.inner) ≡ true → All (EndsWithin (B.room self.old.inner store.old.inner)) (runs_in pieces.items) }
-        ensures allowed { allows_laid (B.allows_write self.old.inner store.old.inner) B.is_direct (runs_in pieces.items) (refused result) }
-        ensures asked { or_failed (InnerMade B.Blob self.old store.old self.new store.new (run_calls (runs_in pieces.items))) (refused result) }
-        ensures recorded { RecordsRuns S.Durable B.Blob self.old store.old self.new store.new (runs_in pieces.items) (refused result) }
-        ensures front { refused result ≡ Some WriteFailed → LaidFront S.Durable B.Blob self.old store.old self.new store.new (runs_in pieces.items) }
+        requires room { HasListRoom S.Durable B.Blob self.old store.old list (extents (runs_in pieces.items)) }
+        requires within { HasInnerRoom S.Durable B.Blob self.old store.old (runs_in pieces.items) }
+        ensures allowed { MayLay B.Blob self.old store.old (runs_in pieces.items) (refused result) }
+        ensures laid { LaysAll S.Durable B.Blob self.old store.old self.new store.new (runs_in pieces.items) (refused result) }
     {
         let mut pieces = pieces;
         let Some(first) = pieces.pop() else {
@@ -165,7 +158,7 @@ impl<B> Blob<B> {
             bytes,
             copy,
         } = first;
-        self.lay_range(store, list, offset, bytes, copy, WriteOptions::SYNC)?;
+        self.lay_range(store, list, offset, bytes, copy)?;
         self.lay_later(store, list, pieces)
     }
 
@@ -181,9 +174,9 @@ impl<B> Blob<B> {
         requires { AreRunsApart 0 (runs_in pieces.now) }
         ensures allowed { or_memory (B.allows_reserve self.old.inner store.old.inner (last_end 0 (runs_in pieces.now))) (refused result) }
         ensures asked { Asks B.Blob self.old store.old self.new store.new (Reserve (last_end 0 (runs_in pieces.now))) (refused result) }
-        ensures write_answers { (offset : ℕ) (bytes : List ℕ) (sync : Bool) (answer : Option Refusal) → B.allows_write self.new.inner store.new.inner offset bytes sync answer → B.allows_write self.old.inner store.old.inner offset bytes sync answer }
-        ensures room { B.is_direct ≡ true → is_current (S.directory store.old.inner) (B.place self.old.inner) ≡ true → OnOk result (last_end 0 (runs_in pieces.now) ≤ B.room self.new.inner store.new.inner) }
-        ensures ranges { IfOk result (λ i. HasRoomAt S.place store.new.lists.all.lists.items i (B.place self.new.inner) (extents (runs_in pieces.now))) }
+        ensures write_answers { AllowsAsMuch B.Blob self.old store.old self.new store.new }
+        ensures room { IfRoomIsKept S.Durable B.Blob self.old store.old (OnOk result (last_end 0 (runs_in pieces.now) ≤ B.room self.new.inner store.new.inner)) }
+        ensures ranges { IfOk result (λ i. HasListRoom S.Durable B.Blob self.new store.new i (extents (runs_in pieces.now))) }
         ensures unchanged { Keeps S.Durable B.Blob self.old store.old self.new store.new }
     {
         let (start, end) = (Piece::first_start(pieces), Piece::last_end(pieces));
@@ -205,10 +198,10 @@ impl<B> Blob<B> {
         B: blob_base::Blob<S>,
         requires fits { offset + length bytes < 2 ^ 64 }
         requires sized { kept.now ≢ [] → length kept.now ≡ length bytes }
-        ensures allowed { or_memory (allows_runs (B.allows_write self.old.inner store.old.inner) (B.allows_reserve self.old.inner store.old.inner) B.is_direct (runs offset bytes kept.now)) (refused result) }
+        ensures allowed { MayLayKept B.Blob self.old store.old (runs offset bytes kept.now) (refused result) }
         ensures asked { AsksRuns B.Blob self.old store.old self.new store.new (runs offset bytes kept.now) (refused result) }
         ensures recorded { RecordsRuns S.Durable B.Blob self.old store.old self.new store.new (runs offset bytes kept.now) (refused result) }
-        ensures front { refused result ≡ Some WriteFailed → FailedBy S.Durable B.Blob self.old store.old self.new store.new (Failed kept.now) offset bytes }
+        ensures front { FailsBy S.Durable B.Blob self.old store.old self.new store.new (Failed kept.now) offset bytes (refused result) }
     {
         if kept.is_empty() {
             return Ok(());

@@ -1,17 +1,15 @@
 //! How a write goes to the inner blob, and what it records.
-ghost use Rattle.std.specs.Prelude.{◌≡◌, ◌≢◌, ◌≤◌, ◌<◌, ◌+◌, ◌-◌, ◌^◌, ◌++◌, ◌∷◌, [], true, false, Some, is_some, OnOk, OnErr, IfOk, vec_len, length};
-ghost use Rattle.blob_model.specs.Holes.{Holes};
+ghost use Rattle.std.specs.Prelude.{◌≡◌, ◌≢◌, ◌≤◌, ◌<◌, ◌+◌, ◌-◌, ◌^◌, ◌∷◌, [], true, false, Some, OnOk, OnErr, IfOk, length};
 ghost use Rattle.blob_base.specs.Options.{is_sync};
-ghost use Rattle.blob_header.specs.Refusals.{refused, IsMemory, WriteFailed};
-ghost use Rattle.blob_faults.specs.Answers.{or_memory, numbered, lacks_number, allows_fate};
-ghost use Rattle.blob_model.specs.Log.{need_of};
-ghost use Rattle.blob_model.specs.Pending.{Waiting, has_barrier};
-ghost use Rattle.blob_faults.specs.Faults.{issued, retention};
-ghost use Rattle.blob_faults.specs.Lists.{HasRoomIn, IsRoomAt, HasRoomAt, SameLists, ChangesAt};
+ghost use Rattle.blob_header.specs.Refusals.{refused, IsMemory};
+ghost use Rattle.blob_faults.specs.Answers.{or_memory};
+ghost use Rattle.blob_model.specs.Pending.{has_barrier};
+ghost use Rattle.blob_faults.specs.Lists.{HasRoomIn, IsRoomAt, SameLists};
 ghost use Rattle.blob_base.specs.HandleCalls.{Write};
+ghost use Rattle.blob_faulty.specs.Allowed.{MayWritePlain, MayWriteBy, HasListRoom, LeavesListRoom};
 ghost use Rattle.blob_faulty.specs.Asked.{Asks, AsksWrite};
-ghost use Rattle.blob_faulty.specs.Wrapper.{pending_of};
-ghost use Rattle.blob_faulty.specs.Writes.{Writes, Records, LaidRuns, FailedBy, WritesBy, unrecorded, plain, laid_runs};
+ghost use Rattle.blob_faulty.specs.Wrapper.{pending_of, GainsWrite};
+ghost use Rattle.blob_faulty.specs.Writes.{Writes, Records, LaidRuns, FailsBy, WritesBy, unrecorded, plain, laid_runs};
 ghost use Rattle.blob_faults.specs.Fates.{write_fate_of, IsSized};
 
 use crate::blob::Blob;
@@ -36,8 +34,7 @@ impl<S: blob_base::Storage, R> Storage<S, R> {
         requires some { 0 < length bytes }
         requires fits { offset + length bytes < 2 ^ 64 }
         requires left { self.old.next_write < 2 ^ 64 - 1 }
-        ensures lists { let write = need_of (issued self.old.next_write offset bytes config) [] in
-            ChangesAt S.place self.old.lists.all.lists.items self.new.lists.all.lists.items list (λ q. q ++ Waiting write ∷ []) }
+        ensures lists { GainsWrite S.place self.old self.new list offset bytes config }
         ensures rest { self.new ≡ record self.old { lists = self.new.lists; next_write = self.old.next_write + 1 } }
     {
         let number = self.next_write;
@@ -116,7 +113,7 @@ impl<B> Blob<B> {
         B: blob_base::Blob<S>,
         requires plain { is_sync options ≡ false }
         requires fits { offset + length bytes < 2 ^ 64 }
-        ensures allowed { or_memory (numbered (lacks_number (is_some (retention store.old.config.write_rate)) store.old.next_write bytes) (B.allows_write self.old.inner store.old.inner offset bytes false)) (refused result) }
+        ensures allowed { MayWritePlain B.Blob self.old store.old offset bytes (refused result) }
         ensures asked { Asks B.Blob self.old store.old self.new store.new (Write offset bytes false) (refused result) }
         ensures recorded { Records S.Durable B.Blob self.old store.old self.new store.new (plain offset bytes) (refused result) }
     {
@@ -146,28 +143,23 @@ impl<B> Blob<B> {
         offset: u64,
         bytes: IoBufs,
         copy: IoBufs,
-        options: WriteOptions,
     ) -> Result<(), Error>
     where
         B: blob_base::Blob<S>,
-        requires sync { is_sync options ≡ true }
         requires some { 0 < length bytes }
         requires fits { offset + length bytes < 2 ^ 64 }
         requires len { length copy ≤ length bytes }
         requires copied { has_barrier (pending_of S.place store.old (B.place self.old.inner)) ≡ true → copy ≡ bytes }
-        requires room { let lists = store.old.lists.all.lists.items in
-            HasRoomAt S.place lists list (B.place self.old.inner) ((offset, offset + length bytes) ∷ []) }
+        requires room { HasListRoom S.Durable B.Blob self.old store.old list ((offset, offset + length bytes) ∷ []) }
         ensures allowed { B.allows_write self.old.inner store.old.inner offset bytes true (refused result) }
         ensures asked { B.leaves (Write offset bytes true) self.old.inner store.old.inner (refused result) self.new.inner store.new.inner }
         ensures recorded { Records S.Durable B.Blob self.old store.old self.new store.new (laid_runs ((offset, bytes) ∷ [])) (refused result) }
         ensures laid { OnOk result (LaidRuns S.Durable B.Blob self.old store.old self.new store.new ((offset, bytes) ∷ [])) }
         ensures kept_room { OnOk result (B.room self.old.inner store.old.inner ≤ B.room self.new.inner store.new.inner) }
-        ensures left { OnOk result ((later : Holes) →
-            HasRoomAt S.place store.old.lists.all.lists.items list (B.place self.old.inner) ((offset, offset + length bytes) ∷ later) →
-            HasRoomAt S.place store.new.lists.all.lists.items list (B.place self.new.inner) later) }
+        ensures left { OnOk result (LeavesListRoom S.Durable B.Blob self.old store.old self.new store.new list (offset, bytes)) }
     {
         let len = bytes.remaining() as u64;
-        self.write_unrecorded(store, offset, bytes, options)?;
+        self.write_unrecorded(store, offset, bytes, WriteOptions::SYNC)?;
         store.lists.lay(list, offset, len, copy);
         Ok(())
     }
@@ -178,11 +170,9 @@ impl<B> Blob<B> {
         store: &mut Storage<S, R>,
         offset: u64,
         bytes: IoBufs,
-        options: WriteOptions,
     ) -> Result<(), Error>
     where
         B: blob_base::Blob<S>,
-        requires sync { is_sync options ≡ true }
         requires some { bytes ≢ [] }
         requires fits { offset + length bytes < 2 ^ 64 }
         ensures allowed { or_memory (B.allows_write self.old.inner store.old.inner offset bytes true) (refused result) }
@@ -193,7 +183,7 @@ impl<B> Blob<B> {
         let list = self.room_for(store, Room::Ranges(offset, offset + len, 1))?;
         let copy = store.lists.copy_for(list, &bytes)?;
         self.list = list;
-        self.lay_range(store, list, offset, bytes, copy, options)
+        self.lay_range(store, list, offset, bytes, copy)
     }
 
     /// A write of some bytes whose fate was drawn.
@@ -210,16 +200,15 @@ impl<B> Blob<B> {
         requires some { is_sync options ≡ true → bytes ≢ [] }
         requires fits { offset + length bytes < 2 ^ 64 }
         requires sized { IsSized (length bytes) (write_fate_of fate) }
-        ensures allowed { or_memory (allows_fate (write_fate_of fate) (B.allows_write self.old.inner store.old.inner) (B.allows_reserve self.old.inner store.old.inner) B.is_direct (is_some (retention store.old.config.write_rate)) store.old.next_write (is_sync options) offset bytes) (refused result) }
+        ensures allowed { MayWriteBy B.Blob self.old store.old (write_fate_of fate) (is_sync options) offset bytes (refused result) }
         ensures asked { AsksWrite B.Blob self.old store.old self.new store.new (write_fate_of fate) (is_sync options) offset bytes (refused result) }
         ensures wrote { WritesBy S.Durable B.Blob self.old store.old self.new store.new (write_fate_of fate) (is_sync options) offset bytes (refused result) }
-        ensures failed { refused result ≡ Some WriteFailed
-            → FailedBy S.Durable B.Blob self.old store.old self.new store.new (write_fate_of fate) offset bytes }
+        ensures failed { FailsBy S.Durable B.Blob self.old store.old self.new store.new (write_fate_of fate) offset bytes (refused result) }
     {
         match fate {
             WriteFate::Done => {
                 if options.contains(WriteOptions::SYNC) {
-                    return self.write_synced(store, offset, bytes, options);
+                    return self.write_synced(store, offset, bytes);
                 }
                 self.write_plain(store, offset, bytes, options)
             }

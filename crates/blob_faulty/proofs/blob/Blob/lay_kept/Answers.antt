@@ -49,7 +49,7 @@ returns-clause-recorded g c =
     let new : View g.row.R.Denot = seen g.S.Durable g.B.Blob c.lay_runs.new.self c.lay_runs.new.store in
     let same : runs_in c.in_ok-pieces.pieces.items ≡ runs c.args.offset c.args.bytes c.args.kept.now = first_of (search rules, grind (arith, common_steps)) in
     subst (λ (rs : List Run). Recorded g.B.Blob.is_direct g.B.Blob.is_direct old new (laid_runs rs) (refused c.lay_runs.result)) same
-    (runs_after g.B.Blob.is_direct g.B.Blob.is_direct old _ new (runs_in c.in_ok-pieces.pieces.items) (refused c.lay_runs.result) c.reserve_runs.ensures.unchanged c.lay_runs.ensures.recorded)
+    (runs_after g.B.Blob.is_direct g.B.Blob.is_direct old _ new (runs_in c.in_ok-pieces.pieces.items) (refused c.lay_runs.result) c.reserve_runs.ensures.unchanged c.lay_runs.ensures.laid.recorded)
 
 pub returns-then-is_empty-clause-asked : goal.returns-then-is_empty-clause-asked
 returns-then-is_empty-clause-asked g c =
@@ -78,7 +78,7 @@ returns-clause-asked g c =
     let some : runs_in c.in_ok-pieces.pieces.items ≢ [] = λ none. (let empty : length c.in_ok-pieces.pieces.items ≡ 0 = no_pieces c.in_ok-pieces.pieces.items none in first_of (search rules, cc, grind (arith, common_steps))) in
     subst (λ (rs : List Run). AsksRuns g.B.Blob c.args.self.now c.args.store.now r.new.self r.new.store rs (refused r.result)) same
     (laid_behind g.B.Blob c.args.self.now c.args.store.now r.new.self r.new.store c.reserve_runs.new.self c.reserve_runs.new.store (runs_in c.in_ok-pieces.pieces.items) (refused r.result) some
-    (subst (λ (ps : List Piece). Asks g.B.Blob c.args.self.now c.args.store.now c.reserve_runs.new.self c.reserve_runs.new.store (Reserve (last_end 0 (runs_in ps))) None) c.deref.ensures.value c.in_ok-list.ensures.asked) r.ensures.asked)
+    (subst (λ (ps : List Piece). Asks g.B.Blob c.args.self.now c.args.store.now c.reserve_runs.new.self c.reserve_runs.new.store (Reserve (last_end 0 (runs_in ps))) None) c.deref.ensures.value c.in_ok-list.ensures.asked) r.ensures.laid.asked)
 
 pub returns-in_err-list-clause-front : goal.returns-in_err-list-clause-front
 returns-in_err-list-clause-front g c is =
@@ -94,4 +94,4 @@ returns-clause-front g c is =
     let room : Asks g.B.Blob c.args.self.now c.args.store.now c.reserve_runs.new.self c.reserve_runs.new.store (Reserve (last_end 0 (runs_in c.in_ok-pieces.pieces.items))) None =
     subst (λ (ps : List Piece). Asks g.B.Blob c.args.self.now c.args.store.now c.reserve_runs.new.self c.reserve_runs.new.store (Reserve (last_end 0 (runs_in ps))) None) c.deref.ensures.value c.in_ok-list.ensures.asked in
     subst (λ (rs : List Run). LaysFront (InnerRefusedInRoom g.B.Blob c.args.self.now c.args.store.now r.new.self r.new.store rs) (seen g.S.Durable g.B.Blob c.args.self.now c.args.store.now) (seen g.S.Durable g.B.Blob r.new.self r.new.store) rs) same
-    (front_in_room g.B.Blob.leaves _ _ _ _ _ _ _ _ _ (runs_in c.in_ok-pieces.pieces.items) c.reserve_runs.ensures.unchanged (asked_of g.B.Blob c.args.self.now c.args.store.now c.reserve_runs.new.self c.reserve_runs.new.store room) (r.ensures.front is))
+    (front_in_room g.B.Blob.leaves _ _ _ _ _ _ _ _ _ (runs_in c.in_ok-pieces.pieces.items) c.reserve_runs.ensures.unchanged (asked_of g.B.Blob c.args.self.now c.args.store.now c.reserve_runs.new.self c.reserve_runs.new.store room) (r.ensures.laid.front is))

@@ -2,8 +2,9 @@ use Rattle.std.proofs.Common.{rules, ◌≡◌, ⊎_elim, ◌+◌, true, false, 
 use Rattle.std.specs.Prelude.{is_err}
 use Rattle.std.proofs.lemmas.Bool.{cases_Bool}
 use Rattle.std.proofs.lemmas.Grind.{common_steps}
+use Rattle.std.proofs.lemmas.Option.{none-some}
 use Rattle.blob_model.specs.Directory.{is_current}
-use Rattle.blob_header.specs.Refusals.{Refusal, refused}
+use Rattle.blob_header.specs.Refusals.{Refusal, WriteFailed, refused}
 use Rattle.blob_model.specs.Runs.{Run}
 use Rattle.blob_faults.specs.Lists.{HasRoomAt}
 use Rattle.blob_faulty.specs.Pieces.{run_of, runs_in, extents, EndsWithin}
@@ -30,9 +31,28 @@ returns-then-is_err-clause-indirect g c =
     (λ indirect. indirect)
     (cases_Bool g.B.Blob.is_direct)
 
-pub returns-then-is_err-clause-recorded : goal.returns-then-is_err-clause-recorded
-returns-then-is_err-clause-recorded g c =
-    later_refused _ true _ _ _ _ _ _ _ _ c.requires.current (returns-then-is_err-clause-indirect g c) c.loop-run.invariant.left c.lay_range.ensures.recorded
+pub returns-then-is_err-clause-laid : goal.returns-then-is_err-clause-laid
+returns-then-is_err-clause-laid g c = record {
+  asked =
+      let e : runs_in c.loop-run.pieces.items ≡ run_of c.in-Some.run' ∷ runs_in c.pop.new.self.items = popped _ _ c.in-Some.run' c.in-Some.ensures.items in
+      let failed = is_refused c.lay_range.result (sym c.is_err.ensures.value ∙ c.if-is_err.true) in
+      inr (
+        refl,
+        record {
+          refusal = failed.0;
+          is = c.loop-run.invariant.asked (Some failed.0) c.lay_range.new.self.inner c.lay_range.new.store.inner
+              (subst (λ (rs : List Run). Made g.B.Blob.leaves (run_calls rs) (Some failed.0) c.loop-run.self.inner c.loop-run.store.inner c.lay_range.new.self.inner c.lay_range.new.store.inner) (sym e)
+              (inl (refl, subst (λ (a : Option Refusal). g.B.Blob.leaves (Write c.in-Some.run'.offset c.in-Some.run'.bytes true) c.loop-run.self.inner c.loop-run.store.inner a c.lay_range.new.self.inner c.lay_range.new.store.inner) failed.1 c.lay_range.ensures.asked)));
+        },
+      );
+  recorded = later_refused _ true _ _ _ _ _ _ _ _ c.requires.current (returns-then-is_err-clause-indirect g c) c.loop-run.invariant.left c.lay_range.ensures.recorded;
+  front = λ _.
+      let e : runs_in c.loop-run.pieces.items ≡ run_of c.in-Some.run' ∷ runs_in c.pop.new.self.items = popped _ _ c.in-Some.run' c.in-Some.ensures.items in
+      let failed = is_refused c.lay_range.result (sym c.is_err.ensures.value ∙ c.if-is_err.true) in
+      front_refused g.B.Blob.leaves _ _ _ _ _ _ _ _ _ _ (run_of c.in-Some.run') (runs_in c.pop.new.self.items) failed.0 (rw e at c.loop-run.invariant.laid)
+      (c.lay_range.ensures.recorded.refused refl (some_refusal (refused c.lay_range.result) failed.0 failed.1))
+      (subst (λ (a : Option Refusal). g.B.Blob.leaves (Write c.in-Some.run'.offset c.in-Some.run'.bytes true) c.loop-run.self.inner c.loop-run.store.inner a c.lay_range.new.self.inner c.lay_range.new.store.inner) failed.1 c.lay_range.ensures.asked);
+}
 
 pub returns-then-is_err-clause-some : goal.returns-then-is_err-clause-some
 returns-then-is_err-clause-some g c none =
@@ -41,25 +61,17 @@ returns-then-is_err-clause-some g c none =
     let never : run_of c.in-Some.run' ∷ runs_in c.pop.new.self.items ≡ [] = sym e ∙ left in
     cc
 
-pub returns-then-is_err-clause-asked : goal.returns-then-is_err-clause-asked
-returns-then-is_err-clause-asked g c =
-    let e : runs_in c.loop-run.pieces.items ≡ run_of c.in-Some.run' ∷ runs_in c.pop.new.self.items = popped _ _ c.in-Some.run' c.in-Some.ensures.items in
-    let failed = is_refused c.lay_range.result (sym c.is_err.ensures.value ∙ c.if-is_err.true) in
-    inr (
-      refl,
-      record {
-        refusal = failed.0;
-        is = c.loop-run.invariant.asked (Some failed.0) c.lay_range.new.self.inner c.lay_range.new.store.inner
-            (subst (λ (rs : List Run). Made g.B.Blob.leaves (run_calls rs) (Some failed.0) c.loop-run.self.inner c.loop-run.store.inner c.lay_range.new.self.inner c.lay_range.new.store.inner) (sym e)
-            (inl (refl, subst (λ (a : Option Refusal). g.B.Blob.leaves (Write c.in-Some.run'.offset c.in-Some.run'.bytes true) c.loop-run.self.inner c.loop-run.store.inner a c.lay_range.new.self.inner c.lay_range.new.store.inner) failed.1 c.lay_range.ensures.asked)));
-      },
-    )
-
-pub returns-clause-asked : goal.returns-clause-asked
-returns-clause-asked g c =
-    let none : runs_in c.loop-run.pieces.items ≡ [] = first_of (search rules, grind (arith, common_steps)) in
-    inl (c.loop-run.invariant.asked None c.loop-run.self.inner c.loop-run.store.inner
-    (subst (λ (rs : List Run). Made g.B.Blob.leaves (run_calls rs) None c.loop-run.self.inner c.loop-run.store.inner c.loop-run.self.inner c.loop-run.store.inner) (sym none) (refl, refl, refl)))
+pub returns-clause-laid : goal.returns-clause-laid
+returns-clause-laid g c = record {
+  asked =
+      let none : runs_in c.loop-run.pieces.items ≡ [] = first_of (search rules, grind (arith, common_steps)) in
+      inl (c.loop-run.invariant.asked None c.loop-run.self.inner c.loop-run.store.inner
+      (subst (λ (rs : List Run). Made g.B.Blob.leaves (run_calls rs) None c.loop-run.self.inner c.loop-run.store.inner c.loop-run.self.inner c.loop-run.store.inner) (sym none) (refl, refl, refl)));
+  recorded =
+      let none : runs_in c.loop-run.pieces.items ≡ [] = first_of (search rules, grind (arith, common_steps)) in
+      all_laid _ _ _ _ _ c.requires.current none c.loop-run.invariant.left;
+  front = λ is. absurd (none-some WriteFailed is);
+}
 
 pub lay_range-requires-clause-room : goal.lay_range-requires-clause-room
 lay_range-requires-clause-room g c =
@@ -96,16 +108,3 @@ loop-run-preserved g c =
           (then_made g.B.Blob.leaves (Write c.in-Some.run'.offset c.in-Some.run'.bytes true) (run_calls rest) answer _ _ _ _ x y
           (subst (λ (a : Option Refusal). g.B.Blob.leaves (Write c.in-Some.run'.offset c.in-Some.run'.bytes true) c.loop-run.self.inner c.loop-run.store.inner a c.lay_range.new.self.inner c.lay_range.new.store.inner) (is_done c.lay_range.result ok) l.asked) later));
     }
-
-pub returns-clause-recorded : goal.returns-clause-recorded
-returns-clause-recorded g c =
-    let none : runs_in c.loop-run.pieces.items ≡ [] = first_of (search rules, grind (arith, common_steps)) in
-    all_laid _ _ _ _ _ c.requires.current none c.loop-run.invariant.left
-
-pub returns-then-is_err-clause-front : goal.returns-then-is_err-clause-front
-returns-then-is_err-clause-front g c _ =
-    let e : runs_in c.loop-run.pieces.items ≡ run_of c.in-Some.run' ∷ runs_in c.pop.new.self.items = popped _ _ c.in-Some.run' c.in-Some.ensures.items in
-    let failed = is_refused c.lay_range.result (sym c.is_err.ensures.value ∙ c.if-is_err.true) in
-    front_refused g.B.Blob.leaves _ _ _ _ _ _ _ _ _ _ (run_of c.in-Some.run') (runs_in c.pop.new.self.items) failed.0 (rw e at c.loop-run.invariant.laid)
-    (c.lay_range.ensures.recorded.refused refl (some_refusal (refused c.lay_range.result) failed.0 failed.1))
-    (subst (λ (a : Option Refusal). g.B.Blob.leaves (Write c.in-Some.run'.offset c.in-Some.run'.bytes true) c.loop-run.self.inner c.loop-run.store.inner a c.lay_range.new.self.inner c.lay_range.new.store.inner) failed.1 c.lay_range.ensures.asked)

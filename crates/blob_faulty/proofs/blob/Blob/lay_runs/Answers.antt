@@ -1,6 +1,7 @@
 use Rattle.std.proofs.Common.{rules, ◌≡◌, ◌+◌, true, length, List, [], ◌∷◌, All, Option, None, inl, refl, sym, ◌∙◌, ap₂, subst, arith}
 use Rattle.std.specs.Prelude.{IsSome}
 use Rattle.std.proofs.lemmas.Grind.{common_steps}
+use Rattle.std.proofs.lemmas.Option.{none-some}
 use Rattle.blob_model.specs.Directory.{is_current}
 use Rattle.blob_header.specs.Refusals.{Refusal, WriteFailed, refused}
 use Rattle.blob_model.specs.Runs.{Run}
@@ -40,47 +41,50 @@ lay_later-requires-clause-within g c direct =
     later_within _ _ (run_of c.in-Some.first) (runs_in c.pop.new.self.items) c.in_ok-lay_range.ensures.kept_room
     (subst (λ (rs : List Run). All (EndsWithin (g.B.Blob.room c.args.self.now.inner c.args.store.now.inner)) rs) e (c.requires.within direct now))
 
-pub returns-clause-recorded : goal.returns-clause-recorded
-returns-clause-recorded g c =
-    let now : is_current (g.S.Durable.directory c.args.store.now.inner) (g.B.Blob.place c.args.self.now.inner) ≡ true =
-    not_stale _ (λ stale. g.met.B.Blob.stale_refused c.args.self.now.inner c.args.store.now.inner c.in-Some.first.offset c.in-Some.first.bytes stale (bytes_some c.in-Some.first.bytes c.in-Some.first.some) c.in_ok-lay_range.ensures.allowed) in
-    let e : runs_in c.args.pieces.items ≡ run_of c.in-Some.first ∷ runs_in c.pop.new.self.items = popped _ _ c.in-Some.first c.in-Some.ensures.items in
-    let old : View g.row.R.Denot = seen g.S.Durable g.B.Blob c.args.self.now c.args.store.now in
-    let new : View g.row.R.Denot = seen g.S.Durable g.B.Blob c.lay_later.new.self c.lay_later.new.store in
-    subst (λ (rs : List Run). Recorded g.B.Blob.is_direct g.B.Blob.is_direct old new (laid_runs rs) (refused c.lay_later.result)) (sym e)
-    (then_runs g.B.Blob.is_direct old _ new (run_of c.in-Some.first) (runs_in c.pop.new.self.items) None c.lay_later.result refl c.lay_later.ensures.failed c.lay_later.ensures.indirect now c.in_ok-lay_range.ensures.recorded c.lay_later.ensures.recorded)
+pub returns-clause-laid : goal.returns-clause-laid
+returns-clause-laid g c = record {
+  asked =
+      let e : runs_in c.args.pieces.items ≡ run_of c.in-Some.first ∷ runs_in c.pop.new.self.items = popped _ _ c.in-Some.first c.in-Some.ensures.items in
+      subst (λ (rs : List Run). or_failed (λ a. Made g.B.Blob.leaves (run_calls rs) a c.args.self.now.inner c.args.store.now.inner c.lay_later.new.self.inner c.lay_later.new.store.inner) (refused c.lay_later.result)) (sym e)
+      (then_failed g.B.Blob.leaves (Write c.in-Some.first.offset c.in-Some.first.bytes true) (run_calls (runs_in c.pop.new.self.items)) (refused c.lay_later.result) _ _ _ _ _ _ c.in_ok-lay_range.ensures.asked c.lay_later.ensures.laid.asked);
+  recorded =
+      let now : is_current (g.S.Durable.directory c.args.store.now.inner) (g.B.Blob.place c.args.self.now.inner) ≡ true =
+      not_stale _ (λ stale. g.met.B.Blob.stale_refused c.args.self.now.inner c.args.store.now.inner c.in-Some.first.offset c.in-Some.first.bytes stale (bytes_some c.in-Some.first.bytes c.in-Some.first.some) c.in_ok-lay_range.ensures.allowed) in
+      let e : runs_in c.args.pieces.items ≡ run_of c.in-Some.first ∷ runs_in c.pop.new.self.items = popped _ _ c.in-Some.first c.in-Some.ensures.items in
+      let old : View g.row.R.Denot = seen g.S.Durable g.B.Blob c.args.self.now c.args.store.now in
+      let new : View g.row.R.Denot = seen g.S.Durable g.B.Blob c.lay_later.new.self c.lay_later.new.store in
+      subst (λ (rs : List Run). Recorded g.B.Blob.is_direct g.B.Blob.is_direct old new (laid_runs rs) (refused c.lay_later.result)) (sym e)
+      (then_runs g.B.Blob.is_direct old _ new (run_of c.in-Some.first) (runs_in c.pop.new.self.items) None c.lay_later.result refl c.lay_later.ensures.failed c.lay_later.ensures.indirect now c.in_ok-lay_range.ensures.recorded c.lay_later.ensures.laid.recorded);
+  front = λ is.
+      let e : runs_in c.args.pieces.items ≡ run_of c.in-Some.first ∷ runs_in c.pop.new.self.items = popped _ _ c.in-Some.first c.in-Some.ensures.items in
+      subst (λ (rs : List Run). LaidFront g.S.Durable g.B.Blob c.args.self.now c.args.store.now c.lay_later.new.self c.lay_later.new.store rs) (sym e)
+      (front_behind g.B.Blob.leaves _ _ _ _ _ _ _ _ _ (run_of c.in-Some.first) (runs_in c.pop.new.self.items) c.lay_range.ensures.recorded.wrote.place c.in_ok-lay_range.ensures.laid c.in_ok-lay_range.ensures.asked (c.lay_later.ensures.laid.front is));
+}
 
-pub returns-clause-asked : goal.returns-clause-asked
-returns-clause-asked g c =
-    let e : runs_in c.args.pieces.items ≡ run_of c.in-Some.first ∷ runs_in c.pop.new.self.items = popped _ _ c.in-Some.first c.in-Some.ensures.items in
-    subst (λ (rs : List Run). or_failed (λ a. Made g.B.Blob.leaves (run_calls rs) a c.args.self.now.inner c.args.store.now.inner c.lay_later.new.self.inner c.lay_later.new.store.inner) (refused c.lay_later.result)) (sym e)
-    (then_failed g.B.Blob.leaves (Write c.in-Some.first.offset c.in-Some.first.bytes true) (run_calls (runs_in c.pop.new.self.items)) (refused c.lay_later.result) _ _ _ _ _ _ c.in_ok-lay_range.ensures.asked c.lay_later.ensures.asked)
+pub returns-in_default-clause-laid : goal.returns-in_default-clause-laid
+returns-in_default-clause-laid g c = record {
+  asked =
+      let none : runs_in c.args.pieces.items ≡ [] = first_of (search rules, cc, grind (arith, common_steps)) in
+      subst (λ (rs : List Run). or_failed (InnerMade g.B.Blob c.args.self.now c.args.store.now c.args.self.now c.args.store.now (run_calls rs)) None) (sym none) (inl (refl, refl, refl));
+  recorded = first_of (search rules, grind (arith, common_steps));
+  front = λ is. absurd (none-some WriteFailed is);
+}
 
-pub returns-in_default-clause-asked : goal.returns-in_default-clause-asked
-returns-in_default-clause-asked g c =
-    let none : runs_in c.args.pieces.items ≡ [] = first_of (search rules, cc, grind (arith, common_steps)) in
-    subst (λ (rs : List Run). or_failed (InnerMade g.B.Blob c.args.self.now c.args.store.now c.args.self.now c.args.store.now (run_calls rs)) None) (sym none) (inl (refl, refl, refl))
-
-pub returns-in_err-lay_range-clause-asked : goal.returns-in_err-lay_range-clause-asked
-returns-in_err-lay_range-clause-asked g c =
-    let r = c.lay_range in
-    let e : runs_in c.args.pieces.items ≡ run_of c.in-Some.first ∷ runs_in c.pop.new.self.items = popped _ _ c.in-Some.first c.in-Some.ensures.items in
-    let same : refused r.result ≡ refused c.from_residual.result = first_of (search rules, cc, grind (arith, common_steps)) in
-    let some : IsSome (refused c.from_residual.result) = first_of (search rules, cc, grind (arith, common_steps)) in
-    subst (λ (rs : List Run). or_failed (InnerMade g.B.Blob c.args.self.now c.args.store.now r.new.self r.new.store (run_calls rs)) (refused c.from_residual.result)) (sym e)
-    (inl (inl (some, subst (λ (a : Option Refusal). g.B.Blob.leaves (Write c.in-Some.first.offset c.in-Some.first.bytes true) c.args.self.now.inner c.args.store.now.inner a r.new.self.inner r.new.store.inner) same r.ensures.asked)))
-
-pub returns-in_err-lay_range-clause-front : goal.returns-in_err-lay_range-clause-front
-returns-in_err-lay_range-clause-front g c is =
-    let r = c.lay_range in
-    let e : runs_in c.args.pieces.items ≡ run_of c.in-Some.first ∷ runs_in c.pop.new.self.items = popped _ _ c.in-Some.first c.in-Some.ensures.items in
-    let same : refused r.result ≡ refused c.from_residual.result = first_of (search rules, cc, grind (arith, common_steps)) in
-    subst (λ (rs : List Run). LaidFront g.S.Durable g.B.Blob c.args.self.now c.args.store.now r.new.self r.new.store rs) (sym e)
-    (front_none g.B.Blob.leaves _ _ _ _ _ _ (run_of c.in-Some.first) (runs_in c.pop.new.self.items) WriteFailed (r.ensures.recorded.refused refl (some_refusal (refused r.result) WriteFailed (same ∙ is)))
-    (subst (λ (a : Option Refusal). g.B.Blob.leaves (Write c.in-Some.first.offset c.in-Some.first.bytes true) c.args.self.now.inner c.args.store.now.inner a r.new.self.inner r.new.store.inner) (same ∙ is) r.ensures.asked))
-
-pub returns-clause-front : goal.returns-clause-front
-returns-clause-front g c is =
-    let e : runs_in c.args.pieces.items ≡ run_of c.in-Some.first ∷ runs_in c.pop.new.self.items = popped _ _ c.in-Some.first c.in-Some.ensures.items in
-    subst (λ (rs : List Run). LaidFront g.S.Durable g.B.Blob c.args.self.now c.args.store.now c.lay_later.new.self c.lay_later.new.store rs) (sym e)
-    (front_behind g.B.Blob.leaves _ _ _ _ _ _ _ _ _ (run_of c.in-Some.first) (runs_in c.pop.new.self.items) c.lay_range.ensures.recorded.wrote.place c.in_ok-lay_range.ensures.laid c.in_ok-lay_range.ensures.asked (c.lay_later.ensures.front is))
+pub returns-in_err-lay_range-clause-laid : goal.returns-in_err-lay_range-clause-laid
+returns-in_err-lay_range-clause-laid g c = record {
+  asked =
+      let r = c.lay_range in
+      let e : runs_in c.args.pieces.items ≡ run_of c.in-Some.first ∷ runs_in c.pop.new.self.items = popped _ _ c.in-Some.first c.in-Some.ensures.items in
+      let same : refused r.result ≡ refused c.from_residual.result = first_of (search rules, cc, grind (arith, common_steps)) in
+      let some : IsSome (refused c.from_residual.result) = first_of (search rules, cc, grind (arith, common_steps)) in
+      subst (λ (rs : List Run). or_failed (InnerMade g.B.Blob c.args.self.now c.args.store.now r.new.self r.new.store (run_calls rs)) (refused c.from_residual.result)) (sym e)
+      (inl (inl (some, subst (λ (a : Option Refusal). g.B.Blob.leaves (Write c.in-Some.first.offset c.in-Some.first.bytes true) c.args.self.now.inner c.args.store.now.inner a r.new.self.inner r.new.store.inner) same r.ensures.asked)));
+  recorded = first_of (search rules, grind (arith, common_steps));
+  front = λ is.
+      let r = c.lay_range in
+      let e : runs_in c.args.pieces.items ≡ run_of c.in-Some.first ∷ runs_in c.pop.new.self.items = popped _ _ c.in-Some.first c.in-Some.ensures.items in
+      let same : refused r.result ≡ refused c.from_residual.result = first_of (search rules, cc, grind (arith, common_steps)) in
+      subst (λ (rs : List Run). LaidFront g.S.Durable g.B.Blob c.args.self.now c.args.store.now r.new.self r.new.store rs) (sym e)
+      (front_none g.B.Blob.leaves _ _ _ _ _ _ (run_of c.in-Some.first) (runs_in c.pop.new.self.items) WriteFailed (r.ensures.recorded.refused refl (some_refusal (refused r.result) WriteFailed (same ∙ is)))
+      (subst (λ (a : Option Refusal). g.B.Blob.leaves (Write c.in-Some.first.offset c.in-Some.first.bytes true) c.args.self.now.inner c.args.store.now.inner a r.new.self.inner r.new.store.inner) (same ∙ is) r.ensures.asked));
+}

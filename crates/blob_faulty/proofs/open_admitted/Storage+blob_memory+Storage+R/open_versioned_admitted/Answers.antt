@@ -2,7 +2,7 @@ use Rattle.std.proofs.Common.{◌≡◌, Some, rules}
 use Rattle.std.proofs.lemmas.Bool.{false≢true}
 use Rattle.blob_header.specs.Refusals.{refused, refusal_of}
 use Rattle.blob_faulty.specs.Admitted.{OpensAlone, StaysSame}
-use Rattle.blob_faulty.specs.Names.{least_of, greatest_of}
+use Rattle.blob_faulty.specs.Names.{lower, upper}
 use Rattle.blob_memory.specs.Store.{directory, durable}
 use Rattle.blob_faulty.proofs.AdmittedOpens.{leaves_admitted, leaves_alone, finds_kept}
 use Rattle.blob_faulty.proofs.Keeping.{keeps_open, keeps_same}
@@ -10,7 +10,7 @@ use Rattle.blob_faulty.proofs.open_admitted.Storage+blob_memory+Storage+R.open_v
 use Rattle.blob_faulty.proofs.open_admitted.Storage+blob_memory+Storage+R.open_versioned_admitted.Goals as goal
 
 -- the open alone
-steps : (g : Over) (c : goal.After-admit g) → OpensAlone c.args.self.now c.open_versioned.new.self c.args.partition.now c.args.name.now (least_of c.args.versions) (greatest_of c.args.versions)
+steps : (g : Over) (c : goal.After-admit g) → OpensAlone c.args.self.now c.open_versioned.new.self c.args.partition.now c.args.name.now (lower c.args.versions) (upper c.args.versions)
 steps g c = c.opens.ensures.accepted c.args.self.now c.open_versioned.new.self c.args.partition.now c.args.name.now _ _ _ _ _ c.in_ok-opened.ensures.opened c.in_ok-opened.ensures.leaves
 
 pub returns-clause-answer : goal.returns-clause-answer
@@ -30,7 +30,7 @@ returns-clause-accepted g c =
 stays : (g : Over) (c : goal.After-from_residual g) → StaysSame c.args.self.now c.open_versioned.new.self
 stays g c =
     let w = c.in_err-opened.ensures in
-    c.opens.ensures.refused c.args.self.now c.open_versioned.new.self c.args.partition.now c.args.name.now (least_of c.args.versions) (greatest_of c.args.versions) (refusal_of c.in_err-opened.field-0.0) w.err.0 w.err.1 w.leaves
+    c.opens.ensures.refused c.args.self.now c.open_versioned.new.self c.args.partition.now c.args.name.now (lower c.args.versions) (upper c.args.versions) (refusal_of c.in_err-opened.field-0.0) w.err.0 w.err.1 w.leaves
 
 pub returns-in_err-opened-clause-answer : goal.returns-in_err-opened-clause-answer
 returns-in_err-opened-clause-answer g c =

@@ -3,7 +3,7 @@ use Rattle.blob_header.specs.Refusals.{refused, refusal_of}
 use Rattle.blob_opens.specs.Opens.{names_of}
 use Rattle.blob_faulty.specs.Admitted.{OpensAlone}
 use Rattle.blob_faulty.specs.Exclusive.{ExclusiveAnswer}
-use Rattle.blob_faulty.specs.Names.{OpenLeaves, least_of, greatest_of}
+use Rattle.blob_faulty.specs.Names.{OpenLeaves, lower, upper}
 use Rattle.blob_faulty.proofs.AdmittedOpens.{leaves_admitted, files_admitted, finds_kept}
 use Rattle.blob_faulty.proofs.Exclusives.{asked, told_admitted, told_refused, keeps_refused}
 use Rattle.blob_faulty.proofs.open_exclusive.Storage+blob_memory+Storage+R.open_exclusive.Given.{Over}
@@ -11,15 +11,15 @@ use Rattle.blob_faulty.proofs.open_exclusive.Storage+blob_memory+Storage+R.open_
 
 -- what the wrapper's own open left
 left : (g : Over) (c : goal.After-admit g) → OpenLeaves (λ o. o) g.R.Rng.stream (λ _. Unit {0}) c.args.self.now c.open.new.store
-left g c = (asked g.R.Rng.stream (names_of c.args.registry.now) c.args.partition.now c.args.name.now (least_of c.args.versions) (greatest_of c.args.versions) c.args.self.now c.open.new.store _ c.in_ok-opened.ensures.answer refl).1
+left g c = (asked g.R.Rng.stream (names_of c.args.registry.now) c.args.partition.now c.args.name.now (lower c.args.versions) (upper c.args.versions) c.args.self.now c.open.new.store _ c.in_ok-opened.ensures.answer refl).1
 
-steps : (g : Over) (c : goal.After-admit g) → OpensAlone c.args.self.now c.open.new.store c.args.partition.now c.args.name.now (least_of c.args.versions) (greatest_of c.args.versions)
+steps : (g : Over) (c : goal.After-admit g) → OpensAlone c.args.self.now c.open.new.store c.args.partition.now c.args.name.now (lower c.args.versions) (upper c.args.versions)
 steps g c = c.opens.ensures.accepted c.args.self.now c.open.new.store c.args.partition.now c.args.name.now _ _ _ _ _ c.in_ok-opened.ensures.opened (left g c)
 
 pub returns-clause-answer : goal.returns-clause-answer
 returns-clause-answer g c =
     let now = c.admit.ensures in
-    told_admitted g.R.Rng.stream (names_of c.args.registry.now) c.args.partition.now c.args.name.now (least_of c.args.versions) (greatest_of c.args.versions) c.args.self.now c.open.new.store c.admit.new.self _ c.in_ok-opened.ensures.answer refl
+    told_admitted g.R.Rng.stream (names_of c.args.registry.now) c.args.partition.now c.args.name.now (lower c.args.versions) (upper c.args.versions) c.args.self.now c.open.new.store c.admit.new.self _ c.in_ok-opened.ensures.answer refl
     (λ leaves. leaves_admitted g.R.Rng.stream c.args.partition.now c.args.name.now c.args.self.now c.open.new.store c.admit.new.self leaves now) now.inner
     (files_admitted _ _ _ _ c.args.self.now c.open.new.store c.admit.new.self _ _ _ c.in_ok-opened.ensures.opened (steps g c) now.inner now.stands)
 
@@ -34,10 +34,10 @@ returns-clause-keeps g c = λ o bytes k.
 
 -- Refused.
 
-told : (g : Over) (c : goal.After-from_residual g) → ExclusiveAnswer c.args.self.now c.open.new.store c.args.partition.now c.args.name.now (least_of c.args.versions) (greatest_of c.args.versions) g.R.Rng.stream (names_of c.args.registry.now) (Some (refusal_of c.in_err-opened.field-0.0))
+told : (g : Over) (c : goal.After-from_residual g) → ExclusiveAnswer c.args.self.now c.open.new.store c.args.partition.now c.args.name.now (lower c.args.versions) (upper c.args.versions) g.R.Rng.stream (names_of c.args.registry.now) (Some (refusal_of c.in_err-opened.field-0.0))
 told g c =
-    told_refused g.R.Rng.stream (names_of c.args.registry.now) c.args.partition.now c.args.name.now (least_of c.args.versions) (greatest_of c.args.versions) c.args.self.now c.open.new.store
-    (c.opens.ensures.accepted c.args.self.now c.open.new.store c.args.partition.now c.args.name.now (least_of c.args.versions) (greatest_of c.args.versions)) (c.opens.ensures.refused c.args.self.now c.open.new.store c.args.partition.now c.args.name.now (least_of c.args.versions) (greatest_of c.args.versions))
+    told_refused g.R.Rng.stream (names_of c.args.registry.now) c.args.partition.now c.args.name.now (lower c.args.versions) (upper c.args.versions) c.args.self.now c.open.new.store
+    (c.opens.ensures.accepted c.args.self.now c.open.new.store c.args.partition.now c.args.name.now (lower c.args.versions) (upper c.args.versions)) (c.opens.ensures.refused c.args.self.now c.open.new.store c.args.partition.now c.args.name.now (lower c.args.versions) (upper c.args.versions))
     _ c.in_err-opened.ensures.answer refl
 
 pub returns-in_err-opened-clause-answer : goal.returns-in_err-opened-clause-answer
