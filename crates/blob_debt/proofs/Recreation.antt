@@ -6,15 +6,15 @@ use Rattle.std.proofs.lemmas.Bool.{and_parts, cond-true, false≢true}
 use Rattle.std.proofs.lemmas.Bool.Decides.{nat_tests}
 use Rattle.blob_header.specs.Refusals.{Refusal}
 use Rattle.blob_names.specs.Names.{with_at}
-use Rattle.blob_debt.specs.History.{History, Call, Event, Deed, To, Forget, Admit, Release, Settle, Clear, Fail, Close, Admitted, Released, Settled, Failed, Closed, is_over, cleared, with_deed, events, latest, settling, is_number, generations, tokens}
+use Rattle.blob_debt.specs.History.{History, Call, Event, Operation, To, Forget, Admit, Release, Settle, Clear, Fail, Close, Admitted, Released, Settled, Failed, Closed, is_over, clear_event, with_operation, events, latest, settling, is_this_number, generations, tokens}
 use Rattle.blob_debt.specs.Debts.{IsNumbered}
 use Rattle.blob_debt.specs.Recreated.{forgets, IsForgottenAfter}
 use Rattle.blob_names.proofs.NameMaps.{with_at_same}
 
 -- no number below these counts for a name
 pub record IsNewer (g t : ℕ) (es : List Event) : Type 0 where
-  pub generation : (k : ℕ) → k < g → is_number (latest es) k ≡ false
-  pub token : (k : ℕ) → k < t → is_number (settling es) k ≡ false
+  pub generation : (k : ℕ) → k < g → is_this_number (latest es) k ≡ false
+  pub token : (k : ℕ) → k < t → is_this_number (settling es) k ≡ false
 
 below : (g k m : ℕ) → g ≤ m → k < g → (m == k) ≡ false
 below g k m h l = grind (arith, nat_tests)
@@ -24,11 +24,11 @@ module _ (g t : ℕ) where
   either true x y p q = p
   either false x y p q = q
 
-  none_or : (b : Bool) (o : Option ℕ) (k : ℕ) → is_number o k ≡ false → is_number (if b then None else o) k ≡ false
+  none_or : (b : Bool) (o : Option ℕ) (k : ℕ) → is_this_number o k ≡ false → is_this_number (if b then None else o) k ≡ false
   none_or true o k e = refl
   none_or false o k e = e
 
-  outcome_newer : (outcome : Option Refusal) (es : List Event) → IsNewer g t es → IsNewer g t (cleared outcome ∷ es)
+  outcome_newer : (outcome : Option Refusal) (es : List Event) → IsNewer g t es → IsNewer g t (clear_event outcome ∷ es)
   outcome_newer None es n = record { generation = n.generation; token = n.token }
   outcome_newer (Some e) es n = record { generation = n.generation; token = n.token }
 
@@ -38,22 +38,22 @@ module _ (g t : ℕ) where
   admitted_newer : (m : ℕ) (es : List Event) → g ≤ m → IsNewer g t es → IsNewer g t (Admitted m ∷ es)
   admitted_newer m es h n = record { generation = λ k l. below g k m h l; token = n.token }
 
-  -- a deed whose numbers are given now keeps a name's events newer
-  deed_newer : (deed : Deed) (p n : List ℕ) (h : History) (es : List Event) → IsNumbered (To p n deed ∷ h) → g ≤ generations h → t ≤ tokens h → IsNewer g t es → IsNewer g t (with_deed deed es)
-  deed_newer (Admit existing m) p n h es num gs ts new =
+  -- an operation whose numbers are given now keeps a name's events newer
+  operation_newer : (operation : Operation) (p n : List ℕ) (h : History) (es : List Event) → IsNumbered (To p n operation ∷ h) → g ≤ generations h → t ≤ tokens h → IsNewer g t es → IsNewer g t (with_operation operation es)
+  operation_newer (Admit existing m) p n h es num gs ts new =
       admitted_newer m (if existing then es else []) (subst (λ k. g ≤ k) (sym num.0) gs) (either existing es [] new nothing_newer)
-  deed_newer (Release m token) p n h es num gs ts new =
-      either (is_number (latest es) m && is_none (settling es)) (Released token ∷ es) es
+  operation_newer (Release m token) p n h es num gs ts new =
+      either (is_this_number (latest es) m && is_none (settling es)) (Released token ∷ es) es
       (record { generation = new.generation; token = λ k l. below t k token (subst (λ j. t ≤ j) (sym num.0) ts) l }) new
-  deed_newer (Settle token dirty failed) p n h es num gs ts new =
-      either (is_number (settling es) token) (Settled dirty failed ∷ es) es
+  operation_newer (Settle token dirty failed) p n h es num gs ts new =
+      either (is_this_number (settling es) token) (Settled dirty failed ∷ es) es
       (record { generation = λ k l. none_or (is_over (Settled dirty failed ∷ es)) (latest es) k (new.generation k l); token = λ k l. refl }) new
-  deed_newer (Clear m outcome) p n h es num gs ts new =
-      either (is_number (latest es) m) (cleared outcome ∷ es) es (outcome_newer outcome es new) new
-  deed_newer (Fail m e) p n h es num gs ts new =
-      either (is_number (latest es) m) (Failed e ∷ es) es (record { generation = new.generation; token = new.token }) new
-  deed_newer (Close m) p n h es num gs ts new =
-      either (is_number (latest es) m) (Closed ∷ es) es
+  operation_newer (Clear m outcome) p n h es num gs ts new =
+      either (is_this_number (latest es) m) (clear_event outcome ∷ es) es (outcome_newer outcome es new) new
+  operation_newer (Fail m e) p n h es num gs ts new =
+      either (is_this_number (latest es) m) (Failed e ∷ es) es (record { generation = new.generation; token = new.token }) new
+  operation_newer (Close m) p n h es num gs ts new =
+      either (is_this_number (latest es) m) (Closed ∷ es) es
       (record { generation = λ k l. none_or (is_over (Closed ∷ es)) (latest es) k (new.generation k l); token = new.token }) new
 
   choice : (b d : Bool) (x y : List Event) → ((b ≡ true) → (d ≡ true) → IsNewer g t x) → IsNewer g t y → IsNewer g t (cond b (cond d x y) y)
@@ -67,9 +67,9 @@ module _ (g t : ℕ) where
 
   -- one more call
   call_newer : (c : Call) (h : History) (p n : List ℕ) → IsNumbered (c ∷ h) → g ≤ generations h → t ≤ tokens h → IsNewer g t (events h p n) → IsNewer g t (events (c ∷ h) p n)
-  call_newer (To q m deed) h p n num gs ts new =
-      choice (bytes_eq q p) (bytes_eq m n) (with_deed deed (events h q m)) (events h p n)
-      (λ y z. deed_newer deed q m h (events h q m) num gs ts
+  call_newer (To q m operation) h p n num gs ts new =
+      choice (bytes_eq q p) (bytes_eq m n) (with_operation operation (events h q m)) (events h p n)
+      (λ y z. operation_newer operation q m h (events h q m) num gs ts
       (subst (λ l. IsNewer g t (events h l m)) (sym ((bytes_decides q p).0 y)) (subst (λ l. IsNewer g t (events h p l)) (sym ((bytes_decides m n).0 z)) new)))
       new
   call_newer (Forget q (Some m)) h p n num gs ts new = choice (bytes_eq q p) (bytes_eq m n) [] (events h p n) (λ y z. nothing_newer) new
@@ -139,6 +139,6 @@ newer h earlier p n f =
     subst (λ k. IsNewer (generations earlier) (tokens earlier) (events k p n)) (sym f.parts)
     (newer_since f.later f.call earlier p n (subst IsNumbered f.parts f.numbered) f.forgotten)
 
--- a deed that doesn't count leaves all names
-pub no_count : (h : History) (p n : List ℕ) (deed : Deed) → with_deed deed (events h p n) ≡ events h p n → events (To p n deed ∷ h) ≡ events h
-no_count h p n deed e = ap (with_at (events h) p n) e ∙ with_at_same (events h) p n
+-- an operation that doesn't count leaves all names
+pub no_count : (h : History) (p n : List ℕ) (operation : Operation) → with_operation operation (events h p n) ≡ events h p n → events (To p n operation ∷ h) ≡ events h
+no_count h p n operation e = ap (with_at (events h) p n) e ∙ with_at_same (events h) p n

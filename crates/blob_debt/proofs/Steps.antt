@@ -6,12 +6,12 @@ use Rattle.std.proofs.lemmas.Bool.{cases_Bool, false≢true}
 use Rattle.blob_header.specs.Refusals.{Refusal, refusal_of}
 use Rattle.blob_header.specs.declared.error.Error.{Error}
 use Rattle.blob_debt.specs.declared.pending.entry.Entry.{Entry}
-use Rattle.blob_debt.specs.History.{Event, settling, debt, failure, is_live, is_over, latest, is_number, with_deed, Settle, Settled, Close, Closed}
-use Rattle.blob_debt.specs.Debts.{standing, kept, over}
+use Rattle.blob_debt.specs.History.{Event, settling, debt, failure, is_live, is_over, latest, is_this_number, with_operation, Settle, Settled, Close, Closed}
+use Rattle.blob_debt.specs.Debts.{standing, standing_of, is_standing_over}
 
 -- a name that is over stands as one that was never there
 over_is_nothing : (l : Bool) (t : Option ℕ) (d : Bool) (f : Option Refusal) → not l && is_none t && not d && is_none f ≡ true
-    → kept None ≡ record { latest = None; live = l; settling = t; debt = d; failure = f }
+    → standing_of None ≡ record { latest = None; live = l; settling = t; debt = d; failure = f }
 over_is_nothing false None false None e = refl
 over_is_nothing false None false (Some f) e = absurd (false≢true e)
 over_is_nothing false None true f e = absurd (false≢true e)
@@ -44,20 +44,20 @@ failure_settled dirty (Some e) es = refl
 
 -- an entry that changed by an event which may end the name
 pub may_end : (e : Entry) (es : List Event)
-    → kept (Some e) ≡ record (standing es) { latest = Some e.generation }
+    → standing_of (Some e) ≡ record (standing es) { latest = Some e.generation }
     → latest es ≡ (if is_over es then None else Some e.generation)
-    → kept (if over (kept (Some e)) then None else Some e) ≡ standing es
+    → standing_of (if is_standing_over (standing_of (Some e)) then None else Some e) ≡ standing es
 may_end e es same last =
-    let o : over (kept (Some e)) ≡ is_over es = ap over same in
+    let o : is_standing_over (standing_of (Some e)) ≡ is_over es = ap is_standing_over same in
     ⊎_elim
-    (λ y. ap (λ b. kept (if b then None else Some e)) (o ∙ y)
+    (λ y. ap (λ b. standing_of (if b then None else Some e)) (o ∙ y)
     ∙ over_is_nothing (is_live es) (settling es) (debt es) (failure es) y
     ∙ ap (λ k. record (standing es) { latest = k }) (sym (last ∙ ap (λ b. if b then None else Some e.generation) y)))
-    (λ n. ap (λ b. kept (if b then None else Some e)) (o ∙ n) ∙ same
+    (λ n. ap (λ b. standing_of (if b then None else Some e)) (o ∙ n) ∙ same
     ∙ ap (λ k. record (standing es) { latest = k }) (sym (last ∙ ap (λ b. if b then None else Some e.generation) n)))
     (cases_Bool (is_over es))
 
-is_mine : (o : Option ℕ) (token : ℕ) → false ≡ not (option_eq nat_eq o (Some token)) → is_number o token ≡ true
+is_mine : (o : Option ℕ) (token : ℕ) → false ≡ not (option_eq nat_eq o (Some token)) → is_this_number o token ≡ true
 is_mine None token e = absurd (false≢true e)
 is_mine (Some k) token e = by_test (k == token) e where
   by_test : (b : Bool) → false ≡ not b → b ≡ true
@@ -66,13 +66,13 @@ is_mine (Some k) token e = by_test (k == token) e where
 
 -- the entry after its token was settled
 pub settled : (e : Entry) (es : List Event) (token : ℕ) (dirty : Bool) (failed new : Option Error) → new ≡ option_or failed e.failure
-    → kept (Some e) ≡ standing es → false ≡ not (option_eq nat_eq e.settling (Some token))
-    → kept (if over (kept (Some (record { generation = e.generation; is_live = e.is_live; settling = None; is_dirty = e.is_dirty || dirty; failure = new }))) then None else Some (record { generation = e.generation; is_live = e.is_live; settling = None; is_dirty = e.is_dirty || dirty; failure = new }))
-    ≡ standing (with_deed (Settle token dirty (option_map refusal_of failed)) es)
+    → standing_of (Some e) ≡ standing es → false ≡ not (option_eq nat_eq e.settling (Some token))
+    → standing_of (if is_standing_over (standing_of (Some (record { generation = e.generation; is_live = e.is_live; settling = None; is_dirty = e.is_dirty || dirty; failure = new }))) then None else Some (record { generation = e.generation; is_live = e.is_live; settling = None; is_dirty = e.is_dirty || dirty; failure = new }))
+    ≡ standing (with_operation (Settle token dirty (option_map refusal_of failed)) es)
 settled e es token dirty failed new made same mine =
     let f = option_map refusal_of failed in
-    let here : is_number (settling es) token ≡ true = ap (λ s. is_number s.settling token) (sym same) ∙ is_mine e.settling token mine in
-    let w : with_deed (Settle token dirty f) es ≡ Settled dirty f ∷ es = ap (λ b. if b then Settled dirty f ∷ es else es) here in
+    let here : is_this_number (settling es) token ≡ true = ap (λ s. is_this_number s.settling token) (sym same) ∙ is_mine e.settling token mine in
+    let w : with_operation (Settle token dirty f) es ≡ Settled dirty f ∷ es = ap (λ b. if b then Settled dirty f ∷ es else es) here in
     rw w (may_end _ (Settled dirty f ∷ es)
     (λ i. record {
       latest = Some e.generation;
@@ -84,12 +84,12 @@ settled e es token dirty failed new made same mine =
     (ap (λ s. if is_over (Settled dirty f ∷ es) then None else s.latest) (sym same)))
 
 -- the entry after its open was closed
-pub closed : (e : Entry) (es : List Event) (g : ℕ) → kept (Some e) ≡ standing es → e.generation ≡ g
-    → kept (if over (kept (Some (record e { is_live = false }))) then None else Some (record e { is_live = false })) ≡ standing (with_deed (Close g) es)
+pub closed : (e : Entry) (es : List Event) (g : ℕ) → standing_of (Some e) ≡ standing es → e.generation ≡ g
+    → standing_of (if is_standing_over (standing_of (Some (record e { is_live = false }))) then None else Some (record e { is_live = false })) ≡ standing (with_operation (Close g) es)
 closed e es g same mine =
     let l : latest es ≡ Some g = ap (λ s. s.latest) (sym same) ∙ ap Some mine in
-    let here : is_number (latest es) g ≡ true = ap (λ k. is_number k g) l ∙ eqb_refl g in
-    let w : with_deed (Close g) es ≡ Closed ∷ es = ap (λ b. if b then Closed ∷ es else es) here in
+    let here : is_this_number (latest es) g ≡ true = ap (λ k. is_this_number k g) l ∙ eqb_refl g in
+    let w : with_operation (Close g) es ≡ Closed ∷ es = ap (λ b. if b then Closed ∷ es else es) here in
     rw w (may_end (record e { is_live = false }) (Closed ∷ es)
     (λ i. record { latest = Some e.generation; live = false; settling = (same i).settling; debt = (same i).debt; failure = (same i).failure })
     (ap (λ s. if is_over (Closed ∷ es) then None else s.latest) (sym same)))

@@ -1,5 +1,5 @@
 -- What a registry of durability debt keeps, and the histories that it stands for.
-use Rattle.std.specs.Prelude.{◌≡◌, ℕ, List, [], ◌∷◌, Bool, false, not, ◌&&◌, is_none, is_some, ◌||◌, Option, Some, None, Result, Ok, Err, option_map, ◌⊎◌}
+use Rattle.std.specs.Prelude.{◌≡◌, ℕ, List, [], ◌∷◌, Bool, false, is_some, ◌||◌, Option, Some, None, Result, Ok, Err, option_map, ◌⊎◌}
 use Rattle.std.specs.Prelude.{Vec, String}
 use Rattle.std.specs.Global.{Global}
 use Rattle.std.specs.String.{string_bytes}
@@ -13,7 +13,7 @@ use Rattle.blob_debt.specs.declared.pending.entry.Entry.{Entry}
 use Rattle.blob_debt.specs.declared.pending.entry.Change.{Change}
 use Rattle.blob_debt.specs.declared.pending.entry.Change.TheVariants as change
 use Rattle.blob_names.specs.Names.{at}
-use Rattle.blob_debt.specs.History.{Deed, Call, History, Event, To, Admit, Release, Settle, Clear, Close, Opening, settling, debt, failure, is_live, latest, events, generations, tokens, is_outstanding}
+use Rattle.blob_debt.specs.History.{Operation, Call, History, Event, To, Admit, Release, Settle, Clear, Close, AdmittedOpen, settling, debt, failure, is_live, over, latest, events, generations, tokens, is_outstanding}
 
 -- all that is known of a name
 pub record Standing : Type 0 where
@@ -28,32 +28,31 @@ abbrev pub standing : List Event → Standing
 standing es = record { latest = latest es; live = is_live es; settling = settling es; debt = debt es; failure = failure es }
 
 -- what the registry keeps of a name
-abbrev pub kept : Option Entry → Standing
-kept None = record { latest = None; live = false; settling = None; debt = false; failure = None }
-kept (Some e) = record { latest = Some e.generation; live = e.is_live; settling = e.settling; debt = e.is_dirty; failure = option_map refusal_of e.failure }
+abbrev pub standing_of : Option Entry → Standing
+standing_of None = record { latest = None; live = false; settling = None; debt = false; failure = None }
+standing_of (Some e) = record { latest = Some e.generation; live = e.is_live; settling = e.settling; debt = e.is_dirty; failure = option_map refusal_of e.failure }
 
--- a closed name of which no later open has to be told anything
-abbrev pub over : Standing → Bool
-over s = not s.live && is_none s.settling && not s.debt && is_none s.failure
+abbrev pub is_standing_over : Standing → Bool
+is_standing_over s = over s.live s.settling s.debt s.failure
 
 -- what a change of an entry does
-abbrev pub deed_of : Change → Deed
-deed_of (change.Release g token) = Release g token
-deed_of (change.Settle token dirty failed) = Settle token dirty (option_map refusal_of failed)
-deed_of (change.Clear g outcome) = Clear g (refused outcome)
-deed_of (change.Close g) = Close g
+abbrev pub operation_of : Change → Operation
+operation_of (change.Release g token) = Release g token
+operation_of (change.Settle token dirty failed) = Settle token dirty (option_map refusal_of failed)
+operation_of (change.Clear g outcome) = Clear g (refused outcome)
+operation_of (change.Close g) = Close g
 
--- a deed to the name of a key
-abbrev pub to_key : String Global × Vec ℕ Global → Deed → Call
-to_key key deed = To (string_bytes key.0) key.1.items deed
+-- an operation on the name of a key
+abbrev pub to_key : String Global × Vec ℕ Global → Operation → Call
+to_key key operation = To (string_bytes key.0) key.1.items operation
 
--- a deed to the name of an open
-abbrev pub by_open : Opening → Deed → Call
-by_open o deed = To o.partition o.name deed
+-- an operation on the name of an open
+abbrev pub by_open : AdmittedOpen → Operation → Call
+by_open o operation = To o.partition o.name operation
 
 -- the kept names are those of the history
-pub record Keeps (names : Names Entry) (h : History) : Type 0 where
-  pub standing : (p n : List ℕ) → kept (at names p n) ≡ standing (events h p n)
+pub record HoldsNames (names : Names Entry) (h : History) : Type 0 where
+  pub standing : (p n : List ℕ) → standing_of (at names p n) ≡ standing (events h p n)
 
 -- each number in the history is the next one
 abbrev pub IsNumbered : History → Type 0
@@ -62,8 +61,8 @@ IsNumbered (To p n (Admit existing g) ∷ h) = (g ≡ generations h) × IsNumber
 IsNumbered (To p n (Release g token) ∷ h) = (token ≡ tokens h) × IsNumbered h
 IsNumbered (c ∷ h) = IsNumbered h
 
-pub record StandsFor (r : Pending) (h : History) : Type 0 where
-  pub names : Keeps r.names h
+pub record Represents (r : Pending) (h : History) : Type 0 where
+  pub names : HoldsNames r.names h
   pub outstanding : (t : ℕ) → contains nat_cmp r.outstanding t ≡ is_outstanding h t
   pub generations : r.next_generation ≡ generations h
   pub tokens : r.next_token ≡ tokens h
@@ -76,22 +75,22 @@ pub record IsUnchanged (r s : Pending) : Type 0 where
   pub tokens : s.next_token ≡ r.next_token
 
 -- a result is this answer, or the refusal for want of memory
-abbrev pub Answers : {T : Type 0} → Result T Error → Result T Refusal → Type 0
-Answers (Ok x) answer = Ok x ≡ answer
-Answers (Err e) answer = (refusal_of e ≡ Memory) ⊎ (Err (refusal_of e) ≡ answer)
+abbrev pub AnswersOrMemory : {T : Type 0} → Result T Error → Result T Refusal → Type 0
+AnswersOrMemory (Ok x) answer = Ok x ≡ answer
+AnswersOrMemory (Err e) answer = (refusal_of e ≡ Memory) ⊎ (Err (refusal_of e) ≡ answer)
 
 -- what an entry tells its open
-abbrev pub told : List ℕ → List ℕ → Result Entry Error → Result (Opening × Option ℕ × Bool) Error
+abbrev pub told : List ℕ → List ℕ → Result Entry Error → Result (AdmittedOpen × Option ℕ × Bool) Error
 told p n (Ok e) = Ok (record { partition = p; name = n; number = e.generation }, e.settling, is_some e.settling || e.is_dirty)
 told p n (Err e) = Err e
 
 -- the history after an open
-abbrev pub after_admit : History → Bool → Result (Opening × Option ℕ × Bool) Error → History
+abbrev pub after_admit : History → Bool → Result (AdmittedOpen × Option ℕ × Bool) Error → History
 after_admit h existing (Ok r) = To r.0.partition r.0.name (Admit existing r.0.number) ∷ h
 after_admit h existing (Err e) = h
 
 -- the history after a release
-abbrev pub after_release : History → Opening → Result (Option ℕ) Error → History
+abbrev pub after_release : History → AdmittedOpen → Result (Option ℕ) Error → History
 after_release h o (Ok (Some token)) = To o.partition o.name (Release o.number token) ∷ h
 after_release h o (Ok None) = h
 after_release h o (Err e) = h

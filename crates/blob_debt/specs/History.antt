@@ -5,21 +5,21 @@ use Rattle.blob_header.specs.Refusals.{Refusal, BlobAlreadyOpen, GenerationsExha
 use Rattle.blob_names.specs.Names.{with_at, with_partition}
 
 -- what is done to a name. A generation or a token is a number
-pub data Deed : Type 0 where
+pub data Operation : Type 0 where
   -- an accepted open: whether the blob was there, and the generation that was given
-  Admit : Bool → ℕ → Deed
+  Admit : Bool → ℕ → Operation
   -- a release by a generation that was given a token
-  Release : ℕ → ℕ → Deed
+  Release : ℕ → ℕ → Operation
   -- a settlement of a token: whether it leaves debt, and the failure that it leaves
-  Settle : ℕ → Bool → Option Refusal → Deed
+  Settle : ℕ → Bool → Option Refusal → Operation
   -- the outcome of establishing debt, by a generation: nothing, or the failure
-  Clear : ℕ → Option Refusal → Deed
-  Fail : ℕ → Refusal → Deed
-  Close : ℕ → Deed
+  Clear : ℕ → Option Refusal → Operation
+  Fail : ℕ → Refusal → Operation
+  Close : ℕ → Operation
 
 pub data Call : Type 0 where
   -- partition and name
-  To : List ℕ → List ℕ → Deed → Call
+  To : List ℕ → List ℕ → Operation → Call
   -- a name, or a whole partition
   Forget : List ℕ → Option (List ℕ) → Call
 
@@ -27,7 +27,7 @@ pub data Call : Type 0 where
 abbrev pub History : Type 0
 History = List Call
 
--- a deed that counted, since the name was last forgotten
+-- an operation that counted, since the name was last forgotten
 pub data Event : Type 0 where
   Admitted : ℕ → Event
   Released : ℕ → Event
@@ -43,14 +43,14 @@ settling (Released token ∷ es) = Some token
 settling (Settled dirty failed ∷ es) = None
 settling (e ∷ es) = settling es
 
--- debt from a dirty settlement until it is cleared
+-- debt from a dirty settlement until it is clear_event
 abbrev pub debt : List Event → Bool
 debt [] = false
 debt (Settled dirty failed ∷ es) = dirty || debt es
 debt (Cleared ∷ es) = false
 debt (e ∷ es) = debt es
 
--- the last failure, kept for good
+-- the last failure, standing_of for good
 abbrev pub failure : List Event → Option Refusal
 failure [] = None
 failure (Settled dirty (Some e) ∷ es) = Some e
@@ -66,8 +66,11 @@ is_live (Closed ∷ es) = false
 is_live (e ∷ es) = is_live es
 
 -- a closed name of which no later open has to be told anything
+abbrev pub over : Bool → Option ℕ → Bool → Option Refusal → Bool
+over live settling debt failure = not live && is_none settling && not debt && is_none failure
+
 abbrev pub is_over : List Event → Bool
-is_over es = not (is_live es) && is_none (settling es) && not (debt es) && is_none (failure es)
+is_over es = over (is_live es) (settling es) (debt es) (failure es)
 
 -- the latest open. A close or a settlement that leaves nothing to tell ends it; a clear never does
 abbrev pub latest : List Event → Option ℕ
@@ -78,27 +81,27 @@ latest (Settled dirty failed ∷ es) = if is_over (Settled dirty failed ∷ es) 
 latest (e ∷ es) = latest es
 
 -- whether a number is there, and this one
-abbrev pub is_number : Option ℕ → ℕ → Bool
-is_number None n = false
-is_number (Some m) n = m == n
+abbrev pub is_this_number : Option ℕ → ℕ → Bool
+is_this_number None n = false
+is_this_number (Some m) n = m == n
 
-abbrev pub cleared : Option Refusal → Event
-cleared None = Cleared
-cleared (Some e) = Failed e
+abbrev pub clear_event : Option Refusal → Event
+clear_event None = Cleared
+clear_event (Some e) = Failed e
 
--- a name's events after a deed, which counts only by the latest generation or the settling token
-abbrev pub with_deed : Deed → List Event → List Event
-with_deed (Admit existing g) es = Admitted g ∷ (if existing then es else [])
-with_deed (Release g token) es = if is_number (latest es) g && is_none (settling es) then Released token ∷ es else es
-with_deed (Settle token dirty failed) es = if is_number (settling es) token then Settled dirty failed ∷ es else es
-with_deed (Clear g outcome) es = if is_number (latest es) g then cleared outcome ∷ es else es
-with_deed (Fail g e) es = if is_number (latest es) g then Failed e ∷ es else es
-with_deed (Close g) es = if is_number (latest es) g then Closed ∷ es else es
+-- a name's events after an operation, which counts only by the latest generation or the settling token
+abbrev pub with_operation : Operation → List Event → List Event
+with_operation (Admit existing g) es = Admitted g ∷ (if existing then es else [])
+with_operation (Release g token) es = if is_this_number (latest es) g && is_none (settling es) then Released token ∷ es else es
+with_operation (Settle token dirty failed) es = if is_this_number (settling es) token then Settled dirty failed ∷ es else es
+with_operation (Clear g outcome) es = if is_this_number (latest es) g then clear_event outcome ∷ es else es
+with_operation (Fail g e) es = if is_this_number (latest es) g then Failed e ∷ es else es
+with_operation (Close g) es = if is_this_number (latest es) g then Closed ∷ es else es
 
 -- a name's events since it was last forgotten, by a call of that or by an open that makes the blob anew
 abbrev pub events : History → List ℕ → List ℕ → List Event
 events [] p n = []
-events (To q m deed ∷ h) p n = with_at (events h) q m (with_deed deed (events h q m)) p n
+events (To q m operation ∷ h) p n = with_at (events h) q m (with_operation operation (events h q m)) p n
 events (Forget q (Some m) ∷ h) p n = with_at (events h) q m [] p n
 events (Forget q None ∷ h) p n = with_partition (events h) [] q p n
 
@@ -130,7 +133,7 @@ abbrev pub unless_failed : {T : Type 0} → Option Refusal → Result T Refusal 
 unless_failed (Some e) answer = Err e
 unless_failed None answer = answer
 
-pub record Opening : Type 0 where
+pub record AdmittedOpen : Type 0 where
   pub partition : List ℕ
   pub name : List ℕ
   pub number : ℕ
@@ -140,7 +143,7 @@ abbrev pub found_by : History → List ℕ → List ℕ → Bool → List Event
 found_by h p n existing = if existing then events h p n else []
 
 -- what an open is answered: its generation, the token of a predecessor, and whether the name owes
-abbrev pub admission : History → List ℕ → List ℕ → List Event → Result (Opening × Option ℕ × Bool) Refusal
+abbrev pub admission : History → List ℕ → List ℕ → List Event → Result (AdmittedOpen × Option ℕ × Bool) Refusal
 admission h p n es =
     if is_live es then Err (BlobAlreadyOpen p (encode_lower n))
     else unless_failed (failure es)
@@ -148,13 +151,13 @@ admission h p n es =
     else Ok (record { partition = p; name = n; number = generations h }, settling es, is_some (settling es) || debt es))
 
 -- what a generation that releases its name is answered
-abbrev pub released : History → Opening → Result (Option ℕ) Refusal
+abbrev pub released : History → AdmittedOpen → Result (Option ℕ) Refusal
 released h o =
     let es = events h o.partition o.name in
-    if is_number (latest es) o.number && is_none (settling es)
+    if is_this_number (latest es) o.number && is_none (settling es)
     then (if is_last (tokens h) then Err GenerationsExhausted else Ok (Some (tokens h)))
     else Ok None
 
 -- what a generation that asks for the debt is answered
 abbrev pub owed : List Event → ℕ → Result Bool Refusal
-owed es g = if is_number (latest es) g then unless_failed (failure es) (Ok (debt es)) else Ok false
+owed es g = if is_this_number (latest es) g then unless_failed (failure es) (Ok (debt es)) else Ok false

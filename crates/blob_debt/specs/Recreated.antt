@@ -7,7 +7,7 @@ use Rattle.blob_debt.specs.Debts.{IsNumbered}
 -- whether a call forgets a name
 abbrev pub forgets : Call → List ℕ → List ℕ → Bool
 forgets (To q m (Admit false g)) p n = bytes_eq q p && bytes_eq m n
-forgets (To q m deed) p n = false
+forgets (To q m operation) p n = false
 forgets (Forget q (Some m)) p n = bytes_eq q p && bytes_eq m n
 forgets (Forget q None) p n = bytes_eq q p
 

@@ -2,13 +2,13 @@
 //!
 //! A backend whose handles are closed with work outstanding admits each open here. The open learns whether a predecessor
 //! is still at work, whether mutations are left to flush, and whether a failure was retained. A contract speaks of the
-//! history of accepted calls: whatever history the registry stood for, it answers by it and stands for it with the call added.
+//! history of accepted calls: whatever history the registry represented, it answers by it and represents it with the call added.
 ghost use Rattle.std.specs.Prelude.{◌≡◌, ◌≢◌, IsErr, Ok, List, ℕ, ◌∷◌, [], OnErr, OnOk, IfOk, not, option_map, option_copied, Some, None, if◌then◌else◌, false, ◌⊎◌, ◌<◌, ◌^◌, ◌-◌};
 ghost use Rattle.hex.specs.Hex.{encode_lower};
 ghost use Rattle.std.specs.String.{string_bytes};
 ghost use Rattle.blob_header.specs.Refusals.{refusal_of, refused, Memory, BlobAlreadyOpen};
-ghost use Rattle.blob_debt.specs.History.{History, Deed, To, Admit, Release, Settle, Clear, Fail, Close, Forget, admission, released, owed, found_by, events, is_outstanding, Admitted};
-ghost use Rattle.blob_debt.specs.Debts.{StandsFor, IsUnchanged, Keeps, Answers, after_admit, after_release, deed_of, kept, standing, told, to_key, by_open};
+ghost use Rattle.blob_debt.specs.History.{History, Operation, To, Admit, Release, Settle, Clear, Fail, Close, Forget, admission, released, owed, found_by, events, is_outstanding, Admitted};
+ghost use Rattle.blob_debt.specs.Debts.{Represents, IsUnchanged, HoldsNames, AnswersOrMemory, after_admit, after_release, operation_of, standing_of, standing, told, to_key, by_open};
 
 pub(crate) mod entry;
 pub(crate) mod generation;
@@ -41,7 +41,7 @@ pub struct Pending {
 impl Pending {
     /// A registry in which nothing happened.
     pub fn new(alloc: Global) -> Pending
-        ensures { StandsFor result [] }
+        ensures { Represents result [] }
     {
         Pending {
             names: Names::new(alloc),
@@ -63,8 +63,8 @@ impl Pending {
         name: &[u8],
         existing: bool,
     ) -> Result<(Generation, Option<Receiver>, bool), Error>
-        ensures answer { (h : History) → StandsFor self.old h → Answers result (admission h partition.now name.now (found_by h partition.now name.now existing)) }
-        ensures stands { (h : History) → StandsFor self.old h → StandsFor self.new (after_admit h existing result) }
+        ensures answer { (h : History) → Represents self.old h → AnswersOrMemory result (admission h partition.now name.now (found_by h partition.now name.now existing)) }
+        ensures stands { (h : History) → Represents self.old h → Represents self.new (after_admit h existing result) }
         ensures refused { OnErr result (IsUnchanged self.old self.new) }
     {
         let entry = self.admitted(partition, name, existing)?;
@@ -83,8 +83,8 @@ impl Pending {
 
     /// The entry that an open leaves, or why it is refused.
     fn admitted(&self, partition: &str, name: &[u8], existing: bool) -> Result<Entry, Error>
-        ensures answer { (h : History) → StandsFor self.now h → Answers (told partition.now name.now result) (admission h partition.now name.now (found_by h partition.now name.now existing)) }
-        ensures entry { (h : History) → StandsFor self.now h → IfOk result (λ entry. kept (Some entry) ≡ standing (Admitted entry.generation ∷ found_by h partition.now name.now existing)) }
+        ensures answer { (h : History) → Represents self.now h → AnswersOrMemory (told partition.now name.now result) (admission h partition.now name.now (found_by h partition.now name.now existing)) }
+        ensures entry { (h : History) → Represents self.now h → IfOk result (λ entry. standing_of (Some entry) ≡ standing (Admitted entry.generation ∷ found_by h partition.now name.now existing)) }
         ensures number { IfOk result (λ entry. (entry.generation ≡ self.now.next_generation) × (entry.generation < 2 ^ 64 - 1)) }
     {
         let mut entry = Entry::opened(self.next_generation);
@@ -122,11 +122,11 @@ impl Pending {
     /// None where the generation isn't the name's latest, or where a predecessor is still settling.
     /// `GenerationsExhausted` where no number is left for a token, `Memory` where none was found. After these all is as before.
     pub fn release(&mut self, generation: &Generation) -> Result<Option<Sender>, Error>
-        ensures answer { (h : History) → StandsFor self.old h → Answers result (released h generation.now) }
-        ensures stands { (h : History) → StandsFor self.old h → StandsFor self.new (after_release h generation.now result) }
+        ensures answer { (h : History) → Represents self.old h → AnswersOrMemory result (released h generation.now) }
+        ensures stands { (h : History) → Represents self.old h → Represents self.new (after_release h generation.now result) }
         ensures refused { OnErr result (IsUnchanged self.old self.new) }
         ensures nothing { result ≡ Ok None → IsUnchanged self.old self.new }
-        ensures memory { (h : History) → StandsFor self.old h → refused result ≡ Some Memory → released h generation.now ≢ Ok None }
+        ensures memory { (h : History) → Represents self.old h → refused result ≡ Some Memory → released h generation.now ≢ Ok None }
     {
         let key = &generation.key;
         let number = generation.number;
@@ -158,8 +158,8 @@ impl Pending {
     /// Answers the failure that was retained, or whether debt is there, and `Ok(false)` where `id` isn't the name's latest
     /// generation. `Memory` where none was found for the failure's texts.
     pub fn debt(&self, key: &(String, Vec<u8>), id: GenerationId) -> Result<bool, Error>
-        ensures answer { (h : History) → StandsFor self.now h → Answers result (owed (events h (string_bytes key.now.0) key.now.1.items) id) }
-        ensures memory { (h : History) → StandsFor self.now h → refused result ≡ Some Memory → IsErr (owed (events h (string_bytes key.now.0) key.now.1.items) id) }
+        ensures answer { (h : History) → Represents self.now h → AnswersOrMemory result (owed (events h (string_bytes key.now.0) key.now.1.items) id) }
+        ensures memory { (h : History) → Represents self.now h → refused result ≡ Some Memory → IsErr (owed (events h (string_bytes key.now.0) key.now.1.items) id) }
     {
         let Some(entry) = self.names.get(key.0.as_str(), key.1.as_slice()) else {
             return Ok(false);
@@ -175,7 +175,7 @@ impl Pending {
 
     /// Whether a token was settled, under whichever name, also once the name was forgotten. Takes no memory.
     pub fn is_settled(&self, receiver: &Receiver) -> bool
-        ensures { (h : History) → StandsFor self.now h → result ≡ not (is_outstanding h receiver.now) }
+        ensures { (h : History) → Represents self.now h → result ≡ not (is_outstanding h receiver.now) }
     {
         !self.outstanding.contains(&receiver.token)
     }
@@ -193,7 +193,7 @@ impl Pending {
         dirty: bool,
         failure: Option<Error>,
     )
-        ensures { (h : History) → StandsFor self.old h → StandsFor self.new (to_key key.now (Settle sender dirty (option_map refusal_of failure)) ∷ h) }
+        ensures { (h : History) → Represents self.old h → Represents self.new (to_key key.now (Settle sender dirty (option_map refusal_of failure)) ∷ h) }
     {
         let Sender { token } = sender;
         self.outstanding.remove(&token);
@@ -211,7 +211,7 @@ impl Pending {
     /// Records the outcome of establishing what `debt` told: success ends the debt, a failure is retained.
     /// Ignored unless the generation is the name's latest. Success never ends a failure. Takes no memory.
     pub fn clear(&mut self, key: &(String, Vec<u8>), id: GenerationId, outcome: Result<(), Error>)
-        ensures { (h : History) → StandsFor self.old h → StandsFor self.new (to_key key.now (Clear id (refused outcome)) ∷ h) }
+        ensures { (h : History) → Represents self.old h → Represents self.new (to_key key.now (Clear id (refused outcome)) ∷ h) }
     {
         let generation = id.number;
         change(
@@ -226,7 +226,7 @@ impl Pending {
 
     /// Retains a failure, unless the generation isn't the name's latest. Takes no memory.
     pub fn fail(&mut self, generation: &Generation, error: Error)
-        ensures { (h : History) → StandsFor self.old h → StandsFor self.new (by_open generation.now (Fail generation.now.number (refusal_of error)) ∷ h) }
+        ensures { (h : History) → Represents self.old h → Represents self.new (by_open generation.now (Fail generation.now.number (refusal_of error)) ∷ h) }
     {
         let failed = Change::Clear {
             generation: generation.number,
@@ -237,7 +237,7 @@ impl Pending {
 
     /// Closes an open. A later open of the name is told what was left. Takes no memory.
     pub fn close(&mut self, generation: Generation)
-        ensures { (h : History) → StandsFor self.old h → StandsFor self.new (by_open generation (Close generation.number) ∷ h) }
+        ensures { (h : History) → Represents self.old h → Represents self.new (by_open generation (Close generation.number) ∷ h) }
     {
         let Generation { key, number } = generation;
         change(&mut self.names, &key, Change::Close { generation: number });
@@ -246,7 +246,7 @@ impl Pending {
     /// Forgets a name that is removed, or all names of a partition: nothing is owed any more, no failure is retained,
     /// and tokens and generations from before no longer count. Takes no memory.
     pub fn forget(&mut self, partition: &str, name: Option<&[u8]>)
-        ensures { (h : History) → StandsFor self.old h → StandsFor self.new (Forget partition.now (option_copied name.entry) ∷ h) }
+        ensures { (h : History) → Represents self.old h → Represents self.new (Forget partition.now (option_copied name.entry) ∷ h) }
     {
         match name {
             Some(name) => self.names.remove(partition, name),
@@ -257,7 +257,7 @@ impl Pending {
 
 /// Makes a change to a name's entry, and drops the entry where that ends it. Without an entry nothing counts.
 fn change(names: &mut Names<Entry>, key: &(String, Vec<u8>), change: Change)
-    ensures { (h : History) → Keeps names.old h → Keeps names.new (to_key key.now (deed_of change) ∷ h) }
+    ensures { (h : History) → HoldsNames names.old h → HoldsNames names.new (to_key key.now (operation_of change) ∷ h) }
 {
     let (partition, name) = (key.0.as_str(), key.1.as_slice());
     // Stands in the map while the name's own entry is changed.

@@ -36,8 +36,8 @@ pub(crate) enum Change {
 }
 
 impl Entry {
-    ghost use Rattle.blob_debt.specs.History.{Event, with_deed};
-    ghost use Rattle.blob_debt.specs.Debts.{kept, over, standing, deed_of};
+    ghost use Rattle.blob_debt.specs.History.{Event, with_operation};
+    ghost use Rattle.blob_debt.specs.Debts.{standing_of, is_standing_over, standing, operation_of};
 
     /// The entry of a live open, to which nothing was left.
     pub(crate) fn opened(generation: u64) -> Entry
@@ -54,14 +54,14 @@ impl Entry {
 
     /// Whether a later open has to be told nothing.
     fn is_over(&self) -> bool
-        ensures { result ≡ over (kept (Some self.now)) }
+        ensures { result ≡ is_standing_over (standing_of (Some self.now)) }
     {
         !self.is_live && self.settling.is_none() && !self.is_dirty && self.failure.is_none()
     }
 
     /// Makes a change, and answers whether it ends the name.
     pub(crate) fn apply(&mut self, change: Change) -> bool
-        ensures { (es : List Event) → kept (Some self.old) ≡ standing es → kept (if result then None else Some self.new) ≡ standing (with_deed (deed_of change) es) }
+        ensures { (es : List Event) → standing_of (Some self.old) ≡ standing es → standing_of (if result then None else Some self.new) ≡ standing (with_operation (operation_of change) es) }
     {
         match change {
             Change::Release { generation, token } => {

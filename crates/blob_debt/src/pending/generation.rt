@@ -10,10 +10,10 @@ pub struct Generation {
 }
 
 impl Model for Generation {
-    ghost use Rattle.blob_debt.specs.History.{Opening};
+    ghost use Rattle.blob_debt.specs.History.{AdmittedOpen};
     ghost use Rattle.std.specs.String.{string_bytes};
 
-    ghost Value = { Opening };
+    ghost Value = { AdmittedOpen };
 
     ghost view = { λ g. record { partition = string_bytes g.key.0; name = g.key.1.items; number = g.number } };
 }

@@ -1,7 +1,6 @@
 // Calls through a handle, and the end of a started sync.
-ghost use Rattle.std.specs.Prelude.{◌≡◌, ◌≢◌, Some, IfOk, OnErr};
+ghost use Rattle.std.specs.Prelude.{◌≡◌, ◌≢◌, true, false, Some, IfOk, OnErr};
 ghost use Rattle.std.specs.Bool.{OnTrue, OnFalse};
-ghost use Rattle.blob_base.specs.Options.{is_sync};
 ghost use Rattle.blob_header.specs.Refusals.{IsMemory, Memory, refused};
 ghost use Rattle.blob_calls.specs.Acts.{Read, Write, Resize, Size, Sync, StartSync, Through, Finish};
 ghost use Rattle.blob_laboratory.specs.LabStands.{Asks, Starts, Performs};
@@ -21,17 +20,6 @@ fn copied(alloc: Global, bytes: &[u8]) -> Result<IoBufs, Error>
     ensures memory { OnErr result (IsMemory result) }
 {
     IoBufs::from_vec(Vec::from_slice(alloc, bytes)?)
-}
-
-/// The options of a write, a SYNC one or not.
-fn options_of(sync: bool) -> WriteOptions
-    ensures { is_sync result ≡ sync }
-{
-    if sync {
-        WriteOptions::SYNC
-    } else {
-        WriteOptions::default()
-    }
 }
 
 /// Whether there was no memory.
@@ -58,6 +46,40 @@ impl Handle {
         }
     }
 
+    /// A plain write lends its bytes: the wrapper copies them where it records the write.
+    fn write_plain(&mut self, wrapper: &mut Wrapper, offset: u64, bytes: &[u8]) -> Reply
+        ensures { Asks wrapper.old (held_by self.old) (Write offset bytes.now false) result wrapper.new (held_by self.new) }
+    {
+        runs_are_choices();
+        match self.blob.write_from(wrapper, offset, bytes) {
+            Ok(()) => Reply::Done,
+            Err(e) => Reply::Failed(e),
+        }
+    }
+
+    fn write_synced(
+        &mut self,
+        alloc: Global,
+        wrapper: &mut Wrapper,
+        offset: u64,
+        bytes: &[u8],
+    ) -> Reply
+        ensures { Asks wrapper.old (held_by self.old) (Write offset bytes.now true) result wrapper.new (held_by self.new) }
+    {
+        let copy = match copied(alloc, bytes) {
+            Ok(copy) => copy,
+            Err(e) => return Reply::Failed(e),
+        };
+        runs_are_choices();
+        match self
+            .blob
+            .write_at(wrapper, offset, copy, WriteOptions::SYNC)
+        {
+            Ok(()) => Reply::Done,
+            Err(e) => Reply::Failed(e),
+        }
+    }
+
     fn write(
         &mut self,
         alloc: Global,
@@ -68,15 +90,10 @@ impl Handle {
     ) -> Reply
         ensures { Asks wrapper.old (held_by self.old) (Write offset bytes.now sync) result wrapper.new (held_by self.new) }
     {
-        let copy = match copied(alloc, bytes) {
-            Ok(copy) => copy,
-            Err(e) => return Reply::Failed(e),
-        };
-        let options = options_of(sync);
-        runs_are_choices();
-        match self.blob.write_at(wrapper, offset, copy, options) {
-            Ok(()) => Reply::Done,
-            Err(e) => Reply::Failed(e),
+        if sync {
+            self.write_synced(alloc, wrapper, offset, bytes)
+        } else {
+            self.write_plain(wrapper, offset, bytes)
         }
     }
 
