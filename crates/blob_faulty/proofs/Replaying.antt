@@ -1,10 +1,10 @@
 -- The replays of a crash, entry by entry and list by list.
-use Rattle.std.proofs.Common.{◌≡◌, ⊎_elim, ℕ, zero, suc, ◌+◌, ◌-◌, ◌<◌, ◌≤◌, max, min, Bool, true, false, cond, not, ◌&&◌, ◌||◌, List, [], ◌∷◌, length, get_or, set, drop, replicate, Option, Some, None, Vec, Global, refl, sym, ◌∙◌, ap, ap₂, subst, arith, true≢false, nat_lt, take, ◌++◌}
-use Rattle.std.specs.Prelude.{option_map, is_some, nat_le, Result, Ok, OnOk}
+use Rattle.std.proofs.Common.{◌≡◌, ⊎_elim, ℕ, zero, suc, ◌+◌, ◌-◌, ◌<◌, ◌≤◌, max, min, Bool, true, false, not, ◌&&◌, ◌||◌, List, [], ◌∷◌, length, get_or, set, drop, replicate, Option, Some, None, refl, sym, ◌∙◌, ap, ap₂, subst, arith, true≢false, nat_lt, take, ◌++◌}
+use Rattle.std.specs.Prelude.{option_map, is_some, nat_le, Result, Ok, OnOk, IfSome}
 use Rattle.std.proofs.lemmas.Bool.{cases_Bool, cases_eq, cond-true, cond-false, and_parts, leb-true, ltb-true, le-leb, lt-ltb, cases_lt}
 use Rattle.std.proofs.lemmas.Bool.Decides.{nat_tests}
 use Rattle.std.proofs.lemmas.List.{get_or-replicate, get_or-set_same, get_or-set_other, get_or_default, at_drop_more, length-take, take_all, get_or_append_left, get_or-take, get_or-append_right, get_or_past}
-use Rattle.blob_model.specs.Bytes.{overlay_by, overlay, between, reach}
+use Rattle.blob_model.specs.Bytes.{overlay_by, between, reach}
 use Rattle.blob_model.specs.Directory.{Directory, is_current}
 use Rattle.blob_model.specs.Durable.{Durable, changed}
 use Rattle.blob_model.specs.Holes.{Holes, in_holes, need_in}
@@ -18,7 +18,6 @@ use Rattle.blob_model.specs.Stands.{replayed_at}
 use Rattle.blob_model.proofs.Agrees.{overlay_same}
 use Rattle.blob_model.proofs.Bytes.{lies_in, reach_below}
 use Rattle.blob_memory.specs.declared.storage.Storage.{Storage}
-use Rattle.blob_memory.specs.Contents.{Fits}
 use Rattle.blob_memory.specs.Store.{directory, HasCrashRoom}
 use Rattle.blob_faults.specs.declared.entry.Entry.{Entry}
 use Rattle.blob_faults.specs.declared.incarnation.Incarnation.{Incarnation}
@@ -31,10 +30,9 @@ use Rattle.blob_faults.specs.Views.{view, views}
 pub ok_is : {T E P : Type 0} (r : Result T E) (x : T) → r ≡ Ok x → OnOk r P → P
 ok_is {T} {E} {P} r x e h = subst (λ (q : Result T E). OnOk q P) e h
 
--- room for more is room for less
-pub fits_less : (v : Option (Vec ℕ Global)) (n m : ℕ) → m ≤ n → Fits v n → Fits v m
-fits_less None n m h f = tt
-fits_less (Some v) n m h f = omega (arith, f)
+-- what holds of a value, where it is there
+pub if_some : {T : Type 0} (r : Option T) (x : T) (P : T → Type 0) → r ≡ Some x → IfSome r P → P x
+if_some {T} r x P e h = subst (λ (q : Option T). IfSome q P) e h
 
 -- no chosen byte lies past the write
 pub reach_within : (o n : ℕ) (c : ℕ → Bool) → reach o n c ≤ o + n
@@ -97,33 +95,6 @@ holes_more h hs p x = holes_one (between h.0 h.1 p) (in_holes hs p) x
 pub masked : (w : Write) (hs : Holes) (t : Choices) (kept : List Bool) (x : List ℕ) → ((i : ℕ) → i < length w.bytes → get_or kept i false ≡ (not (in_holes hs (w.offset + i)) && t w.number i)) →
     overlay_by x w.offset w.bytes (picked kept) ≡ overlay_by x w.offset w.bytes (taken (need_in w hs) t)
 masked w hs t kept x h = overlay_same x w.offset w.bytes _ _ (λ i l. h i l ∙ sym (ap (λ (b : Bool). (b && not (in_holes hs (w.offset + i))) && t w.number i) (lies_in w.offset (length w.bytes) (w.offset + i) (omega arith) (omega arith))))
-
-pub all_of : (x : List ℕ) (o : ℕ) (b : List ℕ) (kept : List Bool) → kept ≡ replicate (length b) true → overlay_by x o b (picked kept) ≡ overlay x o b
-all_of x o b kept e = overlay_same x o b _ _ (λ i l. ap (λ (k : List Bool). get_or k i false) e ∙ get_or-replicate (length b) i true false l)
-
--- what is made of one incarnation's bytes
-pub changed_same : (f : Durable) (o : Place) (g h : List ℕ → List ℕ) (a : Place) → ((x : List ℕ) → g x ≡ h x) → changed f o g a ≡ changed f o h a
-changed_same f o g h a e = ap (λ (r : Option (List ℕ)). cond (same_place o a) r (f a)) (go (f a))
-  where
-    go : (b : Option (List ℕ)) → option_map g b ≡ option_map h b
-    go None = refl
-    go (Some x) = ap Some (e x)
-
-pub changed_twice : (f f' : Durable) (o : Place) (g h : List ℕ → List ℕ) (a : Place) → f' a ≡ changed f o h a → changed f' o g a ≡ changed f o (λ x. g (h x)) a
-changed_twice f f' o g h a e = ap (λ (r : Option (List ℕ)). cond (same_place o a) (option_map g r) r) e ∙ go (same_place o a) (f a)
-  where
-    go : (b : Bool) (x : Option (List ℕ)) → cond b (option_map g (cond b (option_map h x) x)) (cond b (option_map h x) x) ≡ cond b (option_map (λ y. g (h y)) x) x
-    go true None = refl
-    go true (Some x) = refl
-    go false x = refl
-
-pub changed_not : (f : Durable) (o : Place) (a : Place) → f a ≡ changed f o (λ x. x) a
-changed_not f o a = sym (go (same_place o a) (f a))
-  where
-    go : (b : Bool) (x : Option (List ℕ)) → cond b (option_map (λ (y : List ℕ). y) x) x ≡ x
-    go true None = refl
-    go true (Some x) = refl
-    go false x = refl
 
 -- an incarnation that ended has none
 pub changed_ended : (f : Durable) (o : Place) (g : List ℕ → List ℕ) (a : Place) → is_some (f o) ≡ false → f a ≡ changed f o g a

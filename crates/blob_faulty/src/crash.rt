@@ -9,9 +9,10 @@ ghost use Rattle.blob_faulty.specs.Keeps.{Keeps};
 ghost use Rattle.blob_faulty.specs.Names.{Steps};
 ghost use Rattle.blob_faults.specs.Lists.{held, held_by};
 ghost use Rattle.blob_faults.specs.Replays.{widest_of_all};
-ghost use Rattle.blob_faulty.specs.Ready.{IsReady, KeepsRoom};
+ghost use Rattle.blob_faulty.specs.Ready.{IsReady};
 ghost use Rattle.blob_faults.specs.Rows.{table_of};
 ghost use Rattle.blob_faulty.specs.Wrapper.{KeepsNumbers, KeepsRecords, Stands, inner_of, rng_of, pending_of};
+ghost use Rattle.blob_memory.specs.Retained.{KeepsRoom};
 ghost use Rattle.blob_memory.specs.Store.{directory, durable};
 
 use crate::replay::replay_all;

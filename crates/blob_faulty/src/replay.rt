@@ -1,30 +1,30 @@
 //! What a crash makes of the durable bytes. Where there is room for it, no memory is taken.
-ghost use Rattle.std.specs.Prelude.{◌≡◌, ◌<◌, ◌≤◌, ◌+◌, ◌^◌, ℕ, true, false, not, ◌&&◌, length, replicate, slice_index_or, vec_capacity, All};
-ghost use Rattle.blob_model.specs.Bytes.{between, overlay_by};
+ghost use Rattle.std.specs.Prelude.{◌≡◌, ◌<◌, ◌≤◌, ◌+◌, ℕ, false, not, ◌&&◌, length, slice_index_or, vec_capacity, All};
+ghost use Rattle.blob_model.specs.Bytes.{between};
 ghost use Rattle.blob_model.specs.Draws.{chosen_by};
 ghost use Rattle.blob_model.specs.Durable.{changed};
 ghost use Rattle.blob_model.specs.Holes.{in_holes};
 ghost use Rattle.blob_model.specs.Order.{ArePlacesApart};
 ghost use Rattle.blob_model.specs.Pending.{has_marker, replay, replayed, end_of, ends};
 ghost use Rattle.blob_model.specs.Places.{Place};
-ghost use Rattle.blob_model.specs.Runs.{picked};
 ghost use Rattle.blob_model.specs.Stands.{replayed_at};
 ghost use Rattle.blob_faults.specs.Lists.{held, held_by, list_of};
 ghost use Rattle.blob_faults.specs.Ranges.{ranges};
 ghost use Rattle.blob_faults.specs.Replays.{width, widest, widest_of_all};
-ghost use Rattle.blob_faulty.specs.Ready.{IsReady, KeepsRoom, KeepsRooms, CanReplay};
+ghost use Rattle.blob_faulty.specs.Ready.{IsReady, CanReplay};
 ghost use Rattle.blob_faults.specs.Rows.{rows_in, AreNumbered};
 ghost use Rattle.blob_faults.specs.Views.{view, views};
-ghost use Rattle.blob_memory.specs.Store.{directory, durable, HasCrashRoom};
+ghost use Rattle.blob_memory.specs.Overlays.{Becomes};
+ghost use Rattle.blob_memory.specs.Retained.{KeepsRoom};
+ghost use Rattle.blob_memory.specs.Store.{directory, durable};
 
-use blob_base::{Durable, IoBufs};
 use blob_faults::entries::unmarked;
 use blob_faults::entry::Entry;
 use blob_faults::holes::Hole;
 use blob_faults::incarnation::Incarnation;
 use blob_faults::rows::choices_in;
 use blob_faults::write::PendingWrite;
-use blob_memory::Origin;
+use blob_memory::{Origin, overlay};
 
 /// A row's choices for so many bytes, none past its end.
 fn put_row(chosen: &mut Vec<bool>, row: &[bool], len: usize)
@@ -37,16 +37,6 @@ fn put_row(chosen: &mut Vec<bool>, row: &[bool], len: usize)
     chosen.clear();
     chosen.extend_from_slice(&row[..count]).unwrap();
     chosen.resize(len, false).unwrap();
-}
-
-/// All of so many bytes.
-fn put_all(chosen: &mut Vec<bool>, len: usize)
-    requires { len ≤ vec_capacity chosen.old }
-    ensures items { chosen.new.items ≡ replicate len true }
-    ensures capacity { vec_capacity chosen.old ≤ vec_capacity chosen.new }
-{
-    chosen.clear();
-    chosen.resize(len, true).unwrap();
 }
 
 /// Nothing that a hole covers is chosen of the bytes at `offset`.
@@ -80,45 +70,27 @@ fn put_choices(chosen: &mut Vec<bool>, write: &PendingWrite, row: &[bool])
     uncover_all(chosen.as_mut_slice(), write.offset, &write.holes);
 }
 
-/// The chosen bytes are laid over the durable ones of an incarnation that has room for all.
-fn lay_chosen(
-    inner: &mut blob_memory::Storage,
-    origin: &Origin,
-    offset: u64,
-    bytes: &IoBufs,
-    chosen: &[bool],
-)
-    requires len { length chosen.now ≡ length bytes.now }
-    requires counted { offset + length bytes.now + origin.now.start < 2 ^ 64 }
-    requires room { HasCrashRoom inner.old origin.now (offset + length bytes.now) }
-    ensures durable { durable inner.new ≡ changed (durable inner.old) origin.now (λ x. overlay_by x offset bytes.now (picked chosen.now)) }
-    ensures kept { KeepsRoom inner.old inner.new }
-{
-    inner.retain_write(origin, offset, bytes, chosen).unwrap();
-}
-
-/// One entry is replayed. The rows are read by the write's number.
+/// One entry is replayed over bytes that have room for it. The rows are read by the write's number.
 fn replay_entry(
-    inner: &mut blob_memory::Storage,
-    origin: &Origin,
+    bytes: &mut Vec<u8>,
     entry: &Entry,
     rows: &[(u64, Vec<bool>)],
     chosen: &mut Vec<bool>,
 )
     requires numbered { AreNumbered rows.now }
-    requires room { CanReplay inner.old origin.now (end_of (view entry.now)) (width (view entry.now)) chosen.old }
-    ensures durable { (o : Place) → durable inner.new o ≡ changed (durable inner.old) origin.now (λ x. replayed x (view entry.now) (chosen_by (rows_in rows.now))) o }
-    ensures kept { KeepsRooms inner.old inner.new chosen.old chosen.new }
+    requires room { CanReplay bytes.old (end_of (view entry.now)) (width (view entry.now)) chosen.old }
+    ensures bytes { Becomes bytes.old bytes.new (replayed bytes.old.items (view entry.now) (chosen_by (rows_in rows.now))) }
+    ensures capacity { vec_capacity chosen.old ≤ vec_capacity chosen.new }
 {
     match entry {
         Entry::Write(write) => {
             put_choices(chosen, write, choices_in(rows, write.number));
-            lay_chosen(inner, origin, write.offset, &write.bytes, chosen);
+            let offset = write.offset as usize;
+            overlay::write_chosen(bytes, offset, &write.bytes, chosen).unwrap();
         }
-        Entry::Resize(len) => inner.retain_resize(origin, *len).unwrap(),
+        Entry::Resize(len) => overlay::resize(bytes, *len as usize).unwrap(),
         Entry::Range(range) => {
-            put_all(chosen, range.bytes.remaining());
-            lay_chosen(inner, origin, range.offset, &range.bytes, chosen);
+            overlay::write(bytes, range.offset as usize, &range.bytes).unwrap();
         }
         Entry::Marker(_) => (),
     }
@@ -126,24 +98,23 @@ fn replay_entry(
 
 /// Entries among which no marker is are replayed in their order.
 fn replay_entries(
-    inner: &mut blob_memory::Storage,
-    origin: &Origin,
+    bytes: &mut Vec<u8>,
     entries: &[Entry],
     rows: &[(u64, Vec<bool>)],
     chosen: &mut Vec<bool>,
 )
     requires unmarked { has_marker (views entries.now) ≡ false }
     requires numbered { AreNumbered rows.now }
-    requires room { CanReplay inner.old origin.now (ends (views entries.now)) (widest (views entries.now)) chosen.old }
-    ensures durable { (o : Place) → durable inner.new o ≡ changed (durable inner.old) origin.now (λ x. replay (views entries.now) (chosen_by (rows_in rows.now)) x) o }
-    ensures kept { KeepsRooms inner.old inner.new chosen.old chosen.new }
+    requires room { CanReplay bytes.old (ends (views entries.now)) (widest (views entries.now)) chosen.old }
+    ensures bytes { Becomes bytes.old bytes.new (replay (views entries.now) (chosen_by (rows_in rows.now)) bytes.old.items) }
+    ensures capacity { vec_capacity chosen.old ≤ vec_capacity chosen.new }
 {
     for entry in entries {
-        replay_entry(inner, origin, entry, rows, chosen);
+        replay_entry(bytes, entry, rows, chosen);
     }
 }
 
-/// A list is replayed over its incarnation. Where that has ended, nothing is left to change.
+/// A list is replayed over its incarnation, whose bytes are looked up once. Where that has ended, nothing is left to change.
 fn replay_list(
     inner: &mut blob_memory::Storage,
     list: &Incarnation<Origin>,
@@ -154,13 +125,14 @@ fn replay_list(
     requires ready { IsReady inner.old (held_by (λ o. o) list.now) }
     requires width { widest (views list.now.entries.items) ≤ vec_capacity chosen.old }
     ensures durable { (o : Place) → durable inner.new o ≡ changed (durable inner.old) list.now.origin (λ x. replay (views list.now.entries.items) (chosen_by (rows_in rows.now)) x) o }
-    ensures kept { KeepsRooms inner.old inner.new chosen.old chosen.new }
+    ensures kept { KeepsRoom inner.old inner.new }
+    ensures capacity { vec_capacity chosen.old ≤ vec_capacity chosen.new }
 {
-    if !inner.is_current(&list.origin) {
-        return;
-    }
     let entries = unmarked(&list.entries);
-    replay_entries(inner, &list.origin, entries, rows, chosen);
+    let Some(bytes) = inner.durable_mut(&list.origin) else {
+        return;
+    };
+    replay_entries(bytes, entries, rows, chosen);
 }
 
 /// All lists are replayed, each over its incarnation.

@@ -1,4 +1,4 @@
--- What is left where the bytes of a current incarnation are exchanged.
+-- What is left where the bytes of a current incarnation are changed.
 use Rattle.std.proofs.Common.{◌≡◌, ◌≤◌, ℕ, List, Bool, true, false, cond, ◌&&◌, ◌==◌, nat_eq, nat_lt, not, Option, Some, None, IsSome, refl, sym, ap, ◌∙◌, Vec, Global, subst, arith}
 use Rattle.std.proofs.lemmas.Bool.{false≢true, and_parts}
 use Rattle.std.proofs.lemmas.Bool.Decides.{nat_tests}
@@ -14,7 +14,7 @@ use Rattle.blob_memory.specs.declared.item.Item.TheVariants.{Raw, Held}
 use Rattle.blob_memory.specs.declared.item.Held as held
 use Rattle.blob_memory.specs.Contents.{file_of, vec_in, items_of, Fits}
 use Rattle.blob_memory.specs.Numbers.{number_of}
-use Rattle.blob_memory.specs.Partitions.{with_item, with_bytes, held_bytes}
+use Rattle.blob_memory.specs.Partitions.{with_item, with_bytes_in}
 
 -- what there is to know of a current incarnation's item
 pub record IsCurrent (first : ℕ) (x : Option Item) (k start : ℕ) : Type 0 where
@@ -40,24 +40,19 @@ is_current_item first (Some (Held i)) k start h =
     let two = and_parts (i.number == k) (data_start i.layout == start) all.1 in
     record { held = i; is = refl; begun = not_true (nat_lt i.number first) all.0; number = grind (arith, nat_tests); layout = grind (arith, nat_tests) }
 
-pub held_is : (first : ℕ) (x : Option Item) (k start : ℕ) → IsSome (vec_in first x k start) → held_bytes x ≡ vec_in first x k start
-held_is first None k start h = absurd (false≢true h)
-held_is first (Some (Raw bytes)) k start h = absurd (false≢true h)
-held_is first (Some (Held i)) k start h = sym (ap (λ b. cond b (Some i.bytes) None) (when_some _ i.bytes h))
-
-module _ (f g : List ℕ → List ℕ → Option Item) (p n : List ℕ) (v : Vec ℕ Global) (after : (q m : List ℕ) → g q m ≡ with_item f p n (with_bytes (f p n) v) q m) where
+module _ (f g : List ℕ → List ℕ → Option Item) (p n : List ℕ) (v : Vec ℕ Global) (after : (q m : List ℕ) → g q m ≡ with_item f p n (with_bytes_in (f p n) v) q m) where
   -- the item at an equal name
   alike : (q m : List ℕ) → bytes_eq p q ≡ true → bytes_eq n m ≡ true → f p n ≡ f q m
   alike q m y z = ap (λ (l : List ℕ). f l n) ((bytes_decides p q).0 y) ∙ ap (f q) ((bytes_decides n m).0 z)
 
-  same_by : {X : Type 0} (view : Option Item → X) → view (with_bytes (f p n) v) ≡ view (f p n) → (q m : List ℕ) → view (g q m) ≡ view (f q m)
+  same_by : {X : Type 0} (view : Option Item → X) → view (with_bytes_in (f p n) v) ≡ view (f p n) → (q m : List ℕ) → view (g q m) ≡ view (f q m)
   same_by view same q m = ap view (after q m) ∙ push (bytes_eq p q) (bytes_eq n m) (alike q m) where
-    push : (b d : Bool) → (b ≡ true → d ≡ true → f p n ≡ f q m) → view (cond b (cond d (with_bytes (f p n) v) (f q m)) (f q m)) ≡ view (f q m)
+    push : (b d : Bool) → (b ≡ true → d ≡ true → f p n ≡ f q m) → view (cond b (cond d (with_bytes_in (f p n) v) (f q m)) (f q m)) ≡ view (f q m)
     push true true e = same ∙ ap view (e refl refl)
     push true false e = refl
     push false d e = refl
 
-  number_kept : (x : Option Item) → number_of (with_bytes x v) ≡ number_of x
+  number_kept : (x : Option Item) → number_of (with_bytes_in x v) ≡ number_of x
   number_kept None = refl
   number_kept (Some (Raw bytes)) = refl
   number_kept (Some (Held i)) = refl
@@ -67,17 +62,12 @@ module _ (f g : List ℕ → List ℕ → Option Item) (p n : List ℕ) (v : Vec
 
   pub files_still : (first k start : ℕ) → IsSome (vec_in first (f p n) k start) → (q m : List ℕ) → file_of first (g q m) ≡ file_of first (f q m)
   files_still first k start h = same_by (file_of first) (kept (is_current_item first (f p n) k start h)) where
-    kept : IsCurrent first (f p n) k start → file_of first (with_bytes (f p n) v) ≡ file_of first (f p n)
-    kept c = ap (λ x. file_of first (with_bytes x v)) c.is ∙ both c.held c.begun ∙ sym (ap (file_of first) c.is) where
-      both : (i : held.Held) → nat_lt i.number first ≡ false → file_of first (with_bytes (Some (Held i)) v) ≡ file_of first (Some (Held i))
+    kept : IsCurrent first (f p n) k start → file_of first (with_bytes_in (f p n) v) ≡ file_of first (f p n)
+    kept c = ap (λ x. file_of first (with_bytes_in x v)) c.is ∙ both c.held c.begun ∙ sym (ap (file_of first) c.is) where
+      both : (i : held.Held) → nat_lt i.number first ≡ false → file_of first (with_bytes_in (Some (Held i)) v) ≡ file_of first (Some (Held i))
       both i e = rw e refl
 
--- the same at names that are equal
-pub after_at : (f g : List ℕ → List ℕ → Option Item) (p n p' n' : List ℕ) (v : Vec ℕ Global) → p ≡ p' → n ≡ n' → ((q m : List ℕ) → g q m ≡ with_item f p n (with_bytes (f p n) v) q m)
-    → (q m : List ℕ) → g q m ≡ with_item f p' n' (with_bytes (f p' n') v) q m
-after_at f g p n p' n' v e d h q m = h q m ∙ (λ i. with_item f (e i) (d i) (with_bytes (f (e i) (d i)) v) q m)
-
-pub vecs_after : (f g : List ℕ → List ℕ → Option Item) (v : Vec ℕ Global) (first : ℕ) (o : Place) → ((q m : List ℕ) → g q m ≡ with_item f o.partition o.name (with_bytes (f o.partition o.name) v) q m)
+pub vecs_after : (f g : List ℕ → List ℕ → Option Item) (v : Vec ℕ Global) (first : ℕ) (o : Place) → ((q m : List ℕ) → g q m ≡ with_item f o.partition o.name (with_bytes_in (f o.partition o.name) v) q m)
     → IsSome (vec_in first (f o.partition o.name) o.number o.start)
     → (a : Place) → vec_in first (g a.partition a.name) a.number a.start ≡ with_at (λ (b : Place). vec_in first (f b.partition b.name) b.number b.start) o (Some v) a
 vecs_after f g v first o after h a =
@@ -91,20 +81,20 @@ vecs_after f g v first o after h a =
     two false x y = refl
 
     at : (i : held.Held) → nat_lt i.number first ≡ false → i.number ≡ o.number → data_start i.layout ≡ o.start
-        → vec_in first (with_bytes (Some (Held i)) v) a.number a.start ≡ cond (nat_eq o.number a.number && nat_eq o.start a.start) (Some v) (vec_in first (Some (Held i)) a.number a.start)
+        → vec_in first (with_bytes_in (Some (Held i)) v) a.number a.start ≡ cond (nat_eq o.number a.number && nat_eq o.start a.start) (Some v) (vec_in first (Some (Held i)) a.number a.start)
     at i e k s = (λ t. cond (not (e t) && ((k t == a.number) && (s t == a.start))) (Some v) None)
         ∙ two (nat_eq o.number a.number && nat_eq o.start a.start) (Some v) (Some i.bytes)
         ∙ ap (λ r. cond (nat_eq o.number a.number && nat_eq o.start a.start) (Some v) r) (sym (λ t. cond (not (e t) && ((k t == a.number) && (s t == a.start))) (Some i.bytes) None))
 
     push : (b d : Bool) → (b ≡ true → d ≡ true → f o.partition o.name ≡ f a.partition a.name)
-        → vec_in first (cond b (cond d (with_bytes (f o.partition o.name) v) (f a.partition a.name)) (f a.partition a.name)) a.number a.start
+        → vec_in first (cond b (cond d (with_bytes_in (f o.partition o.name) v) (f a.partition a.name)) (f a.partition a.name)) a.number a.start
         ≡ cond (b && (d && (nat_eq o.number a.number && nat_eq o.start a.start))) (Some v) (vec_in first (f a.partition a.name) a.number a.start)
-    push true true e = ap (λ x. vec_in first (with_bytes x v) a.number a.start) c.is ∙ at c.held c.begun c.number c.layout
+    push true true e = ap (λ x. vec_in first (with_bytes_in x v) a.number a.start) c.is ∙ at c.held c.begun c.number c.layout
         ∙ ap (λ x. cond (nat_eq o.number a.number && nat_eq o.start a.start) (Some v) (vec_in first x a.number a.start)) (sym c.is ∙ e refl refl)
     push true false e = refl
     push false d e = refl
 
--- Two exchanges at one place: the bytes are taken out, changed, and put back.
+-- The bytes of one place, changed.
 module _ (f h : Place → Option (Vec ℕ Global)) (o : Place) (v w : Vec ℕ Global) (here : f o ≡ Some v) (after : (a : Place) → h a ≡ with_at f o (Some w) a) where
   at_same : (a : Place) → same_place o a ≡ true → f a ≡ Some v
   at_same a y = ap f (sym (same_place_exact o a y)) ∙ here
@@ -127,10 +117,9 @@ module _ (f h : Place → Option (Vec ℕ Global)) (o : Place) (v w : Vec ℕ Gl
     push true is = let k : n ≤ vec_capacity v = subst (λ r. Fits r n) (is refl) fits in omega arith
     push false is = fits
 
--- what is put in and then something else
-pub put_twice : (f g h : Place → Option (Vec ℕ Global)) (o : Place) (u w : Vec ℕ Global) → ((a : Place) → g a ≡ with_at f o (Some u) a) → ((a : Place) → h a ≡ with_at g o (Some w) a)
-    → (a : Place) → h a ≡ with_at f o (Some w) a
-put_twice f g h o u w first second a = second a ∙ ap (λ r. cond (same_place o a) (Some w) r) (first a) ∙ again (same_place o a) where
-  again : (b : Bool) → cond b (Some w) (cond b (Some u) (f a)) ≡ cond b (Some w) (f a)
-  again true = refl
-  again false = refl
+-- nothing is changed at a place that has no bytes
+pub changed_none : (f : Durable) (o : Place) → f o ≡ None → (k : List ℕ → List ℕ) → f ≡ changed f o k
+changed_none f o none k = λ i a. push a (same_place o a) (λ y. ap f (sym (same_place_exact o a y)) ∙ none) i where
+  push : (a : Place) (b : Bool) → (b ≡ true → f a ≡ None) → f a ≡ cond b (option_map k (f a)) (f a)
+  push a true is = is refl ∙ sym (ap (option_map k) (is refl))
+  push a false is = refl

@@ -5,6 +5,8 @@ pub mod Exchanges
 pub mod Exits
 pub mod Fed
 pub mod ListingOf
+pub mod Kept
+pub mod Lent
 pub mod Listings
 pub mod Openings
 pub mod Overlays

@@ -1,5 +1,5 @@
 -- What each call answers at a state: the refusal that comes first, or none for Ok.
-use Rattle.std.specs.Prelude.{◌≡◌, ◌⊎◌, ℕ, ◌+◌, ◌-◌, ◌^◌, ◌==◌, nat_lt, nat_le, Bool, true, false, not, ◌&&◌, ◌||◌, if◌then◌else◌, List, [], ◌∷◌, length, Option, Some, None, is_none, IsTrue}
+use Rattle.std.specs.Prelude.{◌≡◌, ◌⊎◌, ℕ, ◌+◌, ◌-◌, ◌^◌, ◌==◌, nat_lt, nat_le, Bool, not, ◌&&◌, ◌||◌, if◌then◌else◌, List, length, Option, Some, None, is_none, IsTrue}
 use Rattle.hex.specs.Hex.{encode_lower}
 use Rattle.blob_model.specs.Directory.{Directory, is_current}
 use Rattle.blob_model.specs.Live.{is_idle}
@@ -28,10 +28,6 @@ write_refusal d o offset bytes sync =
     else if is_uncounted (offset + o.start + length bytes) then Some OffsetOverflow
     else if sync && not (is_current d o) then Some (missing o)
     else None
-
--- of a range that is kept
-abbrev pub range_refusal : Place → ℕ → ℕ → Option Refusal
-range_refusal o offset len = if is_uncounted (offset + o.start + len) then Some OffsetOverflow else None
 
 -- of a resize to a logical length, and of room up to a logical end
 abbrev pub end_refusal : Place → ℕ → Option Refusal

@@ -28,11 +28,15 @@ file_of first (Some (Held h)) = Some (file_when (nat_lt h.number first) h)
 abbrev pub directory_of : Contents → Directory
 directory_of s = record { has_partition = is_there s.partitions; file = λ p n. file_of s.first (item_at s.partitions p n); next = s.next }
 
+-- whether an incarnation that is still there is the current one of this number and data offset
+abbrev pub is_current_of : ℕ → held.Held → ℕ → ℕ → Bool
+is_current_of first h k start = not (nat_lt h.number first) && ((h.number == k) && (data_start h.layout == start))
+
 -- an item's logical bytes, where it is the current incarnation of this number and data offset
 abbrev pub vec_in : ℕ → Option Item → ℕ → ℕ → Option (Vec ℕ Global)
 vec_in first None k start = None
 vec_in first (Some (Raw bytes)) k start = None
-vec_in first (Some (Held h)) k start = cond (not (nat_lt h.number first) && ((h.number == k) && (data_start h.layout == start))) (Some h.bytes) None
+vec_in first (Some (Held h)) k start = cond (is_current_of first h k start) (Some h.bytes) None
 
 -- the vector of an incarnation's durable logical bytes, where it is current
 abbrev pub vec_at : Contents → Place → Option (Vec ℕ Global)

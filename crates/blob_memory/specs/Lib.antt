@@ -2,11 +2,17 @@ pub mod AnswerLaws
 pub mod Answers
 pub mod Audit
 pub mod Contents
+pub mod ContentsLends
 pub mod Found
+pub mod ItemLends
 pub mod Laws
 pub mod Leaves
 pub mod Listing
 pub mod Maps
 pub mod Numbers
+pub mod Overlays
 pub mod Partitions
+pub mod Retained
+pub mod StorageLends
 pub mod Store
+pub mod TableLends

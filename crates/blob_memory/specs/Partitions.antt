@@ -1,5 +1,5 @@
 -- What the partitions of a store have.
-use Rattle.std.specs.Prelude.{ℕ, List, Bool, cond, Option, None, Some, is_some, Vec}
+use Rattle.std.specs.Prelude.{◌≡◌, ℕ, List, Bool, cond, Option, None, Some, is_some, Vec}
 use Rattle.std.specs.Global.{Global}
 use Rattle.std.specs.Str.{bytes_eq}
 use Rattle.std.specs.String.{string_bytes}
@@ -24,14 +24,17 @@ with_item f p n item q m = cond (bytes_eq p q) (cond (bytes_eq n m) item (f q m)
 abbrev pub without_partition : (List ℕ → List ℕ → Option Item) → List ℕ → List ℕ → List ℕ → Option Item
 without_partition f p q m = cond (bytes_eq p q) None (f q m)
 
--- the logical bytes of an incarnation
-abbrev pub held_bytes : Option Item → Option (Vec ℕ Global)
-held_bytes None = None
-held_bytes (Some (Raw bytes)) = None
-held_bytes (Some (Held h)) = Some h.bytes
+-- an item with other logical bytes, where it is an incarnation
+abbrev pub with_bytes : Item → Vec ℕ Global → Item
+with_bytes (Raw bytes) new = Raw bytes
+with_bytes (Held h) new = Held (record { number = h.number; layout = h.layout; version = h.version; bytes = new })
 
--- an incarnation with other logical bytes
-abbrev pub with_bytes : Option Item → Vec ℕ Global → Option Item
-with_bytes None new = None
-with_bytes (Some (Raw bytes)) new = Some (Raw bytes)
-with_bytes (Some (Held h)) new = Some (Held (record { number = h.number; layout = h.layout; version = h.version; bytes = new }))
+-- the same of what a name has
+abbrev pub with_bytes_in : Option Item → Vec ℕ Global → Option Item
+with_bytes_in None new = None
+with_bytes_in (Some item) new = Some (with_bytes item new)
+
+-- what a table has: each name's item, and the partitions that are there
+pub record Has (s : Partitions) (item : List ℕ → List ℕ → Option Item) (there : List ℕ → Bool) : Type 0 where
+  pub items : (p n : List ℕ) → item_at s p n ≡ item p n
+  pub partitions : (p : List ℕ) → is_there s p ≡ there p

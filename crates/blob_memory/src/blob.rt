@@ -86,16 +86,14 @@ impl Blob {
             return Ok(());
         }
         let end = live::logical_end(self.origin.data_offset(), offset, bytes.remaining())?;
-        if !store.contents.is_current(&self.origin) {
+        let Some(durable) = store.contents.bytes_mut(&self.origin) else {
             let missing = self.missing()?;
             overlay::make_room(&mut self.live, end)?;
             live::write(&mut self.live, offset as usize, bytes);
             return Err(missing);
-        }
+        };
         overlay::make_room(&mut self.live, end)?;
-        store
-            .contents
-            .write_durable(&self.origin, offset as usize, bytes)?;
+        overlay::write(durable, offset as usize, bytes)?;
         live::write(&mut self.live, offset as usize, bytes);
         Ok(())
     }
@@ -231,10 +229,10 @@ impl blob_base::Blob<Storage> for Blob {
     ///
     /// `BlobMissing` by a stale handle; `Memory` where the durable bytes have no room. No durable byte changes.
     fn sync(&mut self, store: &mut Storage) -> Result<(), Error> {
-        if !store.contents.is_current(&self.origin) {
+        let Some(durable) = store.contents.bytes_mut(&self.origin) else {
             return Err(self.missing()?);
-        }
-        store.contents.publish(&self.origin, &self.live)?;
+        };
+        overlay::replace(durable, &self.live)?;
         Ok(())
     }
 
@@ -256,7 +254,10 @@ impl blob_base::Blob<Storage> for Blob {
     fn reserve(&mut self, store: &mut Storage, end: u64) -> Result<(), Error> {
         let end = live::logical_end(self.origin.data_offset(), end, 0)?;
         overlay::make_room(&mut self.live, end)?;
-        store.contents.reserve_crash(&self.origin, end)?;
+        let Some(durable) = store.contents.bytes_mut(&self.origin) else {
+            return Ok(());
+        };
+        overlay::make_room(durable, end)?;
         Ok(())
     }
 

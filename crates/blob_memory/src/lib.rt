@@ -10,7 +10,7 @@ pub mod images;
 mod item;
 mod live;
 pub mod origin;
-mod overlay;
+pub mod overlay;
 mod partitions;
 pub mod retain;
 pub mod snapshot;

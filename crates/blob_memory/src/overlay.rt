@@ -1,18 +1,17 @@
-// What a write and a resize make of a vector of bytes. Room is taken first; the rest takes no memory.
+//! What a write and a resize make of a vector of bytes. Room is taken first; the rest takes no memory.
 ghost use Rattle.std.specs.Prelude.{◌≡◌, ◌≤◌, ◌<◌, ◌+◌, ◌^◌, length, max, drop, true, IsOk, OnOk, OnErr, vec_capacity};
 ghost use Rattle.std.specs.List.{flat_map, list_all};
 ghost use Rattle.blob_model.specs.Bytes.{overlay, overlay_by, reach, resized};
 ghost use Rattle.blob_model.specs.Runs.{picked};
+ghost use Rattle.blob_memory.specs.Overlays.{Becomes, Grows};
 
 use blob_base::IoBufs;
 use std::alloc::AllocError;
 
 /// Room for so many bytes.
-pub fn make_room(bytes: &mut Vec<u8>, len: usize) -> Result<(), AllocError>
-    ensures bytes { bytes.new.items ≡ bytes.old.items }
-    ensures ok { OnOk result (len ≤ vec_capacity bytes.new) }
-    ensures succeeds { len ≤ vec_capacity bytes.old → IsOk result }
-    ensures capacity { vec_capacity bytes.old ≤ vec_capacity bytes.new }
+pub(crate) fn make_room(bytes: &mut Vec<u8>, len: usize) -> Result<(), AllocError>
+    ensures bytes { Grows result bytes.old bytes.new len bytes.old.items }
+    ensures room { OnOk result (len ≤ vec_capacity bytes.new) }
 {
     if bytes.capacity() < len {
         bytes.reserve(len - bytes.len())?;
@@ -21,10 +20,9 @@ pub fn make_room(bytes: &mut Vec<u8>, len: usize) -> Result<(), AllocError>
 }
 
 /// Adds zeros up to a length.
-pub fn grow(bytes: &mut Vec<u8>, len: usize)
+pub(crate) fn grow(bytes: &mut Vec<u8>, len: usize)
     requires { len ≤ vec_capacity bytes.old }
-    ensures bytes { bytes.new.items ≡ resized bytes.old.items (max (length bytes.old.items) len) }
-    ensures capacity { vec_capacity bytes.old ≤ vec_capacity bytes.new }
+    ensures { Becomes bytes.old bytes.new (resized bytes.old.items (max (length bytes.old.items) len)) }
 {
     if bytes.len() < len {
         bytes.resize(len, 0).unwrap();
@@ -32,16 +30,15 @@ pub fn grow(bytes: &mut Vec<u8>, len: usize)
 }
 
 /// Cuts off what lies past a length, or adds zeros up to it.
-pub fn set_len(bytes: &mut Vec<u8>, len: usize)
+pub(crate) fn set_len(bytes: &mut Vec<u8>, len: usize)
     requires { len ≤ vec_capacity bytes.old }
-    ensures bytes { bytes.new.items ≡ resized bytes.old.items len }
-    ensures capacity { vec_capacity bytes.old ≤ vec_capacity bytes.new }
+    ensures { Becomes bytes.old bytes.new (resized bytes.old.items len) }
 {
     bytes.resize(len, 0).unwrap();
 }
 
 /// The end of the last chosen byte, or 0.
-pub fn reach_of(offset: usize, keep: &[bool]) -> usize
+pub(crate) fn reach_of(offset: usize, keep: &[bool]) -> usize
     requires { offset + length keep.now < 2 ^ 64 }
     ensures { result ≡ reach offset (length keep.now) (picked keep.now) }
 {
@@ -128,11 +125,10 @@ fn copy_chosen_pieces(bytes: &mut [u8], offset: usize, pieces: &[Vec<u8>], keep:
 }
 
 /// Lays a run over bytes that have room for it.
-pub fn lay(bytes: &mut Vec<u8>, offset: usize, run: &IoBufs)
+pub(crate) fn lay(bytes: &mut Vec<u8>, offset: usize, run: &IoBufs)
     requires fits { offset + length run.now < 2 ^ 64 }
     requires room { offset + length run.now ≤ vec_capacity bytes.old }
-    ensures bytes { bytes.new.items ≡ overlay bytes.old.items offset run.now }
-    ensures capacity { vec_capacity bytes.old ≤ vec_capacity bytes.new }
+    ensures { Becomes bytes.old bytes.new (overlay bytes.old.items offset run.now) }
 {
     let len = run.remaining();
     if len == 0 {
@@ -143,11 +139,10 @@ pub fn lay(bytes: &mut Vec<u8>, offset: usize, run: &IoBufs)
 }
 
 /// The same of one piece.
-pub fn lay_slice(bytes: &mut Vec<u8>, offset: usize, run: &[u8])
+pub(crate) fn lay_slice(bytes: &mut Vec<u8>, offset: usize, run: &[u8])
     requires fits { offset + length run.now < 2 ^ 64 }
     requires room { offset + length run.now ≤ vec_capacity bytes.old }
-    ensures bytes { bytes.new.items ≡ overlay bytes.old.items offset run.now }
-    ensures capacity { vec_capacity bytes.old ≤ vec_capacity bytes.new }
+    ensures { Becomes bytes.old bytes.new (overlay bytes.old.items offset run.now) }
 {
     let len = run.len();
     if len == 0 {
@@ -155,18 +150,6 @@ pub fn lay_slice(bytes: &mut Vec<u8>, offset: usize, run: &[u8])
     }
     grow(bytes, offset + len);
     copy_over(bytes.as_mut_slice(), offset, run);
-}
-
-/// Lays the chosen bytes of a run over bytes that have room for them.
-pub fn lay_chosen(bytes: &mut Vec<u8>, offset: usize, run: &IoBufs, keep: &[bool])
-    requires same { length keep.now ≡ length run.now }
-    requires fits { offset + length run.now < 2 ^ 64 }
-    requires room { reach offset (length run.now) (picked keep.now) ≤ vec_capacity bytes.old }
-    ensures bytes { bytes.new.items ≡ overlay_by bytes.old.items offset run.now (picked keep.now) }
-    ensures capacity { vec_capacity bytes.old ≤ vec_capacity bytes.new }
-{
-    grow(bytes, reach_of(offset, keep));
-    copy_chosen_pieces(bytes.as_mut_slice(), offset, run.pieces(), keep);
 }
 
 /// Lays the chosen bytes of a run. The only error is want of memory, where there was no room; it leaves the bytes.
@@ -178,23 +161,19 @@ pub fn write_chosen(
 ) -> Result<(), AllocError>
     requires same { length keep.now ≡ length run.now }
     requires fits { offset + length run.now < 2 ^ 64 }
-    ensures ok { OnOk result (bytes.new.items ≡ overlay_by bytes.old.items offset run.now (picked keep.now)) }
-    ensures err { OnErr result (bytes.new.items ≡ bytes.old.items) }
-    ensures succeeds { reach offset (length run.now) (picked keep.now) ≤ vec_capacity bytes.old → IsOk result }
-    ensures capacity { vec_capacity bytes.old ≤ vec_capacity bytes.new }
+    ensures { Grows result bytes.old bytes.new (reach offset (length run.now) (picked keep.now)) (overlay_by bytes.old.items offset run.now (picked keep.now)) }
 {
-    make_room(bytes, reach_of(offset, keep))?;
-    lay_chosen(bytes, offset, run, keep);
+    let end = reach_of(offset, keep);
+    make_room(bytes, end)?;
+    grow(bytes, end);
+    copy_chosen_pieces(bytes.as_mut_slice(), offset, run.pieces(), keep);
     Ok(())
 }
 
 /// Lays a run. The only error is want of memory, where there was no room; it leaves the bytes.
 pub fn write(bytes: &mut Vec<u8>, offset: usize, run: &IoBufs) -> Result<(), AllocError>
     requires { offset + length run.now < 2 ^ 64 }
-    ensures ok { OnOk result (bytes.new.items ≡ overlay bytes.old.items offset run.now) }
-    ensures err { OnErr result (bytes.new.items ≡ bytes.old.items) }
-    ensures succeeds { offset + length run.now ≤ vec_capacity bytes.old → IsOk result }
-    ensures capacity { vec_capacity bytes.old ≤ vec_capacity bytes.new }
+    ensures { Grows result bytes.old bytes.new (offset + length run.now) (overlay bytes.old.items offset run.now) }
 {
     make_room(bytes, offset + run.remaining())?;
     lay(bytes, offset, run);
@@ -203,10 +182,7 @@ pub fn write(bytes: &mut Vec<u8>, offset: usize, run: &IoBufs) -> Result<(), All
 
 /// Cuts or lengthens by zeros. The only error is want of memory, where there was no room; it leaves the bytes.
 pub fn resize(bytes: &mut Vec<u8>, len: usize) -> Result<(), AllocError>
-    ensures ok { OnOk result (bytes.new.items ≡ resized bytes.old.items len) }
-    ensures err { OnErr result (bytes.new.items ≡ bytes.old.items) }
-    ensures succeeds { len ≤ vec_capacity bytes.old → IsOk result }
-    ensures capacity { vec_capacity bytes.old ≤ vec_capacity bytes.new }
+    ensures { Grows result bytes.old bytes.new len (resized bytes.old.items len) }
 {
     make_room(bytes, len)?;
     set_len(bytes, len);
@@ -214,11 +190,8 @@ pub fn resize(bytes: &mut Vec<u8>, len: usize) -> Result<(), AllocError>
 }
 
 /// Makes the bytes others. The only error is want of memory, where there was no room; it leaves the bytes.
-pub fn replace(bytes: &mut Vec<u8>, new: &[u8]) -> Result<(), AllocError>
-    ensures ok { OnOk result (bytes.new.items ≡ new.now) }
-    ensures err { OnErr result (bytes.new.items ≡ bytes.old.items) }
-    ensures succeeds { length new.now ≤ vec_capacity bytes.old → IsOk result }
-    ensures capacity { vec_capacity bytes.old ≤ vec_capacity bytes.new }
+pub(crate) fn replace(bytes: &mut Vec<u8>, new: &[u8]) -> Result<(), AllocError>
+    ensures { Grows result bytes.old bytes.new (length new.now) new.now }
 {
     make_room(bytes, new.len())?;
     bytes.clear();
@@ -227,7 +200,7 @@ pub fn replace(bytes: &mut Vec<u8>, new: &[u8]) -> Result<(), AllocError>
 }
 
 /// Cuts off the first bytes, and keeps the memory.
-pub fn drop_front(bytes: &mut Vec<u8>, len: usize)
+pub(crate) fn drop_front(bytes: &mut Vec<u8>, len: usize)
     requires { len ≤ length bytes.old.items }
     ensures { bytes.new.items ≡ drop len bytes.old.items }
 {

@@ -6,10 +6,15 @@ ghost use Rattle.blob_header.specs.Checksum.{crc32c};
 ghost use Rattle.blob_memory.specs.Listing.{listing_of, raw_at};
 ghost use Rattle.blob_base.specs.Names.{AreNames};
 ghost use Rattle.blob_memory.specs.Maps.{found};
-ghost use Rattle.blob_memory.specs.Partitions.{item_at, is_there, with_item, without_partition, held_bytes, with_bytes};
+ghost use Rattle.blob_memory.specs.Partitions.{item_at, is_there, with_item, without_partition};
+ghost use Rattle.blob_memory.specs.Contents.{vec_in};
+ghost use Rattle.blob_memory.specs.TableLends.{LendsItem, LendsBytesAt};
+ghost use Rattle.std.specs.Borrow.{sem};
+ghost use Rattle.std.specs.Option.{option_copied_mut};
 
 use crate::audit::audit;
 use crate::item::Item;
+use crate::origin::Origin;
 use std::alloc::{AllocError, Global};
 use std::collections::BTreeMap;
 
@@ -78,6 +83,17 @@ impl Partitions {
         audit(&self.names)
     }
 
+    /// The item of a name, to be changed.
+    pub fn get_mut(&mut self, partition: &str, name: &[u8]) -> Option<&mut Item>
+        ensures* writes_back { sem 𝓛 (LendsItem self.entry partition.now name.now result) }
+        ensures value { option_copied_mut result ≡ item_at self.old partition.now name.now }
+    {
+        match self.names.get_mut(partition) {
+            None => None,
+            Some(names) => names.get_mut(name),
+        }
+    }
+
     /// Exchanges the item of a name that is there, and takes no memory.
     pub fn exchange(&mut self, partition: &str, name: &[u8], item: &mut Item)
         requires { IsSome (item_at self.old partition.now name.now) }
@@ -85,30 +101,20 @@ impl Partitions {
         ensures new { (q m : List ℕ) → item_at self.new q m ≡ with_item (item_at self.old) partition.now name.now (Some item.old) q m }
         ensures partitions { (q : List ℕ) → is_there self.new q ≡ is_there self.old q }
     {
-        let Some(names) = self.names.get_mut(partition) else {
-            return;
-        };
-        let Some(here) = names.get_mut(name) else {
+        let Some(here) = self.get_mut(partition, name) else {
             return;
         };
         std::mem::swap(here, item);
     }
 
-    /// Exchanges the logical bytes of a name's incarnation, and takes no memory.
-    pub fn exchange_bytes(&mut self, partition: &str, name: &[u8], bytes: &mut Vec<u8>)
-        requires { IsSome (held_bytes (item_at self.old partition.now name.now)) }
-        ensures old { held_bytes (item_at self.old partition.now name.now) ≡ Some bytes.new }
-        ensures new { (q m : List ℕ) → item_at self.new q m ≡ with_item (item_at self.old) partition.now name.now (with_bytes (item_at self.old partition.now name.now) bytes.old) q m }
-        ensures partitions { (q : List ℕ) → is_there self.new q ≡ is_there self.old q }
+    /// The logical bytes of an incarnation, where it is current and those with numbers below `first` ended, to be changed.
+    pub fn bytes_mut(&mut self, first: u64, origin: &Origin) -> Option<&mut Vec<u8>>
+        ensures* writes_back { sem 𝓛 (LendsBytesAt self.entry origin.now.partition origin.now.name result) }
+        ensures value { option_copied_mut result ≡ vec_in first (item_at self.old origin.now.partition origin.now.name) origin.now.number origin.now.start }
     {
-        let Some(names) = self.names.get_mut(partition) else {
-            return;
-        };
-        let Some(item) = names.get_mut(name) else {
-            return;
-        };
-        if let Item::Held(held) = item {
-            std::mem::swap(&mut held.bytes, bytes);
+        match self.get_mut(origin.partition(), origin.name()) {
+            None => None,
+            Some(item) => item.bytes_mut(first, origin),
         }
     }
 

@@ -1,19 +1,22 @@
 //! What a crash keeps of mutations that weren't made durable.
-ghost use Rattle.std.specs.Prelude.{◌≡◌, ◌+◌, ◌<◌, ◌^◌, ℕ, OnOk, OnErr, IsOk, length};
+ghost use Rattle.std.specs.Prelude.{◌≡◌, ◌≤◌, ◌+◌, ℕ, OnOk, IfSome, is_some, length, vec_capacity};
+ghost use Rattle.std.specs.Borrow.{sem};
+ghost use Rattle.std.specs.Option.{option_copied_mut};
 ghost use Rattle.blob_model.specs.Bytes.{overlay_by, reach, resized};
-ghost use Rattle.blob_model.specs.Durable.{changed};
-ghost use Rattle.blob_model.specs.Places.{Place};
-ghost use Rattle.blob_header.specs.Refusals.{refused};
+ghost use Rattle.blob_model.specs.Directory.{is_current};
 ghost use Rattle.blob_model.specs.Runs.{picked};
-ghost use Rattle.blob_memory.specs.Answers.{OrMemory, range_refusal, end_refusal};
 
 use crate::blob::Blob;
 use crate::live::logical_end;
 use crate::origin::Origin;
+use crate::overlay;
 use crate::storage::Storage;
 use blob_base::{Error, IoBufs};
 
 impl Storage {
+    ghost use Rattle.blob_memory.specs.Retained.{KeepsRoom, NeedsRoom, Retains};
+    ghost use Rattle.blob_memory.specs.Contents.{items_of};
+    ghost use Rattle.blob_memory.specs.StorageLends.{LendsKept};
     ghost use Rattle.blob_memory.specs.Store.{directory, durable, HasCrashRoom};
 
     /// Lays the chosen bytes of a write at the logical `offset` over the durable bytes of an incarnation, which grow only to
@@ -32,16 +35,14 @@ impl Storage {
         keep: &[bool],
     ) -> Result<(), Error>
         requires { length keep.now ≡ length bytes.now }
-        ensures allowed { OrMemory (range_refusal origin.now offset (length bytes.now)) (refused result) }
-        ensures ok { OnOk result (durable self.new ≡ changed (durable self.old) origin.now (λ x. overlay_by x offset bytes.now (picked keep.now))) }
-        ensures err { OnErr result (durable self.new ≡ durable self.old) }
-        ensures directory { directory self.new ≡ directory self.old }
-        ensures room { (o : Place) (n : ℕ) → HasCrashRoom self.old o n → HasCrashRoom self.new o n }
-        ensures succeeds { offset + origin.now.start + length bytes.now < 2 ^ 64 → HasCrashRoom self.old origin.now (reach offset (length bytes.now) (picked keep.now)) → IsOk result }
+        ensures room { NeedsRoom result self.old origin.now (offset + origin.now.start + length bytes.now) (reach offset (length bytes.now) (picked keep.now)) }
+        ensures retained { Retains result self.old self.new origin.now (λ x. overlay_by x offset bytes.now (picked keep.now)) }
     {
         logical_end(origin.data_offset(), offset, bytes.remaining())?;
-        self.contents
-            .retain_write(origin, offset as usize, bytes, keep)?;
+        let Some(durable) = self.contents.bytes_mut(origin) else {
+            return Ok(());
+        };
+        overlay::write_chosen(durable, offset as usize, bytes, keep)?;
         Ok(())
     }
 
@@ -53,16 +54,26 @@ impl Storage {
     /// `OffsetOverflow` for a length that can't be counted, which is tested first; `Memory` where the durable bytes have no
     /// room. Both leave everything as it was.
     pub fn retain_resize(&mut self, origin: &Origin, len: u64) -> Result<(), Error>
-        ensures allowed { OrMemory (end_refusal origin.now len) (refused result) }
-        ensures ok { OnOk result (durable self.new ≡ changed (durable self.old) origin.now (λ x. resized x len)) }
-        ensures err { OnErr result (durable self.new ≡ durable self.old) }
-        ensures directory { directory self.new ≡ directory self.old }
-        ensures room { (o : Place) (n : ℕ) → HasCrashRoom self.old o n → HasCrashRoom self.new o n }
-        ensures succeeds { len + origin.now.start < 2 ^ 64 → HasCrashRoom self.old origin.now len → IsOk result }
+        ensures room { NeedsRoom result self.old origin.now (len + origin.now.start) len }
+        ensures retained { Retains result self.old self.new origin.now (λ x. resized x len) }
     {
         let len = logical_end(origin.data_offset(), len, 0)?;
-        self.contents.retain_resize(origin, len)?;
+        let Some(durable) = self.contents.bytes_mut(origin) else {
+            return Ok(());
+        };
+        overlay::resize(durable, len)?;
         Ok(())
+    }
+
+    /// The durable logical bytes of an incarnation, to be changed as a crash leaves them; none where it isn't current. Handles
+    /// keep their live bytes.
+    pub fn durable_mut(&mut self, origin: &Origin) -> Option<&mut Vec<u8>>
+        ensures* writes_back { sem 𝓛 (LendsKept self.entry origin.now result) }
+        ensures value { items_of (option_copied_mut result) ≡ durable self.old origin.now }
+        ensures current { is_some result ≡ is_current (directory self.old) origin.now }
+        ensures room { (n : ℕ) → HasCrashRoom self.old origin.now n → IfSome result (λ bytes. n ≤ vec_capacity bytes.now) }
+    {
+        self.contents.bytes_mut(origin)
     }
 
     /// Takes room for `len` durable logical bytes of an incarnation, and changes none. Does nothing where the incarnation
@@ -72,21 +83,23 @@ impl Storage {
     ///
     /// `OffsetOverflow` for a length that can't be counted, which is tested first, or `Memory`.
     pub fn reserve_crash(&mut self, origin: &Origin, len: u64) -> Result<(), Error>
-        ensures allowed { OrMemory (end_refusal origin.now len) (refused result) }
+        ensures room { NeedsRoom result self.old origin.now (len + origin.now.start) len }
         ensures ok { OnOk result (HasCrashRoom self.new origin.now len) }
         ensures durable { durable self.new ≡ durable self.old }
-        ensures directory { directory self.new ≡ directory self.old }
-        ensures room { (o : Place) (n : ℕ) → HasCrashRoom self.old o n → HasCrashRoom self.new o n }
-        ensures succeeds { len + origin.now.start < 2 ^ 64 → HasCrashRoom self.old origin.now len → IsOk result }
+        ensures kept { KeepsRoom self.old self.new }
     {
         let len = logical_end(origin.data_offset(), len, 0)?;
-        self.contents.reserve_crash(origin, len)?;
+        let Some(durable) = self.contents.bytes_mut(origin) else {
+            return Ok(());
+        };
+        overlay::make_room(durable, len)?;
         Ok(())
     }
 }
 
 impl Blob {
-    ghost use Rattle.blob_memory.specs.Store.{place, directory, durable, HasCrashRoom};
+    ghost use Rattle.blob_memory.specs.Retained.{NeedsRoom, Retains};
+    ghost use Rattle.blob_memory.specs.Store.{place};
 
     /// Lays the chosen bytes of a write at the logical `offset` over the durable bytes of the handle's incarnation, which grow only
     /// to the end of a chosen byte. `keep` has one choice for each byte. Does nothing by a stale handle. The live bytes stay.
@@ -102,12 +115,8 @@ impl Blob {
         keep: &[bool],
     ) -> Result<(), Error>
         requires { length keep.now ≡ length bytes.now }
-        ensures allowed { OrMemory (range_refusal (place self.now) offset (length bytes.now)) (refused result) }
-        ensures ok { OnOk result (durable store.new ≡ changed (durable store.old) (place self.now) (λ x. overlay_by x offset bytes.now (picked keep.now))) }
-        ensures err { OnErr result (durable store.new ≡ durable store.old) }
-        ensures directory { directory store.new ≡ directory store.old }
-        ensures room { (o : Place) (n : ℕ) → HasCrashRoom store.old o n → HasCrashRoom store.new o n }
-        ensures succeeds { offset + (place self.now).start + length bytes.now < 2 ^ 64 → HasCrashRoom store.old (place self.now) (reach offset (length bytes.now) (picked keep.now)) → IsOk result }
+        ensures room { NeedsRoom result store.old (place self.now) (offset + (place self.now).start + length bytes.now) (reach offset (length bytes.now) (picked keep.now)) }
+        ensures retained { Retains result store.old store.new (place self.now) (λ x. overlay_by x offset bytes.now (picked keep.now)) }
     {
         store.retain_write(&self.origin, offset, bytes, keep)
     }
@@ -119,12 +128,8 @@ impl Blob {
     ///
     /// `OffsetOverflow` for a length that can't be counted, which is tested first; `Memory`. Both leave everything as it was.
     pub fn retain_crash_resize(&self, store: &mut Storage, len: u64) -> Result<(), Error>
-        ensures allowed { OrMemory (end_refusal (place self.now) len) (refused result) }
-        ensures ok { OnOk result (durable store.new ≡ changed (durable store.old) (place self.now) (λ x. resized x len)) }
-        ensures err { OnErr result (durable store.new ≡ durable store.old) }
-        ensures directory { directory store.new ≡ directory store.old }
-        ensures room { (o : Place) (n : ℕ) → HasCrashRoom store.old o n → HasCrashRoom store.new o n }
-        ensures succeeds { len + (place self.now).start < 2 ^ 64 → HasCrashRoom store.old (place self.now) len → IsOk result }
+        ensures room { NeedsRoom result store.old (place self.now) (len + (place self.now).start) len }
+        ensures retained { Retains result store.old store.new (place self.now) (λ x. resized x len) }
     {
         store.retain_resize(&self.origin, len)
     }

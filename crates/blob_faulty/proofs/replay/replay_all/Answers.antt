@@ -13,7 +13,7 @@ use Rattle.blob_faulty.proofs.replay.replay_all.Goals as goal
 pub replay_list-requires-clause-width : goal.replay_list-requires-clause-width
 replay_list-requires-clause-width c =
     let h : c.loop-list.list-index < length c.args.lists.now = omega arith in
-    omega (arith, widest_in (λ (o : Place). o) c.args.lists.now c.loop-list.list-index c.list-item.result h c.list-item.is, c.requires.width, c.loop-list.invariant.kept.capacity)
+    omega (arith, widest_in (λ (o : Place). o) c.args.lists.now c.loop-list.list-index c.list-item.result h c.list-item.is, c.requires.width, c.loop-list.invariant.capacity)
 
 pub loop-list-preserved : goal.loop-list-preserved
 loop-list-preserved c =
@@ -29,10 +29,8 @@ loop-list-preserved c =
       durable = λ a o. replay_first t (held_by (λ (p : Place). p) x) rest (durable c.loop-list.inner) (durable c.replay_list.new.inner) o (subst (λ (hs : List Held). ArePlacesApart hs) here (c.loop-list.invariant.apart a)).0 (c.replay_list.ensures.durable o)
           ∙ ap (λ (hs : List Held). replayed_at t (held_at hs o) (durable c.loop-list.inner o)) (sym here) ∙ c.loop-list.invariant.durable a o;
       kept = record {
-        store = record {
-          names = c.replay_list.ensures.kept.store.names ∙ c.loop-list.invariant.kept.store.names;
-          room = λ o n f. c.replay_list.ensures.kept.store.room o n (c.loop-list.invariant.kept.store.room o n f);
-        };
-        capacity = omega (arith, c.replay_list.ensures.kept.capacity, c.loop-list.invariant.kept.capacity);
+        directory = c.replay_list.ensures.kept.directory ∙ c.loop-list.invariant.kept.directory;
+        room = λ o n f. c.replay_list.ensures.kept.room o n (c.loop-list.invariant.kept.room o n f);
       };
+      capacity = omega (arith, c.replay_list.ensures.capacity, c.loop-list.invariant.capacity);
     }

@@ -4,7 +4,8 @@ use Rattle.blob_model.specs.Order.{ArePlacesApart}
 use Rattle.blob_model.specs.Places.{Place}
 use Rattle.blob_model.specs.Stands.{replayed_at}
 use Rattle.blob_faults.specs.Lists.{held, list_of}
-use Rattle.blob_faulty.specs.Ready.{KeepsRooms}
+use Rattle.std.specs.Prelude.{◌≤◌, vec_capacity}
+use Rattle.blob_memory.specs.Retained.{KeepsRoom}
 use Rattle.blob_faults.specs.Rows.{rows_in}
 use Rattle.blob_memory.specs.Store.{durable}
 use Rattle.blob_faulty.proofs.replay.replay_all.Given as goal
@@ -13,5 +14,6 @@ abbrev pub invariant-loop-list : goal.invariant-loop-list
 invariant-loop-list l = record {
   apart : ArePlacesApart (held (λ o. o) l.lists) → ArePlacesApart (held (λ o. o) (drop l.list-index l.lists));
   durable : ArePlacesApart (held (λ o. o) l.lists) → (o : Place) → replayed_at (chosen_by (rows_in l.rows)) (list_of (λ o. o) (drop l.list-index l.lists) o) (durable l.inner o) ≡ replayed_at (chosen_by (rows_in l.rows)) (list_of (λ o. o) l.lists o) (durable l.fn.inner o);
-  kept : KeepsRooms l.fn.inner l.inner l.fn.chosen l.chosen;
+  kept : KeepsRoom l.fn.inner l.inner;
+  capacity : vec_capacity l.fn.chosen ≤ vec_capacity l.chosen;
 }

@@ -3,11 +3,13 @@ use Rattle.blob_model.specs.Bytes.{resized}
 use Rattle.blob_memory.proofs.Overlays.{resized_to, grown_none}
 use Rattle.blob_memory.proofs.overlay.grow.Goals as goal
 
-pub returns-then-len-clause-bytes : goal.returns-then-len-clause-bytes
-returns-then-len-clause-bytes c =
+pub returns-then-len : goal.returns-then-len
+returns-then-len c =
     let k : vec_len c.args.bytes.now ≡ length c.args.bytes.now.items = omega arith in
-    let m : c.args.len ≡ max (length c.args.bytes.now.items) c.args.len = omega arith in
-    resized_to _ _ _ _ k (search rules) ∙ ap (resized c.args.bytes.now.items) m
+    let m : c.args.len ≡ max (length c.args.bytes.now.items) c.args.len = omega arith in record {
+      items = resized_to _ _ _ _ k (search rules) ∙ ap (resized c.args.bytes.now.items) m;
+      capacity = search rules;
+    }
 
-pub returns-else-len-clause-bytes : goal.returns-else-len-clause-bytes
-returns-else-len-clause-bytes c = grown_none _ _ (omega arith)
+pub returns-else-len : goal.returns-else-len
+returns-else-len c = record { items = grown_none _ _ (omega arith); capacity = search rules }

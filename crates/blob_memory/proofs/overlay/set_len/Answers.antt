@@ -2,7 +2,9 @@ use Rattle.std.proofs.Common.{rules, ◌≡◌, length, vec_len, arith}
 use Rattle.blob_memory.proofs.Overlays.{resized_to}
 use Rattle.blob_memory.proofs.overlay.set_len.Goals as goal
 
-pub returns-clause-bytes : goal.returns-clause-bytes
-returns-clause-bytes c =
-    let k : vec_len c.args.bytes.now ≡ length c.args.bytes.now.items = omega arith in
-    resized_to _ _ _ _ k (search rules)
+pub returns : goal.returns
+returns c =
+    let k : vec_len c.args.bytes.now ≡ length c.args.bytes.now.items = omega arith in record {
+      items = resized_to _ _ _ _ k (search rules);
+      capacity = search rules;
+    }

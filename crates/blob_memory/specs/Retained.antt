@@ -1,0 +1,36 @@
+-- What the calls of a crash leave of a memory store.
+use Rattle.std.specs.Prelude.{◌≡◌, ℕ, ◌<◌, ◌≤◌, ◌^◌, List, Some, None, Result, OnOk, OnErr, IsOk, if◌then◌else◌, Vec, vec_capacity}
+use Rattle.std.specs.Global.{Global}
+use Rattle.blob_header.specs.declared.error.Error.{Error}
+use Rattle.blob_header.specs.Refusals.{refused, OffsetOverflow}
+use Rattle.blob_model.specs.Durable.{changed}
+use Rattle.blob_model.specs.Places.{Place}
+use Rattle.blob_memory.specs.declared.storage.Storage.{Storage}
+use Rattle.blob_memory.specs.Answers.{OrMemory, is_uncounted}
+use Rattle.blob_memory.specs.Store.{directory, durable, HasCrashRoom}
+
+-- the same files, and no less room
+pub record KeepsRoom (s t : Storage) : Type 0 where
+  pub directory : directory t ≡ directory s
+  pub room : (o : Place) (n : ℕ) → HasCrashRoom s o n → HasCrashRoom t o n
+
+-- `OffsetOverflow` for a raw end that can't be counted, else `Memory`, but not where an incarnation has room for so many
+pub record NeedsRoom {T : Type 0} (result : Result T Error) (s : Storage) (o : Place) (end need : ℕ) : Type 0 where
+  pub allowed : OrMemory (if is_uncounted end then Some OffsetOverflow else None) (refused result)
+  pub succeeds : end < 2 ^ 64 → HasCrashRoom s o need → IsOk result
+
+-- the durable bytes b of an incarnation are w now
+pub record Retakes (s t : Storage) (o : Place) (b w : Vec ℕ Global) : Type 0 where
+  pub durable : (change : List ℕ → List ℕ) → w.items ≡ change b.items → durable t ≡ changed (durable s) o change
+  pub kept : vec_capacity b ≤ vec_capacity w → KeepsRoom s t
+
+-- nothing that is durable has changed
+pub record IsAsBefore (s t : Storage) : Type 0 where
+  pub durable : durable t ≡ durable s
+  pub kept : KeepsRoom s t
+
+-- the durable bytes of an incarnation changed, where it is current; refused, they are as before
+pub record Retains {T : Type 0} (result : Result T Error) (s t : Storage) (o : Place) (change : List ℕ → List ℕ) : Type 0 where
+  pub ok : OnOk result (durable t ≡ changed (durable s) o change)
+  pub err : OnErr result (durable t ≡ durable s)
+  pub kept : KeepsRoom s t
