@@ -1,5 +1,5 @@
 -- How a line is answered, by how its call is made and its reply told.
-use Rattle.std.proofs.Common.{◌≡◌, ◌≢◌, ◌<◌, ℕ, List, Option, Some, None, IfSome, MatchOption, length, take, sym, ap, ◌∙◌, subst, inl, inr, arith}
+use Rattle.std.proofs.Common.{◌≡◌, ◌≢◌, ◌<◌, ℕ, List, Option, Some, None, IfSome, MatchOption, length, take, refl, sym, ap, ◌∙◌, subst, inl, inr, arith}
 use Rattle.blob_calls.specs.declared.call.Call.{Call as LabCall}
 use Rattle.blob_laboratory.specs.declared.lab.Lab.{Lab}
 use Rattle.blob_calls.specs.declared.reply.Reply.{Reply}
@@ -34,15 +34,19 @@ answered k asked made k' line act ran old new asks kept reply makes same tells =
       bad_line = λ h. absurd (elim known [ inl e ↦ omega (arith, e, h) | inr more ↦ elim more [ inl e ↦ omega (arith, e, h) | inr e ↦ omega (arith, e, h) ] ]);
       no_memory = λ h. absurd (elim known [ inl e ↦ omega (arith, e, h) | inr more ↦ elim more [ inl e ↦ omega (arith, e, h) | inr e ↦ omega (arith, e, h) ] ]);
       status = elim known [ inl e ↦ inl e | inr more ↦ elim more [ inl e ↦ inr (inl e) | inr e ↦ inr (inr (inl e)) ] ];
+      within = tells.within;
+      unwritten = tells.unwritten;
     }
 
-pub declined : (k k' : Kept) (line : List ℕ) (ran : Ran) (old new : List ℕ) → ran ≡ record { status = BAD_LINE; len = 0 } → IsNoCall line → k' ≡ k → AnswersLine k k' line ran old new
-declined k k' line ran old new is bad same =
-    let s : ran.status ≡ BAD_LINE = ap (λ r. r.status) is in record {
+pub declined : (k k' : Kept) (line : List ℕ) (ran : Ran) (room : List ℕ) → ran ≡ record { status = BAD_LINE; len = 0 } → IsNoCall line → k' ≡ k → AnswersLine k k' line ran room room
+declined k k' line ran room is bad same =
+    let s : ran.status ≡ BAD_LINE = ap (λ r. r.status) is in let none : ran.len ≡ 0 = ap (λ r. r.len) is in record {
       done = λ h. absurd (omega (arith, s, h));
       no_room = λ h. absurd (omega (arith, s, h));
       unprinted = λ h. absurd (omega (arith, s, h));
       bad_line = λ h. (bad, same);
       no_memory = λ h. absurd (omega (arith, s, h));
       status = inr (inr (inr (inl s)));
+      within = inr (omega (arith, none));
+      unwritten = inr refl;
     }

@@ -1,5 +1,5 @@
 -- What a session holds, and what its calls do to that.
-use Rattle.std.specs.Prelude.{◌≡◌, ◌≢◌, ◌⊎◌, ◌<◌, ℕ, List, [], Bool, length, take, Option, Some, None, IfSome, MatchOption}
+use Rattle.std.specs.Prelude.{◌≡◌, ◌≢◌, ◌⊎◌, ◌<◌, ◌≤◌, ℕ, List, [], Bool, length, take, Option, Some, None, IfSome, MatchOption}
 use Rattle.blob_faults.specs.declared.config.Config.{Config}
 use Rattle.blob_calls.specs.declared.script.setting.Setting.{Setting}
 use Rattle.blob_calls.specs.declared.reply.Reply.{Reply}
@@ -14,7 +14,7 @@ use Rattle.blob_calls.specs.Settings.{configured}
 use Rattle.blob_c.specs.declared.kept.Kept.{Kept}
 use Rattle.blob_c.specs.declared.session.Session.{Session}
 use Rattle.blob_c.specs.declared.ran.Ran.{Ran}
-use Rattle.blob_c.specs.declared.ran.TheConstants.{DONE, BAD_LINE, NO_MEMORY, NO_ROOM, OTHER_REPLY, UNPRINTED}
+use Rattle.blob_c.specs.declared.ran.TheConstants.{DONE, BAD_LINE, NO_MEMORY, NO_ROOM, CLOSED, OTHER_REPLY, UNPRINTED}
 
 -- A laboratory with what is beside it.
 
@@ -49,12 +49,18 @@ pub record AnswersLine (k k' : Kept) (line : List ℕ) (ran : Ran) (old new : Li
   pub bad_line : ran.status ≡ BAD_LINE → IsNoCall line × (k' ≡ k)
   pub no_memory : ran.status ≡ NO_MEMORY → k' ≡ k
   pub status : (ran.status ≡ DONE) ⊎ (ran.status ≡ NO_ROOM) ⊎ (ran.status ≡ UNPRINTED) ⊎ (ran.status ≡ BAD_LINE) ⊎ (ran.status ≡ NO_MEMORY)
+  -- a length beyond the room is told where room is wanted, and nowhere else
+  pub within : (ran.status ≡ NO_ROOM) ⊎ (ran.len ≤ length old)
+  pub unwritten : (ran.status ≡ DONE) ⊎ (new ≡ old)
 
 -- the last reply once more; of no call yet it has no bytes
 pub record TellsAgain (k k' : Kept) (ran : Ran) (old new : List ℕ) : Type 0 where
   pub done : ran.status ≡ DONE → MatchOption k.last (ran.len ≡ 0) (λ reply. take ran.len new ≡ reply_line reply)
   pub no_room : ran.status ≡ NO_ROOM → IfSome k.last (λ reply. (ran.len ≡ length (reply_line reply)) × (length old < ran.len))
   pub status : (ran.status ≡ DONE) ⊎ (ran.status ≡ NO_ROOM) ⊎ (ran.status ≡ UNPRINTED)
+  -- a length beyond the room is told where room is wanted, and nowhere else
+  pub within : (ran.status ≡ NO_ROOM) ⊎ (ran.len ≤ length old)
+  pub unwritten : (ran.status ≡ DONE) ⊎ (new ≡ old)
   -- nothing changes but the text that replies are printed into
   pub lab : k'.lab ≡ k.lab
   pub config : k'.config ≡ k.config
@@ -83,6 +89,12 @@ pub record AnswersRead (k k' : Kept) (handle offset : ℕ) (status : ℕ) (old n
   pub other : status ≡ OTHER_REPLY → (reply : Reply) × Makes k (Through handle (Read offset (length old))) reply k' × (HasLength reply (length old) → ⊥) × (new ≡ old)
   pub config : k'.config ≡ k.config
   pub known : (status ≡ DONE) ⊎ (status ≡ OTHER_REPLY)
+
+-- a session that isn't open was asked
+pub record IsClosed (ran : Ran) (old new : List ℕ) : Type 0 where
+  pub status : ran.status ≡ CLOSED
+  pub len : ran.len ≡ 0
+  pub unwritten : new ≡ old
 
 -- A session.
 

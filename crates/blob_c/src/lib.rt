@@ -3,10 +3,10 @@
 //! The header `bindings/c/blobcrash.h` says what callers owe: no check reaches them.
 #![tactic(auto)]
 
-ghost use Rattle.std.specs.Prelude.{◌≡◌, ◌⊎◌, ◌<◌, Some, None, IsSome, IfSome, [], take, length};
+ghost use Rattle.std.specs.Prelude.{◌≡◌, ◌⊎◌, ◌<◌, ◌≤◌, Some, None, IsSome, IfSome, [], take, length};
 ghost use Rattle.blob_lab.specs.Scripts.{Prints, PrintsBefore, no_script, lines_of, script_of};
 ghost use Rattle.blob_c.specs.Preambles.{BreaksAt, IsMadeOf};
-ghost use Rattle.blob_c.specs.Sessions.{AnswersLine, AnswersRead, AnswersWrite, OnHeld, TellsAgain, held};
+ghost use Rattle.blob_c.specs.Sessions.{AnswersLine, AnswersRead, AnswersWrite, IsClosed, OnHeld, TellsAgain, held};
 
 mod kept;
 mod loose;
@@ -16,7 +16,7 @@ mod script;
 mod session;
 
 use preamble::RefusedPreamble;
-use ran::{BAD_LINE, CLOSED, DONE, NO_MEMORY, NO_ROOM, Ran, ScriptRan};
+use ran::{BAD_LINE, CLOSED, DONE, ENDLESS, NO_MEMORY, NO_ROOM, Ran, ScriptRan};
 use session::Session;
 use std::alloc::Global;
 
@@ -30,6 +30,8 @@ pub extern "C" fn blobcrash_run(alloc: Global, script: &[u8], replies: &mut [u8]
     ensures bad_line { result.status ≡ BAD_LINE → PrintsBefore no_script 1 result.line (lines_of script.now) (Some []) (Some (take result.len replies.new)) }
     ensures no_room { result.status ≡ NO_ROOM → length replies.old < result.len }
     ensures unwritten { (result.status ≡ DONE) ⊎ (result.status ≡ BAD_LINE) ⊎ (replies.new ≡ replies.old) }
+    ensures within { (result.status ≡ NO_ROOM) ⊎ (result.len ≤ length replies.old) }
+    ensures status { (result.status ≡ DONE) ⊎ (result.status ≡ BAD_LINE) ⊎ (result.status ≡ NO_ROOM) ⊎ (result.status ≡ NO_MEMORY) ⊎ (result.status ≡ ENDLESS) }
 {
     script::run(alloc, script, replies)
 }
@@ -76,7 +78,7 @@ pub extern "C" fn blobcrash_call(
     line: &[u8],
     reply: &mut [u8],
 ) -> Ran
-    ensures { OnHeld (held session.old) (held session.new) (λ k k'. AnswersLine k k' line.now result reply.old reply.new) (result.status ≡ CLOSED) }
+    ensures { OnHeld (held session.old) (held session.new) (λ k k'. AnswersLine k k' line.now result reply.old reply.new) (IsClosed result reply.old reply.new) }
 {
     let Some(mut kept) = session.take(alloc) else {
         return Ran::stopped(CLOSED);
@@ -89,7 +91,7 @@ pub extern "C" fn blobcrash_call(
 /// Writes the reply to the last call once more, as often as it is asked for.
 #[unsafe(no_mangle)]
 pub extern "C" fn blobcrash_reply(alloc: Global, session: &mut Session, reply: &mut [u8]) -> Ran
-    ensures { OnHeld (held session.old) (held session.new) (λ k k'. TellsAgain k k' result reply.old reply.new) (result.status ≡ CLOSED) }
+    ensures { OnHeld (held session.old) (held session.new) (λ k k'. TellsAgain k k' result reply.old reply.new) (IsClosed result reply.old reply.new) }
 {
     let Some(mut kept) = session.take(alloc) else {
         return Ran::stopped(CLOSED);
@@ -132,7 +134,7 @@ pub extern "C" fn blobcrash_read(
     offset: u64,
     into: &mut [u8],
 ) -> u32
-    ensures { OnHeld (held session.old) (held session.new) (λ k k'. AnswersRead k k' handle offset result into.old into.new) (result ≡ CLOSED) }
+    ensures { OnHeld (held session.old) (held session.new) (λ k k'. AnswersRead k k' handle offset result into.old into.new) ((result ≡ CLOSED) × (into.new ≡ into.old)) }
 {
     let Some(mut kept) = session.take(alloc) else {
         return CLOSED;

@@ -1,5 +1,5 @@
 // A whole script at once.
-ghost use Rattle.std.specs.Prelude.{◌≡◌, ◌⊎◌, ◌<◌, ℕ, Some, [], take, length};
+ghost use Rattle.std.specs.Prelude.{◌≡◌, ◌⊎◌, ◌<◌, ◌≤◌, ℕ, Some, [], take, length};
 ghost use Rattle.blob_lab.specs.Scripts.{Prints, PrintsBefore, no_script, lines_of, script_of};
 
 use crate::ran::{BAD_LINE, DONE, ENDLESS, NO_MEMORY, NO_ROOM, ScriptRan};
@@ -13,6 +13,8 @@ pub(crate) fn run(alloc: Global, script: &[u8], replies: &mut [u8]) -> ScriptRan
     ensures bad_line { result.status ≡ BAD_LINE → PrintsBefore no_script 1 result.line (lines_of script.now) (Some []) (Some (take result.len replies.new)) }
     ensures no_room { result.status ≡ NO_ROOM → length replies.old < result.len }
     ensures unwritten { (result.status ≡ DONE) ⊎ (result.status ≡ BAD_LINE) ⊎ (replies.new ≡ replies.old) }
+    ensures within { (result.status ≡ NO_ROOM) ⊎ (result.len ≤ length replies.old) }
+    ensures status { (result.status ≡ DONE) ⊎ (result.status ≡ BAD_LINE) ⊎ (result.status ≡ NO_ROOM) ⊎ (result.status ≡ NO_MEMORY) ⊎ (result.status ≡ ENDLESS) }
 {
     let (ending, printed) = printed_by(alloc, script);
     let (status, line) = match ending {

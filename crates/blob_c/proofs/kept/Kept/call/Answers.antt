@@ -12,4 +12,4 @@ returns-in-Ok-Some c =
 
 pub returns-in-Err-BadCall : goal.returns-in-Err-BadCall
 returns-in-Err-BadCall c =
-    declined _ _ c.args.line.now _ _ _ c.stopped-in-Err-BadCall.ensures (c.in-Err-BadCall.ensures.bad (ap Err c.in-Err-BadCall.field-0-is)) c.in-Err-BadCall.ensures.err
+    declined _ _ c.args.line.now _ _ c.stopped-in-Err-BadCall.ensures (c.in-Err-BadCall.ensures.bad (ap Err c.in-Err-BadCall.field-0-is)) c.in-Err-BadCall.ensures.err
