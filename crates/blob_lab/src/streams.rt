@@ -177,7 +177,7 @@ impl<W> Output<W> {
 }
 
 impl<W: Write> Output<W> {
-    /// Writes all of these bytes.
+    /// Writes all of these bytes, which aren't handed on before a flush.
     ///
     /// # Errors
     ///
@@ -187,6 +187,7 @@ impl<W: Write> Output<W> {
         ensures part { IfErr result (λ _. AppendsPart (W.contents (writer_of self.old)) (W.contents (writer_of self.new)) bytes.now) }
         ensures ending { IfErr result (λ ending. ending ≡ Ending.OutputFailed) }
         ensures told { ToldOutput result self.old self.new }
+        ensures held { is_flushed self.new ≡ false }
     {
         self.flushed = false;
         let mut rest = bytes;
@@ -210,6 +211,7 @@ impl<W: Write> Output<W> {
         ensures written { OnOk result (IfSome (with_newline (D.output text)) (Appends (W.contents (writer_of self.old)) (W.contents (writer_of self.new)))) }
         ensures ending { IfErr result (λ ending. ending ≡ Ending.OutputFailed) }
         ensures told { ToldOutput result self.old self.new }
+        ensures held { is_flushed self.new ≡ false }
     {
         self.flushed = false;
         match self.writer.writeln(text) {

@@ -11,7 +11,7 @@ moves_front all done rest n e =
     e ∙ ap (λ l. done ++ l) (sym (take-append-drop n rest)) ∙ sym (append_assoc done (take n rest) (drop n rest)) ∙ ap (λ l. (done ++ take n rest) ++ l) (sym (take_rest rest n))
 
 pub loop-init : goal.loop-init
-loop-init g c = record { moved = ([], search rules, Appends-nil _); sound = search rules }
+loop-init g c = record { moved = ([], search rules, Appends-nil _); sound = search rules; held = search rules }
 
 pub loop-preserved : goal.loop-preserved
 loop-preserved g c =
@@ -21,10 +21,10 @@ loop-preserved g c =
       | in-Ok w ↦
           let n = w.in-Ok.count in
           let left : c.match-write.rest.now ≡ take (length rest - n) (drop n rest) = ap (λ r. r.now) w.rest-is in
-          record { moved = (done ++ take n rest, moves_front _ done rest n split ∙ ap (λ l. (done ++ take n rest) ++ l) (sym left), Appends-trans _ _ _ _ _ appended w.in-Ok.ensures.bytes); sound = search rules }
+          record { moved = (done ++ take n rest, moves_front _ done rest n split ∙ ap (λ l. (done ++ take n rest) ++ l) (sym left), Appends-trans _ _ _ _ _ appended w.in-Ok.ensures.bytes); sound = search rules; held = search rules }
       | in-Err w ↦
           let left : c.match-write.rest.now ≡ rest = ap (λ r. r.now) w.rest-is in
-          record { moved = (done, split ∙ ap (λ l. done ++ l) (sym left), Appends-kept _ _ _ _ appended w.in-Err.ensures.bytes); sound = search rules }
+          record { moved = (done, split ∙ ap (λ l. done ++ l) (sym left), Appends-kept _ _ _ _ appended w.in-Err.ensures.bytes); sound = search rules; held = search rules }
     ]
 
 pub returns-then-is_empty-clause-written : goal.returns-then-is_empty-clause-written
