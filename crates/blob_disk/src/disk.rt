@@ -103,7 +103,7 @@ impl<R: Rng> Disk for BlobDisk<R> {
 
 impl<R: Rng> BlobDisk<R> {
     ghost use Rattle.std.specs.Prelude.{◌≡◌, ℕ, List, true, OnOk, OnErr};
-    ghost use Rattle.blob_disk.specs.Drawn.{MayDraw};
+    ghost use Rattle.blob_disk.specs.Drawn.{MayDraw, rates_of};
 
     /// The machine stops: of what wasn't synced there is what is drawn, and the file is opened again, usable.
     ///
@@ -119,6 +119,7 @@ impl<R: Rng> BlobDisk<R> {
         ensures mixing { ⟦<BlobDisk<R> as Disk>⟧.is_mixing self.new ≡ ⟦<BlobDisk<R> as Disk>⟧.is_mixing self.old }
         ensures faults { ⟦<BlobDisk<R> as Disk>⟧.faults self.new ≡ ⟦<BlobDisk<R> as Disk>⟧.faults self.old }
         ensures tally { ⟦<BlobDisk<R> as Disk>⟧.tally_of self.new ≡ ⟦<BlobDisk<R> as Disk>⟧.tally_of self.old }
+        ensures rates { rates_of self.new ≡ rates_of self.old }
     {
         self.usable = true;
         lose(&mut self.store, &mut self.blob)

@@ -47,6 +47,7 @@ pub struct BlobDisk<R: Rng> {
 }
 
 impl<R: Rng + Drop> BlobDisk<R> {
+    ghost use Rattle.blob_disk.specs.Drawn.{rates_of};
     /// An empty file, whose faults are drawn by these rates from here on. The open itself draws nothing.
     ///
     /// A disk that is mixing says that a crash leaves each byte of a write old or new, and so lets a database commit by one sync.
@@ -60,6 +61,7 @@ impl<R: Rng + Drop> BlobDisk<R> {
         ensures empty { IfOk result (λ disk. ⟦<BlobDisk<R> as Disk>⟧.seen disk ≡ []) }
         ensures usable { IfOk result (λ disk. ⟦<BlobDisk<R> as Disk>⟧.is_usable disk ≡ true) }
         ensures mixing { IfOk result (λ disk. ⟦<BlobDisk<R> as Disk>⟧.is_mixing disk ≡ is_mixing) }
+        ensures rates { IfOk result (λ disk. rates_of disk ≡ config) }
     {
         let memory = blob_memory::Storage::new(alloc);
         let mut store = blob_faulty::Storage::new(alloc, memory, rng, Config::default());
@@ -79,6 +81,7 @@ impl<R: Rng + Drop> BlobDisk<R> {
 }
 
 impl<R: Rng> BlobDisk<R> {
+    ghost use Rattle.blob_disk.specs.Drawn.{rates_of};
     /// The rates of the faults from here on. The file stays, and what a crash may leave of it.
     pub fn set_config(&mut self, config: Config)
         requires { IsNever (partial_resizes config.resize_rate) }
@@ -86,6 +89,7 @@ impl<R: Rng> BlobDisk<R> {
         ensures outcomes { (c : List ℕ) → ⟦<BlobDisk<R> as Disk>⟧.may_leave self.new c → ⟦<BlobDisk<R> as Disk>⟧.may_leave self.old c }
         ensures usable { ⟦<BlobDisk<R> as Disk>⟧.is_usable self.new ≡ ⟦<BlobDisk<R> as Disk>⟧.is_usable self.old }
         ensures mixing { ⟦<BlobDisk<R> as Disk>⟧.is_mixing self.new ≡ ⟦<BlobDisk<R> as Disk>⟧.is_mixing self.old }
+        ensures set { rates_of self.new ≡ config }
     {
         self.store.set_config(config);
     }
