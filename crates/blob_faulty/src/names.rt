@@ -65,7 +65,7 @@ impl<S: blob_base::Storage, R: Rng> blob_base::Storage for Storage<S, R> {
     ghost keeps_size = { λ blob size. (size_of blob ≡ size) × S.keeps_size (inside blob) size };
 
     /// Draws the open rate, then opens in the store inside. The handle's size is the one that is answered. What was kept of any
-    /// blob still is.
+    /// blob still is (`laws::keeps::accepted_opens`).
     ///
     /// Alone it fixes nothing: what is pending of the blob stays so, and a later crash may replay it over what the handle found.
     /// Nor does it keep a second handle from the blob. Over a memory store `admit` behind it retires what is pending,
