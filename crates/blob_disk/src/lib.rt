@@ -48,6 +48,7 @@ pub struct BlobDisk<R: Rng> {
 
 impl<R: Rng + Drop> BlobDisk<R> {
     ghost use Rattle.blob_disk.specs.Drawn.{rates_of};
+
     /// An empty file, whose faults are drawn by these rates from here on. The open itself draws nothing.
     ///
     /// A disk that is mixing says that a crash leaves each byte of a write old or new, and so lets a database commit by one sync.
@@ -82,6 +83,7 @@ impl<R: Rng + Drop> BlobDisk<R> {
 
 impl<R: Rng> BlobDisk<R> {
     ghost use Rattle.blob_disk.specs.Drawn.{rates_of};
+
     /// The rates of the faults from here on. The file stays, and what a crash may leave of it.
     pub fn set_config(&mut self, config: Config)
         requires { IsNever (partial_resizes config.resize_rate) }
