@@ -25,7 +25,6 @@ pub use Rattle.blob_model.specs.Files
 pub use Rattle.blob_model.specs.Holes
 pub use Rattle.blob_model.specs.Live
 pub use Rattle.blob_model.specs.Log
-pub use Rattle.blob_model.specs.Modes
 pub use Rattle.blob_model.specs.Opened
 pub use Rattle.blob_model.specs.Opening
 pub use Rattle.blob_model.specs.Order

@@ -8,7 +8,6 @@ pub mod handle;
 pub mod laws;
 pub mod options;
 pub mod probability;
-pub mod sector_size;
 pub mod storage;
 pub mod value_laws;
 
@@ -17,10 +16,10 @@ pub use blob_header::{
     checksum, error, header, header_error, header_laws, layout, partition_name, refusal_line,
     resolution, resolve, validate_partition_name, version,
 };
+pub use blob_model::{SectorSize, sector_size};
 pub use buffers::IoBufs;
 pub use buffers_mut::IoBufsMut;
 pub use handle::Handle;
 pub use options::{ReadOptions, WriteOptions};
 pub use probability::Probability;
-pub use sector_size::SectorSize;
 pub use storage::{Blob, Durable, Storage};

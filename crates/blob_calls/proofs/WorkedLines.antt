@@ -4,7 +4,7 @@ use Rattle.std.specs.Prelude.{codes}
 use Rattle.std.specs.Str.{is_utf8, chars}
 use Rattle.hex.specs.Hex.{decode_pairs}
 use lib.Utf8.{encode}
-use Rattle.blob_faults.specs.declared.mode.PartialWriteMode.TheVariants.{Sectors}
+use Rattle.blob_model.specs.declared.mode.PartialWriteMode.TheVariants.{Sectors}
 use Rattle.blob_calls.specs.declared.script.setting.Setting.TheVariants as setting
 use Rattle.blob_calls.specs.Acts as act
 use Rattle.blob_calls.specs.Lines.{Said, Blank, Given, Seed, Configure, Call, line_of}

@@ -1,8 +1,8 @@
 -- What follows `config` in a line.
 use Rattle.std.specs.Prelude.{[], ◌∷◌, ◌&&◌, Some, None, nat_lt, nat_le, if◌then◌else◌, codes}
 use Rattle.blob_model.specs.Rates.{Rate}
-use Rattle.blob_faults.specs.declared.mode.PartialWriteMode.{PartialWriteMode}
-use Rattle.blob_faults.specs.declared.mode.PartialWriteMode.TheVariants.{Prefix, Subset, Sectors}
+use Rattle.blob_model.specs.declared.mode.PartialWriteMode.{PartialWriteMode}
+use Rattle.blob_model.specs.declared.mode.PartialWriteMode.TheVariants.{Prefix, Subset, Sectors}
 use Rattle.blob_calls.specs.declared.script.setting.Setting.{Setting}
 use Rattle.blob_calls.specs.declared.script.setting.Setting.TheVariants.{Open, Read, Write, Sync, Resize, Remove, Scan, Clear}
 use Rattle.blob_calls.specs.Forms.{Form, ◌>>=◌, gives, gives_some, no_form, beside, text, digits}

@@ -4,7 +4,7 @@ use Rattle.std.proofs.lemmas.Bool.{leb-false, lt-leb, cond_both, or_parts}
 use Rattle.rand_core.specs.Stream.{Stream}
 use Rattle.blob_model.specs.Bytes.{lies, written}
 use Rattle.blob_model.specs.Live.{live_after, live_written, is_idle}
-use Rattle.blob_model.specs.Modes.{Mode}
+use Rattle.blob_model.specs.declared.mode.PartialWriteMode.{PartialWriteMode}
 use Rattle.blob_model.specs.Persistence.{HasByte, any_touches}
 use Rattle.blob_model.specs.Rates.{Rate, sampled}
 use Rattle.blob_header.specs.Refusals.{Refusal, Injected, BlobMissing}
@@ -18,12 +18,12 @@ use Rattle.blob_faults.specs.Recorded.{loose, kept, recorded_by, recorded_write,
 -- What a write records lies within its range.
 
 module _ (p offset : ℕ) (bytes : List ℕ) (out : lies offset (length bytes) p ≡ false) where
-  loose_out : (retained : Option (Mode × Rate)) (number : ℕ) → any_touches p (loose retained number offset bytes) ≡ false
+  loose_out : (retained : Option (PartialWriteMode × Rate)) (number : ℕ) → any_touches p (loose retained number offset bytes) ≡ false
   loose_out retained number = by_bytes bytes out where
     by_bytes : (x : List ℕ) → lies offset (length x) p ≡ false → any_touches p (loose retained number offset x) ≡ false
     by_bytes [] o = refl
     by_bytes (y ∷ ys) o = by_kept retained where
-      by_kept : (r : Option (Mode × Rate)) → any_touches p (loose r number offset (y ∷ ys)) ≡ false
+      by_kept : (r : Option (PartialWriteMode × Rate)) → any_touches p (loose r number offset (y ∷ ys)) ≡ false
       by_kept None = refl
       by_kept (Some r) = ap (λ (t : Bool). t || false) o
 
@@ -33,7 +33,7 @@ module _ (p offset : ℕ) (bytes : List ℕ) (out : lies offset (length bytes) p
     by_bytes [] o = refl
     by_bytes (y ∷ ys) o = ap (λ (t : Bool). t || false) o
 
-  by_fate_out : (fate : WriteFate) (retained : Option (Mode × Rate)) (number : ℕ) (sync : Bool) (answer : Option Refusal) → any_touches p (recorded_by fate retained number sync offset bytes answer) ≡ false
+  by_fate_out : (fate : WriteFate) (retained : Option (PartialWriteMode × Rate)) (number : ℕ) (sync : Bool) (answer : Option Refusal) → any_touches p (recorded_by fate retained number sync offset bytes answer) ≡ false
   by_fate_out Done retained number true None = kept_out
   by_fate_out Done retained number false None = loose_out retained number
   by_fate_out Unsynced retained number sync (Some Injected) = loose_out retained number

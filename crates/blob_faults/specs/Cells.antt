@@ -1,8 +1,8 @@
 -- Write configurations by a cell's number.
 use Rattle.std.specs.Prelude.{ℕ, ◌+◌, ◌*◌, ◌/◌, ◌%◌, if◌then◌else◌, nat_lt}
 use Rattle.blob_model.specs.Rates.{Rate}
-use Rattle.blob_faults.specs.declared.mode.PartialWriteMode.{PartialWriteMode}
-use Rattle.blob_faults.specs.declared.mode.PartialWriteMode.TheVariants.{Prefix, Subset}
+use Rattle.blob_model.specs.declared.mode.PartialWriteMode.{PartialWriteMode}
+use Rattle.blob_model.specs.declared.mode.PartialWriteMode.TheVariants.{Prefix, Subset}
 
 -- so many hundredths
 abbrev pub rate_in_cell : ℕ → Rate

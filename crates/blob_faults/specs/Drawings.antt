@@ -5,16 +5,15 @@ use Rattle.std.specs.declared.alloc.Global.{Global}
 use Rattle.rand_core.specs.Stream.{Stream}
 use Rattle.blob_model.specs.Draws.{Row, with_first, positions}
 use Rattle.blob_model.specs.Log.{Need}
-use Rattle.blob_model.specs.Modes.{Mode}
+use Rattle.blob_model.specs.declared.mode.PartialWriteMode.{PartialWriteMode}
 use Rattle.blob_model.specs.Rates.{Rate}
-use Rattle.blob_faults.specs.Modes.{mode_of}
 use Rattle.blob_faults.specs.declared.draw.Draw.{Draw}
 
 pub record Drawing : Type 0 where
   pub number : ℕ
   pub offset : ℕ
   pub len : ℕ
-  pub mode : Mode
+  pub mode : PartialWriteMode
   pub rate : Rate
 
 abbrev pub drawing_of : Need → Drawing
@@ -25,7 +24,7 @@ drawings_of ns = map drawing_of ns
 
 -- of the code's
 abbrev pub drawing_in : Draw → Drawing
-drawing_in d = record { number = d.number; offset = d.offset; len = d.len; mode = mode_of d.mode; rate = d.rate }
+drawing_in d = record { number = d.number; offset = d.offset; len = d.len; mode = d.mode; rate = d.rate }
 
 abbrev pub drawings_in : List Draw → List Drawing
 drawings_in ds = map drawing_in ds

@@ -5,12 +5,11 @@ use Rattle.rand.specs.Uniform.{canon}
 use Rattle.blob_model.specs.Draws.{positions}
 use Rattle.blob_model.specs.Live.{is_idle}
 use Rattle.blob_model.specs.Log.{Write}
-use Rattle.blob_model.specs.Modes.{Mode}
+use Rattle.blob_model.specs.declared.mode.PartialWriteMode.{PartialWriteMode}
 use Rattle.blob_model.specs.Rates.{Rate, sampled}
 use Rattle.blob_faults.specs.declared.config.Config.{Config}
 use Rattle.blob_faults.specs.declared.config.ResizeConfig.{ResizeConfig}
 use Rattle.blob_faults.specs.declared.config.WriteConfig.{WriteConfig}
-use Rattle.blob_faults.specs.Modes.{mode_of}
 
 -- one draw; a rate that isn't set takes no word and is never true
 abbrev pub draw : Option Rate → Stream → Bool × Stream
@@ -22,13 +21,13 @@ write_failure None = None
 write_failure (Some c) = Some c.failure_rate
 
 -- how what is retained of a write is chosen, where the retention rate is set and isn't zero
-abbrev pub retention : Option WriteConfig → Option (Mode × Rate)
+abbrev pub retention : Option WriteConfig → Option (PartialWriteMode × Rate)
 retention None = None
-retention (Some c) = if c.retention_rate.numerator == 0 then None else Some (mode_of c.mode, c.retention_rate)
+retention (Some c) = if c.retention_rate.numerator == 0 then None else Some (c.mode, c.retention_rate)
 
-abbrev pub kept_by : Option WriteConfig → Option (Mode × Rate)
+abbrev pub kept_by : Option WriteConfig → Option (PartialWriteMode × Rate)
 kept_by None = None
-kept_by (Some c) = Some (mode_of c.mode, c.retention_rate)
+kept_by (Some c) = Some (c.mode, c.retention_rate)
 
 -- What the draws of a write come to.
 
@@ -40,7 +39,7 @@ pub data WriteFate : Type 0 where
   -- it fails and keeps the chosen bytes
   Failed : List Bool → WriteFate
 
-abbrev pub failed : Option (Mode × Rate) → ℕ → ℕ → Stream → WriteFate × Stream
+abbrev pub failed : Option (PartialWriteMode × Rate) → ℕ → ℕ → Stream → WriteFate × Stream
 failed None offset len stream = (Failed [], stream)
 failed (Some kept) offset len stream = let d = positions kept.0 kept.1 offset len stream in (Failed d.0, d.1)
 
@@ -97,4 +96,4 @@ resize_fate (Some c) size len stream =
 
 -- a write as it is recorded
 abbrev pub issued : ℕ → ℕ → List ℕ → WriteConfig → Write
-issued number offset bytes config = record { number = number; offset = offset; bytes = bytes; mode = mode_of config.mode; rate = config.retention_rate }
+issued number offset bytes config = record { number = number; offset = offset; bytes = bytes; mode = config.mode; rate = config.retention_rate }

@@ -6,7 +6,6 @@ pub mod Fates
 pub mod Faults
 pub mod Lists
 pub mod Marks
-pub mod Modes
 pub mod Ranges
 pub mod Recorded
 pub mod Replays

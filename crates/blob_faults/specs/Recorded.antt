@@ -5,7 +5,7 @@ use Rattle.rand_core.specs.Stream.{Stream}
 use Rattle.blob_model.specs.Bytes.{written, resized}
 use Rattle.blob_model.specs.Live.{live_after, all_written}
 use Rattle.blob_model.specs.Log.{Entry, Kept, Loose, Resized}
-use Rattle.blob_model.specs.Modes.{Mode}
+use Rattle.blob_model.specs.declared.mode.PartialWriteMode.{PartialWriteMode}
 use Rattle.blob_model.specs.Rates.{Rate}
 use Rattle.blob_header.specs.Refusals.{Refusal, Injected, BlobMissing}
 use Rattle.blob_model.specs.Runs.{Run, runs, kept_runs}
@@ -13,7 +13,7 @@ use Rattle.blob_faults.specs.declared.config.Config.{Config}
 use Rattle.blob_faults.specs.Faults.{WriteFate, Done, Unsynced, Failed, ResizeFate, Resizes, Reaches, retention, by_fate}
 
 -- a write that a crash may lose, with the mode and the rate of its issue
-abbrev pub loose : Option (Mode × Rate) → ℕ → ℕ → List ℕ → List Entry
+abbrev pub loose : Option (PartialWriteMode × Rate) → ℕ → ℕ → List ℕ → List Entry
 loose kept number offset [] = []
 loose None number offset (b ∷ bytes) = []
 loose (Some kept) number offset (b ∷ bytes) = Loose (record { number = number; offset = offset; bytes = b ∷ bytes; mode = kept.0; rate = kept.1 }) ∷ []
@@ -23,7 +23,7 @@ kept offset [] = []
 kept offset (b ∷ bytes) = Kept offset (b ∷ bytes) ∷ []
 
 -- a write done is kept whole where it is a SYNC write, else loose; one whose sync failed is loose; a failed one keeps its runs
-abbrev pub recorded_by : WriteFate → Option (Mode × Rate) → ℕ → Bool → ℕ → List ℕ → Option Refusal → List Entry
+abbrev pub recorded_by : WriteFate → Option (PartialWriteMode × Rate) → ℕ → Bool → ℕ → List ℕ → Option Refusal → List Entry
 recorded_by Done retained number true offset bytes None = kept offset bytes
 recorded_by Done retained number false offset bytes None = loose retained number offset bytes
 recorded_by Unsynced retained number sync offset bytes (Some Injected) = loose retained number offset bytes

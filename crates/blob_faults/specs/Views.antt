@@ -4,14 +4,13 @@ use Rattle.blob_model.specs.Log.{Write, has_bare}
 use Rattle.blob_model.specs.Pending as model
 use Rattle.blob_model.specs.Pending.{Pending, pared_one}
 use Rattle.blob_model.specs.Holes.{need_in}
-use Rattle.blob_faults.specs.Modes.{mode_of}
 use Rattle.blob_faults.specs.Ranges.{ranges}
 use Rattle.blob_faults.specs.declared.write.PendingWrite.{PendingWrite}
 use Rattle.blob_faults.specs.declared.entry.Entry.{Entry}
 use Rattle.blob_faults.specs.declared.entry.Entry.TheVariants as entry
 
 abbrev pub write_of : PendingWrite → Write
-write_of w = record { number = w.number; offset = w.offset; bytes = w.bytes; mode = mode_of w.mode; rate = w.rate }
+write_of w = record { number = w.number; offset = w.offset; bytes = w.bytes; mode = w.mode; rate = w.rate }
 
 abbrev pub view : Entry → Pending
 view (entry.Write w) = model.Waiting (need_in (write_of w) (ranges w.holes.items))

@@ -12,7 +12,6 @@ pub mod gather;
 pub mod holes;
 pub mod incarnation;
 pub mod lists;
-pub mod mode;
 pub mod room;
 pub mod rows;
 pub mod runs;
@@ -21,6 +20,6 @@ pub mod selections;
 pub mod value_laws;
 pub mod write;
 
+pub use blob_model::{PartialWriteMode, mode};
 pub use config::{Config, ResizeConfig, WriteConfig, write_config_from_cell};
-pub use mode::PartialWriteMode;
 pub use selections::Selections;

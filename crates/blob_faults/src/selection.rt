@@ -3,7 +3,6 @@ ghost use Rattle.std.specs.Prelude.{◌≡◌, ◌<◌, ◌≤◌, ◌+◌, ◌%
 ghost use Rattle.blob_model.specs.Draws.{front, each, sectors, positions};
 ghost use Rattle.blob_model.specs.Rates.{sampled};
 ghost use Rattle.blob_faults.specs.Drawings.{IsBlank};
-ghost use Rattle.blob_faults.specs.Modes.{mode_of};
 
 use crate::mode::PartialWriteMode;
 use blob_base::Probability;
@@ -97,7 +96,7 @@ pub fn draw_positions<R: Rng>(
     rng: &mut R,
 ) -> Result<Vec<bool>, AllocError>
     requires { offset + len < 2 ^ 64 }
-    ensures ok { IfOk result (λ chosen. (chosen.items, R.stream rng.new) ≡ positions (mode_of mode) rate offset len (R.stream rng.old)) }
+    ensures ok { IfOk result (λ chosen. (chosen.items, R.stream rng.new) ≡ positions mode rate offset len (R.stream rng.old)) }
     ensures err { OnErr result (R.stream rng.new ≡ R.stream rng.old) }
 {
     let mut chosen = Vec::with_capacity(alloc, len)?;

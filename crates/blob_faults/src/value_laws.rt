@@ -3,11 +3,9 @@
 ghost use Rattle.blob_header.specs.Values.{IsSameness};
 
 use crate::config::{Config, ResizeConfig, WriteConfig};
-use crate::mode::PartialWriteMode;
 
-/// A mode, and the configuration of writes, of resizes and of a whole wrapper, are equal exactly where all their fields are.
+/// The configurations of writes, of resizes and of a whole wrapper, are equal exactly where all their fields are.
 pub fn equalities()
-    ensures modes { IsSameness ⟦<PartialWriteMode as PartialEq>⟧.eq }
     ensures writes { IsSameness ⟦<WriteConfig as PartialEq>⟧.eq }
     ensures resizes { IsSameness ⟦<ResizeConfig as PartialEq>⟧.eq }
     ensures configs { IsSameness ⟦<Config as PartialEq>⟧.eq }

@@ -8,7 +8,7 @@ use Rattle.blob_model.specs.Durable.{Durable, changed}
 use Rattle.blob_model.specs.Bytes.{overlay, reach}
 use Rattle.blob_model.specs.Files.{Files}
 use Rattle.blob_model.specs.Log.{Loose, Kept}
-use Rattle.blob_model.specs.Modes.{Mode}
+use Rattle.blob_model.specs.declared.mode.PartialWriteMode.{PartialWriteMode}
 use Rattle.blob_model.specs.Rates.{Rate}
 use Rattle.blob_model.specs.Pending.{Pending}
 use Rattle.blob_model.specs.Stands.{StandsFor}
@@ -37,7 +37,7 @@ pub kept_some : (o : ℕ) (b : List ℕ) → 0 < length b → kept o b ≡ Kept 
 kept_some o [] h = absurd (omega arith)
 kept_some o (x ∷ b) h = refl
 
-pub loose_some : (k : Mode × Rate) (n o : ℕ) (b : List ℕ) → 0 < length b → loose (Some k) n o b ≡ Loose (record { number = n; offset = o; bytes = b; mode = k.0; rate = k.1 }) ∷ []
+pub loose_some : (k : PartialWriteMode × Rate) (n o : ℕ) (b : List ℕ) → 0 < length b → loose (Some k) n o b ≡ Loose (record { number = n; offset = o; bytes = b; mode = k.0; rate = k.1 }) ∷ []
 loose_some k n o [] h = absurd (omega arith)
 loose_some k n o (x ∷ b) h = refl
 

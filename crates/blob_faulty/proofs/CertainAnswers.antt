@@ -5,7 +5,7 @@ use Rattle.std.proofs.lemmas.Bool.{cond-true, cond-false}
 use Rattle.std.proofs.lemmas.Bool.Decides.{nat_tests}
 use Rattle.rand_core.specs.Stream.{Stream}
 use Rattle.blob_model.specs.Live.{is_idle}
-use Rattle.blob_model.specs.Modes.{Mode}
+use Rattle.blob_model.specs.declared.mode.PartialWriteMode.{PartialWriteMode}
 use Rattle.blob_model.specs.Rates.{Rate, sampled}
 use Rattle.blob_header.specs.Refusals.{Refusal, OffsetOverflow, Injected}
 use Rattle.blob_model.specs.Runs.{runs}
@@ -72,7 +72,7 @@ is_done Done = true
 is_done Unsynced = false
 is_done (Failed kept) = false
 
-failed_not : (kept : Option (Mode × Rate)) (offset len : ℕ) (stream : Stream) → is_done (failed kept offset len stream).0 ≡ false
+failed_not : (kept : Option (PartialWriteMode × Rate)) (offset len : ℕ) (stream : Stream) → is_done (failed kept offset len stream).0 ≡ false
 failed_not None offset len stream = refl
 failed_not (Some kept) offset len stream = refl
 

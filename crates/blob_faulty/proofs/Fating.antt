@@ -4,7 +4,7 @@ use Rattle.std.proofs.lemmas.Bool.{cond-false, le-ltb}
 use Rattle.rand_core.specs.Stream.{Stream}
 use Rattle.blob_model.specs.Live.{live_after, is_idle}
 use Rattle.blob_model.specs.Log.{Entry}
-use Rattle.blob_model.specs.Modes.{Mode}
+use Rattle.blob_model.specs.declared.mode.PartialWriteMode.{PartialWriteMode}
 use Rattle.blob_model.specs.Rates.{Rate}
 use Rattle.blob_header.specs.Refusals.{Refusal, OffsetOverflow, BlobMissing, Injected, Memory}
 use Rattle.blob_model.specs.Runs.{Run, runs}
@@ -18,12 +18,12 @@ use Rattle.blob_faulty.proofs.Adding.{nothing_not}
 use Rattle.blob_faulty.proofs.Writing.{same_logs}
 
 -- what the tables say of a refusal that isn't the wrapper's own
-record Refused (fate : WriteFate) (sync : Bool) (live : List ℕ) (size number offset : ℕ) (bytes : List ℕ) (kept : Option (Mode × Rate)) (left : List ℕ) (refusal : Refusal) : Type 0 where
+record Refused (fate : WriteFate) (sync : Bool) (live : List ℕ) (size number offset : ℕ) (bytes : List ℕ) (kept : Option (PartialWriteMode × Rate)) (left : List ℕ) (refusal : Refusal) : Type 0 where
   live_left : live_by fate sync live offset bytes (Some refusal) ≡ left
   size_left : size_by fate size offset bytes (Some refusal) ≡ size
   entries : recorded_by fate kept number sync offset bytes (Some refusal) ≡ []
 
-of_unsynced : (sync : Bool) (live : List ℕ) (size number offset : ℕ) (bytes : List ℕ) (kept : Option (Mode × Rate)) (refusal : Refusal) → refusal ≢ Injected →
+of_unsynced : (sync : Bool) (live : List ℕ) (size number offset : ℕ) (bytes : List ℕ) (kept : Option (PartialWriteMode × Rate)) (refusal : Refusal) → refusal ≢ Injected →
     Refused Unsynced sync live size number offset bytes kept (live_after false live offset bytes (Some refusal)) refusal
 of_unsynced sync live size number offset bytes kept Injected never = absurd (never refl)
 of_unsynced sync live size number offset bytes kept _ never = record { live_left = refl; size_left = refl; entries = refl }
@@ -36,7 +36,7 @@ gone : (live : List ℕ) (rs : List Run) (a b : List ℕ) → first_written live
 gone live [] a b = refl
 gone live (r ∷ rs) a b = refl
 
-of_failed : (chosen : List Bool) (sync : Bool) (live : List ℕ) (size number offset : ℕ) (bytes : List ℕ) (kept : Option (Mode × Rate)) (refusal : Refusal) → refusal ≢ Injected →
+of_failed : (chosen : List Bool) (sync : Bool) (live : List ℕ) (size number offset : ℕ) (bytes : List ℕ) (kept : Option (PartialWriteMode × Rate)) (refusal : Refusal) → refusal ≢ Injected →
     Refused (Failed chosen) sync live size number offset bytes kept (live_of_runs live (runs offset bytes chosen) (Some refusal)) refusal
 of_failed chosen sync live size number offset bytes kept (BlobMissing a b) never = record { live_left = gone live (runs offset bytes chosen) a b; size_left = refl; entries = refl }
 of_failed chosen sync live size number offset bytes kept Injected never = absurd (never refl)

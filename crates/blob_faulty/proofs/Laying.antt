@@ -6,7 +6,7 @@ use Rattle.rand_core.specs.Stream.{Stream}
 use Rattle.blob_model.specs.Bytes.{overlay_by, overlay, resized, written}
 use Rattle.blob_model.specs.Live.{live_written, all_written, is_idle}
 use Rattle.blob_model.specs.Log.{Choices, crashed}
-use Rattle.blob_model.specs.Modes.{Mode}
+use Rattle.blob_model.specs.declared.mode.PartialWriteMode.{PartialWriteMode}
 use Rattle.blob_model.specs.Rates.{Rate, sampled}
 use Rattle.blob_header.specs.Refusals.{Refusal, BlobMissing, Injected}
 use Rattle.blob_model.specs.Runs.{Run, runs, kept_runs, all_laid, picked}
@@ -31,7 +31,7 @@ all_kept : (rs : List Run) (x : List ℕ) (t : Choices) → crashed x (kept_runs
 all_kept [] x t = refl
 all_kept (r ∷ rs) x t = all_kept rs (overlay x r.0 r.1) t
 
-loose_laid : (k : Option (Mode × Rate)) (n o : ℕ) (b : List ℕ) (t : Choices) → LaysSome o b (loose k n o b) t
+loose_laid : (k : Option (PartialWriteMode × Rate)) (n o : ℕ) (b : List ℕ) (t : Choices) → LaysSome o b (loose k n o b) t
 loose_laid k n o [] t = none_laid o [] t
 loose_laid None n o (x ∷ b) t = none_laid o (x ∷ b) t
 loose_laid (Some k) n o (x ∷ b) t = (t n, λ y. refl)
@@ -43,7 +43,7 @@ kept_laid o (x ∷ b) t = (λ _. true, λ y. refl)
 runs_laid : (o : ℕ) (b : List ℕ) (c : List Bool) (t : Choices) → LaysSome o b (kept_runs (runs o b c)) t
 runs_laid o b c t = (picked c, λ x. all_kept (runs o b c) x t ∙ laid_runs o b c x)
 
-by_fate_laid : (fate : WriteFate) (k : Option (Mode × Rate)) (n : ℕ) (sync : Bool) (o : ℕ) (b : List ℕ) (answer : Option Refusal) (t : Choices) → LaysSome o b (recorded_by fate k n sync o b answer) t
+by_fate_laid : (fate : WriteFate) (k : Option (PartialWriteMode × Rate)) (n : ℕ) (sync : Bool) (o : ℕ) (b : List ℕ) (answer : Option Refusal) (t : Choices) → LaysSome o b (recorded_by fate k n sync o b answer) t
 by_fate_laid Done k n true o b None t = kept_laid o b t
 by_fate_laid Done k n false o b None t = loose_laid k n o b t
 by_fate_laid Unsynced k n sync o b (Some Injected) t = loose_laid k n o b t

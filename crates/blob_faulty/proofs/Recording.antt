@@ -4,7 +4,7 @@ use Rattle.std.specs.Prelude.{is_some, MatchBool}
 use Rattle.std.proofs.lemmas.Bool.{false≢true}
 use Rattle.rand_core.specs.Stream.{Stream}
 use Rattle.blob_model.specs.Log.{Kept}
-use Rattle.blob_model.specs.Modes.{Mode}
+use Rattle.blob_model.specs.declared.mode.PartialWriteMode.{PartialWriteMode}
 use Rattle.blob_model.specs.Rates.{Rate}
 use Rattle.blob_header.specs.Refusals.{OffsetOverflow}
 use Rattle.blob_model.specs.Runs.{runs}
@@ -23,7 +23,7 @@ no_numbered true inner e = cc
 no_numbered false inner h = no_fault inner h
 
 module _ (writes : ℕ → List ℕ → Bool → Allowed) (reserves : ℕ → Allowed) (direct : Bool) where
-  by_fate : (t : Bool) (fate : WriteFate) (retained : Bool) (rate : Option (Mode × Rate)) (next at y : ℕ) (ys : List ℕ)
+  by_fate : (t : Bool) (fate : WriteFate) (retained : Bool) (rate : Option (PartialWriteMode × Rate)) (next at y : ℕ) (ys : List ℕ)
       → MatchBool t (None ≡ Some OffsetOverflow) (or_memory (allows_fate fate writes reserves direct retained next true at (y ∷ ys)) None)
       → (if t then [] else recorded_by fate rate next true at (y ∷ ys) None) ≡ Kept at (y ∷ ys) ∷ []
   by_fate true fate retained rate next at y ys h = cc

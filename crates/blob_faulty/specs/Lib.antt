@@ -23,7 +23,6 @@ pub use Rattle.blob_faults.specs.Fates
 pub use Rattle.blob_faults.specs.Faults
 pub use Rattle.blob_faults.specs.Lists
 pub use Rattle.blob_faults.specs.Marks
-pub use Rattle.blob_faults.specs.Modes
 pub use Rattle.blob_faults.specs.Ranges
 pub use Rattle.blob_faults.specs.Recorded
 pub use Rattle.blob_faults.specs.Replays

@@ -10,7 +10,7 @@ use Rattle.blob_header.specs.Refusals.{Refusal, Memory, OffsetOverflow, refusal_
 use Rattle.blob_model.specs.Runs.{runs, AreRunsApart}
 use Rattle.blob_header.specs.declared.error.Error.{Error}
 use Rattle.blob_faults.specs.Answers.{allows_write, allows_fate, allows_resize, injected_for}
-use Rattle.blob_model.specs.Modes.{Mode}
+use Rattle.blob_model.specs.declared.mode.PartialWriteMode.{PartialWriteMode}
 use Rattle.blob_model.specs.Rates.{Rate}
 use Rattle.blob_faults.specs.Faults.{WriteFate, Done, Unsynced, Failed, ResizeFate, Resizes, Stays, Reaches, write_fate, resize_fate, retention, is_uncounted, after_write}
 use Rattle.blob_faults.specs.Recorded.{recorded_by, live_by, size_by, recorded_write, recorded_resize, live_of_write, live_of_resize, size_of_write, size_of_resize}
@@ -126,7 +126,7 @@ unless_either true b x y e = refl
 unless_either false true x y e = refl
 unless_either false false x y e = e
 
-recorded_memory : (fate : WriteFate) (kept : Option (Mode × Rate)) (number : ℕ) (sync : Bool) (offset : ℕ) (bytes : List ℕ) → recorded_by fate kept number sync offset bytes (Some Memory) ≡ []
+recorded_memory : (fate : WriteFate) (kept : Option (PartialWriteMode × Rate)) (number : ℕ) (sync : Bool) (offset : ℕ) (bytes : List ℕ) → recorded_by fate kept number sync offset bytes (Some Memory) ≡ []
 recorded_memory Done kept number true offset bytes = refl
 recorded_memory Done kept number false offset bytes = refl
 recorded_memory Unsynced kept number sync offset bytes = refl

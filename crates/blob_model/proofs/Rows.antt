@@ -7,7 +7,8 @@ use Rattle.blob_model.specs.Draws.{drawn, chosen_by, positions, Row, front, each
 use Rattle.blob_model.specs.Files.{Logged, log_of, all_needs}
 use Rattle.blob_model.specs.Holes.{need_in, dug_by}
 use Rattle.blob_model.specs.Log.{Entry, Kept, Loose, Resized, Write, needs, durable, crashed}
-use Rattle.blob_model.specs.Modes.{Mode, Prefix, Subset, Sectors}
+use Rattle.blob_model.specs.declared.mode.PartialWriteMode.{PartialWriteMode}
+use Rattle.blob_model.specs.declared.mode.PartialWriteMode.TheVariants.{Prefix, Subset, Sectors}
 use Rattle.blob_model.specs.Order.{all_placed, number_of, waiting_of_all}
 use Rattle.blob_model.specs.Pending.{Pending, Waiting, Cut, Again, Marker, laid, finished, replay, waiting}
 use Rattle.blob_model.specs.Places.{Place}
@@ -27,7 +28,7 @@ half = record { numerator = 1; denominator = 2 }
 abbrev one : Rate
 one = record { numerator = 1; denominator = 1 }
 
-abbrev write : ℕ → ℕ → List ℕ → Mode → Rate → Write
+abbrev write : ℕ → ℕ → List ℕ → PartialWriteMode → Rate → Write
 write k o b m r = record { number = k; offset = o; bytes = b; mode = m; rate = r }
 
 -- rows, and what a crash leaves of one file

@@ -1,6 +1,6 @@
 -- The mutations of one file since its base, and what a crash makes of them.
 use Rattle.std.specs.Prelude.{ℕ, zero, suc, ◌+◌, Bool, false, ◌&&◌, ◌||◌, not, List, [], ◌∷◌, length, if◌then◌else◌}
-use Rattle.blob_model.specs.Modes.{Mode}
+use Rattle.blob_model.specs.declared.mode.PartialWriteMode.{PartialWriteMode}
 use Rattle.blob_model.specs.Rates.{Rate}
 use Rattle.blob_model.specs.Bytes.{lies, overlay, overlay_by, resized}
 
@@ -9,7 +9,7 @@ pub record Write : Type 0 where
   pub number : ℕ
   pub offset : ℕ
   pub bytes : List ℕ
-  pub mode : Mode
+  pub mode : PartialWriteMode
   pub rate : Rate
 
 pub data Entry : Type 0 where

@@ -1,5 +1,5 @@
 -- What an accepted open leaves of a name.
-use Rattle.std.specs.Prelude.{◌≡◌, ℕ, List, Option, Some}
+use Rattle.std.specs.Prelude.{◌≡◌, ℕ, List, Some}
 use Rattle.blob_model.specs.Directory.{Directory}
 use Rattle.blob_model.specs.Durable.{Durable}
 use Rattle.blob_model.specs.Places.{Place}

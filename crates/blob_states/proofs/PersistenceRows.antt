@@ -8,7 +8,7 @@ use Rattle.blob_model.specs.Draws.{front}
 use Rattle.blob_model.specs.Rates.{sampled}
 use Rattle.blob_header.specs.Refusals.{Injected}
 use Rattle.blob_faults.specs.declared.config.Config.{Config}
-use Rattle.blob_faults.specs.declared.mode.PartialWriteMode.TheVariants.{Prefix}
+use Rattle.blob_model.specs.declared.mode.PartialWriteMode.TheVariants.{Prefix}
 use Rattle.blob_faults.specs.Recorded.{recorded_write}
 use Rattle.blob_calls.specs.Acts.{Act, Open, OpenLoose, Configure, Close, Through, Read, Write, Resize, Sync, StartSync, Crash, Remove}
 use Rattle.blob_states.specs.After.{after}
