@@ -8,12 +8,14 @@ pub mod Crashing
 pub mod CurrentWrites
 pub mod Exclusives
 pub mod FailedSteps
+pub mod Fated
 pub mod Fating
 pub mod Fronts
 pub mod Keeping
 pub mod Laying
 pub mod Leaving
 pub mod Naming
+pub mod Plainly
 pub mod Pushing
 pub mod Recording
 pub mod Replaying

@@ -12,15 +12,30 @@ use Rattle.blob_faulty.specs.Writes.{FailedBy}
 use Rattle.blob_faulty.specs.Asked.{Unasked, InnerMade, AsksWrite, or_failed, kept_calls}
 use Rattle.blob_faulty.proofs.Asking.{asked_once, faulted, refused_too}
 use Rattle.blob_faulty.proofs.Fronts.{some_refusal}
+use Rattle.blob_faulty.proofs.Fated.{done_synced, done_plain, done_unsynced, done_failed, fault_allowed, refusal_allowed, injected_not_failed}
 use Rattle.blob_faulty.proofs.Fating.{unsynced_refused, failed_refused, runs_uninjected, reserve_uninjected, of_fate}
+use Rattle.blob_faulty.proofs.blob.Blob.write_by_fate.Given.{Over}
 use Rattle.blob_faulty.proofs.blob.Blob.write_by_fate.Goals as goal
+
+-- what the step in the place of a write answered, where the write passes it on
+same_unsynced : (g : Over) (c : goal.After-from_residual g) → refused c.write_plain-in-Unsynced.result ≡ refused c.from_residual.result
+same_unsynced g c = first_of (search rules, cc, grind (arith, common_steps))
+
+some_unsynced : (g : Over) (c : goal.After-from_residual g) → IsSome (refused c.write_plain-in-Unsynced.result)
+some_unsynced g c = first_of (search rules, cc, grind (arith, common_steps))
+
+same_failed : (g : Over) (c : goal.After-drop-kept g) → refused c.lay_kept.result ≡ refused c.from_residual-in_err-lay_kept-in-Failed.result
+same_failed g c = first_of (search rules, cc, grind (arith, common_steps))
+
+some_failed : (g : Over) (c : goal.After-drop-kept g) → IsSome (refused c.lay_kept.result)
+some_failed g c = first_of (search rules, cc, grind (arith, common_steps))
 
 pub returns-in_err-write_plain-in-Unsynced-clause-wrote :
     goal.returns-in_err-write_plain-in-Unsynced-clause-wrote
 returns-in_err-write_plain-in-Unsynced-clause-wrote g c =
     let e = c.in_err-write_plain-in-Unsynced.field-0.0 in
     let same : refused c.from_residual.result ≡ Some (refusal_of e) = first_of (search rules, cc, grind (arith, common_steps)) in
-    let is : refused c.write_plain-in-Unsynced.result ≡ Some (refusal_of e) = first_of (search rules, cc, grind (arith, common_steps)) in
+    let is : refused c.write_plain-in-Unsynced.result ≡ Some (refusal_of e) = same_unsynced g c ∙ same in
     let fate : write_fate_of c.args.fate ≡ Unsynced = ap write_fate_of c.in-Unsynced.is in
     of_fate _ _ _ _ _ _ _ _ _ _ fate same
     (unsynced_refused _ _ _ (is_sync c.args.options) _ _ (lacks_number (is_some (retention c.args.store.now.config.write_rate)) c.args.store.now.next_write c.args.bytes) (g.B.Blob.allows_write c.args.self.now.inner c.args.store.now.inner c.args.offset c.args.bytes false)
@@ -32,7 +47,7 @@ pub returns-in_err-lay_kept-in-Failed-clause-wrote :
 returns-in_err-lay_kept-in-Failed-clause-wrote g c =
     let e = c.in_err-lay_kept-in-Failed.field-0.0 in
     let same : refused c.from_residual-in_err-lay_kept-in-Failed.result ≡ Some (refusal_of e) = first_of (search rules, cc, grind (arith, common_steps)) in
-    let is : refused c.lay_kept.result ≡ Some (refusal_of e) = first_of (search rules, cc, grind (arith, common_steps)) in
+    let is : refused c.lay_kept.result ≡ Some (refusal_of e) = same_failed g c ∙ same in
     let fate : write_fate_of c.args.fate ≡ Failed c.deref.result.now = ap write_fate_of c.in-Failed.is ∙ ap Failed (sym c.deref.ensures.value) in
     of_fate _ _ _ _ _ _ _ _ _ _ fate same
     (failed_refused c.deref.result.now _ _ _ (is_sync c.args.options) _ _ (refused c.lay_kept.result) (refusal_of e) is
@@ -45,8 +60,8 @@ returns-in_err-lay_kept-in-Failed-clause-wrote g c =
 pub returns-then-contains-clause-asked : goal.returns-then-contains-clause-asked
 returns-then-contains-clause-asked g c =
     let r = c.write_synced in
-    let fate : write_fate_of c.args.fate ≡ Done = first_of (search rules, cc, grind (arith, common_steps)) in
-    let sync : is_sync c.args.options ≡ true = first_of (search rules, cc, grind (arith, common_steps)) in
+    let fate : write_fate_of c.args.fate ≡ Done = ap write_fate_of c.in-Done.is in
+    let sync : is_sync c.args.options ≡ true = sym c.contains.ensures ∙ c.if-contains.true in
     subst (λ (f : WriteFate). AsksWrite g.B.Blob c.args.self.now c.args.store.now r.new.self r.new.store f (is_sync c.args.options) c.args.offset c.args.bytes (refused r.result)) (sym fate)
     (subst (λ (s : Bool). AsksWrite g.B.Blob c.args.self.now c.args.store.now r.new.self r.new.store Done s c.args.offset c.args.bytes (refused r.result)) (sym sync)
     (asked_once g.B.Blob c.args.self.now c.args.store.now r.new.self r.new.store (Write c.args.offset c.args.bytes true) _ r.ensures.asked))
@@ -54,8 +69,8 @@ returns-then-contains-clause-asked g c =
 pub returns-else-contains-clause-asked : goal.returns-else-contains-clause-asked
 returns-else-contains-clause-asked g c =
     let r = c.write_plain in
-    let fate : write_fate_of c.args.fate ≡ Done = first_of (search rules, cc, grind (arith, common_steps)) in
-    let sync : is_sync c.args.options ≡ false = first_of (search rules, cc, grind (arith, common_steps)) in
+    let fate : write_fate_of c.args.fate ≡ Done = ap write_fate_of c.in-Done.is in
+    let sync : is_sync c.args.options ≡ false = sym c.contains.ensures ∙ c.if-contains.false in
     subst (λ (f : WriteFate). AsksWrite g.B.Blob c.args.self.now c.args.store.now r.new.self r.new.store f (is_sync c.args.options) c.args.offset c.args.bytes (refused r.result)) (sym fate)
     (subst (λ (s : Bool). AsksWrite g.B.Blob c.args.self.now c.args.store.now r.new.self r.new.store Done s c.args.offset c.args.bytes (refused r.result)) (sym sync)
     (asked_once g.B.Blob c.args.self.now c.args.store.now r.new.self r.new.store (Write c.args.offset c.args.bytes false) _ r.ensures.asked))
@@ -71,8 +86,8 @@ pub returns-in_err-write_plain-in-Unsynced-clause-asked : goal.returns-in_err-wr
 returns-in_err-write_plain-in-Unsynced-clause-asked g c =
     let r = c.write_plain-in-Unsynced in
     let fate : write_fate_of c.args.fate ≡ Unsynced = ap write_fate_of c.in-Unsynced.is in
-    let same : refused r.result ≡ refused c.from_residual.result = first_of (search rules, cc, grind (arith, common_steps)) in
-    let some : IsSome (refused r.result) = first_of (search rules, cc, grind (arith, common_steps)) in
+    let same : refused r.result ≡ refused c.from_residual.result = same_unsynced g c in
+    let some : IsSome (refused r.result) = some_unsynced g c in
     rw fate (subst (λ (a : Option Refusal). Unasked g.B.Blob c.args.self.now c.args.store.now r.new.self r.new.store a ⊎ injected_for (InnerMade g.B.Blob c.args.self.now c.args.store.now r.new.self r.new.store (Write c.args.offset c.args.bytes false ∷ [])) a) same
     (refused_too g.B.Blob c.args.self.now c.args.store.now r.new.self r.new.store (InnerMade g.B.Blob c.args.self.now c.args.store.now r.new.self r.new.store (Write c.args.offset c.args.bytes false ∷ [])) (refused r.result) some
     (asked_once g.B.Blob c.args.self.now c.args.store.now r.new.self r.new.store (Write c.args.offset c.args.bytes false) _ r.ensures.asked)))
@@ -88,22 +103,22 @@ pub returns-in_err-lay_kept-in-Failed-clause-asked : goal.returns-in_err-lay_kep
 returns-in_err-lay_kept-in-Failed-clause-asked g c =
     let r = c.lay_kept in
     let fate : write_fate_of c.args.fate ≡ Failed c.deref.result.now = ap write_fate_of c.in-Failed.is ∙ ap Failed (sym c.deref.ensures.value) in
-    let same : refused r.result ≡ refused c.from_residual-in_err-lay_kept-in-Failed.result = first_of (search rules, cc, grind (arith, common_steps)) in
-    let some : IsSome (refused r.result) = first_of (search rules, cc, grind (arith, common_steps)) in
+    let same : refused r.result ≡ refused c.from_residual-in_err-lay_kept-in-Failed.result = same_failed g c in
+    let some : IsSome (refused r.result) = some_failed g c in
     rw fate (subst (λ (a : Option Refusal). Unasked g.B.Blob c.args.self.now c.args.store.now r.new.self r.new.store a ⊎ injected_for (or_failed (InnerMade g.B.Blob c.args.self.now c.args.store.now r.new.self r.new.store (kept_calls (runs c.args.offset c.args.bytes c.deref.result.now)))) a) same
     (refused_too g.B.Blob c.args.self.now c.args.store.now r.new.self r.new.store (or_failed (InnerMade g.B.Blob c.args.self.now c.args.store.now r.new.self r.new.store (kept_calls (runs c.args.offset c.args.bytes c.deref.result.now)))) (refused r.result) some
     r.ensures.asked))
 
 pub returns-then-contains-clause-failed : goal.returns-then-contains-clause-failed
 returns-then-contains-clause-failed g c is =
-    let fate : write_fate_of c.args.fate ≡ Done = first_of (search rules, cc, grind (arith, common_steps)) in
+    let fate : write_fate_of c.args.fate ≡ Done = ap write_fate_of c.in-Done.is in
     let r = c.write_synced in
     subst (λ (f : WriteFate). FailedBy g.S.Durable g.B.Blob c.args.self.now c.args.store.now r.new.self r.new.store f c.args.offset c.args.bytes) (sym fate)
     (r.ensures.recorded.refused refl (some_refusal _ _ is))
 
 pub returns-else-contains-clause-failed : goal.returns-else-contains-clause-failed
 returns-else-contains-clause-failed g c is =
-    let fate : write_fate_of c.args.fate ≡ Done = first_of (search rules, cc, grind (arith, common_steps)) in
+    let fate : write_fate_of c.args.fate ≡ Done = ap write_fate_of c.in-Done.is in
     let r = c.write_plain in
     subst (λ (f : WriteFate). FailedBy g.S.Durable g.B.Blob c.args.self.now c.args.store.now r.new.self r.new.store f c.args.offset c.args.bytes) (sym fate)
     (r.ensures.recorded.refused refl (some_refusal _ _ is))
@@ -112,7 +127,7 @@ pub returns-in_err-write_plain-in-Unsynced-clause-failed : goal.returns-in_err-w
 returns-in_err-write_plain-in-Unsynced-clause-failed g c is =
     let r = c.write_plain-in-Unsynced in
     let fate : write_fate_of c.args.fate ≡ Unsynced = ap write_fate_of c.in-Unsynced.is in
-    let same : refused r.result ≡ refused c.from_residual.result = first_of (search rules, cc, grind (arith, common_steps)) in
+    let same : refused r.result ≡ refused c.from_residual.result = same_unsynced g c in
     subst (λ (f : WriteFate). FailedBy g.S.Durable g.B.Blob c.args.self.now c.args.store.now r.new.self r.new.store f c.args.offset c.args.bytes) (sym fate)
     (r.ensures.recorded.refused refl (some_refusal (refused r.result) _ (same ∙ is)))
 
@@ -120,5 +135,62 @@ pub returns-in_err-lay_kept-in-Failed-clause-failed : goal.returns-in_err-lay_ke
 returns-in_err-lay_kept-in-Failed-clause-failed g c is =
     let r = c.lay_kept in
     let fate : write_fate_of c.args.fate ≡ Failed c.deref.result.now = ap write_fate_of c.in-Failed.is ∙ ap Failed (sym c.deref.ensures.value) in
-    let same : refused r.result ≡ refused c.from_residual-in_err-lay_kept-in-Failed.result = first_of (search rules, cc, grind (arith, common_steps)) in
+    let same : refused r.result ≡ refused c.from_residual-in_err-lay_kept-in-Failed.result = same_failed g c in
     subst (λ (f : WriteFate). FailedBy g.S.Durable g.B.Blob c.args.self.now c.args.store.now r.new.self r.new.store f c.args.offset c.args.bytes) (sym fate) (r.ensures.front (same ∙ is))
+
+-- What was done is recorded by the fate.
+
+pub returns-then-contains-clause-wrote : goal.returns-then-contains-clause-wrote
+returns-then-contains-clause-wrote g c =
+    done_synced _ _ _ _ _ _ _ _ (ap write_fate_of c.in-Done.is) (sym c.contains.ensures ∙ c.if-contains.true) (c.requires.some (sym c.contains.ensures ∙ c.if-contains.true)) c.write_synced.ensures.recorded
+
+pub returns-else-contains-clause-wrote : goal.returns-else-contains-clause-wrote
+returns-else-contains-clause-wrote g c = done_plain _ _ _ _ _ _ _ _ (ap write_fate_of c.in-Done.is) (sym c.contains.ensures ∙ c.if-contains.false) c.write_plain.ensures.recorded
+
+pub returns-in_ok-write_plain-in-Unsynced-clause-wrote : goal.returns-in_ok-write_plain-in-Unsynced-clause-wrote
+returns-in_ok-write_plain-in-Unsynced-clause-wrote g c = of_fate _ _ _ _ _ _ _ _ _ _ (ap write_fate_of c.in-Unsynced.is) refl (done_unsynced _ _ _ _ _ _ c.in_ok-write_plain-in-Unsynced.ensures.recorded)
+
+pub returns-in_ok-lay_kept-in-Failed-clause-wrote : goal.returns-in_ok-lay_kept-in-Failed-clause-wrote
+returns-in_ok-lay_kept-in-Failed-clause-wrote g c =
+    of_fate _ _ _ _ _ _ _ _ _ _ (ap write_fate_of c.in-Failed.is ∙ ap Failed (sym c.deref.ensures.value)) refl (done_failed c.deref.result.now _ _ _ _ _ _ c.in_ok-lay_kept-in-Failed.ensures.recorded)
+
+pub returns-in_ok-write_plain-in-Unsynced-clause-failed : goal.returns-in_ok-write_plain-in-Unsynced-clause-failed
+returns-in_ok-write_plain-in-Unsynced-clause-failed g c is = injected_not_failed is
+
+pub returns-in_ok-lay_kept-in-Failed-clause-failed : goal.returns-in_ok-lay_kept-in-Failed-clause-failed
+returns-in_ok-lay_kept-in-Failed-clause-failed g c is = injected_not_failed is
+
+-- And is answered as the fate allows.
+
+pub returns-then-contains-clause-allowed : goal.returns-then-contains-clause-allowed
+returns-then-contains-clause-allowed g c =
+    let fate : write_fate_of c.args.fate ≡ Done = ap write_fate_of c.in-Done.is in
+    let sync : is_sync c.args.options ≡ true = sym c.contains.ensures ∙ c.if-contains.true in
+    rw fate (rw sync c.write_synced.ensures.allowed)
+
+pub returns-else-contains-clause-allowed : goal.returns-else-contains-clause-allowed
+returns-else-contains-clause-allowed g c =
+    let fate : write_fate_of c.args.fate ≡ Done = ap write_fate_of c.in-Done.is in
+    let sync : is_sync c.args.options ≡ false = sym c.contains.ensures ∙ c.if-contains.false in
+    rw fate (rw sync c.write_plain.ensures.allowed)
+
+pub returns-in_ok-write_plain-in-Unsynced-clause-allowed : goal.returns-in_ok-write_plain-in-Unsynced-clause-allowed
+returns-in_ok-write_plain-in-Unsynced-clause-allowed g c = rw (ap write_fate_of c.in-Unsynced.is) (fault_allowed _ _ c.in_ok-write_plain-in-Unsynced.ensures.allowed)
+
+pub returns-in_err-write_plain-in-Unsynced-clause-allowed : goal.returns-in_err-write_plain-in-Unsynced-clause-allowed
+returns-in_err-write_plain-in-Unsynced-clause-allowed g c =
+    let same : refused c.write_plain-in-Unsynced.result ≡ refused c.from_residual.result = same_unsynced g c in
+    let some : IsSome (refused c.write_plain-in-Unsynced.result) = some_unsynced g c in
+    let fate : write_fate_of c.args.fate ≡ Unsynced = ap write_fate_of c.in-Unsynced.is in
+    rw fate (rw (sym same) (refusal_allowed _ _ _ some c.write_plain-in-Unsynced.ensures.allowed))
+
+pub returns-in_ok-lay_kept-in-Failed-clause-allowed : goal.returns-in_ok-lay_kept-in-Failed-clause-allowed
+returns-in_ok-lay_kept-in-Failed-clause-allowed g c =
+    let fate : write_fate_of c.args.fate ≡ Failed c.deref.result.now = ap write_fate_of c.in-Failed.is ∙ ap Failed (sym c.deref.ensures.value) in
+    rw fate (fault_allowed false (allows_runs (g.B.Blob.allows_write c.args.self.now.inner c.args.store.now.inner) (g.B.Blob.allows_reserve c.args.self.now.inner c.args.store.now.inner) g.B.Blob.is_direct (runs c.args.offset c.args.bytes c.deref.result.now)) c.in_ok-lay_kept-in-Failed.ensures.allowed)
+
+pub returns-in_err-lay_kept-in-Failed-clause-allowed : goal.returns-in_err-lay_kept-in-Failed-clause-allowed
+returns-in_err-lay_kept-in-Failed-clause-allowed g c =
+    let same : refused c.lay_kept.result ≡ refused c.from_residual-in_err-lay_kept-in-Failed.result = same_failed g c in
+    let fate : write_fate_of c.args.fate ≡ Failed c.deref.result.now = ap write_fate_of c.in-Failed.is ∙ ap Failed (sym c.deref.ensures.value) in
+    rw fate (rw (sym same) (refusal_allowed false (allows_runs (g.B.Blob.allows_write c.args.self.now.inner c.args.store.now.inner) (g.B.Blob.allows_reserve c.args.self.now.inner c.args.store.now.inner) g.B.Blob.is_direct (runs c.args.offset c.args.bytes c.deref.result.now)) _ (some_failed g c) c.lay_kept.ensures.allowed))

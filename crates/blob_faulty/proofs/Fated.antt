@@ -1,0 +1,111 @@
+-- What a write leaves that is done by the fate that was drawn for it, and what it may then be answered.
+use Rattle.std.proofs.Common.{◌≡◌, ◌≢◌, ℕ, Bool, true, false, List, [], ◌∷◌, Option, Some, None, inl, inr, refl, sym, subst}
+use Rattle.std.specs.Prelude.{IsSome}
+use Rattle.blob_header.specs.Refusals.{Refusal, Injected, WriteFailed}
+use Rattle.blob_model.specs.Runs.{runs}
+use Rattle.blob_faults.specs.Answers.{Allowed, or_memory, numbered, injected_for}
+use Rattle.blob_faults.specs.Faults.{WriteFate, Done, Unsynced, Failed}
+use Rattle.blob_faulty.specs.Writes.{View, Recorded, WroteBy, plain, laid_runs}
+use Rattle.blob_faulty.proofs.Fating.{done_plainly}
+use Rattle.blob_faulty.proofs.Writing.{same_logs}
+
+synced : {R : Type 0} (direct : Bool) (old new : View R) (offset : ℕ) (bytes : List ℕ) (answer : Option Refusal) → bytes ≢ [] → Recorded direct true old new (laid_runs ((offset, bytes) ∷ [])) answer → WroteBy Done direct old new true offset bytes answer
+synced direct old new offset [] answer some w = absurd (some refl)
+synced direct old new offset (b ∷ bytes) None some w = record {
+  done = λ ok. w.wrote.done refl;
+  live = λ d. (w.wrote.done refl).live;
+  size = λ d. (w.wrote.done refl).size;
+  logs = λ d. w.done refl;
+  recorded = λ ok. w.done refl;
+  undone = λ is some. absurd (cc);
+  unrecorded = λ some. absurd (cc);
+  injected = λ is. absurd (cc);
+  memory = λ m. absurd (cc);
+  stale = w.wrote.stale;
+  directory = w.wrote.directory;
+  place = w.wrote.place;
+  config = w.config;
+  rng = w.rng;
+}
+synced direct old new offset (b ∷ bytes) (Some refusal) some w = record {
+  done = λ ok. absurd (cc);
+  live = λ d. (w.wrote.refused d refl).live;
+  size = λ d. (w.wrote.refused d refl).size;
+  logs = λ d. same_logs old new w.wrote.directory (w.wrote.refused d refl).durable (w.refused refl refl);
+  recorded = λ ok. absurd (cc);
+  undone = λ is some. w.refused refl refl;
+  unrecorded = λ some uninjected early. w.refused refl refl;
+  injected = λ is. inl (w.refused refl refl);
+  memory = w.wrote.memory;
+  stale = w.wrote.stale;
+  directory = w.wrote.directory;
+  place = w.wrote.place;
+  config = w.config;
+  rng = w.rng;
+}
+
+module _ {R : Type 0} (fate : WriteFate) (direct : Bool) (old new : View R) (sync : Bool) (offset : ℕ) (bytes : List ℕ) (answer : Option Refusal) where
+  -- a SYNC write that no draw fails
+  pub done_synced : fate ≡ Done → sync ≡ true → bytes ≢ [] → Recorded direct true old new (laid_runs ((offset, bytes) ∷ [])) answer → WroteBy fate direct old new sync offset bytes answer
+  done_synced f s some w =
+      subst (λ (x : WriteFate). WroteBy x direct old new sync offset bytes answer) (sym f)
+      (subst (λ (x : Bool). WroteBy Done direct old new x offset bytes answer) (sym s) (synced direct old new offset bytes answer some w))
+
+  -- and another
+  pub done_plain : fate ≡ Done → sync ≡ false → Recorded direct true old new (plain offset bytes) answer → WroteBy fate direct old new sync offset bytes answer
+  done_plain f s w =
+      subst (λ (x : WriteFate). WroteBy x direct old new sync offset bytes answer) (sym f)
+      (subst (λ (x : Bool). WroteBy Done direct old new x offset bytes answer) (sym s) (done_plainly direct old new offset bytes answer w))
+
+-- a write whose sync failed
+pub done_unsynced : {R : Type 0} (direct : Bool) (old new : View R) (sync : Bool) (offset : ℕ) (bytes : List ℕ) → Recorded direct true old new (plain offset bytes) None → WroteBy Unsynced direct old new sync offset bytes (Some Injected)
+done_unsynced direct old new sync offset bytes w = record {
+  done = λ ok. absurd (cc);
+  live = λ d. (w.wrote.done refl).live;
+  size = λ d. (w.wrote.done refl).size;
+  logs = λ d. w.done refl;
+  recorded = λ ok. absurd (cc);
+  undone = λ is. absurd (cc);
+  unrecorded = λ some uninjected. absurd (uninjected refl);
+  injected = λ is. inr (w.done refl);
+  memory = λ m. absurd (cc);
+  stale = w.wrote.stale;
+  directory = w.wrote.directory;
+  place = w.wrote.place;
+  config = w.config;
+  rng = w.rng;
+}
+
+-- a failed one, of which some bytes are kept
+pub done_failed : {R : Type 0} (chosen : List Bool) (direct : Bool) (old new : View R) (sync : Bool) (offset : ℕ) (bytes : List ℕ) → Recorded direct direct old new (laid_runs (runs offset bytes chosen)) None →
+    WroteBy (Failed chosen) direct old new sync offset bytes (Some Injected)
+done_failed chosen direct old new sync offset bytes w = record {
+  done = λ ok. absurd (cc);
+  live = λ d. (w.wrote.done refl).live;
+  size = λ d. (w.wrote.done refl).size;
+  logs = λ d. w.done refl;
+  recorded = λ ok. absurd (cc);
+  undone = λ is. absurd (cc);
+  unrecorded = λ some uninjected. absurd (uninjected refl);
+  injected = λ is. inr (w.done refl);
+  memory = λ m. absurd (cc);
+  stale = w.wrote.stale;
+  directory = w.wrote.directory;
+  place = w.wrote.place;
+  config = w.config;
+  rng = w.rng;
+}
+
+-- a fault in place of Ok, and a refusal that stays
+pub fault_allowed : (lacks : Bool) (inner : Allowed) → or_memory (numbered lacks inner) None → or_memory (numbered lacks (injected_for inner)) (Some Injected)
+fault_allowed lacks inner (inl memory) = absurd (cc)
+fault_allowed true inner (inr e) = absurd (cc)
+fault_allowed false inner (inr h) = inr (inl (refl, h))
+
+pub refusal_allowed : (lacks : Bool) (inner : Allowed) (answer : Option Refusal) → IsSome answer → or_memory (numbered lacks inner) answer → or_memory (numbered lacks (injected_for inner)) answer
+refusal_allowed lacks inner answer some (inl memory) = inl memory
+refusal_allowed true inner answer some (inr e) = inr e
+refusal_allowed false inner answer some (inr h) = inr (inr (some, h))
+
+pub injected_not_failed : {P : Type 0} → Some Injected ≡ Some WriteFailed → P
+injected_not_failed is = absurd (cc)
