@@ -1,5 +1,6 @@
 -- What a plain write leaves: of one that isn't recorded, and of one that is refused or recorded behind room for its entry.
-use Rattle.std.proofs.Common.{◌≡◌, ◌≢◌, ℕ, ◌+◌, max, Bool, true, false, List, [], ◌∷◌, length, Option, Some, None, refl, sym, ◌∙◌, ap, ap₂, subst}
+use Rattle.std.proofs.Common.{◌≡◌, ◌≢◌, ℕ, ◌+◌, max, Bool, true, false, List, [], ◌∷◌, length, Option, Some, None, refl, sym, ◌∙◌, ap, ap₂, subst, ◌<◌, ◌++◌, arith, inr, ◌-◌, ◌^◌}
+use Rattle.std.proofs.lemmas.Bool.{ne_eqb}
 use Rattle.std.specs.Prelude.{Result, Ok, Err, OnErr, IsSome}
 use Rattle.blob_base.specs.declared.storage.Durable as stores
 use Rattle.blob_base.specs.declared.storage.Blob as handles
@@ -7,16 +8,25 @@ use Rattle.blob_header.specs.Refusals.{Refusal, Memory, WriteFailed, refused}
 use Rattle.blob_header.specs.declared.error.Error.{Error}
 use Rattle.blob_model.specs.Directory.{is_current}
 use Rattle.blob_model.specs.Live.{live_after}
-use Rattle.blob_model.specs.Log.{Entry}
+use Rattle.blob_model.specs.Durable.{with_at}
+use Rattle.blob_model.specs.Log.{Entry, Loose, Write, need_of}
 use Rattle.blob_model.specs.Order.{held_at}
+use Rattle.blob_model.specs.declared.mode.PartialWriteMode.{PartialWriteMode}
+use Rattle.blob_model.specs.Rates.{Rate}
+use Rattle.blob_model.specs.Pending.{Waiting}
 use Rattle.blob_model.specs.Places.{Place}
-use Rattle.blob_faults.specs.Faults.{retention}
-use Rattle.blob_faults.specs.Lists.{SameLists}
+use Rattle.blob_faults.specs.declared.config.WriteConfig.{WriteConfig}
+use Rattle.blob_faults.specs.Answers.{Allowed, lacks_number, numbered, or_memory}
+use Rattle.blob_faults.specs.Faults.{issued, retention}
+use Rattle.blob_faults.specs.Lists.{IsAt, SameLists, held, list_of}
 use Rattle.blob_faults.specs.Recorded.{loose}
 use Rattle.blob_faulty.specs.declared.blob.Blob.{Blob}
 use Rattle.blob_faulty.specs.declared.storage.Storage.{Storage}
+use Rattle.blob_faulty.specs.Wrapper.{GainsWrite, pending_of}
 use Rattle.blob_faulty.specs.Writes.{View, Effect, HasBytes, Logs, Recorded, SameRecords, Unchanged, Wrote, plain, seen, unrecorded}
-use Rattle.blob_faulty.proofs.Writing.{same_logs}
+use Rattle.blob_faulty.proofs.Adding.{loose_some}
+use Rattle.blob_faulty.proofs.RoomSteps.{pushed_at}
+use Rattle.blob_faulty.proofs.Writing.{same_logs, loose_logs}
 
 -- what is seen beside the inner store and the size stayed
 pub record SameRest {R : Type 0} (old new : View R) : Type 0 where
@@ -57,6 +67,10 @@ nothing_changed old = record {
   config = refl;
   rng = refl;
 }
+
+-- not even the inner store is another
+pub unmoved : {S R O : Type 0} (m d : Storage S R O) → d ≡ m → d ≡ record m { inner = d.inner }
+unmoved {S} {R} {O} m d e = e ∙ ap (λ (x : Storage S R O). record m { inner = x.inner }) (sym e)
 
 -- refused before the inner store was asked
 pub unasked : {R : Type 0} (direct whole : Bool) (old new : View R) (effect : View R → Effect) (answer : Option Refusal) → IsSome answer → (effect old).live answer ≡ old.live → Unchanged old new → Recorded direct whole old new effect answer
@@ -107,3 +121,98 @@ unrecorded_plain {R} {T} direct sync old new offset bytes result is none w size 
       rng = rest.rng;
     }
 
+
+-- Behind room for its entry: `m` has the room, `d` is what the inner blob made of it.
+module _ {S R O B : Type 0} (store : stores.Ghosts S O) (handle : handles.Ghosts B S O) (b c : Blob B) (w m d : Storage S R O) (offset : ℕ) (bytes : List ℕ) where
+  -- refused by the inner blob
+  pub refused_behind : (sync : Bool) (answer : Option Refusal) → sync ≡ false → IsSome answer → Unchanged (seen store handle b w) (seen store handle b m) → SameRest (seen store handle b m) (seen store handle c d) → c.size ≡ b.size →
+      Wrote handle.is_direct (seen store handle b m) (seen store handle c d) (unrecorded sync offset bytes) answer → Recorded handle.is_direct true (seen store handle b w) (seen store handle c d) (plain offset bytes) answer
+  refused_behind sync None is some u rest size wrote = absurd (cc)
+  refused_behind true (Some refusal) is some u rest size wrote = absurd (cc)
+  refused_behind false (Some refusal) is some u rest size wrote = record {
+    wrote = record {
+      done = λ ok. absurd (cc);
+      refused = λ direct r. let x = wrote.refused direct r in record { live = x.live; durable = x.durable ∙ u.bytes.durable; size = x.size };
+      memory = λ is. let x = wrote.memory is in record { live = x.live; durable = x.durable ∙ u.bytes.durable; size = x.size };
+      stale = λ gone. wrote.stale (ap₂ is_current u.directory u.place ∙ gone) ∙ u.bytes.durable;
+      directory = wrote.directory ∙ u.directory;
+      place = wrote.place;
+    };
+    done = λ ok. absurd (cc);
+    refused = λ whole r. same;
+    undone = λ r never. same;
+    config = rest.config ∙ u.config;
+    rng = rest.rng ∙ u.rng;
+  }
+    where
+      same : SameRecords (seen store handle b w) (seen store handle c d)
+      same = record { size = size; pending = λ o. rest.pending o ∙ u.records.pending o; next_write = rest.next_write ∙ u.records.next_write; next_marker = rest.next_marker ∙ u.records.next_marker }
+
+  -- done, and recorded in that room
+  pub pushed : (n : Storage S R O) (sync : Bool) (list : ℕ) (config : WriteConfig) → sync ≡ false → 0 < length bytes → retention w.config.write_rate ≡ Some (config.mode, config.retention_rate) →
+      m ≡ record w { lists = m.lists } → SameLists store.place w.lists.all.lists.items m.lists.all.lists.items → IsAt (held store.place m.lists.all.lists.items) list (handle.place b.inner) →
+      d ≡ record m { inner = d.inner } → Wrote handle.is_direct (seen store handle b m) (seen store handle c d) (unrecorded sync offset bytes) None →
+      GainsWrite store.place d n list offset bytes config → n ≡ record d { lists = n.lists; next_write = d.next_write + 1 } → Recorded handle.is_direct true (seen store handle b w) (seen store handle c n) (plain offset bytes) None
+  pushed n true list config is some retained room same at rest wrote gains last = absurd (cc)
+  pushed n false list config is some retained room same at rest wrote gains last = record {
+    wrote = record {
+      done = λ ok. record { live = x.live; durable = durable; size = x.size };
+      refused = λ direct r. absurd (cc);
+      memory = λ memory. absurd (cc);
+      stale = λ gone. durable;
+      directory = directory;
+      place = wrote.place;
+    };
+    done = λ ok. subst (λ (es : List Entry). Logs (seen store handle b w) (seen store handle c n) es) (sym entries)
+        (loose_logs (seen store handle b w) (seen store handle c n) write some refl directory durable lists
+        (ap (λ (s : Storage S R O). s.next_write) last ∙ ap (λ (k : ℕ). k + 1) number)
+        (ap (λ (s : Storage S R O). s.next_marker) last ∙ ap (λ (s : Storage S R O). s.next_marker) rest ∙ ap (λ (s : Storage S R O). s.next_marker) room));
+    refused = λ whole r. absurd (cc);
+    undone = λ r. absurd (cc);
+    config = ap (λ (s : Storage S R O). s.config) last ∙ ap (λ (s : Storage S R O). s.config) rest ∙ ap (λ (s : Storage S R O). s.config) room;
+    rng = ap (λ (s : Storage S R O). s.rng) last ∙ ap (λ (s : Storage S R O). s.rng) rest ∙ ap (λ (s : Storage S R O). s.rng) room;
+  }
+    where
+      x : HasBytes (seen store handle c d) (live_after false (handle.live b.inner) offset bytes None) (store.durable m.inner) (max b.size (offset + length bytes))
+      x = wrote.done refl
+
+      durable : store.durable n.inner ≡ store.durable w.inner
+      durable = ap (λ (s : Storage S R O). store.durable s.inner) last ∙ x.durable ∙ ap (λ (s : Storage S R O). store.durable s.inner) room
+
+      directory : store.directory n.inner ≡ store.directory w.inner
+      directory = ap (λ (s : Storage S R O). store.directory s.inner) last ∙ wrote.directory ∙ ap (λ (s : Storage S R O). store.directory s.inner) room
+
+      number : d.next_write ≡ w.next_write
+      number = ap (λ (s : Storage S R O). s.next_write) rest ∙ ap (λ (s : Storage S R O). s.next_write) room
+
+      write : Write
+      write = issued w.next_write offset bytes config
+
+      entries : loose (retention w.config.write_rate) w.next_write offset bytes ≡ Loose write ∷ []
+      entries = ap (λ (k : Option (PartialWriteMode × Rate)). loose k w.next_write offset bytes) retained ∙ loose_some (config.mode, config.retention_rate) w.next_write offset bytes some
+
+      lists : (a : Place) → list_of store.place n.lists.all.lists.items a ≡ with_at (pending_of store.place w) (handle.place b.inner) (pending_of store.place w (handle.place b.inner) ++ Waiting (need_of write []) ∷ []) a
+      lists = subst (λ (k : ℕ). (a : Place) → list_of store.place n.lists.all.lists.items a ≡ with_at (pending_of store.place w) (handle.place b.inner) (pending_of store.place w (handle.place b.inner) ++ Waiting (need_of (issued k offset bytes config) []) ∷ []) a) number
+          (pushed_at store.place w m d d.inner n.lists list (handle.place b.inner) (Waiting (need_of (issued d.next_write offset bytes config) [])) same at rest gains)
+
+-- What it may be answered.
+
+pub has_number : (retained : Bool) (next : ℕ) (bytes : List ℕ) → (next ≡ 2 ^ 64 - 1 → ⊥) → lacks_number retained next bytes ≡ false
+has_number retained next [] left = refl
+has_number false next (x ∷ bytes) left = refl
+has_number true next (x ∷ bytes) left = ne_eqb next (2 ^ 64 - 1) left
+
+pub with_number : (lacks : Bool) (inner : Allowed) (answer : Option Refusal) → lacks ≡ false → inner answer → or_memory (numbered lacks inner) answer
+with_number true inner answer is h = absurd (cc)
+with_number false inner answer is h = inr h
+
+-- Nothing is loose without retention, nor of no byte.
+
+pub unretained : (kept : Option (PartialWriteMode × Rate)) (n o : ℕ) (b : List ℕ) → kept ≡ None → loose kept n o b ≡ []
+unretained kept n o [] e = refl
+unretained None n o (x ∷ b) e = refl
+unretained (Some k) n o (x ∷ b) e = absurd (cc)
+
+pub no_byte : (kept : Option (PartialWriteMode × Rate)) (n o : ℕ) (b : List ℕ) → b ≡ [] → loose kept n o b ≡ []
+no_byte kept n o [] e = refl
+no_byte kept n o (x ∷ b) e = absurd (cc)

@@ -1,4 +1,6 @@
-use Rattle.std.proofs.Common.{rules, ◌≡◌, ◌<◌, ◌++◌, ◌∷◌, [], length, arith, refl}
+use Rattle.std.proofs.Common.{rules, ◌≡◌, ◌<◌, [], length, arith, refl, sym, subst, List, ℕ}
+use Rattle.std.specs.Prelude.{IsSome, None, Some}
+use Rattle.blob_header.specs.Refusals.{refused}
 use Rattle.std.proofs.lemmas.Grind.{common_steps}
 use Rattle.blob_model.specs.Durable.{with_at}
 use Rattle.blob_model.specs.Log.{need_of, Loose}
@@ -8,24 +10,50 @@ use Rattle.blob_model.specs.Places.{Place}
 use Rattle.blob_faults.specs.Faults.{issued, retention}
 use Rattle.blob_faults.specs.Recorded.{loose}
 use Rattle.blob_faulty.specs.Writes.{View, Logs, seen}
-use Rattle.blob_faulty.proofs.Adding.{loose_some}
-use Rattle.blob_faulty.proofs.Writing.{loose_logs}
+use Rattle.blob_faulty.specs.Wrapper.{GainsWrite}
+use Rattle.blob_faulty.proofs.Plainly.{nothing_changed, no_byte, pushed, refused_behind, relisted, same_rest, unasked, unrecorded_plain, unretained, unwritten}
 use Rattle.blob_faulty.proofs.blob.Blob.write_plain.Goals as goal
 
 pub returns-clause-recorded : goal.returns-clause-recorded
 returns-clause-recorded g c =
-    let old : View g.row.R.Denot = seen g.S.Durable g.B.Blob c.args.self.now c.args.store.now in
-    let new : View g.row.R.Denot = seen g.S.Durable g.B.Blob c.write_unrecorded-2.new.self c.record_write.new.self in
-    let write = issued c.args.store.now.next_write c.args.offset c.args.bytes c.in-Some.config in
     let some : 0 < length c.args.bytes = first_of (search rules, grind (arith, common_steps)) in
-    let lists : (a : Place) → held_at new.held a ≡ with_at (held_at old.held) old.place (held_at old.held old.place ++ Waiting (need_of write []) ∷ []) a = first_of (search rules, grind (arith, common_steps)) in
-    let entries : loose (retention old.config.write_rate) old.next_write c.args.offset c.args.bytes ≡ Loose write ∷ [] = first_of (search rules, grind (arith, common_steps, loose_some)) in
-    let logs : Logs old new (Loose write ∷ []) = loose_logs old new write some refl (first_of (search rules, cc)) (first_of (search rules, cc)) lists (first_of (search rules, cc)) (first_of (search rules, cc)) in
-    record {
-      wrote = search rules;
-      done = λ ok. rw entries logs;
-      refused = search rules;
-      undone = search rules;
-      config = search rules;
-      rng = search rules;
-    }
+    let retained : retention c.args.store.now.config.write_rate ≡ Some (c.in-Some.config.mode, c.in-Some.config.retention_rate) = first_of (search rules, cc) in
+    pushed g.S.Durable g.B.Blob c.args.self.now c.write_unrecorded-2.new.self c.args.store.now c.room_for.new.store c.write_unrecorded-2.new.store c.args.offset c.args.bytes c.record_write.new.self _ c.in_ok-list.list c.in-Some.config
+    c.requires.plain some retained c.room_for.ensures.rest c.room_for.ensures.same c.in_ok-list.ensures.ok.at c.write_unrecorded-2.ensures.rest c.in_ok-write_unrecorded.ensures.wrote
+    (subst (λ (b : List ℕ). GainsWrite g.S.Durable.place c.write_unrecorded-2.new.store c.record_write.new.self c.in_ok-list.list c.args.offset b c.in-Some.config) c.in_ok-copy.ensures.ok c.record_write.ensures.lists) c.record_write.ensures.rest
+
+pub returns-in_err-write_unrecorded-clause-recorded : goal.returns-in_err-write_unrecorded-clause-recorded
+returns-in_err-write_unrecorded-clause-recorded g c =
+    let r = c.write_unrecorded-2 in
+    let same : refused r.result ≡ refused c.from_residual-in_err-write_unrecorded.result = first_of (search rules, cc, grind (arith, common_steps)) in
+    let some : IsSome (refused r.result) = first_of (search rules, cc, grind (arith, common_steps)) in
+    rw (sym same) (refused_behind g.S.Durable g.B.Blob c.args.self.now r.new.self c.args.store.now c.room_for.new.store r.new.store c.args.offset c.args.bytes _ (refused r.result) c.requires.plain some
+    (relisted g.S.Durable g.B.Blob c.args.self.now c.args.self.now c.args.store.now c.room_for.new.store refl refl c.room_for.ensures.rest c.room_for.ensures.same) (same_rest g.S.Durable g.B.Blob c.args.self.now r.new.self c.room_for.new.store r.new.store r.ensures.rest) (first_of (search rules, cc)) r.ensures.wrote)
+
+-- Where nothing is to be recorded.
+
+pub returns-in_default-clause-recorded : goal.returns-in_default-clause-recorded
+returns-in_default-clause-recorded g c =
+    let none : retention c.args.store.now.config.write_rate ≡ None = first_of (search rules, cc) in
+    unrecorded_plain _ _ _ _ _ _ c.write_unrecorded.result c.requires.plain (unretained _ _ c.args.offset c.args.bytes none) c.write_unrecorded.ensures.wrote c.write_unrecorded.ensures.untracked (same_rest g.S.Durable g.B.Blob c.args.self.now c.write_unrecorded.new.self c.args.store.now c.write_unrecorded.new.store c.write_unrecorded.ensures.rest)
+
+pub returns-then-is_empty-clause-recorded : goal.returns-then-is_empty-clause-recorded
+returns-then-is_empty-clause-recorded g c =
+    let r = c.write_unrecorded-then-is_empty in
+    let none : c.args.bytes ≡ [] = first_of (search rules, cc) in
+    unrecorded_plain _ _ _ _ _ _ r.result c.requires.plain (no_byte _ _ c.args.offset c.args.bytes none) r.ensures.wrote r.ensures.untracked (same_rest g.S.Durable g.B.Blob c.args.self.now r.new.self c.args.store.now r.new.store r.ensures.rest)
+
+-- Refused.
+
+pub returns-then-store-clause-recorded : goal.returns-then-store-clause-recorded
+returns-then-store-clause-recorded g c = unasked _ _ _ _ _ _ refl refl (nothing_changed _)
+
+pub returns-in_err-copy-clause-recorded : goal.returns-in_err-copy-clause-recorded
+returns-in_err-copy-clause-recorded g c =
+    let some : IsSome (refused c.from_residual.result) = first_of (search rules, grind (arith, common_steps)) in
+    unasked _ _ _ _ _ _ some (unwritten _ _ _ _ some) (nothing_changed _)
+
+pub returns-in_err-list-clause-recorded : goal.returns-in_err-list-clause-recorded
+returns-in_err-list-clause-recorded g c =
+    let some : IsSome (refused c.from_residual-in_err-list.result) = first_of (search rules, grind (arith, common_steps)) in
+    unasked _ _ _ _ _ _ some (unwritten _ _ _ _ some) (relisted g.S.Durable g.B.Blob c.args.self.now c.args.self.now c.args.store.now c.room_for.new.store refl refl c.room_for.ensures.rest c.room_for.ensures.same)
