@@ -19,6 +19,7 @@ pub mod Plainly
 pub mod Pushing
 pub mod Recording
 pub mod Replaying
+pub mod Resizing
 pub mod RoomSteps
 pub mod RunRoom
 pub mod RunSteps
