@@ -37,3 +37,8 @@ pub runs_of_none : (o : ℕ) (b : List ℕ) (chosen : List Bool) → length chos
 runs_of_none o [] chosen e = refl
 runs_of_none o (x ∷ b) [] e = refl
 runs_of_none o (x ∷ b) (t ∷ chosen) e = absurd (omega (arith, e))
+
+-- no piece, no run
+pub no_runs_in : (ps : List Piece) (rs : List Run) → length ps ≡ 0 → runs_in ps ≡ rs → rs ≡ []
+no_runs_in [] rs e is = sym is
+no_runs_in (p ∷ ps) rs e is = absurd (omega (arith, e))

@@ -1,9 +1,10 @@
 -- What a write leaves that is done by the fate that was drawn for it, and what it may then be answered.
 use Rattle.std.proofs.Common.{◌≡◌, ◌≢◌, ℕ, Bool, true, false, List, [], ◌∷◌, Option, Some, None, inl, inr, refl, sym, subst}
-use Rattle.std.specs.Prelude.{IsSome}
-use Rattle.blob_header.specs.Refusals.{Refusal, Injected, WriteFailed}
-use Rattle.blob_model.specs.Runs.{runs}
-use Rattle.blob_faults.specs.Answers.{Allowed, or_memory, numbered, injected_for}
+use Rattle.std.specs.Prelude.{Result, Ok, Err, OnErr, IsSome}
+use Rattle.blob_header.specs.Refusals.{Refusal, Injected, WriteFailed, refused}
+use Rattle.blob_header.specs.declared.error.Error.{Error}
+use Rattle.blob_model.specs.Runs.{Run, runs}
+use Rattle.blob_faults.specs.Answers.{Allowed, or_memory, allows_laid, numbered, injected_for}
 use Rattle.blob_faults.specs.Faults.{WriteFate, Done, Unsynced, Failed}
 use Rattle.blob_faulty.specs.Writes.{View, Recorded, WroteBy, plain, laid_runs}
 use Rattle.blob_faulty.proofs.Fating.{done_plainly}
@@ -106,6 +107,16 @@ pub refusal_allowed : (lacks : Bool) (inner : Allowed) (answer : Option Refusal)
 refusal_allowed lacks inner answer some (inl memory) = inl memory
 refusal_allowed true inner answer some (inr e) = inr e
 refusal_allowed false inner answer some (inr h) = inr (inr (some, h))
+
+-- runs one after another
+pub first_allowed : (writes : ℕ → List ℕ → Bool → Allowed) (direct : Bool) (all : List Run) (r : Run) (rs : List Run) (answer : Option Refusal) → all ≡ r ∷ rs → writes r.0 r.1 true answer → allows_laid writes direct all answer
+first_allowed writes direct all r rs answer e h = subst (λ (x : List Run). allows_laid writes direct x answer) (sym e) (inl h)
+
+pub laid_allowed : {T : Type 0} (writes : ℕ → List ℕ → Bool → Allowed) (direct : Bool) (all : List Run) (r : Run) (rs : List Run) (result : Result T Error) → all ≡ r ∷ rs → writes r.0 r.1 true None →
+    OnErr result (refused result ≡ Some WriteFailed) → OnErr result (direct ≡ false) → OnErr result (rs ≢ []) → allows_laid writes direct all (refused result)
+laid_allowed {T} writes direct all r rs (Ok x) e h failed indirect some = first_allowed writes direct all r rs None e h
+laid_allowed {T} writes direct all r rs (Err x) e h failed indirect some =
+    subst (λ (runs : List Run). allows_laid writes direct runs (refused {T = T} (Err x))) (sym e) (inr (failed, indirect, some, h))
 
 pub injected_not_failed : {P : Type 0} → Some Injected ≡ Some WriteFailed → P
 injected_not_failed is = absurd (cc)

@@ -1,10 +1,10 @@
 -- What a plain write leaves: of one that isn't recorded, and of one that is refused or recorded behind room for its entry.
-use Rattle.std.proofs.Common.{◌≡◌, ◌≢◌, ℕ, ◌+◌, max, Bool, true, false, List, [], ◌∷◌, length, Option, Some, None, refl, sym, ◌∙◌, ap, ap₂, subst, ◌<◌, ◌++◌, arith, inr, ◌-◌, ◌^◌}
+use Rattle.std.proofs.Common.{◌≡◌, ◌≢◌, ℕ, ◌+◌, max, Bool, true, false, List, [], ◌∷◌, length, Option, Some, None, refl, sym, ◌∙◌, ap, ap₂, subst, ◌<◌, ◌++◌, arith, ◌⊎◌, inl, inr, ◌-◌, ◌^◌}
 use Rattle.std.proofs.lemmas.Bool.{ne_eqb}
 use Rattle.std.specs.Prelude.{Result, Ok, Err, OnErr, IsSome}
 use Rattle.blob_base.specs.declared.storage.Durable as stores
 use Rattle.blob_base.specs.declared.storage.Blob as handles
-use Rattle.blob_header.specs.Refusals.{Refusal, Memory, WriteFailed, refused}
+use Rattle.blob_header.specs.Refusals.{Refusal, Memory, OffsetOverflow, refused}
 use Rattle.blob_header.specs.declared.error.Error.{Error}
 use Rattle.blob_model.specs.Directory.{is_current}
 use Rattle.blob_model.specs.Live.{live_after}
@@ -15,6 +15,7 @@ use Rattle.blob_model.specs.declared.mode.PartialWriteMode.{PartialWriteMode}
 use Rattle.blob_model.specs.Rates.{Rate}
 use Rattle.blob_model.specs.Pending.{Waiting}
 use Rattle.blob_model.specs.Places.{Place}
+use Rattle.blob_model.specs.Runs.{Run}
 use Rattle.blob_faults.specs.declared.config.WriteConfig.{WriteConfig}
 use Rattle.blob_faults.specs.Answers.{Allowed, lacks_number, numbered, or_memory}
 use Rattle.blob_faults.specs.Faults.{issued, retention}
@@ -23,7 +24,7 @@ use Rattle.blob_faults.specs.Recorded.{loose}
 use Rattle.blob_faulty.specs.declared.blob.Blob.{Blob}
 use Rattle.blob_faulty.specs.declared.storage.Storage.{Storage}
 use Rattle.blob_faulty.specs.Wrapper.{GainsWrite, pending_of}
-use Rattle.blob_faulty.specs.Writes.{View, Effect, HasBytes, Logs, Recorded, SameRecords, Unchanged, Wrote, plain, seen, unrecorded}
+use Rattle.blob_faulty.specs.Writes.{View, Effect, HasBytes, Logs, Recorded, SameRecords, Unchanged, Wrote, laid_runs, live_of_runs, plain, seen, unrecorded}
 use Rattle.blob_faulty.proofs.Adding.{loose_some}
 use Rattle.blob_faulty.proofs.RoomSteps.{pushed_at}
 use Rattle.blob_faulty.proofs.Writing.{same_logs, loose_logs}
@@ -95,6 +96,33 @@ unasked direct whole old new effect (Some refusal) some same u = record {
 pub unwritten : (live : List ℕ) (offset : ℕ) (bytes : List ℕ) (answer : Option Refusal) → IsSome answer → live_after false live offset bytes answer ≡ live
 unwritten live offset bytes None some = absurd (cc)
 unwritten live offset bytes (Some refusal) some = refl
+
+-- the first of some runs was refused
+pub first_refused : {R : Type 0} (direct : Bool) (old new : View R) (r : Run) (rs : List Run) (answer : Option Refusal) → IsSome answer → Recorded direct true old new (laid_runs (r ∷ [])) answer → Recorded direct direct old new (laid_runs (r ∷ rs)) answer
+first_refused direct old new r rs None some w = absurd (cc)
+first_refused direct old new r rs (Some refusal) some w = record {
+  wrote = record { done = λ ok. absurd (cc); refused = w.wrote.refused; memory = w.wrote.memory; stale = w.wrote.stale; directory = w.wrote.directory; place = w.wrote.place };
+  done = λ ok. absurd (cc);
+  refused = λ whole any. w.refused refl any;
+  undone = w.undone;
+  config = w.config;
+  rng = w.rng;
+}
+
+memory_is : (refusal : Refusal) → Some refusal ≡ Some Memory → refusal ≡ Memory
+memory_is refusal is = cc
+
+-- room for runs was refused, which leaves the live bytes
+spared : (live : List ℕ) (rs : List Run) (refusal : Refusal) → (refusal ≡ OffsetOverflow) ⊎ (refusal ≡ Memory) → live_of_runs live rs (Some refusal) ≡ live
+spared live [] refusal is = refl
+spared live (r ∷ rs) refusal (inl is) = ap (λ (x : Refusal). live_of_runs live (r ∷ rs) (Some x)) is
+spared live (r ∷ rs) refusal (inr is) = ap (λ (x : Refusal). live_of_runs live (r ∷ rs) (Some x)) is
+
+pub of_room_refused : {R : Type 0} (direct : Bool) (old new : View R) (rs : List Run) (reserves : Allowed) (answer : Option Refusal) → IsSome answer → ((refusal : Refusal) → reserves (Some refusal) → (refusal ≡ OffsetOverflow) ⊎ (refusal ≡ Memory)) → or_memory reserves answer →
+    Unchanged old new → Recorded direct direct old new (laid_runs rs) answer
+of_room_refused direct old new rs reserves None some only allowed u = absurd (cc)
+of_room_refused direct old new rs reserves (Some refusal) some only (inl is) u = unasked direct direct old new (laid_runs rs) (Some refusal) refl (spared old.live rs refusal (inr (memory_is refusal is))) u
+of_room_refused direct old new rs reserves (Some refusal) some only (inr h) u = unasked direct direct old new (laid_runs rs) (Some refusal) refl (spared old.live rs refusal (only refusal h)) u
 
 -- of which nothing is to be recorded
 pub unrecorded_plain : {R T : Type 0} (direct sync : Bool) (old new : View R) (offset : ℕ) (bytes : List ℕ) (result : Result T Error) → sync ≡ false → loose (retention old.config.write_rate) old.next_write offset bytes ≡ [] →

@@ -1,4 +1,4 @@
-use Rattle.std.proofs.Common.{rules, ◌≡◌, ◌≢◌, ◌≤◌, List, [], length, Option, None, refl, inl, inr, sym, ◌∙◌, ap₂, subst, arith}
+use Rattle.std.proofs.Common.{rules, ℕ, ◌≡◌, ◌≢◌, ◌≤◌, List, [], length, Option, None, refl, inl, inr, sym, ◌∙◌, ap, ap₂, subst, arith}
 use Rattle.std.specs.Prelude.{IsSome}
 use Rattle.std.proofs.lemmas.Bool.{eqb-true}
 use Rattle.std.proofs.lemmas.Grind.{common_steps}
@@ -12,7 +12,8 @@ use Rattle.blob_faulty.specs.declared.write_runs.Piece.{Piece}
 use Rattle.blob_faults.specs.Answers.{or_memory, allows_runs, last_end}
 use Rattle.blob_faulty.specs.Pieces.{runs_in}
 use Rattle.blob_faulty.specs.Writes.{View, Recorded, LaysFront, seen, laid_runs}
-use Rattle.blob_faulty.proofs.FailedSteps.{runs_of_none, end_by_last}
+use Rattle.blob_faulty.proofs.Plainly.{of_room_refused}
+use Rattle.blob_faulty.proofs.FailedSteps.{no_runs_in, runs_of_none, end_by_last}
 use Rattle.blob_faulty.proofs.Fronts.{front_in_room, asked_of, never_failed}
 use Rattle.blob_faulty.proofs.RunRoom.{sooner}
 use Rattle.blob_faulty.proofs.Writing.{no_runs, runs_after}
@@ -47,7 +48,7 @@ pub returns-clause-recorded : goal.returns-clause-recorded
 returns-clause-recorded g c =
     let old : View g.row.R.Denot = seen g.S.Durable g.B.Blob c.args.self.now c.args.store.now in
     let new : View g.row.R.Denot = seen g.S.Durable g.B.Blob c.lay_runs.new.self c.lay_runs.new.store in
-    let same : runs_in c.in_ok-pieces.pieces.items ≡ runs c.args.offset c.args.bytes c.args.kept.now = first_of (search rules, grind (arith, common_steps)) in
+    let same : runs_in c.in_ok-pieces.pieces.items ≡ runs c.args.offset c.args.bytes c.args.kept.now = c.in_ok-pieces.ensures.ok ∙ ap (λ (b : List ℕ). runs c.args.offset b c.args.kept.now) c.in_ok-bytes.ensures.ok in
     subst (λ (rs : List Run). Recorded g.B.Blob.is_direct g.B.Blob.is_direct old new (laid_runs rs) (refused c.lay_runs.result)) same
     (runs_after g.B.Blob.is_direct g.B.Blob.is_direct old _ new (runs_in c.in_ok-pieces.pieces.items) (refused c.lay_runs.result) c.reserve_runs.ensures.unchanged c.lay_runs.ensures.laid.recorded)
 
@@ -57,13 +58,14 @@ returns-then-is_empty-clause-asked g c =
 
 pub returns-then-is_empty-2-clause-asked : goal.returns-then-is_empty-2-clause-asked
 returns-then-is_empty-2-clause-asked g c =
-    let none : runs c.args.offset c.args.bytes c.args.kept.now ≡ [] = first_of (search rules, cc, grind (arith, common_steps)) in
+    let empty : length c.in_ok-pieces.pieces.items ≡ 0 = first_of (grind (arith, common_steps), search rules) in
+    let none : runs c.args.offset c.args.bytes c.args.kept.now ≡ [] = no_runs_in c.in_ok-pieces.pieces.items _ empty (c.in_ok-pieces.ensures.ok ∙ ap (λ (b : List ℕ). runs c.args.offset b c.args.kept.now) c.in_ok-bytes.ensures.ok) in
     subst (λ (rs : List Run). AsksRuns g.B.Blob c.args.self.now c.args.store.now c.args.self.now c.args.store.now rs None) (sym none) (inr (inl (refl, refl, refl)))
 
 pub returns-in_err-list-clause-asked : goal.returns-in_err-list-clause-asked
 returns-in_err-list-clause-asked g c =
     let r = c.reserve_runs in
-    let told : runs_in c.deref.result.now ≡ runs c.args.offset c.args.bytes c.args.kept.now = first_of (search rules, cc, grind (arith, common_steps)) in
+    let told : runs_in c.deref.result.now ≡ runs c.args.offset c.args.bytes c.args.kept.now = ap runs_in c.deref.ensures.value ∙ c.in_ok-pieces.ensures.ok ∙ ap (λ (b : List ℕ). runs c.args.offset b c.args.kept.now) c.in_ok-bytes.ensures.ok in
     let some : runs_in c.deref.result.now ≢ [] = λ none. (let empty : length c.deref.result.now ≡ 0 = no_pieces c.deref.result.now none in first_of (search rules, cc, grind (arith, common_steps))) in
     let same : refused r.result ≡ refused c.from_residual-in_err-list.result = first_of (search rules, cc, grind (arith, common_steps)) in
     let refusal : IsSome (refused r.result) = first_of (search rules, cc, grind (arith, common_steps)) in
@@ -74,7 +76,7 @@ returns-in_err-list-clause-asked g c =
 pub returns-clause-asked : goal.returns-clause-asked
 returns-clause-asked g c =
     let r = c.lay_runs in
-    let same : runs_in c.in_ok-pieces.pieces.items ≡ runs c.args.offset c.args.bytes c.args.kept.now = first_of (search rules, cc, grind (arith, common_steps)) in
+    let same : runs_in c.in_ok-pieces.pieces.items ≡ runs c.args.offset c.args.bytes c.args.kept.now = c.in_ok-pieces.ensures.ok ∙ ap (λ (b : List ℕ). runs c.args.offset b c.args.kept.now) c.in_ok-bytes.ensures.ok in
     let some : runs_in c.in_ok-pieces.pieces.items ≢ [] = λ none. (let empty : length c.in_ok-pieces.pieces.items ≡ 0 = no_pieces c.in_ok-pieces.pieces.items none in first_of (search rules, cc, grind (arith, common_steps))) in
     subst (λ (rs : List Run). AsksRuns g.B.Blob c.args.self.now c.args.store.now r.new.self r.new.store rs (refused r.result)) same
     (laid_behind g.B.Blob c.args.self.now c.args.store.now r.new.self r.new.store c.reserve_runs.new.self c.reserve_runs.new.store (runs_in c.in_ok-pieces.pieces.items) (refused r.result) some
@@ -90,8 +92,28 @@ returns-in_err-list-clause-front g c is =
 pub returns-clause-front : goal.returns-clause-front
 returns-clause-front g c is =
     let r = c.lay_runs in
-    let same : runs_in c.in_ok-pieces.pieces.items ≡ runs c.args.offset c.args.bytes c.args.kept.now = first_of (search rules, grind (arith, common_steps)) in
+    let same : runs_in c.in_ok-pieces.pieces.items ≡ runs c.args.offset c.args.bytes c.args.kept.now = c.in_ok-pieces.ensures.ok ∙ ap (λ (b : List ℕ). runs c.args.offset b c.args.kept.now) c.in_ok-bytes.ensures.ok in
     let room : Asks g.B.Blob c.args.self.now c.args.store.now c.reserve_runs.new.self c.reserve_runs.new.store (Reserve (last_end 0 (runs_in c.in_ok-pieces.pieces.items))) None =
     subst (λ (ps : List Piece). Asks g.B.Blob c.args.self.now c.args.store.now c.reserve_runs.new.self c.reserve_runs.new.store (Reserve (last_end 0 (runs_in ps))) None) c.deref.ensures.value c.in_ok-list.ensures.asked in
     subst (λ (rs : List Run). LaysFront (InnerRefusedInRoom g.B.Blob c.args.self.now c.args.store.now r.new.self r.new.store rs) (seen g.S.Durable g.B.Blob c.args.self.now c.args.store.now) (seen g.S.Durable g.B.Blob r.new.self r.new.store) rs) same
     (front_in_room g.B.Blob.leaves _ _ _ _ _ _ _ _ _ (runs_in c.in_ok-pieces.pieces.items) c.reserve_runs.ensures.unchanged (asked_of g.B.Blob c.args.self.now c.args.store.now c.reserve_runs.new.self c.reserve_runs.new.store room) (r.ensures.laid.front is))
+
+pub returns-then-is_empty-2-clause-recorded : goal.returns-then-is_empty-2-clause-recorded
+returns-then-is_empty-2-clause-recorded g c =
+    let empty : length c.in_ok-pieces.pieces.items ≡ 0 = first_of (grind (arith, common_steps), search rules) in
+    let none : runs c.args.offset c.args.bytes c.args.kept.now ≡ [] = no_runs_in c.in_ok-pieces.pieces.items _ empty (c.in_ok-pieces.ensures.ok ∙ ap (λ (b : List ℕ). runs c.args.offset b c.args.kept.now) c.in_ok-bytes.ensures.ok) in
+    no_runs _ _ _ none
+
+pub returns-then-is_empty-2-clause-allowed : goal.returns-then-is_empty-2-clause-allowed
+returns-then-is_empty-2-clause-allowed g c =
+    let empty : length c.in_ok-pieces.pieces.items ≡ 0 = first_of (grind (arith, common_steps), search rules) in
+    let none : runs c.args.offset c.args.bytes c.args.kept.now ≡ [] = no_runs_in c.in_ok-pieces.pieces.items _ empty (c.in_ok-pieces.ensures.ok ∙ ap (λ (b : List ℕ). runs c.args.offset b c.args.kept.now) c.in_ok-bytes.ensures.ok) in
+    subst (λ (rs : List Run). or_memory (allows_runs (g.B.Blob.allows_write c.args.self.now.inner c.args.store.now.inner) (g.B.Blob.allows_reserve c.args.self.now.inner c.args.store.now.inner) g.B.Blob.is_direct rs) None) (sym none) (inr refl)
+
+pub returns-in_err-list-clause-recorded : goal.returns-in_err-list-clause-recorded
+returns-in_err-list-clause-recorded g c =
+    let r = c.reserve_runs in
+    let same : refused r.result ≡ refused c.from_residual-in_err-list.result = first_of (search rules, cc, grind (arith, common_steps)) in
+    let some : IsSome (refused r.result) = first_of (search rules, cc, grind (arith, common_steps)) in
+    let end = last_end 0 (runs_in c.deref.result.now) in
+    rw (sym same) (of_room_refused _ _ _ _ (g.B.Blob.allows_reserve c.args.self.now.inner c.args.store.now.inner end) (refused r.result) some (λ refusal. g.met.B.Blob.reserve_refused c.args.self.now.inner c.args.store.now.inner end refusal) r.ensures.allowed r.ensures.unchanged)

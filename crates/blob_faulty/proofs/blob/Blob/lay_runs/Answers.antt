@@ -14,8 +14,10 @@ use Rattle.blob_faulty.proofs.RunSteps.{not_stale, popped, later_within}
 use Rattle.blob_base.specs.HandleCalls.{Write}
 use Rattle.blob_faulty.specs.Asked.{Made, InnerMade, run_calls, or_failed}
 use Rattle.blob_faulty.proofs.Asking.{then_failed}
+use Rattle.blob_faulty.proofs.Fated.{first_allowed, laid_allowed}
 use Rattle.blob_faulty.proofs.Fronts.{front_none, front_behind, some_refusal}
-use Rattle.blob_faulty.proofs.Writing.{then_runs}
+use Rattle.blob_faulty.proofs.Plainly.{first_refused}
+use Rattle.blob_faulty.proofs.Writing.{no_runs, then_runs}
 use Rattle.blob_faulty.proofs.blob.Blob.lay_runs.Goals as goal
 
 pub lay_range-requires-clause-room : goal.lay_range-requires-clause-room
@@ -62,29 +64,41 @@ returns-clause-laid g c = record {
 }
 
 pub returns-in_default-clause-laid : goal.returns-in_default-clause-laid
-returns-in_default-clause-laid g c = record {
-  asked =
-      let none : runs_in c.args.pieces.items ≡ [] = first_of (search rules, cc, grind (arith, common_steps)) in
-      subst (λ (rs : List Run). or_failed (InnerMade g.B.Blob c.args.self.now c.args.store.now c.args.self.now c.args.store.now (run_calls rs)) None) (sym none) (inl (refl, refl, refl));
-  recorded = first_of (search rules, grind (arith, common_steps));
-  front = λ is. absurd (none-some WriteFailed is);
-}
+returns-in_default-clause-laid g c =
+    let none : runs_in c.args.pieces.items ≡ [] = first_of (search rules, cc, grind (arith, common_steps)) in
+    record {
+      asked = subst (λ (rs : List Run). or_failed (InnerMade g.B.Blob c.args.self.now c.args.store.now c.args.self.now c.args.store.now (run_calls rs)) None) (sym none) (inl (refl, refl, refl));
+      recorded = no_runs _ _ _ none;
+      front = λ is. absurd (none-some WriteFailed is);
+    }
 
 pub returns-in_err-lay_range-clause-laid : goal.returns-in_err-lay_range-clause-laid
-returns-in_err-lay_range-clause-laid g c = record {
-  asked =
-      let r = c.lay_range in
-      let e : runs_in c.args.pieces.items ≡ run_of c.in-Some.first ∷ runs_in c.pop.new.self.items = popped _ _ c.in-Some.first c.in-Some.ensures.items in
-      let same : refused r.result ≡ refused c.from_residual.result = first_of (search rules, cc, grind (arith, common_steps)) in
-      let some : IsSome (refused c.from_residual.result) = first_of (search rules, cc, grind (arith, common_steps)) in
-      subst (λ (rs : List Run). or_failed (InnerMade g.B.Blob c.args.self.now c.args.store.now r.new.self r.new.store (run_calls rs)) (refused c.from_residual.result)) (sym e)
-      (inl (inl (some, subst (λ (a : Option Refusal). g.B.Blob.leaves (Write c.in-Some.first.offset c.in-Some.first.bytes true) c.args.self.now.inner c.args.store.now.inner a r.new.self.inner r.new.store.inner) same r.ensures.asked)));
-  recorded = first_of (search rules, grind (arith, common_steps));
-  front = λ is.
-      let r = c.lay_range in
-      let e : runs_in c.args.pieces.items ≡ run_of c.in-Some.first ∷ runs_in c.pop.new.self.items = popped _ _ c.in-Some.first c.in-Some.ensures.items in
-      let same : refused r.result ≡ refused c.from_residual.result = first_of (search rules, cc, grind (arith, common_steps)) in
-      subst (λ (rs : List Run). LaidFront g.S.Durable g.B.Blob c.args.self.now c.args.store.now r.new.self r.new.store rs) (sym e)
-      (front_none g.B.Blob.leaves _ _ _ _ _ _ (run_of c.in-Some.first) (runs_in c.pop.new.self.items) WriteFailed (r.ensures.recorded.refused refl (some_refusal (refused r.result) WriteFailed (same ∙ is)))
-      (subst (λ (a : Option Refusal). g.B.Blob.leaves (Write c.in-Some.first.offset c.in-Some.first.bytes true) c.args.self.now.inner c.args.store.now.inner a r.new.self.inner r.new.store.inner) (same ∙ is) r.ensures.asked));
-}
+returns-in_err-lay_range-clause-laid g c =
+    let r = c.lay_range in
+    let e : runs_in c.args.pieces.items ≡ run_of c.in-Some.first ∷ runs_in c.pop.new.self.items = popped _ _ c.in-Some.first c.in-Some.ensures.items in
+    let same : refused r.result ≡ refused c.from_residual.result = first_of (search rules, cc, grind (arith, common_steps)) in
+    let some : IsSome (refused c.from_residual.result) = first_of (search rules, cc, grind (arith, common_steps)) in
+    let old : View g.row.R.Denot = seen g.S.Durable g.B.Blob c.args.self.now c.args.store.now in
+    let new : View g.row.R.Denot = seen g.S.Durable g.B.Blob r.new.self r.new.store in
+    record {
+      asked = subst (λ (rs : List Run). or_failed (InnerMade g.B.Blob c.args.self.now c.args.store.now r.new.self r.new.store (run_calls rs)) (refused c.from_residual.result)) (sym e)
+          (inl (inl (some, subst (λ (a : Option Refusal). g.B.Blob.leaves (Write c.in-Some.first.offset c.in-Some.first.bytes true) c.args.self.now.inner c.args.store.now.inner a r.new.self.inner r.new.store.inner) same r.ensures.asked)));
+      recorded = subst (λ (rs : List Run). Recorded g.B.Blob.is_direct g.B.Blob.is_direct old new (laid_runs rs) (refused c.from_residual.result)) (sym e)
+          (first_refused g.B.Blob.is_direct old new (run_of c.in-Some.first) (runs_in c.pop.new.self.items) (refused c.from_residual.result) some
+          (subst (λ (a : Option Refusal). Recorded g.B.Blob.is_direct true old new (laid_runs (run_of c.in-Some.first ∷ [])) a) same r.ensures.recorded));
+      front = λ is.
+          subst (λ (rs : List Run). LaidFront g.S.Durable g.B.Blob c.args.self.now c.args.store.now r.new.self r.new.store rs) (sym e)
+          (front_none g.B.Blob.leaves _ _ _ _ _ _ (run_of c.in-Some.first) (runs_in c.pop.new.self.items) WriteFailed (r.ensures.recorded.refused refl (some_refusal (refused r.result) WriteFailed (same ∙ is)))
+          (subst (λ (a : Option Refusal). g.B.Blob.leaves (Write c.in-Some.first.offset c.in-Some.first.bytes true) c.args.self.now.inner c.args.store.now.inner a r.new.self.inner r.new.store.inner) (same ∙ is) r.ensures.asked));
+    }
+
+pub returns-clause-allowed : goal.returns-clause-allowed
+returns-clause-allowed g c =
+    laid_allowed (g.B.Blob.allows_write c.args.self.now.inner c.args.store.now.inner) g.B.Blob.is_direct (runs_in c.args.pieces.items) (run_of c.in-Some.first) (runs_in c.pop.new.self.items) c.lay_later.result (popped _ _ c.in-Some.first c.in-Some.ensures.items)
+    c.in_ok-lay_range.ensures.allowed c.lay_later.ensures.failed c.lay_later.ensures.indirect c.lay_later.ensures.some
+
+pub returns-in_err-lay_range-clause-allowed : goal.returns-in_err-lay_range-clause-allowed
+returns-in_err-lay_range-clause-allowed g c =
+    let same : refused c.lay_range.result ≡ refused c.from_residual.result = first_of (search rules, cc, grind (arith, common_steps)) in
+    rw (sym same) (first_allowed (g.B.Blob.allows_write c.args.self.now.inner c.args.store.now.inner) g.B.Blob.is_direct (runs_in c.args.pieces.items) (run_of c.in-Some.first) (runs_in c.pop.new.self.items) (refused c.lay_range.result) (popped _ _ c.in-Some.first c.in-Some.ensures.items)
+    c.lay_range.ensures.allowed)
