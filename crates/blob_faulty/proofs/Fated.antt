@@ -4,7 +4,7 @@ use Rattle.std.specs.Prelude.{Result, Ok, Err, OnErr, IsSome}
 use Rattle.blob_header.specs.Refusals.{Refusal, Injected, WriteFailed, refused}
 use Rattle.blob_header.specs.declared.error.Error.{Error}
 use Rattle.blob_model.specs.Runs.{Run, runs}
-use Rattle.blob_faults.specs.Answers.{Allowed, or_memory, allows_laid, numbered, injected_for}
+use Rattle.blob_faults.specs.Answers.{Allowed, or_memory, allows_laid, allows_runs, last_end, numbered, injected_for}
 use Rattle.blob_faults.specs.Faults.{WriteFate, Done, Unsynced, Failed}
 use Rattle.blob_faulty.specs.Writes.{View, Recorded, WroteBy, plain, laid_runs}
 use Rattle.blob_faulty.proofs.Fating.{done_plainly}
@@ -117,6 +117,15 @@ pub laid_allowed : {T : Type 0} (writes : ℕ → List ℕ → Bool → Allowed)
 laid_allowed {T} writes direct all r rs (Ok x) e h failed indirect some = first_allowed writes direct all r rs None e h
 laid_allowed {T} writes direct all r rs (Err x) e h failed indirect some =
     subst (λ (runs : List Run). allows_laid writes direct runs (refused {T = T} (Err x))) (sym e) (inr (failed, indirect, some, h))
+
+-- room for them is refused
+pub room_allowed : (writes : ℕ → List ℕ → Bool → Allowed) (reserves : ℕ → Allowed) (direct : Bool) (all rs : List Run) (answer : Option Refusal) → rs ≡ all → rs ≢ [] → IsSome answer → or_memory (reserves (last_end 0 rs)) answer → or_memory (allows_runs writes reserves direct all) answer
+room_allowed writes reserves direct all rs answer e some refusal h = subst (λ (x : List Run). or_memory (allows_runs writes reserves direct x) answer) e (go rs some h)
+  where
+    go : (x : List Run) → x ≢ [] → or_memory (reserves (last_end 0 x)) answer → or_memory (allows_runs writes reserves direct x) answer
+    go x some (inl memory) = inl memory
+    go [] some (inr h) = absurd (some refl)
+    go (r ∷ rs) some (inr h) = inr (inl (refusal, h))
 
 pub injected_not_failed : {P : Type 0} → Some Injected ≡ Some WriteFailed → P
 injected_not_failed is = absurd (cc)

@@ -1,5 +1,5 @@
 -- What a plain write leaves: of one that isn't recorded, and of one that is refused or recorded behind room for its entry.
-use Rattle.std.proofs.Common.{◌≡◌, ◌≢◌, ℕ, ◌+◌, max, Bool, true, false, List, [], ◌∷◌, length, Option, Some, None, refl, sym, ◌∙◌, ap, ap₂, subst, ◌<◌, ◌++◌, arith, ◌⊎◌, inl, inr, ◌-◌, ◌^◌}
+use Rattle.std.proofs.Common.{◌≡◌, ℕ, ◌+◌, max, Bool, true, false, List, [], ◌∷◌, length, Option, Some, None, refl, sym, ◌∙◌, ap, ap₂, subst, ◌<◌, ◌++◌, ◌⊎◌, inl, inr, ◌-◌, ◌^◌}
 use Rattle.std.proofs.lemmas.Bool.{ne_eqb}
 use Rattle.std.specs.Prelude.{Result, Ok, Err, OnErr, IsSome}
 use Rattle.blob_base.specs.declared.storage.Durable as stores
@@ -148,7 +148,6 @@ unrecorded_plain {R} {T} direct sync old new offset bytes result is none w size 
       config = rest.config;
       rng = rest.rng;
     }
-
 
 -- Behind room for its entry: `m` has the room, `d` is what the inner blob made of it.
 module _ {S R O B : Type 0} (store : stores.Ghosts S O) (handle : handles.Ghosts B S O) (b c : Blob B) (w m d : Storage S R O) (offset : ℕ) (bytes : List ℕ) where

@@ -1,15 +1,23 @@
 -- What a resize leaves, by the fate that was drawn for it.
-use Rattle.std.proofs.Common.{◌≡◌, ◌≢◌, ℕ, Bool, true, false, List, [], ◌∷◌, Option, Some, None, inl, inr, refl, sym, ◌∙◌, subst}
+use Rattle.std.proofs.Common.{◌≡◌, ◌≢◌, ⊎_elim, ℕ, Bool, true, false, List, [], ◌∷◌, Option, Some, None, inl, inr, refl, sym, ◌∙◌, ap, subst}
 use Rattle.std.specs.Prelude.{Result, Ok, Err, OnErr}
+use Rattle.rand_core.specs.Stream.{Stream}
+use Rattle.blob_base.specs.declared.storage.Blob as handles
+use Rattle.blob_base.specs.declared.storage.Durable as stores
 use Rattle.blob_header.specs.Refusals.{Refusal, Injected, refused}
 use Rattle.blob_header.specs.declared.error.Error.{Error}
 use Rattle.blob_model.specs.Log.{Entry, Resized}
 use Rattle.blob_faults.specs.Answers.{Allowed, or_memory}
 use Rattle.blob_faults.specs.Faults.{ResizeFate, Resizes, Stays, Reaches}
 use Rattle.blob_faults.specs.Recorded.{live_of_resize, recorded_resize, size_of_resize}
-use Rattle.blob_faulty.specs.Writes.{View, Logs, Recorded, ResizedBy, SameRecords, Wrote, cut}
+use Rattle.blob_faulty.specs.declared.blob.Blob.{Blob}
+use Rattle.blob_faulty.specs.declared.storage.Storage.{Storage}
+use Rattle.blob_faulty.specs.Asked.{AsksResize}
+use Rattle.blob_faulty.specs.HandleLeaves.{Logged, ResizeLeaves, Untouched}
+use Rattle.blob_faulty.specs.Wrapper.{KeepsDurable, KeepsNumbers}
+use Rattle.blob_faulty.specs.Writes.{View, Logs, Recorded, ResizedBy, SameRecords, Wrote, cut, seen}
 use Rattle.blob_faulty.proofs.Plainly.{SameRest}
-use Rattle.blob_faulty.proofs.Writing.{same_logs}
+use Rattle.blob_faulty.proofs.Writing.{adds_of, same_logs}
 
 survives : {R : Type 0} (direct : Bool) (old new : View R) (len : ℕ) (answer : Option Refusal) → Recorded direct true old new (cut len (Resized len ∷ [])) answer → ResizedBy (Resizes true) direct old new len answer
 survives direct old new len None w = record {
@@ -154,3 +162,30 @@ of_stays fate direct old len is = of_fate fate direct old old len (Some Injected
 
 pub of_reaches : {R : Type 0} (fate : ResizeFate) (direct : Bool) (old new : View R) (len size : ℕ) → fate ≡ Reaches size → Recorded direct true old new (cut size (Resized size ∷ [])) None → ResizedBy fate direct old new len (Some Injected)
 of_reaches fate direct old new len size is w = of_fate fate direct old new len (Some Injected) (Reaches size) is (reaches size direct old new len w)
+
+-- What it leaves, by what was drawn.
+pub resize_leaves : {S R O B : Type 0} (store : stores.Ghosts S O) (handle : handles.Ghosts B S O) (stream : R → Stream) (b c : Blob B) (w w' : Storage S R O) (rng : R) (len : ℕ) (answer : Option Refusal) (fate : ResizeFate) (drawn : ResizeFate × Stream) →
+    (fate, stream rng) ≡ drawn → AsksResize handle b w c w' fate len answer → ResizedBy fate handle.is_direct (seen store handle b (record w { rng = rng })) (seen store handle c w') len answer → KeepsDurable store.durable (record w { rng = rng }) w' →
+    ResizeLeaves store handle stream len drawn.0 drawn.1 b w answer c w'
+resize_leaves {S} {R} {O} {B} store handle stream b c w w' rng len answer fate drawn is asked resized kept =
+    subst (λ (d : ResizeFate × Stream). ResizeLeaves store handle stream len d.0 d.1 b w answer c w') is (record {
+      drawn = ap stream resized.rng;
+      asked = asked;
+      numbers = numbers;
+      size = λ ok. (resized.done ok).size;
+      recorded = λ ok. logged None (resized.recorded ok);
+      live_after = resized.live;
+      size_after = resized.size;
+      recorded_after = λ direct. logged answer (resized.logs direct);
+      unrecorded = λ some uninjected. untouched (resized.unrecorded some uninjected);
+      injected = λ fault. ⊎_elim (λ k. inl (untouched k)) (λ logs. inr (logged (Some Injected) logs)) (resized.injected fault);
+    })
+  where
+    numbers : KeepsNumbers w w'
+    numbers = record { next_write = kept.numbers.next_write; next_marker = kept.numbers.next_marker; config = kept.numbers.config }
+
+    logged : (a : Option Refusal) → Logs (seen store handle b (record w { rng = rng })) (seen store handle c w') (recorded_resize fate len a) → Logged store handle b w w' (recorded_resize fate len a)
+    logged a logs = adds_of store handle b c w w' rng (recorded_resize fate len a) (recorded_resize fate len a) resized.directory refl logs
+
+    untouched : SameRecords (seen store handle b (record w { rng = rng })) (seen store handle c w') → Untouched store b w c w'
+    untouched k = record { records = record { pending = k.pending; numbers = numbers }; size = k.size }

@@ -14,6 +14,7 @@ use Rattle.blob_faulty.specs.Pieces.{runs_in}
 use Rattle.blob_faulty.specs.Writes.{View, Recorded, LaysFront, seen, laid_runs}
 use Rattle.blob_faulty.proofs.Plainly.{of_room_refused}
 use Rattle.blob_faulty.proofs.FailedSteps.{no_runs_in, runs_of_none, end_by_last}
+use Rattle.blob_faulty.proofs.Fated.{room_allowed}
 use Rattle.blob_faulty.proofs.Fronts.{front_in_room, asked_of, never_failed}
 use Rattle.blob_faulty.proofs.RunRoom.{sooner}
 use Rattle.blob_faulty.proofs.Writing.{no_runs, runs_after}
@@ -117,3 +118,12 @@ returns-in_err-list-clause-recorded g c =
     let some : IsSome (refused r.result) = first_of (search rules, cc, grind (arith, common_steps)) in
     let end = last_end 0 (runs_in c.deref.result.now) in
     rw (sym same) (of_room_refused _ _ _ _ (g.B.Blob.allows_reserve c.args.self.now.inner c.args.store.now.inner end) (refused r.result) some (λ refusal. g.met.B.Blob.reserve_refused c.args.self.now.inner c.args.store.now.inner end refusal) r.ensures.allowed r.ensures.unchanged)
+
+pub returns-in_err-list-clause-allowed : goal.returns-in_err-list-clause-allowed
+returns-in_err-list-clause-allowed g c =
+    let r = c.reserve_runs in
+    let told : runs_in c.deref.result.now ≡ runs c.args.offset c.args.bytes c.args.kept.now = ap runs_in c.deref.ensures.value ∙ c.in_ok-pieces.ensures.ok ∙ ap (λ (b : List ℕ). runs c.args.offset b c.args.kept.now) c.in_ok-bytes.ensures.ok in
+    let same : refused r.result ≡ refused c.from_residual-in_err-list.result = first_of (search rules, cc, grind (arith, common_steps)) in
+    let refusal : IsSome (refused r.result) = first_of (search rules, cc, grind (arith, common_steps)) in
+    let some : runs_in c.deref.result.now ≢ [] = λ none. (let empty : length c.deref.result.now ≡ 0 = no_pieces c.deref.result.now none in first_of (grind (arith, common_steps), cc)) in
+    rw (sym same) (room_allowed (g.B.Blob.allows_write c.args.self.now.inner c.args.store.now.inner) (g.B.Blob.allows_reserve c.args.self.now.inner c.args.store.now.inner) g.B.Blob.is_direct _ (runs_in c.deref.result.now) (refused r.result) told some refusal r.ensures.allowed)

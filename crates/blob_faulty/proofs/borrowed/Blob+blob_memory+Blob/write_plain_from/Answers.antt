@@ -1,15 +1,8 @@
-use Rattle.std.proofs.Common.{rules, ◌≡◌, ◌<◌, [], length, arith, refl, sym, subst, List, ℕ}
+use Rattle.std.proofs.Common.{rules, ◌≡◌, ◌<◌, length, arith, refl, sym, subst, List, ℕ}
 use Rattle.std.specs.Prelude.{IsSome, None, Some}
 use Rattle.blob_header.specs.Refusals.{refused}
 use Rattle.std.proofs.lemmas.Grind.{common_steps}
-use Rattle.blob_model.specs.Durable.{with_at}
-use Rattle.blob_model.specs.Log.{need_of, Loose}
-use Rattle.blob_model.specs.Order.{held_at}
-use Rattle.blob_model.specs.Pending.{Waiting}
-use Rattle.blob_model.specs.Places.{Place}
-use Rattle.blob_faults.specs.Faults.{issued, retention}
-use Rattle.blob_faults.specs.Recorded.{loose}
-use Rattle.blob_faulty.specs.Writes.{View, Logs, seen}
+use Rattle.blob_faults.specs.Faults.{retention}
 use Rattle.blob_faulty.specs.Wrapper.{GainsWrite}
 use Rattle.blob_faulty.proofs.Plainly.{nothing_changed, pushed, refused_behind, relisted, same_rest, unasked, unmoved, unrecorded_plain, unretained, unwritten}
 use Rattle.blob_memory.specs.contracts.blob.BlobBlobStorage.TheImpl as handle
