@@ -1,11 +1,11 @@
 -- What a write leaves, from what its fate makes of a handle and its wrapper.
 use Rattle.std.specs.Prelude.{max, is_some, MatchBool}
 use Rattle.std.proofs.Common.{◌≡◌, ◌≢◌, ⊎_elim, ℕ, ◌+◌, ◌^◌, ◌<◌, Bool, true, false, true≢false, cond, List, [], ◌∷◌, length, Option, Some, None, inl, inr, refl, sym, ◌∙◌, ap, subst, arith}
-use Rattle.std.proofs.lemmas.Bool.{cond-false, le-ltb}
+use Rattle.std.proofs.lemmas.Bool.{cond-false, cond-true, le-ltb}
 use Rattle.rand_core.specs.Stream.{Stream}
 use Rattle.blob_base.specs.declared.storage.Blob as handles
 use Rattle.blob_base.specs.declared.storage.Durable as stores
-use Rattle.blob_header.specs.Refusals.{Refusal, Memory, Injected, WriteFailed}
+use Rattle.blob_header.specs.Refusals.{Refusal, Memory, Injected, OffsetOverflow, WriteFailed}
 use Rattle.blob_model.specs.Live.{is_idle}
 use Rattle.blob_faults.specs.declared.config.Config.{Config}
 use Rattle.blob_faults.specs.Faults.{WriteFate, Done, Unsynced, Failed, write_fate, retention, is_uncounted, after_write}
@@ -47,9 +47,13 @@ size_some true size offset (x ∷ bytes) some = refl
 size_some false size offset bytes some = refl
 
 -- a case of a test
-match_false : (t : Bool) (A B : Type 0) → t ≡ false → B → MatchBool t A B
+pub match_false : (t : Bool) (A B : Type 0) → t ≡ false → B → MatchBool t A B
 match_false true A B is h = absurd (true≢false is)
 match_false false A B is h = h
+
+pub match_true : (t : Bool) (A B : Type 0) → t ≡ true → A → MatchBool t A B
+match_true true A B is h = h
+match_true false A B is h = absurd (true≢false (sym is))
 
 match_any : (t : Bool) (A B : Type 0) → A → B → MatchBool t A B
 match_any true A B a b = a
@@ -157,4 +161,53 @@ write_undrawn {S} {R} {O} {B} store handle stream b w rng sync offset bytes answ
 }
   where
     same : Untouched store b w b (record w { rng = rng })
+    same = record { records = record { pending = λ o. refl; numbers = record { next_write = refl; next_marker = refl; config = refl } }; size = refl }
+
+-- A write that draws nothing.
+
+-- a SYNC write of no byte
+pub write_idle : {S R O B : Type 0} (store : stores.Ghosts S O) (handle : handles.Ghosts B S O) (stream : R → Stream) (b : Blob B) (w : Storage S R O) (sync : Bool) (offset : ℕ) (bytes : List ℕ) → sync ≡ true → bytes ≡ [] → WriteLeaves store handle stream offset bytes sync b w None b w
+unfolding recorded_write
+write_idle store handle stream b w false offset bytes s e = absurd (cc)
+write_idle store handle stream b w true offset (x ∷ bytes) s e = absurd (cc)
+write_idle store handle stream b w true offset [] s e = record {
+  drawn = λ other. refl;
+  config = refl;
+  asked = (refl, refl, refl);
+  recorded = λ direct files below k. k;
+  live_after = λ direct. refl;
+  size = λ direct. refl;
+  done = λ ok files below k. k;
+  done_size = λ ok. refl;
+  refused = λ done refusal. absurd (cc);
+  unrecorded = λ refusal. absurd (cc);
+  injected = λ fault. absurd (cc);
+  failed = λ early. absurd (cc);
+}
+
+-- one whose end can't be counted
+pub write_uncounted : {S R O B : Type 0} (store : stores.Ghosts S O) (handle : handles.Ghosts B S O) (stream : R → Stream) (b : Blob B) (w : Storage S R O) (sync : Bool) (offset : ℕ) (bytes : List ℕ) → (sync ≡ true → bytes ≢ []) → is_uncounted offset bytes ≡ true →
+    WriteLeaves store handle stream offset bytes sync b w (Some OffsetOverflow) b w
+unfolding recorded_write
+write_uncounted {S} {R} {O} {B} store handle stream b w sync offset bytes some over = record {
+  drawn = λ other. sym (cond-false (is_idle sync bytes) _ _ idle ∙ cond-true (is_uncounted offset bytes) _ _ over);
+  config = refl;
+  asked =
+      match_false (is_idle sync bytes) (InnerMade handle b w b w [] (Some OffsetOverflow)) (MatchBool (is_uncounted offset bytes) (Unasked handle b w b w (Some OffsetOverflow)) (AsksWrite handle b w b w (write_fate w.config sync offset (length bytes) (stream w.rng)).0 sync offset bytes (Some OffsetOverflow)))
+      idle (match_true (is_uncounted offset bytes) _ _ over (refl, refl, refl));
+  recorded = λ direct. drawn_adds store.place _ _ w w.rng _ _ (cond-false (is_idle sync bytes) _ _ idle ∙ cond-true (is_uncounted offset bytes) _ _ over);
+  live_after = λ direct. sym (cond-false (is_idle sync bytes) _ _ idle ∙ cond-true (is_uncounted offset bytes) _ _ over);
+  size = λ direct. sym (cond-false (is_idle sync bytes) _ _ idle ∙ cond-true (is_uncounted offset bytes) _ _ over);
+  done = λ ok. absurd (cc);
+  done_size = λ ok. absurd (cc);
+  refused = λ done refusal. same;
+  unrecorded = λ refusal uninjected early. same;
+  injected = λ fault. inl same;
+  failed = λ early. absurd (cc);
+}
+  where
+    idle : is_idle sync bytes ≡ false
+    idle = nothing_not sync bytes some
+
+    same : Untouched store b w b w
     same = record { records = record { pending = λ o. refl; numbers = record { next_write = refl; next_marker = refl; config = refl } }; size = refl }

@@ -4,9 +4,9 @@ use Rattle.rand_core.specs.Stream.{Stream}
 use Rattle.blob_base.specs.Options.{is_sync}
 use Rattle.blob_faulty.proofs.Adding.{nothing_changed}
 use Rattle.blob_header.specs.Refusals.{refused, Memory}
-use Rattle.blob_faults.specs.Faults.{WriteFate, write_fate}
+use Rattle.blob_faults.specs.Faults.{WriteFate, is_uncounted, write_fate}
 use Rattle.blob_faults.specs.Fates.{write_fate_of}
-use Rattle.blob_faulty.proofs.WriteLeaving.{write_leaves, write_undrawn}
+use Rattle.blob_faulty.proofs.WriteLeaving.{write_idle, write_leaves, write_uncounted, write_undrawn}
 use Rattle.blob_faulty.proofs.blob.BlobBlobStorage.write_at.Given.{Over}
 use Rattle.blob_faulty.proofs.blob.BlobBlobStorage.write_at.Goals as goal
 
@@ -32,3 +32,17 @@ returns-clause-leaves g c =
     let fits : c.args.offset + length c.args.bytes < 2 ^ 64 = first_of (search rules, grind (arith, common_steps)) in
     write_leaves g.S.Durable g.B.Blob g.R.Rng.stream c.args.self.now c.write_by_fate.new.self c.args.store.now c.write_by_fate.new.store c.draw_write.new.rng (is_sync c.args.options) c.args.offset c.args.bytes (refused c.write_by_fate.result) (write_fate_of c.in_ok-fate.fate)
     some fits (drawn g c) (left g c) c.write_by_fate.ensures.asked c.write_by_fate.ensures.wrote c.write_by_fate.ensures.failed
+
+-- A write that draws nothing.
+
+pub returns-then-len-eq0-clause-leaves : goal.returns-then-len-eq0-clause-leaves
+returns-then-len-eq0-clause-leaves g c =
+    let sync : is_sync c.args.options ≡ true = first_of (search rules, cc) in
+    let none : c.args.bytes ≡ [] = first_of (search rules, grind (arith, common_steps)) in
+    write_idle g.S.Durable g.B.Blob g.R.Rng.stream c.args.self.now c.args.store.now (is_sync c.args.options) c.args.offset c.args.bytes sync none
+
+pub returns-then-is_none-clause-leaves : goal.returns-then-is_none-clause-leaves
+returns-then-is_none-clause-leaves g c =
+    let some : is_sync c.args.options ≡ true → c.args.bytes ≢ [] = first_of (search rules, grind (arith, common_steps)) in
+    let over : is_uncounted c.args.offset c.args.bytes ≡ true = first_of (search rules, grind (arith, common_steps)) in
+    write_uncounted g.S.Durable g.B.Blob g.R.Rng.stream c.args.self.now c.args.store.now (is_sync c.args.options) c.args.offset c.args.bytes some over
