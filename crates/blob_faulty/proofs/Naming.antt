@@ -62,3 +62,7 @@ marker_steps {S} {R} {O} place directory durable before after marker lists rest 
       next_marker = ap (λ (w : Storage S R O). next_marker_of w) rest;
       config = ap (λ (w : Storage S R O). config_of w) rest;
     })
+
+-- a draw, and another inner store, record nothing
+pub records_after : {S R O : Type 0} (place : O → Place) (w : Storage S R O) (inner : S) (rng : R) → KeepsRecords place w (record w { inner = inner; rng = rng })
+records_after place w inner rng = record { pending = λ o. refl; numbers = record { next_write = refl; next_marker = refl; config = refl } }

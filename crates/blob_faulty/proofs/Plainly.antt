@@ -1,7 +1,7 @@
--- What a plain write leaves: of one that isn't recorded, and of one that is refused or recorded behind room for its entry.
+-- What a write leaves of which nothing is recorded, that is refused, or that is recorded behind room for its entry.
 use Rattle.std.proofs.Common.{◌≡◌, ℕ, ◌+◌, max, Bool, true, false, List, [], ◌∷◌, length, Option, Some, None, refl, sym, ◌∙◌, ap, ap₂, subst, ◌<◌, ◌++◌, ◌⊎◌, inl, inr, ◌-◌, ◌^◌}
-use Rattle.std.proofs.lemmas.Bool.{ne_eqb}
-use Rattle.std.specs.Prelude.{Result, Ok, Err, OnErr, IsSome}
+use Rattle.std.specs.Prelude.{Result, Ok, Err, OnErr, IsSome, is_some, ◌==◌}
+use Rattle.blob_base.specs.HandleCalls as call
 use Rattle.blob_base.specs.declared.storage.Durable as stores
 use Rattle.blob_base.specs.declared.storage.Blob as handles
 use Rattle.blob_header.specs.Refusals.{Refusal, Memory, OffsetOverflow, refused}
@@ -23,6 +23,8 @@ use Rattle.blob_faults.specs.Lists.{IsAt, SameLists, held, list_of}
 use Rattle.blob_faults.specs.Recorded.{loose}
 use Rattle.blob_faulty.specs.declared.blob.Blob.{Blob}
 use Rattle.blob_faulty.specs.declared.storage.Storage.{Storage}
+use Rattle.blob_faulty.specs.Allowed.{MayWritePlain}
+use Rattle.blob_faulty.specs.Asked.{Asks}
 use Rattle.blob_faulty.specs.Wrapper.{GainsWrite, pending_of}
 use Rattle.blob_faulty.specs.Writes.{View, Effect, HasBytes, Logs, Recorded, SameRecords, Unchanged, Wrote, laid_runs, live_of_runs, plain, seen, unrecorded}
 use Rattle.blob_faulty.proofs.Adding.{loose_some}
@@ -59,8 +61,8 @@ module _ {S R O B : Type 0} (store : stores.Ghosts S O) (handle : handles.Ghosts
     rng = ap (λ (x : Storage S R O). x.rng) e;
   }
 
-pub nothing_changed : {R : Type 0} (old : View R) → Unchanged old old
-nothing_changed old = record {
+pub same_view : {R : Type 0} (old : View R) → Unchanged old old
+same_view old = record {
   bytes = record { live = refl; durable = refl; size = refl };
   records = record { size = refl; pending = λ o. refl; next_write = refl; next_marker = refl };
   directory = refl;
@@ -224,14 +226,28 @@ module _ {S R O B : Type 0} (store : stores.Ghosts S O) (handle : handles.Ghosts
 
 -- What it may be answered.
 
-pub has_number : (retained : Bool) (next : ℕ) (bytes : List ℕ) → (next ≡ 2 ^ 64 - 1 → ⊥) → lacks_number retained next bytes ≡ false
+pub has_number : (retained : Bool) (next : ℕ) (bytes : List ℕ) → (next == 2 ^ 64 - 1) ≡ false → lacks_number retained next bytes ≡ false
 has_number retained next [] left = refl
 has_number false next (x ∷ bytes) left = refl
-has_number true next (x ∷ bytes) left = ne_eqb next (2 ^ 64 - 1) left
+has_number true next (x ∷ bytes) left = left
 
 pub with_number : (lacks : Bool) (inner : Allowed) (answer : Option Refusal) → lacks ≡ false → inner answer → or_memory (numbered lacks inner) answer
 with_number true inner answer is h = absurd (cc)
 with_number false inner answer is h = inr h
+
+module _ {S R O B : Type 0} (handle : handles.Ghosts B S O) (b : Blob B) (w m : Storage S R O) (offset : ℕ) (bytes : List ℕ) (sync : Bool) (answer : Option Refusal) where
+  -- by the inner blob, which is as it was behind the room
+  pub allowed_behind : sync ≡ false → m ≡ record w { lists = m.lists } → (w.next_write == 2 ^ 64 - 1) ≡ false → handle.allows_write b.inner m.inner offset bytes sync answer → MayWritePlain handle b w offset bytes answer
+  allowed_behind is room left h =
+      with_number (lacks_number (is_some (retention w.config.write_rate)) w.next_write bytes) (handle.allows_write b.inner w.inner offset bytes false) answer (has_number (is_some (retention w.config.write_rate)) w.next_write bytes left)
+      (subst (λ (t : Bool). handle.allows_write b.inner w.inner offset bytes t answer) is (subst (λ (s : S). handle.allows_write b.inner s offset bytes sync answer) (ap (λ (s : Storage S R O). s.inner) room) h))
+
+  -- what was asked of it
+  pub asked_behind : (c : Blob B) (inner : S) (n : Storage S R O) → sync ≡ false → m ≡ record w { lists = m.lists } → n.inner ≡ inner → handle.leaves (call.Write offset bytes sync) b.inner m.inner answer c.inner inner → Asks handle b w c n (call.Write offset bytes false) answer
+  asked_behind c inner n is room last h =
+      inr (subst (λ (t : Bool). handle.leaves (call.Write offset bytes t) b.inner w.inner answer c.inner n.inner) is
+      (subst (λ (s : S). handle.leaves (call.Write offset bytes sync) b.inner s answer c.inner n.inner) (ap (λ (s : Storage S R O). s.inner) room)
+      (subst (λ (s : S). handle.leaves (call.Write offset bytes sync) b.inner m.inner answer c.inner s) (sym last) h)))
 
 -- Nothing is loose without retention, nor of no byte.
 

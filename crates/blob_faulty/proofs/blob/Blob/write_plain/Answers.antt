@@ -1,10 +1,11 @@
-use Rattle.std.proofs.Common.{rules, ◌≡◌, ◌<◌, [], length, arith, refl, sym, subst, List, ℕ}
-use Rattle.std.specs.Prelude.{IsSome, None, Some}
+use Rattle.std.proofs.Common.{rules, ◌≡◌, ◌<◌, [], length, arith, refl, sym, subst, ap, List, ℕ, ◌+◌, ◌^◌}
+use Rattle.std.specs.Prelude.{IsSome, None, Some, ◌==◌, ◌-◌, false}
 use Rattle.blob_header.specs.Refusals.{refused}
+use Rattle.blob_faulty.specs.declared.storage.Storage.{Storage}
 use Rattle.std.proofs.lemmas.Grind.{common_steps}
 use Rattle.blob_faults.specs.Faults.{retention}
 use Rattle.blob_faulty.specs.Wrapper.{GainsWrite}
-use Rattle.blob_faulty.proofs.Plainly.{nothing_changed, no_byte, pushed, refused_behind, relisted, same_rest, unasked, unrecorded_plain, unretained, unwritten}
+use Rattle.blob_faulty.proofs.Plainly.{allowed_behind, asked_behind, same_view, no_byte, pushed, refused_behind, relisted, same_rest, unasked, unrecorded_plain, unretained, unwritten}
 use Rattle.blob_faulty.proofs.blob.Blob.write_plain.Goals as goal
 
 pub returns-clause-recorded : goal.returns-clause-recorded
@@ -39,14 +40,43 @@ returns-then-is_empty-clause-recorded g c =
 -- Refused.
 
 pub returns-then-store-clause-recorded : goal.returns-then-store-clause-recorded
-returns-then-store-clause-recorded g c = unasked _ _ _ _ _ _ refl refl (nothing_changed _)
+returns-then-store-clause-recorded g c = unasked _ _ _ _ _ _ refl refl (same_view _)
 
 pub returns-in_err-copy-clause-recorded : goal.returns-in_err-copy-clause-recorded
 returns-in_err-copy-clause-recorded g c =
     let some : IsSome (refused c.from_residual.result) = first_of (search rules, grind (arith, common_steps)) in
-    unasked _ _ _ _ _ _ some (unwritten _ _ _ _ some) (nothing_changed _)
+    unasked _ _ _ _ _ _ some (unwritten _ _ _ _ some) (same_view _)
 
 pub returns-in_err-list-clause-recorded : goal.returns-in_err-list-clause-recorded
 returns-in_err-list-clause-recorded g c =
     let some : IsSome (refused c.from_residual-in_err-list.result) = first_of (search rules, grind (arith, common_steps)) in
     unasked _ _ _ _ _ _ some (unwritten _ _ _ _ some) (relisted g.S.Durable g.B.Blob c.args.self.now c.args.self.now c.args.store.now c.room_for.new.store refl refl c.room_for.ensures.rest c.room_for.ensures.same)
+
+-- What it may be answered, and what was asked.
+
+pub returns-clause-allowed : goal.returns-clause-allowed
+returns-clause-allowed g c =
+    let left : (c.args.store.now.next_write == 2 ^ 64 - 1) ≡ false = first_of (search rules, grind (arith, common_steps)) in
+    allowed_behind g.B.Blob c.args.self.now c.args.store.now c.room_for.new.store c.args.offset c.args.bytes _ None c.requires.plain c.room_for.ensures.rest left c.in_ok-write_unrecorded.ensures.allowed
+
+pub returns-clause-asked : goal.returns-clause-asked
+returns-clause-asked g c =
+    asked_behind g.B.Blob c.args.self.now c.args.store.now c.room_for.new.store c.args.offset c.args.bytes _ None c.write_unrecorded-2.new.self c.write_unrecorded-2.new.store.inner c.record_write.new.self c.requires.plain c.room_for.ensures.rest
+    (ap (λ (s : Storage g.row.S.Denot g.row.R.Denot g.row.S-Origin.Denot). s.inner) c.record_write.ensures.rest) c.in_ok-write_unrecorded.ensures.asked
+
+pub returns-in_err-write_unrecorded-clause-allowed : goal.returns-in_err-write_unrecorded-clause-allowed
+returns-in_err-write_unrecorded-clause-allowed g c =
+    let left : (c.args.store.now.next_write == 2 ^ 64 - 1) ≡ false = first_of (search rules, grind (arith, common_steps)) in
+    let r = c.write_unrecorded-2 in
+    let same : refused r.result ≡ refused c.from_residual-in_err-write_unrecorded.result = first_of (search rules, cc, grind (arith, common_steps)) in
+    rw (sym same) (allowed_behind g.B.Blob c.args.self.now c.args.store.now c.room_for.new.store c.args.offset c.args.bytes _ (refused r.result) c.requires.plain c.room_for.ensures.rest left r.ensures.allowed)
+
+-- The entry is of the bytes that were copied.
+
+pub record_write-requires-clause-fits : goal.record_write-requires-clause-fits
+record_write-requires-clause-fits g c = subst (λ (b : List ℕ). c.args.offset + length b < 2 ^ 64) (sym c.in_ok-copy.ensures.ok) c.requires.fits
+
+pub record_write-requires-clause-some : goal.record_write-requires-clause-some
+record_write-requires-clause-some g c =
+    let some : 0 < length c.args.bytes = first_of (search rules, grind (arith, common_steps)) in
+    subst (λ (b : List ℕ). 0 < length b) (sym c.in_ok-copy.ensures.ok) some

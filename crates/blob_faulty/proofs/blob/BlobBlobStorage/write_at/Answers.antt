@@ -1,4 +1,4 @@
-use Rattle.std.proofs.Common.{rules, ◌≡◌, ◌≢◌, ◌+◌, ◌^◌, ◌<◌, [], true, length, Some, arith, ap}
+use Rattle.std.proofs.Common.{rules, ◌≡◌, ◌≢◌, ◌+◌, ◌^◌, ◌<◌, [], true, length, Some, arith, ap, ap₂, ◌∙◌, Bool, ℕ}
 use Rattle.std.proofs.lemmas.Grind.{common_steps}
 use Rattle.rand_core.specs.Stream.{Stream}
 use Rattle.blob_base.specs.Options.{is_sync}
@@ -21,10 +21,14 @@ returns-in_err-fate-clause-leaves g c =
 
 -- what was drawn
 drawn : (g : Over) (c : goal.After-write_by_fate g) → write_fate_of c.in_ok-fate.fate ≡ (write_fate c.args.store.now.config (is_sync c.args.options) c.args.offset (length c.args.bytes) (g.R.Rng.stream c.args.store.now.rng)).0
-drawn g c = let told = ap (λ (d : WriteFate × Stream). d.0) c.in_ok-fate.ensures.ok in first_of (cc, search rules, grind (arith, common_steps))
+drawn g c =
+    ap (λ (d : WriteFate × Stream). d.0) c.in_ok-fate.ensures.ok
+    ∙ ap₂ (λ (s : Bool) (n : ℕ). (write_fate c.args.store.now.config s c.args.offset n (g.R.Rng.stream c.args.store.now.rng)).0) c.contains-sync.ensures c.remaining-len.ensures
 
 left : (g : Over) (c : goal.After-write_by_fate g) → g.R.Rng.stream c.draw_write.new.rng ≡ (write_fate c.args.store.now.config (is_sync c.args.options) c.args.offset (length c.args.bytes) (g.R.Rng.stream c.args.store.now.rng)).1
-left g c = let told = ap (λ (d : WriteFate × Stream). d.1) c.in_ok-fate.ensures.ok in first_of (cc, search rules, grind (arith, common_steps))
+left g c =
+    ap (λ (d : WriteFate × Stream). d.1) c.in_ok-fate.ensures.ok
+    ∙ ap₂ (λ (s : Bool) (n : ℕ). (write_fate c.args.store.now.config s c.args.offset n (g.R.Rng.stream c.args.store.now.rng)).1) c.contains-sync.ensures c.remaining-len.ensures
 
 pub returns-clause-leaves : goal.returns-clause-leaves
 returns-clause-leaves g c =

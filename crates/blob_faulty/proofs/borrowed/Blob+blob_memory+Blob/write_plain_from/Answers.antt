@@ -4,7 +4,7 @@ use Rattle.blob_header.specs.Refusals.{refused}
 use Rattle.std.proofs.lemmas.Grind.{common_steps}
 use Rattle.blob_faults.specs.Faults.{retention}
 use Rattle.blob_faulty.specs.Wrapper.{GainsWrite}
-use Rattle.blob_faulty.proofs.Plainly.{nothing_changed, pushed, refused_behind, relisted, same_rest, unasked, unmoved, unrecorded_plain, unretained, unwritten}
+use Rattle.blob_faulty.proofs.Plainly.{same_view, pushed, refused_behind, relisted, same_rest, unasked, unmoved, unrecorded_plain, unretained, unwritten}
 use Rattle.blob_memory.specs.contracts.blob.BlobBlobStorage.TheImpl as handle
 use Rattle.blob_memory.specs.contracts.storage.StorageDurable.TheImpl as store
 use Rattle.blob_faulty.proofs.borrowed.Blob+blob_memory+Blob.write_plain_from.Goals as goal
@@ -36,7 +36,7 @@ returns-in_default-clause-recorded g c =
 -- Refused.
 
 pub returns-then-store-clause-recorded : goal.returns-then-store-clause-recorded
-returns-then-store-clause-recorded g c = unasked _ _ _ _ _ _ refl refl (nothing_changed _)
+returns-then-store-clause-recorded g c = unasked _ _ _ _ _ _ refl refl (same_view _)
 
 pub returns-in_err-list-clause-recorded : goal.returns-in_err-list-clause-recorded
 returns-in_err-list-clause-recorded g c =
