@@ -1,4 +1,5 @@
 pub mod Adding
 pub mod Crashes
 pub mod Laying
+pub mod Opening
 pub mod Outcomes

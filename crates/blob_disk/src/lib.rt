@@ -6,7 +6,8 @@
 //! replays to over its durable bytes.
 #![tactic(auto)]
 
-ghost use Rattle.std.specs.Prelude.{◌≡◌, ℕ, List, [], true, IfOk};
+ghost use Rattle.std.specs.Prelude.{◌≡◌, ℕ, List, [], true, IfOk, OnErr};
+ghost use Rattle.blob_header.specs.Refusals.{IsMemory};
 ghost use Rattle.blob_faulty.specs.Certain.{IsNever, partial_resizes};
 ghost use Rattle.blob_disk.specs.Outcomes.{IsCurrent, IsStanding, IsTracked, IsWhole, whole_prop};
 
@@ -17,7 +18,7 @@ pub mod laws;
 use blob_base::laws::opens::accepted_opens;
 use blob_base::{Error, Storage};
 use blob_faulty::Config;
-use blob_faulty::laws::names::opens;
+use blob_faulty::laws::names::{opens, without_faults};
 use rand_core::Rng;
 use sqlite_disk::Disk;
 use std::alloc::Global;
@@ -56,18 +57,20 @@ impl<R: Rng + Drop> BlobDisk<R> {
     ///
     /// # Errors
     ///
-    /// Those of the open, by which nothing is injected.
+    /// `Memory`.
     pub fn new(alloc: Global, rng: R, config: Config, is_mixing: bool) -> Result<BlobDisk<R>, Error>
         requires { IsNever (partial_resizes config.resize_rate) }
         ensures empty { IfOk result (λ disk. ⟦<BlobDisk<R> as Disk>⟧.seen disk ≡ []) }
         ensures usable { IfOk result (λ disk. ⟦<BlobDisk<R> as Disk>⟧.is_usable disk ≡ true) }
         ensures mixing { IfOk result (λ disk. ⟦<BlobDisk<R> as Disk>⟧.is_mixing disk ≡ is_mixing) }
         ensures rates { IfOk result (λ disk. rates_of disk ≡ config) }
+        ensures memory { OnErr result (IsMemory result) }
     {
         let memory = blob_memory::Storage::new(alloc);
         let mut store = blob_faulty::Storage::new(alloc, memory, rng, Config::default());
         accepted_opens();
         opens::<blob_memory::Storage, R>();
+        without_faults::<blob_memory::Storage, R>();
         let (blob, _) = store.open(PARTITION, NAME)?;
         store.set_config(config);
         Ok(BlobDisk {

@@ -1,4 +1,4 @@
-use Rattle.std.proofs.Common.{◌≡◌, ◌∙◌, ap, sym, List, ℕ, [], Some, None, subst}
+use Rattle.std.proofs.Common.{rules, ◌≡◌, ◌∙◌, ap, sym, List, ℕ, [], Option, Some, None, subst}
 use Rattle.std.proofs.lemmas.Grind.{merely}
 use Rattle.std.proofs.lemmas.Option.{none-some}
 use Rattle.std.specs.Prelude.{codes}
@@ -6,9 +6,13 @@ use Rattle.blob_model.specs.Directory.{Directory}
 use Rattle.blob_model.specs.Durable.{Durable}
 use Rattle.blob_model.specs.Files.{Files, wrapped, after_open}
 use Rattle.blob_model.specs.Places.{Place}
+use Rattle.blob_model.specs.Rates.{Rate}
+use Rattle.blob_header.specs.Refusals.{refused, refusal_of}
 use Rattle.blob_disk.proofs.BlobDisk.new.Goals as goal
+use Rattle.blob_disk.proofs.Opening.{memory_alone, refused_alone}
 use Rattle.blob_disk.proofs.Outcomes.{configured_here, configured_whole}
-use Rattle.blob_faulty.specs.Wrapper.{inner_of, Stands}
+use Rattle.blob_faulty.specs.Certain.{IsNever}
+use Rattle.blob_faulty.specs.Wrapper.{config_of, inner_of, Stands}
 use Rattle.blob_memory.specs.Store.{directory, durable}
 
 pub invariant_of-result : goal.invariant_of-result
@@ -33,3 +37,14 @@ returns-clause-empty g c =
     let missing : (directory (inner_of c.new-store.result)).file (codes "disk") (codes "0") ≡ None =
     ap (λ m. (directory m).file (codes "disk") (codes "0")) c.new-store.ensures.inner ∙ ap (λ (d : Directory). d.file (codes "disk") (codes "0")) c.new-memory.ensures.directory in
     c.accepted_opens.ensures.missing_names_begin_empty _ _ _ _ (codes "disk") (codes "0") 0 0 _ _ _ c.in_ok-blob.ensures.opened missing
+
+pub returns-in_err-blob-clause-memory : goal.returns-in_err-blob-clause-memory
+returns-in_err-blob-clause-memory g c =
+    let s = c.new-store.result in
+    let answer = refusal_of c.in_err-blob.field-0.0 in
+    let said : refused c.from_residual.result ≡ Some answer = search rules in
+    let unset : (config_of s).open_rate ≡ None = search rules in
+    let never : IsNever (config_of s).open_rate = subst (λ (rate : Option Rate). IsNever rate) (sym unset) tt in
+    let made : directory (inner_of s) ≡ directory c.new-memory.result = ap directory c.new-store.ensures.inner in
+    let asked = (c.without_faults.ensures.opens s (codes "disk") (codes "0") 0 0 (Some answer) never).0 c.in_err-blob.ensures.allowed in
+    refused_alone c.from_residual.result (said ∙ memory_alone (directory (inner_of s)) answer (made ∙ c.new-memory.ensures.directory) asked)
