@@ -12,15 +12,14 @@ ghost use Rattle.blob_lab.specs.Streams.{reader_of, writer_of, AppendsPart, Told
 
 use super::Ahead;
 use super::lines::{Lines, Preamble};
-use crate::{Ending, Input, Output};
+use crate::{Ending, HandsOn, Input, Output};
 use blob_calls::Call;
 use blob_calls::script::print_reply;
 use blob_laboratory::Lab;
 use std::alloc::Global;
-use std::io::Write;
 
 /// Reads the preamble, makes the laboratory, and answers the calls.
-pub(super) fn run_lines<R: Ahead, W: Write>(
+pub(super) fn run_lines<R: Ahead, W: HandsOn>(
     alloc: Global,
     input: &mut Input<R>,
     output: &mut Output<W>,
@@ -46,7 +45,7 @@ pub(super) fn run_lines<R: Ahead, W: Write>(
     ran
 }
 
-fn answer_calls<R: Ahead, W: Write>(
+fn answer_calls<R: Ahead, W: HandsOn>(
     alloc: Global,
     lab: &mut Lab,
     first: Call,
@@ -76,7 +75,7 @@ fn answer_calls<R: Ahead, W: Write>(
 }
 
 /// Runs a call and writes its reply, in a text that is used again for each.
-fn answer<W: Write>(
+fn answer<W: HandsOn>(
     lab: &mut Lab,
     call: &Call,
     text: &mut String,
