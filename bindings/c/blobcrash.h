@@ -64,7 +64,7 @@ struct blobcrash_ran {
     size_t len;
 };
 
-/* How a script ended, how many bytes its replies have, and which line is bad, counted from 1. */
+/* How a script ended, how many bytes its replies have, and which line is bad, counted from 1; 0 where none is. */
 struct blobcrash_script_ran {
     uint32_t status;
     size_t len;
@@ -119,8 +119,9 @@ void blobcrash_close(struct blobcrash_session *session);
  * Runs a whole script, without a session, and writes its replies to the front of `replies`, each with a line feed: what the
  * program prints.
  *
- * DONE; BAD_LINE with the number of the line, and the replies before it; NO_ROOM with the room that is wanted, and nothing
- * written (a script's replies are a function of its text: run it again); NO_MEMORY and ENDLESS, with nothing written.
+ * DONE; BAD_LINE with the number of the line, and the replies before it; NO_ROOM with the room that is wanted, the number of
+ * the bad line if there is one, and nothing written (a script's replies are a function of its text: run it again); NO_MEMORY
+ * and ENDLESS, with nothing written.
  */
 struct blobcrash_script_ran blobcrash_run(const uint8_t *script, size_t script_len, uint8_t *replies, size_t replies_room);
 

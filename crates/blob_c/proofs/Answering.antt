@@ -34,6 +34,7 @@ answered k asked made k' line act ran old new asks kept reply makes same tells =
       bad_line = λ h. absurd (elim known [ inl e ↦ omega (arith, e, h) | inr more ↦ elim more [ inl e ↦ omega (arith, e, h) | inr e ↦ omega (arith, e, h) ] ]);
       no_memory = λ h. absurd (elim known [ inl e ↦ omega (arith, e, h) | inr more ↦ elim more [ inl e ↦ omega (arith, e, h) | inr e ↦ omega (arith, e, h) ] ]);
       status = elim known [ inl e ↦ inl e | inr more ↦ elim more [ inl e ↦ inr (inl e) | inr e ↦ inr (inr (inl e)) ] ];
+      no_reply = tells.no_reply;
       within = tells.within;
       unwritten = tells.unwritten;
     }
@@ -47,6 +48,7 @@ declined k k' line ran room is bad same =
       bad_line = λ h. (bad, same);
       no_memory = λ h. absurd (omega (arith, s, h));
       status = inr (inr (inr (inl s)));
+      no_reply = inr (inr none);
       within = inr (omega (arith, none));
       unwritten = inr refl;
     }

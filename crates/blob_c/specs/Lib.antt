@@ -1,3 +1,4 @@
 pub mod Owned
 pub mod Preambles
 pub mod Sessions
+pub mod WholeScripts

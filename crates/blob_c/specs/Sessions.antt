@@ -49,6 +49,7 @@ pub record AnswersLine (k k' : Kept) (line : List ℕ) (ran : Ran) (old new : Li
   pub bad_line : ran.status ≡ BAD_LINE → IsNoCall line × (k' ≡ k)
   pub no_memory : ran.status ≡ NO_MEMORY → k' ≡ k
   pub status : (ran.status ≡ DONE) ⊎ (ran.status ≡ NO_ROOM) ⊎ (ran.status ≡ UNPRINTED) ⊎ (ran.status ≡ BAD_LINE) ⊎ (ran.status ≡ NO_MEMORY)
+  pub no_reply : (ran.status ≡ DONE) ⊎ (ran.status ≡ NO_ROOM) ⊎ (ran.len ≡ 0)
   -- a length beyond the room is told where room is wanted, and nowhere else
   pub within : (ran.status ≡ NO_ROOM) ⊎ (ran.len ≤ length old)
   pub unwritten : (ran.status ≡ DONE) ⊎ (new ≡ old)
@@ -58,6 +59,7 @@ pub record TellsAgain (k k' : Kept) (ran : Ran) (old new : List ℕ) : Type 0 wh
   pub done : ran.status ≡ DONE → MatchOption k.last (ran.len ≡ 0) (λ reply. take ran.len new ≡ reply_line reply)
   pub no_room : ran.status ≡ NO_ROOM → IfSome k.last (λ reply. (ran.len ≡ length (reply_line reply)) × (length old < ran.len))
   pub status : (ran.status ≡ DONE) ⊎ (ran.status ≡ NO_ROOM) ⊎ (ran.status ≡ UNPRINTED)
+  pub no_reply : (ran.status ≡ DONE) ⊎ (ran.status ≡ NO_ROOM) ⊎ (ran.len ≡ 0)
   -- a length beyond the room is told where room is wanted, and nowhere else
   pub within : (ran.status ≡ NO_ROOM) ⊎ (ran.len ≤ length old)
   pub unwritten : (ran.status ≡ DONE) ⊎ (new ≡ old)

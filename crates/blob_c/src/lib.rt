@@ -7,6 +7,7 @@ ghost use Rattle.std.specs.Prelude.{◌≡◌, ◌⊎◌, ◌<◌, ◌≤◌, So
 ghost use Rattle.blob_lab.specs.Scripts.{Prints, PrintsBefore, no_script, lines_of, script_of};
 ghost use Rattle.blob_c.specs.Preambles.{BreaksAt, IsMadeOf};
 ghost use Rattle.blob_c.specs.Sessions.{AnswersLine, AnswersRead, AnswersWrite, IsClosed, OnHeld, TellsAgain, held};
+ghost use Rattle.blob_c.specs.WholeScripts.{WantsRoom};
 
 mod kept;
 mod loose;
@@ -23,12 +24,15 @@ use std::alloc::Global;
 /// Runs a script, and writes its replies to the front of `replies`, a line each.
 ///
 /// `BAD_LINE` tells the line's number, and writes the replies before it. `NO_ROOM` writes nothing and tells how much room
-/// is wanted; `NO_MEMORY` and `ENDLESS` write nothing.
+/// is wanted, and of a bad line, before which that is, the number; `NO_MEMORY` and `ENDLESS` write nothing.
 #[unsafe(no_mangle)]
 pub extern "C" fn blobcrash_run(alloc: Global, script: &[u8], replies: &mut [u8]) -> ScriptRan
     ensures done { result.status ≡ DONE → Prints (script_of (lines_of script.now)) (Some []) (Some (take result.len replies.new)) }
     ensures bad_line { result.status ≡ BAD_LINE → PrintsBefore no_script 1 result.line (lines_of script.now) (Some []) (Some (take result.len replies.new)) }
     ensures no_room { result.status ≡ NO_ROOM → length replies.old < result.len }
+    ensures wanted { result.status ≡ NO_ROOM → WantsRoom script.now result.line result.len }
+    ensures no_line { result.status ≡ DONE → result.line ≡ 0 }
+    ensures stopped { (result.status ≡ NO_MEMORY) ⊎ (result.status ≡ ENDLESS) → (result.len ≡ 0) × (result.line ≡ 0) }
     ensures unwritten { (result.status ≡ DONE) ⊎ (result.status ≡ BAD_LINE) ⊎ (replies.new ≡ replies.old) }
     ensures within { (result.status ≡ NO_ROOM) ⊎ (result.len ≤ length replies.old) }
     ensures status { (result.status ≡ DONE) ⊎ (result.status ≡ BAD_LINE) ⊎ (result.status ≡ NO_ROOM) ⊎ (result.status ≡ NO_MEMORY) ⊎ (result.status ≡ ENDLESS) }
@@ -45,6 +49,8 @@ pub extern "C" fn blobcrash_open(alloc: Global, session: &mut Session, preamble:
     ensures done { result.status ≡ DONE → IsSome (held session.new) × IfSome (held session.new) (λ k. IsMadeOf k (lines_of preamble.now)) }
     ensures bad_line { result.status ≡ BAD_LINE → BreaksAt (lines_of preamble.now) result.line × (held session.new ≡ held session.old) }
     ensures no_memory { result.status ≡ NO_MEMORY → held session.new ≡ held session.old }
+    ensures no_line { (result.status ≡ BAD_LINE) ⊎ (result.line ≡ 0) }
+    ensures no_reply { result.len ≡ 0 }
     ensures status { (result.status ≡ DONE) ⊎ (result.status ≡ BAD_LINE) ⊎ (result.status ≡ NO_MEMORY) }
 {
     let kept = match preamble::start(alloc, preamble) {

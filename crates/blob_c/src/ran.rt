@@ -36,7 +36,7 @@ pub struct ScriptRan {
     pub status: u32,
     /// In bytes; with `NO_ROOM` the room that is wanted.
     pub len: usize,
-    /// With `BAD_LINE` the line's number, else 0.
+    /// With `BAD_LINE` the line's number, and with `NO_ROOM` that of the bad line before which the run stops; else 0.
     pub line: u64,
 }
 
