@@ -14,4 +14,4 @@ pub use blob_opens::{Opens, open, opens};
 pub use blob_states::laws;
 pub use ending::Ending;
 pub use resolution_line::ResolutionLine;
-pub use streams::{HandsOn, Input, Output};
+pub use streams::{Input, Output};

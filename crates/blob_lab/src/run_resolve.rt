@@ -1,4 +1,4 @@
-ghost use Rattle.std.specs.Prelude.{true, ◌≡◌, ◌≢◌, [], IfSome, IsErr};
+ghost use Rattle.std.specs.Prelude.{true, ◌≡◌, ◌≢◌, IfSome, IsErr};
 ghost use Rattle.std.specs.Io.KnownBytes.{Keeps};
 ghost use Rattle.std.specs.Io.BufRead.{DropsThrough, first_piece};
 ghost use Rattle.hex.specs.Hex.{decode_of};
@@ -8,13 +8,13 @@ ghost use Rattle.blob_lab.specs.Streams.{reader_of, read_failed, writer_of, writ
 
 mod resolving;
 
-use crate::{Ending, HandsOn, Input, Output};
+use crate::{Ending, Input, Output};
 use resolving::resolve_line;
 use std::alloc::Global;
-use std::io::BufRead;
+use std::io::{BufRead, Write};
 
 /// Reads one line of hex digits, resolves its bytes as a whole blob, and writes what comes of it as one line, which is flushed.
-pub fn run_resolve<R: BufRead, W: HandsOn>(
+pub fn run_resolve<R: BufRead, W: Write>(
     alloc: Global,
     input: &mut Input<R>,
     output: &mut Output<W>,
@@ -27,7 +27,6 @@ pub fn run_resolve<R: BufRead, W: HandsOn>(
         → Keeps (W.contents (writer_of output.old)) (W.contents (writer_of output.new)) }
     ensures ending { is_of_resolve result ≡ true }
     ensures handed_on { result ≡ Ending.Done → is_flushed output.new ≡ true }
-    ensures all_sent { result ≡ Ending.Done → W.unsent (writer_of output.new) ≡ [] }
     ensures input_failed { result ≡ Ending.InputFailed → read_failed input.new ≡ true }
     ensures output_failed { result ≡ Ending.OutputFailed → write_failed output.new ≡ true }
     ensures input_sound { result ≢ Ending.InputFailed → read_failed input.new ≡ read_failed input.old }

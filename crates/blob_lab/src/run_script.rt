@@ -1,4 +1,4 @@
-ghost use Rattle.std.specs.Prelude.{◌≡◌, ◌≢◌, ℕ, [], true, IfSome};
+ghost use Rattle.std.specs.Prelude.{◌≡◌, ◌≢◌, ℕ, true, IfSome};
 ghost use Rattle.blob_lab.specs.Endings.{is_of_script};
 ghost use Rattle.blob_lab.specs.Reading.{IsReadOut};
 ghost use Rattle.blob_lab.specs.Scripts.{OfLines, Prints, PrintsBefore, PrintsTaken, PrintsPart, lines_of, no_script, script_of};
@@ -8,10 +8,11 @@ mod ahead;
 mod answering;
 mod lines;
 
-use crate::{Ending, HandsOn, Input, Output};
+use crate::{Ending, Input, Output};
 pub use ahead::Ahead;
 use answering::run_lines;
 use std::alloc::Global;
+use std::io::Write;
 
 /// Runs a script: reads its lines, and writes the reply to each call as a line before the next one is read. Before a read that
 /// may wait, as no whole line lies ready, the replies are handed on: whoever sends a line at a time gets each reply before the
@@ -19,7 +20,7 @@ use std::alloc::Global;
 ///
 /// The writer is flushed at the end, so that `Done` says that every reply was handed on, and so that the replies before a
 /// failure stand before what is told of it. Where that flush fails too, the run ends as `OutputFailed`.
-pub fn run_script<R: Ahead, W: HandsOn>(
+pub fn run_script<R: Ahead, W: Write>(
     alloc: Global,
     input: &mut Input<R>,
     output: &mut Output<W>,
@@ -35,7 +36,6 @@ pub fn run_script<R: Ahead, W: HandsOn>(
     ensures part { result ≡ Ending.OutputFailed → OfLines (R.remaining (reader_of input.old)) (R.remaining (reader_of input.new))
         (λ lines left. PrintsPart no_script lines left (W.contents (writer_of output.old)) (W.contents (writer_of output.new))) }
     ensures handed_on { result ≢ Ending.OutputFailed → is_flushed output.new ≡ true }
-    ensures all_sent { result ≢ Ending.OutputFailed → W.unsent (writer_of output.new) ≡ [] }
     ensures input_failed { result ≡ Ending.InputFailed → read_failed input.new ≡ true }
     ensures output_failed { result ≡ Ending.OutputFailed → write_failed output.new ≡ true }
     ensures input_sound { result ≢ Ending.InputFailed → result ≢ Ending.OutputFailed → read_failed input.new ≡ read_failed input.old }

@@ -1,17 +1,14 @@
 //! The streams of a run: a reader and a writer, and what came of using them.
-ghost use Rattle.std.specs.Prelude.{◌≡◌, ◌≢◌, ◌⊎◌, ◌+◌, ◌++◌, ◌<◌, [], true, false, IfSome, IfErr, OnOk};
+ghost use Rattle.std.specs.Prelude.{◌≡◌, ◌≢◌, ◌⊎◌, ◌+◌, ◌++◌, ◌<◌, true, false, IfSome, IfErr, OnOk};
 ghost use Rattle.std.specs.Io.KnownBytes.{Appends, Keeps};
 ghost use Rattle.std.specs.Io.BufRead.{strip_last};
 ghost use Rattle.std.specs.Fmt.{with_newline};
 ghost use Rattle.blob_lab.specs.Endings.{is_of_stream};
 ghost use Rattle.blob_lab.specs.Streams.{reader_of, lines_left, read_failed, writer_of, write_failed, is_flushed, has_line, AppendsPart, ReadsLine, Told, ToldOutput};
 
-mod hands_on;
-
 use crate::Ending;
 use crate::run_script::Ahead;
 use blob_calls::script::read_through;
-pub use hands_on::HandsOn;
 use memchr::memchr;
 use std::fmt::Display;
 use std::io::{BufRead, ErrorKind, Write};
@@ -55,13 +52,12 @@ impl<R> Input<R> {
 impl<R: BufRead> Input<R> {
     /// Reads one line with its end behind what `line` has, and answers how many bytes; 0 at the end of the input. What was
     /// written is handed on before, since reading may wait.
-    pub(crate) fn read_line<W: HandsOn>(
+    pub(crate) fn read_line<W: Write>(
         &mut self,
         line: &mut Vec<u8>,
         output: &mut Output<W>,
     ) -> Result<usize, Ending>
         ensures handed_on { result ≢ Err Ending.OutputFailed → is_flushed output.new ≡ true }
-        ensures all_sent { result ≢ Err Ending.OutputFailed → is_flushed output.old ≡ false → W.unsent (writer_of output.new) ≡ [] }
         ensures told { Told result self.old self.new output.old output.new }
         ensures kept { Keeps (W.contents (writer_of output.old)) (W.contents (writer_of output.new)) }
         ensures ending { IfErr result (λ ending. is_of_stream ending ≡ true) }
@@ -117,14 +113,12 @@ impl<R: BufRead> Input<R> {
 
 impl<R: Ahead> Input<R> {
     /// The same, but where a whole line lies ready, so that taking it doesn't wait, what was written may still be held.
-    pub(crate) fn read_ahead<W: HandsOn>(
+    pub(crate) fn read_ahead<W: Write>(
         &mut self,
         line: &mut Vec<u8>,
         output: &mut Output<W>,
     ) -> Result<usize, Ending>
         ensures handed_on { result ≢ Err Ending.OutputFailed → (is_flushed output.new ≡ true) ⊎ (has_line (R.ready (reader_of self.old)) ≡ true) }
-        ensures all_sent { result ≢ Err Ending.OutputFailed → is_flushed output.old ≡ false
-            → (W.unsent (writer_of output.new) ≡ []) ⊎ (has_line (R.ready (reader_of self.old)) ≡ true) }
         ensures told { Told result self.old self.new output.old output.new }
         ensures kept { Keeps (W.contents (writer_of output.old)) (W.contents (writer_of output.new)) }
         ensures ending { IfErr result (λ ending. is_of_stream ending ≡ true) }
@@ -182,7 +176,7 @@ impl<W> Output<W> {
     }
 }
 
-impl<W: HandsOn> Output<W> {
+impl<W: Write> Output<W> {
     /// Writes all of these bytes, which aren't handed on before a flush.
     ///
     /// # Errors
@@ -229,19 +223,18 @@ impl<W: HandsOn> Output<W> {
         }
     }
 
-    /// Flushes the writer, which hands on all that it has.
+    /// Flushes the writer.
     ///
     /// # Errors
     ///
     /// `OutputFailed`.
     pub fn flush(&mut self) -> Result<(), Ending>
         ensures flushed { OnOk result (is_flushed self.new ≡ true) }
-        ensures all_sent { OnOk result (W.unsent (writer_of self.new) ≡ []) }
         ensures kept { Keeps (W.contents (writer_of self.old)) (W.contents (writer_of self.new)) }
         ensures ending { IfErr result (λ ending. ending ≡ Ending.OutputFailed) }
         ensures told { ToldOutput result self.old self.new }
     {
-        match self.writer.hand_on() {
+        match self.writer.flush() {
             Ok(()) => {
                 self.flushed = true;
                 Ok(())
@@ -256,7 +249,6 @@ impl<W: HandsOn> Output<W> {
     /// Flushes the writer, unless that was done behind the last write.
     fn hand_on(&mut self) -> Result<(), Ending>
         ensures flushed { OnOk result (is_flushed self.new ≡ true) }
-        ensures all_sent { is_flushed self.old ≡ false → OnOk result (W.unsent (writer_of self.new) ≡ []) }
         ensures kept { Keeps (W.contents (writer_of self.old)) (W.contents (writer_of self.new)) }
         ensures ending { IfErr result (λ ending. ending ≡ Ending.OutputFailed) }
         ensures told { ToldOutput result self.old self.new }

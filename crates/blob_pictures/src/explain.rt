@@ -1,5 +1,5 @@
 // A script's replies with the pictures between them.
-ghost use Rattle.std.specs.Prelude.{◌≡◌, ◌≢◌, ◌⊎◌, ◌<◌, ◌++◌, ◌∷◌, ℕ, [], true, IfSome, IfOk, IfErr, OnOk, length};
+ghost use Rattle.std.specs.Prelude.{◌≡◌, ◌≢◌, ◌⊎◌, ◌<◌, ◌++◌, ◌∷◌, ℕ, true, IfSome, IfOk, IfErr, OnOk, length};
 ghost use Rattle.std.specs.Io.KnownBytes.{Keeps};
 ghost use Rattle.blob_lab.specs.Endings.{is_of_script};
 ghost use Rattle.blob_lab.specs.Scripts.{Prints, PrintsBefore, lines_of, no_script, script_of};
@@ -10,9 +10,9 @@ ghost use Rattle.blob_pictures.specs.Explanations.{IsExplanation, WritesExplanat
 use crate::play::pictures_of;
 use crate::remarks::push_remarks;
 use blob_lab::run_script::run_script;
-use blob_lab::{Ending, HandsOn, Input, Output};
+use blob_lab::{Ending, Input, Output};
 use std::alloc::{AllocError, Global};
-use std::io::BufRead;
+use std::io::{BufRead, Write};
 
 /// Runs a script to its end, and writes what `run_script` writes with remarks behind each reply to a crash that was drawn: lines
 /// that begin with `# ` and show what became of each file that had something pending.
@@ -20,7 +20,7 @@ use std::io::BufRead;
 /// All of it is written at the end, and the script is run twice, for its replies and for the pictures. Where it ends as
 /// `InputFailed` nothing was written, nor may it be where it ends as `NoMemory`. The writer is flushed at the end, whatever came
 /// before; where that fails it ends as `OutputFailed`.
-pub fn explain_script<R: BufRead, W: HandsOn>(
+pub fn explain_script<R: BufRead, W: Write>(
     alloc: Global,
     input: &mut Input<R>,
     output: &mut Output<W>,
@@ -32,7 +32,6 @@ pub fn explain_script<R: BufRead, W: HandsOn>(
         (λ input. Explains (PrintsBefore no_script 1 number (lines_of input)) (W.contents (writer_of output.old)) (W.contents (writer_of output.new))) }
     ensures unwritten { result ≡ Ending.InputFailed → Keeps (W.contents (writer_of output.old)) (W.contents (writer_of output.new)) }
     ensures handed_on { result ≢ Ending.OutputFailed → is_flushed output.new ≡ true }
-    ensures all_sent { result ≢ Ending.OutputFailed → W.unsent (writer_of output.new) ≡ [] }
     ensures input_failed { result ≡ Ending.InputFailed → read_failed input.new ≡ true }
     ensures output_failed { result ≡ Ending.OutputFailed → write_failed output.new ≡ true }
     ensures input_sound { result ≢ Ending.InputFailed → result ≢ Ending.OutputFailed → read_failed input.new ≡ read_failed input.old }
@@ -47,7 +46,7 @@ pub fn explain_script<R: BufRead, W: HandsOn>(
 }
 
 /// Writes the explanation, and answers how the script ended.
-fn write_explanation<R: BufRead, W: HandsOn>(
+fn write_explanation<R: BufRead, W: Write>(
     alloc: Global,
     input: &mut Input<R>,
     output: &mut Output<W>,

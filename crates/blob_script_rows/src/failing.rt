@@ -1,7 +1,4 @@
 //! A reader and a writer that fail in mid-stream, for tests.
-ghost use Rattle.std.specs.Prelude.{[]};
-
-use blob_lab::HandsOn;
 use std::io::{self, Error, ErrorKind, Read, Write};
 
 /// Gives its bytes three at a time, and fails once `reads` are done.
@@ -51,13 +48,5 @@ impl Write for Full {
         } else {
             Err(Error::from(ErrorKind::Other))
         }
-    }
-}
-
-impl HandsOn for Full {
-    ghost unsent = { λ _. [] };
-
-    fn hand_on(&mut self) -> io::Result<()> {
-        self.flush()
     }
 }

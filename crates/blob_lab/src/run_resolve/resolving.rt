@@ -1,5 +1,5 @@
 // A line of hex, resolved and answered.
-ghost use Rattle.std.specs.Prelude.{true, ◌≡◌, [], OnOk, ◌≢◌, ◌⊎◌, IfSome, IfOk, IfErr, IsErr};
+ghost use Rattle.std.specs.Prelude.{true, ◌≡◌, OnOk, ◌≢◌, ◌⊎◌, IfSome, IfOk, IfErr, IsErr};
 ghost use Rattle.std.specs.Io.KnownBytes.{Keeps};
 ghost use Rattle.std.specs.Io.BufRead.{DropsThrough, first_piece};
 ghost use Rattle.hex.specs.Hex.{decode_of};
@@ -10,14 +10,14 @@ ghost use Rattle.blob_lab.specs.Streams.{reader_of, writer_of, is_flushed, Told}
 
 use crate::resolution_line::ResolutionLine;
 use crate::streams::drop_line_feed;
-use crate::{Ending, HandsOn, Input, Output};
+use crate::{Ending, Input, Output};
 use blob_base::{BlobVersion, Error, Layout, resolve};
 use hex::FromHexError;
 use std::alloc::Global;
-use std::io::BufRead;
+use std::io::{BufRead, Write};
 
 /// Answers one line, and flushes that answer.
-pub(super) fn resolve_line<R: BufRead, W: HandsOn>(
+pub(super) fn resolve_line<R: BufRead, W: Write>(
     alloc: Global,
     input: &mut Input<R>,
     output: &mut Output<W>,
@@ -30,7 +30,6 @@ pub(super) fn resolve_line<R: BufRead, W: HandsOn>(
         → Keeps (W.contents (writer_of output.old)) (W.contents (writer_of output.new))) }
     ensures cut { IfErr result (λ ending. is_cut_of_resolve ending ≡ true) }
     ensures handed_on { OnOk result (is_flushed output.new ≡ true) }
-    ensures all_sent { OnOk result (W.unsent (writer_of output.new) ≡ []) }
     ensures told { Told result input.old input.new output.old output.new }
 {
     let line = read_line(alloc, input, output)?;
@@ -58,7 +57,7 @@ fn resolved(alloc: Global, image: &[u8]) -> Result<Option<(u64, BlobVersion, u64
 }
 
 // One line without its end.
-fn read_line<R: BufRead, W: HandsOn>(
+fn read_line<R: BufRead, W: Write>(
     alloc: Global,
     input: &mut Input<R>,
     output: &mut Output<W>,

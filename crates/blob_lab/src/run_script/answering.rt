@@ -12,14 +12,15 @@ ghost use Rattle.blob_lab.specs.Streams.{reader_of, writer_of, AppendsPart, Told
 
 use super::Ahead;
 use super::lines::{Lines, Preamble};
-use crate::{Ending, HandsOn, Input, Output};
+use crate::{Ending, Input, Output};
 use blob_calls::Call;
 use blob_calls::script::print_reply;
 use blob_laboratory::Lab;
 use std::alloc::Global;
+use std::io::Write;
 
 /// Reads the preamble, makes the laboratory, and answers the calls.
-pub(super) fn run_lines<R: Ahead, W: HandsOn>(
+pub(super) fn run_lines<R: Ahead, W: Write>(
     alloc: Global,
     input: &mut Input<R>,
     output: &mut Output<W>,
@@ -45,7 +46,7 @@ pub(super) fn run_lines<R: Ahead, W: HandsOn>(
     ran
 }
 
-fn answer_calls<R: Ahead, W: HandsOn>(
+fn answer_calls<R: Ahead, W: Write>(
     alloc: Global,
     lab: &mut Lab,
     first: Call,
@@ -75,7 +76,7 @@ fn answer_calls<R: Ahead, W: HandsOn>(
 }
 
 /// Runs a call and writes its reply, in a text that is used again for each.
-fn answer<W: HandsOn>(
+fn answer<W: Write>(
     lab: &mut Lab,
     call: &Call,
     text: &mut String,

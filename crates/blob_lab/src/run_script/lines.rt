@@ -16,7 +16,7 @@ ghost use Rattle.blob_laboratory.specs.Tables.{images_of};
 
 use super::Ahead;
 use crate::streams::drop_line_feed;
-use crate::{Ending, HandsOn, Input, Output};
+use crate::{Ending, Input, Output};
 use blob_base::Error;
 use blob_calls::Call;
 use blob_calls::script::setting::copy_of;
@@ -24,6 +24,7 @@ use blob_calls::script::{Line, RefusedLine, Setting, read_line};
 use blob_faulty::Config;
 use blob_laboratory::Lab;
 use std::alloc::Global;
+use std::io::Write;
 
 /// What the lines before the first call say.
 #[derive(Drop)]
@@ -83,7 +84,7 @@ impl Lines {
     }
 
     /// Reads up to the first call, and keeps what comes before it.
-    pub(crate) fn first_call<R: Ahead, W: HandsOn>(
+    pub(crate) fn first_call<R: Ahead, W: Write>(
         &mut self,
         input: &mut Input<R>,
         output: &mut Output<W>,
@@ -137,7 +138,7 @@ impl Lines {
     }
 
     /// Reads up to the next call. A line of the preamble can't come any more.
-    pub(crate) fn next_call<R: Ahead, W: HandsOn>(
+    pub(crate) fn next_call<R: Ahead, W: Write>(
         &mut self,
         input: &mut Input<R>,
         output: &mut Output<W>,
@@ -174,7 +175,7 @@ impl Lines {
     }
 
     /// Reads one line; none where the input is at its end.
-    fn next_line<R: Ahead, W: HandsOn>(
+    fn next_line<R: Ahead, W: Write>(
         &mut self,
         input: &mut Input<R>,
         output: &mut Output<W>,

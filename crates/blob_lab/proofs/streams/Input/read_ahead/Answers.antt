@@ -9,9 +9,3 @@ returns-clause-handed_on g c = λ h. elim c.if-is_none.branch [
   | then-is_none+in_ok-hand_on w ↦ inl (search rules)
   | else-is_none w ↦ inr (subst (λ (l : List ℕ). has_line l ≡ true) c.ready.ensures (line_ready c.ready.result.now c.memchr.result c.memchr.ensures (search rules)))
 ]
-
-pub returns-clause-all_sent : goal.returns-clause-all_sent
-returns-clause-all_sent g c = λ h written. elim c.if-is_none.branch [
-  | then-is_none+in_ok-hand_on w ↦ inl (search rules)
-  | else-is_none w ↦ inr (subst (λ (l : List ℕ). has_line l ≡ true) c.ready.ensures (line_ready c.ready.result.now c.memchr.result c.memchr.ensures (search rules)))
-]
