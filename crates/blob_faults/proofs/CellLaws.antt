@@ -2,7 +2,7 @@
 use Rattle.std.proofs.Common.{◌≡◌, ℕ, ◌+◌, ◌*◌, ◌/◌, ◌%◌, ◌<◌, ◌≤◌, Bool, true, false, refl, sym, ◌∙◌, ap, nat_lt, if◌then◌else◌, arith}
 use Rattle.std.proofs.lemmas.Bool.Decides.{nat_tests}
 use Rattle.blob_model.specs.declared.mode.PartialWriteMode.{PartialWriteMode}
-use Rattle.blob_model.specs.declared.mode.PartialWriteMode.TheVariants.{Prefix, Subset, Sectors}
+use Rattle.blob_model.specs.declared.mode.PartialWriteMode.TheVariants.{Prefix, Subset}
 use Rattle.blob_faults.specs.Cells.{Grid, config_in_cell, mode_in_cell, first_cell_of, second_cell_of, first_of, second_of}
 
 mode_first : (cell : ℕ) → cell < 10201 → mode_in_cell cell ≡ Prefix
@@ -25,8 +25,7 @@ subset_cell f r hf hr =
 
 is_prefix : PartialWriteMode → Bool
 is_prefix Prefix = true
-is_prefix Subset = false
-is_prefix (Sectors size) = false
+is_prefix mode = false
 
 test_of : (cell : ℕ) → nat_lt cell 10201 ≡ is_prefix (mode_in_cell cell)
 unfolding is_prefix

@@ -66,10 +66,8 @@ fn print_writes(config: &WriteConfig, line: &mut String) -> Result<(), AllocErro
     match config.mode {
         PartialWriteMode::Prefix => line.push_str("prefix"),
         PartialWriteMode::Subset => line.push_str("subset"),
-        PartialWriteMode::Sectors(size) => {
-            let size = size.get();
-            write!(line, "sectors {size}")
-        }
+        // no cell has another
+        mode => write!(line, "{mode:?}"),
     }
 }
 

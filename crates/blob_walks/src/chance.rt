@@ -1,8 +1,9 @@
 // What the walks leave to chance, the same in every run.
 ghost use Rattle.std.specs.Prelude.{◌<◌};
 
-use blob_base::{Error, Probability, SectorSize};
-use blob_faulty::{Config, PartialWriteMode, ResizeConfig, WriteConfig};
+use crate::modes;
+use blob_base::{Error, Probability};
+use blob_faulty::{Config, ResizeConfig, WriteConfig};
 use rand_core::{Rng, SeedableRng};
 use rand_xoshiro::Xoshiro256PlusPlus;
 use std::alloc::Global;
@@ -83,17 +84,6 @@ impl Chance {
         }
     }
 
-    fn mode(&mut self) -> PartialWriteMode {
-        match self.below(3) {
-            0 => PartialWriteMode::Prefix,
-            1 => PartialWriteMode::Subset,
-            _ => match SectorSize::new(self.below(6).wrapping_add(1)) {
-                Some(size) => PartialWriteMode::Sectors(size),
-                None => PartialWriteMode::Subset,
-            },
-        }
-    }
-
     fn write_rate(&mut self) -> Option<WriteConfig> {
         if self.is_one_of(8) {
             return None;
@@ -111,7 +101,7 @@ impl Chance {
         Some(WriteConfig {
             failure_rate,
             retention_rate,
-            mode: self.mode(),
+            mode: modes::by_chance(self),
         })
     }
 

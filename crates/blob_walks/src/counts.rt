@@ -1,6 +1,7 @@
 // What the walks met, so that walks that meet too little fail.
+use crate::modes::{self, MODES};
 use blob_base::Error;
-use blob_faulty::{PartialWriteMode, Selections};
+use blob_faulty::Selections;
 use blob_lab::{Call, Reply};
 use std::process::Abort;
 
@@ -12,7 +13,7 @@ pub struct Counts {
     /// Those that an injected fault refused.
     injected: [u64; 16],
     /// Configurations with each mode of writes.
-    modes: [u64; 3],
+    modes: [u64; MODES],
     /// Bytes of pending writes that crashes kept, and that they lost.
     kept: u64,
     lost: u64,
@@ -65,7 +66,7 @@ impl Counts {
         Counts {
             calls: [0; 16],
             injected: [0; 16],
-            modes: [0; 3],
+            modes: [0; MODES],
             kept: 0,
             lost: 0,
             unknown: 0,
@@ -83,14 +84,7 @@ impl Counts {
         if let Call::Configure(config) = call
             && let Some(write) = &config.write_rate
         {
-            add_at(
-                &mut self.modes,
-                match write.mode {
-                    PartialWriteMode::Prefix => 0,
-                    PartialWriteMode::Subset => 1,
-                    PartialWriteMode::Sectors(_) => 2,
-                },
-            );
+            add_at(&mut self.modes, modes::number_of(&write.mode));
         }
         match reply {
             Reply::Failed(Error::Injected) => add_at(&mut self.injected, kind_of(call)),

@@ -15,6 +15,8 @@ mod log_seeds;
 #[cfg(test)]
 mod log_use;
 #[cfg(test)]
+mod modes;
+#[cfg(test)]
 mod record;
 #[cfg(test)]
 mod walk;

@@ -1,0 +1,28 @@
+// The modes that walks configure and count: all there are.
+use crate::chance::Chance;
+use blob_base::SectorSize;
+use blob_faulty::PartialWriteMode;
+
+/// How many there are.
+pub const MODES: usize = 3;
+
+/// One of them by chance, of sectors of a few bytes.
+pub fn by_chance(chance: &mut Chance) -> PartialWriteMode {
+    match chance.below(3) {
+        0 => PartialWriteMode::Prefix,
+        1 => PartialWriteMode::Subset,
+        _ => match SectorSize::new(chance.below(6).wrapping_add(1)) {
+            Some(size) => PartialWriteMode::Sectors(size),
+            None => PartialWriteMode::Subset,
+        },
+    }
+}
+
+/// Its number among them.
+pub fn number_of(mode: &PartialWriteMode) -> usize {
+    match mode {
+        PartialWriteMode::Prefix => 0,
+        PartialWriteMode::Subset => 1,
+        PartialWriteMode::Sectors(_) => 2,
+    }
+}
