@@ -1,6 +1,7 @@
 """The trusted text: which files of specs/ the contracts of the program's calls lead to, definition by definition, by what the
 files import. Compares them with the rows of docs/TRUST.md, where each file stands behind those that it leads to; with `list`
-prints them, each with the definitions that count. The last line is `N passed, M failed`."""
+prints them, each with the definitions that count. And no two files of specs/ define one name. The last line is
+`N passed, M failed`."""
 
 import collections
 import glob
@@ -132,6 +133,14 @@ def trusted(specs):
     return found
 
 
+def defined_twice(specs):
+    """The names that more than one file of specs/ defines, with these files."""
+    paths = collections.defaultdict(set)
+    for module, name in specs.lines:
+        paths[name].add(specs.files[module])
+    return [(name, sorted(found)) for name, found in sorted(paths.items()) if len(found) > 1]
+
+
 def main(what):
     specs = Specs()
     found = trusted(specs)
@@ -154,8 +163,11 @@ def main(what):
             faults.append(f"{high} stands before {low}, to which it leads")
     for fault in faults:
         print(f"{PAGE}: {fault}")
-    print(f"{len(by_file.keys() & set(told))} passed, {len(faults)} failed")
-    return int(bool(faults))
+    twice = defined_twice(specs)
+    for name, paths in twice:
+        print(f"{name} is defined in {' and '.join(paths)}")
+    print(f"{len(by_file.keys() & set(told)) + (not twice)} passed, {len(faults) + len(twice)} failed")
+    return int(bool(faults or twice))
 
 
 if __name__ == "__main__":

@@ -1,6 +1,7 @@
 #!/bin/sh
-# That docs/TRUST.md names the files of specs/ which the contracts of the program's calls lead to, in reading order. `trust.sh
-# list` prints them with their definitions. The last line is `N passed, M failed`.
+# That docs/TRUST.md names the files of specs/ which the contracts of the program's calls lead to, in reading order, and that no
+# two files of specs/ define one name. `trust.sh list` prints the files with their definitions. The last line is
+# `N passed, M failed`.
 set -u
 
 top=$(CDPATH='' cd -- "$(dirname -- "$0")/.." && pwd -P)

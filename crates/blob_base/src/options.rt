@@ -1,5 +1,5 @@
 ghost use Rattle.std.specs.Prelude.{⊤, ◌≡◌, [], ◌∷◌, ◌&&◌, ◌||◌, not, codes};
-ghost use Rattle.blob_base.specs.Options.{bits_of, plain, contains, union, without, is_sync};
+ghost use Rattle.blob_base.specs.Options.{flags_of, no_options, contains, union, without, is_sync};
 
 use bitflags::{Flag, Flags};
 
@@ -47,7 +47,7 @@ impl WriteOptions {
 }
 
 impl Default for WriteOptions {
-    ghost is_default = { λ o. o ≡ plain };
+    ghost is_default = { λ o. o ≡ no_options };
 
     fn default() -> WriteOptions {
         WriteOptions { bits: 0 }
@@ -61,7 +61,7 @@ impl Flags for WriteOptions {
 
     ghost table = { (codes "SYNC", 1) ∷ [] };
 
-    ghost set_of = { bits_of };
+    ghost set_of = { flags_of };
 
     fn flags<'a>() -> &'a [Flag<WriteOptions>] {
         &FLAGS

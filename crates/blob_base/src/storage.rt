@@ -3,7 +3,7 @@ ghost use Rattle.std.specs.Prelude.{◌≡◌, ◌≢◌, ◌⊎◌, ◌+◌, �
 ghost use Rattle.std.specs.Range.{range_inclusive_start, range_inclusive_end, range_inclusive_exhausted};
 ghost use Rattle.blob_model.specs.Bytes.{overlay, resized};
 ghost use Rattle.blob_model.specs.Directory.{Directory, is_current, removed};
-ghost use Rattle.blob_model.specs.Durable.{Durable, changed, durable_without};
+ghost use Rattle.blob_model.specs.Durable.{Durable, with_changed, durable_without};
 ghost use Rattle.blob_model.specs.Live.{live_written, live_after};
 ghost use Rattle.blob_base.specs.Names.{AreNames};
 ghost use Rattle.blob_model.specs.Opening.{IsOpened};
@@ -162,7 +162,7 @@ pub trait Blob<S: Durable> {
         ensures allowed { allows_write self.old store.old offset bytes (is_sync options) (refused result) }
         ensures leaves { leaves (Write offset bytes (is_sync options)) self.old store.old (refused result) self.new store.new }
         ensures live { OnOk result (live self.new ≡ live_written (is_sync options) (live self.old) offset bytes) }
-        ensures synced { OnOk result (is_sync options ≡ true → S.durable store.new ≡ changed (S.durable store.old) (place self.old) (λ x. overlay x offset bytes)) }
+        ensures synced { OnOk result (is_sync options ≡ true → S.durable store.new ≡ with_changed (S.durable store.old) (place self.old) (λ x. overlay x offset bytes)) }
         ensures current { OnOk result (is_sync options ≡ true → bytes ≢ [] → is_current (S.directory store.old) (place self.old) ≡ true) }
         ensures plain { OnOk result (is_sync options ≡ false → S.durable store.new ≡ S.durable store.old) }
         ensures room { room self.old store.old ≤ room self.new store.new }
@@ -202,7 +202,7 @@ pub trait Blob<S: Durable> {
     fn sync(&mut self, store: &mut S) -> Result<(), Error>
         ensures allowed { allows_sync self.old store.old (refused result) }
         ensures leaves { leaves Sync self.old store.old (refused result) self.new store.new }
-        ensures synced { OnOk result (S.durable store.new ≡ changed (S.durable store.old) (place self.old) (λ _. live self.old)) }
+        ensures synced { OnOk result (S.durable store.new ≡ with_changed (S.durable store.old) (place self.old) (λ _. live self.old)) }
         ensures current { OnOk result (is_current (S.directory store.old) (place self.old) ≡ true) }
         ensures err { OnErr result (S.durable store.new ≡ S.durable store.old) }
         ensures live { live self.new ≡ live self.old }
@@ -222,7 +222,7 @@ pub trait Blob<S: Durable> {
         ensures leaves { leaves (StartSync (marker_of result)) self.old store.old (refused (outcome_of result)) self.new store.new }
         ensures unmarked { IsSome (refused (outcome_of result)) → marker_of result ≡ None }
         ensures direct_unmarked { is_direct ≡ true → marker_of result ≡ None }
-        ensures synced { refused (outcome_of result) ≡ None → S.durable store.new ≡ changed (S.durable store.old) (place self.old) (λ _. live self.old) }
+        ensures synced { refused (outcome_of result) ≡ None → S.durable store.new ≡ with_changed (S.durable store.old) (place self.old) (λ _. live self.old) }
         ensures current { refused (outcome_of result) ≡ None → is_current (S.directory store.old) (place self.old) ≡ true }
         ensures err { IsSome (refused (outcome_of result)) → S.durable store.new ≡ S.durable store.old }
         ensures live { live self.new ≡ live self.old }

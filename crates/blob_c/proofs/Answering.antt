@@ -10,7 +10,7 @@ use Rattle.blob_faults.specs.declared.config.Config.{Config}
 use Rattle.blob_c.specs.declared.kept.Kept.{Kept}
 use Rattle.blob_c.specs.declared.ran.Ran.{Ran}
 use Rattle.blob_c.specs.declared.ran.TheConstants.{BAD_LINE}
-use Rattle.blob_c.specs.Sessions.{AnswersLine, Asks, Calls, IsNoCall, Makes, TellsAgain}
+use Rattle.blob_c.specs.Sessions.{RunsLine, SaysCall, Calls, IsNoCall, Makes, TellsAgain}
 
 performs_alike : (a b c d : Lab) (act : Act) (reply : Reply) → b ≡ a → d ≡ c → Performs b act reply c → Performs a act reply d
 performs_alike a b c d act reply before after p =
@@ -20,11 +20,11 @@ pub said_call : (o : Option LabCall) (call : LabCall) (P : LabCall → Type 0) �
 said_call None call P e h = absurd (cc)
 said_call (Some x) call P e h = let same : x ≡ call = cc e in subst P same h
 
-pub answered : (k asked made k' : Kept) (line : List ℕ) (act : Act) (ran : Ran) (old new : List ℕ) → Asks k.config line act asked.config → asked ≡ record k { config = asked.config } → (reply : Reply) → Makes asked act reply made
-    → made.config ≡ asked.config → TellsAgain made k' ran old new → AnswersLine k k' line ran old new
+pub answered : (k asked made k' : Kept) (line : List ℕ) (act : Act) (ran : Ran) (old new : List ℕ) → SaysCall k.config line act asked.config → asked ≡ record k { config = asked.config } → (reply : Reply) → Makes asked act reply made
+    → made.config ≡ asked.config → TellsAgain made k' ran old new → RunsLine k k' line ran old new
 answered k asked made k' line act ran old new asks kept reply makes same tells =
-    let AskedWith : Config → Type 0 = λ c. Asks k.config line act c in
-    let asks' : Asks k.config line act k'.config = subst AskedWith (sym (tells.config ∙ same)) asks in
+    let AskedWith : Config → Type 0 = λ c. SaysCall k.config line act c in
+    let asks' : SaysCall k.config line act k'.config = subst AskedWith (sym (tells.config ∙ same)) asks in
     let makes' : Makes k act reply k' = record { performs = performs_alike k.lab asked.lab made.lab k'.lab act reply (ap (λ x. x.lab) kept) tells.lab makes.performs; last = tells.last ∙ makes.last } in
     let known = tells.status in
     record {
@@ -39,7 +39,7 @@ answered k asked made k' line act ran old new asks kept reply makes same tells =
       unwritten = tells.unwritten;
     }
 
-pub declined : (k k' : Kept) (line : List ℕ) (ran : Ran) (room : List ℕ) → ran ≡ record { status = BAD_LINE; len = 0 } → IsNoCall line → k' ≡ k → AnswersLine k k' line ran room room
+pub declined : (k k' : Kept) (line : List ℕ) (ran : Ran) (room : List ℕ) → ran ≡ record { status = BAD_LINE; len = 0 } → IsNoCall line → k' ≡ k → RunsLine k k' line ran room room
 declined k k' line ran room is bad same =
     let s : ran.status ≡ BAD_LINE = ap (λ r. r.status) is in let none : ran.len ≡ 0 = ap (λ r. r.len) is in record {
       done = λ h. absurd (omega (arith, s, h));

@@ -2,7 +2,7 @@
 use Rattle.std.specs.Prelude.{◌≡◌, ◌≢◌, ◌⊎◌, ℕ, suc, List, [], ◌∷◌, ◌++◌, All, true, length, Some, None}
 use Rattle.blob_calls.specs.Acts as acts
 use Rattle.blob_calls.specs.Acts.{Act}
-use Rattle.blob_laboratory.specs.LabStands.{StandsFor}
+use Rattle.blob_laboratory.specs.LabStands.{LabStandsFor}
 use Rattle.blob_calls.specs.Lines.{Call, line_of}
 use Rattle.blob_lab.specs.Scripts.{Script, no_script, lines_of, with_line, with_lines}
 use Rattle.blob_states.specs.States.{start}
@@ -38,7 +38,7 @@ pub record BreaksAt (lines : List (List ℕ)) (number : ℕ) : Type 0 where
 pub record IsMadeOf (k : Kept) (lines : List (List ℕ)) : Type 0 where
   pub script : Script
   pub are : AreSettings lines script
-  pub stands : StandsFor k.lab (start script.images script.words script.config)
+  pub stands : LabStandsFor k.lab (start script.images script.words script.config)
   pub config : k.config ≡ script.config
   pub last : k.last ≡ None
 

@@ -24,16 +24,16 @@ pub record Makes (k : Kept) (act : Act) (reply : Reply) (k' : Kept) : Type 0 whe
   pub last : k'.last ≡ Some reply
 
 -- with these settings the line says this call, and leaves these
-abbrev pub Asks : Config → List ℕ → Act → Config → Type 0
-Asks c line act d = ((line_of line ≡ Some (Call act)) × (d ≡ c)) ⊎ ((setting : Setting) × (line_of line ≡ Some (Configure setting)) × (d ≡ configured c setting) × (act ≡ acts.Configure d))
+abbrev pub SaysCall : Config → List ℕ → Act → Config → Type 0
+SaysCall c line act d = ((line_of line ≡ Some (Call act)) × (d ≡ c)) ⊎ ((setting : Setting) × (line_of line ≡ Some (Configure setting)) × (d ≡ configured c setting) × (act ≡ acts.Configure d))
 
 -- the call of a line was made, with a reply of which this holds
 abbrev pub Calls : Kept → List ℕ → Kept → (Reply → Type 0) → Type 0
-Calls k line k' P = (act : Act) × (reply : Reply) × Asks k.config line act k'.config × Makes k act reply k' × P reply
+Calls k line k' P = (act : Act) × (reply : Reply) × SaysCall k.config line act k'.config × Makes k act reply k' × P reply
 
 -- the call of a line was made and its reply is printed; or the line says nothing, and nothing was done
-abbrev pub Tells : Kept → List ℕ → Kept → List ℕ → Type 0
-Tells k line k' printed = Calls k line k' (λ reply. printed ≡ reply_line reply) ⊎ ((line_of line ≡ Some Blank) × (k' ≡ k) × (printed ≡ []))
+abbrev pub PrintsReply : Kept → List ℕ → Kept → List ℕ → Type 0
+PrintsReply k line k' printed = Calls k line k' (λ reply. printed ≡ reply_line reply) ⊎ ((line_of line ≡ Some Blank) × (k' ≡ k) × (printed ≡ []))
 
 -- behind a call it is no line of a script
 abbrev pub IsNoCall : List ℕ → Type 0
@@ -42,8 +42,8 @@ IsNoCall line = (s : Script) → s.calls ≢ [] → with_line s line ≡ None
 -- Each call by the status that it ends with. Where no call was made, nothing has changed.
 
 -- a line
-pub record AnswersLine (k k' : Kept) (line : List ℕ) (ran : Ran) (old new : List ℕ) : Type 0 where
-  pub done : ran.status ≡ DONE → Tells k line k' (take ran.len new)
+pub record RunsLine (k k' : Kept) (line : List ℕ) (ran : Ran) (old new : List ℕ) : Type 0 where
+  pub done : ran.status ≡ DONE → PrintsReply k line k' (take ran.len new)
   pub no_room : ran.status ≡ NO_ROOM → Calls k line k' (λ reply. (ran.len ≡ length (reply_line reply)) × (length old < ran.len))
   pub unprinted : ran.status ≡ UNPRINTED → Calls k line k' (λ reply. Unit {0})
   pub bad_line : ran.status ≡ BAD_LINE → IsNoCall line × (k' ≡ k)
@@ -77,9 +77,9 @@ pub record AnswersWrite (k k' : Kept) (handle offset : ℕ) (bytes : List ℕ) (
   pub known : (status ≡ DONE) ⊎ (status ≡ OTHER_REPLY) ⊎ (status ≡ NO_MEMORY)
 
 -- a reply with these bytes, or with so many
-abbrev pub HasBytes : Reply → List ℕ → Type 0
-HasBytes (replies.Bytes found) bytes = found.items ≡ bytes
-HasBytes reply bytes = ⊥
+abbrev pub RepliesBytes : Reply → List ℕ → Type 0
+RepliesBytes (replies.Bytes found) bytes = found.items ≡ bytes
+RepliesBytes reply bytes = ⊥
 
 abbrev pub HasLength : Reply → ℕ → Type 0
 HasLength (replies.Bytes found) len = length found.items ≡ len
@@ -87,7 +87,7 @@ HasLength reply len = ⊥
 
 -- a read, which asks for as many bytes as there is room for
 pub record AnswersRead (k k' : Kept) (handle offset : ℕ) (status : ℕ) (old new : List ℕ) : Type 0 where
-  pub done : status ≡ DONE → (reply : Reply) × Makes k (Through handle (Read offset (length old))) reply k' × HasBytes reply new
+  pub done : status ≡ DONE → (reply : Reply) × Makes k (Through handle (Read offset (length old))) reply k' × RepliesBytes reply new
   pub other : status ≡ OTHER_REPLY → (reply : Reply) × Makes k (Through handle (Read offset (length old))) reply k' × (HasLength reply (length old) → ⊥) × (new ≡ old)
   pub config : k'.config ≡ k.config
   pub known : (status ≡ DONE) ⊎ (status ≡ OTHER_REPLY)
@@ -100,8 +100,8 @@ pub record IsClosed (ran : Ran) (old new : List ℕ) : Type 0 where
 
 -- A session.
 
-abbrev pub held : Session → Option Kept
-held session = session.loose.value
+abbrev pub kept_of : Session → Option Kept
+kept_of session = session.loose.value
 
 -- what was held and is: an open session stays open, and a closed one closed
 abbrev pub OnHeld : Option Kept → Option Kept → (Kept → Kept → Type 0) → Type 0 → Type 0

@@ -3,7 +3,7 @@ ghost use Rattle.std.specs.Prelude.{◌≡◌, Some, None, IfSome, IfNone, IfOk,
 ghost use Rattle.blob_calls.specs.Acts.{act_of};
 ghost use Rattle.blob_calls.specs.Lines.{Blank, line_of};
 ghost use Rattle.blob_calls.specs.Settings.{configured};
-ghost use Rattle.blob_c.specs.Sessions.{AnswersLine, AnswersRead, AnswersWrite, Asks, IsNoCall, Makes, TellsAgain};
+ghost use Rattle.blob_c.specs.Sessions.{RunsLine, AnswersRead, AnswersWrite, SaysCall, IsNoCall, Makes, TellsAgain};
 
 use crate::ran::{BAD_LINE, DONE, NO_MEMORY, NO_ROOM, OTHER_REPLY, Ran, UNPRINTED};
 use blob_faulty::Config;
@@ -48,7 +48,7 @@ impl Kept {
 
     /// Makes the call that a line says, and prints its reply. A line that says nothing is answered with nothing.
     pub(crate) fn call(&mut self, alloc: Global, line: &[u8], reply: &mut [u8]) -> Ran
-        ensures { AnswersLine self.old self.new line.now result reply.old reply.new }
+        ensures { RunsLine self.old self.new line.now result reply.old reply.new }
     {
         match self.read_call(alloc, line) {
             Ok(Some(call)) => {
@@ -130,7 +130,7 @@ impl Kept {
 
     /// Reads a line; none where it is empty or a comment.
     fn read_call(&mut self, alloc: Global, line: &[u8]) -> Result<Option<Call>, RefusedLine>
-        ensures call { IfOk result (λ read. IfSome read (λ call. Asks self.old.config line.now (act_of call) self.new.config)) }
+        ensures call { IfOk result (λ read. IfSome read (λ call. SaysCall self.old.config line.now (act_of call) self.new.config)) }
         ensures blank { IfOk result (λ read. IfNone read (line_of line.now ≡ Some Blank)) }
         ensures bad { result ≡ Err RefusedLine.BadCall → IsNoCall line.now }
         ensures nothing { IfOk result (λ read. IfNone read (self.new ≡ self.old)) }

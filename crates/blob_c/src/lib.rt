@@ -6,7 +6,7 @@
 ghost use Rattle.std.specs.Prelude.{◌≡◌, ◌⊎◌, ◌<◌, ◌≤◌, Some, None, IsSome, IfSome, [], take, length};
 ghost use Rattle.blob_lab.specs.Scripts.{Prints, PrintsBefore, no_script, lines_of, script_of};
 ghost use Rattle.blob_c.specs.Preambles.{BreaksAt, IsMadeOf};
-ghost use Rattle.blob_c.specs.Sessions.{AnswersLine, AnswersRead, AnswersWrite, IsClosed, OnHeld, TellsAgain, held};
+ghost use Rattle.blob_c.specs.Sessions.{RunsLine, AnswersRead, AnswersWrite, IsClosed, OnHeld, TellsAgain, kept_of};
 ghost use Rattle.blob_c.specs.WholeScripts.{WantsRoom};
 
 mod kept;
@@ -46,9 +46,9 @@ pub extern "C" fn blobcrash_run(alloc: Global, script: &[u8], replies: &mut [u8]
 /// `BAD_LINE` tells the number of a line that may not stand there. It and `NO_MEMORY` change nothing.
 #[unsafe(no_mangle)]
 pub extern "C" fn blobcrash_open(alloc: Global, session: &mut Session, preamble: &[u8]) -> ScriptRan
-    ensures done { result.status ≡ DONE → IsSome (held session.new) × IfSome (held session.new) (λ k. IsMadeOf k (lines_of preamble.now)) }
-    ensures bad_line { result.status ≡ BAD_LINE → BreaksAt (lines_of preamble.now) result.line × (held session.new ≡ held session.old) }
-    ensures no_memory { result.status ≡ NO_MEMORY → held session.new ≡ held session.old }
+    ensures done { result.status ≡ DONE → IsSome (kept_of session.new) × IfSome (kept_of session.new) (λ k. IsMadeOf k (lines_of preamble.now)) }
+    ensures bad_line { result.status ≡ BAD_LINE → BreaksAt (lines_of preamble.now) result.line × (kept_of session.new ≡ kept_of session.old) }
+    ensures no_memory { result.status ≡ NO_MEMORY → kept_of session.new ≡ kept_of session.old }
     ensures no_line { (result.status ≡ BAD_LINE) ⊎ (result.line ≡ 0) }
     ensures no_reply { result.len ≡ 0 }
     ensures status { (result.status ≡ DONE) ⊎ (result.status ≡ BAD_LINE) ⊎ (result.status ≡ NO_MEMORY) }
@@ -84,7 +84,7 @@ pub extern "C" fn blobcrash_call(
     line: &[u8],
     reply: &mut [u8],
 ) -> Ran
-    ensures { OnHeld (held session.old) (held session.new) (λ k k'. AnswersLine k k' line.now result reply.old reply.new) (IsClosed result reply.old reply.new) }
+    ensures { OnHeld (kept_of session.old) (kept_of session.new) (λ k k'. RunsLine k k' line.now result reply.old reply.new) (IsClosed result reply.old reply.new) }
 {
     let Some(mut kept) = session.take(alloc) else {
         return Ran::stopped(CLOSED);
@@ -97,7 +97,7 @@ pub extern "C" fn blobcrash_call(
 /// Writes the reply to the last call once more, as often as it is asked for.
 #[unsafe(no_mangle)]
 pub extern "C" fn blobcrash_reply(alloc: Global, session: &mut Session, reply: &mut [u8]) -> Ran
-    ensures { OnHeld (held session.old) (held session.new) (λ k k'. TellsAgain k k' result reply.old reply.new) (IsClosed result reply.old reply.new) }
+    ensures { OnHeld (kept_of session.old) (kept_of session.new) (λ k k'. TellsAgain k k' result reply.old reply.new) (IsClosed result reply.old reply.new) }
 {
     let Some(mut kept) = session.take(alloc) else {
         return Ran::stopped(CLOSED);
@@ -119,7 +119,7 @@ pub extern "C" fn blobcrash_write(
     bytes: &[u8],
     sync: bool,
 ) -> u32
-    ensures { OnHeld (held session.old) (held session.new) (λ k k'. AnswersWrite k k' handle offset bytes.now sync result) (result ≡ CLOSED) }
+    ensures { OnHeld (kept_of session.old) (kept_of session.new) (λ k k'. AnswersWrite k k' handle offset bytes.now sync result) (result ≡ CLOSED) }
 {
     let Some(mut kept) = session.take(alloc) else {
         return CLOSED;
@@ -140,7 +140,7 @@ pub extern "C" fn blobcrash_read(
     offset: u64,
     into: &mut [u8],
 ) -> u32
-    ensures { OnHeld (held session.old) (held session.new) (λ k k'. AnswersRead k k' handle offset result into.old into.new) ((result ≡ CLOSED) × (into.new ≡ into.old)) }
+    ensures { OnHeld (kept_of session.old) (kept_of session.new) (λ k k'. AnswersRead k k' handle offset result into.old into.new) ((result ≡ CLOSED) × (into.new ≡ into.old)) }
 {
     let Some(mut kept) = session.take(alloc) else {
         return CLOSED;
@@ -153,7 +153,7 @@ pub extern "C" fn blobcrash_read(
 /// Closes a session, and ends what it held. A closed one stays closed.
 #[unsafe(no_mangle)]
 pub extern "C" fn blobcrash_close(alloc: Global, session: &mut Session)
-    ensures { held session.new ≡ None }
+    ensures { kept_of session.new ≡ None }
 {
     session.close(alloc)
 }

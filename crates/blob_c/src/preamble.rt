@@ -1,6 +1,6 @@
 // What a session is opened with: the lines of a script before its calls, and settings.
 ghost use Rattle.std.specs.Prelude.{◌≡◌, ◌==◌, ◌<◌, ℕ, ◌∷◌, [], Some, IfSome, IfNone, IfOk, OnOk, All, length, position};
-ghost use Rattle.blob_laboratory.specs.LabStands.{StandsFor};
+ghost use Rattle.blob_laboratory.specs.LabStands.{LabStandsFor};
 ghost use Rattle.blob_lab.specs.Scripts.{Script, lines_of, no_script, with_line};
 ghost use Rattle.blob_states.specs.States.{start};
 ghost use Rattle.blob_laboratory.specs.Tables.{images_of};
@@ -111,7 +111,7 @@ fn laboratory(
     seed: Option<u64>,
     config: Config,
 ) -> Result<Lab, Error>
-    ensures { IfOk result (λ lab. StandsFor lab (start (images_of images.items) (record { given = words.items; seed = seed }) config)) }
+    ensures { IfOk result (λ lab. LabStandsFor lab (start (images_of images.items) (record { given = words.items; seed = seed }) config)) }
 {
     match seed {
         None => Lab::new(images, words, config),

@@ -16,10 +16,10 @@ pub struct Session {
 }
 
 impl Session {
-    ghost use Rattle.blob_c.specs.Sessions.{held};
+    ghost use Rattle.blob_c.specs.Sessions.{kept_of};
 
     pub(crate) fn closed(alloc: Global) -> Session
-        ensures { held result ≡ None }
+        ensures { kept_of result ≡ None }
     {
         Session {
             loose: Loose::none(alloc),
@@ -29,7 +29,7 @@ impl Session {
 
     /// An open session.
     pub(crate) fn of(kept: Box<Kept>) -> Session
-        ensures { held result ≡ Some kept.value }
+        ensures { kept_of result ≡ Some kept.value }
     {
         Session {
             loose: Loose::of(kept),
@@ -39,8 +39,8 @@ impl Session {
 
     /// Takes out what it holds, and leaves it closed.
     pub(crate) fn take(&mut self, alloc: Global) -> Option<Box<Kept>>
-        ensures was { option_map (λ kept. kept.value) result ≡ held self.old }
-        ensures now { held self.new ≡ None }
+        ensures was { option_map (λ kept. kept.value) result ≡ kept_of self.old }
+        ensures now { kept_of self.new ≡ None }
     {
         let Session { loose, is_open } = mem::replace(self, Session::closed(alloc));
         if is_open {
@@ -52,7 +52,7 @@ impl Session {
 
     /// Closes it, and ends what it held.
     pub(crate) fn close(&mut self, alloc: Global)
-        ensures { held self.new ≡ None }
+        ensures { kept_of self.new ≡ None }
     {
         let _ = self.take(alloc);
     }

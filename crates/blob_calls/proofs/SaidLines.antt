@@ -2,7 +2,7 @@
 use Rattle.std.proofs.Common.{◌≡◌, ℕ, List, ◌∷◌, Bool, true, false, Some, None, refl, sym, ap, ◌∙◌, cond, option_and_then, IsUtf8}
 use Rattle.std.specs.Str.{is_utf8}
 use Rattle.std.proofs.lemmas.Str.{is_utf8-from_IsUtf8, IsUtf8-from_is_utf8}
-use Rattle.blob_calls.specs.Forms.{ended}
+use Rattle.blob_calls.specs.Forms.{unless_left}
 use Rattle.blob_calls.specs.Lines.{Said, Blank, said_of, line_of, statement, is_comment}
 use Rattle.blob_calls.specs.Tokens.{tokens}
 
@@ -20,10 +20,10 @@ line_said line text read utf8 same all =
     ∙ ap (λ t. said_of (tokens t)) (sym same) ∙ ap said_of (sym all)
 
 pub said_comment : (word : List ℕ) (rest : List (List ℕ)) → is_comment word ≡ true → said_of (word ∷ rest) ≡ Some Blank
-said_comment word rest h = ap (λ b. cond b (Some Blank) (option_and_then (λ read. ended read.0 read.1) (statement word rest))) h
+said_comment word rest h = ap (λ b. cond b (Some Blank) (option_and_then (λ read. unless_left read.0 read.1) (statement word rest))) h
 
 pub said_statement : (word : List ℕ) (rest : List (List ℕ)) (said : Said) (left : List (List ℕ)) → is_comment word ≡ false
-    → statement word rest ≡ Some (said, left) → said_of (word ∷ rest) ≡ ended said left
+    → statement word rest ≡ Some (said, left) → said_of (word ∷ rest) ≡ unless_left said left
 said_statement word rest said left h read =
-    ap (λ b. cond b (Some Blank) (option_and_then (λ read. ended read.0 read.1) (statement word rest))) h
-    ∙ ap (option_and_then (λ read. ended read.0 read.1)) read
+    ap (λ b. cond b (Some Blank) (option_and_then (λ read. unless_left read.0 read.1) (statement word rest))) h
+    ∙ ap (option_and_then (λ read. unless_left read.0 read.1)) read

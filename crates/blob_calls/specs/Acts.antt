@@ -2,6 +2,8 @@
 use Rattle.std.specs.Prelude.{ℕ, List, Bool, ◌||◌, nat_lt, Option, Some, None, if◌then◌else◌, option_map}
 use Rattle.std.specs.Range.{range_inclusive_start, range_inclusive_end, range_inclusive_exhausted}
 use Rattle.std.specs.String.{string_bytes}
+use Rattle.std.specs.declared.ops.RangeInclusive.{RangeInclusive}
+use Rattle.blob_header.specs.declared.version.BlobVersion.{BlobVersion}
 use Rattle.blob_faults.specs.declared.config.Config.{Config}
 use Rattle.blob_calls.specs.declared.call.Call.{Call}
 use Rattle.blob_calls.specs.declared.call.Call.TheVariants as call
@@ -17,14 +19,14 @@ pub data Ask : Type 0 where
   StartSync : Ask
 
 -- the first and the last version that an open accepts
-abbrev pub Accepted : Type 0
-Accepted = ℕ × ℕ
+abbrev pub AcceptedVersions : Type 0
+AcceptedVersions = ℕ × ℕ
 
 pub data Act : Type 0 where
   Configure : Config → Act
   -- partition, name and versions, which are none where the range is empty
-  Open : List ℕ → List ℕ → Option Accepted → Act
-  OpenLoose : List ℕ → List ℕ → Option Accepted → Act
+  Open : List ℕ → List ℕ → Option AcceptedVersions → Act
+  OpenLoose : List ℕ → List ℕ → Option AcceptedVersions → Act
   Admit : List ℕ → List ℕ → Act
   Close : ℕ → Act
   -- through the handle of a number
@@ -36,13 +38,17 @@ pub data Act : Type 0 where
   Reopen : Act
 
 -- a range that is exhausted, or starts behind its end, is empty
-abbrev pub accepted : Bool → ℕ → ℕ → Option Accepted
-accepted exhausted first last = if exhausted || nat_lt last first then None else Some (first, last)
+abbrev pub accepted_versions : Bool → ℕ → ℕ → Option AcceptedVersions
+accepted_versions exhausted first last = if exhausted || nat_lt last first then None else Some (first, last)
+
+-- those of a range
+abbrev pub versions_of : RangeInclusive BlobVersion → Option AcceptedVersions
+versions_of versions = accepted_versions (range_inclusive_exhausted versions) (range_inclusive_start versions).0 (range_inclusive_end versions).0
 
 abbrev pub act_of : Call → Act
 act_of (call.Configure config) = Configure config
-act_of (call.Open partition name versions) = Open (string_bytes partition) name.items (accepted (range_inclusive_exhausted versions) (range_inclusive_start versions).0 (range_inclusive_end versions).0)
-act_of (call.OpenLoose partition name versions) = OpenLoose (string_bytes partition) name.items (accepted (range_inclusive_exhausted versions) (range_inclusive_start versions).0 (range_inclusive_end versions).0)
+act_of (call.Open partition name versions) = Open (string_bytes partition) name.items (versions_of versions)
+act_of (call.OpenLoose partition name versions) = OpenLoose (string_bytes partition) name.items (versions_of versions)
 act_of (call.Admit partition name) = Admit (string_bytes partition) name.items
 act_of (call.Close handle) = Close handle
 act_of (call.Read handle offset len) = Through handle (Read offset len)

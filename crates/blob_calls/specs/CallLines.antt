@@ -1,10 +1,10 @@
 -- The lines of calls.
 use Rattle.std.specs.Prelude.{ℕ, List, [], ◌∷◌, Bool, true, false, Option, codes}
-use Rattle.blob_calls.specs.Acts.{Act, Accepted, Open, OpenLoose, Admit, Close, Through, Read, Write, Resize, Size, Sync, StartSync, Finish, Remove, Scan, Crash, Reopen}
+use Rattle.blob_calls.specs.Acts.{Act, AcceptedVersions, Open, OpenLoose, Admit, Close, Through, Read, Write, Resize, Size, Sync, StartSync, Finish, Remove, Scan, Crash, Reopen}
 use Rattle.blob_calls.specs.Forms.{Form, ◌>>=◌, gives, no_form, beside, text, hex, name, digits, versions}
 
-abbrev pub opening : (List ℕ → List ℕ → Option Accepted → Act) → Form Act
-opening act = do
+abbrev pub open_form : (List ℕ → List ℕ → Option AcceptedVersions → Act) → Form Act
+open_form act = do
   partition ← text
   name ← hex
   accepts ← versions
@@ -21,8 +21,8 @@ writing sync = do
 -- what follows the word of a call
 abbrev pub call : List ℕ → Form Act
 call = beside (
-    (codes "open", opening Open)
-    ∷ (codes "loose", opening OpenLoose)
+    (codes "open", open_form Open)
+    ∷ (codes "loose", open_form OpenLoose)
     ∷ (codes "admit", do partition ← text; name ← hex; gives (Admit partition name))
     ∷ (codes "close", do handle ← digits; gives (Close handle))
     ∷ (codes "read", do handle ← digits; offset ← digits; len ← digits; gives (Through handle (Read offset len)))

@@ -2,7 +2,7 @@
 use Rattle.std.specs.Prelude.{ℕ, List, [], ◌∷◌, false, Option, Some, None, option_map, option_and_then, if◌then◌else◌}
 use Rattle.std.specs.Result.{result_ok}
 use Rattle.std.specs.Str.{bytes_eq}
-use Rattle.blob_calls.specs.Acts.{Accepted, accepted}
+use Rattle.blob_calls.specs.Acts.{AcceptedVersions, accepted_versions}
 use Rattle.blob_calls.specs.Tokens.{bytes_of, number_of, version_of, word_of}
 
 -- what the first tokens stand for, and the tokens that are left; none where they aren't of the form
@@ -36,12 +36,12 @@ at_end x form [] = Some (x, [])
 at_end x form (next ∷ tokens) = form (next ∷ tokens)
 
 -- no token may be left
-abbrev pub ended : {X : Type 0} → X → List (List ℕ) → Option X
-ended x [] = Some x
-ended x (next ∷ tokens) = None
+abbrev pub unless_left : {X : Type 0} → X → List (List ℕ) → Option X
+unless_left x [] = Some x
+unless_left x (next ∷ tokens) = None
 
 abbrev pub whole : {X : Type 0} → Form X → List (List ℕ) → Option X
-whole form tokens = option_and_then (λ read. ended read.0 read.1) (form tokens)
+whole form tokens = option_and_then (λ read. unless_left read.0 read.1) (form tokens)
 
 -- the form beside a word in a table, or else the other one
 abbrev pub beside : {X : Type 0} → List (List ℕ × Form X) → Form X → List ℕ → Form X
@@ -62,15 +62,15 @@ abbrev pub digits : Form ℕ
 digits = token number_of
 
 -- the first and the last, where tokens are left; otherwise 0 alone
-abbrev pub versions : Form (Option Accepted)
-versions = at_end (Some (0, 0)) (do first ← token version_of; last ← token version_of; gives (accepted false first last))
+abbrev pub versions : Form (Option AcceptedVersions)
+versions = at_end (Some (0, 0)) (do first ← token version_of; last ← token version_of; gives (accepted_versions false first last))
 
 -- all the tokens that are left, by their meaning
-abbrev pub each : {X : Type 0} → (List ℕ → Option X) → List (List ℕ) → Option (List X)
-each meaning [] = Some []
-each meaning (next ∷ tokens) = option_and_then (λ x. option_map (λ xs. x ∷ xs) (each meaning tokens)) (meaning next)
+abbrev pub all_tokens : {X : Type 0} → (List ℕ → Option X) → List (List ℕ) → Option (List X)
+all_tokens meaning [] = Some []
+all_tokens meaning (next ∷ tokens) = option_and_then (λ x. option_map (λ xs. x ∷ xs) (all_tokens meaning tokens)) (meaning next)
 
 -- one word at least
 abbrev pub words : Form (List ℕ)
 words [] = None
-words (next ∷ tokens) = option_map (λ read. (read, [])) (each word_of (next ∷ tokens))
+words (next ∷ tokens) = option_map (λ read. (read, [])) (all_tokens word_of (next ∷ tokens))

@@ -8,7 +8,7 @@ use Rattle.blob_debt.specs.declared.pending.Pending.{Pending}
 use Rattle.blob_debt.specs.declared.pending.entry.Entry.{Entry}
 use Rattle.blob_debt.specs.declared.pending.entry.Change.{Change}
 use Rattle.blob_debt.specs.declared.pending.entry.Change.TheVariants as change
-use Rattle.blob_names.specs.Names.{at, with_at, with_partition}
+use Rattle.blob_names.specs.Names.{at, with_name, with_all_names}
 use Rattle.blob_debt.specs.History.{History, Event, Operation, To, Forget, with_operation, events, is_this_number, clear_event, Released, Settled, Closed, AdmittedOpen}
 use Rattle.blob_debt.specs.Debts.{standing, standing_of, operation_of, HoldsNames, Represents, IsUnchanged, after_admit}
 use Rattle.blob_header.specs.declared.error.Error.{Error}
@@ -25,16 +25,16 @@ at_both false d x y es fs e f = f
 
 -- one name changed
 keeps_at : (old new : Names Entry) (p n : List ℕ) (x : Option Entry) (es : List Event) (h : History)
-    → at new ≡ with_at (at old) p n x → standing_of x ≡ standing es → HoldsNames old h
-    → (q m : List ℕ) → standing_of (at new q m) ≡ standing (with_at (events h) p n es q m)
+    → at new ≡ with_name (at old) p n x → standing_of x ≡ standing es → HoldsNames old h
+    → (q m : List ℕ) → standing_of (at new q m) ≡ standing (with_name (events h) p n es q m)
 keeps_at old new p n x es h is here k q m = ap (λ f. standing_of (f q m)) is ∙ at_both (bytes_eq p q) (bytes_eq n m) x (at old q m) es (events h q m) here (k.standing q m)
 
 pub keeps_done : (old new : Names Entry) (p n : List ℕ) (x : Option Entry) (operation : Operation) (h : History)
-    → at new ≡ with_at (at old) p n x → standing_of x ≡ standing (with_operation operation (events h p n)) → HoldsNames old h → HoldsNames new (To p n operation ∷ h)
+    → at new ≡ with_name (at old) p n x → standing_of x ≡ standing (with_operation operation (events h p n)) → HoldsNames old h → HoldsNames new (To p n operation ∷ h)
 keeps_done old new p n x operation h is here k = record { standing = keeps_at old new p n x (with_operation operation (events h p n)) h is here k }
 
 pub keeps_forgotten : (old new : Names Entry) (p n : List ℕ) (h : History)
-    → at new ≡ with_at (at old) p n None → HoldsNames old h → HoldsNames new (Forget p (Some n) ∷ h)
+    → at new ≡ with_name (at old) p n None → HoldsNames old h → HoldsNames new (Forget p (Some n) ∷ h)
 keeps_forgotten old new p n h is k = record { standing = keeps_at old new p n None [] h is refl k }
 
 all_gone : (b : Bool) (y : Option Entry) (fs : List Event) → standing_of y ≡ standing fs → standing_of (cond b None y) ≡ standing (cond b [] fs)
@@ -42,7 +42,7 @@ all_gone true y fs e = refl
 all_gone false y fs e = e
 
 pub keeps_all_forgotten : (old new : Names Entry) (p : List ℕ) (h : History)
-    → at new ≡ with_partition (at old) None p → HoldsNames old h → HoldsNames new (Forget p None ∷ h)
+    → at new ≡ with_all_names (at old) None p → HoldsNames old h → HoldsNames new (Forget p None ∷ h)
 keeps_all_forgotten old new p h is k = record { standing = λ q m. ap (λ f. standing_of (f q m)) is ∙ all_gone (bytes_eq p q) (at old q m) (events h q m) (k.standing q m) }
 
 -- a change counts for nothing where nothing is standing_of
@@ -56,7 +56,7 @@ pub keeps_nothing : (old new : Names Entry) (p n : List ℕ) (c : Change) (h : H
     → at new ≡ at old → at old p n ≡ None → HoldsNames old h → HoldsNames new (To p n (operation_of c) ∷ h)
 keeps_nothing old new p n c h is none k =
     let e : standing_of None ≡ standing (events h p n) = ap standing_of (sym none) ∙ k.standing p n in
-    keeps_done old new p n None (operation_of c) h (is ∙ sym (with_at_same (at old) p n) ∙ ap (with_at (at old) p n) none) (e ∙ ap standing (sym (no_name c (events h p n) e))) k
+    keeps_done old new p n None (operation_of c) h (is ∙ sym (with_at_same (at old) p n) ∙ ap (with_name (at old) p n) none) (e ∙ ap standing (sym (no_name c (events h p n) e))) k
 
 -- a registry in which nothing changed stands for what it stood for
 pub unchanged_stands : (r s : Pending) (h : History) → IsUnchanged r s → Represents r h → Represents s h

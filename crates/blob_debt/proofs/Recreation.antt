@@ -5,8 +5,8 @@ use Rattle.std.specs.Cmp.Lexicographic.{bytes_decides}
 use Rattle.std.proofs.lemmas.Bool.{and_parts, cond-true, false≢true}
 use Rattle.std.proofs.lemmas.Bool.Decides.{nat_tests}
 use Rattle.blob_header.specs.Refusals.{Refusal}
-use Rattle.blob_names.specs.Names.{with_at}
-use Rattle.blob_debt.specs.History.{History, Call, Event, Operation, To, Forget, Admit, Release, Settle, Clear, Fail, Close, Admitted, Released, Settled, Failed, Closed, is_over, clear_event, with_operation, events, latest, settling, is_this_number, generations, tokens}
+use Rattle.blob_names.specs.Names.{with_name}
+use Rattle.blob_debt.specs.History.{History, Call, Event, Operation, To, Forget, Admit, Release, Settle, Clear, Fail, Close, Admitted, Released, Settled, Failed, Closed, is_over, clear_event, with_operation, events, latest, settling, is_this_number, generations, tokens_given}
 use Rattle.blob_debt.specs.Debts.{IsNumbered}
 use Rattle.blob_debt.specs.Recreated.{forgets, IsForgottenAfter}
 use Rattle.blob_names.proofs.NameMaps.{with_at_same}
@@ -39,7 +39,7 @@ module _ (g t : ℕ) where
   admitted_newer m es h n = record { generation = λ k l. below g k m h l; token = n.token }
 
   -- an operation whose numbers are given now keeps a name's events newer
-  operation_newer : (operation : Operation) (p n : List ℕ) (h : History) (es : List Event) → IsNumbered (To p n operation ∷ h) → g ≤ generations h → t ≤ tokens h → IsNewer g t es → IsNewer g t (with_operation operation es)
+  operation_newer : (operation : Operation) (p n : List ℕ) (h : History) (es : List Event) → IsNumbered (To p n operation ∷ h) → g ≤ generations h → t ≤ tokens_given h → IsNewer g t es → IsNewer g t (with_operation operation es)
   operation_newer (Admit existing m) p n h es num gs ts new =
       admitted_newer m (if existing then es else []) (subst (λ k. g ≤ k) (sym num.0) gs) (either existing es [] new nothing_newer)
   operation_newer (Release m token) p n h es num gs ts new =
@@ -66,7 +66,7 @@ module _ (g t : ℕ) where
   choice_all false y q = q
 
   -- one more call
-  call_newer : (c : Call) (h : History) (p n : List ℕ) → IsNumbered (c ∷ h) → g ≤ generations h → t ≤ tokens h → IsNewer g t (events h p n) → IsNewer g t (events (c ∷ h) p n)
+  call_newer : (c : Call) (h : History) (p n : List ℕ) → IsNumbered (c ∷ h) → g ≤ generations h → t ≤ tokens_given h → IsNewer g t (events h p n) → IsNewer g t (events (c ∷ h) p n)
   call_newer (To q m operation) h p n num gs ts new =
       choice (bytes_eq q p) (bytes_eq m n) (with_operation operation (events h q m)) (events h p n)
       (λ y z. operation_newer operation q m h (events h q m) num gs ts
@@ -76,11 +76,11 @@ module _ (g t : ℕ) where
   call_newer (Forget q None) h p n num gs ts new = choice_all (bytes_eq q p) (events h p n) new
 
 -- the call that forgets
-forgotten_newer : (c : Call) (h : History) (p n : List ℕ) → IsNumbered (c ∷ h) → forgets c p n ≡ true → IsNewer (generations h) (tokens h) (events (c ∷ h) p n)
+forgotten_newer : (c : Call) (h : History) (p n : List ℕ) → IsNumbered (c ∷ h) → forgets c p n ≡ true → IsNewer (generations h) (tokens_given h) (events (c ∷ h) p n)
 forgotten_newer (To q m (Admit false k)) h p n num f =
     let s = and_parts (bytes_eq q p) (bytes_eq m n) f in
     let here : events (To q m (Admit false k) ∷ h) p n ≡ Admitted k ∷ [] = cond-true (bytes_eq q p) (cond (bytes_eq m n) (Admitted k ∷ []) (events h p n)) (events h p n) s.0 ∙ cond-true (bytes_eq m n) (Admitted k ∷ []) (events h p n) s.1 in
-    subst (IsNewer (generations h) (tokens h)) (sym here) (admitted_newer (generations h) (tokens h) k [] (subst (λ j. generations h ≤ j) (sym num.0) (omega arith)) (nothing_newer (generations h) (tokens h)))
+    subst (IsNewer (generations h) (tokens_given h)) (sym here) (admitted_newer (generations h) (tokens_given h) k [] (subst (λ j. generations h ≤ j) (sym num.0) (omega arith)) (nothing_newer (generations h) (tokens_given h)))
 forgotten_newer (To q m (Admit true k)) h p n num f = absurd (false≢true f)
 forgotten_newer (To q m (Release k t)) h p n num f = absurd (false≢true f)
 forgotten_newer (To q m (Settle t d e)) h p n num f = absurd (false≢true f)
@@ -90,13 +90,13 @@ forgotten_newer (To q m (Close k)) h p n num f = absurd (false≢true f)
 forgotten_newer (Forget q (Some m)) h p n num f =
     let s = and_parts (bytes_eq q p) (bytes_eq m n) f in
     let here : events (Forget q (Some m) ∷ h) p n ≡ [] = cond-true (bytes_eq q p) (cond (bytes_eq m n) [] (events h p n)) (events h p n) s.0 ∙ cond-true (bytes_eq m n) [] (events h p n) s.1 in
-    subst (IsNewer (generations h) (tokens h)) (sym here) (nothing_newer (generations h) (tokens h))
+    subst (IsNewer (generations h) (tokens_given h)) (sym here) (nothing_newer (generations h) (tokens_given h))
 forgotten_newer (Forget q None) h p n num f =
     let here : events (Forget q None ∷ h) p n ≡ [] = cond-true (bytes_eq q p) [] (events h p n) f in
-    subst (IsNewer (generations h) (tokens h)) (sym here) (nothing_newer (generations h) (tokens h))
+    subst (IsNewer (generations h) (tokens_given h)) (sym here) (nothing_newer (generations h) (tokens_given h))
 
 -- counts never fall
-counts_grow : (c : Call) (h : History) → (generations h ≤ generations (c ∷ h)) × (tokens h ≤ tokens (c ∷ h))
+counts_grow : (c : Call) (h : History) → (generations h ≤ generations (c ∷ h)) × (tokens_given h ≤ tokens_given (c ∷ h))
 counts_grow (To p n (Admit e g)) h = (omega arith, omega arith)
 counts_grow (To p n (Release g t)) h = (omega arith, omega arith)
 counts_grow (To p n (Settle t d f)) h = (omega arith, omega arith)
@@ -105,7 +105,7 @@ counts_grow (To p n (Fail g e)) h = (omega arith, omega arith)
 counts_grow (To p n (Close g)) h = (omega arith, omega arith)
 counts_grow (Forget p n) h = (omega arith, omega arith)
 
-all_grow : (later h : History) → (generations h ≤ generations (later ++ h)) × (tokens h ≤ tokens (later ++ h))
+all_grow : (later h : History) → (generations h ≤ generations (later ++ h)) × (tokens_given h ≤ tokens_given (later ++ h))
 all_grow [] h = (omega arith, omega arith)
 all_grow (c ∷ later) h =
     let r = all_grow later h in
@@ -124,21 +124,21 @@ numbered_rest (To p n (Close g)) h n' = n'
 numbered_rest (Forget p n) h n' = n'
 
 newer_since : (later : History) (c : Call) (earlier : History) (p n : List ℕ) → IsNumbered (later ++ c ∷ earlier) → forgets c p n ≡ true
-    → IsNewer (generations earlier) (tokens earlier) (events (later ++ c ∷ earlier) p n)
+    → IsNewer (generations earlier) (tokens_given earlier) (events (later ++ c ∷ earlier) p n)
 newer_since [] c earlier p n num f = forgotten_newer c earlier p n num f
 newer_since (d ∷ later) c earlier p n num f =
     let rest = numbered_rest d (later ++ c ∷ earlier) num in
     let once = counts_grow c earlier in
     let grown = all_grow later (c ∷ earlier) in
     let gs : generations earlier ≤ generations (later ++ c ∷ earlier) = omega (arith, once.0, grown.0) in
-    let ts : tokens earlier ≤ tokens (later ++ c ∷ earlier) = omega (arith, once.1, grown.1) in
-    call_newer (generations earlier) (tokens earlier) d (later ++ c ∷ earlier) p n num gs ts (newer_since later c earlier p n rest f)
+    let ts : tokens_given earlier ≤ tokens_given (later ++ c ∷ earlier) = omega (arith, once.1, grown.1) in
+    call_newer (generations earlier) (tokens_given earlier) d (later ++ c ∷ earlier) p n num gs ts (newer_since later c earlier p n rest f)
 
-pub newer : (h earlier : History) (p n : List ℕ) → IsForgottenAfter h earlier p n → IsNewer (generations earlier) (tokens earlier) (events h p n)
+pub newer : (h earlier : History) (p n : List ℕ) → IsForgottenAfter h earlier p n → IsNewer (generations earlier) (tokens_given earlier) (events h p n)
 newer h earlier p n f =
-    subst (λ k. IsNewer (generations earlier) (tokens earlier) (events k p n)) (sym f.parts)
+    subst (λ k. IsNewer (generations earlier) (tokens_given earlier) (events k p n)) (sym f.parts)
     (newer_since f.later f.call earlier p n (subst IsNumbered f.parts f.numbered) f.forgotten)
 
 -- an operation that doesn't count leaves all names
 pub no_count : (h : History) (p n : List ℕ) (operation : Operation) → with_operation operation (events h p n) ≡ events h p n → events (To p n operation ∷ h) ≡ events h
-no_count h p n operation e = ap (with_at (events h) p n) e ∙ with_at_same (events h) p n
+no_count h p n operation e = ap (with_name (events h) p n) e ∙ with_at_same (events h) p n

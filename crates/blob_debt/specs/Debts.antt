@@ -13,7 +13,7 @@ use Rattle.blob_debt.specs.declared.pending.entry.Entry.{Entry}
 use Rattle.blob_debt.specs.declared.pending.entry.Change.{Change}
 use Rattle.blob_debt.specs.declared.pending.entry.Change.TheVariants as change
 use Rattle.blob_names.specs.Names.{at}
-use Rattle.blob_debt.specs.History.{Operation, Call, History, Event, To, Admit, Release, Settle, Clear, Close, AdmittedOpen, settling, debt, failure, is_live, over, latest, events, generations, tokens, is_outstanding}
+use Rattle.blob_debt.specs.History.{Operation, Call, History, Event, To, Admit, Release, Settle, Clear, Close, AdmittedOpen, settling, debt, failure, is_live, over, latest, events, generations, tokens_given, is_outstanding}
 
 -- all that is known of a name
 pub record Standing : Type 0 where
@@ -58,14 +58,14 @@ pub record HoldsNames (names : Names Entry) (h : History) : Type 0 where
 abbrev pub IsNumbered : History → Type 0
 IsNumbered [] = Unit {0}
 IsNumbered (To p n (Admit existing g) ∷ h) = (g ≡ generations h) × IsNumbered h
-IsNumbered (To p n (Release g token) ∷ h) = (token ≡ tokens h) × IsNumbered h
+IsNumbered (To p n (Release g token) ∷ h) = (token ≡ tokens_given h) × IsNumbered h
 IsNumbered (c ∷ h) = IsNumbered h
 
 pub record Represents (r : Pending) (h : History) : Type 0 where
   pub names : HoldsNames r.names h
   pub outstanding : (t : ℕ) → contains nat_cmp r.outstanding t ≡ is_outstanding h t
   pub generations : r.next_generation ≡ generations h
-  pub tokens : r.next_token ≡ tokens h
+  pub tokens : r.next_token ≡ tokens_given h
   pub numbered : IsNumbered h
 
 pub record IsUnchanged (r s : Pending) : Type 0 where

@@ -2,7 +2,7 @@
 use Rattle.std.specs.Prelude.{ℕ, ◌+◌, ◌-◌, ◌^◌, List, [], ◌∷◌, Bool, true, false, not, ◌&&◌, ◌||◌, ◌==◌, if◌then◌else◌, Option, Some, None, is_some, is_none, Result, Ok, Err}
 use Rattle.hex.specs.Hex.{encode_lower}
 use Rattle.blob_header.specs.Refusals.{Refusal, BlobAlreadyOpen, GenerationsExhausted}
-use Rattle.blob_names.specs.Names.{with_at, with_partition}
+use Rattle.blob_names.specs.Names.{with_name, with_all_names}
 
 -- what is done to a name. A generation or a token is a number
 pub data Operation : Type 0 where
@@ -101,9 +101,9 @@ with_operation (Close g) es = if is_this_number (latest es) g then Closed ∷ es
 -- a name's events since it was last forgotten, by a call of that or by an open that makes the blob anew
 abbrev pub events : History → List ℕ → List ℕ → List Event
 events [] p n = []
-events (To q m operation ∷ h) p n = with_at (events h) q m (with_operation operation (events h q m)) p n
-events (Forget q (Some m) ∷ h) p n = with_at (events h) q m [] p n
-events (Forget q None ∷ h) p n = with_partition (events h) [] q p n
+events (To q m operation ∷ h) p n = with_name (events h) q m (with_operation operation (events h q m)) p n
+events (Forget q (Some m) ∷ h) p n = with_name (events h) q m [] p n
+events (Forget q None ∷ h) p n = with_all_names (events h) [] q p n
 
 -- the generations that were given, from 0 on
 abbrev pub generations : History → ℕ
@@ -112,10 +112,10 @@ generations (To p n (Admit existing g) ∷ h) = generations h + 1
 generations (c ∷ h) = generations h
 
 -- the tokens that were given, from 0 on
-abbrev pub tokens : History → ℕ
-tokens [] = 0
-tokens (To p n (Release g token) ∷ h) = tokens h + 1
-tokens (c ∷ h) = tokens h
+abbrev pub tokens_given : History → ℕ
+tokens_given [] = 0
+tokens_given (To p n (Release g token) ∷ h) = tokens_given h + 1
+tokens_given (c ∷ h) = tokens_given h
 
 -- whether a token was given and not settled since, under whichever name
 abbrev pub is_outstanding : History → ℕ → Bool
@@ -155,7 +155,7 @@ abbrev pub released : History → AdmittedOpen → Result (Option ℕ) Refusal
 released h o =
     let es = events h o.partition o.name in
     if is_this_number (latest es) o.number && is_none (settling es)
-    then (if is_last (tokens h) then Err GenerationsExhausted else Ok (Some (tokens h)))
+    then (if is_last (tokens_given h) then Err GenerationsExhausted else Ok (Some (tokens_given h)))
     else Ok None
 
 -- what a generation that asks for the debt is answered

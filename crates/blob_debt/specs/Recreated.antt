@@ -1,5 +1,5 @@
 -- Names that were forgotten, and numbers from before.
-use Rattle.std.specs.Prelude.{◌≡◌, ℕ, List, ◌∷◌, ◌++◌, Bool, true, false, ◌&&◌, Some, None}
+use Rattle.std.specs.Prelude.{◌≡◌, ◌<◌, ℕ, List, ◌∷◌, ◌++◌, Bool, true, false, ◌&&◌, Some, None}
 use Rattle.std.specs.Str.{bytes_eq}
 use Rattle.blob_debt.specs.History.{Call, History, To, Forget, Admit}
 use Rattle.blob_debt.specs.Debts.{IsNumbered}
@@ -18,3 +18,7 @@ pub record IsForgottenAfter (h earlier : History) (p n : List ℕ) : Type 0 wher
   pub parts : h ≡ later ++ call ∷ earlier
   pub forgotten : forgets call p n ≡ true
   pub numbered : IsNumbered h
+
+-- for each name that was forgotten, and each number that was given before
+abbrev pub ForOlder : (History → ℕ) → (History → List ℕ → List ℕ → ℕ → Type 0) → Type 0
+ForOlder given holds = (h earlier : History) (p n : List ℕ) → IsForgottenAfter h earlier p n → (number : ℕ) → number < given earlier → holds h p n number

@@ -11,17 +11,18 @@ use Rattle.blob_model.specs.Places.{Place}
 use Rattle.blob_model.specs.Stands.{replayed_at}
 use Rattle.blob_model.specs.Bytes.{resized}
 use Rattle.blob_model.proofs.Opened.{current_is}
+use Rattle.blob_faulty.specs.Keeps.{OverMemory}
 use Rattle.blob_disk.proofs.Crashes.{one_way}
 use Rattle.blob_disk.proofs.Laying.{cut_not, cut_to, mixed_over, mixed_some}
 use Rattle.blob_disk.proofs.Outcomes.{here_so, whole_so}
-use Rattle.blob_disk.specs.Outcomes.{MayLeave, Wrapper, Opened, Keeps, IsStanding, IsTracked, IsCurrent, outcomes}
+use Rattle.blob_disk.specs.Outcomes.{MayLeave, Opened, LeavesDisk, IsStanding, IsTracked, IsCurrent, outcomes}
 use Rattle.blob_faulty.specs.Outcomes.{LaysSome, WritesSome}
 use Rattle.blob_faulty.specs.Wrapper.{Stands, inner_of, config_of, pending_of, inside}
 use Rattle.blob_memory.specs.Store.{directory, durable, live, place}
 use Rattle.sqlite_disk.specs.Disk.{Cut, Follows, Mixed, Torn}
 
 -- the handle is on its name's current incarnation
-pub current_now : {R : Type 0} (b : Opened) (w : Wrapper R) → IsCurrent b w → is_current (directory (inner_of w)) (place (inside b)) ≡ true
+pub current_now : {R : Type 0} (b : Opened) (w : OverMemory R) → IsCurrent b w → is_current (directory (inner_of w)) (place (inside b)) ≡ true
 current_now b w here = current_is (directory (inner_of w)) (codes "disk") (codes "0") (place (inside b)) here
 
 -- an outcome after it is one before it with the mutation done
@@ -35,7 +36,7 @@ follows P es x x' q q' v v' seen takes step c (inr (t, e)) = here (replayed_at t
     here (Some d) is h = (d, inr (t, is), subst (λ (z : List ℕ). P d z) (same_Some (crashed d es t) c h) (takes d t))
 
 -- the same of the file
-pub file_follows : {R : Type 0} (P : List ℕ → List ℕ → Type 0) (es : List Entry) (b b' : Opened) (w w' : Wrapper R) → IsStanding w → place (inside b') ≡ place (inside b) →
+pub file_follows : {R : Type 0} (P : List ℕ → List ℕ → Type 0) (es : List Entry) (b b' : Opened) (w w' : OverMemory R) → IsStanding w → place (inside b') ≡ place (inside b) →
     P (live (inside b)) (live (inside b')) → ((d : List ℕ) (t : Choices) → P d (crashed d es t)) →
     ((f : Files) (t : Choices) → Stands (λ o. o) (directory (inner_of w)) (durable (inner_of w)) w f →
     replayed_at t (pending_of (λ o. o) w' (place (inside b))) (durable (inner_of w') (place (inside b))) ≡ option_map (λ x. crashed x es t) (replayed_at t (pending_of (λ o. o) w (place (inside b))) (durable (inner_of w) (place (inside b))))) →
@@ -44,8 +45,8 @@ file_follows P es b b' w w' standing at seen takes left =
     follows P es (live (inside b)) (live (inside b')) (pending_of (λ (o : Place). o) w (place (inside b))) (pending_of (λ (o : Place). o) w' (place (inside b'))) (durable (inner_of w) (place (inside b))) (durable (inner_of w') (place (inside b'))) seen takes
     (λ t. ap (λ (o : Place). replayed_at t (pending_of (λ (p : Place). p) w' o) (durable (inner_of w') o)) at ∙ ∥∥₁_elim standing (one_way _ _) (λ f. left f.0 t f.1))
 
-pub keeps_added : {R : Type 0} (es : List Entry) (b b' : Opened) (w w' : Wrapper R) → directory (inner_of w') ≡ directory (inner_of w) → place (inside b') ≡ place (inside b) → config_of w' ≡ config_of w → IsTracked b' →
-    ((f : Files) → Stands (λ o. o) (directory (inner_of w)) (durable (inner_of w)) w f → Stands (λ o. o) (directory (inner_of w')) (durable (inner_of w')) w' (all_logged f (place (inside b)) es)) → Keeps b w b' w'
+pub keeps_added : {R : Type 0} (es : List Entry) (b b' : Opened) (w w' : OverMemory R) → directory (inner_of w') ≡ directory (inner_of w) → place (inside b') ≡ place (inside b) → config_of w' ≡ config_of w → IsTracked b' →
+    ((f : Files) → Stands (λ o. o) (directory (inner_of w)) (durable (inner_of w)) w f → Stands (λ o. o) (directory (inner_of w')) (durable (inner_of w')) w' (all_logged f (place (inside b)) es)) → LeavesDisk b w b' w'
 keeps_added es b b' w w' named at config tracked stands = record {
   standing = λ s. ∥∥₁_map s (λ f. (all_logged f.0 (place (inside b)) es, stands f.0 f.1));
   tracked = λ _. tracked;
@@ -60,12 +61,12 @@ pub torn_follows : (at : ℕ) (bytes : List ℕ) (old new : List ℕ → Type 0)
 torn_follows at bytes old new mixed c may = let m = mixed c may in (m.0, m.1, m.2.torn)
 
 -- a write, by what it records
-pub record IsWritten {R : Type 0} (b b' : Opened) (w w' : Wrapper R) (offset : ℕ) (bytes : List ℕ) : Type 0 where
+pub record IsWritten {R : Type 0} (b b' : Opened) (w w' : OverMemory R) (offset : ℕ) (bytes : List ℕ) : Type 0 where
   pub others : Mixed offset bytes (live (inside b)) (live (inside b'))
-  pub keeps : Keeps b w b' w'
+  pub keeps : LeavesDisk b w b' w'
   pub crash : Follows (Mixed offset bytes) (outcomes b w) (outcomes b' w')
 
-pub wrote : {R : Type 0} (b b' : Opened) (w w' : Wrapper R) (es : List Entry) (offset : ℕ) (bytes : List ℕ) → IsStanding w →
+pub wrote : {R : Type 0} (b b' : Opened) (w w' : OverMemory R) (es : List Entry) (offset : ℕ) (bytes : List ℕ) → IsStanding w →
     directory (inner_of w') ≡ directory (inner_of w) → place (inside b') ≡ place (inside b) → config_of w' ≡ config_of w → IsTracked b' →
     WritesSome offset bytes (live (inside b)) (live (inside b')) → ((t : Choices) → LaysSome offset bytes es t) →
     ((f : Files) → Stands (λ o. o) (directory (inner_of w)) (durable (inner_of w)) w f → Stands (λ o. o) (directory (inner_of w')) (durable (inner_of w')) w' (all_logged f (place (inside b)) es)) →
@@ -80,16 +81,16 @@ wrote b b' w w' es offset bytes standing named at config tracked some laid stand
 }
 
 -- a resize, by what it records
-pub record IsResized {R : Type 0} (b b' : Opened) (w w' : Wrapper R) (len : ℕ) : Type 0 where
+pub record IsResized {R : Type 0} (b b' : Opened) (w w' : OverMemory R) (len : ℕ) : Type 0 where
   pub others : Cut len (live (inside b)) (live (inside b'))
-  pub keeps : Keeps b w b' w'
+  pub keeps : LeavesDisk b w b' w'
   pub crash : Follows (Cut len) (outcomes b w) (outcomes b' w')
 
 either_cut : (len : ℕ) (x y : List ℕ) → (y ≡ x) ⊎ (y ≡ resized x len) → Cut len x y
 either_cut len x y (inl e) = subst (λ (z : List ℕ). Cut len x z) (sym e) (cut_not len x)
 either_cut len x y (inr e) = subst (λ (z : List ℕ). Cut len x z) (sym e) (cut_to len x)
 
-pub cut_so : {R : Type 0} (b b' : Opened) (w w' : Wrapper R) (es : List Entry) (len : ℕ) → IsStanding w →
+pub cut_so : {R : Type 0} (b b' : Opened) (w w' : OverMemory R) (es : List Entry) (len : ℕ) → IsStanding w →
     directory (inner_of w') ≡ directory (inner_of w) → place (inside b') ≡ place (inside b) → config_of w' ≡ config_of w → IsTracked b' →
     (live (inside b') ≡ live (inside b)) ⊎ (live (inside b') ≡ resized (live (inside b)) len) → ((t : Choices) (x : List ℕ) → (crashed x es t ≡ x) ⊎ (crashed x es t ≡ resized x len)) →
     ((f : Files) → Stands (λ o. o) (directory (inner_of w)) (durable (inner_of w)) w f → Stands (λ o. o) (directory (inner_of w')) (durable (inner_of w')) w' (all_logged f (place (inside b)) es)) →

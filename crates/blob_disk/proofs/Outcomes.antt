@@ -5,13 +5,14 @@ use Rattle.std.proofs.lemmas.Bool.{cond-true}
 use Rattle.std.proofs.lemmas.Option.{none-some, same_Some}
 use Rattle.std.specs.Prelude.{option_map, codes}
 use Rattle.blob_model.specs.Directory.{Directory, current}
-use Rattle.blob_model.specs.Durable.{Durable, with_at, changed}
+use Rattle.blob_model.specs.Durable.{Durable, with_at, with_changed}
 use Rattle.blob_model.specs.Log.{Choices}
 use Rattle.blob_model.specs.Pending.{Pending}
 use Rattle.blob_model.specs.Places.{Place, same_place}
 use Rattle.blob_model.specs.Stands.{replayed_at}
 use Rattle.blob_model.specs.SamePlace.{same_self}
-use Rattle.blob_disk.specs.Outcomes.{MayLeave, Wrapper, Opened, Keeps, IsTracked, IsCurrent, IsWhole, outcomes}
+use Rattle.blob_faulty.specs.Keeps.{OverMemory}
+use Rattle.blob_disk.specs.Outcomes.{MayLeave, Opened, LeavesDisk, IsTracked, IsCurrent, IsWhole, outcomes}
 use Rattle.blob_faults.specs.declared.config.Config.{Config}
 use Rattle.blob_faulty.specs.Certain.{IsNever, partial_resizes}
 use Rattle.blob_faulty.specs.Wrapper.{Stands, KeepsRecords, inner_of, config_of, inside}
@@ -37,20 +38,20 @@ pub synced_outcomes : (x : List ℕ) (b : Option (List ℕ)) (c : List ℕ) → 
 synced_outcomes x b c (inl e) = e
 synced_outcomes x b c (inr (t, e)) = all_live x b c t e
 
-pub here_so : {R : Type 0} (b b' : Opened) (w w' : Wrapper R) → directory (inner_of w') ≡ directory (inner_of w) → place (inside b') ≡ place (inside b) → IsCurrent b w → IsCurrent b' w'
+pub here_so : {R : Type 0} (b b' : Opened) (w w' : OverMemory R) → directory (inner_of w') ≡ directory (inner_of w) → place (inside b') ≡ place (inside b) → IsCurrent b w → IsCurrent b' w'
 here_so b b' w w' same at h = ap (λ (d : Directory). current d (codes "disk") (codes "0")) same ∙ h ∙ ap Some (sym at)
 
-pub whole_so : {R : Type 0} (w w' : Wrapper R) → config_of w' ≡ config_of w → IsWhole w → IsWhole w'
+pub whole_so : {R : Type 0} (w w' : OverMemory R) → config_of w' ≡ config_of w → IsWhole w → IsWhole w'
 whole_so w w' config h = subst (λ (c : Config). IsNever (partial_resizes c.resize_rate)) (sym config) h
 
 -- a law of the wrapper: it stands for the same files where nothing was recorded
 abbrev pub KeptRecords : Type 0 → Type 0
-KeptRecords R = (names names' : Directory) (bytes bytes' : Durable) (old new : Wrapper R) (files : Files) → names' ≡ names → bytes' ≡ bytes → KeepsRecords (λ o. o) old new →
+KeptRecords R = (names names' : Directory) (bytes bytes' : Durable) (old new : OverMemory R) (files : Files) → names' ≡ names → bytes' ≡ bytes → KeepsRecords (λ o. o) old new →
     Stands (λ o. o) names bytes old files → Stands (λ o. o) names' bytes' new files
 
 -- nothing was recorded, as a step of the disk
-pub keeps_all : {R : Type 0} (b b' : Opened) (w w' : Wrapper R) → KeptRecords R → directory (inner_of w') ≡ directory (inner_of w) → durable (inner_of w') ≡ durable (inner_of w) →
-    KeepsRecords (λ o. o) w w' → place (inside b') ≡ place (inside b) → (IsTracked b → IsTracked b') → Keeps b w b' w'
+pub keeps_all : {R : Type 0} (b b' : Opened) (w w' : OverMemory R) → KeptRecords R → directory (inner_of w') ≡ directory (inner_of w) → durable (inner_of w') ≡ durable (inner_of w) →
+    KeepsRecords (λ o. o) w w' → place (inside b') ≡ place (inside b) → (IsTracked b → IsTracked b') → LeavesDisk b w b' w'
 keeps_all b b' w w' kept named same k at tracked = record {
   standing = λ s. ∥∥₁_map s (λ f. (f.0, kept (directory (inner_of w)) (directory (inner_of w')) (durable (inner_of w)) (durable (inner_of w')) w w' f.0 named same k f.1));
   tracked = tracked;
@@ -62,16 +63,16 @@ keeps_all b b' w w' kept named same k at tracked = record {
 }
 
 pub synced_at : (x x' : List ℕ) (lists lists' : Place → List Pending) (bytes bytes' : Durable) (o o' : Place) → x' ≡ x → o' ≡ o →
-    ((a : Place) → lists' a ≡ with_at lists o [] a) → bytes' ≡ changed bytes o (λ _. x) → (c : List ℕ) → MayLeave x' (lists' o') (bytes' o') c → c ≡ x
+    ((a : Place) → lists' a ≡ with_at lists o [] a) → bytes' ≡ with_changed bytes o (λ _. x) → (c : List ℕ) → MayLeave x' (lists' o') (bytes' o') c → c ≡ x
 synced_at x x' lists lists' bytes bytes' o o' ex eo el eb c m =
     synced_outcomes x (bytes o) c (same_outcomes x x' [] (lists' o') (option_map (λ _. x) (bytes o)) (bytes' o') ex
     (ap lists' eo ∙ el o ∙ cond-true (same_place o o) [] (lists o) (same_self o))
     (ap bytes' eo ∙ at_place eb o ∙ cond-true (same_place o o) _ _ (same_self o)) c m)
 
 -- after a sync, as a step of the disk
-pub keeps_synced : {R : Type 0} (b b' : Opened) (w w' : Wrapper R) → directory (inner_of w') ≡ directory (inner_of w) →
+pub keeps_synced : {R : Type 0} (b b' : Opened) (w w' : OverMemory R) → directory (inner_of w') ≡ directory (inner_of w) →
     Publishes (λ o. o) (directory (inner_of w)) (durable (inner_of w)) (durable (inner_of w')) w w' (place (inside b)) (live (inside b)) →
-    place (inside b') ≡ place (inside b) → config_of w' ≡ config_of w → (IsTracked b → IsTracked b') → Keeps b w b' w'
+    place (inside b') ≡ place (inside b) → config_of w' ≡ config_of w → (IsTracked b → IsTracked b') → LeavesDisk b w b' w'
 keeps_synced b b' w w' named p at config tracked = record {
   standing = λ s. ∥∥₁_map s (λ f. (published f.0 (place (inside b)) (live (inside b)), subst (λ d. Stands (λ o. o) d (durable (inner_of w')) w' (published f.0 (place (inside b)) (live (inside b)))) (sym named) (p f.0 f.1)));
   tracked = tracked;
@@ -83,11 +84,11 @@ keeps_synced b b' w w' named p at config tracked = record {
 }
 
 -- another configuration
-pub configured_here : {R : Type 0} (b : Opened) (w w' : Wrapper R) (c : Config) → w' ≡ with_config w c → IsCurrent b w → IsCurrent b w'
+pub configured_here : {R : Type 0} (b : Opened) (w w' : OverMemory R) (c : Config) → w' ≡ with_config w c → IsCurrent b w → IsCurrent b w'
 configured_here b w w' c set h = subst (λ z. IsCurrent b z) (sym set) h
 
-pub configured_whole : {R : Type 0} (w w' : Wrapper R) (c : Config) → w' ≡ with_config w c → IsNever (partial_resizes c.resize_rate) → IsWhole w'
+pub configured_whole : {R : Type 0} (w w' : OverMemory R) (c : Config) → w' ≡ with_config w c → IsNever (partial_resizes c.resize_rate) → IsWhole w'
 configured_whole w w' c set h = subst (λ z. IsWhole z) (sym set) h
 
-pub configured_outcomes : {R : Type 0} (b : Opened) (w w' : Wrapper R) (c : Config) (x : List ℕ) → w' ≡ with_config w c → outcomes b w' x → outcomes b w x
+pub configured_outcomes : {R : Type 0} (b : Opened) (w w' : OverMemory R) (c : Config) (x : List ℕ) → w' ≡ with_config w c → outcomes b w' x → outcomes b w x
 configured_outcomes b w w' c x set h = subst (λ z. outcomes b z x) set h

@@ -9,6 +9,7 @@ use Rattle.blob_model.specs.Places.{Place}
 use Rattle.blob_model.specs.Rates.{Rate}
 use Rattle.blob_model.specs.Stands.{replayed_at}
 use Rattle.blob_faulty.specs.Certain.{IsNever, partial_resizes}
+use Rattle.blob_faulty.specs.Keeps.{OverMemory}
 use Rattle.blob_faulty.specs.Wrapper.{Stands, inner_of, config_of, pending_of, inside, size_of}
 use Rattle.blob_faulty.specs.declared.blob.Blob as faulty_blob
 use Rattle.blob_faulty.specs.declared.storage.Storage as faulty
@@ -16,10 +17,7 @@ use Rattle.blob_memory.specs.Store.{directory, durable, live, place}
 use Rattle.blob_memory.specs.declared.blob.Blob as memory_blob
 use Rattle.blob_memory.specs.declared.storage.Storage as memory
 
--- a wrapper over a memory store, and a handle on one of its blobs
-abbrev pub Wrapper : Type 0 → Type 0
-Wrapper R = faulty.Storage memory.Storage R Place
-
+-- a handle on a blob of a wrapper over a memory store
 abbrev pub Opened : Type 0
 Opened = faulty_blob.Blob memory_blob.Blob
 
@@ -28,15 +26,15 @@ abbrev pub MayLeave : List ℕ → List Pending → Option (List ℕ) → List �
 MayLeave live pending durable c = (c ≡ live) ⊎ ((t : Choices) × (replayed_at t pending durable ≡ Some c))
 
 -- what a crash of the machine leaves of the blob that a handle is on, by some choices
-abbrev pub IsDrawn : {R : Type 0} → Opened → Wrapper R → List ℕ → Type 0
+abbrev pub IsDrawn : {R : Type 0} → Opened → OverMemory R → List ℕ → Type 0
 IsDrawn b w c = (t : Choices) × (replayed_at t (pending_of (λ o. o) w (place (inside b))) (durable (inner_of w) (place (inside b))) ≡ Some c)
 
 -- or of the process alone
-abbrev pub outcomes : {R : Type 0} → Opened → Wrapper R → List ℕ → Type 0
+abbrev pub outcomes : {R : Type 0} → Opened → OverMemory R → List ℕ → Type 0
 outcomes b w = MayLeave (live (inside b)) (pending_of (λ o. o) w (place (inside b))) (durable (inner_of w) (place (inside b)))
 
 -- the wrapper stands for some files
-abbrev pub IsStanding : {R : Type 0} → Wrapper R → Type 0
+abbrev pub IsStanding : {R : Type 0} → OverMemory R → Type 0
 IsStanding w = ∥ ((files : Files) × Stands (λ o. o) (directory (inner_of w)) (durable (inner_of w)) w files) ∥₁
 
 -- the size that the handle tracks is that of its live bytes
@@ -44,29 +42,29 @@ abbrev pub IsTracked : Opened → Type 0
 IsTracked b = size_of b ≡ length (live (inside b))
 
 -- the handle is on the current incarnation of the disk's name
-abbrev pub IsCurrent : {R : Type 0} → Opened → Wrapper R → Type 0
+abbrev pub IsCurrent : {R : Type 0} → Opened → OverMemory R → Type 0
 IsCurrent b w = current (directory (inner_of w)) (codes "disk") (codes "0") ≡ Some (place (inside b))
 
 -- no resize fails in part
-abbrev pub IsWhole : {R : Type 0} → Wrapper R → Type 0
+abbrev pub IsWhole : {R : Type 0} → OverMemory R → Type 0
 IsWhole w = IsNever (partial_resizes (config_of w).resize_rate)
 
 never_prop : (rate : Option Rate) → IsProp (IsNever rate)
 never_prop None = Unit-prop
 never_prop (Some rate) = Coded-set coded_ℕ rate.numerator 0
 
-pub whole_prop : {R : Type 0} (w : Wrapper R) → IsProp (IsWhole w)
+pub whole_prop : {R : Type 0} (w : OverMemory R) → IsProp (IsWhole w)
 whole_prop w = never_prop (partial_resizes (config_of w).resize_rate)
 
 -- a handle on the file's blob, which is current
-pub record IsFile {R : Type 0} (b : Opened) (w : Wrapper R) : Type 0 where
+pub record IsFile {R : Type 0} (b : Opened) (w : OverMemory R) : Type 0 where
   pub standing : IsStanding w
   pub tracked : IsTracked b
   pub here : IsCurrent b w
   pub whole : IsWhole w
 
 -- what a call leaves as it was
-pub record Keeps {R : Type 0} (b : Opened) (w : Wrapper R) (b' : Opened) (w' : Wrapper R) : Type 0 where
+pub record LeavesDisk {R : Type 0} (b : Opened) (w : OverMemory R) (b' : Opened) (w' : OverMemory R) : Type 0 where
   pub standing : IsStanding w → IsStanding w'
   pub tracked : IsTracked b → IsTracked b'
   pub directory : directory (inner_of w') ≡ directory (inner_of w)

@@ -4,7 +4,7 @@ ghost use Rattle.blob_faulty.specs.Wrapper.{inside, inner_of, KeepsRecords};
 ghost use Rattle.blob_memory.specs.Store.{live, place, durable};
 ghost use Rattle.sqlite_disk.specs.Disk.{Holds, Only, Torn, Mixed, Cut, Follows, MoreFaults};
 ghost use Rattle.sqlite_disk.specs.Refusal.{is_no_room};
-ghost use Rattle.blob_disk.specs.Outcomes.{Keeps, IsCurrent, IsFile, IsDrawn, outcomes};
+ghost use Rattle.blob_disk.specs.Outcomes.{LeavesDisk, IsCurrent, IsFile, IsDrawn, outcomes};
 
 use crate::{NAME, PARTITION};
 use blob_base::laws::opens::accepted_opens;
@@ -40,7 +40,7 @@ pub(crate) fn read<R: Rng>(
     buf: &mut [u8],
 ) -> Result<(), Error>
     ensures bytes { OnOk result (Holds (live (inside blob.now)) at buf.new) }
-    ensures keeps { Keeps blob.now store.old blob.now store.new }
+    ensures keeps { LeavesDisk blob.now store.old blob.now store.new }
     ensures crash { (c : List ℕ) → outcomes blob.now store.new c → outcomes blob.now store.old c }
 {
     kept_records::<blob_memory::Storage, R>();
@@ -58,7 +58,7 @@ pub(crate) fn write<R: Rng>(
     requires { IsFile blob.old store.old }
     ensures written { OnOk result (0 < length bytes.now → Holds (live (inside blob.new)) at bytes.now) }
     ensures others { Torn at (length bytes.now) (live (inside blob.old)) (live (inside blob.new)) }
-    ensures keeps { Keeps blob.old store.old blob.new store.new }
+    ensures keeps { LeavesDisk blob.old store.old blob.new store.new }
     ensures mixed { Follows (Mixed at bytes.now) (outcomes blob.old store.old) (outcomes blob.new store.new) }
     ensures crash { Follows (Torn at (length bytes.now)) (outcomes blob.old store.old) (outcomes blob.new store.new) }
 {
@@ -79,7 +79,7 @@ pub(crate) fn resize<R: Rng>(
     requires { IsFile blob.old store.old }
     ensures len { OnOk result (length (live (inside blob.new)) ≡ len) }
     ensures others { Cut len (live (inside blob.old)) (live (inside blob.new)) }
-    ensures keeps { Keeps blob.old store.old blob.new store.new }
+    ensures keeps { LeavesDisk blob.old store.old blob.new store.new }
     ensures crash { Follows (Cut len) (outcomes blob.old store.old) (outcomes blob.new store.new) }
 {
     recorded::<blob_memory::Storage, R>();
@@ -92,7 +92,7 @@ pub(crate) fn resize<R: Rng>(
 /// Makes the live bytes durable.
 pub(crate) fn sync<R: Rng>(store: &mut Wrapper<R>, blob: &mut Handle) -> Result<(), Error>
     ensures durable { OnOk result (Only (live (inside blob.old)) (outcomes blob.new store.new)) }
-    ensures keeps { Keeps blob.old store.old blob.new store.new }
+    ensures keeps { LeavesDisk blob.old store.old blob.new store.new }
     ensures live { live (inside blob.new) ≡ live (inside blob.old) }
     ensures crash { (c : List ℕ) → outcomes blob.new store.new c → outcomes blob.old store.old c }
 {
@@ -109,7 +109,7 @@ fn reopen<R: Rng>(store: &mut Wrapper<R>, blob: &mut Handle) -> Result<(), Error
     ensures live { (live (inside blob.new) ≡ live (inside blob.old)) ⊎ (durable (inner_of store.old) (place (inside blob.old)) ≡ Some (live (inside blob.new))) }
     ensures durable { durable (inner_of store.new) ≡ durable (inner_of store.old) }
     ensures records { KeepsRecords (λ o. o) store.old store.new }
-    ensures keeps { Keeps blob.old store.old blob.new store.new }
+    ensures keeps { LeavesDisk blob.old store.old blob.new store.new }
 {
     accepted_opens();
     kept_records::<blob_memory::Storage, R>();
@@ -129,7 +129,7 @@ pub(crate) fn lose<R: Rng>(store: &mut Wrapper<R>, blob: &mut Handle) -> Result<
     ensures lost { OnOk result (IsDrawn blob.old store.old (live (inside blob.new))) }
     ensures kept { OnErr result (live (inside blob.new) ≡ live (inside blob.old)) }
     ensures left { outcomes blob.old store.old (live (inside blob.new)) }
-    ensures keeps { Keeps blob.old store.old blob.new store.new }
+    ensures keeps { LeavesDisk blob.old store.old blob.new store.new }
     ensures crash { (c : List ℕ) → outcomes blob.new store.new c → outcomes blob.old store.old c }
 {
     kept_records::<blob_memory::Storage, R>();

@@ -3,16 +3,16 @@ use Rattle.std.proofs.Common.{◌≡◌, ◌≢◌, ⊎_elim, ℕ, suc, ◌<◌,
 use Rattle.std.proofs.lemmas.Bool.{cases_Bool}
 use Rattle.std.proofs.lemmas.List.Kept.{AllPairs-cons}
 use Rattle.std.proofs.lemmas.List.Quantifiers.{all_pairs_push}
-use Rattle.blob_model.specs.Order.{Held, has_list, ArePlacesApart}
+use Rattle.blob_model.specs.Order.{ListAt, has_list, ArePlacesApart}
 use Rattle.blob_model.specs.Places.{Place, same_place}
 use Rattle.blob_model.specs.SamePlace.{same_place_exact, same_self}
 use Rattle.blob_faults.specs.declared.incarnation.Incarnation.{Incarnation}
-use Rattle.blob_faults.specs.Lists.{held, held_by, is_of, AreDistinct}
+use Rattle.blob_faults.specs.Lists.{held, held_by, is_list_of, AreDistinct}
 use Rattle.blob_faults.proofs.ListSteps.{has_none, is_not_of, held_get, held_len}
 
 -- whose a list is
-pub of_origin : {O : Type 0} (place : O → Place) (is : List (Incarnation O)) (o : Place) (k : ℕ) (d : Held) (e : Incarnation O) → k < length is → is_of o (get_or (held place is) k d) ≡ same_place (place (get_or is k e).origin) o
-of_origin {O} place is o k d e h = ap (λ (x : Held). is_of o x) (held_get place is k d e h)
+pub of_origin : {O : Type 0} (place : O → Place) (is : List (Incarnation O)) (o : Place) (k : ℕ) (d : ListAt) (e : Incarnation O) → k < length is → is_list_of o (get_or (held place is) k d) ≡ same_place (place (get_or is k e).origin) o
+of_origin {O} place is o k d e h = ap (λ (x : ListAt). is_list_of o x) (held_get place is k d e h)
 
 pub distinct_of : {O : Type 0} (place : O → Place) (is : List (Incarnation O)) → ArePlacesApart (held place is) → AreDistinct is
 distinct_of place [] apart = λ i j d l h. absurd (omega arith)

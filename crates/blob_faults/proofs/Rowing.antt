@@ -12,7 +12,7 @@ use Rattle.blob_model.specs.Draws.{Row, with_first, positions, drawn, row_of}
 use Rattle.blob_model.specs.Durable.{Durable}
 use Rattle.blob_model.specs.Files.{Files, all_needs}
 use Rattle.blob_model.specs.Log.{Need}
-use Rattle.blob_model.specs.Order.{Held, held_at, ArePlacesApart, waiting_of_all, all_placed, number_of, Rise}
+use Rattle.blob_model.specs.Order.{ListAt, held_at, ArePlacesApart, waiting_of_all, all_placed, need_number, Rise}
 use Rattle.blob_model.specs.Stands.{StandsFor}
 use Rattle.blob_model.proofs.AnyOrder.{needs_rise}
 use Rattle.blob_model.proofs.CrashSteps.{gathered}
@@ -35,14 +35,14 @@ climb from [] r = tt
 climb from (n ∷ ns) r = (r.0, climb (suc n.write.number) ns r.1)
 
 -- what was gathered and sorted is what the files need
-pub gathered_needs : (names : Directory) (bytes : Durable) (hs : List Held) (write marker : ℕ) (f : Files) (ds : List Draw) → IsPermutation (drawings_of (waiting_of_all hs)) (drawings_in ds) → IsNonDecreasingBy (λ (d : Draw). d.number) ds →
+pub gathered_needs : (names : Directory) (bytes : Durable) (hs : List ListAt) (write marker : ℕ) (f : Files) (ds : List Draw) → IsPermutation (drawings_of (waiting_of_all hs)) (drawings_in ds) → IsNonDecreasingBy (λ (d : Draw). d.number) ds →
     ArePlacesApart hs → StandsFor names bytes (held_at hs) write marker f → drawings_in ds ≡ drawings_of (all_needs f.log)
 gathered_needs names bytes hs write marker f ds moved up apart s =
-    let same : all_placed number_of [] (waiting_of_all hs) ≡ all_needs f.log = gathered names bytes hs write marker f apart s in
+    let same : all_placed need_number [] (waiting_of_all hs) ≡ all_needs f.log = gathered names bytes hs write marker f apart s in
     sorted_is (λ (d : Drawing). d.number) 0 (drawings_in ds) (drawings_of (all_needs f.log)) (order_mapped drawing_in (λ (d : Draw). d.number) (λ (d : Drawing). d.number) (λ _. refl) ds up)
     (climb 0 (all_needs f.log) (needs_rise 0 f.log f.next_write s.rising))
     (IsPermutation-trans (drawings_of (all_needs f.log)) (drawings_of (waiting_of_all hs)) (drawings_in ds)
-    (IsPermutation-sym (drawings_of (waiting_of_all hs)) (drawings_of (all_needs f.log)) (subst (λ (ns : List Need). IsPermutation (drawings_of (waiting_of_all hs)) (drawings_of ns)) same (IsPermutation-map drawing_of (waiting_of_all hs) (all_placed number_of [] (waiting_of_all hs)) (placed_permutes number_of (waiting_of_all hs)))))
+    (IsPermutation-sym (drawings_of (waiting_of_all hs)) (drawings_of (all_needs f.log)) (subst (λ (ns : List Need). IsPermutation (drawings_of (waiting_of_all hs)) (drawings_of ns)) same (IsPermutation-map drawing_of (waiting_of_all hs) (all_placed need_number [] (waiting_of_all hs)) (placed_permutes need_number (waiting_of_all hs)))))
     moved)
 
 -- each row has its write's number

@@ -8,7 +8,7 @@ use Rattle.blob_header.specs.Refusals.{Refusal, BlobMissing, Injected}
 use Rattle.blob_model.specs.Runs.{Run, runs}
 use Rattle.blob_model.proofs.Bytes.{length-overlay_by, length-resized, reach_all}
 use Rattle.blob_faults.specs.declared.config.Config.{Config}
-use Rattle.blob_faults.specs.Faults.{WriteFate, Done, Unsynced, Failed, ResizeFate, Resizes, Reaches, write_fate, is_uncounted}
+use Rattle.blob_faults.specs.Faults.{WriteFate, Done, Unsynced, Failed, ResizeFate, Resizes, Reaches, write_fate, has_uncounted_end}
 use Rattle.blob_faults.specs.Recorded.{live_by, live_of_write, live_of_resize, size_by, size_of_write, size_of_resize, size_of_runs}
 
 abbrev IsFound : Option Refusal → Type 0
@@ -46,7 +46,7 @@ by_fate_sized fate sync size live o b answer some found e = e
 
 pub sized_after_write : (config : Config) (stream : Stream) (sync : Bool) (size : ℕ) (live : List ℕ) (o : ℕ) (b : List ℕ) (answer : Option Refusal) → IsFound answer → size ≡ length live →
     size_of_write config stream sync size o b answer ≡ length (live_of_write config stream sync live o b answer)
-sized_after_write config stream sync size live o b answer found e = go (is_idle sync b) (is_uncounted o b) refl
+sized_after_write config stream sync size live o b answer found e = go (is_idle sync b) (has_uncounted_end o b) refl
   where
     fate : WriteFate
     fate = (write_fate config sync o (length b) stream).0

@@ -2,7 +2,7 @@
 use Rattle.std.proofs.Common.{◌≡◌, ◌≢◌, ◌⊎◌, inl, inr, ⊎_elim, ℕ, zero, suc, ◌+◌, ◌-◌, ◌<◌, true, false, List, [], ◌∷◌, length, get_or, refl, sym, ◌∙◌, ap, arith, true≢false}
 use Rattle.std.proofs.lemmas.Bool.{cases_Bool, cases_eq, cond-true, cond-false, cases_lt}
 use Rattle.blob_model.specs.Durable.{with_at}
-use Rattle.blob_model.specs.Order.{Held, held_at, has_list}
+use Rattle.blob_model.specs.Order.{ListAt, held_at, has_list}
 use Rattle.blob_model.specs.Places.{Place, same_place}
 use Rattle.blob_model.specs.SamePlace.{same_place_exact}
 use Rattle.blob_faults.specs.declared.incarnation.Incarnation.{Incarnation}
@@ -24,7 +24,7 @@ at_of place is k e o one distinct h his = record {
 }
 
 entries_at : {O : Type 0} (place : O → Place) (is : List (Incarnation O)) (k : ℕ) (e : Incarnation O) (o : Place) → k < length is → IsAt (held place is) k o → views (get_or is k e).entries.items ≡ list_of place is o
-entries_at place is k e o h at = sym (ap (λ (x : Held). x.1) (held_get place is k (held_by place e) e h)) ∙ held_here (held place is) k (held_by place e) o at
+entries_at place is k e o h at = sym (ap (λ (x : ListAt). x.1) (held_get place is k (held_by place e) e h)) ∙ held_here (held place is) k (held_by place e) o at
 
 none_of : {O : Type 0} (place : O → Place) (is : List (Incarnation O)) (a : Place) → ((k : ℕ) (e : Incarnation O) → k < length is → same_place (place (get_or is k e).origin) a ≡ false) → list_of place is a ≡ []
 none_of place [] a none = refl
@@ -52,13 +52,13 @@ look {O} place (x ∷ is) a = ⊎_elim
     (cases_Bool (same_place (place x.origin) a))
 
 -- an incarnation without a list
-pub no_list : (hs : List Held) (o a : Place) → has_list hs o ≡ false → held_at hs a ≡ with_at (held_at hs) o [] a
+pub no_list : (hs : List ListAt) (o a : Place) → has_list hs o ≡ false → held_at hs a ≡ with_at (held_at hs) o [] a
 no_list hs o a none = ⊎_elim
     (λ it. ap (held_at hs) (sym (same_place_exact o a it)) ∙ nothing hs o none ∙ sym (cond-true (same_place o a) _ _ it))
     (λ not_it. sym (cond-false (same_place o a) _ _ not_it))
     (cases_Bool (same_place o a))
   where
-    nothing : (hs : List Held) (o : Place) → has_list hs o ≡ false → held_at hs o ≡ []
+    nothing : (hs : List ListAt) (o : Place) → has_list hs o ≡ false → held_at hs o ≡ []
     nothing [] o none = refl
     nothing (h ∷ hs) o none = ⊎_elim
         (λ y. absurd (true≢false (sym (cond-true (same_place h.0 o) true (has_list hs o) y) ∙ none)))

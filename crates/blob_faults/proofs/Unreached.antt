@@ -12,7 +12,7 @@ use Rattle.blob_model.specs.Runs.{Run, runs, kept_runs}
 use Rattle.blob_model.proofs.Persistence.{runs_untouched, has_written, has_runs, has_resized}
 use Rattle.blob_faults.specs.declared.config.Config.{Config}
 use Rattle.blob_faults.specs.declared.config.ResizeConfig.{ResizeConfig}
-use Rattle.blob_faults.specs.Faults.{WriteFate, Done, Unsynced, Failed, ResizeFate, Resizes, Stays, Reaches, write_fate, retention, resize_fate, is_uncounted, partly}
+use Rattle.blob_faults.specs.Faults.{WriteFate, Done, Unsynced, Failed, ResizeFate, Resizes, Stays, Reaches, write_fate, retention, resize_fate, has_uncounted_end, partly}
 use Rattle.blob_faults.specs.Recorded.{loose, kept, recorded_by, recorded_write, recorded_resize, live_by, live_of_write, live_of_resize, first_written, size_of_runs, size_by, size_of_write, size_of_resize}
 
 -- What a write records lies within its range.
@@ -44,7 +44,7 @@ module _ (p offset : ℕ) (bytes : List ℕ) (out : lies offset (length bytes) p
   unfolding recorded_write
   write_out config number stream sync answer =
       cond_both (is_idle sync bytes) [] _ (λ es. any_touches p es ≡ false) (λ _. refl)
-      (λ _. cond_both (is_uncounted offset bytes) [] _ (λ es. any_touches p es ≡ false) (λ _. refl)
+      (λ _. cond_both (has_uncounted_end offset bytes) [] _ (λ es. any_touches p es ≡ false) (λ _. refl)
       (λ _. by_fate_out (write_fate config sync offset (length bytes) stream).0 (retention config.write_rate) number sync answer))
 
 -- Live bytes and the tracked size of a write that doesn't hold it.
@@ -79,7 +79,7 @@ module _ (p v offset : ℕ) (bytes : List ℕ) (out : lies offset (length bytes)
   pub write_has : (config : Config) (stream : Stream) (sync : Bool) (answer : Option Refusal) → HasByte p v (live_of_write config stream sync live offset bytes answer)
   write_has config stream sync answer =
       cond_both (is_idle sync bytes) live _ (λ x. HasByte p v x) (λ _. has)
-      (λ _. cond_both (is_uncounted offset bytes) live _ (λ x. HasByte p v x) (λ _. has)
+      (λ _. cond_both (has_uncounted_end offset bytes) live _ (λ x. HasByte p v x) (λ _. has)
       (λ _. by_fate_has (write_fate config sync offset (length bytes) stream).0 sync answer))
 
 runs_grow : (size : ℕ) (rs : List Run) → size ≤ size_of_runs size rs
@@ -95,7 +95,7 @@ by_fate_grows fate size offset bytes answer = omega arith
 pub write_grows : (config : Config) (stream : Stream) (sync : Bool) (size offset : ℕ) (bytes : List ℕ) (answer : Option Refusal) → size ≤ size_of_write config stream sync size offset bytes answer
 write_grows config stream sync size offset bytes answer =
     cond_both (is_idle sync bytes) size _ (λ k. size ≤ k) (λ _. omega arith)
-    (λ _. cond_both (is_uncounted offset bytes) size _ (λ k. size ≤ k) (λ _. omega arith)
+    (λ _. cond_both (has_uncounted_end offset bytes) size _ (λ k. size ≤ k) (λ _. omega arith)
     (λ _. by_fate_grows (write_fate config sync offset (length bytes) stream).0 size offset bytes answer))
 
 -- A resize that fails reaches a size above the lesser of the two.

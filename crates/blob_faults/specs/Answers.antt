@@ -5,7 +5,7 @@ use Rattle.blob_model.specs.Live.{is_idle}
 use Rattle.blob_header.specs.Refusals.{Refusal, Memory, Injected, OffsetOverflow, WriteFailed, GenerationsExhausted}
 use Rattle.blob_model.specs.Runs.{Run, runs}
 use Rattle.blob_faults.specs.declared.config.Config.{Config}
-use Rattle.blob_faults.specs.Faults.{WriteFate, Done, Unsynced, Failed, ResizeFate, Resizes, Stays, Reaches, write_fate, retention, is_uncounted}
+use Rattle.blob_faults.specs.Faults.{WriteFate, Done, Unsynced, Failed, ResizeFate, Resizes, Stays, Reaches, write_fate, retention, has_uncounted_end}
 
 -- which answers a call may have: a refusal, or none for Ok
 abbrev pub Allowed : Type 1
@@ -65,7 +65,7 @@ allows_fate (Failed kept) writes reserves direct retained next sync offset bytes
 -- `writes` and `reserves` are what the inner blob allows, `direct` whether it injects nothing
 unfoldable pub allows_write : (ℕ → List ℕ → Bool → Allowed) → (ℕ → Allowed) → Bool → Config → ℕ → Stream → ℕ → List ℕ → Bool → Allowed
 allows_write writes reserves direct config next stream offset bytes sync answer =
-    MatchBool (is_idle sync bytes) (answer ≡ None) (MatchBool (is_uncounted offset bytes) (answer ≡ Some OffsetOverflow)
+    MatchBool (is_idle sync bytes) (answer ≡ None) (MatchBool (has_uncounted_end offset bytes) (answer ≡ Some OffsetOverflow)
     (or_memory (allows_fate (write_fate config sync offset (length bytes) stream).0 writes reserves direct (is_some (retention config.write_rate)) next sync offset bytes) answer))
 
 abbrev pub allows_resize : (ℕ → Allowed) → ResizeFate → ℕ → Allowed

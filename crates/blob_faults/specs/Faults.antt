@@ -55,14 +55,14 @@ write_fate config sync offset len stream =
     let d = draw (write_failure config.write_rate) stream in
     if d.0 then failed (retention config.write_rate) offset len d.1 else not_failed config sync d.1
 
-abbrev pub is_uncounted : ℕ → List ℕ → Bool
-is_uncounted offset bytes = nat_lt (2 ^ 64 - 1) (offset + length bytes)
+abbrev pub has_uncounted_end : ℕ → List ℕ → Bool
+has_uncounted_end offset bytes = nat_lt (2 ^ 64 - 1) (offset + length bytes)
 
 -- what comes of a write, of one that does nothing and of one whose end can't be counted, which draw nothing, or else by its fate and what its draws leave
 abbrev pub by_fate : {X : Type 0} → Config → Bool → ℕ → List ℕ → Stream → X → X → (WriteFate × Stream → X) → X
 by_fate config sync offset bytes stream idle uncounted drawn =
     if is_idle sync bytes then idle
-    else if is_uncounted offset bytes then uncounted
+    else if has_uncounted_end offset bytes then uncounted
     else drawn (write_fate config sync offset (length bytes) stream)
 
 -- what a write leaves of the stream

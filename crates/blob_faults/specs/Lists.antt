@@ -4,8 +4,8 @@ use Rattle.std.proofs.Common.{get_or}
 use Rattle.blob_model.specs.Directory.{Directory, is_current}
 use Rattle.blob_model.specs.Durable.{with_at}
 use Rattle.blob_model.specs.Places.{Place, same_place}
-use Rattle.blob_model.specs.Pending.{Pending, finished}
-use Rattle.blob_model.specs.Order.{Held, held_at}
+use Rattle.blob_model.specs.Pending.{Pending, finished, has_barrier, laid}
+use Rattle.blob_model.specs.Order.{ListAt, held_at}
 use Rattle.blob_model.specs.Holes.{Holes}
 use Rattle.blob_faults.specs.Rooms.{AreWithin, HasRoomsFor}
 use Rattle.blob_faults.specs.Views.{views}
@@ -13,24 +13,28 @@ use Rattle.blob_faults.specs.declared.incarnation.Incarnation.{Incarnation}
 use Rattle.blob_faults.specs.declared.room.Room.{Room}
 use Rattle.blob_faults.specs.declared.room.Room.TheVariants as room
 
-abbrev pub held_by : {O : Type 0} → (O → Place) → Incarnation O → Held
+abbrev pub held_by : {O : Type 0} → (O → Place) → Incarnation O → ListAt
 held_by place i = (place i.origin, views i.entries.items)
 
-abbrev pub held : {O : Type 0} → (O → Place) → List (Incarnation O) → List Held
+abbrev pub held : {O : Type 0} → (O → Place) → List (Incarnation O) → List ListAt
 held place is = map (held_by place) is
 
 -- what is pending of an incarnation, nothing where it has no list
 abbrev pub list_of : {O : Type 0} → (O → Place) → List (Incarnation O) → Place → List Pending
 list_of place is = held_at (held place is)
 
-abbrev pub is_of : Place → Held → Bool
-is_of o h = same_place h.0 o
+abbrev pub is_list_of : Place → ListAt → Bool
+is_list_of o h = same_place h.0 o
+
+-- a list that queues a durable range of these bytes is handed them
+abbrev pub IsCopyFor : List ℕ → List Pending → List ℕ → Type 0
+IsCopyFor copy list bytes = has_barrier list ≡ true → copy ≡ bytes
 
 -- the list at i is the first of an incarnation
-pub record IsAt (hs : List Held) (i : ℕ) (o : Place) : Type 0 where
+pub record IsAt (hs : List ListAt) (i : ℕ) (o : Place) : Type 0 where
   pub inside : i < length hs
-  pub here : (d : Held) → is_of o (get_or hs i d) ≡ true
-  pub before : (k : ℕ) (d : Held) → k < i → is_of o (get_or hs k d) ≡ false
+  pub here : (d : ListAt) → is_list_of o (get_or hs i d) ≡ true
+  pub before : (k : ℕ) (d : ListAt) → k < i → is_list_of o (get_or hs k d) ≡ false
 
 -- no two lists have one origin
 abbrev pub AreDistinct : {O : Type 0} → List (Incarnation O) → Type 0
@@ -66,12 +70,17 @@ SameLists place old new = (o : Place) → list_of place new o ≡ list_of place 
 abbrev pub ChangesAt : {O : Type 0} → (O → Place) → List (Incarnation O) → List (Incarnation O) → ℕ → (List Pending → List Pending) → Type 0
 ChangesAt place old new i change = (o : Place) → IsAt (held place old) i o → (a : Place) → list_of place new a ≡ with_at (list_of place old) o (change (list_of place old o)) a
 
+-- a durable range is laid in the list at i; where it is queued there, `copy` has its bytes
+abbrev pub LaysAt : {O : Type 0} → (O → Place) → List (Incarnation O) → List (Incarnation O) → ℕ → ℕ → ℕ → List ℕ → Type 0
+LaysAt place old new i offset len copy = (o : Place) → IsAt (held place old) i o → (bytes : List ℕ) → length bytes ≡ len → IsCopyFor copy (list_of place old o) bytes
+    → (a : Place) → list_of place new a ≡ with_at (list_of place old) o (laid offset bytes (list_of place old o)) a
+
 -- the list at i can take these durable ranges
 abbrev pub HasRangesAt : {O : Type 0} → List (Incarnation O) → ℕ → Holes → Type 0
 HasRangesAt {O} is i hs = (d : Incarnation O) → HasRoomsFor hs (get_or is i d).entries
 
 -- one list after a started sync is finished
-abbrev pub finished_in : ℕ → Held → Held
+abbrev pub finished_in : ℕ → ListAt → ListAt
 finished_in marker h = (h.0, finished marker h.1)
 
 -- of each list it is noted whether its incarnation was current

@@ -1,6 +1,6 @@
 -- What a crash replays of a pending list, and the room that it takes.
 use Rattle.std.specs.Prelude.{ℕ, max, List, [], ◌∷◌, length, if◌then◌else◌}
-use Rattle.blob_model.specs.Order.{Held}
+use Rattle.blob_model.specs.Order.{ListAt}
 use Rattle.blob_model.specs.Pending.{Pending, Waiting, Cut, Again, Marker, has_marker}
 
 -- the entries behind the last marker
@@ -20,6 +20,6 @@ abbrev pub widest : List Pending → ℕ
 widest [] = 0
 widest (e ∷ q) = max (width e) (widest q)
 
-abbrev pub widest_of_all : List Held → ℕ
+abbrev pub widest_of_all : List ListAt → ℕ
 widest_of_all [] = 0
 widest_of_all (h ∷ hs) = max (widest h.1) (widest_of_all hs)

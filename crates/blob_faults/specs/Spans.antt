@@ -1,6 +1,6 @@
 -- Runs of a write by their positions.
-use Rattle.std.specs.Prelude.{ℕ, ◌+◌, ◌-◌, ◌≤◌, List, map, take, drop}
-use Rattle.blob_model.specs.Runs.{Run}
+use Rattle.std.specs.Prelude.{◌≡◌, ℕ, ◌+◌, ◌-◌, ◌<◌, ◌≤◌, List, length, map, reverse, take, drop, slice_index}
+use Rattle.blob_model.specs.Runs.{Run, with_byte}
 use Rattle.blob_faults.specs.declared.runs.Span.{Span}
 
 -- the run of a write at offset that a span is
@@ -12,3 +12,8 @@ pieces offset bytes ss = map (piece offset bytes) ss
 
 abbrev pub ends_by : ℕ → Span → Type 0
 ends_by end s = s.end ≤ end
+
+-- a chosen position joins the runs behind it, of which the nearest is the last of the list
+abbrev pub JoinsRuns : ℕ → List Span → List Span → Type 0
+JoinsRuns position old new = (offset : ℕ) (bytes : List ℕ) → position < length bytes
+    → pieces offset bytes (reverse new) ≡ with_byte (offset + position) (slice_index bytes position) (pieces offset bytes (reverse old))

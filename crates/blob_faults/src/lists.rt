@@ -5,11 +5,11 @@ ghost use Rattle.blob_model.specs.Directory.{Directory, is_current};
 ghost use Rattle.blob_model.specs.Durable.{with_at};
 ghost use Rattle.blob_model.specs.Holes.{Holes};
 ghost use Rattle.blob_model.specs.Order.{has_list};
-ghost use Rattle.blob_model.specs.Pending.{Marker, laid, finished, has_barrier, is_marker};
+ghost use Rattle.blob_model.specs.Pending.{Marker, finished, is_marker};
 ghost use Rattle.blob_header.specs.Refusals.{IsMemory};
 ghost use Rattle.blob_faults.specs.Rooms.{CanCut, KeepsRest};
 ghost use Rattle.blob_faults.specs.Views.{view};
-ghost use Rattle.blob_faults.specs.Lists.{held, list_of, IsAt, HasRoomIn, IsRoomAt, HasRangesAt, SameLists, ChangesAt, AreDistinct, finished_in, AreNoted, has_ended};
+ghost use Rattle.blob_faults.specs.Lists.{held, list_of, IsAt, HasRoomIn, IsRoomAt, HasRangesAt, SameLists, ChangesAt, IsCopyFor, LaysAt, AreDistinct, finished_in, AreNoted, has_ended};
 
 use crate::entry::Entry;
 use crate::incarnation::Incarnation;
@@ -180,7 +180,7 @@ impl<S: Durable> Lists<S> {
     /// error is `Memory`.
     pub fn copy_for(&self, i: usize, bytes: &IoBufs) -> Result<IoBufs, Error>
         requires { i < vec_len self.now.all.lists }
-        ensures copied { IfOk result (λ copy. (o : Place) → IsAt (held S.place self.now.all.lists.items) i o → has_barrier (list_of S.place self.now.all.lists.items o) ≡ true → copy ≡ bytes.now) }
+        ensures copied { IfOk result (λ copy. (o : Place) → IsAt (held S.place self.now.all.lists.items) i o → IsCopyFor copy (list_of S.place self.now.all.lists.items o) bytes.now) }
         ensures len { IfOk result (λ copy. length copy ≤ length bytes.now) }
         ensures memory { OnErr result (IsMemory result) }
     {
@@ -196,7 +196,7 @@ impl<S: Durable> Lists<S> {
         requires inside { i < vec_len self.old.all.lists }
         requires room { CanCut offset len (HasRangesAt self.old.all.lists.items i) }
         requires copied { length copy ≤ len }
-        ensures lists { (o : Place) → IsAt (held S.place self.old.all.lists.items) i o → (bytes : List ℕ) → length bytes ≡ len → (has_barrier (list_of S.place self.old.all.lists.items o) ≡ true → copy ≡ bytes) → (a : Place) → list_of S.place self.new.all.lists.items a ≡ with_at (list_of S.place self.old.all.lists.items) o (laid offset bytes (list_of S.place self.old.all.lists.items o)) a }
+        ensures lists { LaysAt S.place self.old.all.lists.items self.new.all.lists.items i offset len copy }
         ensures at { (o : Place) → IsAt (held S.place self.old.all.lists.items) i o → IsAt (held S.place self.new.all.lists.items) i o }
         ensures room { KeepsRest offset len (HasRangesAt self.old.all.lists.items i) (HasRangesAt self.new.all.lists.items i) }
         ensures len { vec_len self.new.all.lists ≡ vec_len self.old.all.lists }

@@ -14,12 +14,12 @@ pub struct Span {
 impl Span {
     ghost use Rattle.std.specs.Prelude.{◌≡◌, ◌≤◌, ◌+◌, ℕ, List, All, ◌^◌, length, reverse, slice_index, OnOk, IfOk};
     ghost use Rattle.blob_model.specs.Runs.{runs, with_byte};
-    ghost use Rattle.blob_faults.specs.Spans.{pieces, ends_by};
+    ghost use Rattle.blob_faults.specs.Spans.{JoinsRuns, pieces, ends_by};
 
     /// A chosen position joins the runs behind it, of which the nearest is the last.
     fn join(spans: &mut Vec<Span>, position: usize) -> Result<(), AllocError>
         requires { position + 1 < 2 ^ 64 }
-        ensures pieces { OnOk result ((offset : ℕ) (bytes : List ℕ) → position < length bytes → pieces offset bytes (reverse spans.new.items) ≡ with_byte (offset + position) (slice_index bytes position) (pieces offset bytes (reverse spans.old.items))) }
+        ensures pieces { OnOk result (JoinsRuns position spans.old.items spans.new.items) }
         ensures inside { OnOk result ((end : ℕ) → position < end → All (ends_by end) spans.old.items → All (ends_by end) spans.new.items) }
     {
         let run = Span {

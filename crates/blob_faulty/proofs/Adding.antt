@@ -4,7 +4,7 @@ use Rattle.std.specs.Prelude.{Result, Ok, Err, OnOk, option_map}
 use Rattle.blob_model.specs.Live.{is_idle}
 use Rattle.blob_model.specs.Places.{Place, same_place}
 use Rattle.blob_model.specs.Directory.{Directory}
-use Rattle.blob_model.specs.Durable.{Durable, changed}
+use Rattle.blob_model.specs.Durable.{Durable, with_changed}
 use Rattle.blob_model.specs.Bytes.{overlay, reach}
 use Rattle.blob_model.specs.Files.{Files}
 use Rattle.blob_model.specs.Log.{Loose, Kept}
@@ -61,7 +61,7 @@ nothing_not true (x ∷ b) some = refl
 nothing_not false b some = refl
 
 -- a range of no bytes
-pub nothing_changed : (f : Durable) (o : Place) (p : ℕ) (b : List ℕ) → length b ≡ 0 → f ≡ changed f o (λ x. overlay x p b)
+pub nothing_changed : (f : Durable) (o : Place) (p : ℕ) (b : List ℕ) → length b ≡ 0 → f ≡ with_changed f o (λ x. overlay x p b)
 nothing_changed f o p b none = sym (λ i a. push (same_place o a) (f a) i)
   where
     same : (x : List ℕ) → overlay x p b ≡ x

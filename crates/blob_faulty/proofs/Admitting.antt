@@ -5,7 +5,7 @@ use Rattle.std.specs.Str.{bytes_eq}
 use Rattle.std.specs.Cmp.Lexicographic.{bytes_decides}
 use Rattle.blob_model.specs.Directory.{Directory, File, Raw, Incarnation, place_in, current, is_that, is_current}
 use Rattle.blob_header.specs.Header.{data_start}
-use Rattle.blob_model.specs.Files.{ends_by}
+use Rattle.blob_model.specs.Files.{is_removed_by}
 use Rattle.blob_model.specs.Pending.{Pending}
 use Rattle.blob_model.specs.Places.{Place, same_place}
 use Rattle.blob_model.specs.Stands.{retired}
@@ -41,7 +41,7 @@ this_name p n a None e f = refl
 this_name p n a (Some (Raw b)) e f = refl
 this_name p n a (Some (Incarnation k layout version)) e f = sym (both_true (bytes_eq p a.partition) (bytes_eq n a.name) (eqb k a.number && eqb (data_start layout) a.start) e f)
 
-is_current_place : (d : Directory) (p n : List ℕ) (a : Place) → ends_by d p (Some n) a ≡ is_place (current d p n) a
+is_current_place : (d : Directory) (p n : List ℕ) (a : Place) → is_removed_by d p (Some n) a ≡ is_place (current d p n) a
 is_current_place d p n a = ⊎_elim
     (λ y. ⊎_elim
     (λ z.
@@ -56,5 +56,5 @@ retired_at : (lists : Place → List Pending) (o : Option Place) (a : Place) →
 retired_at lists None a = refl
 retired_at lists (Some o) a = refl
 
-pub admits_current : (d : Directory) (p n : List ℕ) (lists : Place → List Pending) (a : Place) → cond (ends_by d p (Some n) a) [] (lists a) ≡ retired lists (current d p n) a
+pub admits_current : (d : Directory) (p n : List ℕ) (lists : Place → List Pending) (a : Place) → cond (is_removed_by d p (Some n) a) [] (lists a) ≡ retired lists (current d p n) a
 admits_current d p n lists a = ap (λ (b : Bool). cond b [] (lists a)) (is_current_place d p n a) ∙ retired_at lists (current d p n) a

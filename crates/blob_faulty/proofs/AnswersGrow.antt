@@ -7,7 +7,7 @@ use Rattle.blob_header.specs.Refusals.{Refusal, OffsetOverflow}
 use Rattle.blob_model.specs.Runs.{Run, runs}
 use Rattle.blob_faults.specs.declared.config.Config.{Config}
 use Rattle.blob_faults.specs.Answers.{Allowed, injected_for, or_memory, numbered, lacks_number, last_end, allows_laid, allows_runs, allows_fate, allows_write}
-use Rattle.blob_faults.specs.Faults.{WriteFate, Done, Unsynced, Failed, write_fate, retention, is_uncounted}
+use Rattle.blob_faults.specs.Faults.{WriteFate, Done, Unsynced, Failed, write_fate, retention, has_uncounted_end}
 
 more_injected : (less more : Allowed) → ((a : Option Refusal) → less a → more a) → (a : Option Refusal) → injected_for less a → injected_for more a
 more_injected less more grow a (inl h) = inl (h.0, grow None h.1)
@@ -51,7 +51,7 @@ module _ (writes writes' : ℕ → List ℕ → Bool → Allowed) (reserves rese
       allows_write writes' reserves' direct config next stream o b sync a → allows_write writes reserves direct config next stream o b sync a
   unfolding allows_write
   more_write direct config next stream o b sync a h = matched (is_idle sync b) (a ≡ None) _ _
-      (matched (is_uncounted o b) (a ≡ Some OffsetOverflow) _ _
+      (matched (has_uncounted_end o b) (a ≡ Some OffsetOverflow) _ _
       (more_memory (allows_fate (write_fate config sync o (length b) stream).0 writes' reserves' direct (is_some (retention config.write_rate)) next sync o b)
       (allows_fate (write_fate config sync o (length b) stream).0 writes reserves direct (is_some (retention config.write_rate)) next sync o b)
       (more_fate (write_fate config sync o (length b) stream).0 direct (is_some (retention config.write_rate)) next sync o b) a)) h

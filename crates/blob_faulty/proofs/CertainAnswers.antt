@@ -14,7 +14,7 @@ use Rattle.blob_faults.specs.declared.config.ResizeConfig.{ResizeConfig}
 use Rattle.blob_faulty.specs.AnswerLaws.{injected_none, numbered_none, memory_none, uncounted_none}
 use Rattle.blob_faults.specs.Answers.{Allowed, injected_or, injected_for, or_memory, numbered, lacks_number, allows_runs, allows_done, allows_fate, allows_write, allows_resize, allows_start}
 use Rattle.blob_faulty.specs.Certain.{IsNever, IsAlways, resize_failure}
-use Rattle.blob_faults.specs.Faults.{draw, write_failure, retention, WriteFate, Done, Unsynced, Failed, failed, not_failed, synced_or_not, write_fate, is_uncounted, ResizeFate, Resizes, Stays, Reaches, partly, resize_fate, size_between}
+use Rattle.blob_faults.specs.Faults.{draw, write_failure, retention, WriteFate, Done, Unsynced, Failed, failed, not_failed, synced_or_not, write_fate, has_uncounted_end, ResizeFate, Resizes, Stays, Reaches, partly, resize_fate, size_between}
 
 -- The draws.
 
@@ -122,14 +122,14 @@ done_same writes retained next true offset bytes answer left = (λ h. h, λ h. h
 done_same writes retained next false offset bytes answer left = numbered_same (lacks_number retained next bytes) (writes offset bytes false) answer left
 
 pub quiet_write : (writes : ℕ → List ℕ → Bool → Allowed) (reserves : ℕ → Allowed) (direct : Bool) (config : Config) (next : ℕ) (stream : Stream) (offset : ℕ) (bytes : List ℕ) (sync : Bool) (answer : Option Refusal) →
-    IsNever (write_failure config.write_rate) → (sync ≡ true → IsNever config.sync_rate) → is_idle sync bytes ≡ false → is_uncounted offset bytes ≡ false → lacks_number (is_some (retention config.write_rate)) next bytes ≡ false →
+    IsNever (write_failure config.write_rate) → (sync ≡ true → IsNever config.sync_rate) → is_idle sync bytes ≡ false → has_uncounted_end offset bytes ≡ false → lacks_number (is_some (retention config.write_rate)) next bytes ≡ false →
     allows_write writes reserves direct config next stream offset bytes sync answer ↔ or_memory (writes offset bytes sync) answer
 unfolding allows_write
 quiet_write writes reserves direct config next stream offset bytes sync answer no_write no_sync some counted left =
     let retained : Bool = is_some (retention config.write_rate) in
     let fate : WriteFate = (write_fate config sync offset (length bytes) stream).0 in
     let told : Type 0 = or_memory (writes offset bytes sync) answer in
-    subst (λ (b : Bool). MatchBool b (answer ≡ None) (MatchBool (is_uncounted offset bytes) (answer ≡ Some OffsetOverflow) (or_memory (allows_fate fate writes reserves direct retained next sync offset bytes) answer)) ↔ told) (sym some)
+    subst (λ (b : Bool). MatchBool b (answer ≡ None) (MatchBool (has_uncounted_end offset bytes) (answer ≡ Some OffsetOverflow) (or_memory (allows_fate fate writes reserves direct retained next sync offset bytes) answer)) ↔ told) (sym some)
     (subst (λ (b : Bool). MatchBool b (answer ≡ Some OffsetOverflow) (or_memory (allows_fate fate writes reserves direct retained next sync offset bytes) answer) ↔ told) (sym counted)
     (subst (λ (f : WriteFate). or_memory (allows_fate f writes reserves direct retained next sync offset bytes) answer ↔ told) (sym (never_failed config sync offset (length bytes) stream no_write no_sync))
     (either_memory (allows_done writes retained next sync offset bytes) (writes offset bytes sync) answer (done_same writes retained next sync offset bytes answer left))))
@@ -173,7 +173,7 @@ pub write_injected : (writes : ℕ → List ℕ → Bool → Allowed) (reserves 
 unfolding allows_write
 write_injected writes reserves direct config next stream offset bytes sync no_write no_sync h =
     let retained : Bool = is_some (retention config.write_rate) in
-    let allowed = beyond_overflow (is_uncounted offset bytes) _ (beyond_nothing (is_idle sync bytes) _ h) in
+    let allowed = beyond_overflow (has_uncounted_end offset bytes) _ (beyond_nothing (is_idle sync bytes) _ h) in
     done_injected writes retained next sync offset bytes (memory_injected (allows_done writes retained next sync offset bytes)
     (subst (λ (f : WriteFate). or_memory (allows_fate f writes reserves direct retained next sync offset bytes) (Some Injected)) (never_failed config sync offset (length bytes) stream no_write no_sync) allowed))
 
@@ -211,9 +211,9 @@ unfolding allows_write
 undone_write writes reserves direct config next stream offset bytes sync undone some h =
     let retained : Bool = is_some (retention config.write_rate) in
     let fate : WriteFate = (write_fate config sync offset (length bytes) stream).0 in
-    uncounted_none (is_uncounted offset bytes) (or_memory (allows_fate fate writes reserves direct retained next sync offset bytes))
+    uncounted_none (has_uncounted_end offset bytes) (or_memory (allows_fate fate writes reserves direct retained next sync offset bytes))
     (memory_none (allows_fate fate writes reserves direct retained next sync offset bytes) (undone_none fate writes reserves direct retained next sync offset bytes undone))
-    (subst (λ (b : Bool). MatchBool b (◌≡◌ {A = Option Refusal} None None) (MatchBool (is_uncounted offset bytes) (◌≡◌ {A = Option Refusal} None (Some OffsetOverflow)) (or_memory (allows_fate fate writes reserves direct retained next sync offset bytes) None))) some h)
+    (subst (λ (b : Bool). MatchBool b (◌≡◌ {A = Option Refusal} None None) (MatchBool (has_uncounted_end offset bytes) (◌≡◌ {A = Option Refusal} None (Some OffsetOverflow)) (or_memory (allows_fate fate writes reserves direct retained next sync offset bytes) None))) some h)
 
 pub write_fails : (writes : ℕ → List ℕ → Bool → Allowed) (reserves : ℕ → Allowed) (direct : Bool) (config : Config) (next : ℕ) (stream : Stream) (offset : ℕ) (bytes : List ℕ) (sync : Bool) →
     IsAlways (write_failure config.write_rate) → is_idle sync bytes ≡ false → allows_write writes reserves direct config next stream offset bytes sync None → ⊥

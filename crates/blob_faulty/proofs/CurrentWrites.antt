@@ -9,7 +9,7 @@ use Rattle.blob_header.specs.Refusals.{Refusal, BlobMissing, OffsetOverflow}
 use Rattle.blob_model.specs.Runs.{Run, runs}
 use Rattle.blob_faults.specs.declared.config.Config.{Config}
 use Rattle.blob_faults.specs.Answers.{Allowed, or_memory, injected_for, numbered, one_then, allows_laid, allows_runs, allows_fate, allows_write}
-use Rattle.blob_faults.specs.Faults.{WriteFate, Done, Unsynced, Failed, write_fate, is_uncounted}
+use Rattle.blob_faults.specs.Faults.{WriteFate, Done, Unsynced, Failed, write_fate, has_uncounted_end}
 use Rattle.blob_memory.specs.Answers as memory
 use Rattle.blob_memory.specs.Answers.{AllowsWrite, OrMemory, write_refusal, end_refusal, missing}
 
@@ -62,7 +62,7 @@ module _ (p n : List ℕ) where
     unfolding allows_write
     not_missing direct config next stream offset bytes sync h =
         not_beyond (is_idle sync bytes) None _ (λ e. cc) (λ k.
-        not_beyond (is_uncounted offset bytes) (Some OffsetOverflow) _ (λ e. cc) (λ m.
+        not_beyond (has_uncounted_end offset bytes) (Some OffsetOverflow) _ (λ e. cc) (λ m.
         not_memory (allows_fate (write_fate config sync offset (length bytes) stream).0 writes reserves direct _ next sync offset bytes) (not_by_fate (write_fate config sync offset (length bytes) stream).0 direct _ next sync offset bytes) m) k) h
 
   -- the memory store's

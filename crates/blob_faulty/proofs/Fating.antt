@@ -10,7 +10,7 @@ use Rattle.blob_header.specs.Refusals.{Refusal, OffsetOverflow, BlobMissing, Inj
 use Rattle.blob_model.specs.Runs.{Run, runs}
 use Rattle.blob_faults.specs.declared.config.Config.{Config}
 use Rattle.blob_faults.specs.Answers.{Allowed, or_memory, numbered, allows_laid, allows_runs, last_end}
-use Rattle.blob_faults.specs.Faults.{WriteFate, Done, Unsynced, Failed, write_fate, retention, is_uncounted}
+use Rattle.blob_faults.specs.Faults.{WriteFate, Done, Unsynced, Failed, write_fate, retention, has_uncounted_end}
 use Rattle.blob_faulty.specs.Pieces.{first_after}
 use Rattle.blob_faults.specs.Recorded.{recorded_by, recorded_write, first_written, live_by, size_by}
 use Rattle.blob_faulty.specs.Writes.{View, Effect, Logs, Recorded, WroteBy, plain, laid_runs, live_of_runs}
@@ -108,13 +108,13 @@ pub recorded_so : (config : Config) (number : ℕ) (stream : Stream) (sync : Boo
     fate ≡ (write_fate config sync offset (length bytes) stream).0 → recorded_write config number stream sync offset bytes answer ≡ recorded_by fate (retention config.write_rate) number sync offset bytes answer
 unfolding recorded_write
 recorded_so config number stream sync offset bytes answer fate some fits is =
-    cond-false (is_idle sync bytes) _ _ (nothing_not sync bytes some) ∙ cond-false (is_uncounted offset bytes) _ _ (le-ltb _ _ (omega (arith, fits)))
+    cond-false (is_idle sync bytes) _ _ (nothing_not sync bytes some) ∙ cond-false (has_uncounted_end offset bytes) _ _ (le-ltb _ _ (omega (arith, fits)))
     ∙ ap (λ (f : WriteFate). recorded_by f (retention config.write_rate) number sync offset bytes answer) (sym is)
 
 -- refused for memory, nothing
 pub recorded_none : (config : Config) (number : ℕ) (stream : Stream) (sync : Bool) (offset : ℕ) (bytes : List ℕ) → recorded_write config number stream sync offset bytes (Some Memory) ≡ []
 unfolding recorded_write
-recorded_none config number stream sync offset bytes = go (is_idle sync bytes) (is_uncounted offset bytes) sync (write_fate config sync offset (length bytes) stream).0
+recorded_none config number stream sync offset bytes = go (is_idle sync bytes) (has_uncounted_end offset bytes) sync (write_fate config sync offset (length bytes) stream).0
   where
     go : (a b s : Bool) (fate : WriteFate) → cond a [] (cond b [] (recorded_by fate (retention config.write_rate) number s offset bytes (Some Memory))) ≡ []
     go true b s fate = refl

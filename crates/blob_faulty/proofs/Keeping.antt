@@ -7,7 +7,7 @@ use Rattle.std.specs.Cmp.Lexicographic.{bytes_decides}
 use Rattle.std.specs.Str.{bytes_eq}
 use Rattle.blob_model.specs.Directory.{Directory, File, Incarnation, current, place_in, place_made, with_file}
 use Rattle.blob_model.specs.Durable.{Durable}
-use Rattle.blob_model.specs.Files.{Files, all_logged, after_crash, after_open, admitted, admitted_at, opened}
+use Rattle.blob_model.specs.Files.{Files, all_logged, after_crash, after_open, admitted, admitted_at, with_opening}
 use Rattle.blob_header.specs.Fronts.{BeginsWith}
 use Rattle.blob_model.specs.Log.{Entry, Kept, Choices}
 use Rattle.blob_model.specs.Opened.{IsNamed}
@@ -102,8 +102,8 @@ module _ {S R O : Type 0} (place : O → Place) (names : S → Directory) (bytes
   -- An open.
 
   module _ (old new : Storage S R O) (p n : List ℕ) (first last : ℕ) (steps : Steps place names bytes_of old new (λ files. after_open files p n first last)) (o : Place) (bytes : List ℕ) (k : Keeps old o bytes) where
-    found_of : (found : Opening) → opening p n ((names (inner_of old)).file p n) first last ≡ found → after_open k.files p n first last ≡ opened k.files p n found
-    found_of found e = ap (opened k.files p n) (ap (λ (d : Directory). opening p n (d.file p n) first last) (sym k.stands.directory) ∙ e)
+    found_of : (found : Opening) → opening p n ((names (inner_of old)).file p n) first last ≡ found → after_open k.files p n first last ≡ with_opening k.files p n found
+    found_of found e = ap (with_opening k.files p n) (ap (λ (d : Directory). opening p n (d.file p n) first last) (sym k.stands.directory) ∙ e)
 
     pub keeps_open : (a : Place) (live : List ℕ) (version : ℕ) → IsOpened (names (inner_of old)) (bytes_of (inner_of old)) (names (inner_of new)) (bytes_of (inner_of new)) p n first last a live version → Keeps new o bytes
     keeps_open a live version (Continued number layout opens at holds same unchanged) =

@@ -15,7 +15,7 @@ use Rattle.blob_model.proofs.Runs.{AreSome, laid_runs, runs_some}
 use Rattle.blob_faults.specs.declared.config.Config.{Config}
 use Rattle.blob_faults.specs.declared.config.ResizeConfig.{ResizeConfig}
 use Rattle.blob_faulty.specs.Certain.{IsNever, partial_resizes}
-use Rattle.blob_faults.specs.Faults.{WriteFate, Done, Unsynced, Failed, ResizeFate, Resizes, Stays, Reaches, write_fate, resize_fate, partly, size_between, retention, is_uncounted}
+use Rattle.blob_faults.specs.Faults.{WriteFate, Done, Unsynced, Failed, ResizeFate, Resizes, Stays, Reaches, write_fate, resize_fate, partly, size_between, retention, has_uncounted_end}
 use Rattle.blob_faulty.specs.Outcomes.{LaysSome, WritesSome}
 use Rattle.blob_faults.specs.Recorded.{loose, kept, recorded_by, recorded_write, recorded_resize, live_by, live_of_write, live_of_resize}
 use Rattle.blob_faults.proofs.Sizes.{length-written}
@@ -54,7 +54,7 @@ pub write_laid : (config : Config) (n : ℕ) (stream : Stream) (sync : Bool) (o 
 unfolding recorded_write
 write_laid config n stream sync o b answer t =
     cond_both (is_idle sync b) [] _ (λ es. LaysSome o b es t) (λ _. none_laid o b t)
-    (λ _. cond_both (is_uncounted o b) [] _ (λ es. LaysSome o b es t) (λ _. none_laid o b t)
+    (λ _. cond_both (has_uncounted_end o b) [] _ (λ es. LaysSome o b es t) (λ _. none_laid o b t)
     (λ _. by_fate_laid (write_fate config sync o (length b) stream).0 (retention config.write_rate) n sync o b answer t))
 
 -- Resizes, where none fails in part.
@@ -158,5 +158,5 @@ by_fate_written fate sync live o b answer found = none_written live o b
 pub live_laid : (config : Config) (stream : Stream) (sync : Bool) (live : List ℕ) (o : ℕ) (b : List ℕ) (answer : Option Refusal) → IsFound answer → WritesSome o b live (live_of_write config stream sync live o b answer)
 live_laid config stream sync live o b answer found =
     cond_both (is_idle sync b) live _ (λ x. WritesSome o b live x) (λ _. none_written live o b)
-    (λ _. cond_both (is_uncounted o b) live _ (λ x. WritesSome o b live x) (λ _. none_written live o b)
+    (λ _. cond_both (has_uncounted_end o b) live _ (λ x. WritesSome o b live x) (λ _. none_written live o b)
     (λ _. by_fate_written (write_fate config sync o (length b) stream).0 sync live o b answer found))

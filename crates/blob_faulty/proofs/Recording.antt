@@ -10,7 +10,7 @@ use Rattle.blob_header.specs.Refusals.{OffsetOverflow}
 use Rattle.blob_model.specs.Runs.{runs}
 use Rattle.blob_faults.specs.declared.config.Config.{Config}
 use Rattle.blob_faults.specs.Answers.{Allowed, allows_write, allows_fate, allows_runs, or_memory, numbered, injected_for, lacks_number}
-use Rattle.blob_faults.specs.Faults.{WriteFate, Done, Unsynced, Failed, write_fate, retention, is_uncounted}
+use Rattle.blob_faults.specs.Faults.{WriteFate, Done, Unsynced, Failed, write_fate, retention, has_uncounted_end}
 use Rattle.blob_faults.specs.Recorded.{kept, recorded_by, recorded_write}
 
 -- an Ok is no fault in place of one
@@ -39,4 +39,4 @@ module _ (writes : ℕ → List ℕ → Bool → Allowed) (reserves : ℕ → Al
   unfolding allows_write recorded_write
   recorded_whole config next stream at [] h = refl
   recorded_whole config next stream at (y ∷ ys) h =
-      by_fate (is_uncounted at (y ∷ ys)) (write_fate config true at (length (y ∷ ys)) stream).0 (is_some (retention config.write_rate)) (retention config.write_rate) next at y ys h
+      by_fate (has_uncounted_end at (y ∷ ys)) (write_fate config true at (length (y ∷ ys)) stream).0 (is_some (retention config.write_rate)) (retention config.write_rate) next at y ys h

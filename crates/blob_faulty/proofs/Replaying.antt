@@ -6,10 +6,10 @@ use Rattle.std.proofs.lemmas.Bool.Decides.{nat_tests}
 use Rattle.std.proofs.lemmas.List.{get_or-replicate, get_or-set_same, get_or-set_other, get_or_default, at_drop_more, length-take, take_all, get_or_append_left, get_or-take, get_or-append_right, get_or_past}
 use Rattle.blob_model.specs.Bytes.{overlay_by, between, reach}
 use Rattle.blob_model.specs.Directory.{Directory, is_current}
-use Rattle.blob_model.specs.Durable.{Durable, changed}
+use Rattle.blob_model.specs.Durable.{Durable, with_changed}
 use Rattle.blob_model.specs.Holes.{Holes, in_holes, need_in}
 use Rattle.blob_model.specs.Log.{Choices, Write}
-use Rattle.blob_model.specs.Order.{Held, held_at, has_list}
+use Rattle.blob_model.specs.Order.{ListAt, held_at, has_list}
 use Rattle.blob_model.specs.Pending.{Pending, has_marker, replay, taken, end_of, ends}
 use Rattle.blob_model.specs.Places.{Place, same_place}
 use Rattle.blob_model.specs.Runs.{picked}
@@ -97,7 +97,7 @@ pub masked : (w : Write) (hs : Holes) (t : Choices) (kept : List Bool) (x : List
 masked w hs t kept x h = overlay_same x w.offset w.bytes _ _ (λ i l. h i l ∙ sym (ap (λ (b : Bool). (b && not (in_holes hs (w.offset + i))) && t w.number i) (lies_in w.offset (length w.bytes) (w.offset + i) (omega arith) (omega arith))))
 
 -- an incarnation that ended has none
-pub changed_ended : (f : Durable) (o : Place) (g : List ℕ → List ℕ) (a : Place) → is_some (f o) ≡ false → f a ≡ changed f o g a
+pub changed_ended : (f : Durable) (o : Place) (g : List ℕ → List ℕ) (a : Place) → is_some (f o) ≡ false → f a ≡ with_changed f o g a
 changed_ended f o g a n = sym (⊎_elim
     (λ y. cond-true (same_place o a) _ _ y ∙ go (f a) (sym (ap (λ (p : Place). is_some (f p)) (same_place_exact o a y)) ∙ n))
     (λ other. cond-false (same_place o a) _ _ other)
@@ -107,7 +107,7 @@ changed_ended f o g a n = sym (⊎_elim
     go None e = refl
     go (Some x) e = absurd (true≢false e)
 
-none_held : (hs : List Held) (o : Place) → has_list hs o ≡ false → held_at hs o ≡ []
+none_held : (hs : List ListAt) (o : Place) → has_list hs o ≡ false → held_at hs o ≡ []
 none_held [] o n = refl
 none_held (h ∷ hs) o n = ⊎_elim
     (λ y. absurd (true≢false (sym (cond-true (same_place h.0 o) true (has_list hs o) y) ∙ n)))
@@ -115,7 +115,7 @@ none_held (h ∷ hs) o n = ⊎_elim
     (cases_Bool (same_place h.0 o))
 
 -- the first list is replayed, the others are still to be
-pub replay_first : (t : Choices) (h : Held) (hs : List Held) (f f' : Durable) (a : Place) → has_list hs h.0 ≡ false → f' a ≡ changed f h.0 (λ x. replay h.1 t x) a → replayed_at t (held_at hs a) (f' a) ≡ replayed_at t (held_at (h ∷ hs) a) (f a)
+pub replay_first : (t : Choices) (h : ListAt) (hs : List ListAt) (f f' : Durable) (a : Place) → has_list hs h.0 ≡ false → f' a ≡ with_changed f h.0 (λ x. replay h.1 t x) a → replayed_at t (held_at hs a) (f' a) ≡ replayed_at t (held_at (h ∷ hs) a) (f a)
 replay_first t h hs f f' a alone told = ap (replayed_at t (held_at hs a)) told ∙ ⊎_elim
     (λ y. ap₂ (λ (q : List Pending) (b : Option (List ℕ)). replayed_at t q b) (none_held hs a (ap (has_list hs) (sym (same_place_exact h.0 a y)) ∙ alone)) (cond-true (same_place h.0 a) _ _ y) ∙ go (f a)
     ∙ ap (λ (q : List Pending). replayed_at t q (f a)) (sym (cond-true (same_place h.0 a) _ _ y)))
@@ -140,7 +140,7 @@ widest_unmarked (e ∷ q) = ⊎_elim
     (cases_Bool (has_marker (e ∷ q)))
 
 -- a store that keeps its directory and lowers no room stays ready
-pub still_ready : (s s' : Storage) (h : Held) → directory s' ≡ directory s → ((o : Place) (n : ℕ) → HasCrashRoom s o n → HasCrashRoom s' o n) → IsReady s h → IsReady s' h
+pub still_ready : (s s' : Storage) (h : ListAt) → directory s' ≡ directory s → ((o : Place) (n : ℕ) → HasCrashRoom s o n → HasCrashRoom s' o n) → IsReady s h → IsReady s' h
 still_ready s s' h same room ready current = let r = ready (sym (ap (λ (d : Directory). is_current d h.0) same) ∙ current) in (r.0, room h.0 (ends (unmarked h.1)) r.1)
 
 pub ready_more : (s s' : Storage) (is : List (Incarnation Place)) (i : ℕ) (x : Incarnation Place) → i < length is → x ≡ get_or is i x → directory s' ≡ directory s → ((o : Place) (n : ℕ) → HasCrashRoom s o n → HasCrashRoom s' o n) →

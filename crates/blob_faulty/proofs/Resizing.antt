@@ -13,7 +13,7 @@ use Rattle.blob_faults.specs.Recorded.{live_of_resize, recorded_resize, size_of_
 use Rattle.blob_faulty.specs.declared.blob.Blob.{Blob}
 use Rattle.blob_faulty.specs.declared.storage.Storage.{Storage}
 use Rattle.blob_faulty.specs.Asked.{AsksResize}
-use Rattle.blob_faulty.specs.HandleLeaves.{Logged, ResizeLeaves, Untouched}
+use Rattle.blob_faulty.specs.HandleLeaves.{AddsToLog, ResizeLeaves, Untouched}
 use Rattle.blob_faulty.specs.Wrapper.{KeepsDurable, KeepsNumbers}
 use Rattle.blob_faulty.specs.Writes.{View, Logs, Recorded, ResizedBy, SameRecords, Wrote, cut, seen}
 use Rattle.blob_faulty.proofs.Plainly.{SameRest}
@@ -184,7 +184,7 @@ resize_leaves {S} {R} {O} {B} store handle stream b c w w' rng len answer fate d
     numbers : KeepsNumbers w w'
     numbers = record { next_write = kept.numbers.next_write; next_marker = kept.numbers.next_marker; config = kept.numbers.config }
 
-    logged : (a : Option Refusal) → Logs (seen store handle b (record w { rng = rng })) (seen store handle c w') (recorded_resize fate len a) → Logged store handle b w w' (recorded_resize fate len a)
+    logged : (a : Option Refusal) → Logs (seen store handle b (record w { rng = rng })) (seen store handle c w') (recorded_resize fate len a) → AddsToLog store handle b w w' (recorded_resize fate len a)
     logged a logs = adds_of store handle b c w w' rng (recorded_resize fate len a) (recorded_resize fate len a) resized.directory refl logs
 
     untouched : SameRecords (seen store handle b (record w { rng = rng })) (seen store handle c w') → Untouched store b w c w'

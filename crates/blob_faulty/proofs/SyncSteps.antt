@@ -5,7 +5,7 @@ use Rattle.blob_base.specs.declared.storage.Blob as handles
 use Rattle.blob_base.specs.declared.storage.Durable as stores
 use Rattle.blob_header.specs.declared.error.Error.{Error}
 use Rattle.blob_model.specs.Directory.{Directory}
-use Rattle.blob_model.specs.Durable.{Durable, with_at, changed}
+use Rattle.blob_model.specs.Durable.{Durable, with_at, with_changed}
 use Rattle.blob_model.specs.Pending.{Marker}
 use Rattle.blob_model.specs.Places.{Place}
 use Rattle.blob_header.specs.Refusals.{Refusal, refused}
@@ -20,7 +20,7 @@ use Rattle.blob_faulty.proofs.Adding.{numbered_so, at_each, keeps_stands}
 
 -- a sync
 pub sync_publishes : {S R O : Type 0} (place : O → Place) (names : Directory) (bytes bytes' : Durable) (old new : Storage S R O) (o : Place) (live : List ℕ) →
-    bytes' ≡ changed bytes o (λ _. live) → ((a : Place) → pending_of place new a ≡ with_at (pending_of place old) o [] a) →
+    bytes' ≡ with_changed bytes o (λ _. live) → ((a : Place) → pending_of place new a ≡ with_at (pending_of place old) o [] a) →
     next_write_of new ≡ next_write_of old → next_marker_of new ≡ next_marker_of old →
     Publishes place names bytes bytes' old new o live
 sync_publishes place names bytes bytes' old new o live over lists write marker files s =
@@ -29,7 +29,7 @@ sync_publishes place names bytes bytes' old new o live over lists write marker f
 
 -- a started sync
 pub marker_starts : {S R O : Type 0} (place : O → Place) (names : Directory) (bytes bytes' : Durable) (old new : Storage S R O) (o : Place) (live : List ℕ) →
-    bytes' ≡ changed bytes o (λ _. live) → ((a : Place) → pending_of place new a ≡ with_at (pending_of place old) o (pending_of place old o ++ Marker (next_marker_of old) ∷ []) a) →
+    bytes' ≡ with_changed bytes o (λ _. live) → ((a : Place) → pending_of place new a ≡ with_at (pending_of place old) o (pending_of place old o ++ Marker (next_marker_of old) ∷ []) a) →
     next_write_of new ≡ next_write_of old → next_marker_of new ≡ next_marker_of old + 1 →
     Starts place names bytes bytes' old new o live
 marker_starts place names bytes bytes' old new o live over lists write marker files below s =

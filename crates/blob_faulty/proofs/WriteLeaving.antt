@@ -8,19 +8,19 @@ use Rattle.blob_base.specs.declared.storage.Durable as stores
 use Rattle.blob_header.specs.Refusals.{Refusal, Memory, Injected, OffsetOverflow, WriteFailed}
 use Rattle.blob_model.specs.Live.{is_idle}
 use Rattle.blob_faults.specs.declared.config.Config.{Config}
-use Rattle.blob_faults.specs.Faults.{WriteFate, Done, Unsynced, Failed, write_fate, retention, is_uncounted, after_write}
+use Rattle.blob_faults.specs.Faults.{WriteFate, Done, Unsynced, Failed, write_fate, retention, has_uncounted_end, after_write}
 use Rattle.blob_faults.specs.Recorded.{recorded_by, recorded_write, live_by, live_of_write, size_by, size_of_write}
 use Rattle.blob_faulty.specs.declared.blob.Blob.{Blob}
 use Rattle.blob_faulty.specs.declared.storage.Storage.{Storage}
 use Rattle.blob_faulty.specs.Asked.{InnerMade, Unasked, AsksWrite, AsksDrawn}
-use Rattle.blob_faulty.specs.HandleLeaves.{WriteLeaves, LeavesFailed, Logged, Untouched, size_written}
+use Rattle.blob_faulty.specs.HandleLeaves.{WriteLeaves, LeavesFailed, AddsToLog, Untouched, size_written}
 use Rattle.blob_faulty.specs.Writes.{WroteBy, FailedBy, SameRecords, Logs, seen}
 use Rattle.blob_faulty.proofs.Adding.{nothing_not}
 use Rattle.blob_faulty.proofs.Fating.{recorded_so, recorded_none}
 use Rattle.blob_faulty.proofs.Writing.{adds_of, drawn_adds}
 
 live_none : (config : Config) (stream : Stream) (sync : Bool) (live : List ℕ) (offset : ℕ) (bytes : List ℕ) → live_of_write config stream sync live offset bytes (Some Memory) ≡ live
-live_none config stream sync live offset bytes = go (is_idle sync bytes) (is_uncounted offset bytes) sync bytes (write_fate config sync offset (length bytes) stream).0
+live_none config stream sync live offset bytes = go (is_idle sync bytes) (has_uncounted_end offset bytes) sync bytes (write_fate config sync offset (length bytes) stream).0
   where
     go : (a b s : Bool) (x : List ℕ) (fate : WriteFate) → cond a live (cond b live (live_by fate s live offset x (Some Memory))) ≡ live
     go true b s x fate = refl
@@ -31,7 +31,7 @@ live_none config stream sync live offset bytes = go (is_idle sync bytes) (is_unc
     go false false s x (Failed kept) = refl
 
 size_none : (config : Config) (stream : Stream) (sync : Bool) (size offset : ℕ) (bytes : List ℕ) → size_of_write config stream sync size offset bytes (Some Memory) ≡ size
-size_none config stream sync size offset bytes = go (is_idle sync bytes) (is_uncounted offset bytes) (write_fate config sync offset (length bytes) stream).0
+size_none config stream sync size offset bytes = go (is_idle sync bytes) (has_uncounted_end offset bytes) (write_fate config sync offset (length bytes) stream).0
   where
     go : (a b : Bool) (fate : WriteFate) → cond a size (cond b size (size_by fate size offset bytes (Some Memory))) ≡ size
     go true b fate = refl
@@ -60,41 +60,41 @@ match_any true A B a b = a
 match_any false A B a b = b
 
 -- the tables of a write with something to do whose end can be counted
-counted : (offset : ℕ) (bytes : List ℕ) → offset + length bytes < 2 ^ 64 → is_uncounted offset bytes ≡ false
+counted : (offset : ℕ) (bytes : List ℕ) → offset + length bytes < 2 ^ 64 → has_uncounted_end offset bytes ≡ false
 counted offset bytes fits = le-ltb _ _ (omega (arith, fits))
 
 after_so : (config : Config) (sync : Bool) (offset : ℕ) (bytes : List ℕ) (stream : Stream) → (sync ≡ true → bytes ≢ []) → offset + length bytes < 2 ^ 64 →
     after_write config sync offset bytes stream ≡ (write_fate config sync offset (length bytes) stream).1
-after_so config sync offset bytes stream some fits = cond-false (is_idle sync bytes) _ _ (nothing_not sync bytes some) ∙ cond-false (is_uncounted offset bytes) _ _ (counted offset bytes fits)
+after_so config sync offset bytes stream some fits = cond-false (is_idle sync bytes) _ _ (nothing_not sync bytes some) ∙ cond-false (has_uncounted_end offset bytes) _ _ (counted offset bytes fits)
 
 live_so : (config : Config) (stream : Stream) (sync : Bool) (live : List ℕ) (offset : ℕ) (bytes : List ℕ) (answer : Option Refusal) (fate : WriteFate) → (sync ≡ true → bytes ≢ []) → offset + length bytes < 2 ^ 64 →
     fate ≡ (write_fate config sync offset (length bytes) stream).0 → live_of_write config stream sync live offset bytes answer ≡ live_by fate sync live offset bytes answer
 live_so config stream sync live offset bytes answer fate some fits is =
-    cond-false (is_idle sync bytes) _ _ (nothing_not sync bytes some) ∙ cond-false (is_uncounted offset bytes) _ _ (counted offset bytes fits)
+    cond-false (is_idle sync bytes) _ _ (nothing_not sync bytes some) ∙ cond-false (has_uncounted_end offset bytes) _ _ (counted offset bytes fits)
     ∙ ap (λ (f : WriteFate). live_by f sync live offset bytes answer) (sym is)
 
 size_so : (config : Config) (stream : Stream) (sync : Bool) (size offset : ℕ) (bytes : List ℕ) (answer : Option Refusal) (fate : WriteFate) → (sync ≡ true → bytes ≢ []) → offset + length bytes < 2 ^ 64 →
     fate ≡ (write_fate config sync offset (length bytes) stream).0 → size_of_write config stream sync size offset bytes answer ≡ size_by fate size offset bytes answer
 size_so config stream sync size offset bytes answer fate some fits is =
-    cond-false (is_idle sync bytes) _ _ (nothing_not sync bytes some) ∙ cond-false (is_uncounted offset bytes) _ _ (counted offset bytes fits)
+    cond-false (is_idle sync bytes) _ _ (nothing_not sync bytes some) ∙ cond-false (has_uncounted_end offset bytes) _ _ (counted offset bytes fits)
     ∙ ap (λ (f : WriteFate). size_by f size offset bytes answer) (sym is)
 
 -- what was asked by the fate was asked by the draws
 asked_so : {S R O B : Type 0} (handle : handles.Ghosts B S O) (b c : Blob B) (w w' : Storage S R O) (stream : Stream) (sync : Bool) (offset : ℕ) (bytes : List ℕ) (answer : Option Refusal) (fate : WriteFate) → (sync ≡ true → bytes ≢ []) → offset + length bytes < 2 ^ 64 →
     fate ≡ (write_fate w.config sync offset (length bytes) stream).0 → AsksWrite handle b w c w' fate sync offset bytes answer → AsksDrawn handle b w c w' w.config stream sync offset bytes answer
 asked_so {S} {R} {O} {B} handle b c w w' stream sync offset bytes answer fate some fits is asked =
-    match_false (is_idle sync bytes) (InnerMade handle b w c w' [] answer) (MatchBool (is_uncounted offset bytes) (Unasked handle b w c w' answer) (AsksWrite handle b w c w' (write_fate w.config sync offset (length bytes) stream).0 sync offset bytes answer))
+    match_false (is_idle sync bytes) (InnerMade handle b w c w' [] answer) (MatchBool (has_uncounted_end offset bytes) (Unasked handle b w c w' answer) (AsksWrite handle b w c w' (write_fate w.config sync offset (length bytes) stream).0 sync offset bytes answer))
     (nothing_not sync bytes some)
-    (match_false (is_uncounted offset bytes) (Unasked handle b w c w' answer) (AsksWrite handle b w c w' (write_fate w.config sync offset (length bytes) stream).0 sync offset bytes answer) (counted offset bytes fits)
+    (match_false (has_uncounted_end offset bytes) (Unasked handle b w c w' answer) (AsksWrite handle b w c w' (write_fate w.config sync offset (length bytes) stream).0 sync offset bytes answer) (counted offset bytes fits)
     (subst (λ (f : WriteFate). AsksWrite handle b w c w' f sync offset bytes answer) is asked))
 
 -- refused for memory before the draws
 unasked_so : {S R O B : Type 0} (handle : handles.Ghosts B S O) (b : Blob B) (w w' : Storage S R O) (stream : Stream) (sync : Bool) (offset : ℕ) (bytes : List ℕ) (answer : Option Refusal) →
     (sync ≡ true → bytes ≢ []) → answer ≡ Some Memory → w'.inner ≡ w.inner → AsksDrawn handle b w b w' w.config stream sync offset bytes answer
 unasked_so {S} {R} {O} {B} handle b w w' stream sync offset bytes answer some memory same =
-    match_false (is_idle sync bytes) (InnerMade handle b w b w' [] answer) (MatchBool (is_uncounted offset bytes) (Unasked handle b w b w' answer) (AsksWrite handle b w b w' (write_fate w.config sync offset (length bytes) stream).0 sync offset bytes answer))
+    match_false (is_idle sync bytes) (InnerMade handle b w b w' [] answer) (MatchBool (has_uncounted_end offset bytes) (Unasked handle b w b w' answer) (AsksWrite handle b w b w' (write_fate w.config sync offset (length bytes) stream).0 sync offset bytes answer))
     (nothing_not sync bytes some)
-    (match_any (is_uncounted offset bytes) _ _ unasked (inl unasked))
+    (match_any (has_uncounted_end offset bytes) _ _ unasked (inl unasked))
   where
     unasked : Unasked handle b w b w' answer
     unasked = (ap is_some memory, refl, same)
@@ -123,7 +123,7 @@ write_leaves {S} {R} {O} {B} store handle stream b c w w' rng sync offset bytes 
 }
   where
     logged : (a : Option Refusal) → Logs (seen store handle b (record w { rng = rng })) (seen store handle c w') (recorded_by fate (retention w.config.write_rate) w.next_write sync offset bytes a) →
-        Logged store handle b w w' (recorded_write w.config w.next_write (stream w.rng) sync offset bytes a)
+        AddsToLog store handle b w w' (recorded_write w.config w.next_write (stream w.rng) sync offset bytes a)
     logged a logs = adds_of store handle b c w w' rng _ _ wrote.directory (recorded_so w.config w.next_write (stream w.rng) sync offset bytes a fate some fits is) logs
 
     untouched : SameRecords (seen store handle b (record w { rng = rng })) (seen store handle c w') → Untouched store b w c w'
@@ -186,18 +186,18 @@ write_idle store handle stream b w true offset [] s e = record {
 }
 
 -- one whose end can't be counted
-pub write_uncounted : {S R O B : Type 0} (store : stores.Ghosts S O) (handle : handles.Ghosts B S O) (stream : R → Stream) (b : Blob B) (w : Storage S R O) (sync : Bool) (offset : ℕ) (bytes : List ℕ) → (sync ≡ true → bytes ≢ []) → is_uncounted offset bytes ≡ true →
+pub write_uncounted : {S R O B : Type 0} (store : stores.Ghosts S O) (handle : handles.Ghosts B S O) (stream : R → Stream) (b : Blob B) (w : Storage S R O) (sync : Bool) (offset : ℕ) (bytes : List ℕ) → (sync ≡ true → bytes ≢ []) → has_uncounted_end offset bytes ≡ true →
     WriteLeaves store handle stream offset bytes sync b w (Some OffsetOverflow) b w
 unfolding recorded_write
 write_uncounted {S} {R} {O} {B} store handle stream b w sync offset bytes some over = record {
-  drawn = λ other. sym (cond-false (is_idle sync bytes) _ _ idle ∙ cond-true (is_uncounted offset bytes) _ _ over);
+  drawn = λ other. sym (cond-false (is_idle sync bytes) _ _ idle ∙ cond-true (has_uncounted_end offset bytes) _ _ over);
   config = refl;
   asked =
-      match_false (is_idle sync bytes) (InnerMade handle b w b w [] (Some OffsetOverflow)) (MatchBool (is_uncounted offset bytes) (Unasked handle b w b w (Some OffsetOverflow)) (AsksWrite handle b w b w (write_fate w.config sync offset (length bytes) (stream w.rng)).0 sync offset bytes (Some OffsetOverflow)))
-      idle (match_true (is_uncounted offset bytes) _ _ over (refl, refl, refl));
-  recorded = λ direct. drawn_adds store.place _ _ w w.rng _ _ (cond-false (is_idle sync bytes) _ _ idle ∙ cond-true (is_uncounted offset bytes) _ _ over);
-  live_after = λ direct. sym (cond-false (is_idle sync bytes) _ _ idle ∙ cond-true (is_uncounted offset bytes) _ _ over);
-  size = λ direct. sym (cond-false (is_idle sync bytes) _ _ idle ∙ cond-true (is_uncounted offset bytes) _ _ over);
+      match_false (is_idle sync bytes) (InnerMade handle b w b w [] (Some OffsetOverflow)) (MatchBool (has_uncounted_end offset bytes) (Unasked handle b w b w (Some OffsetOverflow)) (AsksWrite handle b w b w (write_fate w.config sync offset (length bytes) (stream w.rng)).0 sync offset bytes (Some OffsetOverflow)))
+      idle (match_true (has_uncounted_end offset bytes) _ _ over (refl, refl, refl));
+  recorded = λ direct. drawn_adds store.place _ _ w w.rng _ _ (cond-false (is_idle sync bytes) _ _ idle ∙ cond-true (has_uncounted_end offset bytes) _ _ over);
+  live_after = λ direct. sym (cond-false (is_idle sync bytes) _ _ idle ∙ cond-true (has_uncounted_end offset bytes) _ _ over);
+  size = λ direct. sym (cond-false (is_idle sync bytes) _ _ idle ∙ cond-true (has_uncounted_end offset bytes) _ _ over);
   done = λ ok. absurd (cc);
   done_size = λ ok. absurd (cc);
   refused = λ done refusal. same;

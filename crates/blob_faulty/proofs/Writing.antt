@@ -3,7 +3,7 @@ use Rattle.std.proofs.Common.{◌≡◌, ℕ, ◌+◌, ◌<◌, Bool, true, fals
 use Rattle.std.specs.Prelude.{Result, Ok, Err, OnErr}
 use Rattle.blob_model.specs.Bytes.{overlay, written}
 use Rattle.blob_model.specs.Directory.{Directory, is_current}
-use Rattle.blob_model.specs.Durable.{Durable, with_at, changed}
+use Rattle.blob_model.specs.Durable.{Durable, with_at, with_changed}
 use Rattle.blob_model.specs.Files.{Files, logged, all_logged}
 use Rattle.blob_model.specs.Log.{Entry, Loose, Kept, Resized, Write, need_of}
 use Rattle.blob_model.specs.Live.{live_written, all_written}
@@ -22,10 +22,10 @@ use Rattle.blob_faulty.specs.declared.blob.Blob.{Blob}
 use Rattle.blob_faulty.specs.declared.storage.Storage.{Storage}
 use Rattle.blob_faults.specs.Recorded.{size_of_runs}
 use Rattle.blob_faulty.specs.Wrapper.{pending_of, Stands, Adds}
-use Rattle.blob_faulty.specs.Writes.{View, seen, IsFor, Logs, SameRecords, HasBytes, Unchanged, Effect, Recorded, LeavesRuns, durable_written, all_changed, live_of_runs, laid_runs}
+use Rattle.blob_faulty.specs.Writes.{View, seen, ViewFor, Logs, SameRecords, HasBytes, Unchanged, Effect, Recorded, LeavesRuns, durable_written, all_changed, live_of_runs, laid_runs}
 
 -- by the option that was given
-pub durable_by : (sync : Bool) (x f : Durable) (o : Place) (p : ℕ) (b : List ℕ) → (sync ≡ true → x ≡ changed f o (λ y. overlay y p b)) → (sync ≡ false → x ≡ f) → x ≡ durable_written sync f o p b
+pub durable_by : (sync : Bool) (x f : Durable) (o : Place) (p : ℕ) (b : List ℕ) → (sync ≡ true → x ≡ with_changed f o (λ y. overlay y p b)) → (sync ≡ false → x ≡ f) → x ≡ durable_written sync f o p b
 durable_by true x f o p b at_once as_was = at_once refl
 durable_by false x f o p b at_once as_was = as_was refl
 
@@ -53,7 +53,7 @@ loose_logs old new w some is names same lists write marker files below s =
     (stands_plain old.directory old.durable (held_at old.held) (held_at new.held) old.next_write old.next_marker files old.place w some is below lists s))
 
 -- a durable range
-pub kept_logs : {R : Type 0} (old new : View R) (p : ℕ) (b : List ℕ) → 0 < length b → new.directory ≡ old.directory → new.durable ≡ changed old.durable old.place (λ x. overlay x p b) →
+pub kept_logs : {R : Type 0} (old new : View R) (p : ℕ) (b : List ℕ) → 0 < length b → new.directory ≡ old.directory → new.durable ≡ with_changed old.durable old.place (λ x. overlay x p b) →
     ((a : Place) → held_at new.held a ≡ with_at (held_at old.held) old.place (laid p b (held_at old.held old.place)) a) →
     new.next_write ≡ old.next_write → new.next_marker ≡ old.next_marker → Logs old new (Kept p b ∷ [])
 kept_logs old new p b some names over lists write marker files below s =
@@ -72,10 +72,10 @@ cut_logs old new n names same lists write marker files below s =
 -- one after the other
 pub logs_then : {R : Type 0} (old mid new : View R) (e : Entry) (es : List Entry) → mid.place ≡ old.place → mid.directory ≡ old.directory → Logs old mid (e ∷ []) → Logs mid new es → Logs old new (e ∷ es)
 logs_then old mid new e es place names first later files below s =
-    let there : (f : Files) → old.place.number < mid.directory.next → IsFor mid f → IsFor new (all_logged f old.place es) =
-    subst (λ (o : Place). (f : Files) → o.number < mid.directory.next → IsFor mid f → IsFor new (all_logged f o es)) place later in
-    let step : (f : Files) → old.place.number < old.directory.next → IsFor mid f → IsFor new (all_logged f old.place es) =
-    subst (λ (d : Directory). (f : Files) → old.place.number < d.next → IsFor mid f → IsFor new (all_logged f old.place es)) names there in
+    let there : (f : Files) → old.place.number < mid.directory.next → ViewFor mid f → ViewFor new (all_logged f old.place es) =
+    subst (λ (o : Place). (f : Files) → o.number < mid.directory.next → ViewFor mid f → ViewFor new (all_logged f o es)) place later in
+    let step : (f : Files) → old.place.number < old.directory.next → ViewFor mid f → ViewFor new (all_logged f old.place es) =
+    subst (λ (d : Directory). (f : Files) → old.place.number < d.next → ViewFor mid f → ViewFor new (all_logged f old.place es)) names there in
     step (logged files old.place e) below (first files below s)
 
 -- the next of the runs that are left
@@ -176,10 +176,10 @@ then_runs {R} {T} direct old mid new r rs answer result ok failed indirect now f
 -- a step that changes nothing, and then a write
 logs_after : {R : Type 0} (old mid new : View R) (es : List Entry) → Unchanged old mid → Logs mid new es → Logs old new es
 logs_after old mid new es u later files below s =
-    let there : (f : Files) → old.place.number < mid.directory.next → IsFor mid f → IsFor new (all_logged f old.place es) =
-    subst (λ (o : Place). (f : Files) → o.number < mid.directory.next → IsFor mid f → IsFor new (all_logged f o es)) u.place later in
-    let step : (f : Files) → old.place.number < old.directory.next → IsFor mid f → IsFor new (all_logged f old.place es) =
-    subst (λ (d : Directory). (f : Files) → old.place.number < d.next → IsFor mid f → IsFor new (all_logged f old.place es)) u.directory there in
+    let there : (f : Files) → old.place.number < mid.directory.next → ViewFor mid f → ViewFor new (all_logged f old.place es) =
+    subst (λ (o : Place). (f : Files) → o.number < mid.directory.next → ViewFor mid f → ViewFor new (all_logged f o es)) u.place later in
+    let step : (f : Files) → old.place.number < old.directory.next → ViewFor mid f → ViewFor new (all_logged f old.place es) =
+    subst (λ (d : Directory). (f : Files) → old.place.number < d.next → ViewFor mid f → ViewFor new (all_logged f old.place es)) u.directory there in
     step files below (same_logs old mid u.directory u.bytes.durable u.records files below s)
 
 records_after : {R : Type 0} (old mid new : View R) → SameRecords old mid → SameRecords mid new → SameRecords old new

@@ -7,7 +7,7 @@ use Rattle.blob_header.specs.Refusals.{Refusal, OffsetOverflow, Memory}
 use Rattle.blob_model.specs.Runs.{runs}
 use Rattle.blob_faults.specs.declared.config.Config.{Config}
 use Rattle.blob_faults.specs.Answers.{Allowed, or_memory, injected_or, injected_for, numbered, lacks_number, allows_runs, allows_fate, allows_write}
-use Rattle.blob_faults.specs.Faults.{WriteFate, Done, Unsynced, Failed, write_fate, retention, is_uncounted}
+use Rattle.blob_faults.specs.Faults.{WriteFate, Done, Unsynced, Failed, write_fate, retention, has_uncounted_end}
 
 -- where the inner store's answers are among others, so are the wrapper's
 pub injected_alike : (drawn : Bool) (inner wider : Allowed) (answer : Option Refusal) → (inner answer → wider answer) → injected_or drawn inner answer → injected_or drawn wider answer
@@ -43,7 +43,7 @@ pub write_none : (writes : ℕ → List ℕ → Bool → Allowed) (reserves : �
 unfolding allows_write
 write_none writes reserves direct config next stream offset [] some never a = some refl
 write_none writes reserves direct config next stream offset (b ∷ bytes) some never a =
-    uncounted_none (is_uncounted offset (b ∷ bytes)) (or_memory (allows_fate (write_fate config true offset (length (b ∷ bytes)) stream).0 writes reserves direct (is_some (retention config.write_rate)) next true offset (b ∷ bytes)))
+    uncounted_none (has_uncounted_end offset (b ∷ bytes)) (or_memory (allows_fate (write_fate config true offset (length (b ∷ bytes)) stream).0 writes reserves direct (is_some (retention config.write_rate)) next true offset (b ∷ bytes)))
     (memory_none (allows_fate (write_fate config true offset (length (b ∷ bytes)) stream).0 writes reserves direct (is_some (retention config.write_rate)) next true offset (b ∷ bytes))
     (fate_none (write_fate config true offset (length (b ∷ bytes)) stream).0 writes reserves direct (is_some (retention config.write_rate)) next offset (b ∷ bytes) never))
     a

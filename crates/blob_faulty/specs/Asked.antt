@@ -8,7 +8,7 @@ use Rattle.blob_model.specs.Live.{is_idle}
 use Rattle.blob_model.specs.Runs.{Run, runs}
 use Rattle.blob_faults.specs.declared.config.Config.{Config}
 use Rattle.blob_faults.specs.Answers.{Allowed, injected_for, last_end}
-use Rattle.blob_faults.specs.Faults.{WriteFate, Done, Unsynced, Failed, ResizeFate, Resizes, Stays, Reaches, write_fate, is_uncounted}
+use Rattle.blob_faults.specs.Faults.{WriteFate, Done, Unsynced, Failed, ResizeFate, Resizes, Stays, Reaches, write_fate, has_uncounted_end}
 use Rattle.blob_faulty.specs.declared.blob.Blob.{Blob}
 use Rattle.blob_faulty.specs.declared.storage.Storage.{Storage}
 use Rattle.blob_faulty.specs.Wrapper.{inner_of, inside}
@@ -96,5 +96,5 @@ module _ {S R O B : Type 0} (handle : handles.Ghosts B S O) (b : Blob B) (before
   -- by the draws: one that does nothing, and one whose end can't be counted, ask for nothing
   abbrev pub AsksDrawn : Config → Stream → Bool → ℕ → List ℕ → Allowed
   AsksDrawn config stream sync offset bytes answer =
-      MatchBool (is_idle sync bytes) (InnerMade [] answer) (MatchBool (is_uncounted offset bytes) (Unasked answer)
+      MatchBool (is_idle sync bytes) (InnerMade [] answer) (MatchBool (has_uncounted_end offset bytes) (Unasked answer)
       (AsksWrite (write_fate config sync offset (length bytes) stream).0 sync offset bytes answer))

@@ -5,7 +5,7 @@ use Rattle.blob_model.specs.Rates.{Rate}
 use Rattle.blob_header.specs.Refusals.{Refusal, Injected}
 use Rattle.blob_base.specs.declared.storage.Blob as handles
 use Rattle.blob_faults.specs.declared.config.ResizeConfig.{ResizeConfig}
-use Rattle.blob_faults.specs.Faults.{write_failure, retention, is_uncounted}
+use Rattle.blob_faults.specs.Faults.{write_failure, retention, has_uncounted_end}
 use Rattle.blob_faulty.specs.declared.blob.Blob.{Blob}
 use Rattle.blob_faulty.specs.declared.storage.Storage.{Storage}
 use Rattle.blob_faults.specs.Answers.{or_memory, lacks_number}
@@ -40,7 +40,7 @@ module _ {S R O B : Type 0} (wrapped : handles.Ghosts (Blob B) (Storage S R O) O
   abbrev pub QuietWrites : Type 0
   QuietWrites = (b : Blob B) (s : Storage S R O) (offset : ℕ) (bytes : List ℕ) (sync : Bool) (answer : Option Refusal) →
       IsNever (write_failure (config_of s).write_rate) → (sync ≡ true → IsNever (config_of s).sync_rate) →
-      is_idle sync bytes ≡ false → is_uncounted offset bytes ≡ false → lacks_number (is_some (retention (config_of s).write_rate)) (next_write_of s) bytes ≡ false →
+      is_idle sync bytes ≡ false → has_uncounted_end offset bytes ≡ false → lacks_number (is_some (retention (config_of s).write_rate)) (next_write_of s) bytes ≡ false →
       wrapped.allows_write b s offset bytes sync answer ↔ or_memory (inner.allows_write (inside b) (inner_of s) offset bytes sync) answer
 
   abbrev pub QuietResizes : Type 0

@@ -20,8 +20,8 @@ use Rattle.blob_faulty.specs.Syncs.{Publishes, Starts}
 use Rattle.blob_faulty.specs.Wrapper.{inner_of, rng_of, config_of, next_write_of, next_marker_of, pending_of, inside, size_of, KeepsNumbers, KeepsRecords, Adds}
 
 -- whatever files the wrapper stood for, these entries were added to the log of the handle's incarnation
-abbrev pub Logged : {S R O B : Type 0} → stores.Ghosts S O → handles.Ghosts B S O → Blob B → Storage S R O → Storage S R O → List Entry → Type 0
-Logged store handle b before after entries =
+abbrev pub AddsToLog : {S R O B : Type 0} → stores.Ghosts S O → handles.Ghosts B S O → Blob B → Storage S R O → Storage S R O → List Entry → Type 0
+AddsToLog store handle b before after entries =
     Adds store.place (store.directory (inner_of before)) (store.durable (inner_of before)) (store.durable (inner_of after)) before after (handle.place (inside b)) entries
 
 -- the size that is tracked behind a write that was done
@@ -84,18 +84,18 @@ pub record WriteLeaves {S R O B : Type 0} (store : stores.Ghosts S O) (handle : 
   -- what was asked of the inner blob
   pub asked : AsksDrawn handle b before c after (config_of before) (stream (rng_of before)) sync offset bytes answer
   -- over a store that injects nothing
-  pub recorded : handle.is_direct ≡ true → Logged store handle b before after (recorded_write (config_of before) (next_write_of before) (stream (rng_of before)) sync offset bytes answer)
+  pub recorded : handle.is_direct ≡ true → AddsToLog store handle b before after (recorded_write (config_of before) (next_write_of before) (stream (rng_of before)) sync offset bytes answer)
   pub live_after : handle.is_direct ≡ true → handle.live (inside c) ≡ live_of_write (config_of before) (stream (rng_of before)) sync (handle.live (inside b)) offset bytes answer
   pub size : handle.is_direct ≡ true → size_of c ≡ size_of_write (config_of before) (stream (rng_of before)) sync (size_of b) offset bytes answer
   -- answered Ok, over any store
-  pub done : answer ≡ None → Logged store handle b before after (recorded_write (config_of before) (next_write_of before) (stream (rng_of before)) sync offset bytes None)
+  pub done : answer ≡ None → AddsToLog store handle b before after (recorded_write (config_of before) (next_write_of before) (stream (rng_of before)) sync offset bytes None)
   pub done_size : answer ≡ None → size_of c ≡ size_written sync (size_of b) offset bytes
   -- refused over any store: where no draw fails it, and by all but a fault of the draws or of the inner store
   pub refused : (write_fate (config_of before) sync offset (length bytes) (stream (rng_of before))).0 ≡ Done → IsSome answer → Untouched store b before c after
   pub unrecorded : IsSome answer → answer ≢ Some Injected → answer ≢ Some WriteFailed → Untouched store b before c after
   -- a fault leaves nothing recorded, or all that is kept of the write
   pub injected : answer ≡ Some Injected →
-      Untouched store b before c after ⊎ Logged store handle b before after (recorded_write (config_of before) (next_write_of before) (stream (rng_of before)) sync offset bytes (Some Injected))
+      Untouched store b before c after ⊎ AddsToLog store handle b before after (recorded_write (config_of before) (next_write_of before) (stream (rng_of before)) sync offset bytes (Some Injected))
   -- where the inner store refused a run, those before it are recorded
   pub failed : answer ≡ Some WriteFailed → LeavesFailed store handle (write_fate (config_of before) sync offset (length bytes) (stream (rng_of before))).0 offset bytes b before c after
 
@@ -106,14 +106,14 @@ pub record ResizeLeaves {S R O B : Type 0} (store : stores.Ghosts S O) (handle :
   pub numbers : KeepsNumbers before after
   -- answered Ok, over any store
   pub size : answer ≡ None → size_of c ≡ len
-  pub recorded : answer ≡ None → Logged store handle b before after (recorded_resize fate len None)
+  pub recorded : answer ≡ None → AddsToLog store handle b before after (recorded_resize fate len None)
   -- over a store that injects nothing
   pub live_after : handle.is_direct ≡ true → handle.live (inside c) ≡ live_of_resize fate (handle.live (inside b)) len answer
   pub size_after : handle.is_direct ≡ true → size_of c ≡ size_of_resize fate (size_of b) len answer
-  pub recorded_after : handle.is_direct ≡ true → Logged store handle b before after (recorded_resize fate len answer)
+  pub recorded_after : handle.is_direct ≡ true → AddsToLog store handle b before after (recorded_resize fate len answer)
   -- refused over any store, as a write
   pub unrecorded : IsSome answer → answer ≢ Some Injected → Untouched store b before c after
-  pub injected : answer ≡ Some Injected → Untouched store b before c after ⊎ Logged store handle b before after (recorded_resize fate len (Some Injected))
+  pub injected : answer ≡ Some Injected → Untouched store b before c after ⊎ AddsToLog store handle b before after (recorded_resize fate len (Some Injected))
 
 -- a sync
 pub record SyncLeaves {S R O B : Type 0} (store : stores.Ghosts S O) (handle : handles.Ghosts B S O) (stream : R → Stream) (b : Blob B) (before : Storage S R O) (answer : Option Refusal) (c : Blob B) (after : Storage S R O) : Type 0 where

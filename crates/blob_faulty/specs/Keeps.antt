@@ -30,8 +30,8 @@ pub record KeepsBytes {S R O : Type 0} (place : O → Place) (names : S → Dire
   pub fixed : AreFixed bytes files o
 
 -- the bytes of each incarnation that a store is wrapped with, none where it isn't current
-abbrev pub found_in : Durable → Place → List ℕ
-found_in bytes_of o = unwrap_or (bytes_of o) []
+abbrev pub bytes_found : Durable → Place → List ℕ
+bytes_found bytes_of o = unwrap_or (bytes_of o) []
 
 -- What is kept through calls that are known by their contracts.
 

@@ -3,6 +3,7 @@ pub mod Allowed
 pub mod AnswerLaws
 pub mod Asked
 pub mod Certain
+pub mod Crashes
 pub mod Exclusive
 pub mod HandleLeaves
 pub mod Keeps

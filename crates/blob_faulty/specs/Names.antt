@@ -6,7 +6,7 @@ use Rattle.rand_core.specs.Stream.{Stream}
 use Rattle.blob_base.specs.declared.storage.Durable as stores
 use Rattle.blob_model.specs.Directory.{Directory, removed}
 use Rattle.blob_model.specs.Durable.{Durable, durable_without}
-use Rattle.blob_model.specs.Files.{Files, after_open, after_remove, ends_by}
+use Rattle.blob_model.specs.Files.{Files, after_open, after_remove, is_removed_by}
 use Rattle.blob_model.specs.Opening.{IsOpened}
 use Rattle.blob_model.specs.Pending.{Pending}
 use Rattle.blob_model.specs.Places.{Place}
@@ -59,7 +59,7 @@ abbrev pub MayRemove : {S R O : Type 0} → (R → Stream) → (S → List ℕ �
 MayRemove stream allows w p n = injected_or (draw (config_of w).remove_rate (stream (rng_of w))).0 (allows (inner_of w) p n)
 
 abbrev pub Removes : {S R O : Type 0} → stores.Ghosts S O → (R → Stream) → (S → List ℕ → Option (List ℕ) → Option Refusal → S → Type 0) → Storage S R O → List ℕ → Option (List ℕ) → Option Refusal → Storage S R O → Type 0
-Removes store stream asked before p n answer after = RemoveLeaves store.place stream (asked (inner_of before) p n answer) answer (ends_by (store.directory (inner_of before)) p n) before after
+Removes store stream asked before p n answer after = RemoveLeaves store.place stream (asked (inner_of before) p n answer) answer (is_removed_by (store.directory (inner_of before)) p n) before after
 
 -- the store inside shows the same directory and durable bytes
 abbrev pub SameStore : {S R O : Type 0} → stores.Ghosts S O → Storage S R O → Storage S R O → Type 0
@@ -108,11 +108,11 @@ module _ {S R O : Type 0} (store : stores.Ghosts S O) (stream : R → Stream) wh
   abbrev pub DoneRemovals : (S → List ℕ → Option (List ℕ) → Option Refusal → S → Type 0) → Type 0
   DoneRemovals asked = (before after : Storage S R O) (p : List ℕ) (n : Option (List ℕ)) →
       store.directory (inner_of after) ≡ removed (store.directory (inner_of before)) p n → store.durable (inner_of after) ≡ durable_without (store.durable (inner_of before)) p n →
-      RemoveLeaves store.place stream (asked (inner_of before) p n None) None (ends_by (store.directory (inner_of before)) p n) before after →
+      RemoveLeaves store.place stream (asked (inner_of before) p n None) None (is_removed_by (store.directory (inner_of before)) p n) before after →
       Steps store.place store.directory store.durable before after (λ files. after_remove files p n)
 
   abbrev pub RefusedRemovals : (S → List ℕ → Option (List ℕ) → Option Refusal → S → Type 0) → Type 0
   RefusedRemovals asked = (before after : Storage S R O) (p : List ℕ) (n : Option (List ℕ)) (r : Refusal) →
       store.directory (inner_of after) ≡ store.directory (inner_of before) → store.durable (inner_of after) ≡ store.durable (inner_of before) →
-      RemoveLeaves store.place stream (asked (inner_of before) p n (Some r)) (Some r) (ends_by (store.directory (inner_of before)) p n) before after →
+      RemoveLeaves store.place stream (asked (inner_of before) p n (Some r)) (Some r) (is_removed_by (store.directory (inner_of before)) p n) before after →
       Steps store.place store.directory store.durable before after (λ files. files)

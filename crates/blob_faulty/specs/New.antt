@@ -5,7 +5,7 @@ use Rattle.blob_model.specs.Files.{wrapped}
 use Rattle.blob_model.specs.Places.{Place}
 use Rattle.blob_faults.specs.declared.config.Config.{Config}
 use Rattle.blob_faulty.specs.declared.storage.Storage.{Storage}
-use Rattle.blob_faulty.specs.Keeps.{found_in}
+use Rattle.blob_faulty.specs.Keeps.{bytes_found}
 use Rattle.blob_faulty.specs.Wrapper.{inner_of, rng_of, config_of, next_write_of, next_marker_of, pending_of, Stands}
 
 -- of this store, generator and configuration, with nothing pending and these the next numbers
@@ -18,4 +18,4 @@ pub record IsNew {S R O : Type 0} (store : stores.Ghosts S O) (s : S) (r : R) (c
   pub next_marker : next_marker_of w ≡ marker
   -- it stands for the store's files, of which nothing is recorded, by any bytes that its durable ones are, and so by themselves
   pub files : (bytes : Place → List ℕ) → ((o : Place) (x : List ℕ) → store.durable s o ≡ Some x → bytes o ≡ x) → Stands store.place (store.directory s) (store.durable s) w (wrapped (store.directory s) bytes write marker)
-  pub represents : Stands store.place (store.directory (inner_of w)) (store.durable (inner_of w)) w (wrapped (store.directory s) (found_in (store.durable s)) write marker)
+  pub represents : Stands store.place (store.directory (inner_of w)) (store.durable (inner_of w)) w (wrapped (store.directory s) (bytes_found (store.durable s)) write marker)

@@ -86,16 +86,16 @@ LiveInRange = (config : Config) (stream : Stream) (sync : Bool) (p v offset : �
 -- By a handle on a current incarnation over the memory store.
 
 -- which no write is answered to be gone
-abbrev pub IsFound : Option Refusal → Type 0
-IsFound answer = (p n : List ℕ) → answer ≡ Some (BlobMissing p n) → ⊥
+abbrev pub IsNotMissing : Option Refusal → Type 0
+IsNotMissing answer = (p n : List ℕ) → answer ≡ Some (BlobMissing p n) → ⊥
 
 abbrev pub FoundWhileCurrent : {R : Type 0} → handles.Ghosts (Blob memory_blob.Blob) (Storage memory.Storage R Place) Place → Type 0
 FoundWhileCurrent {R} wrapped = (b : Blob memory_blob.Blob) (w : Storage memory.Storage R Place) (offset : ℕ) (bytes : List ℕ) (sync : Bool) (answer : Option Refusal) →
-    is_current (directory (inner_of w)) (place (inside b)) ≡ true → wrapped.allows_write b w offset bytes sync answer → IsFound answer
+    is_current (directory (inner_of w)) (place (inside b)) ≡ true → wrapped.allows_write b w offset bytes sync answer → IsNotMissing answer
 
 -- the tracked size stays the length of the live bytes
 abbrev pub WriteSizes : Type 0
-WriteSizes = (config : Config) (stream : Stream) (sync : Bool) (size : ℕ) (live : List ℕ) (offset : ℕ) (bytes : List ℕ) (answer : Option Refusal) → IsFound answer → size ≡ length live →
+WriteSizes = (config : Config) (stream : Stream) (sync : Bool) (size : ℕ) (live : List ℕ) (offset : ℕ) (bytes : List ℕ) (answer : Option Refusal) → IsNotMissing answer → size ≡ length live →
     size_of_write config stream sync size offset bytes answer ≡ length (live_of_write config stream sync live offset bytes answer)
 
 abbrev pub ResizeSizes : Type 0
@@ -104,7 +104,7 @@ ResizeSizes = (fate : ResizeFate) (size : ℕ) (live : List ℕ) (len : ℕ) (an
 
 -- a write lays some of its bytes over the live ones; a resize reaches the length that was asked for, or leaves them
 abbrev pub WriteBytes : Type 0
-WriteBytes = (config : Config) (stream : Stream) (sync : Bool) (live : List ℕ) (offset : ℕ) (bytes : List ℕ) (answer : Option Refusal) → IsFound answer →
+WriteBytes = (config : Config) (stream : Stream) (sync : Bool) (live : List ℕ) (offset : ℕ) (bytes : List ℕ) (answer : Option Refusal) → IsNotMissing answer →
     WritesSome offset bytes live (live_of_write config stream sync live offset bytes answer)
 
 abbrev pub ResizeBytes : Type 0

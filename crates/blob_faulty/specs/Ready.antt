@@ -3,14 +3,14 @@ use Rattle.std.specs.Prelude.{◌≡◌, ℕ, ◌+◌, ◌<◌, ◌≤◌, ◌^�
 use Rattle.std.specs.declared.vec.Vec.{Vec}
 use Rattle.std.specs.declared.alloc.Global.{Global}
 use Rattle.blob_model.specs.Directory.{is_current}
-use Rattle.blob_model.specs.Order.{Held}
+use Rattle.blob_model.specs.Order.{ListAt}
 use Rattle.blob_model.specs.Pending.{ends}
 use Rattle.blob_memory.specs.Store.{directory, HasCrashRoom}
 use Rattle.blob_memory.specs.declared.storage.Storage.{Storage}
 use Rattle.blob_faults.specs.Replays.{unmarked}
 
 -- where the incarnation is current, the store has room for all that its entries ask for
-abbrev pub IsReady : Storage → Held → Type 0
+abbrev pub IsReady : Storage → ListAt → Type 0
 IsReady s h = is_current (directory s) h.0 ≡ true → (ends (unmarked h.1) + h.0.start < 2 ^ 64) × HasCrashRoom s h.0 (ends (unmarked h.1))
 
 -- there is room to lay entries that end here and of which the widest lays so many bytes

@@ -2,11 +2,11 @@
 use Rattle.std.specs.Prelude.{◌≡◌, ◌≢◌, ◌⊎◌, ℕ, ◌<◌, ◌+◌, max, Bool, true, false, List, [], ◌∷◌, ◌++◌, length, Option, Some, None, IsSome}
 use Rattle.blob_model.specs.Bytes.{overlay, resized}
 use Rattle.blob_model.specs.Directory.{Directory, is_current}
-use Rattle.blob_model.specs.Durable.{Durable, changed, with_at}
+use Rattle.blob_model.specs.Durable.{Durable, with_changed, with_at}
 use Rattle.blob_model.specs.Files.{Files, all_logged}
 use Rattle.blob_model.specs.Live.{live_after, live_written, all_written}
 use Rattle.blob_model.specs.Log.{Entry}
-use Rattle.blob_model.specs.Order.{Held, held_at}
+use Rattle.blob_model.specs.Order.{ListAt, held_at}
 use Rattle.blob_model.specs.Pending.{Pending, Marker}
 use Rattle.blob_model.specs.Places.{Place}
 use Rattle.blob_header.specs.Refusals.{Refusal, Injected, Memory, WriteFailed}
@@ -31,7 +31,7 @@ pub record View (R : Type 0) : Type 0 where
   pub place : Place
   pub live : List ℕ
   pub size : ℕ
-  pub held : List Held
+  pub held : List ListAt
   pub next_write : ℕ
   pub next_marker : ℕ
   pub config : Config
@@ -53,12 +53,12 @@ seen store handle b w = record {
 }
 
 -- a wrapper stands for files
-abbrev pub IsFor : {R : Type 0} → View R → Files → Type 0
-IsFor v files = StandsFor v.directory v.durable (held_at v.held) v.next_write v.next_marker files
+abbrev pub ViewFor : {R : Type 0} → View R → Files → Type 0
+ViewFor v files = StandsFor v.directory v.durable (held_at v.held) v.next_write v.next_marker files
 
 -- whatever files it stood for, it now stands for them with these entries added to the log of the handle's incarnation
 abbrev pub Logs : {R : Type 0} → View R → View R → List Entry → Type 0
-Logs old new entries = (files : Files) → old.place.number < old.directory.next → IsFor old files → IsFor new (all_logged files old.place entries)
+Logs old new entries = (files : Files) → old.place.number < old.directory.next → ViewFor old files → ViewFor new (all_logged files old.place entries)
 
 -- nothing was recorded and nothing retired, and the size is tracked as before
 pub record SameRecords {R : Type 0} (old new : View R) : Type 0 where
@@ -129,7 +129,7 @@ pub record Recorded {R : Type 0} (direct whole : Bool) (old new : View R) (effec
 -- The effects.
 
 abbrev pub durable_written : Bool → Durable → Place → ℕ → List ℕ → Durable
-durable_written true durable o offset bytes = changed durable o (λ x. overlay x offset bytes)
+durable_written true durable o offset bytes = with_changed durable o (λ x. overlay x offset bytes)
 durable_written false durable o offset bytes = durable
 
 -- a write of the inner blob, of which nothing is recorded
@@ -152,7 +152,7 @@ plain offset bytes v = record {
 
 abbrev pub all_changed : Durable → Place → List Run → Durable
 all_changed durable o [] = durable
-all_changed durable o (r ∷ rs) = all_changed (changed durable o (λ x. overlay x r.0 r.1)) o rs
+all_changed durable o (r ∷ rs) = all_changed (with_changed durable o (λ x. overlay x r.0 r.1)) o rs
 
 -- refused, what the first run leaves
 abbrev pub live_of_runs : List ℕ → List Run → Option Refusal → List ℕ
@@ -226,7 +226,7 @@ pub record ResizedBy {R : Type 0} (fate : ResizeFate) (direct : Bool) (old new :
 
 -- by this answer
 pub record Synced {R : Type 0} (old new : View R) (answer : Option Refusal) : Type 0 where
-  pub done : answer ≡ None → new.durable ≡ changed old.durable old.place (λ _. old.live)
+  pub done : answer ≡ None → new.durable ≡ with_changed old.durable old.place (λ _. old.live)
   -- by the handle of an incarnation that is gone it isn't done
   pub current : answer ≡ None → is_current old.directory old.place ≡ true
   pub refused : IsSome answer → new.durable ≡ old.durable

@@ -1,6 +1,6 @@
 //! What is pending of a name is retired.
 ghost use Rattle.std.specs.Prelude.{◌≡◌, Some, filter, not};
-ghost use Rattle.blob_model.specs.Files.{ends_by};
+ghost use Rattle.blob_model.specs.Files.{is_removed_by};
 ghost use Rattle.blob_faulty.specs.Admitted.{Admits};
 ghost use Rattle.blob_memory.specs.Store.{directory};
 
@@ -17,7 +17,7 @@ fn is_current_of(
     partition: &str,
     name: &[u8],
 ) -> bool
-    ensures { result ≡ ends_by (directory inner.now) partition.now (Some name.now) origin.now }
+    ensures { result ≡ is_removed_by (directory inner.now) partition.now (Some name.now) origin.now }
 {
     partition == origin.partition() && name == origin.name() && inner.is_current(origin)
 }
@@ -29,7 +29,7 @@ fn drop_current(
     partition: &str,
     name: &[u8],
 )
-    ensures { lists.new.items ≡ filter (λ i. not (ends_by (directory inner.now) partition.now (Some name.now) i.origin)) lists.old.items }
+    ensures { lists.new.items ≡ filter (λ i. not (is_removed_by (directory inner.now) partition.now (Some name.now) i.origin)) lists.old.items }
 {
     lists.retain(|list| !is_current_of(inner, &list.origin, partition, name));
 }

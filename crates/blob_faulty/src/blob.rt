@@ -3,7 +3,7 @@ ghost use Rattle.std.specs.Prelude.{◌≡◌, ◌≢◌, ◌+◌, ◌≤◌, �
 ghost use Rattle.std.proofs.lemmas.Bool.{false≢true};
 ghost use Rattle.blob_model.specs.Bytes.{overlay, resized};
 ghost use Rattle.blob_model.specs.Directory.{is_current};
-ghost use Rattle.blob_model.specs.Durable.{changed, with_at};
+ghost use Rattle.blob_model.specs.Durable.{with_changed, with_at};
 ghost use Rattle.blob_base.specs.Handles.{outcome_of, marker_of};
 ghost use Rattle.blob_model.specs.Live.{live_written};
 ghost use Rattle.blob_base.specs.Options.{is_sync};

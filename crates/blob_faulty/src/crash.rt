@@ -1,17 +1,14 @@
 //! The crash: what isn't durable is kept or lost by the generator's choices.
 ghost use Rattle.std.specs.Prelude.{◌≡◌, ℕ, List, [], All, OnOk, OnErr, IfOk};
-ghost use Rattle.blob_model.specs.Draws.{drawn, chosen_by};
-ghost use Rattle.blob_model.specs.Files.{Files, all_needs, after_crash};
 ghost use Rattle.blob_model.specs.Places.{Place};
 ghost use Rattle.blob_header.specs.Refusals.{IsMemory};
-ghost use Rattle.blob_model.specs.Stands.{replayed_at};
+ghost use Rattle.blob_faulty.specs.Crashes.{CrashDraws, CrashLeaves, ReplaysPending};
 ghost use Rattle.blob_faulty.specs.Keeps.{Keeps};
 ghost use Rattle.blob_faulty.specs.Names.{Steps};
 ghost use Rattle.blob_faults.specs.Lists.{held, held_by};
 ghost use Rattle.blob_faults.specs.Replays.{widest_of_all};
 ghost use Rattle.blob_faulty.specs.Ready.{IsReady};
-ghost use Rattle.blob_faults.specs.Rows.{table_of};
-ghost use Rattle.blob_faulty.specs.Wrapper.{KeepsNumbers, KeepsRecords, Stands, inner_of, rng_of, pending_of};
+ghost use Rattle.blob_faulty.specs.Wrapper.{KeepsNumbers, KeepsRecords, inner_of, pending_of};
 ghost use Rattle.blob_memory.specs.Retained.{KeepsRoom};
 ghost use Rattle.blob_memory.specs.Store.{directory, durable};
 
@@ -82,9 +79,9 @@ impl<R: Rng> Storage<blob_memory::Storage, R> {
     ///
     /// `Memory` alone. It leaves all as it was but the generator.
     pub fn crash(&mut self) -> Result<Selections, Error>
-        ensures rows { IfOk result (λ kept. (files : Files) → Stands (λ o. o) (directory (inner_of self.old)) (durable (inner_of self.old)) self.old files → (table_of kept, R.stream (rng_of self.new)) ≡ drawn (R.stream (rng_of self.old)) (all_needs files.log)) }
-        ensures stands { IfOk result (λ kept. (files : Files) → Stands (λ o. o) (directory (inner_of self.old)) (durable (inner_of self.old)) self.old files → Stands (λ o. o) (directory (inner_of self.new)) (durable (inner_of self.new)) self.new (after_crash files (chosen_by (table_of kept)))) }
-        ensures durable { IfOk result (λ kept. (o : Place) → durable (inner_of self.new) o ≡ replayed_at (chosen_by (table_of kept)) (pending_of (λ o. o) self.old o) (durable (inner_of self.old) o)) }
+        ensures rows { IfOk result (CrashDraws R.stream self.old self.new) }
+        ensures stands { IfOk result (CrashLeaves self.old self.new) }
+        ensures durable { IfOk result (ReplaysPending self.old self.new) }
         ensures emptied { OnOk result (pending_of (λ o. o) self.new ≡ (λ _. [])) }
         ensures memory { OnErr result (IsMemory result) }
         ensures unchanged { OnErr result (durable (inner_of self.new) ≡ durable (inner_of self.old)) }

@@ -6,7 +6,7 @@ ghost use Rattle.blob_faulty.specs.Exclusive.{ExclusiveAnswer};
 ghost use Rattle.blob_faulty.specs.Keeps.{LosesNothing};
 ghost use Rattle.blob_faulty.specs.Names.{AreVersions, lower, upper};
 ghost use Rattle.blob_opens.specs.OpenNames.{opened};
-ghost use Rattle.blob_opens.specs.Opens.{names_of, registration_of, inner_of as handle_of};
+ghost use Rattle.blob_opens.specs.Opens.{names_of, registration_of, store_handle as handle_of};
 
 use crate::blob::Blob;
 use crate::laws::keeps::accepted_opens;

@@ -2,19 +2,18 @@
 ghost use Rattle.std.specs.Prelude.{◌≡◌, ◌<◌, ◌≤◌, ◌+◌, ℕ, false, not, ◌&&◌, length, slice_index_or, vec_capacity, All};
 ghost use Rattle.blob_model.specs.Bytes.{between};
 ghost use Rattle.blob_model.specs.Draws.{chosen_by};
-ghost use Rattle.blob_model.specs.Durable.{changed};
+ghost use Rattle.blob_model.specs.Durable.{with_changed};
 ghost use Rattle.blob_model.specs.Holes.{in_holes};
-ghost use Rattle.blob_model.specs.Order.{ArePlacesApart};
 ghost use Rattle.blob_model.specs.Pending.{has_marker, replay, replayed, end_of, ends};
 ghost use Rattle.blob_model.specs.Places.{Place};
-ghost use Rattle.blob_model.specs.Stands.{replayed_at};
-ghost use Rattle.blob_faults.specs.Lists.{held, held_by, list_of};
+ghost use Rattle.blob_faults.specs.Lists.{held, held_by};
 ghost use Rattle.blob_faults.specs.Ranges.{ranges};
 ghost use Rattle.blob_faults.specs.Replays.{width, widest, widest_of_all};
+ghost use Rattle.blob_faulty.specs.Crashes.{ChoosesUncovered, ReplaysLists};
 ghost use Rattle.blob_faulty.specs.Ready.{IsReady, CanReplay};
 ghost use Rattle.blob_faults.specs.Rows.{rows_in, AreNumbered};
 ghost use Rattle.blob_faults.specs.Views.{view, views};
-ghost use Rattle.blob_memory.specs.Overlays.{Becomes};
+ghost use Rattle.blob_memory.specs.Overlays.{AreNow};
 ghost use Rattle.blob_memory.specs.Retained.{KeepsRoom};
 ghost use Rattle.blob_memory.specs.Store.{directory, durable};
 
@@ -63,7 +62,7 @@ fn uncover_all(chosen: &mut [bool], offset: u64, holes: &[Hole])
 fn put_choices(chosen: &mut Vec<bool>, write: &PendingWrite, row: &[bool])
     requires { length write.now.bytes ≤ vec_capacity chosen.old }
     ensures len { length chosen.new.items ≡ length write.now.bytes }
-    ensures each { (i : ℕ) → i < length write.now.bytes → slice_index_or chosen.new.items i false ≡ (not (in_holes (ranges write.now.holes.items) (write.now.offset + i)) && slice_index_or row.now i false) }
+    ensures each { ChoosesUncovered chosen.new.items write.now row.now }
     ensures capacity { vec_capacity chosen.old ≤ vec_capacity chosen.new }
 {
     put_row(chosen, row, write.bytes.remaining());
@@ -79,7 +78,7 @@ fn replay_entry(
 )
     requires numbered { AreNumbered rows.now }
     requires room { CanReplay bytes.old (end_of (view entry.now)) (width (view entry.now)) chosen.old }
-    ensures bytes { Becomes bytes.old bytes.new (replayed bytes.old.items (view entry.now) (chosen_by (rows_in rows.now))) }
+    ensures bytes { AreNow bytes.old bytes.new (replayed bytes.old.items (view entry.now) (chosen_by (rows_in rows.now))) }
     ensures capacity { vec_capacity chosen.old ≤ vec_capacity chosen.new }
 {
     match entry {
@@ -106,7 +105,7 @@ fn replay_entries(
     requires unmarked { has_marker (views entries.now) ≡ false }
     requires numbered { AreNumbered rows.now }
     requires room { CanReplay bytes.old (ends (views entries.now)) (widest (views entries.now)) chosen.old }
-    ensures bytes { Becomes bytes.old bytes.new (replay (views entries.now) (chosen_by (rows_in rows.now)) bytes.old.items) }
+    ensures bytes { AreNow bytes.old bytes.new (replay (views entries.now) (chosen_by (rows_in rows.now)) bytes.old.items) }
     ensures capacity { vec_capacity chosen.old ≤ vec_capacity chosen.new }
 {
     for entry in entries {
@@ -124,7 +123,7 @@ fn replay_list(
     requires numbered { AreNumbered rows.now }
     requires ready { IsReady inner.old (held_by (λ o. o) list.now) }
     requires width { widest (views list.now.entries.items) ≤ vec_capacity chosen.old }
-    ensures durable { (o : Place) → durable inner.new o ≡ changed (durable inner.old) list.now.origin (λ x. replay (views list.now.entries.items) (chosen_by (rows_in rows.now)) x) o }
+    ensures durable { (o : Place) → durable inner.new o ≡ with_changed (durable inner.old) list.now.origin (replay (views list.now.entries.items) (chosen_by (rows_in rows.now))) o }
     ensures kept { KeepsRoom inner.old inner.new }
     ensures capacity { vec_capacity chosen.old ≤ vec_capacity chosen.new }
 {
@@ -145,7 +144,7 @@ pub fn replay_all(
     requires numbered { AreNumbered rows.now }
     requires ready { All (λ list. IsReady inner.old (held_by (λ o. o) list)) lists.now }
     requires width { widest_of_all (held (λ o. o) lists.now) ≤ vec_capacity chosen.old }
-    ensures durable { ArePlacesApart (held (λ o. o) lists.now) → (o : Place) → durable inner.new o ≡ replayed_at (chosen_by (rows_in rows.now)) (list_of (λ o. o) lists.now o) (durable inner.old o) }
+    ensures durable { ReplaysLists lists.now rows.now (durable inner.old) (durable inner.new) }
     ensures directory { directory inner.new ≡ directory inner.old }
 {
     for list in lists {

@@ -8,7 +8,7 @@ use Rattle.blob_header.specs.declared.layout.Layout.{Layout}
 use Rattle.blob_header.specs.declared.layout.Layout.TheVariants.{V0, V1}
 use Rattle.blob_header.specs.declared.version.BlobVersion.{BlobVersion}
 use Rattle.blob_header.specs.Header.{data_start, prelude, region, IsTorn, number_at}
-use Rattle.blob_header.specs.HeaderLaws.{reopened}
+use Rattle.blob_header.specs.HeaderLaws.{resolved_whole}
 use Rattle.blob_header.specs.Parse.{Accepted, accepted, every_layout, Failure, LayoutMismatch, VersionMismatch, is_accepted, parsed_whole, parsed}
 use Rattle.blob_header.specs.Resolve.{found_in, is_torn, resolution}
 use Rattle.blob_header.specs.Versions.{is_in_range}
@@ -27,7 +27,7 @@ resolves blob a long whole =
 
 -- a whole header by its version
 read_whole : (layout : Layout) (v n size : ℕ) (raw : List ℕ) (a : Accepted) → number_at raw 6 ≡ v → n ≡ data_start layout + size
-    → found_in (parsed_whole None layout raw n a) ≡ reopened a layout v size
+    → found_in (parsed_whole None layout raw n a) ≡ resolved_whole a layout v size
 read_whole layout v n size raw a e len =
     let s : n - data_start layout ≡ size = omega arith in
     rw (e, s) (by_bools (is_accepted a layout) (is_in_range a.least a.greatest v) (size, record { 0 = v }, data_start layout)
@@ -43,11 +43,11 @@ version_back : (v : ℕ) → v < 2 ^ 16 → v / 256 % 256 * 256 + v % 256 ≡ v
 version_back v fits = omega arith
 
 old_reads : (v : ℕ) (rest : List ℕ) (a : Accepted) → v < 2 ^ 16
-    → found_in (parsed (prelude V0 v ++ rest) (length (prelude V0 v ++ rest)) a) ≡ reopened a V0 v (length rest)
+    → found_in (parsed (prelude V0 v ++ rest) (length (prelude V0 v ++ rest)) a) ≡ resolved_whole a V0 v (length rest)
 old_reads v rest a fits =
     read_whole V0 v (length (prelude V0 v ++ rest)) (length rest) (prelude V0 v ++ rest) a (version_back v fits) (length-append (prelude V0 v) rest)
 
-new_reads : (v n size : ℕ) (a : Accepted) → v < 2 ^ 16 → n ≡ 4096 + size → found_in (parsed (region V1 v) n a) ≡ reopened a V1 v size
+new_reads : (v n size : ℕ) (a : Accepted) → v < 2 ^ 16 → n ≡ 4096 + size → found_in (parsed (region V1 v) n a) ≡ resolved_whole a V1 v size
 unfolding region
 new_reads v n size a fits len =
     rw (whole_page v n (omega arith)) (read_whole V1 v n size (region V1 v) a (version_back v fits) len)
@@ -57,7 +57,7 @@ nothing [] h = refl
 nothing (x ∷ rest) h = absurd (omega arith)
 
 new_reopens : (v : ℕ) (rest : List ℕ) (a : Accepted) → v < 2 ^ 16
-    → resolution (region V1 v ++ rest) a ≡ reopened a V1 v (length rest)
+    → resolution (region V1 v ++ rest) a ≡ resolved_whole a V1 v (length rest)
 new_reopens v rest a fits =
     resolves (region V1 v ++ rest) a (omega (arith, long)) whole
     ∙ ap found_in (parsed-append (region V1 v) rest (length (region V1 v ++ rest)) a (omega (arith, length_region V1 v)))
@@ -71,7 +71,7 @@ new_reopens v rest a fits =
         d.not_whole v fits (ap (λ x. region V1 v ++ x) (nothing rest (omega (arith, long, d.front.short))) ∙ append-nil (region V1 v))
 
 pub reopens : (layout : Layout) (v : ℕ) (rest : List ℕ) (a : Accepted) → v < 2 ^ 16
-    → resolution (region layout v ++ rest) a ≡ reopened a layout v (length rest)
+    → resolution (region layout v ++ rest) a ≡ resolved_whole a layout v (length rest)
 unfolding region
 reopens V0 v rest a fits =
     resolves (prelude V0 v ++ rest) a (omega (arith, length-append (prelude V0 v) rest)) (λ d. not_v0 (prelude V0 v ++ rest) d.front refl)
@@ -84,7 +84,7 @@ pub accepted_all : (layouts : RangeInclusive Layout) (versions : RangeInclusive 
 accepted_all layouts versions first last = rw (first, last) refl
 
 -- where every layout is accepted, the version alone decides
-pub reopened_all : (least greatest : ℕ) (layout : Layout) (v size : ℕ) → reopened (every_layout least greatest) layout v size
+pub reopened_all : (least greatest : ℕ) (layout : Layout) (v size : ℕ) → resolved_whole (every_layout least greatest) layout v size
     ≡ cond (is_in_range least greatest v) (Ok (Some (size, record { 0 = v }, data_start layout))) (Err (VersionMismatch least greatest v))
 reopened_all least greatest V0 v size = refl
 reopened_all least greatest V1 v size = refl

@@ -8,7 +8,7 @@ use Rattle.blob_header.specs.Header.{IsTorn, number_at}
 use Rattle.blob_header.specs.Parse.{Accepted, Failure, page_failure, layout_of, parsed_whole, parsed_in, parsed}
 use Rattle.blob_header.specs.declared.error.Error.{Error}
 use Rattle.blob_header.specs.Refusals.{Memory, refusal_of}
-use Rattle.blob_header.specs.Resolve.{Answers, AnswersParsed, IsNoneSide, found_in, is_torn, refusal_for, refusing, resolution}
+use Rattle.blob_header.specs.Resolve.{AnswersAs, AnswersParsed, IsNoneSide, found_in, is_torn, refusal_for, refusing, resolution}
 use Rattle.blob_header.proofs.NoneSide.{Found, not_true, over_blob}
 use Rattle.blob_header.proofs.TornTest.{is_torn-IsTorn}
 
@@ -109,7 +109,7 @@ pub none_refused : (failure : Failure) (error : Error) (P : Type 0) → IsNoneSi
 none_refused failure error P h = (λ e. absurd (cc), λ p. absurd (h.1 p))
 
 pub answers_refused : {T : Type 0} (partition name : List ℕ) (resolved : Result T Failure) (failure : Failure) (error : Error) → Err failure ≡ resolved
-    → (refusal_of error ≡ refusal_for partition name failure) ⊎ (refusal_of error ≡ Memory) → Answers (Err error) (refusing partition name resolved)
+    → (refusal_of error ≡ refusal_for partition name failure) ⊎ (refusal_of error ≡ Memory) → AnswersAs (Err error) (refusing partition name resolved)
 answers_refused partition name resolved failure error e says =
     ⊎_elim
     (λ (exact : refusal_of error ≡ refusal_for partition name failure). inl (ap (refusing partition name) (sym e) ∙ ap (λ r. Err r) (sym exact)))

@@ -8,8 +8,8 @@ use Rattle.blob_header.specs.Resolve.{is_torn, resolution}
 use Rattle.blob_header.specs.Versions.{is_in_range}
 
 -- what a whole region of this layout and version, with so many bytes behind it, resolves to
-abbrev pub reopened : Accepted → Layout → ℕ → ℕ → Result (Option (ℕ × BlobVersion × ℕ)) Failure
-reopened a layout version size =
+abbrev pub resolved_whole : Accepted → Layout → ℕ → ℕ → Result (Option (ℕ × BlobVersion × ℕ)) Failure
+resolved_whole a layout version size =
     if is_accepted a layout then
     (if is_in_range a.least a.greatest version then Ok (Some (size, record { 0 = version }, data_start layout))
     else Err (VersionMismatch a.least a.greatest version))
@@ -18,7 +18,7 @@ reopened a layout version size =
 abbrev pub RegionsReopen : Type 0
 RegionsReopen =
     (layout : Layout) (version : ℕ) (data_bytes : List ℕ) (a : Accepted) → version < 2 ^ 16
-    → resolution (region layout version ++ data_bytes) a ≡ reopened a layout version (length data_bytes)
+    → resolution (region layout version ++ data_bytes) a ≡ resolved_whole a layout version (length data_bytes)
 
 -- a region that is accepted is parsed as it was created: no bytes, its version and its data offset
 abbrev pub RegionsParseBack : Type 0

@@ -4,5 +4,5 @@ use Rattle.blob_header.specs.declared.checksum.Crc32.{Crc32}
 use Rattle.blob_header.specs.Checksum.{register_of}
 
 -- the state has taken in exactly these bytes
-unfoldable pub Holds : Crc32 → List ℕ → Type 0
-Holds c bytes = c.register ≡ register_of bytes
+unfoldable pub HasTaken : Crc32 → List ℕ → Type 0
+HasTaken c bytes = c.register ≡ register_of bytes

@@ -81,9 +81,9 @@ refusing partition name (Ok x) = Ok x
 refusing partition name (Err failure) = Err (refusal_for partition name failure)
 
 -- a call answers as expected, but that Memory may stand in place of a refusal
-abbrev pub Answers : {T : Type 0} → Result T Error → Result T Refusal → Type 0
-Answers (Ok x) expected = expected ≡ Ok x
-Answers (Err e) expected = (expected ≡ Err (refusal_of e)) ⊎ (IsErr expected × (refusal_of e ≡ Memory))
+abbrev pub AnswersAs : {T : Type 0} → Result T Error → Result T Refusal → Type 0
+AnswersAs (Ok x) expected = expected ≡ Ok x
+AnswersAs (Err e) expected = (expected ≡ Err (refusal_of e)) ⊎ (IsErr expected × (refusal_of e ≡ Memory))
 
 -- the blob is to be created
 abbrev pub IsNoneSide : {A : Type 0} → Result (Option A) Failure → Type 0

@@ -4,7 +4,7 @@ ghost use Rattle.std.specs.Prelude.{◌≡◌, ◌≤◌, ℕ, ◌++◌, List, [
 ghost use Rattle.std.specs.Int.{w64, from_le_bytes};
 ghost use Rattle.std.specs.List.{fold};
 ghost use Rattle.blob_header.specs.Checksum.{with_bit, low_bits, bits_of, crc32c};
-ghost use Rattle.blob_header.specs.Register.{Holds};
+ghost use Rattle.blob_header.specs.Register.{HasTaken};
 ghost use Rattle.blob_header.specs.Steps.{steps};
 
 use crate::stream_tables::STREAM_TABLES;
@@ -19,21 +19,21 @@ pub struct Crc32 {
 impl Crc32 {
     /// The state of no bytes.
     pub fn new() -> Crc32
-        ensures { Holds result [] }
+        ensures { HasTaken result [] }
     {
         Crc32 { register: u32::MAX }
     }
 
     /// Takes in the bytes, after those before.
     pub fn update(&mut self, bytes: &[u8])
-        ensures { (before : List ℕ) → Holds self.old before → Holds self.new (before ++ bytes.now) }
+        ensures { (before : List ℕ) → HasTaken self.old before → HasTaken self.new (before ++ bytes.now) }
     {
         self.register = with_bytes(self.register, bytes);
     }
 
     /// The checksum of all bytes that were taken in.
     pub fn finalize(self) -> u32
-        ensures { (bytes : List ℕ) → Holds self bytes → result ≡ crc32c bytes }
+        ensures { (bytes : List ℕ) → HasTaken self bytes → result ≡ crc32c bytes }
     {
         u32::MAX - self.register
     }

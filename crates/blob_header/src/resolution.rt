@@ -1,7 +1,7 @@
 ghost use Rattle.std.specs.Prelude.{◌≡◌, ℕ, ◌<◌, ◌≤◌, ◌↔◌, ◌⊎◌, IsTrue, List, length, min, take};
 ghost use Rattle.blob_header.specs.Header.{IsFront, IsTorn};
 ghost use Rattle.blob_header.specs.Parse.{accepted, failure_of, may_be_torn, parsed, read_of};
-ghost use Rattle.blob_header.specs.Resolve.{Answers, AnswersParsed, IsNoneSide, refusing, resolution};
+ghost use Rattle.blob_header.specs.Resolve.{AnswersAs, AnswersParsed, IsNoneSide, refusing, resolution};
 
 use crate::error::Error;
 use crate::header::Header;
@@ -34,7 +34,7 @@ pub fn resolve(
 ) -> Result<Option<(u64, BlobVersion, u64)>, Error>
     requires front { min raw_len 4096 ≤ length raw.now }
     requires within { length raw.now ≤ raw_len }
-    ensures answer { (blob : List ℕ) → length blob ≡ raw_len → raw.now ≡ take (length raw.now) blob → Answers result (refusing partition.now name.now (resolution blob (accepted layouts.now versions.now))) }
+    ensures answer { (blob : List ℕ) → length blob ≡ raw_len → raw.now ≡ take (length raw.now) blob → AnswersAs result (refusing partition.now name.now (resolution blob (accepted layouts.now versions.now))) }
     ensures none { (blob : List ℕ) → length blob ≡ raw_len → raw.now ≡ take (length raw.now) blob → (result ≡ Ok None) ↔ ((raw_len < 8) ⊎ IsTorn blob) }
 {
     match resolve_front(raw, raw_len, layouts, versions) {

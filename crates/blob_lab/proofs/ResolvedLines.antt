@@ -8,7 +8,7 @@ use Rattle.blob_header.specs.declared.error.Error.{Error}
 use Rattle.blob_header.specs.declared.version.BlobVersion.{BlobVersion}
 use Rattle.blob_header.specs.Refusals.{Memory}
 use Rattle.blob_header.specs.ReplyLines.{refusal_line}
-use Rattle.blob_header.specs.Resolve.{Answers}
+use Rattle.blob_header.specs.Resolve.{AnswersAs}
 use Rattle.blob_lab.specs.ResolveReplies.{AnswersLine, RepliesTo, by_refusal, resolution_line, resolved_image}
 use Rattle.blob_lab.proofs.ScriptRuns.{kept_Appends}
 
@@ -16,7 +16,7 @@ use Rattle.blob_lab.proofs.ScriptRuns.{kept_Appends}
 abbrev pub IsReplyTo : List ℕ → List ℕ → Type 0
 IsReplyTo image reply = (reply ≡ resolution_line (resolved_image image)) ⊎ (IsErr (resolved_image image) × (reply ≡ refusal_line Memory))
 
-pub is_reply : (answer : Result (Option (ℕ × BlobVersion × ℕ)) Error) (image : List ℕ) → Answers answer (resolved_image image) → IsReplyTo image (resolution_line (by_refusal answer))
+pub is_reply : (answer : Result (Option (ℕ × BlobVersion × ℕ)) Error) (image : List ℕ) → AnswersAs answer (resolved_image image) → IsReplyTo image (resolution_line (by_refusal answer))
 is_reply (Ok x) image e = inl (ap resolution_line (sym e))
 is_reply (Err e) image (inl h) = inl (ap resolution_line (sym h))
 is_reply (Err e) image (inr (refused, memory)) = inr (refused, ap refusal_line memory)

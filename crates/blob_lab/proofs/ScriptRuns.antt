@@ -12,7 +12,7 @@ use Rattle.blob_lab.specs.declared.ending.Ending.TheVariants.{Done, InputFailed,
 use Rattle.blob_laboratory.specs.declared.lab.Lab.{Lab}
 use Rattle.blob_calls.specs.declared.reply.Reply.{Reply}
 use Rattle.blob_calls.specs.Acts.{Act, act_of}
-use Rattle.blob_laboratory.specs.LabStands.{StandsFor, Performs}
+use Rattle.blob_laboratory.specs.LabStands.{LabStandsFor, Performs}
 use Rattle.blob_lab.specs.ScriptReading.{AddsCall, TakesCall, TakesBadCall, TakesPart, Begins}
 use Rattle.blob_lab.specs.Scripts.{OfLines, Script, Answered, IsPrinted, Prints, PrintsTaken, PrintsPart, PrintsBefore, PrintsUpTo, printed_reply, lines_of, with_call, with_lines}
 use Rattle.blob_calls.specs.Settings.{cleared}
@@ -31,7 +31,7 @@ pub record Settled (s : Script) (first next : ℕ) (lab : Lab) (config : Config)
   pub config_is : t.config ≡ config
   pub some : t.calls ≢ []
   pub answered : Answered t printed w
-  pub stands : StandsFor lab w
+  pub stands : LabStandsFor lab w
   pub added : Appends old new printed
 
 -- the same, and the line behind them adds a call that isn't answered
@@ -43,7 +43,7 @@ pub record Awaiting (s : Script) (first number : ℕ) (lab : Lab) (act : Act) (c
   pub taken : TakesFront s t first number all (line ∷ rest)
   pub adds : AddsCall t line act config
   pub answered : Answered t printed w
-  pub stands : StandsFor lab w
+  pub stands : LabStandsFor lab w
   pub added : Appends old new printed
 
 not_empty : {X : Type 0} (xs : List X) (x : X) → xs ++ x ∷ [] ≢ []
@@ -132,7 +132,7 @@ module _ (s : Script) (first : ℕ) (old : Option (List ℕ)) (all : List (List 
   }
 
   more_answered : (number : ℕ) (lab lab' : Lab) (call : Call) (reply : Reply) (config : Config) (mid : Option (List ℕ)) (rest : List (List ℕ)) (a : Awaiting s first number lab (act_of call) config old mid all rest)
-      → Performs lab (act_of call) reply lab' → (w : State) × Answered (with_call (record a.t { config = config }) (act_of call)) (a.printed ++ printed_reply reply) w × StandsFor lab' w
+      → Performs lab (act_of call) reply lab' → (w : State) × Answered (with_call (record a.t { config = config }) (act_of call)) (a.printed ++ printed_reply reply) w × LabStandsFor lab' w
   more_answered number lab lab' call reply config mid rest a performs =
       let t = a.t in (
         _,

@@ -10,7 +10,7 @@ use Rattle.blob_lab.specs.declared.ending.Ending.TheVariants.{Done, InputFailed,
 use Rattle.blob_laboratory.specs.declared.lab.Lab.{Lab}
 use Rattle.blob_lab.specs.declared.run_script.lines.Preamble.{Preamble}
 use Rattle.blob_calls.specs.Acts.{Act}
-use Rattle.blob_laboratory.specs.LabStands.{StandsFor}
+use Rattle.blob_laboratory.specs.LabStands.{LabStandsFor}
 use Rattle.blob_lab.specs.ScriptReading.{TakesCall, TakesBadCall, TakesPart, Begins, preamble_of}
 use Rattle.blob_lab.specs.Scripts.{OfLines, Script, IsPrinted, Prints, PrintsTaken, PrintsBefore, PrintsUpTo, lines_of, no_script, script_of, with_lines}
 use Rattle.blob_states.specs.Scripted.{only}
@@ -118,7 +118,7 @@ module _ (s : Script) (same : s ≡ no_script) (first : ℕ) (one : first ≡ 1)
     prints = nothing (with_lines no_script call.front) t old mid kept (ap (λ u. with_lines u call.front) (sym same) ∙ call.makes) none;
   }
 
-  module _ (n : ℕ) (act : Act) (config : Config) (lab : Lab) (stands : StandsFor lab (start t.images t.words cleared)) (new : Option (List ℕ)) where
+  module _ (n : ℕ) (act : Act) (config : Config) (lab : Lab) (stands : LabStandsFor lab (start t.images t.words cleared)) (new : Option (List ℕ)) where
     pub all_lines : (a b : Option (List ℕ)) → OfLines a b (TakesCall s t first n act config)
         → ((s : Script) (line : List ℕ) → Begins lab s line act config → IfSome b (λ input. Prints (with_lines s (line ∷ lines_of input)) mid new)) → IfSome a (λ input. Prints (script_of (lines_of input)) old new)
     all_lines None b call prints = tt

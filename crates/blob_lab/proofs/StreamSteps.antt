@@ -6,10 +6,10 @@ use Rattle.blob_lab.specs.declared.ending.Ending.{Ending}
 use Rattle.blob_lab.specs.declared.ending.Ending.TheVariants.{Done, InputFailed, OutputFailed, BadCall, BadImage, Usage, NoMemory}
 use Rattle.blob_lab.specs.declared.streams.Input.{Input}
 use Rattle.blob_lab.specs.declared.streams.Output.{Output}
-use Rattle.blob_lab.specs.Streams.{has_line, write_failed, StaySound, Tells, Told, ToldOutput}
+use Rattle.blob_lab.specs.Streams.{has_line, write_failed, StaySound, NamesFailed, ToldEnding, ToldOutput}
 
 module _ {R W : Type 0} (i m i' : Input R) (o p o' : Output W) (sound : StaySound i m o p) where
-  pub tells_behind : (ending : Ending) → Tells ending m i' p o' → Tells ending i i' o o'
+  pub tells_behind : (ending : Ending) → NamesFailed ending m i' p o' → NamesFailed ending i i' o o'
   tells_behind InputFailed (r, w) = (r, w ∙ sound.1)
   tells_behind OutputFailed (r, w) = (r ∙ sound.0, w)
   tells_behind Done (r, w) = (r ∙ sound.0, w ∙ sound.1)
@@ -19,13 +19,13 @@ module _ {R W : Type 0} (i m i' : Input R) (o p o' : Output W) (sound : StaySoun
   tells_behind NoMemory (r, w) = (r ∙ sound.0, w ∙ sound.1)
 
   -- neither stream had failed before
-  pub told_behind : {T : Type 0} (result : Result T Ending) → Told result m i' p o' → Told result i i' o o'
+  pub told_behind : {T : Type 0} (result : Result T Ending) → ToldEnding result m i' p o' → ToldEnding result i i' o o'
   told_behind (Ok x) (r, w) = (r ∙ sound.0, w ∙ sound.1)
   told_behind (Err ending) tells = tells_behind ending tells
 
 -- a call wasn't answered, behind what stayed sound
 pub unanswered_told : {R W : Type 0} (ending : Ending) (i m : Input R) (o p p' : Output W) → StaySound i m o p → (ending ≡ OutputFailed) ⊎ (ending ≡ NoMemory)
-    → (ending ≢ NoMemory → write_failed p' ≡ true) → (ending ≡ NoMemory → p' ≡ p) → Tells ending i m o p'
+    → (ending ≢ NoMemory → write_failed p' ≡ true) → (ending ≡ NoMemory → p' ≡ p) → NamesFailed ending i m o p'
 unanswered_told OutputFailed i m o p p' sound cut told same = (sound.0, told (λ e. cc))
 unanswered_told NoMemory i m o p p' sound cut told same = (sound.0, ap write_failed (same refl) ∙ sound.1)
 unanswered_told InputFailed i m o p p' sound cut told same = elim cut [ inl e ↦ cc | inr e ↦ cc ]
@@ -36,17 +36,17 @@ unanswered_told Usage i m o p p' sound cut told same = elim cut [ inl e ↦ cc |
 
 -- a write or a flush, behind what stayed sound
 module _ {R W : Type 0} (i m : Input R) (o p p' : Output W) (sound : StaySound i m o p) where
-  output_tells : (ending : Ending) → ending ≡ OutputFailed → write_failed p' ≡ true → Tells ending i m o p'
-  output_tells ending e failed = subst (λ (x : Ending). Tells x i m o p') (sym e) (sound.0, failed)
+  output_tells : (ending : Ending) → ending ≡ OutputFailed → write_failed p' ≡ true → NamesFailed ending i m o p'
+  output_tells ending e failed = subst (λ (x : Ending). NamesFailed x i m o p') (sym e) (sound.0, failed)
 
-  pub output_told : {T : Type 0} (result : Result T Ending) → IfErr result (λ ending. ending ≡ OutputFailed) → ToldOutput result p p' → Told result i m o p'
+  pub output_told : {T : Type 0} (result : Result T Ending) → IfErr result (λ ending. ending ≡ OutputFailed) → ToldOutput result p p' → ToldEnding result i m o p'
   output_told (Ok x) e told = (sound.0, told ∙ sound.1)
   output_told (Err ending) e told = output_tells ending e told
 
 -- an ending that tells of neither stream
-pub image_tells : {R W : Type 0} (ending : Ending) (i m : Input R) (o p : Output W) (P : Type 0) → StaySound i m o p → (ending ≡ NoMemory) ⊎ ((ending ≡ BadImage) × P) → Tells ending i m o p
-image_tells ending i m o p P sound (inl e) = subst (λ (x : Ending). Tells x i m o p) (sym e) sound
-image_tells ending i m o p P sound (inr (e, h)) = subst (λ (x : Ending). Tells x i m o p) (sym e) sound
+pub image_tells : {R W : Type 0} (ending : Ending) (i m : Input R) (o p : Output W) (P : Type 0) → StaySound i m o p → (ending ≡ NoMemory) ⊎ ((ending ≡ BadImage) × P) → NamesFailed ending i m o p
+image_tells ending i m o p P sound (inl e) = subst (λ (x : Ending). NamesFailed x i m o p) (sym e) sound
+image_tells ending i m o p P sound (inr (e, h)) = subst (λ (x : Ending). NamesFailed x i m o p) (sym e) sound
 
 pub any_error : {T E : Type 0} (r : Result T E) (P : Type 0) → P → IfErr r (λ _. P)
 any_error (Ok x) P p = tt

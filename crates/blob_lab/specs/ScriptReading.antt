@@ -5,7 +5,7 @@ use Rattle.blob_faults.specs.declared.config.Config.{Config}
 use Rattle.blob_laboratory.specs.declared.lab.Lab.{Lab}
 use Rattle.blob_lab.specs.declared.run_script.lines.Preamble.{Preamble}
 use Rattle.blob_calls.specs.Acts.{Act}
-use Rattle.blob_laboratory.specs.LabStands.{StandsFor}
+use Rattle.blob_laboratory.specs.LabStands.{LabStandsFor}
 use Rattle.blob_calls.specs.Lines.{Said, line_of}
 use Rattle.blob_lab.specs.Scripts.{Script, TakesOne, with_call, with_line, with_lines}
 use Rattle.blob_calls.specs.Settings.{cleared}
@@ -50,7 +50,7 @@ pub record TakesPart (s t : Script) (lines left : List (List ℕ)) : Type 0 wher
 pub record Begins (lab : Lab) (s : Script) (line : List ℕ) (act : Act) (config : Config) : Type 0 where
   pub none : s.calls ≡ []
   pub adds : AddsCall s line act config
-  pub stands : StandsFor lab (start s.images s.words cleared)
+  pub stands : LabStandsFor lab (start s.images s.words cleared)
 
 -- what the lines of a preamble have made
 abbrev pub preamble_of : Preamble → Config → Script

@@ -12,7 +12,7 @@ use Rattle.blob_calls.specs.Acts as acts
 use Rattle.blob_calls.specs.Acts.{Act, act_of}
 use Rattle.blob_calls.specs.Lines.{Said, Blank, Image, Given, Seed, Configure, Call, line_of}
 use Rattle.blob_calls.specs.Replies.{reply_line}
-use Rattle.blob_states.specs.Runs.{Run}
+use Rattle.blob_states.specs.Runs.{LeadsTo}
 use Rattle.blob_states.specs.Scripted.{Words, only, behind_seeded}
 use Rattle.blob_calls.specs.Settings.{cleared, configured}
 use Rattle.blob_states.specs.States as states
@@ -21,14 +21,14 @@ use Rattle.blob_states.specs.States.{State, start}
 -- Its lines.
 
 -- one more byte at the front of the first line
-abbrev pub with_byte : ℕ → List (List ℕ) → List (List ℕ)
-with_byte byte [] = (byte ∷ []) ∷ []
-with_byte byte (line ∷ lines) = (byte ∷ line) ∷ lines
+abbrev pub with_line_byte : ℕ → List (List ℕ) → List (List ℕ)
+with_line_byte byte [] = (byte ∷ []) ∷ []
+with_line_byte byte (line ∷ lines) = (byte ∷ line) ∷ lines
 
 -- what stands before each line feed, and what is left behind the last one, if anything is
 abbrev pub lines_of : List ℕ → List (List ℕ)
 lines_of [] = []
-lines_of (byte ∷ bytes) = if byte == 10 then [] ∷ lines_of bytes else with_byte byte (lines_of bytes)
+lines_of (byte ∷ bytes) = if byte == 10 then [] ∷ lines_of bytes else with_line_byte byte (lines_of bytes)
 
 -- where the bytes that a reader had left are known: what holds of their lines, and of the lines that it has left
 abbrev pub OfLines : Option (List ℕ) → Option (List ℕ) → (List (List ℕ) → List (List ℕ) → Type 0) → Type 0
@@ -92,7 +92,7 @@ pub record Answered (s : Script) (printed : List ℕ) (w : State) : Type 0 where
   pub calls : List LabCall
   pub replies : List Reply
   pub are : map act_of calls ≡ s.calls
-  pub run : Run (start s.images s.words cleared) calls replies w
+  pub run : LeadsTo (start s.images s.words cleared) calls replies w
   pub lines : printed ≡ flat_map printed_reply replies
 
 abbrev pub IsPrinted : Script → List ℕ → Type 0

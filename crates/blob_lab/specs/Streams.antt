@@ -46,13 +46,13 @@ abbrev pub StaySound : {R W : Type 0} → Input R → Input R → Output W → O
 StaySound i i' o o' = (read_failed i' ≡ read_failed i) × (write_failed o' ≡ write_failed o)
 
 -- the one that this ending names failed, and no other
-abbrev pub Tells : {R W : Type 0} → Ending → Input R → Input R → Output W → Output W → Type 0
-Tells InputFailed i i' o o' = (read_failed i' ≡ true) × (write_failed o' ≡ write_failed o)
-Tells OutputFailed i i' o o' = (read_failed i' ≡ read_failed i) × (write_failed o' ≡ true)
-Tells ending i i' o o' = StaySound i i' o o'
+abbrev pub NamesFailed : {R W : Type 0} → Ending → Input R → Input R → Output W → Output W → Type 0
+NamesFailed InputFailed i i' o o' = (read_failed i' ≡ true) × (write_failed o' ≡ write_failed o)
+NamesFailed OutputFailed i i' o o' = (read_failed i' ≡ read_failed i) × (write_failed o' ≡ true)
+NamesFailed ending i i' o o' = StaySound i i' o o'
 
-abbrev pub Told : {T R W : Type 0} → Result T Ending → Input R → Input R → Output W → Output W → Type 0
-Told result i i' o o' = MatchResult result (λ _. StaySound i i' o o') (λ ending. Tells ending i i' o o')
+abbrev pub ToldEnding : {T R W : Type 0} → Result T Ending → Input R → Input R → Output W → Output W → Type 0
+ToldEnding result i i' o o' = MatchResult result (λ _. StaySound i i' o o') (λ ending. NamesFailed ending i i' o o')
 
 -- Which bytes were taken and given.
 

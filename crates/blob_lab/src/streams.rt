@@ -4,7 +4,7 @@ ghost use Rattle.std.specs.Io.KnownBytes.{Appends, Keeps};
 ghost use Rattle.std.specs.Io.BufRead.{strip_last};
 ghost use Rattle.std.specs.Fmt.{with_newline};
 ghost use Rattle.blob_lab.specs.Endings.{is_of_stream};
-ghost use Rattle.blob_lab.specs.Streams.{reader_of, lines_left, read_failed, writer_of, write_failed, is_flushed, has_line, AppendsPart, ReadsLine, Told, ToldOutput};
+ghost use Rattle.blob_lab.specs.Streams.{reader_of, lines_left, read_failed, writer_of, write_failed, is_flushed, has_line, AppendsPart, ReadsLine, ToldEnding, ToldOutput};
 
 use crate::Ending;
 use crate::run_script::Ahead;
@@ -58,7 +58,7 @@ impl<R: BufRead> Input<R> {
         output: &mut Output<W>,
     ) -> Result<usize, Ending>
         ensures handed_on { result ≢ Err Ending.OutputFailed → is_flushed output.new ≡ true }
-        ensures told { Told result self.old self.new output.old output.new }
+        ensures told { ToldEnding result self.old self.new output.old output.new }
         ensures kept { Keeps (W.contents (writer_of output.old)) (W.contents (writer_of output.new)) }
         ensures ending { IfErr result (λ ending. is_of_stream ending ≡ true) }
         ensures read { ReadsLine result (R.remaining (reader_of self.old)) (R.remaining (reader_of self.new)) line.old.items line.new.items }
@@ -119,7 +119,7 @@ impl<R: Ahead> Input<R> {
         output: &mut Output<W>,
     ) -> Result<usize, Ending>
         ensures handed_on { result ≢ Err Ending.OutputFailed → (is_flushed output.new ≡ true) ⊎ (has_line (R.ready (reader_of self.old)) ≡ true) }
-        ensures told { Told result self.old self.new output.old output.new }
+        ensures told { ToldEnding result self.old self.new output.old output.new }
         ensures kept { Keeps (W.contents (writer_of output.old)) (W.contents (writer_of output.new)) }
         ensures ending { IfErr result (λ ending. is_of_stream ending ≡ true) }
         ensures read { ReadsLine result (R.remaining (reader_of self.old)) (R.remaining (reader_of self.new)) line.old.items line.new.items }

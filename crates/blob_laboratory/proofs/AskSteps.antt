@@ -20,7 +20,8 @@ use Rattle.blob_calls.specs.Acts.{Ask, Read}
 use Rattle.blob_states.specs.After.{files_after, held_after}
 use Rattle.blob_states.specs.Answers.{IsAnswer, through}
 use Rattle.blob_states.specs.Denials.{refused_if}
-use Rattle.blob_laboratory.specs.LabStands.{Wrapper, Wraps, IsFor, Asks, stream_of}
+use Rattle.blob_laboratory.specs.LabStands.{Wrapper, Wraps, Asks, stream_of}
+use Rattle.blob_faulty.specs.Keeps.{IsFor}
 use Rattle.blob_states.specs.States.{State, Held}
 use Rattle.blob_calls.specs.Told as told
 use Rattle.blob_calls.specs.Told.{Tells, refused_by}

@@ -16,7 +16,8 @@ use Rattle.blob_calls.specs.declared.reply.Reply.TheVariants.{Done, Failed, Star
 use Rattle.blob_calls.specs.Acts.{Sync}
 use Rattle.blob_states.specs.After.{begun}
 use Rattle.blob_states.specs.Denials.{refused_if, sync_denial, start_denial}
-use Rattle.blob_laboratory.specs.LabStands.{IsFor, Wrapper, Wraps, Asks, Starts, stream_of}
+use Rattle.blob_laboratory.specs.LabStands.{Wrapper, Wraps, Asks, StartsSync, stream_of}
+use Rattle.blob_faulty.specs.Keeps.{IsFor}
 use Rattle.blob_states.specs.States as states
 use Rattle.blob_states.specs.States.{State, Held}
 use Rattle.blob_calls.specs.Told as told
@@ -86,7 +87,7 @@ module _ (w w' : Wrapper) (h : Held) (syncs : List (Option states.Started)) (nam
 
   pub start_done : (number : ℕ) (outcome : Option Refusal) (syncs' : List (Option states.Started)) → number ≡ length syncs → syncs' ≡ syncs ++ Some (record { outcome = outcome }) ∷ [] → outcome ≢ Some Memory → IsStartAllowed outcome
       → ((f : Files) → h.place.number < (directory (store_of w)).next → outcome ≡ None → IsFor w f → Stands (λ o. o) (directory (store_of w)) (durable (store_of w')) w' (started f h.place h.live))
-      → (IsSome outcome → durable (store_of w') ≡ durable (store_of w)) → (IsSome outcome → KeepsRecords (λ o. o) w w') → Starts w h syncs (Started number) w' h syncs'
+      → (IsSome outcome → durable (store_of w') ≡ durable (store_of w)) → (IsSome outcome → KeepsRecords (λ o. o) w w') → StartsSync w h syncs (Started number) w' h syncs'
   start_done number outcome syncs' count added other a starts bytes kept = record {
     answers = λ v u same. inr (count ∙ ap length same, stream ∙ ap (λ (x : State). (draw x.config.sync_rate x.stream).1) (as_seen w v u));
     stands = λ v u below.
@@ -107,7 +108,7 @@ module _ (w w' : Wrapper) (h : Held) (syncs : List (Option states.Started)) (nam
   }
 
 -- there is no memory for it
-pub start_failed : (w w' : Wrapper) (h : Held) (syncs syncs' : List (Option states.Started)) (e : Error) → directory (store_of w') ≡ directory (store_of w) → durable (store_of w') ≡ durable (store_of w) → KeepsRecords (λ o. o) w w' → syncs' ≡ syncs → Some (refusal_of e) ≡ Some Memory → Starts w h syncs (Failed e) w' h syncs'
+pub start_failed : (w w' : Wrapper) (h : Held) (syncs syncs' : List (Option states.Started)) (e : Error) → directory (store_of w') ≡ directory (store_of w) → durable (store_of w') ≡ durable (store_of w) → KeepsRecords (λ o. o) w w' → syncs' ≡ syncs → Some (refusal_of e) ≡ Some Memory → StartsSync w h syncs (Failed e) w' h syncs'
 start_failed w w' h syncs syncs' e names bytes kept table memory = record {
   answers = λ v u same. inl (refl, memory);
   stands = λ v u below. record { files = stands_kept w w' v.files names bytes kept u.files; config = kept.numbers.config ∙ u.config; stream = refl };
@@ -116,7 +117,7 @@ start_failed w w' h syncs syncs' e names bytes kept table memory = record {
 }
 
 -- the wrapper wasn't asked
-pub start_unasked : (w : Wrapper) (h : Held) (syncs syncs' : List (Option states.Started)) (e : Error) → syncs' ≡ syncs → Some (refusal_of e) ≡ Some Memory → Starts w h syncs (Failed e) w h syncs'
+pub start_unasked : (w : Wrapper) (h : Held) (syncs syncs' : List (Option states.Started)) (e : Error) → syncs' ≡ syncs → Some (refusal_of e) ≡ Some Memory → StartsSync w h syncs (Failed e) w h syncs'
 start_unasked w h syncs syncs' e table memory = record {
   answers = λ v u same. inl (refl, memory);
   stands = λ v u below. record { files = u.files; config = u.config; stream = refl };
@@ -125,5 +126,5 @@ start_unasked w h syncs syncs' e table memory = record {
 }
 
 -- it leaves the handle as it was
-pub starts_on : (w w' : Wrapper) (h h' : Held) (syncs syncs' : List (Option states.Started)) (r : Reply) → h ≡ h' → Starts w h syncs r w' h syncs' → Starts w h syncs r w' h' syncs'
-starts_on w w' h h' syncs syncs' r same done = subst (λ (x : Held). Starts w h syncs r w' x syncs') same done
+pub starts_on : (w w' : Wrapper) (h h' : Held) (syncs syncs' : List (Option states.Started)) (r : Reply) → h ≡ h' → StartsSync w h syncs r w' h syncs' → StartsSync w h syncs r w' h' syncs'
+starts_on w w' h h' syncs syncs' r same done = subst (λ (x : Held). StartsSync w h syncs r w' x syncs') same done

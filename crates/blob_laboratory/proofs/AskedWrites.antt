@@ -12,7 +12,7 @@ use Rattle.blob_header.specs.declared.error.Error.{Error}
 use Rattle.blob_faults.specs.Answers.{allows_write, allows_fate, allows_resize, injected_for}
 use Rattle.blob_model.specs.declared.mode.PartialWriteMode.{PartialWriteMode}
 use Rattle.blob_model.specs.Rates.{Rate}
-use Rattle.blob_faults.specs.Faults.{WriteFate, Done, Unsynced, Failed, ResizeFate, Resizes, Stays, Reaches, write_fate, resize_fate, retention, is_uncounted, after_write}
+use Rattle.blob_faults.specs.Faults.{WriteFate, Done, Unsynced, Failed, ResizeFate, Resizes, Stays, Reaches, write_fate, resize_fate, retention, has_uncounted_end, after_write}
 use Rattle.blob_faults.specs.Recorded.{recorded_by, live_by, size_by, recorded_write, recorded_resize, live_of_write, live_of_resize, size_of_write, size_of_resize}
 use Rattle.blob_faulty.specs.Wrapper.{Stands, Adds, config_of, inner_of as store_of, next_write_of}
 use Rattle.blob_memory.specs.Answers.{OrMemory, AllowsWrite, end_refusal}
@@ -20,7 +20,8 @@ use Rattle.blob_memory.specs.Store.{directory, durable}
 use Rattle.blob_calls.specs.declared.reply.Reply.TheVariants as reply
 use Rattle.blob_calls.specs.Acts.{Write, Resize}
 use Rattle.blob_states.specs.Denials.{fate_denial, write_denial, reaching_denial, or_injected}
-use Rattle.blob_laboratory.specs.LabStands.{IsFor, Wrapper, Wraps, Asks, stream_of}
+use Rattle.blob_laboratory.specs.LabStands.{Wrapper, Wraps, Asks, stream_of}
+use Rattle.blob_faulty.specs.Keeps.{IsFor}
 use Rattle.blob_states.specs.States.{State, Held}
 use Rattle.blob_calls.specs.Told as told
 use Rattle.blob_laboratory.proofs.AskSteps.{as_of, asks_by}
@@ -44,7 +45,7 @@ module _ (w w' : Wrapper) (h h' : Held) (room : Bool → ℕ) (offset : ℕ) (by
   abbrev denial : Directory → ℕ → Option Refusal
   denial d next =
       if is_idle sync bytes then None
-      else if is_uncounted offset bytes then Some OffsetOverflow
+      else if has_uncounted_end offset bytes then Some OffsetOverflow
       else fate_denial (write_fate (config_of w) sync offset (length bytes) (stream_of w)).0 d h.place (is_some (retention (config_of w).write_rate)) next sync offset bytes
 
   abbrev allowed : Option Refusal → Type 0
@@ -63,7 +64,7 @@ module _ (w w' : Wrapper) (h h' : Held) (room : Bool → ℕ) (offset : ℕ) (by
   denied : (answer : Option Refusal) → allowed answer → OrMemory (denial (directory (store_of w)) (next_write_of w)) answer
   unfolding allows_write
   denied answer a =
-      counted_denial (is_idle sync bytes) (is_uncounted offset bytes)
+      counted_denial (is_idle sync bytes) (has_uncounted_end offset bytes)
       (allows_fate (write_fate (config_of w) sync offset (length bytes) (stream_of w)).0 (λ o b s. AllowsWrite (directory (store_of w)) h.place room o b s) (λ end. OrMemory (end_refusal h.place end)) true (is_some (retention (config_of w).write_rate)) (next_write_of w) sync offset bytes)
       (fate_denial (write_fate (config_of w) sync offset (length bytes) (stream_of w)).0 (directory (store_of w)) h.place (is_some (retention (config_of w).write_rate)) (next_write_of w) sync offset bytes)
       (fate_denied (directory (store_of w)) h.place room (write_fate (config_of w) sync offset (length bytes) (stream_of w)).0 (is_some (retention (config_of w).write_rate)) (next_write_of w) sync offset bytes apart)
@@ -149,13 +150,13 @@ write_unasked w h offset bytes sync e memory =
     let fate = (write_fate (config_of w) sync offset (length bytes) (stream_of w)).0 in
     let entries : (n : ℕ) → recorded_write (config_of w) n (stream_of w) sync offset bytes (Some (refusal_of e)) ≡ [] = λ n.
     ap (recorded_write (config_of w) n (stream_of w) sync offset bytes) memory
-    ∙ unless_either (is_idle sync bytes) (is_uncounted offset bytes) [] (recorded_by fate (retention (config_of w).write_rate) n sync offset bytes (Some Memory)) (recorded_memory fate (retention (config_of w).write_rate) n sync offset bytes) in
+    ∙ unless_either (is_idle sync bytes) (has_uncounted_end offset bytes) [] (recorded_by fate (retention (config_of w).write_rate) n sync offset bytes (Some Memory)) (recorded_memory fate (retention (config_of w).write_rate) n sync offset bytes) in
     let live : live_of_write (config_of w) (stream_of w) sync h.live offset bytes (Some (refusal_of e)) ≡ h.live =
     ap (live_of_write (config_of w) (stream_of w) sync h.live offset bytes) memory
-    ∙ unless_either (is_idle sync bytes) (is_uncounted offset bytes) h.live (live_by fate sync h.live offset bytes (Some Memory)) (live_memory fate sync h.live offset bytes) in
+    ∙ unless_either (is_idle sync bytes) (has_uncounted_end offset bytes) h.live (live_by fate sync h.live offset bytes (Some Memory)) (live_memory fate sync h.live offset bytes) in
     let size : size_of_write (config_of w) (stream_of w) sync h.size offset bytes (Some (refusal_of e)) ≡ h.size =
     ap (size_of_write (config_of w) (stream_of w) sync h.size offset bytes) memory
-    ∙ unless_either (is_idle sync bytes) (is_uncounted offset bytes) h.size (size_by fate h.size offset bytes (Some Memory)) (size_memory fate h.size offset bytes) in
+    ∙ unless_either (is_idle sync bytes) (has_uncounted_end offset bytes) h.size (size_by fate h.size offset bytes (Some Memory)) (size_memory fate h.size offset bytes) in
     asks_by w w h h (Write offset bytes sync) (reply.Failed e)
     (λ v u. inl (refl, memory))
     (λ v u below. subst (λ (es : List Entry). IsFor w (all_logged v.files h.place es)) (sym (entries v.files.next_write)) u.files)

@@ -13,7 +13,8 @@ use Rattle.blob_calls.specs.Acts.{Close, Finish, Through, Size}
 use Rattle.blob_states.specs.After as after
 use Rattle.blob_states.specs.After.{unregistered, asked}
 use Rattle.blob_states.specs.Answers.{through, kept_at, unless_denied}
-use Rattle.blob_laboratory.specs.LabStands.{IsFor, StandsFor, Performs, Wrapper, stream_of}
+use Rattle.blob_laboratory.specs.LabStands.{LabStandsFor, Performs, Wrapper, stream_of}
+use Rattle.blob_faulty.specs.Keeps.{IsFor}
 use Rattle.blob_opens.specs.Opens.{names_of}
 use Rattle.blob_states.specs.States.{Held, Started, AreGiven}
 use Rattle.blob_laboratory.specs.Tables.{handles_of, syncs_of}
@@ -36,13 +37,13 @@ module _ (lab lab' : Lab) (number : ℕ) (same : lab'.wrapper ≡ lab.wrapper) (
   pub close_none : kept_at (handles_of lab.handles) number ≡ None → names_of lab'.opens ≡ names_of lab.opens → handles_of lab'.handles ≡ handles_of lab.handles → Performs lab (Close number) reply.NoHandle lab'
   close_none gone names handles = performs lab lab' (Close number) reply.NoHandle
       (λ f s. inr (subst (λ (o : Option Held). Tells reply.NoHandle (closed_told o)) (sym gone) tt, ap stream_of same))
-      (λ f s. subst (λ (o : Option Held). StandsFor lab' (record (after.closed (state_of lab f) number o) { stream = stream_of lab'.wrapper })) (sym gone) (stands_same lab lab' f same names handles syncs s))
+      (λ f s. subst (λ (o : Option Held). LabStandsFor lab' (record (after.with_closed (state_of lab f) number o) { stream = stream_of lab'.wrapper })) (sym gone) (stands_same lab lab' f same names handles syncs s))
 
   -- an open handle
   pub close_some : (h : Held) → kept_at (handles_of lab.handles) number ≡ Some h → names_of lab'.opens ≡ unregistered (names_of lab.opens) h.registration → handles_of lab'.handles ≡ set (handles_of lab.handles) number None → Performs lab (Close number) reply.Done lab'
   close_some h here names handles = performs lab lab' (Close number) reply.Done
       (λ f s. inr (subst (λ (o : Option Held). Tells reply.Done (closed_told o)) (sym here) tt, ap stream_of same))
-      (λ f s. subst (λ (o : Option Held). StandsFor lab' (record (after.closed (state_of lab f) number o) { stream = stream_of lab'.wrapper })) (sym here)
+      (λ f s. subst (λ (o : Option Held). LabStandsFor lab' (record (after.with_closed (state_of lab f) number o) { stream = stream_of lab'.wrapper })) (sym here)
       (record {
         wrapper = record { files = subst (λ (w : Wrapper). IsFor w f) (sym same) s.wrapper.files; config = ap config_of same; stream = refl };
         names = names;
@@ -60,7 +61,7 @@ set_kept handles number h here =
 pub size_some : (lab : Lab) (number size : ℕ) (h : Held) → size ≡ h.size → kept_at (handles_of lab.handles) number ≡ Some h → Performs lab (Through number Size) (reply.Size size) lab
 size_some lab number size h is here = let table = set_kept (handles_of lab.handles) number h here in performs lab lab (Through number Size) (reply.Size size)
     (λ f s. inr (subst (λ (o : Option Held). Tells (reply.Size size) (through (state_of lab f) o Size).0) (sym here) is, subst (λ (o : Option Held). stream_of lab.wrapper ≡ (through (state_of lab f) o Size).1) (sym here) refl))
-    (λ f s. subst (λ (o : Option Held). StandsFor lab (record (asked (state_of lab f) number o Size None) { stream = stream_of lab.wrapper })) (sym here)
+    (λ f s. subst (λ (o : Option Held). LabStandsFor lab (record (asked (state_of lab f) number o Size None) { stream = stream_of lab.wrapper })) (sym here)
     (record {
       wrapper = record { files = s.wrapper.files; config = refl; stream = refl };
       names = refl;
@@ -74,14 +75,14 @@ module _ (lab lab' : Lab) (names : names_of lab'.opens ≡ names_of lab.opens) (
   pub finish_none : (number : ℕ) → kept_at (syncs_of lab.syncs) number ≡ None → lab'.wrapper ≡ lab.wrapper → syncs_of lab'.syncs ≡ syncs_of lab.syncs → Performs lab (Finish number) reply.NoHandle lab'
   finish_none number gone same syncs = performs lab lab' (Finish number) reply.NoHandle
       (λ f s. inr (subst (λ (o : Option Started). Tells reply.NoHandle (finished_told o)) (sym gone) tt, ap stream_of same))
-      (λ f s. subst (λ (o : Option Started). StandsFor lab' (record (after.finished (state_of lab f) number o) { stream = stream_of lab'.wrapper })) (sym gone) (stands_same lab lab' f same names handles syncs s))
+      (λ f s. subst (λ (o : Option Started). LabStandsFor lab' (record (after.with_finished (state_of lab f) number o) { stream = stream_of lab'.wrapper })) (sym gone) (stands_same lab lab' f same names handles syncs s))
 
   -- a started sync, whose outcome is told
   pub finish_some : (number : ℕ) (started : Started) (answered : Reply) → kept_at (syncs_of lab.syncs) number ≡ Some started → Tells answered (unless_denied started.outcome told.Done) → syncs_of lab'.syncs ≡ set (syncs_of lab.syncs) number None
       → config_of lab'.wrapper ≡ config_of lab.wrapper → stream_of lab'.wrapper ≡ stream_of lab.wrapper → ((f : Files) → IsFor lab.wrapper f → IsFor lab'.wrapper f) → Performs lab (Finish number) answered lab'
   finish_some number started answered here tells syncs config stream stands = performs lab lab' (Finish number) answered
       (λ f s. inr (subst (λ (o : Option Started). Tells answered (finished_told o)) (sym here) tells, stream))
-      (λ f s. subst (λ (o : Option Started). StandsFor lab' (record (after.finished (state_of lab f) number o) { stream = stream_of lab'.wrapper })) (sym here)
+      (λ f s. subst (λ (o : Option Started). LabStandsFor lab' (record (after.with_finished (state_of lab f) number o) { stream = stream_of lab'.wrapper })) (sym here)
       (record {
         wrapper = record { files = stands f s.wrapper.files; config = config; stream = refl };
         names = names;

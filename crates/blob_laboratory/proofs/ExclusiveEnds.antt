@@ -9,7 +9,8 @@ use Rattle.blob_memory.specs.Store.{directory, durable}
 use Rattle.blob_laboratory.specs.declared.lab.Lab.{Lab}
 use Rattle.blob_calls.specs.declared.reply.Reply.TheVariants as reply
 use Rattle.blob_calls.specs.Acts.{Open}
-use Rattle.blob_laboratory.specs.LabStands.{IsFor, Performs, Wrapper, stream_of}
+use Rattle.blob_laboratory.specs.LabStands.{Performs, Wrapper, stream_of}
+use Rattle.blob_faulty.specs.Keeps.{IsFor}
 use Rattle.blob_opens.specs.OpenNames as names
 use Rattle.blob_opens.specs.Opens.{names_of}
 use Rattle.blob_states.specs.Scripted.{scripted}

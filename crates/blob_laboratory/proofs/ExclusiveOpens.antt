@@ -25,9 +25,10 @@ use Rattle.blob_laboratory.specs.declared.lab.Lab.{Lab}
 use Rattle.blob_calls.specs.declared.reply.Reply.TheVariants as reply
 use Rattle.blob_calls.specs.Acts.{Open}
 use Rattle.blob_states.specs.After.{exclusively_opened}
-use Rattle.blob_states.specs.Answers.{opened, IsAnswer, unless_denied}
+use Rattle.blob_states.specs.Answers.{told_opened, IsAnswer, unless_denied}
 use Rattle.blob_states.specs.Denials.{refused_if, is_unnumbered, open_denial}
-use Rattle.blob_laboratory.specs.LabStands.{IsFor, StandsFor, Performs, Wrapper, stream_of}
+use Rattle.blob_laboratory.specs.LabStands.{LabStandsFor, Performs, Wrapper, stream_of}
+use Rattle.blob_faulty.specs.Keeps.{IsFor}
 use Rattle.blob_opens.specs.OpenNames as names
 use Rattle.blob_opens.specs.OpenNames.{OpenNames, OpenAnswer, Accepted, Held, Declined, NoMemory, NoNumber, IsExhausted}
 use Rattle.blob_opens.specs.Opens.{names_of}
@@ -131,7 +132,7 @@ module _ (lab lab' : Lab) (p n : List ℕ) (first last : ℕ) where
   abbrev denial : Bool → Directory → Option ℕ → Option Refusal
   denial unnumbered d held = option_or (refused_if GenerationsExhausted unnumbered) (option_or (open_denied_by lab.wrapper p n first last d) (if is_some held then Some (BlobAlreadyOpen p (encode_lower n)) else None))
 
-  denial_seen : (f : Files) → StandsFor lab (state_of lab f) → (unnumbered : Bool) → is_unnumbered (names_of lab.opens) p n ≡ unnumbered → (held : Option ℕ) → (names_of lab.opens).registered p n ≡ held
+  denial_seen : (f : Files) → LabStandsFor lab (state_of lab f) → (unnumbered : Bool) → is_unnumbered (names_of lab.opens) p n ≡ unnumbered → (held : Option ℕ) → (names_of lab.opens).registered p n ≡ held
       → denial unnumbered (directory (store_of lab.wrapper)) held ≡ open_denial (state_of lab f) p n first last
   denial_seen f s unnumbered number held here i = denial (sym number i) (s.wrapper.files.directory i) (sym here i)
 
@@ -151,7 +152,7 @@ module _ (lab lab' : Lab) (p n : List ℕ) (first last : ℕ) where
       (λ f s.
       let numbered : is_unnumbered (names_of lab.opens) p n ≡ false = numbered_false (names_of lab.opens) p n left in
       let store : None ≡ open_denied_by lab.wrapper p n first last (directory (store_of lab.wrapper)) = not_memory (open_denied_by lab.wrapper p n first last (directory (store_of lab.wrapper))) (open_denied lab.wrapper p n first last None a) in
-      done_answers (reply.Opened number size ver) (open_denial (state_of lab f) p n first last) (opened (state_of lab f) p n (first, last)) (stream_of lab'.wrapper) (left_of_open (state_of lab f) p n)
+      done_answers (reply.Opened number size ver) (open_denial (state_of lab f) p n first last) (told_opened (state_of lab f) p n (first, last)) (stream_of lab'.wrapper) (left_of_open (state_of lab f) p n)
       (open_tells lab lab' w p n first last o live version h number size ver opens count long is place bytes tracked table same-names same-bytes f s)
       (ap (λ (x : Option Refusal). option_or x None) store ∙ denial_seen f s false numbered None free)
       (stream ∙ left_seen f false numbered))
@@ -169,8 +170,8 @@ module _ (lab lab' : Lab) (p n : List ℕ) (first last : ℕ) where
 
   -- Refusals.
 
-  refused_as : (e : Error) (denial : Option Refusal) → OrMemory denial (Some (refusal_of e)) → (left expected : Stream) → left ≡ expected → (v : State) → IsAnswer true (unless_denied denial (opened v p n (first, last)), expected) (reply.Failed e) left
-  refused_as e denied told left expected same v = failed_answers e denied (opened v p n (first, last)) left expected told (λ no. same)
+  refused_as : (e : Error) (denial : Option Refusal) → OrMemory denial (Some (refusal_of e)) → (left expected : Stream) → left ≡ expected → (v : State) → IsAnswer true (unless_denied denial (told_opened v p n (first, last)), expected) (reply.Failed e) left
+  refused_as e denied told left expected same v = failed_answers e denied (told_opened v p n (first, last)) left expected told (λ no. same)
 
   module _ (e : Error) (syncs : syncs_of lab'.syncs ≡ syncs_of lab.syncs) (handles : handles_of lab'.handles ≡ handles_of lab.handles) (names : names_of lab'.opens ≡ names_of lab.opens) (config : config_of lab'.wrapper ≡ config_of lab.wrapper) where
     -- a name that is open, which the store opened; what that made stays
@@ -185,7 +186,7 @@ module _ (lab lab' : Lab) (p n : List ℕ) (first last : ℕ) where
         refused_as e (open_denial (state_of lab f) p n first last) (inr (ap Some is ∙ already)) (stream_of lab'.wrapper) (left_of_open (state_of lab f) p n) (stream ∙ left_seen f false numbered) (state_of lab f))
         (λ f s.
         let s' = stands f s.wrapper.files in
-        subst (λ (r : Refusal). StandsFor lab' (record (exclusively_opened (state_of lab f) p n (first, last) (Some r)) { stream = stream_of lab'.wrapper })) (sym is)
+        subst (λ (r : Refusal). LabStandsFor lab' (record (exclusively_opened (state_of lab f) p n (first, last) (Some r)) { stream = stream_of lab'.wrapper })) (sym is)
         (record {
           wrapper = record { files = s'; config = config; stream = refl };
           names = names;
@@ -196,10 +197,10 @@ module _ (lab lab' : Lab) (p n : List ℕ) (first last : ℕ) where
 
     module _ (stands : (f : Files) → IsFor lab.wrapper f → IsFor lab'.wrapper f) where
       -- all stays as it was
-      stays : (r : Refusal) → ((q m : List ℕ) → r ≢ BlobAlreadyOpen q m) → refusal_of e ≡ r → (f : Files) → StandsFor lab (state_of lab f) → StandsFor lab' (record (exclusively_opened (state_of lab f) p n (first, last) (Some (refusal_of e))) { stream = stream_of lab'.wrapper })
+      stays : (r : Refusal) → ((q m : List ℕ) → r ≢ BlobAlreadyOpen q m) → refusal_of e ≡ r → (f : Files) → LabStandsFor lab (state_of lab f) → LabStandsFor lab' (record (exclusively_opened (state_of lab f) p n (first, last) (Some (refusal_of e))) { stream = stream_of lab'.wrapper })
       stays r other is f s =
           let same : exclusively_opened (state_of lab f) p n (first, last) (Some (refusal_of e)) ≡ state_of lab f = ap (λ (x : Refusal). exclusively_opened (state_of lab f) p n (first, last) (Some x)) is ∙ unopened (state_of lab f) p n first last r other in
-          subst (λ (x : State). StandsFor lab' (record x { stream = stream_of lab'.wrapper })) (sym same)
+          subst (λ (x : State). LabStandsFor lab' (record x { stream = stream_of lab'.wrapper })) (sym same)
           (record { wrapper = record { files = stands f s.wrapper.files; config = config; stream = refl }; names = names; handles = handles; syncs = syncs; given = s.given })
 
       memory_other : (q m : List ℕ) → Memory ≢ BlobAlreadyOpen q m

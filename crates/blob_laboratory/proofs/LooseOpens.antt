@@ -19,9 +19,10 @@ use Rattle.blob_memory.specs.Store.{directory, durable}
 use Rattle.blob_laboratory.specs.declared.lab.Lab.{Lab}
 use Rattle.blob_calls.specs.declared.reply.Reply.TheVariants as reply
 use Rattle.blob_calls.specs.Acts.{OpenLoose}
-use Rattle.blob_states.specs.Answers.{opened, size_of, version_of}
+use Rattle.blob_states.specs.Answers.{told_opened, opened_size, opened_version}
 use Rattle.blob_states.specs.Denials.{refused_if, loose_denial}
-use Rattle.blob_laboratory.specs.LabStands.{IsFor, StandsFor, Performs, Wrapper, stream_of}
+use Rattle.blob_laboratory.specs.LabStands.{LabStandsFor, Performs, Wrapper, stream_of}
+use Rattle.blob_faulty.specs.Keeps.{IsFor}
 use Rattle.blob_opens.specs.OpenNames.{Registration}
 use Rattle.blob_opens.specs.Opens.{names_of}
 use Rattle.blob_states.specs.States.{Held, AreGiven, held_on}
@@ -52,12 +53,12 @@ module _ (lab lab' : Lab) (w : Wrapper) (p n : List ℕ) (first last : ℕ) (o :
     (count : number ≡ length (handles_of lab.handles)) (long : size ≡ length live) (told-version : ver.0 ≡ version)
     (place : h.place ≡ o) (bytes : h.live ≡ live) (tracked : h.size ≡ length live) (table : handles_of lab'.handles ≡ handles_of lab.handles ++ Some h ∷ [])
     (names : directory (store_of lab'.wrapper) ≡ directory (store_of w)) (contents : durable (store_of lab'.wrapper) ≡ durable (store_of w)) where
-  pub open_tells : (f : Files) → StandsFor lab (state_of lab f) → Tells (reply.Opened number size ver) (opened (state_of lab f) p n (first, last))
+  pub open_tells : (f : Files) → LabStandsFor lab (state_of lab f) → Tells (reply.Opened number size ver) (told_opened (state_of lab f) p n (first, last))
   open_tells f s =
       let same : directory (store_of lab.wrapper) ≡ f.directory = s.wrapper.files.directory in (
         count,
-        long ∙ size_found lab.wrapper f (directory (store_of w)) (durable (store_of w)) p n first last o live version s.wrapper.files opens ∙ ap (λ (d : Directory). size_of f p n (opening p n (d.file p n) first last)) same,
-        told-version ∙ version_found (directory (store_of lab.wrapper)) (directory (store_of w)) (durable (store_of lab.wrapper)) (durable (store_of w)) p n first last o live version opens ∙ ap (λ (d : Directory). version_of (opening p n (d.file p n) first last)) same,
+        long ∙ size_found lab.wrapper f (directory (store_of w)) (durable (store_of w)) p n first last o live version s.wrapper.files opens ∙ ap (λ (d : Directory). opened_size f p n (opening p n (d.file p n) first last)) same,
+        told-version ∙ version_found (directory (store_of lab.wrapper)) (directory (store_of w)) (durable (store_of lab.wrapper)) (durable (store_of w)) p n first last o live version opens ∙ ap (λ (d : Directory). opened_version (opening p n (d.file p n) first last)) same,
       )
 
   pub open_adds : (f : Files) (registration : Option Registration) → h.registration ≡ registration → IsFor lab'.wrapper f → handles_of lab'.handles ≡ handles_of lab.handles ++ option_map (held_on f registration) (current f.directory p n) ∷ []
@@ -68,7 +69,7 @@ module _ (lab lab' : Lab) (w : Wrapper) (p n : List ℕ) (first last : ℕ) (o :
       (ap (λ (b : Durable). b o) contents ∙ read_by_open (directory (store_of lab.wrapper)) (directory (store_of w)) (durable (store_of lab.wrapper)) (durable (store_of w)) p n first last o live version opens)
       place bytes tracked registered)
 
-  pub open_given : (f f' : Files) → StandsFor lab (state_of lab f) → IsFor lab'.wrapper f' → AreGiven f'.directory.next (handles_of lab'.handles)
+  pub open_given : (f f' : Files) → LabStandsFor lab (state_of lab f) → IsFor lab'.wrapper f' → AreGiven f'.directory.next (handles_of lab'.handles)
   open_given f f' s s' =
       let before : AreGiven (directory (store_of lab.wrapper)).next (handles_of lab.handles) = subst (λ (d : Directory). AreGiven d.next (handles_of lab.handles)) (sym s.wrapper.files.directory) s.given in
       subst (λ (d : Directory). AreGiven d.next (handles_of lab'.handles)) (sym names ∙ s'.directory)
@@ -82,7 +83,7 @@ module _ (lab lab' : Lab) (p n : List ℕ) (first last : ℕ) (names : names_of 
       → IsOpenAllowed lab.wrapper p n first last None → ((f : Files) → IsFor lab.wrapper f → IsFor lab'.wrapper (after_open f p n first last)) → Performs lab (OpenLoose p n (Some (first, last))) (reply.Opened number size ver) lab'
   loose_done o live version h number size ver opens count long is place bytes tracked registered table a stands = performs lab lab' (OpenLoose p n (Some (first, last))) (reply.Opened number size ver)
       (λ f s.
-      done_answers (reply.Opened number size ver) (loose_denial (state_of lab f) p n first last) (opened (state_of lab f) p n (first, last)) (stream_of lab'.wrapper) ((draw (config_of lab.wrapper).open_rate (stream_of lab.wrapper)).1)
+      done_answers (reply.Opened number size ver) (loose_denial (state_of lab f) p n first last) (told_opened (state_of lab f) p n (first, last)) (stream_of lab'.wrapper) ((draw (config_of lab.wrapper).open_rate (stream_of lab.wrapper)).1)
       (open_tells lab lab' lab'.wrapper p n first last o live version h number size ver opens count long is place bytes tracked table refl refl f s)
       (not_memory (open_denied_by lab.wrapper p n first last (directory (store_of lab.wrapper))) (open_denied lab.wrapper p n first last None a) ∙ ap (open_denied_by lab.wrapper p n first last) s.wrapper.files.directory)
       stream)
@@ -101,6 +102,6 @@ module _ (lab lab' : Lab) (p n : List ℕ) (first last : ℕ) (names : names_of 
   pub loose_failed : (e : Error) → IsOpenAllowed lab.wrapper p n first last (Some (refusal_of e)) → handles_of lab'.handles ≡ handles_of lab.handles → ((f : Files) → IsFor lab.wrapper f → IsFor lab'.wrapper f) → Performs lab (OpenLoose p n (Some (first, last))) (reply.Failed e) lab'
   loose_failed e a handles stands = performs lab lab' (OpenLoose p n (Some (first, last))) (reply.Failed e)
       (λ f s.
-      failed_answers e (loose_denial (state_of lab f) p n first last) (opened (state_of lab f) p n (first, last)) (stream_of lab'.wrapper) ((draw (config_of lab.wrapper).open_rate (stream_of lab.wrapper)).1)
+      failed_answers e (loose_denial (state_of lab f) p n first last) (told_opened (state_of lab f) p n (first, last)) (stream_of lab'.wrapper) ((draw (config_of lab.wrapper).open_rate (stream_of lab.wrapper)).1)
       (subst (λ (x : Option Refusal). OrMemory x (Some (refusal_of e))) (ap (open_denied_by lab.wrapper p n first last) s.wrapper.files.directory) (open_denied lab.wrapper p n first last (Some (refusal_of e)) a)) (λ no. stream))
       (λ f s. record { wrapper = record { files = stands f s.wrapper.files; config = config; stream = refl }; names = names; handles = handles; syncs = syncs; given = s.given })

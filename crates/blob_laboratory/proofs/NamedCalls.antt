@@ -21,7 +21,8 @@ use Rattle.blob_calls.specs.declared.reply.Reply.TheVariants as reply
 use Rattle.blob_calls.specs.Acts.{Configure, Admit, Remove, Scan, Crash, Reopen}
 use Rattle.blob_states.specs.Denials.{refused_if, remove_denial, scan_denial}
 use Rattle.blob_states.specs.Steps as steps
-use Rattle.blob_laboratory.specs.LabStands.{IsFor, StandsFor, Performs, stream_of}
+use Rattle.blob_laboratory.specs.LabStands.{LabStandsFor, Performs, stream_of}
+use Rattle.blob_faulty.specs.Keeps.{IsFor}
 use Rattle.blob_opens.specs.OpenNames.{ended, none_open}
 use Rattle.blob_opens.specs.Opens.{names_of}
 use Rattle.blob_states.specs.States.{AreGiven}
@@ -64,7 +65,7 @@ module _ (lab lab' : Lab) (handles : handles_of lab'.handles ≡ handles_of lab.
         scan_denied : (answer : Option Refusal) → IsScanAllowed answer → OrMemory (scan_denied_by (directory (store_of lab.wrapper))) answer
         scan_denied answer a = drawn_denial (draw (config_of lab.wrapper).scan_rate (stream_of lab.wrapper)).0 (OrMemory (partition_refusal (directory (store_of lab.wrapper)) p)) (partition_refusal (directory (store_of lab.wrapper)) p) (λ answer' m. m) answer a
 
-        scanned : (f : Files) → StandsFor lab (state_of lab f) → (r : Reply) → refused_by r ≡ None → StandsFor lab' (record (state_of lab f) { stream = stream_of lab'.wrapper })
+        scanned : (f : Files) → LabStandsFor lab (state_of lab f) → (r : Reply) → refused_by r ≡ None → LabStandsFor lab' (record (state_of lab f) { stream = stream_of lab'.wrapper })
         scanned f s r e = record { wrapper = record { files = stands f s.wrapper.files; config = config; stream = refl }; names = names; handles = handles; syncs = syncs; given = s.given }
 
         pub scan_done : (r : Reply) → refused_by r ≡ None → ((d : Directory) → directory (store_of lab.wrapper) ≡ d → Tells r (told.Names (λ n. is_some (d.file p n)))) → IsScanAllowed None → Performs lab (Scan p) r lab'
@@ -88,7 +89,7 @@ module _ (lab lab' : Lab) (handles : handles_of lab'.handles ≡ handles_of lab.
           → ((f : Files) → IsFor lab.wrapper f → IsFor lab'.wrapper (after_crash f (chosen_by rows))) → Performs lab Crash r lab'
       crash_done r rows done tells draws stands = performs lab lab' Crash r
           (λ f s. inr (subst (λ (x : List Row). Tells r (told.Crashed x)) (ap (λ (d : List Row × Stream). d.0) (draws f s.wrapper.files)) tells, ap (λ (d : List Row × Stream). d.1) (draws f s.wrapper.files)))
-          (λ f s. subst (λ (x : Option Refusal). StandsFor lab' (record (steps.crashed (state_of lab f) x) { stream = stream_of lab'.wrapper })) (sym done)
+          (λ f s. subst (λ (x : Option Refusal). LabStandsFor lab' (record (steps.crash_step (state_of lab f) x) { stream = stream_of lab'.wrapper })) (sym done)
           (record {
             wrapper = record {
               files = subst (λ (x : List Row). IsFor lab'.wrapper (after_crash f (chosen_by x))) (ap (λ (d : List Row × Stream). d.0) (draws f s.wrapper.files)) (stands f s.wrapper.files);

@@ -5,9 +5,10 @@ use Rattle.blob_header.specs.declared.error.Error.{Error}
 use Rattle.blob_laboratory.specs.declared.lab.Lab.{Lab}
 use Rattle.blob_calls.specs.declared.reply.Reply.{Reply}
 use Rattle.blob_calls.specs.declared.reply.Reply.TheVariants as reply
-use Rattle.blob_calls.specs.Acts.{Accepted, Open, OpenLoose}
+use Rattle.blob_calls.specs.Acts.{AcceptedVersions, Open, OpenLoose}
 use Rattle.blob_faulty.specs.Wrapper.{config_of}
-use Rattle.blob_laboratory.specs.LabStands.{IsFor, Performs, Wrapper}
+use Rattle.blob_laboratory.specs.LabStands.{Performs, Wrapper}
+use Rattle.blob_faulty.specs.Keeps.{IsFor}
 use Rattle.blob_opens.specs.OpenNames as names
 use Rattle.blob_opens.specs.OpenNames.{OpenNames, OpenAnswer}
 use Rattle.blob_opens.specs.Opens.{names_of}
@@ -15,21 +16,21 @@ use Rattle.blob_laboratory.specs.Tables.{handles_of, syncs_of}
 use Rattle.blob_laboratory.proofs.ExclusiveOpens.{exclusive_memory}
 use Rattle.blob_laboratory.proofs.Performing.{performs, stands_same}
 
-module _ (lab : Lab) (p n : List ℕ) (versions : Option Accepted) (empty : versions ≡ None) where
+module _ (lab : Lab) (p n : List ℕ) (versions : Option AcceptedVersions) (empty : versions ≡ None) where
   -- an empty range of versions
   pub open_empty : Performs lab (Open p n versions) reply.EmptyRange lab
-  open_empty = subst (λ (x : Option Accepted). Performs lab (Open p n x) reply.EmptyRange lab) (sym empty)
+  open_empty = subst (λ (x : Option AcceptedVersions). Performs lab (Open p n x) reply.EmptyRange lab) (sym empty)
       (performs lab lab (Open p n None) reply.EmptyRange (λ f s. inr (tt, refl)) (λ f s. stands_same lab lab f refl refl refl refl s))
 
   pub loose_empty : Performs lab (OpenLoose p n versions) reply.EmptyRange lab
-  loose_empty = subst (λ (x : Option Accepted). Performs lab (OpenLoose p n x) reply.EmptyRange lab) (sym empty)
+  loose_empty = subst (λ (x : Option AcceptedVersions). Performs lab (OpenLoose p n x) reply.EmptyRange lab) (sym empty)
       (performs lab lab (OpenLoose p n None) reply.EmptyRange (λ f s. inr (tt, refl)) (λ f s. stands_same lab lab f refl refl refl refl s))
 
-module _ (lab lab' : Lab) (p n : List ℕ) (versions : Option Accepted) (first last : ℕ) (some : versions ≡ Some (first, last)) (e : Error) (memory : Some (refusal_of e) ≡ Some Memory)
+module _ (lab lab' : Lab) (p n : List ℕ) (versions : Option AcceptedVersions) (first last : ℕ) (some : versions ≡ Some (first, last)) (e : Error) (memory : Some (refusal_of e) ≡ Some Memory)
     (wrapper : lab'.wrapper ≡ lab.wrapper) (names : names_of lab'.opens ≡ names_of lab.opens) (handles : handles_of lab'.handles ≡ handles_of lab.handles) (syncs : syncs_of lab'.syncs ≡ syncs_of lab.syncs) where
   -- there is no room for one more handle
   pub loose_unasked : Performs lab (OpenLoose p n versions) (reply.Failed e) lab'
-  loose_unasked = subst (λ (x : Option Accepted). Performs lab (OpenLoose p n x) (reply.Failed e) lab') (sym some)
+  loose_unasked = subst (λ (x : Option AcceptedVersions). Performs lab (OpenLoose p n x) (reply.Failed e) lab') (sym some)
       (performs lab lab' (OpenLoose p n (Some (first, last))) (reply.Failed e) (λ f s. inl (refl, memory)) (λ f s. stands_same lab lab' f wrapper names handles syncs s))
 
 -- what is known of an accepted exclusive open
@@ -45,15 +46,15 @@ taken s p n asks made kept untouched answer (names.Declined refusal some a k) e 
 taken s p n asks made kept untouched answer (names.NoMemory u) e = cc
 taken s p n asks made kept untouched answer (names.NoNumber out u) e = cc
 
-module _ (lab lab' : Lab) (p n : List ℕ) (versions : Option Accepted) (first last : ℕ) (some : versions ≡ Some (first, last)) (e : Error) (memory : refusal_of e ≡ Memory)
+module _ (lab lab' : Lab) (p n : List ℕ) (versions : Option AcceptedVersions) (first last : ℕ) (some : versions ≡ Some (first, last)) (e : Error) (memory : refusal_of e ≡ Memory)
     (wrapper : lab'.wrapper ≡ lab.wrapper) (names : names_of lab'.opens ≡ names_of lab.opens) (handles : handles_of lab'.handles ≡ handles_of lab.handles) (syncs : syncs_of lab'.syncs ≡ syncs_of lab.syncs) where
   pub open_unasked : Performs lab (Open p n versions) (reply.Failed e) lab'
-  open_unasked = subst (λ (x : Option Accepted). Performs lab (Open p n x) (reply.Failed e) lab') (sym some)
+  open_unasked = subst (λ (x : Option AcceptedVersions). Performs lab (Open p n x) (reply.Failed e) lab') (sym some)
       (exclusive_memory lab lab' p n first last e syncs handles names (ap config_of wrapper) (λ f s. subst (λ (w : Wrapper). IsFor w f) (sym wrapper) s) memory)
 
 -- the versions of a call are those that it asks the store for
-pub loose_for : (lab lab' : Lab) (p n : List ℕ) (versions : Option Accepted) (first last : ℕ) (r : Reply) → versions ≡ Some (first, last) → Performs lab (OpenLoose p n (Some (first, last))) r lab' → Performs lab (OpenLoose p n versions) r lab'
-loose_for lab lab' p n versions first last r e done = subst (λ (x : Option Accepted). Performs lab (OpenLoose p n x) r lab') (sym e) done
+pub loose_for : (lab lab' : Lab) (p n : List ℕ) (versions : Option AcceptedVersions) (first last : ℕ) (r : Reply) → versions ≡ Some (first, last) → Performs lab (OpenLoose p n (Some (first, last))) r lab' → Performs lab (OpenLoose p n versions) r lab'
+loose_for lab lab' p n versions first last r e done = subst (λ (x : Option AcceptedVersions). Performs lab (OpenLoose p n x) r lab') (sym e) done
 
-pub open_for : (lab lab' : Lab) (p n : List ℕ) (versions : Option Accepted) (first last : ℕ) (r : Reply) → versions ≡ Some (first, last) → Performs lab (Open p n (Some (first, last))) r lab' → Performs lab (Open p n versions) r lab'
-open_for lab lab' p n versions first last r e done = subst (λ (x : Option Accepted). Performs lab (Open p n x) r lab') (sym e) done
+pub open_for : (lab lab' : Lab) (p n : List ℕ) (versions : Option AcceptedVersions) (first last : ℕ) (r : Reply) → versions ≡ Some (first, last) → Performs lab (Open p n (Some (first, last))) r lab' → Performs lab (Open p n versions) r lab'
+open_for lab lab' p n versions first last r e done = subst (λ (x : Option AcceptedVersions). Performs lab (Open p n x) r lab') (sym e) done

@@ -13,8 +13,9 @@ use Rattle.blob_model.proofs.Opened.{next_opened}
 use Rattle.blob_faulty.specs.Wrapper.{inner_of as store_of, pending_of}
 use Rattle.blob_memory.specs.Laws.{currents, given}
 use Rattle.blob_memory.specs.Store.{directory, durable}
-use Rattle.blob_states.specs.Answers.{size_of, version_of}
-use Rattle.blob_laboratory.specs.LabStands.{IsFor, Wrapper}
+use Rattle.blob_states.specs.Answers.{opened_size, opened_version}
+use Rattle.blob_laboratory.specs.LabStands.{Wrapper}
+use Rattle.blob_faulty.specs.Keeps.{IsFor}
 use Rattle.blob_opens.specs.OpenNames.{Registration}
 use Rattle.blob_states.specs.States.{Held, AreGiven, held_on}
 
@@ -33,14 +34,14 @@ held_opened w f p n o live h registration s here holds place bytes size register
 
 -- its size and version are those of what the open finds
 pub size_found : (w : Wrapper) (f : Files) (d' : Directory) (bytes' : Durable) (p n : List ℕ) (first last : ℕ) (o : Place) (live : List ℕ) (version : ℕ) → IsFor w f → IsOpened (directory (store_of w)) (durable (store_of w)) d' bytes' p n first last o live version
-    → length live ≡ size_of f p n (opening p n ((directory (store_of w)).file p n) first last)
+    → length live ≡ opened_size f p n (opening p n ((directory (store_of w)).file p n) first last)
 size_found w f d' bytes' p n first last o live version s (Continued number layout opens place holds same kept) =
-    ap length (live_is w f o live s holds) ∙ ap (λ (a : Place). length (durable_at f a)) place ∙ sym (ap (size_of f p n) opens)
-size_found w f d' bytes' p n first last o live version s (Begun layout opens place made kept) = sym (ap (size_of f p n) opens)
+    ap length (live_is w f o live s holds) ∙ ap (λ (a : Place). length (durable_at f a)) place ∙ sym (ap (opened_size f p n) opens)
+size_found w f d' bytes' p n first last o live version s (Begun layout opens place made kept) = sym (ap (opened_size f p n) opens)
 
-pub version_found : (d d' : Directory) (bytes bytes' : Durable) (p n : List ℕ) (first last : ℕ) (o : Place) (live : List ℕ) (version : ℕ) → IsOpened d bytes d' bytes' p n first last o live version → version ≡ version_of (opening p n (d.file p n) first last)
-version_found d d' bytes bytes' p n first last o live version (Continued number layout opens place holds same kept) = sym (ap version_of opens)
-version_found d d' bytes bytes' p n first last o live version (Begun layout opens place made kept) = sym (ap version_of opens)
+pub version_found : (d d' : Directory) (bytes bytes' : Durable) (p n : List ℕ) (first last : ℕ) (o : Place) (live : List ℕ) (version : ℕ) → IsOpened d bytes d' bytes' p n first last o live version → version ≡ opened_version (opening p n (d.file p n) first last)
+version_found d d' bytes bytes' p n first last o live version (Continued number layout opens place holds same kept) = sym (ap opened_version opens)
+version_found d d' bytes bytes' p n first last o live version (Begun layout opens place made kept) = sym (ap opened_version opens)
 
 -- an incarnation with durable bytes has a number that was given
 number_given : (w : Wrapper) (o : Place) (live : List ℕ) → durable (store_of w) o ≡ Some live → o.number < (directory (store_of w)).next

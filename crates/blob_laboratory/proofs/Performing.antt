@@ -8,7 +8,7 @@ use Rattle.blob_calls.specs.declared.reply.Reply.{Reply}
 use Rattle.blob_calls.specs.Acts.{Act}
 use Rattle.blob_states.specs.After.{after}
 use Rattle.blob_states.specs.Answers.{Answers}
-use Rattle.blob_laboratory.specs.LabStands.{StandsFor, Performs, Wrapper, stream_of}
+use Rattle.blob_laboratory.specs.LabStands.{LabStandsFor, Performs, Wrapper, stream_of}
 use Rattle.blob_opens.specs.Opens.{names_of}
 use Rattle.blob_states.specs.States.{State}
 use Rattle.blob_laboratory.specs.Tables.{handles_of, syncs_of}
@@ -18,21 +18,21 @@ use Rattle.blob_calls.specs.Told.{refused_by}
 abbrev pub state_of : Lab → Files → State
 state_of lab f = record { files = f; config = config_of lab.wrapper; stream = stream_of lab.wrapper; names = names_of lab.opens; handles = handles_of lab.handles; syncs = syncs_of lab.syncs }
 
-pub seen : (lab : Lab) (v : State) → StandsFor lab v → state_of lab v.files ≡ v
+pub seen : (lab : Lab) (v : State) → LabStandsFor lab v → state_of lab v.files ≡ v
 seen lab v h i = record { files = v.files; config = h.wrapper.config i; stream = h.wrapper.stream i; names = h.names i; handles = h.handles i; syncs = h.syncs i }
 
 pub performs : (lab lab' : Lab) (act : Act) (reply : Reply)
-    → ((f : Files) → StandsFor lab (state_of lab f) → Answers (state_of lab f) act reply (stream_of lab'.wrapper))
-    → ((f : Files) → StandsFor lab (state_of lab f) → StandsFor lab' (after (state_of lab f) act (refused_by reply) (stream_of lab'.wrapper)))
+    → ((f : Files) → LabStandsFor lab (state_of lab f) → Answers (state_of lab f) act reply (stream_of lab'.wrapper))
+    → ((f : Files) → LabStandsFor lab (state_of lab f) → LabStandsFor lab' (after (state_of lab f) act (refused_by reply) (stream_of lab'.wrapper)))
     → Performs lab act reply lab'
 performs lab lab' act reply a s = record {
-  answers = λ v h. subst (λ (w : State). Answers w act reply (stream_of lab'.wrapper)) (seen lab v h) (a v.files (subst (StandsFor lab) (sym (seen lab v h)) h));
-  stands = λ v h. subst (λ (w : State). StandsFor lab' (after w act (refused_by reply) (stream_of lab'.wrapper))) (seen lab v h) (s v.files (subst (StandsFor lab) (sym (seen lab v h)) h));
+  answers = λ v h. subst (λ (w : State). Answers w act reply (stream_of lab'.wrapper)) (seen lab v h) (a v.files (subst (LabStandsFor lab) (sym (seen lab v h)) h));
+  stands = λ v h. subst (λ (w : State). LabStandsFor lab' (after w act (refused_by reply) (stream_of lab'.wrapper))) (seen lab v h) (s v.files (subst (LabStandsFor lab) (sym (seen lab v h)) h));
 }
 
 -- a laboratory whose wrapper, names and tables are seen as before
 pub stands_same : (lab lab' : Lab) (f : Files) → lab'.wrapper ≡ lab.wrapper → names_of lab'.opens ≡ names_of lab.opens → handles_of lab'.handles ≡ handles_of lab.handles → syncs_of lab'.syncs ≡ syncs_of lab.syncs
-    → StandsFor lab (state_of lab f) → StandsFor lab' (record (state_of lab f) { stream = stream_of lab'.wrapper })
+    → LabStandsFor lab (state_of lab f) → LabStandsFor lab' (record (state_of lab f) { stream = stream_of lab'.wrapper })
 stands_same lab lab' f w n hs ss h = record {
   wrapper = record {
     files = subst (λ (x : Wrapper). Stands (λ o. o) (directory (store_of x)) (durable (store_of x)) x f) (sym w) h.wrapper.files;

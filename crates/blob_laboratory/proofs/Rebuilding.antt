@@ -10,7 +10,8 @@ use Rattle.blob_model.specs.Stands.{StandsFor}
 use Rattle.blob_faulty.specs.Wrapper.{inner_of as store_of, pending_of, next_write_of, next_marker_of}
 use Rattle.blob_memory.specs.Laws.{currents}
 use Rattle.blob_memory.specs.Store.{directory, durable}
-use Rattle.blob_laboratory.specs.LabStands.{IsFor, Wrapper}
+use Rattle.blob_laboratory.specs.LabStands.{Wrapper}
+use Rattle.blob_faulty.specs.Keeps.{IsFor}
 
 filled : (x : Option (List ℕ)) → is_some x ≡ true → x ≡ Some (unwrap_or x [])
 filled None e = cc

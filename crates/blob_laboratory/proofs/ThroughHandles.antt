@@ -10,7 +10,7 @@ use Rattle.blob_calls.specs.declared.reply.Reply.TheVariants.{NoHandle}
 use Rattle.blob_calls.specs.Acts.{Ask, StartSync, Through}
 use Rattle.blob_states.specs.After.{asked, files_after, held_after, syncs_after}
 use Rattle.blob_states.specs.Answers.{IsAnswer, through, asks_memory, kept_at}
-use Rattle.blob_laboratory.specs.LabStands.{StandsFor, Performs, Asks, Starts, stream_of}
+use Rattle.blob_laboratory.specs.LabStands.{LabStandsFor, Performs, Asks, StartsSync, stream_of}
 use Rattle.blob_opens.specs.Opens.{names_of}
 use Rattle.blob_states.specs.States.{State, Held, AreGiven}
 use Rattle.blob_laboratory.specs.Tables.{handles_of, syncs_of}
@@ -30,7 +30,7 @@ module _ (lab lab' : Lab) (number : ℕ) (ask : Ask) (names : names_of lab'.open
   pub through_none : kept_at (handles_of lab.handles) number ≡ None → lab'.wrapper ≡ lab.wrapper → handles_of lab'.handles ≡ handles_of lab.handles → Performs lab (Through number ask) NoHandle lab'
   through_none gone w hs = performs lab lab' (Through number ask) NoHandle
       (λ f s. subst (λ (o : Option Held). IsAnswer (asks_memory ask o) (through (state_of lab f) o ask) NoHandle (stream_of lab'.wrapper)) (sym gone) (inr (tt, ap stream_of w)))
-      (λ f s. subst (λ (o : Option Held). StandsFor lab' (record (asked (state_of lab f) number o ask None) { stream = stream_of lab'.wrapper })) (sym gone) (stands_same lab lab' f w names hs syncs s))
+      (λ f s. subst (λ (o : Option Held). LabStandsFor lab' (record (asked (state_of lab f) number o ask None) { stream = stream_of lab'.wrapper })) (sym gone) (stands_same lab lab' f w names hs syncs s))
 
   module _ (h h' : Held) (reply : Reply) (grows : asks_memory ask (Some h) ≡ true) (plain : (v : State) (r : Option Refusal) → syncs_after v h ask r ≡ v.syncs) where
     -- an open handle, that is put back into its slot
@@ -45,7 +45,7 @@ module _ (lab lab' : Lab) (number : ℕ) (ask : Ask) (names : names_of lab'.open
         let r = refused_by reply in
         let below : h.place.number < f.directory.next = given_at f.directory.next number (handles_of lab.handles) h s.given here in
         let now = asks.stands v s.wrapper below in
-        subst (λ (o : Option Held). StandsFor lab' (record (asked v number o ask r) { stream = stream_of lab'.wrapper })) (sym here)
+        subst (λ (o : Option Held). LabStandsFor lab' (record (asked v number o ask r) { stream = stream_of lab'.wrapper })) (sym here)
         (record {
           wrapper = record { files = now.files; config = now.config; stream = refl };
           names = names;
@@ -56,7 +56,7 @@ module _ (lab lab' : Lab) (number : ℕ) (ask : Ask) (names : names_of lab'.open
 
 -- a sync that is started by an open handle, which is put back into its slot
 pub through_started : (lab lab' : Lab) (number : ℕ) (h : Held) (reply : Reply) → names_of lab'.opens ≡ names_of lab.opens → kept_at (handles_of lab.handles) number ≡ Some h
-    → Starts lab.wrapper h (syncs_of lab.syncs) reply lab'.wrapper h (syncs_of lab'.syncs) → handles_of lab'.handles ≡ set (handles_of lab.handles) number (Some h) → Performs lab (Through number StartSync) reply lab'
+    → StartsSync lab.wrapper h (syncs_of lab.syncs) reply lab'.wrapper h (syncs_of lab'.syncs) → handles_of lab'.handles ≡ set (handles_of lab.handles) number (Some h) → Performs lab (Through number StartSync) reply lab'
 through_started lab lab' number h reply names here starts table = performs lab lab' (Through number StartSync) reply
     (λ f s. subst (λ (o : Option Held). IsAnswer (asks_memory StartSync o) (through (state_of lab f) o StartSync) reply (stream_of lab'.wrapper)) (sym here) (starts.answers (state_of lab f) s.wrapper refl))
     (λ f s.
@@ -64,7 +64,7 @@ through_started lab lab' number h reply names here starts table = performs lab l
     let r = refused_by reply in
     let below : h.place.number < f.directory.next = given_at f.directory.next number (handles_of lab.handles) h s.given here in
     let now = starts.stands v s.wrapper below in
-    subst (λ (o : Option Held). StandsFor lab' (record (asked v number o StartSync r) { stream = stream_of lab'.wrapper })) (sym here)
+    subst (λ (o : Option Held). LabStandsFor lab' (record (asked v number o StartSync r) { stream = stream_of lab'.wrapper })) (sym here)
     (record {
       wrapper = record { files = now.files; config = now.config; stream = refl };
       names = names;

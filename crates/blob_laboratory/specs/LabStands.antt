@@ -1,12 +1,8 @@
 -- What it is for a laboratory to stand for a state, and for a call to be one of it.
 use Rattle.std.specs.Prelude.{◌≡◌, ◌<◌, List, true, Option, Some}
 use Rattle.rand_core.specs.Stream.{Stream}
-use Rattle.blob_model.specs.Files.{Files}
-use Rattle.blob_model.specs.Places.{Place}
-use Rattle.blob_faulty.specs.Wrapper.{Stands, inner_of as store_of, rng_of, config_of}
-use Rattle.blob_faulty.specs.declared.storage.Storage as faulty
-use Rattle.blob_memory.specs.Store.{directory, durable}
-use Rattle.blob_memory.specs.declared.storage.Storage as memory
+use Rattle.blob_faulty.specs.Keeps.{OverMemory, IsFor}
+use Rattle.blob_faulty.specs.Wrapper.{rng_of, config_of}
 use Rattle.blob_laboratory.specs.declared.lab.Lab.{Lab}
 use Rattle.blob_calls.specs.declared.reply.Reply.{Reply}
 use Rattle.blob_calls.specs.Acts.{Act, Ask, StartSync}
@@ -20,14 +16,10 @@ use Rattle.blob_calls.specs.Told.{refused_by}
 
 -- the wrapper of a laboratory, whose generator is seen as what is left of its words
 abbrev pub Wrapper : Type 0
-Wrapper = faulty.Storage memory.Storage Left Place
+Wrapper = OverMemory Left
 
 abbrev pub stream_of : Wrapper → Stream
 stream_of w = scripted (rng_of w)
-
--- a wrapper stands for these files
-abbrev pub IsFor : Wrapper → Files → Type 0
-IsFor w f = Stands (λ o. o) (directory (store_of w)) (durable (store_of w)) w f
 
 -- a wrapper has a state's configuration and stream, and stands for its files
 pub record Wraps (w : Wrapper) (v : State) : Type 0 where
@@ -35,7 +27,7 @@ pub record Wraps (w : Wrapper) (v : State) : Type 0 where
   pub config : config_of w ≡ v.config
   pub stream : stream_of w ≡ v.stream
 
-pub record StandsFor (lab : Lab) (v : State) : Type 0 where
+pub record LabStandsFor (lab : Lab) (v : State) : Type 0 where
   pub wrapper : Wraps lab.wrapper v
   pub names : names_of lab.opens ≡ v.names
   pub handles : handles_of lab.handles ≡ v.handles
@@ -49,8 +41,8 @@ wrapper_of lab = lab.wrapper
 -- a call with this reply: whatever state the laboratory stood for, the reply is one that it allows, and the laboratory now
 -- stands for what the call makes of it
 pub record Performs (lab : Lab) (act : Act) (reply : Reply) (lab' : Lab) : Type 0 where
-  pub answers : (v : State) → StandsFor lab v → Answers v act reply (stream_of lab'.wrapper)
-  pub stands : (v : State) → StandsFor lab v → StandsFor lab' (after v act (refused_by reply) (stream_of lab'.wrapper))
+  pub answers : (v : State) → LabStandsFor lab v → Answers v act reply (stream_of lab'.wrapper)
+  pub stands : (v : State) → LabStandsFor lab v → LabStandsFor lab' (after v act (refused_by reply) (stream_of lab'.wrapper))
 
 -- the same of what is asked through a handle, of the wrapper and the handle alone; syncs that are started stand apart
 pub record Asks (w : Wrapper) (h : Held) (ask : Ask) (reply : Reply) (w' : Wrapper) (h' : Held) : Type 0 where
@@ -59,7 +51,7 @@ pub record Asks (w : Wrapper) (h : Held) (ask : Ask) (reply : Reply) (w' : Wrapp
   pub held : (v : State) → Wraps w v → h' ≡ held_after v h ask (refused_by reply)
 
 -- the same of a sync that is started, and the table of started syncs
-pub record Starts (w : Wrapper) (h : Held) (syncs : List (Option Started)) (reply : Reply) (w' : Wrapper) (h' : Held) (syncs' : List (Option Started)) : Type 0 where
+pub record StartsSync (w : Wrapper) (h : Held) (syncs : List (Option Started)) (reply : Reply) (w' : Wrapper) (h' : Held) (syncs' : List (Option Started)) : Type 0 where
   pub answers : (v : State) → Wraps w v → syncs ≡ v.syncs → IsAnswer true (through v (Some h) StartSync) reply (stream_of w')
   pub stands : (v : State) → Wraps w v → h.place.number < v.files.directory.next → Wraps w' (record v { files = files_after v h StartSync (refused_by reply); stream = stream_of w' })
   pub table : (v : State) → Wraps w v → syncs ≡ v.syncs → syncs' ≡ syncs_after v h StartSync (refused_by reply)

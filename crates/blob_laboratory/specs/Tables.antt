@@ -11,11 +11,11 @@ use Rattle.blob_laboratory.specs.declared.lab.handles.Handles.{Handles}
 use Rattle.blob_laboratory.specs.declared.lab.syncs.Syncs.{Syncs}
 use Rattle.blob_states.specs.States.{Held, Started, Image}
 
-abbrev pub held_by : Handle → Held
-held_by h = record { place = place (inside h.blob); live = live (inside h.blob); size = size_of h.blob; registration = h.registration }
+abbrev pub as_held : Handle → Held
+as_held h = record { place = place (inside h.blob); live = live (inside h.blob); size = size_of h.blob; registration = h.registration }
 
 abbrev pub handles_of : Handles → List (Option Held)
-handles_of handles = map (option_map held_by) handles.slots.items
+handles_of handles = map (option_map as_held) handles.slots.items
 
 abbrev pub started_by : base.Handle → Started
 started_by h = record { outcome = refused (outcome_of h) }
@@ -28,8 +28,8 @@ abbrev pub images_of : List (String Global × Vec ℕ Global × Vec ℕ Global) 
 images_of images = map (λ i. (string_bytes i.0, i.1.items, i.2.items)) images
 
 -- room for one more
-abbrev pub HasRoom : Handles → Type 0
-HasRoom handles = vec_len handles.slots + 1 ≤ vec_capacity handles.slots
+abbrev pub HasFreeSlot : Handles → Type 0
+HasFreeSlot handles = vec_len handles.slots + 1 ≤ vec_capacity handles.slots
 
 abbrev pub HasSyncRoom : Syncs → Type 0
 HasSyncRoom syncs = vec_len syncs.slots + 1 ≤ vec_capacity syncs.slots

@@ -13,25 +13,25 @@ use Rattle.blob_log.specs.declared.sessions.Session.{Session}
 use Rattle.blob_log.specs.Frames.{frames, AreShort}
 
 -- the incarnation of a log's blob
-abbrev pub place_of : Log → Place
-place_of log = place (inside log.blob)
+abbrev pub log_place : Log → Place
+log_place log = place (inside log.blob)
 
 -- the handle of a log's blob, and where its next frame goes
-abbrev pub blob_of : Log → Blob memory_blob.Blob
-blob_of log = log.blob
+abbrev pub log_blob : Log → Blob memory_blob.Blob
+log_blob log = log.blob
 
-abbrev pub end_of : Log → ℕ
-end_of log = log.end
+abbrev pub log_end : Log → ℕ
+log_end log = log.end
 
 -- the wrapper keeps these records at the front of the log's blob, and the next frame goes right behind them
-pub record Holds {R : Type 0} (log : Log) (store : OverMemory R) (records : List (List ℕ)) : Type 0 where
-  pub kept : Keeps store (place_of log) (frames records)
+pub record HoldsRecords {R : Type 0} (log : Log) (store : OverMemory R) (records : List (List ℕ)) : Type 0 where
+  pub kept : Keeps store (log_place log) (frames records)
   pub short : AreShort records
   pub end : log.end ≡ length (frames records)
 
 -- the bytes of a list of records
-abbrev pub items_of : List (Vec ℕ Global) → List (List ℕ)
-items_of records = map (λ r. r.items) records
+abbrev pub record_bytes : List (Vec ℕ Global) → List (List ℕ)
+record_bytes records = map (λ r. r.items) records
 
 -- those of some records whose appends were answered Ok, in order, by these answers
 abbrev pub acknowledged : List Bool → List (List ℕ) → List (List ℕ)
@@ -41,7 +41,7 @@ acknowledged (b ∷ answers) (r ∷ records) = if b then r ∷ acknowledged answ
 
 -- what a session found, and behind it what it was acknowledged
 abbrev pub trusted : Session × Vec (Vec ℕ Global) Global → List (List ℕ)
-trusted (session, records) = items_of session.before.items ++ acknowledged session.answers.items (items_of records.items)
+trusted (session, records) = record_bytes session.before.items ++ acknowledged session.answers.items (record_bytes records.items)
 
 -- of each of these sessions, which were asked to append these records, that is a front of what is found in the end
 abbrev pub Survive : List Session → List (Vec (Vec ℕ Global) Global) → List (List ℕ) → Type 0

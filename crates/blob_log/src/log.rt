@@ -7,7 +7,7 @@ ghost use Rattle.blob_model.specs.Opened.{IsNamed};
 ghost use Rattle.blob_model.specs.Places.{Place};
 ghost use Rattle.blob_faulty.specs.Keeps.{IsFor, Keeps};
 ghost use Rattle.blob_log.specs.Frames.{AreShort, frames};
-ghost use Rattle.blob_log.specs.Held.{Holds, place_of, blob_of, end_of, items_of};
+ghost use Rattle.blob_log.specs.Held.{HoldsRecords, log_place, log_blob, log_end, record_bytes};
 ghost use Rattle.blob_log.specs.Refused.{MayAppend, MayRecover};
 
 use crate::frame::{frame_of, scan, scans_find_frames};
@@ -37,10 +37,10 @@ impl Log {
     /// wrapper's SYNC write of the frame is refused for. The log holds what it held, and the next frame goes to the same place:
     /// over whatever a failed write left there.
     pub fn append<R: Rng>(&mut self, store: &mut Store<R>, entry: &[u8]) -> Result<(), Error>
-        ensures acknowledged { OnOk result ((records : List (List ℕ)) → Holds self.old store.old records → Holds self.new store.new (records ++ entry.now ∷ [])) }
-        ensures refused { OnErr result ((records : List (List ℕ)) → Holds self.old store.old records → Holds self.new store.new records) }
-        ensures place { place_of self.new ≡ place_of self.old }
-        ensures answer { MayAppend (end_of self.old) entry.now (λ bytes. ⟦<blob_faulty::Blob<blob_memory::Blob> as blob_base::Blob<Store<R>>>⟧.allows_write (blob_of self.old) store.old (end_of self.old) bytes true) (refused result) }
+        ensures acknowledged { OnOk result ((records : List (List ℕ)) → HoldsRecords self.old store.old records → HoldsRecords self.new store.new (records ++ entry.now ∷ [])) }
+        ensures refused { OnErr result ((records : List (List ℕ)) → HoldsRecords self.old store.old records → HoldsRecords self.new store.new records) }
+        ensures place { log_place self.new ≡ log_place self.old }
+        ensures answer { MayAppend (log_end self.old) entry.now (λ bytes. ⟦<blob_faulty::Blob<blob_memory::Blob> as blob_base::Blob<Store<R>>>⟧.allows_write (log_blob self.old) store.old (log_end self.old) bytes true) (refused result) }
     {
         writes::<blob_memory::Storage, R, blob_memory::Blob>();
         if entry.len() > u32::MAX as usize {
@@ -68,10 +68,10 @@ impl Log {
         partition: &str,
         name: &[u8],
     ) -> Result<(Log, Vec<Vec<u8>>), Error>
-        ensures held { IfOk result (λ r. (files : Files) → IsFor store.old files → Holds r.0 store.new (items_of r.1.items)) }
-        ensures found { IfOk result (λ r. (o : Place) (records : List (List ℕ)) → IsNamed o partition.now name.now → AreShort records → Keeps store.old o (frames records) → (place_of r.0 ≡ o) × BeginsWith records (items_of r.1.items)) }
+        ensures held { IfOk result (λ r. (files : Files) → IsFor store.old files → HoldsRecords r.0 store.new (record_bytes r.1.items)) }
+        ensures found { IfOk result (λ r. (o : Place) (records : List (List ℕ)) → IsNamed o partition.now name.now → AreShort records → Keeps store.old o (frames records) → (log_place r.0 ≡ o) × BeginsWith records (record_bytes r.1.items)) }
         ensures keeps { (o : Place) (bytes : List ℕ) → Keeps store.old o bytes → Keeps store.new o bytes }
-        ensures named { IfOk result (λ r. IsNamed (place_of r.0) partition.now name.now) }
+        ensures named { IfOk result (λ r. IsNamed (log_place r.0) partition.now name.now) }
         ensures answer { MayRecover R.stream store.old partition.now name.now (refused result) }
     {
         accepted_opens();

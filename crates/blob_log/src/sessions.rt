@@ -3,7 +3,7 @@ ghost use Rattle.std.specs.Prelude.{◌≡◌, ◌++◌, List, ℕ, IfOk, length
 ghost use Rattle.blob_model.specs.Files.{Files};
 ghost use Rattle.blob_header.specs.Refusals.{refused};
 ghost use Rattle.blob_faulty.specs.Keeps.{IsFor};
-ghost use Rattle.blob_log.specs.Held.{AreAnswered, Holds, Survive, place_of, items_of, acknowledged};
+ghost use Rattle.blob_log.specs.Held.{AreAnswered, HoldsRecords, Survive, log_place, record_bytes, acknowledged};
 ghost use Rattle.blob_log.specs.Refused.{MayStop};
 
 use crate::log::{Log, Store};
@@ -29,8 +29,8 @@ fn append_all<R: Rng>(
     entries: &[Vec<u8>],
 ) -> Result<Vec<bool>, AllocError>
     ensures count { IfOk result (λ answers. length answers.items ≡ length entries.now) }
-    ensures held { IfOk result (λ answers. (records : List (List ℕ)) → Holds log.old store.old records → Holds log.new store.new (records ++ acknowledged answers.items (items_of entries.now))) }
-    ensures place { place_of log.new ≡ place_of log.old }
+    ensures held { IfOk result (λ answers. (records : List (List ℕ)) → HoldsRecords log.old store.old records → HoldsRecords log.new store.new (records ++ acknowledged answers.items (record_bytes entries.now))) }
+    ensures place { log_place log.new ≡ log_place log.old }
 {
     let mut answers = Vec::with_capacity(alloc, entries.len())?;
     for entry in entries {
@@ -55,7 +55,7 @@ pub fn sessions_survive<R: Rng>(
 ) -> Result<(Vec<Session>, Vec<Vec<u8>>), Error>
     ensures answer { MayStop R.stream partition.now name.now (refused result) }
     ensures answered { IfOk result (λ r. AreAnswered r.0.items sessions.now) }
-    ensures survive { IfOk result (λ r. (files : Files) → IsFor store.old files → Survive r.0.items sessions.now (items_of r.1.items)) }
+    ensures survive { IfOk result (λ r. (files : Files) → IsFor store.old files → Survive r.0.items sessions.now (record_bytes r.1.items)) }
 {
     let (mut log, mut before) = Log::recover(alloc, store, partition, name)?;
     let mut done = Vec::with_capacity(alloc, sessions.len())?;
@@ -86,7 +86,7 @@ pub fn sessions_survive_anew<R: Rng + Drop>(
 ) -> Result<(Vec<Session>, Vec<Vec<u8>>), Error>
     ensures answer { MayStop R.stream partition.now name.now (refused result) }
     ensures answered { IfOk result (λ r. AreAnswered r.0.items sessions.now) }
-    ensures survive { IfOk result (λ r. Survive r.0.items sessions.now (items_of r.1.items)) }
+    ensures survive { IfOk result (λ r. Survive r.0.items sessions.now (record_bytes r.1.items)) }
 {
     let memory = blob_memory::Storage::new(alloc);
     let mut store = blob_faulty::Storage::new(alloc, memory, rng, config);

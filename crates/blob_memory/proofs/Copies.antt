@@ -9,7 +9,7 @@ use Rattle.blob_header.specs.Header.{data_start, region}
 use Rattle.blob_header.specs.HeaderLaws.{HasHeader}
 use Rattle.blob_header.specs.Parse.{Accepted, Failure, VersionMismatch, every_layout}
 use Rattle.blob_header.specs.Versions.{is_in_range}
-use Rattle.blob_header.specs.Resolve.{resolution, refusing, Answers}
+use Rattle.blob_header.specs.Resolve.{resolution, refusing, AnswersAs}
 use Rattle.blob_header.specs.Refusals.{Refusal}
 use Rattle.blob_header.proofs.Headers.{has_header}
 use Rattle.blob_header.proofs.NoneSide.{length_region}
@@ -19,8 +19,8 @@ use Rattle.blob_memory.specs.declared.contents.Contents.{Contents}
 use Rattle.blob_memory.specs.declared.item.Item.{Item}
 use Rattle.blob_memory.specs.declared.item.Item.TheVariants.{Raw, Held}
 use Rattle.blob_memory.specs.Contents.{directory_of, durable_of, file_of, file_when}
-use Rattle.blob_memory.specs.Listing.{raw_bytes, raw_only, raw_blob_of, behind, logical_found}
-use Rattle.blob_memory.specs.Numbers.{number_of}
+use Rattle.blob_memory.specs.Listing.{raw_bytes, raw_only, raw_blob_of, left_behind_header, logical_found}
+use Rattle.blob_memory.specs.Numbers.{item_number}
 use Rattle.blob_memory.specs.Partitions.{item_at}
 use Rattle.blob_memory.proofs.Directories.{file_again}
 
@@ -28,7 +28,7 @@ abbrev pub Found : Type 0
 Found = Result (Option (ℕ × BlobVersion × ℕ)) Failure
 
 -- where a resolve is refused, the blob has no header
-pub refused_none : (p n raw : List ℕ) (r : Found) (e : Error) → Answers (Err e) (refusing p n r) → behind r raw ≡ None
+pub refused_none : (p n raw : List ℕ) (r : Found) (e : Error) → AnswersAs (Err e) (refusing p n r) → left_behind_header r raw ≡ None
 refused_none p n raw (Ok None) e h = refl
 refused_none p n raw (Err failure) e h = refl
 refused_none p n raw (Ok (Some found)) e h = absurd (⊎_elim (λ k. ok_err k) (λ k. false≢true k.0) h) where
@@ -48,7 +48,7 @@ offset_within raw a size version offset small h = within (has_header raw a (size
 -- a region and what follows it
 pub behind_region : (layout : Layout) (version : ℕ) (bytes : List ℕ) → version < 2 ^ 16 → logical_found (region layout version ++ bytes) ≡ Some bytes
 behind_region layout version bytes fits =
-    ap (λ (r : Found). behind r (region layout version ++ bytes)) found
+    ap (λ (r : Found). left_behind_header r (region layout version ++ bytes)) found
     ∙ ap (λ (b : List ℕ). Some b) (drop_region layout version bytes)
   where
     inside : is_in_range 0 65535 version ≡ true
@@ -60,7 +60,7 @@ behind_region layout version bytes fits =
 
 pub raw_blob_is : (s : Contents) (p n : List ℕ) → raw_blob_of (directory_of s) (durable_of s) p n ≡ option_map raw_bytes (item_at s.partitions p n)
 raw_blob_is s p n = sym (ap raw_only (file_again s.first s.next (item_at s.partitions) s.numbered p n)) ∙ at (item_at s.partitions p n) (s.numbered p n) where
-  at : (x : Option Item) → ((k : ℕ) → number_of x ≡ Some k → k < s.next) → raw_only (file_of s.next x) ≡ option_map raw_bytes x
+  at : (x : Option Item) → ((k : ℕ) → item_number x ≡ Some k → k < s.next) → raw_only (file_of s.next x) ≡ option_map raw_bytes x
   at None below = refl
   at (Some (Raw bytes)) below = refl
   at (Some (Held h)) below = ap (λ t. raw_only (Some (file_when t h))) (lt-ltb h.number s.next (below h.number refl))

@@ -12,7 +12,7 @@ use Rattle.blob_header.specs.declared.version.BlobVersion.{BlobVersion}
 use Rattle.blob_model.specs.Files.{raw_again}
 use Rattle.std.specs.Prelude.{unwrap_or}
 use Rattle.blob_memory.specs.declared.contents.Contents.{Contents}
-use Rattle.blob_memory.specs.Numbers.{number_of}
+use Rattle.blob_memory.specs.Numbers.{item_number}
 use Rattle.blob_memory.specs.declared.item.Item.{Item}
 use Rattle.blob_memory.specs.Partitions.{with_item, without_partition}
 use Rattle.blob_model.specs.Directory.{place_in}
@@ -113,10 +113,10 @@ under_none s layout version (Some (Raw bytes)) p n h = refl
 under_none s layout version (Some (Held i)) p n h = rw h.0 refl
 
 -- all incarnations ended
-pub file_again : (first next : ℕ) (f : List ℕ → List ℕ → Option Item) → ((p n : List ℕ) (k : ℕ) → number_of (f p n) ≡ Some k → k < next)
+pub file_again : (first next : ℕ) (f : List ℕ → List ℕ → Option Item) → ((p n : List ℕ) (k : ℕ) → item_number (f p n) ≡ Some k → k < next)
     → (p n : List ℕ) → file_of next (f p n) ≡ raw_again (λ o. unwrap_or (durable_in first f o) []) p n (file_of first (f p n))
 file_again first next f below p n = at (f p n) (below p n) refl where
-  at : (x : Option Item) → ((k : ℕ) → number_of x ≡ Some k → k < next) → f p n ≡ x → file_of next x ≡ raw_again (λ o. unwrap_or (durable_in first f o) []) p n (file_of first x)
+  at : (x : Option Item) → ((k : ℕ) → item_number x ≡ Some k → k < next) → f p n ≡ x → file_of next x ≡ raw_again (λ o. unwrap_or (durable_in first f o) []) p n (file_of first x)
   at None b e = refl
   at (Some (Raw bytes)) b e = refl
   at (Some (Held h)) b e = ap (λ t. Some (file_when t h)) (lt-ltb h.number next (b h.number refl)) ∙ by_end (nat_lt h.number first) refl where
@@ -126,9 +126,9 @@ file_again first next f below p n = at (f p n) (below p n) refl where
       is : vec_in first (f p n) h.number (data_start h.layout) ≡ Some h.bytes
       is = ap (λ x. vec_in first x h.number (data_start h.layout)) e ∙ (λ i. cond (not (z i) && (eq-eqb h.number h.number refl i && eq-eqb (data_start h.layout) (data_start h.layout) refl i)) (Some h.bytes) None)
 
-pub none_again : (next : ℕ) (f : List ℕ → List ℕ → Option Item) → ((p n : List ℕ) (k : ℕ) → number_of (f p n) ≡ Some k → k < next) → ◌≡◌ {A = Durable} (durable_in next f) (λ _. None)
+pub none_again : (next : ℕ) (f : List ℕ → List ℕ → Option Item) → ((p n : List ℕ) (k : ℕ) → item_number (f p n) ≡ Some k → k < next) → ◌≡◌ {A = Durable} (durable_in next f) (λ _. None)
 none_again next f below = λ i o. at o (f o.partition o.name) (below o.partition o.name) i where
-  at : (o : Place) (x : Option Item) → ((k : ℕ) → number_of x ≡ Some k → k < next) → items_of (vec_in next x o.number o.start) ≡ None
+  at : (o : Place) (x : Option Item) → ((k : ℕ) → item_number x ≡ Some k → k < next) → items_of (vec_in next x o.number o.start) ≡ None
   at o None b = refl
   at o (Some (Raw bytes)) b = refl
   at o (Some (Held h)) b = rw (lt-ltb h.number next (b h.number refl)) refl

@@ -5,7 +5,7 @@ use Rattle.std.proofs.lemmas.Bool.Decides.{nat_tests}
 use Rattle.std.specs.Cmp.Lexicographic.{bytes_decides}
 use Rattle.std.specs.Str.{bytes_eq}
 use Rattle.blob_header.specs.Header.{data_start}
-use Rattle.blob_model.specs.Durable.{Durable, with_at, changed}
+use Rattle.blob_model.specs.Durable.{Durable, with_at, with_changed}
 use Rattle.blob_model.specs.SamePlace.{same_place_exact}
 use Rattle.std.specs.Prelude.{option_map, vec_capacity}
 use Rattle.blob_model.specs.Places.{Place, same_place}
@@ -13,7 +13,7 @@ use Rattle.blob_memory.specs.declared.item.Item.{Item}
 use Rattle.blob_memory.specs.declared.item.Item.TheVariants.{Raw, Held}
 use Rattle.blob_memory.specs.declared.item.Held as held
 use Rattle.blob_memory.specs.Contents.{file_of, vec_in, items_of, Fits}
-use Rattle.blob_memory.specs.Numbers.{number_of}
+use Rattle.blob_memory.specs.Numbers.{item_number}
 use Rattle.blob_memory.specs.Partitions.{with_item, with_bytes_in}
 
 -- what there is to know of a current incarnation's item
@@ -52,13 +52,13 @@ module _ (f g : List ℕ → List ℕ → Option Item) (p n : List ℕ) (v : Vec
     push true false e = refl
     push false d e = refl
 
-  number_kept : (x : Option Item) → number_of (with_bytes_in x v) ≡ number_of x
+  number_kept : (x : Option Item) → item_number (with_bytes_in x v) ≡ item_number x
   number_kept None = refl
   number_kept (Some (Raw bytes)) = refl
   number_kept (Some (Held i)) = refl
 
-  pub numbers_still : (q m : List ℕ) → number_of (g q m) ≡ number_of (f q m)
-  numbers_still = same_by number_of (number_kept (f p n))
+  pub numbers_still : (q m : List ℕ) → item_number (g q m) ≡ item_number (f q m)
+  numbers_still = same_by item_number (number_kept (f p n))
 
   pub files_still : (first k start : ℕ) → IsSome (vec_in first (f p n) k start) → (q m : List ℕ) → file_of first (g q m) ≡ file_of first (f q m)
   files_still first k start h = same_by (file_of first) (kept (is_current_item first (f p n) k start h)) where
@@ -99,7 +99,7 @@ module _ (f h : Place → Option (Vec ℕ Global)) (o : Place) (v w : Vec ℕ Gl
   at_same : (a : Place) → same_place o a ≡ true → f a ≡ Some v
   at_same a y = ap f (sym (same_place_exact o a y)) ∙ here
 
-  pub changed_by : (k : List ℕ → List ℕ) → w.items ≡ k v.items → ◌≡◌ {A = Durable} (λ (a : Place). items_of (h a)) (changed (λ (a : Place). items_of (f a)) o k)
+  pub changed_by : (k : List ℕ → List ℕ) → w.items ≡ k v.items → ◌≡◌ {A = Durable} (λ (a : Place). items_of (h a)) (with_changed (λ (a : Place). items_of (f a)) o k)
   changed_by k e = λ i a. (ap items_of (after a) ∙ push a (same_place o a) (at_same a)) i where
     push : (a : Place) (b : Bool) → (b ≡ true → f a ≡ Some v) → items_of (cond b (Some w) (f a)) ≡ cond b (option_map k (items_of (f a))) (items_of (f a))
     push a true is = ap (λ x. Some x) e ∙ sym (ap (λ r. option_map k (items_of r)) (is refl))
@@ -118,7 +118,7 @@ module _ (f h : Place → Option (Vec ℕ Global)) (o : Place) (v w : Vec ℕ Gl
     push false is = fits
 
 -- nothing is changed at a place that has no bytes
-pub changed_none : (f : Durable) (o : Place) → f o ≡ None → (k : List ℕ → List ℕ) → f ≡ changed f o k
+pub changed_none : (f : Durable) (o : Place) → f o ≡ None → (k : List ℕ → List ℕ) → f ≡ with_changed f o k
 changed_none f o none k = λ i a. push a (same_place o a) (λ y. ap f (sym (same_place_exact o a y)) ∙ none) i where
   push : (a : Place) (b : Bool) → (b ≡ true → f a ≡ None) → f a ≡ cond b (option_map k (f a)) (f a)
   push a true is = is refl ∙ sym (ap (option_map k) (is refl))

@@ -6,7 +6,7 @@ use Rattle.std.specs.Option.{OnSome, option_copied_mut}
 use Rattle.std.specs.Result.{IsErr}
 use Rattle.std.proofs.lemmas.Bool.{false≢true, cond-true}
 use Rattle.blob_header.specs.declared.error.Error.{Error}
-use Rattle.blob_model.specs.Durable.{with_at, changed}
+use Rattle.blob_model.specs.Durable.{with_at, with_changed}
 use Rattle.blob_model.specs.Places.{Place, same_place}
 use Rattle.blob_model.specs.SamePlace.{same_self}
 use Rattle.blob_memory.specs.declared.contents.Contents.{Contents}
@@ -32,7 +32,7 @@ pub lent : (s t : Contents) (o : Place) (r : Option (MutBor (Vec ℕ Global))) (
 lent s t o r b w is value ends = record { here = sym value ∙ ap option_copied_mut is; now = where_some r b is ends }
 
 module _ {s t : Contents} {o : Place} {b w : Vec ℕ Global} (l : Lent s t o b w) where
-  pub alters : (k : List ℕ → List ℕ) → w.items ≡ k b.items → durable_of t ≡ changed (durable_of s) o k
+  pub alters : (k : List ℕ → List ℕ) → w.items ≡ k b.items → durable_of t ≡ with_changed (durable_of s) o k
   alters = changed_by (vec_at s) (vec_at t) o b w l.here l.now.vecs
 
   pub stays : w.items ≡ b.items → durable_of t ≡ durable_of s
@@ -63,7 +63,7 @@ module _ (s t : Contents) (ends : HasVecs s t (vec_at s)) where
   pub rooms_still : (a : Place) (n : ℕ) → Fits (vec_at s a) n → Fits (vec_at t a) n
   rooms_still a n fits = rw (ends.vecs a) fits
 
-  pub alters_none : (o : Place) (r : Option (MutBor (Vec ℕ Global))) → r ≡ None → option_copied_mut r ≡ vec_at s o → (k : List ℕ → List ℕ) → durable_of t ≡ changed (durable_of s) o k
+  pub alters_none : (o : Place) (r : Option (MutBor (Vec ℕ Global))) → r ≡ None → option_copied_mut r ≡ vec_at s o → (k : List ℕ → List ℕ) → durable_of t ≡ with_changed (durable_of s) o k
   alters_none o r is value k = still ∙ changed_none (durable_of s) o (ap items_of (sym value ∙ ap option_copied_mut is)) k
 
   pub fits_none : (o : Place) (r : Option (MutBor (Vec ℕ Global))) → r ≡ None → option_copied_mut r ≡ vec_at s o → (n : ℕ) → Fits (vec_at t o) n

@@ -11,8 +11,8 @@ use Rattle.std.specs.String.{string_bytes}
 use Rattle.std.specs.BTreeMap.{BTreeMap, UpdatesBy}
 use Rattle.blob_memory.specs.declared.item.Item.{Item}
 use Rattle.blob_memory.specs.declared.partitions.Partitions.{Partitions}
-use Rattle.blob_memory.specs.Maps.{found}
-use Rattle.blob_memory.specs.Partitions.{item_at, is_there, with_item, Has}
+use Rattle.blob_names.specs.Names.{found}
+use Rattle.blob_memory.specs.Partitions.{item_at, is_there, with_item, HasItems}
 use Rattle.blob_memory.proofs.ByBytes.{below_after, below_still, found_after, there_still}
 
 pub on_some : {T P : Type 0} (r : Option T) → (IsSome r → P) → OnSome r P
@@ -33,7 +33,7 @@ Sets s t p b = UpdatesBy (λ x y. slice_cmp nat_cmp (string_bytes x) (string_byt
 module _ (s t : Partitions) (p : List ℕ) (a b : BTreeMap (Vec ℕ Global) Item) (here : found string_bytes s.names p ≡ Some a) (outer : Sets s t p b) where
   -- an item made new in a partition that is there
   pub altered : (n : List ℕ) (x : Option Item) → UpdatesBy (λ x y. slice_cmp nat_cmp x.items y.items) (λ k. slice_cmp nat_cmp n k.items) a b x
-      → Has t (with_item (item_at s) p n x) (is_there s)
+      → HasItems t (with_item (item_at s) p n x) (is_there s)
   altered n x inner =
       let last = found_after string_bytes p s.names t.names (Some b) outer in record {
         items = below_after (found (λ k. k.items)) (found string_bytes s.names) (found string_bytes t.names) p n a b x here last (found_after (λ k. k.items) n a b x inner);
@@ -41,7 +41,7 @@ module _ (s t : Partitions) (p : List ℕ) (a b : BTreeMap (Vec ℕ Global) Item
       }
 
   -- a partition that is left as it was
-  pub unaltered : b ≡ a → Has t (item_at s) (is_there s)
+  pub unaltered : b ≡ a → HasItems t (item_at s) (is_there s)
   unaltered same =
       let last = found_after string_bytes p s.names t.names (Some b) outer in record {
         items = below_still (found (λ k. k.items)) (found string_bytes s.names) (found string_bytes t.names) p a b here last (λ m. ap (λ e. found (λ k. k.items) e m) same);
@@ -49,8 +49,8 @@ module _ (s t : Partitions) (p : List ℕ) (a b : BTreeMap (Vec ℕ Global) Item
       }
 
 -- the same at names that are equal
-pub has_at : (s t : Partitions) (x : Option Item) (p q n m : List ℕ) → p ≡ q → n ≡ m → Has t (with_item (item_at s) p n x) (is_there s) → Has t (with_item (item_at s) q m x) (is_there s)
-has_at s t x p q n m e d h = subst (λ (l : List ℕ). Has t (with_item (item_at s) q l x) (is_there s)) d (subst (λ (l : List ℕ). Has t (with_item (item_at s) l n x) (is_there s)) e h)
+pub has_at : (s t : Partitions) (x : Option Item) (p q n m : List ℕ) → p ≡ q → n ≡ m → HasItems t (with_item (item_at s) p n x) (is_there s) → HasItems t (with_item (item_at s) q m x) (is_there s)
+has_at s t x p q n m e d h = subst (λ (l : List ℕ). HasItems t (with_item (item_at s) q l x) (is_there s)) d (subst (λ (l : List ℕ). HasItems t (with_item (item_at s) l n x) (is_there s)) e h)
 
 -- a name that gets the item that it has
 same_item : (f : List ℕ → List ℕ → Option Item) (p n q m : List ℕ) → with_item f p n (f p n) q m ≡ f q m
@@ -62,9 +62,9 @@ same_item f p n q m = ⊎_elim
     (λ e. cond-false (bytes_eq p q) _ (f q m) e)
     (cases_Bool (bytes_eq p q))
 
-pub has_same : (s t : Partitions) (x : Option Item) (p n : List ℕ) → item_at s p n ≡ x → Has t (with_item (item_at s) p n x) (is_there s) → Has t (item_at s) (is_there s)
+pub has_same : (s t : Partitions) (x : Option Item) (p n : List ℕ) → item_at s p n ≡ x → HasItems t (with_item (item_at s) p n x) (is_there s) → HasItems t (item_at s) (is_there s)
 has_same s t x p n is h =
-    let made : Has t (with_item (item_at s) p n (item_at s p n)) (is_there s) = subst (λ (y : Option Item). Has t (with_item (item_at s) p n y) (is_there s)) (sym is) h in record {
+    let made : HasItems t (with_item (item_at s) p n (item_at s p n)) (is_there s) = subst (λ (y : Option Item). HasItems t (with_item (item_at s) p n y) (is_there s)) (sym is) h in record {
       items = λ q m. made.items q m ∙ same_item (item_at s) p n q m;
       partitions = made.partitions;
     }

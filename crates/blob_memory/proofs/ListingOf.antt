@@ -20,7 +20,7 @@ use Rattle.std.proofs.lemmas.Map.Views.{lookup-from_Contains, Contains-from_look
 use Rattle.blob_memory.specs.Audit.{Listed, listed_cmp, IsListing}
 use Rattle.blob_memory.specs.declared.item.Item.{Item}
 use Rattle.blob_memory.specs.Listing.{Names, raw_bytes, raw_in, listed, listing_in, listing_all, AreOrdered, AreOrderedNames, AreAllOrdered}
-use Rattle.blob_memory.specs.Maps.{found, below}
+use Rattle.blob_names.specs.Names.{found, below}
 use Rattle.blob_memory.proofs.Listings.{by_bytes, lookup_by_bytes, keys_by_bytes, sorted_by_bytes}
 
 empty : {X : Type 0} (x : X) → Contains [] x → ⊥

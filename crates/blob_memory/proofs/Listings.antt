@@ -14,7 +14,7 @@ use Rattle.std.proofs.lemmas.Bool.{false≢true}
 use Rattle.std.proofs.lemmas.Map.Text.{is_eq-slice_cmp}
 use Rattle.std.proofs.lemmas.Map.Views.{IsSome-lookup_from_Contains, Contains-keys_from_lookup}
 use Rattle.blob_base.specs.Names.{AreNames}
-use Rattle.blob_memory.specs.Maps.{found}
+use Rattle.blob_names.specs.Names.{found}
 
 module _ {K : Type 0} (bytes : K → List ℕ) where
   below_all : (cmp : List ℕ → List ℕ → Ordering) (k : K) (ks : List K) → AllByRecursion (λ y. cmp (bytes k) (bytes y) ≡ Less) ks → AllByRecursion (λ y. cmp (bytes k) y ≡ Less) (map bytes ks)

@@ -14,7 +14,7 @@ use Rattle.blob_model.specs.Opening.{Opening, Continues, Begins, Declines, openi
 use Rattle.blob_header.specs.Parse.{Accepted, Failure, InvalidChecksum, accepted, every_layout}
 use Rattle.blob_header.specs.Refusals.{Refusal, BlobVersionMismatch, IsMemoryError, refusal_of}
 use Rattle.blob_header.specs.declared.error.Error.{Error}
-use Rattle.blob_header.specs.Resolve.{resolution, refusing, Answers}
+use Rattle.blob_header.specs.Resolve.{resolution, refusing, AnswersAs}
 use Rattle.blob_header.specs.Versions.{is_in_range}
 use Rattle.blob_header.proofs.NoneSide.{length_region}
 use Rattle.blob_model.proofs.RawFiles.{from_start, raw_opens}
@@ -74,7 +74,7 @@ module _ (layouts : RangeInclusive Layout) (versions : RangeInclusive BlobVersio
   resolves_to p n raw x e = ap (resolution raw) (sym any) ∙ answered p n (resolution raw (accepted layouts versions)) x e
 
   -- what one that isn't accepted opens to
-  pub declines_as : (p n raw : List ℕ) (e : Error) → Answers {T = Answer} (Err e) (refusing p n (resolution raw (accepted layouts versions)))
+  pub declines_as : (p n raw : List ℕ) (e : Error) → AnswersAs {T = Answer} (Err e) (refusing p n (resolution raw (accepted layouts versions)))
       → IsMemoryError e ⊎ (opening p n (Some (Raw raw)) (range_inclusive_start versions).0 (range_inclusive_end versions).0 ≡ Declines (refusal_of e))
   declines_as p n raw e (inl h) = inr (ap (λ a. opening_raw p n raw (range_inclusive_end versions).0 (resolution raw a)) (sym any) ∙ declined p n raw (range_inclusive_end versions).0 (resolution raw (accepted layouts versions)) (refusal_of e) h)
   declines_as p n raw e (inr h) = inl h.1

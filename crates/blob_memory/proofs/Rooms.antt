@@ -3,7 +3,7 @@ use Rattle.std.proofs.Common.{◌≡◌, ℕ, ◌≤◌, List, Bool, true, false
 use Rattle.std.specs.Prelude.{option_map, vec_capacity}
 use Rattle.std.proofs.lemmas.Bool.{false≢true}
 use Rattle.blob_model.specs.Directory.{Directory, is_current}
-use Rattle.blob_model.specs.Durable.{Durable, changed}
+use Rattle.blob_model.specs.Durable.{Durable, with_changed}
 use Rattle.blob_model.specs.Places.{Place, same_place}
 use Rattle.blob_memory.specs.declared.contents.Contents.{Contents}
 use Rattle.blob_memory.specs.Contents.{directory_of, vec_at, items_of, Fits}
@@ -11,7 +11,7 @@ use Rattle.blob_memory.specs.Store.{room_in}
 use Rattle.blob_memory.specs.Laws.{currents}
 
 -- bytes that are changed into themselves
-pub changed_idle : (f : Durable) (o : Place) (g : List ℕ → List ℕ) → ((x : List ℕ) → g x ≡ x) → changed f o g ≡ f
+pub changed_idle : (f : Durable) (o : Place) (g : List ℕ → List ℕ) → ((x : List ℕ) → g x ≡ x) → with_changed f o g ≡ f
 changed_idle f o g same = λ i a. push (same_place o a) (f a) i
   where
     at : (r : Option (List ℕ)) → option_map g r ≡ r

@@ -70,9 +70,9 @@ OrMemory expected answer = (answer ≡ Some Memory) ⊎ (answer ≡ expected)
 
 -- whether a write may take memory, by the room of a SYNC write and of a plain one: an idle one doesn't, nor one within its
 -- room, by any handle a plain one and by a current handle a SYNC write
-abbrev pub may_grow : Directory → Place → (Bool → ℕ) → ℕ → List ℕ → Bool → Bool
-may_grow d o room offset bytes sync = not (is_idle sync bytes || ((not sync || is_current d o) && nat_le (offset + length bytes) (room sync)))
+abbrev pub write_may_grow : Directory → Place → (Bool → ℕ) → ℕ → List ℕ → Bool → Bool
+write_may_grow d o room offset bytes sync = not (is_idle sync bytes || ((not sync || is_current d o) && nat_le (offset + length bytes) (room sync)))
 
 abbrev pub AllowsWrite : Directory → Place → (Bool → ℕ) → ℕ → List ℕ → Bool → Option Refusal → Type 0
 AllowsWrite d o room offset bytes sync answer =
-    ((answer ≡ Some Memory) × IsTrue (may_grow d o room offset bytes sync)) ⊎ (answer ≡ write_refusal d o offset bytes sync)
+    ((answer ≡ Some Memory) × IsTrue (write_may_grow d o room offset bytes sync)) ⊎ (answer ≡ write_refusal d o offset bytes sync)

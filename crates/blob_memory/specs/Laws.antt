@@ -11,7 +11,7 @@ use Rattle.blob_memory.specs.declared.item.Item.{Item}
 use Rattle.blob_memory.specs.declared.item.Item.TheVariants.{Raw, Held}
 use Rattle.blob_memory.specs.declared.item.Held as held
 use Rattle.blob_memory.specs.Contents.{directory_of, durable_of, file_of, file_when, vec_in, items_of}
-use Rattle.blob_memory.specs.Numbers.{number_of}
+use Rattle.blob_memory.specs.Numbers.{item_number}
 use Rattle.blob_memory.specs.Partitions.{item_at}
 
 -- the incarnations with durable bytes are the current ones
@@ -32,7 +32,7 @@ currents s o = at (item_at s.partitions o.partition o.name) where
 -- a current incarnation has a number below the next one
 pub given : (s : Contents) (o : Place) → is_current (directory_of s) o ≡ true → o.number < s.next
 given s o current = at (item_at s.partitions o.partition o.name) (s.numbered o.partition o.name) current where
-  at : (x : Option Item) → ((k : ℕ) → number_of x ≡ Some k → k < s.next) → is_that (file_of s.first x) o.number o.start ≡ true → o.number < s.next
+  at : (x : Option Item) → ((k : ℕ) → item_number x ≡ Some k → k < s.next) → is_that (file_of s.first x) o.number o.start ≡ true → o.number < s.next
   at None below e = absurd (false≢true e)
   at (Some (Raw bytes)) below e = absurd (false≢true e)
   at (Some (Held h)) below e = by_end (nat_lt h.number s.first) e where

@@ -8,7 +8,6 @@ pub mod ItemLends
 pub mod Laws
 pub mod Leaves
 pub mod Listing
-pub mod Maps
 pub mod Numbers
 pub mod Overlays
 pub mod Partitions

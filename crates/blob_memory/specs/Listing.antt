@@ -20,7 +20,7 @@ use Rattle.blob_memory.specs.declared.contents.Contents.{Contents}
 use Rattle.blob_memory.specs.declared.item.Item.{Item}
 use Rattle.blob_memory.specs.declared.item.Item.TheVariants.{Raw, Held}
 use Rattle.blob_memory.specs.declared.partitions.Partitions.{Partitions}
-use Rattle.blob_memory.specs.Maps.{found, below}
+use Rattle.blob_names.specs.Names.{found, below}
 use Rattle.blob_memory.specs.Partitions.{item_at}
 
 -- the raw bytes of an item, with the header
@@ -36,11 +36,11 @@ abbrev pub Names : Type 0
 Names = BTreeMap (Vec ℕ Global) Item
 
 -- a blob of a listing
-abbrev pub blob_of : List ℕ → List ℕ → Item → Listed
-blob_of p n item = record { partition = p; name = n; bytes = raw_bytes item }
+abbrev pub listed_of : List ℕ → List ℕ → Item → Listed
+listed_of p n item = record { partition = p; name = n; bytes = raw_bytes item }
 
 abbrev pub listed : List ℕ → Vec ℕ Global × Item → Listed
-listed p e = blob_of p e.0.items e.1
+listed p e = listed_of p e.0.items e.1
 
 -- the blobs of a partition
 abbrev pub listing_in : List ℕ → List (Vec ℕ Global × Item) → List Listed
@@ -77,14 +77,14 @@ raw_only (Some (directory.Incarnation number layout version)) = None
 abbrev pub raw_blob_of : Directory → Durable → List ℕ → List ℕ → Option (List ℕ)
 raw_blob_of d durable p n = raw_only (raw_again (λ o. unwrap_or (durable o) []) p n (d.file p n))
 
-abbrev pub behind : Result (Option (ℕ × BlobVersion × ℕ)) Failure → List ℕ → Option (List ℕ)
-behind (Ok None) raw = None
-behind (Ok (Some (size, version, offset))) raw = Some (drop offset raw)
-behind (Err failure) raw = None
+abbrev pub left_behind_header : Result (Option (ℕ × BlobVersion × ℕ)) Failure → List ℕ → Option (List ℕ)
+left_behind_header (Ok None) raw = None
+left_behind_header (Ok (Some (size, version, offset))) raw = Some (drop offset raw)
+left_behind_header (Err failure) raw = None
 
 -- what follows the header of a blob, of any layout and version, where it has one
 abbrev pub logical_found : List ℕ → Option (List ℕ)
-logical_found raw = behind (resolution raw (every_layout 0 65535)) raw
+logical_found raw = left_behind_header (resolution raw (every_layout 0 65535)) raw
 
 abbrev pub logical_blob_of : Directory → Durable → List ℕ → List ℕ → Option (List ℕ)
 logical_blob_of d durable p n = option_and_then logical_found (raw_blob_of d durable p n)

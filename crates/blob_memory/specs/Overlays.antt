@@ -3,7 +3,7 @@ use Rattle.std.specs.Prelude.{◌≡◌, ◌≤◌, ℕ, List, Result, OnOk, OnE
 use Rattle.std.specs.Global.{Global}
 
 -- these bytes now, and no less room
-pub record Becomes (old new : Vec ℕ Global) (bytes : List ℕ) : Type 0 where
+pub record AreNow (old new : Vec ℕ Global) (bytes : List ℕ) : Type 0 where
   pub items : new.items ≡ bytes
   pub capacity : vec_capacity old ≤ vec_capacity new
 

@@ -6,7 +6,7 @@ use Rattle.std.specs.String.{string_bytes}
 use Rattle.blob_memory.specs.declared.item.Item.{Item}
 use Rattle.blob_memory.specs.declared.item.Item.TheVariants.{Raw, Held}
 use Rattle.blob_memory.specs.declared.partitions.Partitions.{Partitions}
-use Rattle.blob_memory.specs.Maps.{found, below}
+use Rattle.blob_names.specs.Names.{found, below}
 
 -- the item of a name in a partition
 abbrev pub item_at : Partitions → List ℕ → List ℕ → Option Item
@@ -35,6 +35,6 @@ with_bytes_in None new = None
 with_bytes_in (Some item) new = Some (with_bytes item new)
 
 -- what a table has: each name's item, and the partitions that are there
-pub record Has (s : Partitions) (item : List ℕ → List ℕ → Option Item) (there : List ℕ → Bool) : Type 0 where
+pub record HasItems (s : Partitions) (item : List ℕ → List ℕ → Option Item) (there : List ℕ → Bool) : Type 0 where
   pub items : (p n : List ℕ) → item_at s p n ≡ item p n
   pub partitions : (p : List ℕ) → is_there s p ≡ there p

@@ -3,7 +3,7 @@ use Rattle.std.specs.Prelude.{◌≡◌, ℕ, ◌<◌, ◌≤◌, ◌^◌, List,
 use Rattle.std.specs.Global.{Global}
 use Rattle.blob_header.specs.declared.error.Error.{Error}
 use Rattle.blob_header.specs.Refusals.{refused, OffsetOverflow}
-use Rattle.blob_model.specs.Durable.{changed}
+use Rattle.blob_model.specs.Durable.{with_changed}
 use Rattle.blob_model.specs.Places.{Place}
 use Rattle.blob_memory.specs.declared.storage.Storage.{Storage}
 use Rattle.blob_memory.specs.Answers.{OrMemory, is_uncounted}
@@ -21,7 +21,7 @@ pub record NeedsRoom {T : Type 0} (result : Result T Error) (s : Storage) (o : P
 
 -- the durable bytes b of an incarnation are w now
 pub record Retakes (s t : Storage) (o : Place) (b w : Vec ℕ Global) : Type 0 where
-  pub durable : (change : List ℕ → List ℕ) → w.items ≡ change b.items → durable t ≡ changed (durable s) o change
+  pub durable : (change : List ℕ → List ℕ) → w.items ≡ change b.items → durable t ≡ with_changed (durable s) o change
   pub kept : vec_capacity b ≤ vec_capacity w → KeepsRoom s t
 
 -- nothing that is durable has changed
@@ -31,6 +31,6 @@ pub record IsAsBefore (s t : Storage) : Type 0 where
 
 -- the durable bytes of an incarnation changed, where it is current; refused, they are as before
 pub record Retains {T : Type 0} (result : Result T Error) (s t : Storage) (o : Place) (change : List ℕ → List ℕ) : Type 0 where
-  pub ok : OnOk result (durable t ≡ changed (durable s) o change)
+  pub ok : OnOk result (durable t ≡ with_changed (durable s) o change)
   pub err : OnErr result (durable t ≡ durable s)
   pub kept : KeepsRoom s t

@@ -8,16 +8,16 @@ use Rattle.blob_memory.specs.contracts.item.Item.{the_row as item_row}
 use Rattle.blob_memory.specs.declared.partitions.Partitions.{Partitions}
 use Rattle.blob_memory.specs.contracts.partitions.Partitions.{the_row}
 use Rattle.blob_memory.specs.ItemLends.{bytes_row}
-use Rattle.blob_memory.specs.Partitions.{item_at, is_there, with_item, with_bytes_in, Has}
+use Rattle.blob_memory.specs.Partitions.{item_at, is_there, with_item, with_bytes_in, HasItems}
 
 -- the name ends with the last item written through r, and nothing else changes
 abbrev pub LendsItem : MutBor Partitions → List ℕ → List ℕ → Option (MutBor Item) → Fml
 LendsItem s p n r = LendsSo the_row item_row s r
-    (λ t w. OnSome r (Has t (with_item (item_at s.now) p n (Some w)) (is_there s.now)))
-    (λ t. Has t (item_at s.now) (is_there s.now))
+    (λ t w. OnSome r (HasItems t (with_item (item_at s.now) p n (Some w)) (is_there s.now)))
+    (λ t. HasItems t (item_at s.now) (is_there s.now))
 
 -- the same of the logical bytes of its item
 abbrev pub LendsBytesAt : MutBor Partitions → List ℕ → List ℕ → Option (MutBor (Vec ℕ Global)) → Fml
 LendsBytesAt s p n r = LendsSo the_row bytes_row s r
-    (λ t w. Has t (with_item (item_at s.now) p n (with_bytes_in (item_at s.now p n) w)) (is_there s.now))
-    (λ t. Has t (item_at s.now) (is_there s.now))
+    (λ t w. HasItems t (with_item (item_at s.now) p n (with_bytes_in (item_at s.now p n) w)) (is_there s.now))
+    (λ t. HasItems t (item_at s.now) (is_there s.now))

@@ -3,8 +3,8 @@ ghost use Rattle.std.specs.Prelude.{◌≡◌, ◌++◌, List, ℕ};
 ghost use Rattle.blob_memory.specs.Audit.{piece_of, pieces_of, audit, IsListing};
 ghost use Rattle.blob_header.specs.Checksum.{crc32c};
 ghost use Rattle.blob_header.specs.Header.{region};
-ghost use Rattle.blob_header.specs.Register.{Holds};
-ghost use Rattle.blob_memory.specs.Listing.{raw_bytes, blob_of, raw_in, listing_in, listing_all, AreOrdered, AreOrderedNames, AreAllOrdered};
+ghost use Rattle.blob_header.specs.Register.{HasTaken};
+ghost use Rattle.blob_memory.specs.Listing.{raw_bytes, listed_of, raw_in, listing_in, listing_all, AreOrdered, AreOrderedNames, AreAllOrdered};
 
 use crate::item::Item;
 use blob_base::{BlobVersion, Crc32, Header, Layout};
@@ -12,7 +12,7 @@ use std::collections::BTreeMap;
 
 /// Feeds the region of a header.
 fn feed_header(crc: &mut Crc32, layout: Layout, version: BlobVersion)
-    ensures { (before : List ℕ) → Holds crc.old before → Holds crc.new (before ++ region layout version.0) }
+    ensures { (before : List ℕ) → HasTaken crc.old before → HasTaken crc.new (before ++ region layout version.0) }
 {
     let header = Header {
         magic: layout.magic(),
@@ -32,7 +32,7 @@ fn feed_header(crc: &mut Crc32, layout: Layout, version: BlobVersion)
 
 /// Feeds the raw bytes of an item.
 fn feed_item(crc: &mut Crc32, item: &Item)
-    ensures { (before : List ℕ) → Holds crc.old before → Holds crc.new (before ++ raw_bytes item.now) }
+    ensures { (before : List ℕ) → HasTaken crc.old before → HasTaken crc.new (before ++ raw_bytes item.now) }
 {
     match item {
         Item::Raw(bytes) => crc.update(bytes),
@@ -45,7 +45,7 @@ fn feed_item(crc: &mut Crc32, item: &Item)
 
 /// Feeds a blob.
 fn feed_blob(crc: &mut Crc32, partition: &str, name: &[u8], item: &Item)
-    ensures { (before : List ℕ) → Holds crc.old before → Holds crc.new (before ++ piece_of (blob_of partition.now name.now item.now)) }
+    ensures { (before : List ℕ) → HasTaken crc.old before → HasTaken crc.new (before ++ piece_of (listed_of partition.now name.now item.now)) }
 {
     crc.update(b"partition");
     crc.update(partition.as_bytes());
@@ -57,7 +57,7 @@ fn feed_blob(crc: &mut Crc32, partition: &str, name: &[u8], item: &Item)
 
 /// Feeds the blobs of a partition.
 fn feed_names(crc: &mut Crc32, partition: &str, names: &BTreeMap<Vec<u8>, Item>)
-    ensures fed { (before : List ℕ) → Holds crc.old before → Holds crc.new (before ++ pieces_of (listing_in partition.now names.now.entries)) }
+    ensures fed { (before : List ℕ) → HasTaken crc.old before → HasTaken crc.new (before ++ pieces_of (listing_in partition.now names.now.entries)) }
     ensures ordered { AreOrderedNames names.now }
 {
     for (name, item) in names.iter() {
@@ -67,7 +67,7 @@ fn feed_names(crc: &mut Crc32, partition: &str, names: &BTreeMap<Vec<u8>, Item>)
 
 /// Feeds the blobs of all partitions.
 fn feed_partitions(crc: &mut Crc32, partitions: &BTreeMap<String, BTreeMap<Vec<u8>, Item>>)
-    ensures fed { (before : List ℕ) → Holds crc.old before → Holds crc.new (before ++ pieces_of (listing_all partitions.now.entries)) }
+    ensures fed { (before : List ℕ) → HasTaken crc.old before → HasTaken crc.new (before ++ pieces_of (listing_all partitions.now.entries)) }
     ensures ordered { AreOrdered partitions.now }
     ensures all_ordered { AreAllOrdered partitions.now.entries }
 {

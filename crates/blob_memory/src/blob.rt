@@ -2,7 +2,7 @@
 ghost use Rattle.std.specs.Prelude.{◌≡◌, ℕ, ◌≤◌, ◌+◌, ◌≢◌, [], true, false, None, OnOk, IfOk, OnErr, length, take, drop, vec_capacity};
 ghost use Rattle.blob_model.specs.Bytes.{overlay, resized, written};
 ghost use Rattle.blob_model.specs.Directory.{Directory, is_current};
-ghost use Rattle.blob_model.specs.Durable.{changed};
+ghost use Rattle.blob_model.specs.Durable.{with_changed};
 ghost use Rattle.blob_model.specs.Live.{live_after};
 ghost use Rattle.blob_header.specs.Refusals.{refused, refusal_of, IsMemory};
 ghost use Rattle.blob_memory.specs.Answers.{missing, read_refusal};
@@ -73,7 +73,7 @@ impl Blob {
     fn write_sync(&mut self, store: &mut Storage, offset: u64, bytes: &IoBufs) -> Result<(), Error>
         ensures allowed { AllowsWrite (directory store.old) (place self.old) (room_for self.old store.old) offset bytes.now true (refused result) }
         ensures live { live self.new ≡ live_after true (live self.old) offset bytes.now (refused result) }
-        ensures durable { OnOk result (durable store.new ≡ changed (durable store.old) (place self.old) (λ x. overlay x offset bytes.now)) }
+        ensures durable { OnOk result (durable store.new ≡ with_changed (durable store.old) (place self.old) (λ x. overlay x offset bytes.now)) }
         ensures current { OnOk result (bytes.now ≢ [] → is_current (directory store.old) (place self.old) ≡ true) }
         ensures stale { is_current (directory store.old) (place self.old) ≡ false → durable store.new ≡ durable store.old }
         ensures err { OnErr result (durable store.new ≡ durable store.old) }

@@ -3,7 +3,7 @@ ghost use Rattle.std.specs.Prelude.{◌≡◌, ◌≤◌, ◌<◌, ◌+◌, ◌^
 ghost use Rattle.std.specs.List.{flat_map, list_all};
 ghost use Rattle.blob_model.specs.Bytes.{overlay, overlay_by, reach, resized};
 ghost use Rattle.blob_model.specs.Runs.{picked};
-ghost use Rattle.blob_memory.specs.Overlays.{Becomes, Grows};
+ghost use Rattle.blob_memory.specs.Overlays.{AreNow, Grows};
 
 use blob_base::IoBufs;
 use std::alloc::AllocError;
@@ -22,7 +22,7 @@ pub(crate) fn make_room(bytes: &mut Vec<u8>, len: usize) -> Result<(), AllocErro
 /// Adds zeros up to a length.
 pub(crate) fn grow(bytes: &mut Vec<u8>, len: usize)
     requires { len ≤ vec_capacity bytes.old }
-    ensures { Becomes bytes.old bytes.new (resized bytes.old.items (max (length bytes.old.items) len)) }
+    ensures { AreNow bytes.old bytes.new (resized bytes.old.items (max (length bytes.old.items) len)) }
 {
     if bytes.len() < len {
         bytes.resize(len, 0).unwrap();
@@ -32,7 +32,7 @@ pub(crate) fn grow(bytes: &mut Vec<u8>, len: usize)
 /// Cuts off what lies past a length, or adds zeros up to it.
 pub(crate) fn set_len(bytes: &mut Vec<u8>, len: usize)
     requires { len ≤ vec_capacity bytes.old }
-    ensures { Becomes bytes.old bytes.new (resized bytes.old.items len) }
+    ensures { AreNow bytes.old bytes.new (resized bytes.old.items len) }
 {
     bytes.resize(len, 0).unwrap();
 }
@@ -128,7 +128,7 @@ fn copy_chosen_pieces(bytes: &mut [u8], offset: usize, pieces: &[Vec<u8>], keep:
 pub(crate) fn lay(bytes: &mut Vec<u8>, offset: usize, run: &IoBufs)
     requires fits { offset + length run.now < 2 ^ 64 }
     requires room { offset + length run.now ≤ vec_capacity bytes.old }
-    ensures { Becomes bytes.old bytes.new (overlay bytes.old.items offset run.now) }
+    ensures { AreNow bytes.old bytes.new (overlay bytes.old.items offset run.now) }
 {
     let len = run.remaining();
     if len == 0 {
@@ -142,7 +142,7 @@ pub(crate) fn lay(bytes: &mut Vec<u8>, offset: usize, run: &IoBufs)
 pub(crate) fn lay_slice(bytes: &mut Vec<u8>, offset: usize, run: &[u8])
     requires fits { offset + length run.now < 2 ^ 64 }
     requires room { offset + length run.now ≤ vec_capacity bytes.old }
-    ensures { Becomes bytes.old bytes.new (overlay bytes.old.items offset run.now) }
+    ensures { AreNow bytes.old bytes.new (overlay bytes.old.items offset run.now) }
 {
     let len = run.len();
     if len == 0 {

@@ -5,7 +5,7 @@ ghost use Rattle.blob_memory.specs.Audit.{audit, IsListing};
 ghost use Rattle.blob_header.specs.Checksum.{crc32c};
 ghost use Rattle.blob_memory.specs.Listing.{listing_of, raw_at};
 ghost use Rattle.blob_base.specs.Names.{AreNames};
-ghost use Rattle.blob_memory.specs.Maps.{found};
+ghost use Rattle.blob_names.specs.Names.{found};
 ghost use Rattle.blob_memory.specs.Partitions.{item_at, is_there, with_item, without_partition};
 ghost use Rattle.blob_memory.specs.Contents.{vec_in};
 ghost use Rattle.blob_memory.specs.TableLends.{LendsItem, LendsBytesAt};

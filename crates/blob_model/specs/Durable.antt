@@ -12,8 +12,8 @@ abbrev pub with_at : {X : Type 0} → (Place → X) → Place → X → Place �
 with_at f o x a = cond (same_place o a) x (f a)
 
 -- the bytes of one incarnation changed, where it is current
-abbrev pub changed : Durable → Place → (List ℕ → List ℕ) → Durable
-changed f o g a = cond (same_place o a) (option_map g (f a)) (f a)
+abbrev pub with_changed : Durable → Place → (List ℕ → List ℕ) → Durable
+with_changed f o g a = cond (same_place o a) (option_map g (f a)) (f a)
 
 -- whether an incarnation is of a name, or with none of any name of the partition
 abbrev pub is_under : List ℕ → Option (List ℕ) → Place → Bool

@@ -5,7 +5,7 @@ use Rattle.blob_model.specs.Places.{Place, same_place}
 use Rattle.blob_model.specs.Directory.{File, Raw, Incarnation, Directory, current, is_current, directory_made, removed}
 use Rattle.blob_model.specs.Durable.{with_at, is_under}
 use Rattle.blob_header.specs.Header.{region}
-use Rattle.blob_model.specs.Log.{Entry, Kept, Loose, Resized, Need, Choices, need_of, with_need, durable, crashed}
+use Rattle.blob_model.specs.Log.{Entry, Kept, Loose, Resized, Need, Choices, need_of, with_need, durable_after, crashed}
 use Rattle.blob_model.specs.Opening.{Opening, Continues, Begins, Declines, opening, place_of}
 
 -- a mutation, and the incarnation that it is of
@@ -30,9 +30,9 @@ log_of [] o = []
 log_of (e ∷ log) o = if same_place e.place o then e.entry ∷ log_of log o else log_of log o
 
 -- what is left of a log where those of some incarnations are emptied
-abbrev pub without : (Place → Bool) → List Logged → List Logged
-without gone [] = []
-without gone (e ∷ log) = if gone e.place then without gone log else e ∷ without gone log
+abbrev pub log_but_for : (Place → Bool) → List Logged → List Logged
+log_but_for gone [] = []
+log_but_for gone (e ∷ log) = if gone e.place then log_but_for gone log else e ∷ log_but_for gone log
 
 -- an entry's need, given what its own log has after it
 abbrev pub need_at : Entry → List Entry → List Need → List Need
@@ -74,7 +74,7 @@ all_logged f o (e ∷ es) = all_logged (logged f o e) o es
 
 -- a base that is published, by a sync the handle's live bytes: the incarnation's log is emptied
 abbrev pub published : Files → Place → List ℕ → Files
-published f o x = record f { base = with_at f.base o x; log = without (same_place o) f.log }
+published f o x = record f { base = with_at f.base o x; log = log_but_for (same_place o) f.log }
 
 -- by a started sync that succeeded, which takes the next marker
 abbrev pub started : Files → Place → List ℕ → Files
@@ -82,7 +82,7 @@ started f o live = record (published f o live) { next_marker = f.next_marker + 1
 
 -- what is durable of an incarnation
 abbrev pub durable_at : Files → Place → List ℕ
-durable_at f o = durable (f.base o) (log_of f.log o)
+durable_at f o = durable_after (f.base o) (log_of f.log o)
 
 -- where what is pending of a current incarnation is retired, what is durable
 abbrev pub admitted_at : Files → Option Place → Files
@@ -108,22 +108,22 @@ made f p n layout version bytes = record f {
   base = with_at f.base (place_of p n f.directory.next layout) bytes;
 }
 
-abbrev pub opened : Files → List ℕ → List ℕ → Opening → Files
-opened f p n (Continues number layout version) = f
-opened f p n (Begins layout version live) = made f p n layout version live
-opened f p n (Declines refusal) = f
+abbrev pub with_opening : Files → List ℕ → List ℕ → Opening → Files
+with_opening f p n (Continues number layout version) = f
+with_opening f p n (Begins layout version live) = made f p n layout version live
+with_opening f p n (Declines refusal) = f
 
 -- for the versions from first to last, by what it finds
 abbrev pub after_open : Files → List ℕ → List ℕ → ℕ → ℕ → Files
-after_open f p n first last = opened f p n (opening p n (f.directory.file p n) first last)
+after_open f p n first last = with_opening f p n (opening p n (f.directory.file p n) first last)
 
 -- A removal of a name, or with none of the whole partition: the log of each incarnation that ends is emptied. Those of incarnations that ended earlier stay.
 
-abbrev pub ends_by : Directory → List ℕ → Option (List ℕ) → Place → Bool
-ends_by d p n o = is_under p n o && is_current d o
+abbrev pub is_removed_by : Directory → List ℕ → Option (List ℕ) → Place → Bool
+is_removed_by d p n o = is_under p n o && is_current d o
 
 abbrev pub after_remove : Files → List ℕ → Option (List ℕ) → Files
-after_remove f p n = record f { directory = removed f.directory p n; log = without (ends_by f.directory p n) f.log }
+after_remove f p n = record f { directory = removed f.directory p n; log = log_but_for (is_removed_by f.directory p n) f.log }
 
 -- A store that is rebuilt from a snapshot: each current incarnation ends and is a raw file, its header and its durable bytes.
 

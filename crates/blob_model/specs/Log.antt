@@ -27,9 +27,9 @@ lasting x (Kept o b) = overlay x o b
 lasting x (Loose w) = x
 lasting x (Resized n) = x
 
-abbrev pub durable : List ℕ → List Entry → List ℕ
-durable base [] = base
-durable base (e ∷ log) = durable (lasting base e) log
+abbrev pub durable_after : List ℕ → List Entry → List ℕ
+durable_after base [] = base
+durable_after base (e ∷ log) = durable_after (lasting base e) log
 
 -- what a crash makes of one entry
 abbrev pub left_by : List ℕ → Entry → Choices → List ℕ

@@ -9,7 +9,7 @@ use Rattle.std.specs.Result.{OnErr}
 use Rattle.std.specs.Str.{bytes_eq}
 use Rattle.std.proofs.lemmas.Bool.{cases_Bool, cond-true, cond-false}
 use Rattle.std.proofs.lemmas.Map.Text.{is_eq-slice_cmp}
-use Rattle.blob_names.specs.Names.{found, below, with_at, with_partition}
+use Rattle.blob_names.specs.Names.{found, below, with_name, with_all_names}
 
 apart : (bs cs ks : List ℕ) → bytes_eq bs cs ≡ false → is_eq (slice_cmp nat_cmp bs ks) ≡ true → is_eq (slice_cmp nat_cmp cs ks) ≡ false
 apart bs cs ks n y =
@@ -49,7 +49,7 @@ module _ {M X : Type 0} (v : M → List ℕ → Option X) (f g : List ℕ → Op
   levels : (n : List ℕ) (w : Option M) (x : Option X)
       → ((cs : List ℕ) → g cs ≡ update bytes_eq f p w cs)
       → ((m : List ℕ) → below v w m ≡ cond (bytes_eq n m) x (below v (f p) m))
-      → (q m : List ℕ) → below v (g q) m ≡ with_at (λ r l. below v (f r) l) p n x q m
+      → (q m : List ℕ) → below v (g q) m ≡ with_name (λ r l. below v (f r) l) p n x q m
   levels n w x outer inner q m =
       ⊎_elim
       (λ y.
@@ -67,14 +67,14 @@ module _ {M X : Type 0} (v : M → List ℕ → Option X) (f g : List ℕ → Op
   pub set_below : (n : List ℕ) (a b : M) (x : Option X) → f p ≡ Some a
       → ((cs : List ℕ) → g cs ≡ update bytes_eq f p (Some b) cs)
       → ((m : List ℕ) → v b m ≡ update bytes_eq (v a) n x m)
-      → (q m : List ℕ) → below v (g q) m ≡ with_at (λ r l. below v (f r) l) p n x q m
+      → (q m : List ℕ) → below v (g q) m ≡ with_name (λ r l. below v (f r) l) p n x q m
   set_below n a b x here outer inner = levels n (Some b) x outer (λ m. inner m ∙ ap (λ o. cond (bytes_eq n m) x (below v o m)) (sym here))
 
   -- a map below that is new
   pub new_below : (n : List ℕ) (b : M) (x : Option X) → f p ≡ None
       → ((cs : List ℕ) → g cs ≡ update bytes_eq f p (Some b) cs)
       → ((m : List ℕ) → v b m ≡ cond (bytes_eq n m) x None)
-      → (q m : List ℕ) → below v (g q) m ≡ with_at (λ r l. below v (f r) l) p n x q m
+      → (q m : List ℕ) → below v (g q) m ≡ with_name (λ r l. below v (f r) l) p n x q m
   new_below n b x here outer inner = levels n (Some b) x outer (λ m. inner m ∙ ap (λ o. cond (bytes_eq n m) x (below v o m)) (sym here))
 
   -- a map below that went with its last value
@@ -82,7 +82,7 @@ module _ {M X : Type 0} (v : M → List ℕ → Option X) (f g : List ℕ → Op
       → ((cs : List ℕ) → g cs ≡ update bytes_eq f p None cs)
       → ((m : List ℕ) → v b m ≡ update bytes_eq (v a) n None m)
       → ((m : List ℕ) → v b m ≡ None)
-      → (q m : List ℕ) → below v (g q) m ≡ with_at (λ r l. below v (f r) l) p n None q m
+      → (q m : List ℕ) → below v (g q) m ≡ with_name (λ r l. below v (f r) l) p n None q m
   emptied_below n a b here outer inner empty = levels n None None outer (λ m. sym (empty m) ∙ inner m ∙ ap (λ o. cond (bytes_eq n m) None (below v o m)) (sym here))
 
   -- a map below that answers as before
@@ -99,7 +99,7 @@ module _ {M X : Type 0} (v : M → List ℕ → Option X) (f g : List ℕ → Op
       (cases_Bool (bytes_eq p q))
 
   -- nothing to take out
-  pub none_below : (n : List ℕ) → below v (f p) n ≡ None → (q m : List ℕ) → below v (f q) m ≡ with_at (λ r l. below v (f r) l) p n None q m
+  pub none_below : (n : List ℕ) → below v (f p) n ≡ None → (q m : List ℕ) → below v (f q) m ≡ with_name (λ r l. below v (f r) l) p n None q m
   none_below n here q m =
       ⊎_elim
       (λ y.
@@ -113,7 +113,7 @@ module _ {M X : Type 0} (v : M → List ℕ → Option X) (f g : List ℕ → Op
       (cases_Bool (bytes_eq p q))
 
   -- a partition that went
-  pub gone_below : ((cs : List ℕ) → g cs ≡ update bytes_eq f p None cs) → (q m : List ℕ) → below v (g q) m ≡ with_partition (λ r l. below v (f r) l) None p q m
+  pub gone_below : ((cs : List ℕ) → g cs ≡ update bytes_eq f p None cs) → (q m : List ℕ) → below v (g q) m ≡ with_all_names (λ r l. below v (f r) l) None p q m
   gone_below outer q m =
       ⊎_elim
       (λ y. ap (λ o. below v o m) (outer q ∙ cond-true (bytes_eq p q) None (f q) y) ∙ sym (cond-true (bytes_eq p q) None (below v (f q) m) y))

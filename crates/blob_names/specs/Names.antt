@@ -21,9 +21,9 @@ abbrev pub at : {V : Type 0} → Names V → List ℕ → List ℕ → Option V
 at s p n = below (found (λ k. k.items)) (found string_bytes s.partitions p) n
 
 -- one name's value made new
-abbrev pub with_at : {X : Type 0} → (List ℕ → List ℕ → X) → List ℕ → List ℕ → X → List ℕ → List ℕ → X
-with_at f p n value q m = cond (bytes_eq p q) (cond (bytes_eq n m) value (f q m)) (f q m)
+abbrev pub with_name : {X : Type 0} → (List ℕ → List ℕ → X) → List ℕ → List ℕ → X → List ℕ → List ℕ → X
+with_name f p n value q m = cond (bytes_eq p q) (cond (bytes_eq n m) value (f q m)) (f q m)
 
 -- the values of a partition made new
-abbrev pub with_partition : {X : Type 0} → (List ℕ → List ℕ → X) → X → List ℕ → List ℕ → List ℕ → X
-with_partition f x p q m = cond (bytes_eq p q) x (f q m)
+abbrev pub with_all_names : {X : Type 0} → (List ℕ → List ℕ → X) → X → List ℕ → List ℕ → List ℕ → X
+with_all_names f x p q m = cond (bytes_eq p q) x (f q m)

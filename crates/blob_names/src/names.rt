@@ -1,7 +1,7 @@
 // A map from the names of blobs, looked up by borrowed texts, so that only a new name takes memory.
 ghost use Rattle.std.specs.Prelude.{◌≡◌, OnOk, OnErr, option_copied, None, Some, is_some};
 ghost use Rattle.std.specs.Bool.{OnTrue, OnFalse};
-ghost use Rattle.blob_names.specs.Names.{at, with_at, with_partition};
+ghost use Rattle.blob_names.specs.Names.{at, with_name, with_all_names};
 
 use std::alloc::{AllocError, Global};
 use std::collections::BTreeMap;
@@ -37,7 +37,7 @@ impl<V: Drop> Names<V> {
     /// Exchanges a name's value for the one that is handed in, and answers whether the name is there.
     pub fn exchange(&mut self, partition: &str, name: &[u8], value: &mut V) -> bool
         ensures found { result ≡ is_some (at self.old partition.now name.now) }
-        ensures given { OnTrue result (at self.new ≡ with_at (at self.old) partition.now name.now (Some value.old)) }
+        ensures given { OnTrue result (at self.new ≡ with_name (at self.old) partition.now name.now (Some value.old)) }
         ensures taken { OnTrue result (at self.old partition.now name.now ≡ Some value.new) }
         ensures same { OnFalse result (at self.new ≡ at self.old) }
         ensures kept { OnFalse result (value.new ≡ value.old) }
@@ -55,7 +55,7 @@ impl<V: Drop> Names<V> {
     /// Sets a name's value. Takes memory only for a name that isn't there. The only error is want of memory, and leaves everything
     /// as it was.
     pub fn insert(&mut self, partition: &str, name: &[u8], mut value: V) -> Result<(), AllocError>
-        ensures ok { OnOk result (at self.new ≡ with_at (at self.old) partition.now name.now (Some value)) }
+        ensures ok { OnOk result (at self.new ≡ with_name (at self.old) partition.now name.now (Some value)) }
         ensures err { OnErr result (at self.new ≡ at self.old) }
     {
         if self.exchange(partition, name, &mut value) {
@@ -65,7 +65,7 @@ impl<V: Drop> Names<V> {
     }
 
     fn add(&mut self, partition: &str, name: &[u8], value: V) -> Result<(), AllocError>
-        ensures ok { OnOk result (at self.new ≡ with_at (at self.old) partition.now name.now (Some value)) }
+        ensures ok { OnOk result (at self.new ≡ with_name (at self.old) partition.now name.now (Some value)) }
         ensures err { OnErr result (at self.new ≡ at self.old) }
     {
         let key = Vec::from_slice(self.alloc, name)?;
@@ -82,7 +82,7 @@ impl<V: Drop> Names<V> {
 
     /// Takes a name out, and its partition with the last one.
     pub fn remove(&mut self, partition: &str, name: &[u8])
-        ensures { at self.new ≡ with_at (at self.old) partition.now name.now None }
+        ensures { at self.new ≡ with_name (at self.old) partition.now name.now None }
     {
         let Some(names) = self.partitions.get_mut(partition) else {
             return;
@@ -95,7 +95,7 @@ impl<V: Drop> Names<V> {
 
     /// Takes out all names of a partition.
     pub fn remove_partition(&mut self, partition: &str)
-        ensures { at self.new ≡ with_partition (at self.old) None partition.now }
+        ensures { at self.new ≡ with_all_names (at self.old) None partition.now }
     {
         self.partitions.remove(partition);
     }

@@ -3,8 +3,8 @@ use Rattle.std.proofs.Common.{◌≡◌, ◌≢◌, ℕ, ◌<◌, ◌⊎◌, inl
 use Rattle.std.proofs.lemmas.Bool.{cases_Bool, eqb-true, cond-true, cond-false}
 use Rattle.std.specs.Str.{bytes_eq}
 use Rattle.std.specs.Cmp.Lexicographic.{bytes_decides}
-use Rattle.blob_names.specs.Names.{with_at}
-use Rattle.blob_opens.specs.OpenNames.{Registration, Deed, Opened, Closed, Ended, Rebuilt, after, unless_number}
+use Rattle.blob_names.specs.Names.{with_name}
+use Rattle.blob_opens.specs.OpenNames.{Registration, Deed, Opened, Closed, Ended, Rebuilt, after_deeds, unless_number}
 
 -- one of two is picked
 picked : (b d : Bool) (x y : Option ℕ) (k : ℕ) → cond b (cond d x y) y ≡ Some k → (x ≡ Some k) ⊎ (y ≡ Some k)
@@ -20,28 +20,28 @@ was j k (Some m) e = by_test (m == j) e where
   by_test false f = f
 
 -- an open's number was given before
-pub numbers_below : (h : List Deed) (p n : List ℕ) (k : ℕ) → (after h).registered p n ≡ Some k → k < (after h).next
+pub numbers_below : (h : List Deed) (p n : List ℕ) (k : ℕ) → (after_deeds h).registered p n ≡ Some k → k < (after_deeds h).next
 numbers_below [] p n k e = cc
 numbers_below (Opened q m ∷ h) p n k e =
     ⊎_elim
-    (λ (here : Some (after h).next ≡ Some k). let same : (after h).next ≡ k = cc in omega arith)
-    (λ (there : (after h).registered p n ≡ Some k). let below : k < (after h).next = numbers_below h p n k there in omega arith)
-    (picked (bytes_eq q p) (bytes_eq m n) (Some (after h).next) ((after h).registered p n) k e)
+    (λ (here : Some (after_deeds h).next ≡ Some k). let same : (after_deeds h).next ≡ k = cc in omega arith)
+    (λ (there : (after_deeds h).registered p n ≡ Some k). let below : k < (after_deeds h).next = numbers_below h p n k there in omega arith)
+    (picked (bytes_eq q p) (bytes_eq m n) (Some (after_deeds h).next) ((after_deeds h).registered p n) k e)
 numbers_below (Closed r ∷ h) p n k e =
     ⊎_elim
-    (λ here. numbers_below h r.partition r.name k (was r.number k ((after h).registered r.partition r.name) here))
+    (λ here. numbers_below h r.partition r.name k (was r.number k ((after_deeds h).registered r.partition r.name) here))
     (λ there. numbers_below h p n k there)
-    (picked (bytes_eq r.partition p) (bytes_eq r.name n) (unless_number r.number ((after h).registered r.partition r.name)) ((after h).registered p n) k e)
+    (picked (bytes_eq r.partition p) (bytes_eq r.name n) (unless_number r.number ((after_deeds h).registered r.partition r.name)) ((after_deeds h).registered p n) k e)
 numbers_below (Ended q (Some m) ∷ h) p n k e =
     ⊎_elim
     (λ (here : None ≡ Some k). cc)
     (λ there. numbers_below h p n k there)
-    (picked (bytes_eq q p) (bytes_eq m n) None ((after h).registered p n) k e)
+    (picked (bytes_eq q p) (bytes_eq m n) None ((after_deeds h).registered p n) k e)
 numbers_below (Ended q None ∷ h) p n k e =
     ⊎_elim
     (λ (here : None ≡ Some k). cc)
     (λ there. numbers_below h p n k there)
-    (picked (bytes_eq q p) true None ((after h).registered p n) k e)
+    (picked (bytes_eq q p) true None ((after_deeds h).registered p n) k e)
 numbers_below (Rebuilt ∷ h) p n k e = cc
 
 stays : (j k : ℕ) → k ≢ j → unless_number j (Some k) ≡ Some k
@@ -51,7 +51,7 @@ stays j k o = by_test (k == j) refl where
   by_test false e = refl
 
 -- a change at one name that keeps this
-changed_at : (f : List ℕ → List ℕ → Option ℕ) (q m : List ℕ) (g : Option ℕ → Option ℕ) (p n : List ℕ) (k : ℕ) → f p n ≡ Some k → g (Some k) ≡ Some k → with_at f q m (g (f q m)) p n ≡ Some k
+changed_at : (f : List ℕ → List ℕ → Option ℕ) (q m : List ℕ) (g : Option ℕ → Option ℕ) (p n : List ℕ) (k : ℕ) → f p n ≡ Some k → g (Some k) ≡ Some k → with_name f q m (g (f q m)) p n ≡ Some k
 changed_at f q m g p n k e same =
     ⊎_elim
     (λ y. ⊎_elim
@@ -64,5 +64,5 @@ changed_at f q m g p n k e same =
     (cases_Bool (bytes_eq q p))
 
 -- the close of another handle
-pub close_leaves : (h : List Deed) (r : Registration) (p n : List ℕ) (k : ℕ) → (after h).registered p n ≡ Some k → k ≢ r.number → (after (Closed r ∷ h)).registered p n ≡ Some k
-close_leaves h r p n k e o = changed_at (after h).registered r.partition r.name (unless_number r.number) p n k e (stays r.number k o)
+pub close_leaves : (h : List Deed) (r : Registration) (p n : List ℕ) (k : ℕ) → (after_deeds h).registered p n ≡ Some k → k ≢ r.number → (after_deeds (Closed r ∷ h)).registered p n ≡ Some k
+close_leaves h r p n k e o = changed_at (after_deeds h).registered r.partition r.name (unless_number r.number) p n k e (stays r.number k o)

@@ -2,7 +2,7 @@
 use Rattle.std.specs.Prelude.{◌≡◌, ℕ, ◌+◌, ◌-◌, ◌^◌, List, [], ◌∷◌, ◌==◌, if◌then◌else◌, Option, Some, None, ◌<◌}
 use Rattle.hex.specs.Hex.{encode_lower}
 use Rattle.blob_header.specs.Refusals.{Refusal, BlobAlreadyOpen, GenerationsExhausted, Memory}
-use Rattle.blob_names.specs.Names.{with_at, with_partition}
+use Rattle.blob_names.specs.Names.{with_name, with_all_names}
 
 -- an accepted open: the name, and a number that no other open gets
 pub record Registration : Type 0 where
@@ -27,7 +27,7 @@ pub data Deed : Type 0 where
   Rebuilt : Deed
 
 abbrev pub opened : OpenNames → List ℕ → List ℕ → OpenNames
-opened s p n = record { registered = with_at s.registered p n (Some s.next); next = s.next + 1 }
+opened s p n = record { registered = with_name s.registered p n (Some s.next); next = s.next + 1 }
 
 -- what holds a name, unless it is this open
 abbrev pub unless_number : ℕ → Option ℕ → Option ℕ
@@ -35,10 +35,10 @@ unless_number k None = None
 unless_number k (Some m) = if m == k then None else Some m
 
 abbrev pub closed : OpenNames → Registration → OpenNames
-closed s r = record { registered = with_at s.registered r.partition r.name (unless_number r.number (s.registered r.partition r.name)); next = s.next }
+closed s r = record { registered = with_name s.registered r.partition r.name (unless_number r.number (s.registered r.partition r.name)); next = s.next }
 
 abbrev pub ended : OpenNames → List ℕ → Option (List ℕ) → OpenNames
-ended s p n = record s { registered = elim n [ Some m ↦ with_at s.registered p m None | None ↦ with_partition s.registered None p ] }
+ended s p n = record s { registered = elim n [ Some m ↦ with_name s.registered p m None | None ↦ with_all_names s.registered None p ] }
 
 -- no name is open; numbers that were given aren't given again
 abbrev pub none_open : ℕ → OpenNames
@@ -46,12 +46,12 @@ none_open next = record { registered = λ p n. None; next = next }
 
 -- A name is open where there was an accepted open of it, since when its handle wasn't closed, neither the name nor its
 -- partition was ended, and the store wasn't built anew.
-abbrev pub after : List Deed → OpenNames
-after [] = none_open 0
-after (Opened p n ∷ h) = opened (after h) p n
-after (Closed r ∷ h) = closed (after h) r
-after (Ended p n ∷ h) = ended (after h) p n
-after (Rebuilt ∷ h) = none_open (after h).next
+abbrev pub after_deeds : List Deed → OpenNames
+after_deeds [] = none_open 0
+after_deeds (Opened p n ∷ h) = opened (after_deeds h) p n
+after_deeds (Closed r ∷ h) = closed (after_deeds h) r
+after_deeds (Ended p n ∷ h) = ended (after_deeds h) p n
+after_deeds (Rebuilt ∷ h) = none_open (after_deeds h).next
 
 -- no number is left for an open of a name that isn't open: the greatest is never given
 pub record IsExhausted (s : OpenNames) (p n : List ℕ) : Type 0 where

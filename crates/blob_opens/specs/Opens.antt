@@ -18,8 +18,8 @@ abbrev pub registration_of : {B : Type 0} → Blob B → Registration
 registration_of b = b.registration
 
 -- the store's own handle
-abbrev pub inner_of : {B : Type 0} → Blob B → B
-inner_of b = b.inner
+abbrev pub store_handle : {B : Type 0} → Blob B → B
+store_handle b = b.inner
 
 -- a store's open was accepted, with this left of it in the store
 pub record IsMade (d : Directory) (durable : Durable) (d' : Directory) (durable' : Durable) (p n : List ℕ) (first last : ℕ) : Type 0 where

@@ -2,7 +2,7 @@
 ghost use Rattle.std.specs.Prelude.{◌≡◌, ◌≢◌, ◌+◌, ◌≤◌, ℕ, List, [], Bool, true, false, Option, Some, None, IsSome, OnOk, OnErr, IfOk, length, take, drop};
 ghost use Rattle.blob_model.specs.Bytes.{overlay, resized};
 ghost use Rattle.blob_model.specs.Directory.{is_current};
-ghost use Rattle.blob_model.specs.Durable.{changed};
+ghost use Rattle.blob_model.specs.Durable.{with_changed};
 ghost use Rattle.blob_base.specs.Handles.{outcome_of};
 ghost use Rattle.blob_model.specs.Live.{live_written, live_after};
 ghost use Rattle.blob_base.specs.Options.{is_sync};
@@ -39,11 +39,11 @@ pub struct Blob<B> {
 }
 
 impl<B> Blob<B> {
-    ghost use Rattle.blob_opens.specs.Opens.{inner_of};
+    ghost use Rattle.blob_opens.specs.Opens.{store_handle};
 
     /// The store's own handle, for what isn't a call of the traits, as a wrapper's tracked size.
     pub fn inner(&self) -> &B
-        ensures { result.now ≡ inner_of self.now }
+        ensures { result.now ≡ store_handle self.now }
     {
         &self.inner
     }

@@ -7,8 +7,8 @@ ghost use Rattle.blob_model.specs.Durable.{durable_without};
 ghost use Rattle.blob_model.specs.Opening.{IsOpened};
 ghost use Rattle.blob_header.specs.Refusals.{refused, refusal_of, Memory, BlobAlreadyOpen, GenerationsExhausted, IsMemory};
 ghost use Rattle.blob_opens.specs.OpenNames.{opened, closed, ended, none_open, IsExhausted, OpenAnswer};
-ghost use Rattle.blob_names.specs.Names.{with_at};
-ghost use Rattle.blob_opens.specs.Opens.{names_of, registration_of, inner_of, IsMade};
+ghost use Rattle.blob_names.specs.Names.{with_name};
+ghost use Rattle.blob_opens.specs.Opens.{names_of, registration_of, store_handle, IsMade};
 
 pub mod history;
 
@@ -64,9 +64,9 @@ impl Opens {
         ensures registered { OnOk result (names_of self.new ≡ opened (names_of self.old) partition.now name.now) }
         ensures err { OnErr result (names_of self.new ≡ names_of self.old) }
         ensures handle { IfOk result (λ opened. registration_of opened.0 ≡ record { partition = partition.now; name = name.now; number = (names_of self.old).next }) }
-        ensures opened { IfOk result (λ opened. IsOpened (S.directory store.old) (S.durable store.old) (S.directory store.new) (S.durable store.new) partition.now name.now (range_inclusive_start versions).0 (range_inclusive_end versions).0 (S.Blob.place (inner_of opened.0)) (S.Blob.live (inner_of opened.0)) opened.2.0) }
-        ensures size { IfOk result (λ opened. opened.1 ≡ length (S.Blob.live (inner_of opened.0))) }
-        ensures kept_size { IfOk result (λ opened. S.keeps_size (inner_of opened.0) opened.1) }
+        ensures opened { IfOk result (λ opened. IsOpened (S.directory store.old) (S.durable store.old) (S.directory store.new) (S.durable store.new) partition.now name.now (range_inclusive_start versions).0 (range_inclusive_end versions).0 (S.Blob.place (store_handle opened.0)) (S.Blob.live (store_handle opened.0)) opened.2.0) }
+        ensures size { IfOk result (λ opened. opened.1 ≡ length (S.Blob.live (store_handle opened.0))) }
+        ensures kept_size { IfOk result (λ opened. S.keeps_size (store_handle opened.0) opened.1) }
     {
         if self.held_by(partition, name).is_some() {
             let refusal = self.already_open(partition, name)?;
@@ -176,7 +176,7 @@ impl Opens {
         requires { (names_of self.old).registered partition.now name.now ≡ None }
         ensures ok { IfOk result (λ r. r ≡ record { partition = partition.now; name = name.now; number = (names_of self.old).next }) }
         ensures left { OnOk result ((names_of self.old).next < 2 ^ 64 - 1) }
-        ensures registered { OnOk result (names_of self.new ≡ record { registered = with_at (names_of self.old).registered partition.now name.now (Some (names_of self.old).next); next = (names_of self.old).next }) }
+        ensures registered { OnOk result (names_of self.new ≡ record { registered = with_name (names_of self.old).registered partition.now name.now (Some (names_of self.old).next); next = (names_of self.old).next }) }
         ensures exhausted { (names_of self.old).next ≡ 2 ^ 64 - 1 → refused result ≡ Some GenerationsExhausted }
         ensures refused { IfErr result (λ e. (refusal_of e ≡ Memory) ⊎ ((refusal_of e ≡ GenerationsExhausted) × ((names_of self.old).next ≡ 2 ^ 64 - 1))) }
         ensures err { OnErr result (names_of self.new ≡ names_of self.old) }

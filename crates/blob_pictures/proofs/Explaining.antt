@@ -4,7 +4,7 @@ use Rattle.std.proofs.Common.{Option, Some, ◌≡◌, ◌≢◌, ℕ, zero, suc
 use Rattle.std.specs.List.{flat_map}
 use Rattle.std.proofs.lemmas.List.{append-nil, flat_map_more}
 use Rattle.std.proofs.lemmas.List.Elements.{All-append}
-use Rattle.blob_pictures.specs.Explained.{IsLine, remark, AreRemarks, Remarks, IsRemarking, ended, remarked, IsExplained, Explains}
+use Rattle.blob_pictures.specs.Explained.{IsLine, remark, AreRemarks, Remarks, IsRemarking, as_line, remarked, IsExplained, Explains}
 
 of_none : {X : Type 0} (P : X → Type 0) → All P []
 of_none P k d lt = absurd (omega (arith, lt))
@@ -17,7 +17,7 @@ of_one P x p (suc k) d lt = absurd (omega (arith, lt))
 pub record Told (printed rest text : List ℕ) : Type 0 where
   pub pieces : List (List ℕ × List ℕ)
   pub remarks : All (λ piece. AreRemarks piece.1) pieces
-  pub lines : printed ≡ flat_map ended pieces ++ rest
+  pub lines : printed ≡ flat_map as_line pieces ++ rest
   pub written : text ≡ flat_map remarked pieces
 
 pub begins : (printed text : List ℕ) → text ≡ [] → Told printed printed text
@@ -27,8 +27,8 @@ pub goes_on : (printed rest text line others pushed next : List ℕ) → Told pr
 goes_on printed rest text line others pushed next t parts is r = record {
   pieces = t.pieces ++ (line, r.added) ∷ [];
   remarks = All-append (λ piece. AreRemarks piece.1) t.pieces ((line, r.added) ∷ []) t.remarks (of_one (λ piece. AreRemarks piece.1) (line, r.added) r.are);
-  lines = t.lines ∙ ap (λ u. flat_map ended t.pieces ++ u) (parts ∙ sym (append_assoc line (10 ∷ []) others))
-      ∙ sym (append_assoc (flat_map ended t.pieces) (line ++ 10 ∷ []) others) ∙ ap (λ u. u ++ others) (flat_map_more ended [] t.pieces (line, r.added));
+  lines = t.lines ∙ ap (λ u. flat_map as_line t.pieces ++ u) (parts ∙ sym (append_assoc line (10 ∷ []) others))
+      ∙ sym (append_assoc (flat_map as_line t.pieces) (line ++ 10 ∷ []) others) ∙ ap (λ u. u ++ others) (flat_map_more as_line [] t.pieces (line, r.added));
   written = r.adds ∙ ap (λ u. u ++ r.added) (is ∙ ap (λ u. u ++ line ++ 10 ∷ []) t.written) ∙ append_assoc (flat_map remarked t.pieces ++ line) (10 ∷ []) r.added ∙ append_assoc (flat_map remarked t.pieces) line (10 ∷ r.added)
       ∙ flat_map_more remarked [] t.pieces (line, r.added);
 }

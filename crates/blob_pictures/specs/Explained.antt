@@ -28,8 +28,8 @@ pub record IsRemarking (old new line : List ℕ) : Type 0 where
   pub is : IsLine line
 
 -- a line that is ended, alone and with the remarks behind it
-abbrev pub ended : List ℕ × List ℕ → List ℕ
-ended piece = piece.0 ++ 10 ∷ []
+abbrev pub as_line : List ℕ × List ℕ → List ℕ
+as_line piece = piece.0 ++ 10 ∷ []
 
 abbrev pub remarked : List ℕ × List ℕ → List ℕ
 remarked piece = piece.0 ++ 10 ∷ piece.1
@@ -39,7 +39,7 @@ pub record IsExplained (printed text : List ℕ) : Type 0 where
   pub pieces : List (List ℕ × List ℕ)
   pub remarks : All (λ piece. AreRemarks piece.1) pieces
   pub rest : List ℕ
-  pub lines : printed ≡ flat_map ended pieces ++ rest
+  pub lines : printed ≡ flat_map as_line pieces ++ rest
   pub written : text ≡ flat_map remarked pieces ++ rest
 
 -- what a run that prints so has written, explained

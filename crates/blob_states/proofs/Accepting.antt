@@ -7,7 +7,7 @@ use Rattle.std.proofs.lemmas.Bool.{cond_both, cond-false, false≢true}
 use Rattle.rand_core.specs.Stream.{Stream}
 use Rattle.blob_header.specs.declared.layout.Layout.{Layout}
 use Rattle.blob_model.specs.Directory.{Directory, File, Raw, Incarnation, removed}
-use Rattle.blob_model.specs.Files.{Files, opened, after_open, raw_again, durable_at}
+use Rattle.blob_model.specs.Files.{Files, with_opening, after_open, raw_again, durable_at}
 use Rattle.blob_header.specs.Header.{region}
 use Rattle.blob_model.specs.Opening.{Opening, Continues, Begins, Declines, opening, place_of}
 use Rattle.blob_model.specs.Places.{Place}
@@ -18,10 +18,10 @@ use Rattle.blob_calls.specs.declared.call.Call.{Call}
 use Rattle.blob_calls.specs.declared.reply.Reply.{Reply}
 use Rattle.blob_states.specs.Accepted.{removes}
 use Rattle.blob_calls.specs.Acts.{Ask, Act, Configure, Open, OpenLoose, Admit, Close, Through, Finish, Remove, Scan, Crash, Reopen, act_of}
-use Rattle.blob_states.specs.After.{after, asked, closed, finished, exclusively_opened}
-use Rattle.blob_states.specs.Steps.{removed as removal, crashed, loosely_opened}
-use Rattle.blob_states.specs.Answers.{found, kept_at, version_of}
-use Rattle.blob_states.specs.Runs.{Run}
+use Rattle.blob_states.specs.After.{after, asked, with_closed, with_finished, exclusively_opened}
+use Rattle.blob_states.specs.Steps.{removal_step as removal, crash_step, loosely_opened}
+use Rattle.blob_states.specs.Answers.{found_at, kept_at, opened_version}
+use Rattle.blob_states.specs.Runs.{LeadsTo}
 use Rattle.blob_states.specs.States.{State, Held, Started}
 use Rattle.blob_calls.specs.Told.{refused_by}
 use Rattle.blob_states.proofs.Stale.{asked_directory, admitted_directory}
@@ -32,7 +32,7 @@ use Rattle.blob_states.proofs.Stale.{asked_directory, admitted_directory}
 abbrev pub IsOf : Option File → ℕ → Type 0
 IsOf None version = ⊥
 IsOf (Some (Raw bytes)) version = (layout : Layout) × (data_bytes : List ℕ) × (bytes ≡ region layout version ++ data_bytes)
-IsOf (Some (Incarnation number layout found)) version = found ≡ version
+IsOf (Some (Incarnation number layout found_at)) version = found_at ≡ version
 
 -- what begins from such a file is of its version
 begins_of : (p n : List ℕ) (file : Option File) (first last : ℕ) (layout : Layout) (begun : ℕ) (live : List ℕ) (version : ℕ) → version < 2 ^ 16 → IsOf file version
@@ -42,7 +42,7 @@ begins_of p n (Some (Raw bytes)) first last layout begun live version fits (l, d
     by_range (is_in_range first last version) (sym (raw_opens p n l version data_bytes first last fits) ∙ ap (λ x. opening p n (Some (Raw x)) first last) (sym same) ∙ e)
   where
     by_range : (b : Bool) → (if b then Begins l version data_bytes else Declines (BlobVersionMismatch first last version)) ≡ Begins layout begun live → begun ≡ version
-    by_range true e' = sym (ap version_of e')
+    by_range true e' = sym (ap opened_version e')
     by_range false e' = absurd cc
 begins_of p n (Some (Incarnation k l v)) first last layout begun live version fits is e = absurd (by_range (is_in_range first last v) e) where
   by_range : (b : Bool) → (if b then Continues k l v else Declines (BlobVersionMismatch first last v)) ≡ Begins layout begun live → ⊥
@@ -58,8 +58,8 @@ of_opened f p n q m first last version fits is = by_found (opening p n (f.direct
   at_name : p ≡ q → n ≡ m → IsOf (f.directory.file p n) version
   at_name e g = subst (λ (x : List ℕ). IsOf (f.directory.file x n) version) (sym e) (subst (λ (x : List ℕ). IsOf (f.directory.file q x) version) (sym g) is)
 
-  by_found : (o : Opening) → opening p n (f.directory.file p n) first last ≡ o → IsOf ((opened f p n o).directory.file q m) version
-  by_found (Continues number layout found) e = is
+  by_found : (o : Opening) → opening p n (f.directory.file p n) first last ≡ o → IsOf ((with_opening f p n o).directory.file q m) version
+  by_found (Continues number layout found_at) e = is
   by_found (Declines refusal) e = is
   by_found (Begins layout begun live) e =
       let new : Option File = Some (Incarnation f.directory.next layout begun) in
@@ -111,11 +111,11 @@ module _ (v : State) (rest : Stream) (p n : List ℕ) (version : ℕ) (fits : ve
   asked_still number None ask refusal = is
   asked_still number (Some h) ask refusal = by_same (asked v number (Some h) ask refusal) (asked_directory v h ask refusal)
 
-  closed_still : (number : ℕ) (slot : Option Held) → Still (closed v number slot)
+  closed_still : (number : ℕ) (slot : Option Held) → Still (with_closed v number slot)
   closed_still number None = is
   closed_still number (Some h) = is
 
-  finished_still : (number : ℕ) (slot : Option Started) → Still (finished v number slot)
+  finished_still : (number : ℕ) (slot : Option Started) → Still (with_finished v number slot)
   finished_still number None = is
   finished_still number (Some s) = is
 
@@ -123,7 +123,7 @@ module _ (v : State) (rest : Stream) (p n : List ℕ) (version : ℕ) (fits : ve
   removal_still q m None stays = of_removed v.files.directory q m p n version stays is
   removal_still q m (Some refusal) stays = is
 
-  crashed_still : (refusal : Option Refusal) → Still (crashed v refusal)
+  crashed_still : (refusal : Option Refusal) → Still (crash_step v refusal)
   crashed_still None = is
   crashed_still (Some refusal) = is
 
@@ -142,7 +142,7 @@ module _ (v : State) (rest : Stream) (p n : List ℕ) (version : ℕ) (fits : ve
   still_after Crash refusal stays = crashed_still refusal
   still_after Reopen refusal stays = raw_of (raw_again (durable_at v.files) p n (v.files.directory.file p n)) version (of_again (durable_at v.files) p n (v.files.directory.file p n) version is)
 
-pub still_run : (v : State) (calls : List Call) (replies : List Reply) (w : State) (p n : List ℕ) (version : ℕ) → version < 2 ^ 16 → AllZip (λ call reply. removes (act_of call) (refused_by reply) p n ≡ false) calls replies → Run v calls replies w
+pub still_run : (v : State) (calls : List Call) (replies : List Reply) (w : State) (p n : List ℕ) (version : ℕ) → version < 2 ^ 16 → AllZip (λ call reply. removes (act_of call) (refused_by reply) p n ≡ false) calls replies → LeadsTo v calls replies w
     → IsOf (v.files.directory.file p n) version → IsOf (w.files.directory.file p n) version
 still_run v [] [] w p n version fits keeps run is = subst (λ (x : State). IsOf (x.files.directory.file p n) version) run is
 still_run v [] (r ∷ replies) w p n version fits keeps run is = absurd run

@@ -13,7 +13,7 @@ use Rattle.blob_model.specs.Places.{Place}
 use Rattle.blob_header.specs.Refusals.{Refusal, Memory, OffsetOverflow, GenerationsExhausted}
 use Rattle.blob_model.specs.Runs.{runs}
 use Rattle.blob_faults.specs.Answers.{lacks_number}
-use Rattle.blob_faults.specs.Faults.{WriteFate, Done, Unsynced, Failed, write_fate, retention, is_uncounted}
+use Rattle.blob_faults.specs.Faults.{WriteFate, Done, Unsynced, Failed, write_fate, retention, has_uncounted_end}
 use Rattle.blob_faults.specs.Recorded.{recorded_by, recorded_write, live_by, live_of_write, size_by, size_of_write}
 use Rattle.blob_calls.specs.declared.reply.Reply.{Reply}
 use Rattle.blob_calls.specs.Acts.{Write}
@@ -44,19 +44,19 @@ done_fate (Failed chosen) d o retained next offset bytes free = absurd (never (r
 -- what it did of all that a write could come to
 pub record IsDone (v : State) (offset : ℕ) (bytes : List ℕ) : Type 0 where
   pub some : is_idle true bytes ≡ false
-  pub counted : is_uncounted offset bytes ≡ false
+  pub counted : has_uncounted_end offset bytes ≡ false
   pub fate : (write_fate v.config true offset (length bytes) v.stream).0 ≡ Done
 
 pub was_done : (v : State) (h : Held) (offset : ℕ) (bytes : List ℕ) → 0 < length bytes → write_denial v h offset bytes true ≡ None → IsDone v offset bytes
 was_done v h offset [] long free = absurd (omega arith)
-was_done v h offset (y ∷ ys) long free = by_count (is_uncounted offset (y ∷ ys)) refl where
+was_done v h offset (y ∷ ys) long free = by_count (has_uncounted_end offset (y ∷ ys)) refl where
   fate : WriteFate
   fate = (write_fate v.config true offset (length (y ∷ ys)) v.stream).0
 
   denial : Option Refusal
   denial = fate_denial fate v.files.directory h.place (is_some (retention v.config.write_rate)) v.files.next_write true offset (y ∷ ys)
 
-  by_count : (t : Bool) → is_uncounted offset (y ∷ ys) ≡ t → IsDone v offset (y ∷ ys)
+  by_count : (t : Bool) → has_uncounted_end offset (y ∷ ys) ≡ t → IsDone v offset (y ∷ ys)
   by_count true e = absurd (none-some OffsetOverflow (sym free ∙ ap (λ (t : Bool). if t then Some OffsetOverflow else denial) e))
   by_count false e = record {
     some = refl;
@@ -74,7 +74,7 @@ module _ (v : State) (h : Held) (offset : ℕ) (bytes : List ℕ) (done : IsDone
   pub kept_whole : recorded_write v.config v.files.next_write v.stream true offset bytes None ≡ Kept offset bytes ∷ []
   unfolding recorded_write
   kept_whole =
-      second (is_idle true bytes) (is_uncounted offset bytes) [] [] _ done.some done.counted
+      second (is_idle true bytes) (has_uncounted_end offset bytes) [] [] _ done.some done.counted
       ∙ ap (λ (f : WriteFate). recorded_by f (retention v.config.write_rate) v.files.next_write true offset bytes None) done.fate
       ∙ by_bytes bytes done.some
     where
@@ -84,7 +84,7 @@ module _ (v : State) (h : Held) (offset : ℕ) (bytes : List ℕ) (done : IsDone
 
   pub live_whole : live_of_write v.config v.stream true h.live offset bytes None ≡ written h.live offset bytes
   live_whole =
-      second (is_idle true bytes) (is_uncounted offset bytes) h.live h.live _ done.some done.counted
+      second (is_idle true bytes) (has_uncounted_end offset bytes) h.live h.live _ done.some done.counted
       ∙ ap (λ (f : WriteFate). live_by f true h.live offset bytes None) done.fate
       ∙ by_bytes bytes done.some
     where
@@ -94,7 +94,7 @@ module _ (v : State) (h : Held) (offset : ℕ) (bytes : List ℕ) (done : IsDone
 
   pub size_whole : size_of_write v.config v.stream true h.size offset bytes None ≡ max h.size (offset + length bytes)
   size_whole =
-      second (is_idle true bytes) (is_uncounted offset bytes) h.size h.size _ done.some done.counted
+      second (is_idle true bytes) (has_uncounted_end offset bytes) h.size h.size _ done.some done.counted
       ∙ ap (λ (f : WriteFate). size_by f h.size offset bytes None) done.fate
 
 -- what was done wasn't denied

@@ -16,15 +16,15 @@ use Rattle.blob_model.specs.SamePlace.{same_place_exact}
 use Rattle.blob_faults.specs.declared.config.Config.{Config}
 use Rattle.blob_calls.specs.declared.call.Call.{Call}
 use Rattle.blob_calls.specs.declared.reply.Reply.{Reply}
-use Rattle.blob_calls.specs.Acts.{Ask, Write, Resize, Accepted, Act, Configure, Open, OpenLoose, Admit, Close, Through, Finish, Remove, Scan, Crash, Reopen, act_of}
-use Rattle.blob_states.specs.After.{after, asked, closed, finished, exclusively_opened, held_after}
-use Rattle.blob_states.specs.Steps.{removed as removal, crashed, rebuilt}
-use Rattle.blob_states.specs.Answers.{Answers, kept_at, opened}
+use Rattle.blob_calls.specs.Acts.{Ask, Write, Resize, AcceptedVersions, Act, Configure, Open, OpenLoose, Admit, Close, Through, Finish, Remove, Scan, Crash, Reopen, act_of}
+use Rattle.blob_states.specs.After.{after, asked, with_closed, with_finished, exclusively_opened, held_after}
+use Rattle.blob_states.specs.Steps.{removal_step as removal, crash_step, rebuilt}
+use Rattle.blob_states.specs.Answers.{Answers, kept_at, told_opened}
 use Rattle.blob_states.specs.Denials.{refused_if, is_unnumbered, loose_denial, open_already, open_denial}
 use Rattle.blob_states.specs.Exclusive.{HoldNames, Sole}
 use Rattle.blob_opens.specs.OpenNames.{OpenNames}
 use Rattle.blob_states.specs.Reached.{is_loose, NoneLoose, ReachedExclusively}
-use Rattle.blob_states.specs.Runs.{Run}
+use Rattle.blob_states.specs.Runs.{LeadsTo}
 use Rattle.blob_states.specs.Scripted.{Words}
 use Rattle.blob_states.specs.States.{State, Held, Started, Image, start, held_on, empty_directory, with_image, with_images}
 use Rattle.blob_calls.specs.Told.{refused_by}
@@ -73,19 +73,19 @@ not_open None r none = refl
 not_open (Some k) r none = cc
 
 -- an open is accepted where the name isn't open
-pub open_free : (v : State) (p n : List ℕ) (versions : Accepted) (answered : Reply) (left : Stream) → Answers v (Open p n (Some versions)) answered left → refused_by answered ≡ None → v.names.registered p n ≡ None
+pub open_free : (v : State) (p n : List ℕ) (versions : AcceptedVersions) (answered : Reply) (left : Stream) → Answers v (Open p n (Some versions)) answered left → refused_by answered ≡ None → v.names.registered p n ≡ None
 open_free v p n versions answered left answers done =
     ⊎_elim
     (λ memory. absurd (none-some Memory (sym done ∙ memory.1)))
     (λ told.
-    let free = sym (denied answered (open_denial v p n versions.0 versions.1) (opened v p n versions) refl told.0) ∙ done in
+    let free = sym (denied answered (open_denial v p n versions.0 versions.1) (told_opened v p n versions) refl told.0) ∙ done in
     let later = or_then_none (refused_if GenerationsExhausted (is_unnumbered v.names p n)) (option_or (loose_denial v p n versions.0 versions.1) (open_already v.names p n)) free in
     let last = or_then_none (loose_denial v p n versions.0 versions.1) (open_already v.names p n) later.1 in
     not_open (v.names.registered p n) _ last.1)
     answers
 
 -- before it no handle of the name is current
-pub fresh : (v : State) (p n : List ℕ) (versions : Accepted) (answered : Reply) (left : Stream) → Exclusive v → Answers v (Open p n (Some versions)) answered left → refused_by answered ≡ None
+pub fresh : (v : State) (p n : List ℕ) (versions : AcceptedVersions) (answered : Reply) (left : Stream) → Exclusive v → Answers v (Open p n (Some versions)) answered left → refused_by answered ≡ None
     → (i : ℕ) (h : Held) → kept_at v.handles i ≡ Some h → is_current v.files.directory h.place ≡ true → h.place.partition ≡ p → h.place.name ≡ n → ⊥
 fresh v p n versions answered left x answers done i h here now partition name =
     let is_open = x.opens i h here now in
@@ -118,7 +118,7 @@ new_handle f s p n (Some o) of h new =
     subst (IsNew f.directory s p n) (same_Some (held_on f (Some (record { partition = p; name = n; number = s.next })) o) h new)
     (record { registration = refl; partition = it.partition; name = it.name; current = it.current })
 
-exclusive_opened : (v : State) (p n : List ℕ) (versions : Accepted) (left : Stream) (refusal : Option Refusal) → (refusal ≡ None → v.names.registered p n ≡ None) → Exclusive v → Exclusive (exclusively_opened v p n versions refusal)
+exclusive_opened : (v : State) (p n : List ℕ) (versions : AcceptedVersions) (left : Stream) (refusal : Option Refusal) → (refusal ≡ None → v.names.registered p n ≡ None) → Exclusive v → Exclusive (exclusively_opened v p n versions refusal)
 exclusive_opened v p n versions left None free x =
     let f = admitted (after_open v.files p n versions.0 versions.1) p n in
     let slot = option_map (held_on f (Some (record { partition = p; name = n; number = v.names.next }))) (current f.directory p n) in
@@ -130,7 +130,7 @@ exclusive_opened v p n versions left (Some refusal) free x = x
 
 -- The other calls.
 
-exclusive_closed : (v : State) (number : ℕ) (slot : Option Held) → kept_at v.handles number ≡ slot → Exclusive v → Exclusive (closed v number slot)
+exclusive_closed : (v : State) (number : ℕ) (slot : Option Held) → kept_at v.handles number ≡ slot → Exclusive v → Exclusive (with_closed v number slot)
 exclusive_closed v number None here x = x
 exclusive_closed v number (Some h) here x = closed_one v.files.directory v.names v.handles number h h.registration here refl x
 
@@ -146,7 +146,7 @@ exclusive_asked v number (Some h) ask refusal here x =
     subst (λ (d : Directory). AreExclusive d v.names (asked v number (Some h) ask refusal).handles) (sym (asked_directory v h ask refusal))
     (put_back v.files.directory v.names v.handles number h g here (place_after v h ask refusal) (registration_after v h ask refusal) x)
 
-exclusive_finished : (v : State) (number : ℕ) (slot : Option Started) → Exclusive v → Exclusive (finished v number slot)
+exclusive_finished : (v : State) (number : ℕ) (slot : Option Started) → Exclusive v → Exclusive (with_finished v number slot)
 exclusive_finished v number None x = x
 exclusive_finished v number (Some s) x = x
 
@@ -154,7 +154,7 @@ exclusive_removed : (v : State) (p : List ℕ) (n : Option (List ℕ)) (left : S
 exclusive_removed v p n left None x = ended_names v.files.directory v.names v.handles p n (ages v (Remove p n) None left) x
 exclusive_removed v p n left (Some refusal) x = x
 
-exclusive_crashed : (v : State) (refusal : Option Refusal) → Exclusive v → Exclusive (crashed v refusal)
+exclusive_crashed : (v : State) (refusal : Option Refusal) → Exclusive v → Exclusive (crash_step v refusal)
 exclusive_crashed v None x = x
 exclusive_crashed v (Some refusal) x = x
 
@@ -188,7 +188,7 @@ exclusive_after v Reopen answered left x strict answers = exclusive_rebuilt v le
 
 -- Any calls.
 
-pub exclusive_run : (calls : List Call) (replies : List Reply) (v w : State) → Exclusive v → NoneLoose calls → Run v calls replies w → Exclusive w
+pub exclusive_run : (calls : List Call) (replies : List Reply) (v w : State) → Exclusive v → NoneLoose calls → LeadsTo v calls replies w → Exclusive w
 exclusive_run [] [] v w x strict same = subst Exclusive same x
 exclusive_run [] (r ∷ replies) v w x strict run = absurd run
 exclusive_run (call ∷ calls) [] v w x strict run = absurd run

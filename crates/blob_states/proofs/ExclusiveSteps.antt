@@ -10,7 +10,7 @@ use Rattle.blob_model.specs.Places.{Place}
 use Rattle.blob_states.specs.After.{unregistered}
 use Rattle.blob_states.specs.Answers.{kept_at}
 use Rattle.blob_states.specs.Exclusive.{IsOpenBy}
-use Rattle.blob_names.specs.Names.{with_at}
+use Rattle.blob_names.specs.Names.{with_name}
 use Rattle.blob_opens.specs.OpenNames.{OpenNames, Registration, opened, closed, ended, unless_number}
 use Rattle.blob_states.specs.States.{Held, AreGiven}
 use Rattle.blob_states.proofs.GivenHandles.{given_at}
@@ -51,7 +51,7 @@ aged d e s handles ages x = record {
 -- Names.
 
 -- one name's value made new, or another's
-pub with_at_is : {X : Type 0} (f : List ℕ → List ℕ → X) (p n q m : List ℕ) (value x : X) → (bytes_eq p q ≡ true → bytes_eq n m ≡ true → value ≡ x) → f q m ≡ x → with_at f p n value q m ≡ x
+pub with_at_is : {X : Type 0} (f : List ℕ → List ℕ → X) (p n q m : List ℕ) (value x : X) → (bytes_eq p q ≡ true → bytes_eq n m ≡ true → value ≡ x) → f q m ≡ x → with_name f p n value q m ≡ x
 with_at_is f p n q m value x new old = cond_both (bytes_eq p q) (cond (bytes_eq n m) value (f q m)) (f q m) (λ y. y ≡ x)
     (λ partition. cond_both (bytes_eq n m) value (f q m) (λ y. y ≡ x) (new partition) (λ _. old))
     (λ _. old)
@@ -187,7 +187,7 @@ opened_here s p n o registration partition name held = record {
   partition = sym partition;
   name = sym name;
   number =
-      ap (λ q. with_at s.registered p n (Some s.next) q o.name) partition ∙ ap (with_at s.registered p n (Some s.next) p) name
+      ap (λ q. with_name s.registered p n (Some s.next) q o.name) partition ∙ ap (with_name s.registered p n (Some s.next) p) name
       ∙ ap (λ b. cond b (cond (bytes_eq n n) (Some s.next) (s.registered p n)) (s.registered p n)) ((bytes_decides p p).1 refl)
       ∙ ap (λ b. cond b (Some s.next) (s.registered p n)) ((bytes_decides n n).1 refl);
 }

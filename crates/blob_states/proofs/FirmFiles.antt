@@ -4,7 +4,7 @@ use Rattle.std.specs.Str.{bytes_eq}
 use Rattle.std.proofs.lemmas.Bool.{and_left, cond-false, false≢true}
 use Rattle.blob_header.specs.declared.layout.Layout.{Layout}
 use Rattle.blob_model.specs.Directory.{Directory, File, with_file, removed}
-use Rattle.blob_model.specs.Files.{Files, admitted, after_crash, after_remove, ends_by, reopened, raw_again, durable_at}
+use Rattle.blob_model.specs.Files.{Files, admitted, after_crash, after_remove, is_removed_by, reopened, raw_again, durable_at}
 use Rattle.blob_model.specs.Log.{Choices}
 use Rattle.blob_model.proofs.Persistence.{fixed_admitted, fixed_crashed, fixed_removed}
 use Rattle.blob_states.specs.Fixed.{Byte, is_of}
@@ -44,7 +44,7 @@ file_left : (f : Files) (p : List ℕ) (n : Option (List ℕ)) (b : Byte) → is
 file_left f p (Some n) b other = file_beside f.directory.file p n None b other
 file_left f p None b other = cond-false (bytes_eq p b.partition) None (f.directory.file b.partition b.name) other
 
-stays : (d : Directory) (p : List ℕ) (n : Option (List ℕ)) (b : Byte) (number : ℕ) (layout : Layout) → is_of p n b ≡ false → ends_by d p n (at b number layout) ≡ false
+stays : (d : Directory) (p : List ℕ) (n : Option (List ℕ)) (b : Byte) (number : ℕ) (layout : Layout) → is_of p n b ≡ false → is_removed_by d p n (at b number layout) ≡ false
 stays d p None b number layout other = and_left (bytes_eq p b.partition) _ other
 stays d p (Some n) b number layout other = and_left (bytes_eq p b.partition && bytes_eq n b.name) _ other
 

@@ -7,7 +7,7 @@ use Rattle.blob_header.specs.declared.layout.Layout.{Layout}
 use Rattle.blob_header.specs.declared.layout.Layout.TheVariants.{V0, V1}
 use Rattle.blob_header.specs.Checksum.{crc32c}
 use Rattle.blob_model.specs.Directory.{File, Raw, Incarnation, place_made}
-use Rattle.blob_model.specs.Files.{Files, log_of, made, opened, after_open}
+use Rattle.blob_model.specs.Files.{Files, log_of, made, with_opening, after_open}
 use Rattle.blob_header.specs.Header.{region, prelude, magic_of, layout_number}
 use Rattle.blob_model.specs.Opening.{Opening, Continues, Begins, Declines, opening}
 use Rattle.blob_model.specs.Persistence.{HasByte}
@@ -69,28 +69,28 @@ module _ (f : Files) (handles : List (Option Held)) (b : Byte)
   beside p n l w bytes other (Behind layout version kept e has) =
       Behind layout version kept (file_beside f.directory.file p n (Some (Incarnation f.directory.next l w)) b other ∙ e) has
 
-  other_opened : (p n : List ℕ) (found : Opening) → is_of p (Some n) b ≡ false → IsFirm f handles b → IsFirm (opened f p n found) handles b
+  other_opened : (p n : List ℕ) (found : Opening) → is_of p (Some n) b ≡ false → IsFirm f handles b → IsFirm (with_opening f p n found) handles b
   other_opened p n (Continues number layout version) other firm = firm
   other_opened p n (Begins layout version bytes) other firm = beside p n layout version bytes other firm
   other_opened p n (Declines refusal) other firm = firm
 
   -- the name itself is opened
-  goes_on : (c : Bool) (number : ℕ) (layout : Layout) (version : ℕ) (refusal : Refusal) → IsFirm f handles b → IsFirm (opened f b.partition b.name (cond c (Continues number layout version) (Declines refusal))) handles b
+  goes_on : (c : Bool) (number : ℕ) (layout : Layout) (version : ℕ) (refusal : Refusal) → IsFirm f handles b → IsFirm (with_opening f b.partition b.name (cond c (Continues number layout version) (Declines refusal))) handles b
   goes_on true number layout version refusal firm = firm
   goes_on false number layout version refusal firm = firm
 
-  begins_or_not : (c : Bool) (layout : Layout) (version : ℕ) (bytes : List ℕ) (refusal : Refusal) → HasByte b.position b.value bytes → IsFirm f handles b → IsFirm (opened f b.partition b.name (cond c (Begins layout version bytes) (Declines refusal))) handles b
+  begins_or_not : (c : Bool) (layout : Layout) (version : ℕ) (bytes : List ℕ) (refusal : Refusal) → HasByte b.position b.value bytes → IsFirm f handles b → IsFirm (with_opening f b.partition b.name (cond c (Begins layout version bytes) (Declines refusal))) handles b
   begins_or_not true layout version bytes refusal has firm = begun layout version bytes has
   begins_or_not false layout version bytes refusal has firm = firm
 
   own_opened : (first last : ℕ) → IsFirm f handles b → IsFirm (after_open f b.partition b.name first last) handles b
   own_opened first last (Now number layout version e fixed live) =
-      subst (λ (x : Option File). IsFirm (opened f b.partition b.name (opening b.partition b.name x first last)) handles b) (sym e)
+      subst (λ (x : Option File). IsFirm (with_opening f b.partition b.name (opening b.partition b.name x first last)) handles b) (sym e)
       (goes_on (is_in_range first last version) number layout version (BlobVersionMismatch first last version) (Now number layout version e fixed live))
   own_opened first last (Behind layout version bytes e has) =
       let low = version % 2 ^ 16 in
       let low_e : f.directory.file b.partition b.name ≡ Some (Raw (region layout low ++ bytes)) = e ∙ ap (λ (r : List ℕ). Some (Raw (r ++ bytes))) (region_low layout version) in
-      subst (λ (x : Opening). IsFirm (opened f b.partition b.name x) handles b)
+      subst (λ (x : Opening). IsFirm (with_opening f b.partition b.name x) handles b)
       (sym (ap (λ (x : Option File). opening b.partition b.name x first last) low_e ∙ raw_opens b.partition b.name layout low bytes first last (omega arith)))
       (begins_or_not (is_in_range first last low) layout low bytes (BlobVersionMismatch first last low) has (Behind layout version bytes e has))
 

@@ -5,9 +5,9 @@ use Rattle.blob_model.specs.Draws.{chosen_by, drawn}
 use Rattle.blob_model.specs.Files.{log_of, all_needs, after_open, admitted}
 use Rattle.blob_model.specs.Places.{Place}
 use Rattle.blob_header.specs.Refusals.{Refusal, BlobAlreadyOpen}
-use Rattle.blob_calls.specs.Acts.{Ask, Accepted, Act, Configure, Open, OpenLoose, Admit, Close, Through, Finish, Remove, Scan, Crash, Reopen}
-use Rattle.blob_states.specs.After.{after, asked, exclusively_opened, closed, finished}
-use Rattle.blob_states.specs.Steps.{loosely_opened, removed, crashed}
+use Rattle.blob_calls.specs.Acts.{Ask, AcceptedVersions, Act, Configure, Open, OpenLoose, Admit, Close, Through, Finish, Remove, Scan, Crash, Reopen}
+use Rattle.blob_states.specs.After.{after, asked, exclusively_opened, with_closed, with_finished}
+use Rattle.blob_states.specs.Steps.{loosely_opened, removal_step, crash_step}
 use Rattle.blob_states.specs.Answers.{kept_at}
 use Rattle.blob_states.specs.Fixed.{Byte, reaches, reaches_through}
 use Rattle.blob_states.specs.States.{State, Held, Started}
@@ -26,21 +26,21 @@ abbrev pub HasFirm : State → Byte → Type 0
 HasFirm v b = IsFirm v.files v.handles b
 
 module _ (v : State) (b : Byte) (sound : IsSound v) (firm : HasFirm v b) where
-  opens : (p n : List ℕ) (versions : Accepted) → IsFirm (after_open v.files p n versions.0 versions.1) v.handles b
+  opens : (p n : List ℕ) (versions : AcceptedVersions) → IsFirm (after_open v.files p n versions.0 versions.1) v.handles b
   opens p n versions = firm_opened v.files v.handles b sound.given sound.fresh p n versions.0 versions.1 firm
 
-  exclusive : (p n : List ℕ) (versions : Accepted) (refusal : Option Refusal) → HasFirm (exclusively_opened v p n versions refusal) b
+  exclusive : (p n : List ℕ) (versions : AcceptedVersions) (refusal : Option Refusal) → HasFirm (exclusively_opened v p n versions refusal) b
   exclusive p n versions None =
       let f = after_open v.files p n versions.0 versions.1 in
       firm_held (admitted f p n) v.handles p n (Some (record { partition = p; name = n; number = v.names.next })) b (firm_admitted f v.handles p n b (opens p n versions))
   exclusive p n versions (Some (BlobAlreadyOpen q m)) = opens p n versions
   exclusive p n versions (Some refusal) = firm
 
-  loosely : (p n : List ℕ) (versions : Accepted) (refusal : Option Refusal) → HasFirm (loosely_opened v p n versions refusal) b
+  loosely : (p n : List ℕ) (versions : AcceptedVersions) (refusal : Option Refusal) → HasFirm (loosely_opened v p n versions refusal) b
   loosely p n versions None = firm_held (after_open v.files p n versions.0 versions.1) v.handles p n None b (opens p n versions)
   loosely p n versions (Some refusal) = firm
 
-  closes : (number : ℕ) (slot : Option Held) → HasFirm (closed v number slot) b
+  closes : (number : ℕ) (slot : Option Held) → HasFirm (with_closed v number slot) b
   closes number None = firm
   closes number (Some h) = firm_closed v.files v.handles number b firm
 
@@ -48,15 +48,15 @@ module _ (v : State) (b : Byte) (sound : IsSound v) (firm : HasFirm v b) where
   asks number None ask refusal here out = firm
   asks number (Some h) ask refusal here out = firm_asked v number h ask refusal b here out firm
 
-  finishes : (number : ℕ) (slot : Option Started) → HasFirm (finished v number slot) b
+  finishes : (number : ℕ) (slot : Option Started) → HasFirm (with_finished v number slot) b
   finishes number None = firm
   finishes number (Some s) = firm
 
-  removes : (p : List ℕ) (n : Option (List ℕ)) (refusal : Option Refusal) → reaches v (Remove p n) refusal b ≡ false → HasFirm (removed v p n refusal) b
+  removes : (p : List ℕ) (n : Option (List ℕ)) (refusal : Option Refusal) → reaches v (Remove p n) refusal b ≡ false → HasFirm (removal_step v p n refusal) b
   removes p n None out = firm_removed v.files v.handles p n b out firm
   removes p n (Some refusal) out = firm
 
-  crashes : (refusal : Option Refusal) → HasFirm (crashed v refusal) b
+  crashes : (refusal : Option Refusal) → HasFirm (crash_step v refusal) b
   crashes None = firm_crashed v.files v.handles (chosen_by (drawn v.stream (all_needs v.files.log)).0) b firm
   crashes (Some refusal) = firm
 

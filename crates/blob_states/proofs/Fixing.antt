@@ -14,7 +14,7 @@ use Rattle.blob_model.specs.SamePlace.{same_place_exact, same_self, same_back}
 use Rattle.blob_model.proofs.Durables.{durable_published}
 use Rattle.blob_model.proofs.Persistence.{fixed_by_write, new_written, fixed_by_sync, fixed_by_start, fixed_by_open}
 use Rattle.blob_calls.specs.declared.reply.Reply.{Reply}
-use Rattle.blob_calls.specs.Acts.{Ask, Read, Write, Resize, Size, Sync, StartSync, Accepted, Act, Open, Through}
+use Rattle.blob_calls.specs.Acts.{Ask, Read, Write, Resize, Size, Sync, StartSync, AcceptedVersions, Act, Open, Through}
 use Rattle.blob_states.specs.After.{after, asked, begun, files_after, held_after, exclusively_opened}
 use Rattle.blob_states.specs.Answers.{asks_memory, Answers, IsAnswer, through, kept_at}
 use Rattle.blob_states.specs.Denials.{write_denial, start_denial}
@@ -112,7 +112,7 @@ fixes_through v number (Some h) Size answered left b reached here answers done f
 
 -- An open.
 
-module _ (v : State) (p n : List ℕ) (versions : Accepted) (answered : Reply) (left : Stream) (b : Byte) (x : Exclusive v)
+module _ (v : State) (p n : List ℕ) (versions : AcceptedVersions) (answered : Reply) (left : Stream) (b : Byte) (x : Exclusive v)
     (answers : Answers v (Open p n (Some versions)) answered left) (done : refused_by answered ≡ None) (own : is_of p (Some n) b ≡ true) where
   abbrev found : Files
   found = after_open v.files p n versions.0 versions.1

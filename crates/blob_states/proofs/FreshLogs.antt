@@ -3,7 +3,7 @@ use Rattle.std.proofs.Common.{◌≡◌, ℕ, ◌<◌, ◌≤◌, ◌++◌, List
 use Rattle.std.proofs.lemmas.List.Elements.{All-head, All-tail}
 use Rattle.rand_core.specs.Stream.{Stream}
 use Rattle.blob_model.specs.Directory.{current}
-use Rattle.blob_model.specs.Files.{Files, log_of, logged, all_logged, published, admitted, admitted_at, opened, after_open, after_remove, ends_by, durable_at}
+use Rattle.blob_model.specs.Files.{Files, log_of, logged, all_logged, published, admitted, admitted_at, with_opening, after_open, after_remove, is_removed_by, durable_at}
 use Rattle.blob_model.specs.Log.{Entry}
 use Rattle.blob_model.specs.Opening.{Opening, Continues, Begins, Declines, opening}
 use Rattle.blob_model.specs.Places.{Place, same_place}
@@ -13,13 +13,13 @@ use Rattle.blob_faults.specs.Faults.{resize_fate}
 use Rattle.blob_faults.specs.Recorded.{recorded_write, recorded_resize}
 use Rattle.blob_calls.specs.declared.call.Call.{Call}
 use Rattle.blob_calls.specs.declared.reply.Reply.{Reply}
-use Rattle.blob_calls.specs.Acts.{Ask, Read, Write, Resize, Size, Sync, StartSync, Accepted, Act, Configure, Open, OpenLoose, Admit, Close, Through, Finish, Remove, Scan, Crash, Reopen, act_of}
-use Rattle.blob_states.specs.After.{after, asked, begun, files_after, exclusively_opened, closed, finished}
-use Rattle.blob_states.specs.Steps.{loosely_opened, removed, crashed}
+use Rattle.blob_calls.specs.Acts.{Ask, Read, Write, Resize, Size, Sync, StartSync, AcceptedVersions, Act, Configure, Open, OpenLoose, Admit, Close, Through, Finish, Remove, Scan, Crash, Reopen, act_of}
+use Rattle.blob_states.specs.After.{after, asked, begun, files_after, exclusively_opened, with_closed, with_finished}
+use Rattle.blob_states.specs.Steps.{loosely_opened, removal_step, crash_step}
 use Rattle.blob_states.specs.Answers.{kept_at}
 use Rattle.blob_states.specs.Denials.{start_denial}
 use Rattle.blob_states.specs.Reached.{is_loose, NoneLoose, ReachedExclusively}
-use Rattle.blob_states.specs.Runs.{Run}
+use Rattle.blob_states.specs.Runs.{LeadsTo}
 use Rattle.blob_states.specs.States.{State, Held, Started, start}
 use Rattle.blob_calls.specs.Told.{refused_by}
 use Rattle.blob_states.proofs.Exclusive.{Exclusive, exclusive_start, exclusive_after}
@@ -44,14 +44,14 @@ fresh_admitted f p n fresh = go (current f.directory p n) where
   go None = fresh
   go (Some o) = fresh_published f o (durable_at f o) fresh
 
-fresh_opened : (f : Files) (p n : List ℕ) (found : Opening) → IsFresh f → IsFresh (opened f p n found)
+fresh_opened : (f : Files) (p n : List ℕ) (found : Opening) → IsFresh f → IsFresh (with_opening f p n found)
 fresh_opened f p n (Continues number layout version) fresh = fresh
 fresh_opened f p n (Begins layout version live) fresh = λ o past. fresh o (omega arith)
 fresh_opened f p n (Declines refusal) fresh = fresh
 
 fresh_removed : (f : Files) (p : List ℕ) (n : Option (List ℕ)) → IsFresh f → IsFresh (after_remove f p n)
-fresh_removed f p None fresh a past = still_none (ends_by f.directory p None a) _ (log_of f.log a) (log_without f.log (ends_by f.directory p None) a) (fresh a past)
-fresh_removed f p (Some n) fresh a past = still_none (ends_by f.directory p (Some n) a) _ (log_of f.log a) (log_without f.log (ends_by f.directory p (Some n)) a) (fresh a past)
+fresh_removed f p None fresh a past = still_none (is_removed_by f.directory p None a) _ (log_of f.log a) (log_without f.log (is_removed_by f.directory p None) a) (fresh a past)
+fresh_removed f p (Some n) fresh a past = still_none (is_removed_by f.directory p (Some n) a) _ (log_of f.log a) (log_without f.log (is_removed_by f.directory p (Some n)) a) (fresh a past)
 
 fresh_begun : (f : Files) (h : Held) (outcome : Option Refusal) → IsFresh f → IsFresh (begun f h outcome)
 fresh_begun f h None fresh = λ a past. still_none (same_place h.place a) _ (log_of f.log a) (log_without f.log (same_place h.place) a) (fresh a past)
@@ -74,28 +74,28 @@ module _ (v : State) (x : Exclusive v) (fresh : IsFresh v.files) where
   through number None ask refusal here = fresh
   through number (Some h) ask refusal here = fresh_asked v h ask refusal (given_at v.files.directory.next number v.handles h x.given here) fresh
 
-  exclusive : (p n : List ℕ) (versions : Accepted) (refusal : Option Refusal) → IsFresh (exclusively_opened v p n versions refusal).files
+  exclusive : (p n : List ℕ) (versions : AcceptedVersions) (refusal : Option Refusal) → IsFresh (exclusively_opened v p n versions refusal).files
   exclusive p n versions None = fresh_admitted (after_open v.files p n versions.0 versions.1) p n (fresh_opened v.files p n (opening p n (v.files.directory.file p n) versions.0 versions.1) fresh)
   exclusive p n versions (Some (BlobAlreadyOpen q m)) = fresh_opened v.files p n (opening p n (v.files.directory.file p n) versions.0 versions.1) fresh
   exclusive p n versions (Some refusal) = fresh
 
-  loosely : (p n : List ℕ) (versions : Accepted) (refusal : Option Refusal) → IsFresh (loosely_opened v p n versions refusal).files
+  loosely : (p n : List ℕ) (versions : AcceptedVersions) (refusal : Option Refusal) → IsFresh (loosely_opened v p n versions refusal).files
   loosely p n versions None = fresh_opened v.files p n (opening p n (v.files.directory.file p n) versions.0 versions.1) fresh
   loosely p n versions (Some refusal) = fresh
 
-  closes : (number : ℕ) (slot : Option Held) → IsFresh (closed v number slot).files
+  closes : (number : ℕ) (slot : Option Held) → IsFresh (with_closed v number slot).files
   closes number None = fresh
   closes number (Some h) = fresh
 
-  finishes : (number : ℕ) (slot : Option Started) → IsFresh (finished v number slot).files
+  finishes : (number : ℕ) (slot : Option Started) → IsFresh (with_finished v number slot).files
   finishes number None = fresh
   finishes number (Some s) = fresh
 
-  removes : (p : List ℕ) (n : Option (List ℕ)) (refusal : Option Refusal) → IsFresh (removed v p n refusal).files
+  removes : (p : List ℕ) (n : Option (List ℕ)) (refusal : Option Refusal) → IsFresh (removal_step v p n refusal).files
   removes p n None = fresh_removed v.files p n fresh
   removes p n (Some refusal) = fresh
 
-  crashes : (refusal : Option Refusal) → IsFresh (crashed v refusal).files
+  crashes : (refusal : Option Refusal) → IsFresh (crash_step v refusal).files
   crashes None = λ o past. refl
   crashes (Some refusal) = fresh
 
@@ -116,7 +116,7 @@ module _ (v : State) (x : Exclusive v) (fresh : IsFresh v.files) where
 
 -- Any calls.
 
-fresh_run : (calls : List Call) (replies : List Reply) (v w : State) → Exclusive v → IsFresh v.files → NoneLoose calls → Run v calls replies w → IsFresh w.files
+fresh_run : (calls : List Call) (replies : List Reply) (v w : State) → Exclusive v → IsFresh v.files → NoneLoose calls → LeadsTo v calls replies w → IsFresh w.files
 fresh_run [] [] v w x fresh strict same = subst (λ (s : State). IsFresh s.files) same fresh
 fresh_run [] (r ∷ replies) v w x fresh strict run = absurd run
 fresh_run (call ∷ calls) [] v w x fresh strict run = absurd run

@@ -3,7 +3,7 @@ use Rattle.std.proofs.Common.{◌≡◌, ℕ, Bool, true, false, ◌&&◌, cond,
 use Rattle.std.proofs.lemmas.Bool.{cond-false, false≢true}
 use Rattle.std.specs.Str.{bytes_eq}
 use Rattle.rand_core.specs.Stream.{Stream}
-use Rattle.blob_model.specs.Files.{log_of, ends_by}
+use Rattle.blob_model.specs.Files.{log_of, is_removed_by}
 use Rattle.blob_model.specs.Places.{Place}
 use Rattle.blob_header.specs.Refusals.{Refusal}
 use Rattle.blob_model.proofs.Durables.{log_removed}
@@ -16,7 +16,7 @@ pub removed_base : (v : State) (p : List ℕ) (n : Option (List ℕ)) (refusal :
 removed_base v p n None rest o = refl
 removed_base v p n (Some refusal) rest o = refl
 
-pub removed_log : (v : State) (p : List ℕ) (n : Option (List ℕ)) (refusal : Option Refusal) (rest : Stream) (o : Place) → ends_by v.files.directory p n o ≡ false → log_of (after v (Remove p n) refusal rest).files.log o ≡ log_of v.files.log o
+pub removed_log : (v : State) (p : List ℕ) (n : Option (List ℕ)) (refusal : Option Refusal) (rest : Stream) (o : Place) → is_removed_by v.files.directory p n o ≡ false → log_of (after v (Remove p n) refusal rest).files.log o ≡ log_of v.files.log o
 removed_log v p n None rest o stays = log_removed v.files p n o stays
 removed_log v p n (Some refusal) rest o stays = refl
 

@@ -6,7 +6,7 @@ use Rattle.std.proofs.lemmas.Option.{none-some, same_Some}
 use Rattle.rand_core.specs.Stream.{Stream}
 use Rattle.std.specs.Option.{option_or}
 use Rattle.blob_model.specs.Directory.{Directory, Incarnation, current, place_in}
-use Rattle.blob_model.specs.Files.{Files, opened, after_open, admitted, durable_at}
+use Rattle.blob_model.specs.Files.{Files, with_opening, after_open, admitted, durable_at}
 use Rattle.blob_model.specs.Opening.{Opening, Continues, Begins, Declines, opening, place_of}
 use Rattle.blob_model.specs.Persistence.{HasByte}
 use Rattle.blob_model.specs.Places.{Place}
@@ -16,7 +16,7 @@ use Rattle.blob_memory.specs.Answers.{opening_refusal, open_refusal}
 use Rattle.blob_calls.specs.declared.call.Call.{Call}
 use Rattle.blob_calls.specs.declared.reply.Reply.{Reply}
 use Rattle.blob_calls.specs.declared.reply.Reply.TheVariants as reply
-use Rattle.blob_calls.specs.Acts.{Accepted, Act, Open, act_of}
+use Rattle.blob_calls.specs.Acts.{AcceptedVersions, Act, Open, act_of}
 use Rattle.blob_states.specs.After.{after}
 use Rattle.blob_states.specs.Answers as answers
 use Rattle.blob_states.specs.Answers.{Answers, IsAnswer, kept_at, unless_denied}
@@ -24,7 +24,7 @@ use Rattle.blob_states.specs.Denials.{refused_if, is_unnumbered, loose_denial, o
 use Rattle.blob_states.specs.Fixed.{Byte, is_of, Opens, Lasts, Persists}
 use Rattle.blob_opens.specs.OpenNames.{Registration}
 use Rattle.blob_states.specs.Reached.{is_loose, NoneLoose, ReachedExclusively}
-use Rattle.blob_states.specs.Runs.{Run}
+use Rattle.blob_states.specs.Runs.{LeadsTo}
 use Rattle.blob_states.specs.States.{State, Held, held_on}
 use Rattle.blob_calls.specs.Told.{Tells, refused_by}
 use Rattle.blob_states.proofs.Exclusive.{reached_exclusive, or_then_none}
@@ -58,7 +58,7 @@ ArePaired [] [] = Unit {0}
 ArePaired (call ∷ calls) (answered ∷ replies) = ArePaired calls replies
 ArePaired calls replies = ⊥
 
-paired : (calls : List Call) (replies : List Reply) (v w : State) → Run v calls replies w → ArePaired calls replies
+paired : (calls : List Call) (replies : List Reply) (v w : State) → LeadsTo v calls replies w → ArePaired calls replies
 paired [] [] v w run = tt
 paired [] (r ∷ replies) v w run = absurd run
 paired (call ∷ calls) [] v w run = absurd run
@@ -71,7 +71,7 @@ record HasCurrent (f : Files) (p n : List ℕ) : Type 0 where
   pub place : Place
   pub is : current f.directory p n ≡ Some place
 
-opened_current : (f : Files) (p n : List ℕ) (first last : ℕ) (found : Opening) → opening p n (f.directory.file p n) first last ≡ found → opening_refusal found f.directory.next ≡ None → HasCurrent (opened f p n found) p n
+opened_current : (f : Files) (p n : List ℕ) (first last : ℕ) (found : Opening) → opening p n (f.directory.file p n) first last ≡ found → opening_refusal found f.directory.next ≡ None → HasCurrent (with_opening f p n found) p n
 opened_current f p n first last (Continues number layout version) e free = record { place = place_of p n number layout; is = continued p n (f.directory.file p n) first last number layout version e }
 opened_current f p n first last (Begins layout version live) e free = record {
   place = place_of p n f.directory.next layout;
@@ -79,7 +79,7 @@ opened_current f p n first last (Begins layout version live) e free = record {
 }
 opened_current f p n first last (Declines refusal) e free = absurd (none-some refusal (sym free))
 
-found_current : (v : State) (p n : List ℕ) (versions : Accepted) → open_denial v p n versions.0 versions.1 ≡ None → HasCurrent (admitted (after_open v.files p n versions.0 versions.1) p n) p n
+found_current : (v : State) (p n : List ℕ) (versions : AcceptedVersions) → open_denial v p n versions.0 versions.1 ≡ None → HasCurrent (admitted (after_open v.files p n versions.0 versions.1) p n) p n
 found_current v p n versions free =
     let later = or_then_none (refused_if GenerationsExhausted (is_unnumbered v.names p n)) (option_or (loose_denial v p n versions.0 versions.1) (open_already v.names p n)) free in
     let loose = or_then_none (loose_denial v p n versions.0 versions.1) (open_already v.names p n) later.1 in
@@ -108,9 +108,9 @@ opens_with v (Open p n (Some versions)) (reply.Opened handle size version) left 
     let f = admitted (after_open v.files p n versions.0 versions.1) p n in
     let registration : Option Registration = Some (record { partition = p; name = n; number = v.names.next }) in
     let tells = ⊎_elim (λ memory. absurd (none-some Memory memory.1)) (λ told. told.0) a in
-    let free = sym (denied (reply.Opened handle size version) (open_denial v p n versions.0 versions.1) (answers.opened v p n versions) refl tells) in
+    let free = sym (denied (reply.Opened handle size version) (open_denial v p n versions.0 versions.1) (answers.told_opened v p n versions) refl tells) in
     let c = found_current v p n versions free in
-    let number : handle ≡ length v.handles = (subst (λ (x : Option Refusal). Tells (reply.Opened handle size version) (unless_denied x (answers.opened v p n versions))) free tells).0 in (
+    let number : handle ≡ length v.handles = (subst (λ (x : Option Refusal). Tells (reply.Opened handle size version) (unless_denied x (answers.told_opened v p n versions))) free tells).0 in (
       held_on f registration c.place,
       ap (kept_at (v.handles ++ option_map (held_on f registration) (current f.directory p n) ∷ [])) number
           ∙ kept_last v.handles (option_map (held_on f registration) (current f.directory p n))
@@ -146,5 +146,5 @@ persists (call ∷ calls) (r ∷ replies) v reached strict pairs = λ left a.
     let next : ReachedExclusively w = reached_next v call r left reached first a in
     (λ b fixes. lasts calls replies w b next rest pairs (fixes_firm v (act_of call) r left b reached a fixes), persists calls replies w next rest pairs)
 
-pub run_persists : (v w : State) (calls : List Call) (replies : List Reply) → ReachedExclusively v → NoneLoose calls → Run v calls replies w → Persists v calls replies
+pub run_persists : (v w : State) (calls : List Call) (replies : List Reply) → ReachedExclusively v → NoneLoose calls → LeadsTo v calls replies w → Persists v calls replies
 run_persists v w calls replies reached strict run = persists calls replies v reached strict (paired calls replies v w run)

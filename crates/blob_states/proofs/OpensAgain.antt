@@ -8,7 +8,7 @@ use Rattle.std.specs.Option.{option_or}
 use Rattle.blob_header.specs.declared.layout.Layout.{Layout}
 use Rattle.blob_header.specs.declared.version.BlobVersion.{BlobVersion}
 use Rattle.blob_model.specs.Directory.{Directory, File, Raw, Incarnation}
-use Rattle.blob_model.specs.Files.{Files, opened, after_open, raw_again, durable_at}
+use Rattle.blob_model.specs.Files.{Files, with_opening, after_open, raw_again, durable_at}
 use Rattle.blob_header.specs.Header.{region}
 use Rattle.blob_model.specs.Opening.{Opening, Continues, Begins, Declines, opening, place_of}
 use Rattle.blob_header.specs.Parse.{every_layout}
@@ -23,7 +23,7 @@ use Rattle.blob_calls.specs.declared.reply.Reply.TheVariants as reply
 use Rattle.blob_states.specs.Accepted.{opened_name, IsKept, Accepts, HasFileOf, IsCurrent, IsRaw, OpensAs, IsToldOf}
 use Rattle.blob_calls.specs.Acts.{Act, Configure, Open, OpenLoose, Admit, Close, Through, Finish, Remove, Scan, Crash, Reopen, act_of}
 use Rattle.blob_states.specs.After.{after}
-use Rattle.blob_states.specs.Answers.{Answers, answer, found, size_of, unless_denied, version_of}
+use Rattle.blob_states.specs.Answers.{Answers, answer, found_at, opened_size, unless_denied, opened_version}
 use Rattle.blob_states.specs.Answers as answers
 use Rattle.blob_states.specs.Denials.{refused_if, open_denial, loose_denial, is_unnumbered, open_already}
 use Rattle.blob_states.specs.States.{State}
@@ -46,14 +46,14 @@ of_continued p n None first last number layout version e = absurd cc
 of_continued p n (Some (Raw raw)) first last number layout version e = absurd (raw_not_continues p n raw last (resolution raw (every_layout first last)) number layout version e)
 of_continued p n (Some (Incarnation k l v)) first last number layout version e = by_range (is_in_range first last v) e where
   by_range : (b : Bool) → (if b then Continues k l v else Declines (BlobVersionMismatch first last v)) ≡ Continues number layout version → v ≡ version
-  by_range true same = ap version_of same
+  by_range true same = ap opened_version same
   by_range false same = absurd cc
 
 -- what an open that isn't refused leaves is of the version that it tells
 of_found : (f : Files) (p n : List ℕ) (first last : ℕ) → opening_refusal (opening p n (f.directory.file p n) first last) f.directory.next ≡ None
-    → IsOf ((after_open f p n first last).directory.file p n) (version_of (opening p n (f.directory.file p n) first last))
+    → IsOf ((after_open f p n first last).directory.file p n) (opened_version (opening p n (f.directory.file p n) first last))
 of_found f p n first last free = by_found (opening p n (f.directory.file p n) first last) refl free where
-  by_found : (o : Opening) → opening p n (f.directory.file p n) first last ≡ o → opening_refusal o f.directory.next ≡ None → IsOf ((opened f p n o).directory.file p n) (version_of o)
+  by_found : (o : Opening) → opening p n (f.directory.file p n) first last ≡ o → opening_refusal o f.directory.next ≡ None → IsOf ((with_opening f p n o).directory.file p n) (opened_version o)
   by_found (Continues number layout version) e free' = of_continued p n (f.directory.file p n) first last number layout version e
   by_found (Begins layout version live) e free' = subst (λ (x : Option File). IsOf x version) (sym (with_file_here f.directory.file p n (Some (Incarnation f.directory.next layout version)))) refl
   by_found (Declines refusal) e free' = absurd (none-some _ (sym free'))
@@ -70,10 +70,10 @@ pub record IsOpened (d : Directory) (p n : List ℕ) (version : ℕ) : Type 0 wh
   pub valid : is_partition_name p ≡ true
   pub file : IsOf (d.file p n) version
 
-loosely : (v : State) (p n : List ℕ) (first last : ℕ) → loose_denial v p n first last ≡ None → IsOpened (after_open v.files p n first last).directory p n (version_of (found v p n first last))
+loosely : (v : State) (p n : List ℕ) (first last : ℕ) → loose_denial v p n first last ≡ None → IsOpened (after_open v.files p n first last).directory p n (opened_version (found_at v p n first last))
 loosely v p n first last free =
     let store : open_refusal v.files.directory p n first last ≡ None = (or_then_none (refused_if Injected (draw v.config.open_rate v.stream).0) (open_refusal v.files.directory p n first last) free).1 in
-    let parts = valid_open p (opening_refusal (found v p n first last) v.files.directory.next) store in
+    let parts = valid_open p (opening_refusal (found_at v p n first last) v.files.directory.next) store in
     record { valid = parts.0; file = of_found v.files p n first last parts.1 }
 
 exclusively : (v : State) (p n : List ℕ) (first last : ℕ) → open_denial v p n first last ≡ None → loose_denial v p n first last ≡ None
@@ -94,10 +94,10 @@ module _ (v : State) (handle size : ℕ) (version : BlobVersion) (left : Stream)
   accepted_exclusive p n None (inr t) = absurd t.0
   accepted_exclusive p n (Some versions) (inl m) = absurd (none-some _ m.1)
   accepted_exclusive p n (Some versions) (inr t) =
-      let parts = tells_opened (open_denial v p n versions.0 versions.1) handle size version (length v.handles) (size_of v.files p n (found v p n versions.0 versions.1)) (version_of (found v p n versions.0 versions.1)) t.0 in
+      let parts = tells_opened (open_denial v p n versions.0 versions.1) handle size version (length v.handles) (opened_size v.files p n (found_at v p n versions.0 versions.1)) (opened_version (found_at v p n versions.0 versions.1)) t.0 in
       let f : Files = after_open v.files p n versions.0 versions.1 in
-      as_told (Open p n (Some versions)) p n (version_of (found v p n versions.0 versions.1)) parts.1
-      (subst (λ (d : Directory). IsOpened d p n (version_of (found v p n versions.0 versions.1))) (sym (admitted_directory f p n))
+      as_told (Open p n (Some versions)) p n (opened_version (found_at v p n versions.0 versions.1)) parts.1
+      (subst (λ (d : Directory). IsOpened d p n (opened_version (found_at v p n versions.0 versions.1))) (sym (admitted_directory f p n))
       (loosely v p n versions.0 versions.1 (exclusively v p n versions.0 versions.1 parts.0)))
 
   accepted_loose : (p n : List ℕ) (versions : Option (ℕ × ℕ)) → Answers v (OpenLoose p n versions) (reply.Opened handle size version) left → Accepted (OpenLoose p n versions) (p, n)
@@ -105,8 +105,8 @@ module _ (v : State) (handle size : ℕ) (version : BlobVersion) (left : Stream)
   accepted_loose p n None (inr t) = absurd t.0
   accepted_loose p n (Some versions) (inl m) = absurd (none-some _ m.1)
   accepted_loose p n (Some versions) (inr t) =
-      let parts = tells_opened (loose_denial v p n versions.0 versions.1) handle size version (length v.handles) (size_of v.files p n (found v p n versions.0 versions.1)) (version_of (found v p n versions.0 versions.1)) t.0 in
-      as_told (OpenLoose p n (Some versions)) p n (version_of (found v p n versions.0 versions.1)) parts.1 (loosely v p n versions.0 versions.1 parts.0)
+      let parts = tells_opened (loose_denial v p n versions.0 versions.1) handle size version (length v.handles) (opened_size v.files p n (found_at v p n versions.0 versions.1)) (opened_version (found_at v p n versions.0 versions.1)) t.0 in
+      as_told (OpenLoose p n (Some versions)) p n (opened_version (found_at v p n versions.0 versions.1)) parts.1 (loosely v p n versions.0 versions.1 parts.0)
 
   accepted : (act : Act) (p n : List ℕ) → opened_name act ≡ Some (p, n) → Answers v act (reply.Opened handle size version) left → Accepted act (p, n)
   accepted (Open q m versions) p n same a = let e : (q, m) ≡ (p, n) = cc in subst (Accepted (Open q m versions)) e (accepted_exclusive q m versions a)
@@ -138,15 +138,15 @@ module _ (v : State) (p n : List ℕ) (first last version : ℕ) (accepts : Acce
       ∙ ap (λ r. option_or r (open_already v.names p n)) store
       ∙ ap (λ (o : Option ℕ). if is_some o then Some (BlobAlreadyOpen p (encode_lower n)) else None) free
 
-  told_by : (o : Opening) → found v p n first last ≡ o → is_partition_name p ≡ true → opening_refusal o v.files.directory.next ≡ None → (answer v (Open p n (Some (first, last)))).0 ≡ told.Opened (length v.handles) (size_of v.files p n o) (version_of o)
+  told_by : (o : Opening) → found_at v p n first last ≡ o → is_partition_name p ≡ true → opening_refusal o v.files.directory.next ≡ None → (answer v (Open p n (Some (first, last)))).0 ≡ told.Opened (length v.handles) (opened_size v.files p n o) (opened_version o)
   told_by o finds valid later =
-      ap (λ r. unless_denied r (answers.opened v p n (first, last)))
-      (undenied (ap (λ b. if not b then Some (PartitionNameInvalid p) else opening_refusal (found v p n first last) v.files.directory.next) valid ∙ ap (λ x. opening_refusal x v.files.directory.next) finds ∙ later))
-      ∙ ap (λ x. told.Opened (length v.handles) (size_of v.files p n x) (version_of x)) finds
+      ap (λ r. unless_denied r (answers.told_opened v p n (first, last)))
+      (undenied (ap (λ b. if not b then Some (PartitionNameInvalid p) else opening_refusal (found_at v p n first last) v.files.directory.next) valid ∙ ap (λ x. opening_refusal x v.files.directory.next) finds ∙ later))
+      ∙ ap (λ x. told.Opened (length v.handles) (opened_size v.files p n x) (opened_version x)) finds
 
   -- of a raw file under a whole header
   module _ (layout : Layout) (data_bytes : List ℕ) (raw : v.files.directory.file p n ≡ Some (Raw (region layout version ++ data_bytes))) where
-    finds : found v p n first last ≡ Begins layout version data_bytes
+    finds : found_at v p n first last ≡ Begins layout version data_bytes
     finds =
         ap (λ (file : Option File). opening p n file first last) raw
         ∙ raw_opens p n layout version data_bytes first last accepts.fits
@@ -157,7 +157,7 @@ module _ (v : State) (p n : List ℕ) (first last version : ℕ) (accepts : Acce
 
   -- of a current incarnation
   module _ (number : ℕ) (layout : Layout) (held : v.files.directory.file p n ≡ Some (Incarnation number layout version)) where
-    continues : found v p n first last ≡ Continues number layout version
+    continues : found_at v p n first last ≡ Continues number layout version
     continues =
         ap (λ (file : Option File). opening p n file first last) held
         ∙ ap (λ b. if b then Continues number layout version else Declines (BlobVersionMismatch first last version)) (in_range first last version accepts.least accepts.greatest)
@@ -199,7 +199,7 @@ module _ (v : State) (rest : Stream) (p n : List ℕ) (first last version : ℕ)
     raw_held : again.files.directory.file p n ≡ Some (Raw (region layout version ++ durable_at v.files (place_of p n number layout)))
     raw_held = ap (λ (file : Option File). raw_again (durable_at v.files) p n file) held
 
-    pub finds_held : found again p n first last ≡ Begins layout version (durable_at v.files (place_of p n number layout))
+    pub finds_held : found_at again p n first last ≡ Begins layout version (durable_at v.files (place_of p n number layout))
     finds_held = finds again p n first last version accepts_again refl layout (durable_at v.files (place_of p n number layout)) raw_held
 
     pub opens_held : is_partition_name p ≡ true → (answer again (Open p n (Some (first, last)))).0 ≡ told.Opened (length v.handles) (length (durable_at v.files (place_of p n number layout))) version

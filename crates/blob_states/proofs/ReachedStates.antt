@@ -10,7 +10,7 @@ use Rattle.std.proofs.lemmas.List.Elements.{All-nil, All-push, All-set, All-weak
 use Rattle.rand_core.specs.Stream.{Stream}
 use Rattle.blob_header.specs.declared.layout.Layout.{Layout}
 use Rattle.blob_model.specs.Directory.{Directory, File, Raw, Incarnation, current, is_current, with_file, removed}
-use Rattle.blob_model.specs.Files.{Files, opened, after_open, admitted, raw_again, durable_at}
+use Rattle.blob_model.specs.Files.{Files, with_opening, after_open, admitted, raw_again, durable_at}
 use Rattle.blob_model.specs.Opening.{Opening, Continues, Begins, Declines, opening}
 use Rattle.blob_header.specs.PartitionName.{is_partition_name}
 use Rattle.blob_model.specs.Places.{Place}
@@ -19,11 +19,11 @@ use Rattle.blob_faults.specs.declared.config.Config.{Config}
 use Rattle.blob_calls.specs.declared.call.Call.{Call}
 use Rattle.blob_calls.specs.declared.reply.Reply.{Reply}
 use Rattle.blob_calls.specs.Acts.{Ask, Size, Act, Configure, Open, OpenLoose, Admit, Close, Through, Finish, Remove, Scan, Crash, Reopen, act_of}
-use Rattle.blob_states.specs.After.{after, asked, files_after, held_after, closed, finished}
+use Rattle.blob_states.specs.After.{after, asked, files_after, held_after, with_closed, with_finished}
 use Rattle.blob_states.specs.Answers.{Answers, IsAnswer, answer, through, may_grow, kept_at}
 use Rattle.blob_opens.specs.OpenNames.{Registration}
 use Rattle.blob_states.specs.Reached.{Reached}
-use Rattle.blob_states.specs.Runs.{Run}
+use Rattle.blob_states.specs.Runs.{LeadsTo}
 use Rattle.blob_states.specs.Scripted.{Words}
 use Rattle.blob_states.specs.States.{State, Held, Started, Image, empty_directory, with_image, with_images, start, held_on}
 use Rattle.blob_calls.specs.Told as told
@@ -55,7 +55,7 @@ begins (Begins layout version live) = true
 begins (Continues number layout version) = false
 begins (Declines refusal) = false
 
-valid_opened : (f : Files) (p n : List ℕ) (found : Opening) → (begins found ≡ true → is_partition_name p ≡ true) → AreValid f.directory → AreValid (opened f p n found).directory
+valid_opened : (f : Files) (p n : List ℕ) (found : Opening) → (begins found ≡ true → is_partition_name p ≡ true) → AreValid f.directory → AreValid (with_opening f p n found).directory
 valid_opened f p n (Continues number layout version) name valid = valid
 valid_opened f p n (Begins layout version live) name valid = λ q m. valid_with f.directory.file p n q m (Some (Incarnation f.directory.next layout version)) (name refl) (valid q m)
 valid_opened f p n (Declines refusal) name valid = valid
@@ -179,11 +179,11 @@ module _ (v : State) (rest : Stream) (h : Holds v) where
   holds_crashed None = holds_same v (after v Crash None rest) h (ages v Crash None rest) h.valid refl
   holds_crashed (Some refusal) = holds_same v (after v Crash (Some refusal) rest) h (ages v Crash (Some refusal) rest) h.valid refl
 
-  closed_at : (number : ℕ) (slot : Option Held) → Holds (record (closed v number slot) { stream = rest })
+  closed_at : (number : ℕ) (slot : Option Held) → Holds (record (with_closed v number slot) { stream = rest })
   closed_at number None = record { valid = h.valid; given = h.given; handles = h.handles }
   closed_at number (Some held) = record { valid = h.valid; given = h.given; handles = All-set (Slot d) v.handles number None tt h.handles }
 
-  finished_at : (number : ℕ) (slot : Option Started) → Holds (record (finished v number slot) { stream = rest })
+  finished_at : (number : ℕ) (slot : Option Started) → Holds (record (with_finished v number slot) { stream = rest })
   finished_at number None = record { valid = h.valid; given = h.given; handles = h.handles }
   finished_at number (Some s) = record { valid = h.valid; given = h.given; handles = h.handles }
 
@@ -226,7 +226,7 @@ holds_after v Reopen reply left h a =
     (λ p n. valid_again (durable_at v.files) p n (v.files.directory.file p n)) refl
 
 -- calls one after another
-pub holds_run : (v : State) (calls : List Call) (replies : List Reply) (w : State) → Holds v → Run v calls replies w → Holds w
+pub holds_run : (v : State) (calls : List Call) (replies : List Reply) (w : State) → Holds v → LeadsTo v calls replies w → Holds w
 holds_run v [] [] w h run = subst Holds run h
 holds_run v [] (reply ∷ replies) w h run = absurd run
 holds_run v (call ∷ calls) [] w h run = absurd run

@@ -9,7 +9,7 @@ use Rattle.blob_calls.specs.Acts.{act_of}
 use Rattle.blob_states.specs.After.{after}
 use Rattle.blob_states.specs.Answers.{Answers}
 use Rattle.blob_states.specs.Reached.{is_loose, NoneLoose, Reached, ReachedExclusively}
-use Rattle.blob_states.specs.Runs.{Run}
+use Rattle.blob_states.specs.Runs.{LeadsTo}
 use Rattle.blob_states.specs.Scripted.{Words}
 use Rattle.blob_states.specs.States.{State, Image, start}
 use Rattle.blob_calls.specs.Told.{refused_by}
@@ -18,8 +18,8 @@ use Rattle.blob_model.specs.Places.{Place}
 use Rattle.blob_states.proofs.Stale.{Ages, ages}
 
 -- one more call at the end of a run
-pub run_more : (w : State) (calls : List Call) (replies : List Reply) (v : State) (call : Call) (reply : Reply) (left : Stream) → Run v calls replies w → Answers w (act_of call) reply left
-    → Run v (calls ++ call ∷ []) (replies ++ reply ∷ []) (after w (act_of call) (refused_by reply) left)
+pub run_more : (w : State) (calls : List Call) (replies : List Reply) (v : State) (call : Call) (reply : Reply) (left : Stream) → LeadsTo v calls replies w → Answers w (act_of call) reply left
+    → LeadsTo v (calls ++ call ∷ []) (replies ++ reply ∷ []) (after w (act_of call) (refused_by reply) left)
 run_more w [] [] v call reply left same a =
     (left, subst (λ (s : State). Answers s (act_of call) reply left) (sym same) a, ap (λ (s : State). after s (act_of call) (refused_by reply) left) same)
 run_more w [] (r ∷ replies) v call reply left run a = absurd run
@@ -28,8 +28,8 @@ run_more w (c ∷ calls) (r ∷ replies) v call reply left (first, b, run) a =
     (first, b, run_more w calls replies (after v (act_of c) (refused_by r) first) call reply left run a)
 
 -- one run after another
-pub run_append : (calls : List Call) (replies : List Reply) (more : List Call) (rest : List Reply) (v w u : State) → Run v calls replies w → Run w more rest u → Run v (calls ++ more) (replies ++ rest) u
-run_append [] [] more rest v w u same next = subst (λ (s : State). Run s more rest u) (sym same) next
+pub run_append : (calls : List Call) (replies : List Reply) (more : List Call) (rest : List Reply) (v w u : State) → LeadsTo v calls replies w → LeadsTo w more rest u → LeadsTo v (calls ++ more) (replies ++ rest) u
+run_append [] [] more rest v w u same next = subst (λ (s : State). LeadsTo s more rest u) (sym same) next
 run_append [] (r ∷ replies) more rest v w u run next = absurd run
 run_append (c ∷ calls) [] more rest v w u run next = absurd run
 run_append (c ∷ calls) (r ∷ replies) more rest v w u (left, answers, run) next =
@@ -40,16 +40,16 @@ run_append (c ∷ calls) (r ∷ replies) more rest v w u (left, answers, run) ne
 pub reached_start : (images : List Image) (words : Words) (config : Config) → ReachedExclusively (start images words config)
 reached_start images words config = (images, words, config, [], [], All-nil (λ c. is_loose (act_of c) ≡ false), refl)
 
-pub reached_more : (v w : State) (calls : List Call) (replies : List Reply) → Reached v → Run v calls replies w → Reached w
+pub reached_more : (v w : State) (calls : List Call) (replies : List Reply) → Reached v → LeadsTo v calls replies w → Reached w
 reached_more v w calls replies (images, words, config, before, told, run) next =
     (images, words, config, before ++ calls, told ++ replies, run_append before told calls replies (start images words config) v w run next)
 
-pub reached_strictly : (v w : State) (calls : List Call) (replies : List Reply) → ReachedExclusively v → NoneLoose calls → Run v calls replies w → ReachedExclusively w
+pub reached_strictly : (v w : State) (calls : List Call) (replies : List Reply) → ReachedExclusively v → NoneLoose calls → LeadsTo v calls replies w → ReachedExclusively w
 reached_strictly v w calls replies (images, words, config, before, told, none, run) strict next =
     (images, words, config, before ++ calls, told ++ replies, All-append (λ c. is_loose (act_of c) ≡ false) before calls none strict, run_append before told calls replies (start images words config) v w run next)
 
 -- what is stale stays so through a run
-pub stale_ever : (calls : List Call) (replies : List Reply) (v w : State) (o : Place) → Run v calls replies w → o.number < v.files.directory.next → is_current v.files.directory o ≡ false → is_current w.files.directory o ≡ false
+pub stale_ever : (calls : List Call) (replies : List Reply) (v w : State) (o : Place) → LeadsTo v calls replies w → o.number < v.files.directory.next → is_current v.files.directory o ≡ false → is_current w.files.directory o ≡ false
 stale_ever [] [] v w o same below stale = subst (λ (s : State). is_current s.files.directory o ≡ false) same stale
 stale_ever [] (r ∷ replies) v w o run below stale = absurd run
 stale_ever (c ∷ calls) [] v w o run below stale = absurd run

@@ -10,7 +10,7 @@ use Rattle.blob_model.specs.Places.{Place}
 use Rattle.blob_header.specs.Refusals.{Refusal, BlobMissing, Injected, OffsetOverflow, GenerationsExhausted}
 use Rattle.blob_model.specs.Runs.{Run, runs}
 use Rattle.blob_faults.specs.Answers.{lacks_number, last_end}
-use Rattle.blob_faults.specs.Faults.{WriteFate, Done, Unsynced, Failed, write_fate, resize_fate, retention, is_uncounted}
+use Rattle.blob_faults.specs.Faults.{WriteFate, Done, Unsynced, Failed, write_fate, resize_fate, retention, has_uncounted_end}
 use Rattle.blob_faults.proofs.Sizes.{sized_after_write, sized_after_resize}
 use Rattle.blob_memory.specs.Answers.{write_refusal, end_refusal, sync_refusal, missing}
 use Rattle.blob_memory.specs.Answers as memory
@@ -72,7 +72,7 @@ module _ (d : Directory) (o : Place) (now : is_current d o ≡ true) where
   fate_there (Failed chosen) retained next sync offset bytes = runs_there (runs offset bytes chosen)
 
 denial_there : (v : State) (h : Held) (offset : ℕ) (bytes : List ℕ) (sync : Bool) → is_current v.files.directory h.place ≡ true → is_missing (write_denial v h offset bytes sync) ≡ false
-denial_there v h offset bytes sync now = go (is_idle sync bytes) (is_uncounted offset bytes) where
+denial_there v h offset bytes sync now = go (is_idle sync bytes) (has_uncounted_end offset bytes) where
   denial : Option Refusal
   denial = fate_denial (write_fate v.config sync offset (length bytes) v.stream).0 v.files.directory h.place (is_some (retention v.config.write_rate)) v.files.next_write sync offset bytes
 

@@ -7,7 +7,7 @@ use Rattle.std.specs.Option.{option_or}
 use Rattle.blob_header.specs.declared.layout.Layout.{Layout}
 use Rattle.blob_model.specs.Directory.{Directory, File, Raw, Incarnation, current, is_that, is_current, with_file, directory_made, removed}
 use Rattle.blob_header.specs.Header.{data_start}
-use Rattle.blob_model.specs.Files.{Files, opened, after_open, admitted, admitted_at, all_logged, logged, raw_again, reopened, durable_at}
+use Rattle.blob_model.specs.Files.{Files, with_opening, after_open, admitted, admitted_at, all_logged, logged, raw_again, reopened, durable_at}
 use Rattle.blob_model.specs.Log.{Entry}
 use Rattle.blob_model.specs.Opening.{Opening, Continues, Begins, Declines, opening}
 use Rattle.blob_model.specs.Places.{Place, same_place}
@@ -18,8 +18,8 @@ use Rattle.blob_memory.specs.Answers.{missing, sync_refusal}
 use Rattle.blob_model.specs.SamePlace.{parts, same_place_exact}
 use Rattle.blob_model.proofs.Durables.{others_logged, others_published}
 use Rattle.blob_calls.specs.Acts.{Ask, Read, Write, Resize, Size, Sync, StartSync, Act, Configure, Open, OpenLoose, Admit, Close, Through, Finish, Remove, Scan, Crash, Reopen}
-use Rattle.blob_states.specs.After.{after, asked, begun, files_after, held_after, closed, finished, exclusively_opened}
-use Rattle.blob_states.specs.Steps.{removed as removal, crashed, loosely_opened}
+use Rattle.blob_states.specs.After.{after, asked, begun, files_after, held_after, with_closed, with_finished, exclusively_opened}
+use Rattle.blob_states.specs.Steps.{removal_step as removal, crash_step, loosely_opened}
 use Rattle.blob_states.specs.Answers.{kept_at}
 use Rattle.blob_states.specs.Denials.{refused_if, start_denial, sync_denial}
 use Rattle.blob_states.specs.States.{State, Held, Started}
@@ -67,7 +67,7 @@ made_ages d p n layout version = record {
   given = λ given o now. with_file_either d.file p n o.partition o.name (Some (Incarnation d.next layout version)) o.number o.start (o.number < d.next + 1) (taken d.next o.number (data_start layout == o.start)) (λ old. let below : o.number < d.next = given o old in omega arith) now;
 }
 
-opened_ages : (f : Files) (p n : List ℕ) (found : Opening) → Ages f.directory (opened f p n found).directory
+opened_ages : (f : Files) (p n : List ℕ) (found : Opening) → Ages f.directory (with_opening f p n found).directory
 opened_ages f p n (Continues number layout version) = same_age f.directory
 opened_ages f p n (Begins layout version live) = made_ages f.directory p n layout version
 opened_ages f p n (Declines refusal) = same_age f.directory
@@ -151,11 +151,11 @@ loose_ages : (v : State) (p n : List ℕ) (versions : ℕ × ℕ) (refusal : Opt
 loose_ages v p n versions None = open_ages v.files p n versions.0 versions.1
 loose_ages v p n versions (Some refusal) = same_age v.files.directory
 
-closed_ages : (v : State) (number : ℕ) (slot : Option Held) → Ages v.files.directory (closed v number slot).files.directory
+closed_ages : (v : State) (number : ℕ) (slot : Option Held) → Ages v.files.directory (with_closed v number slot).files.directory
 closed_ages v number None = same_age v.files.directory
 closed_ages v number (Some h) = same_age v.files.directory
 
-finished_ages : (v : State) (number : ℕ) (slot : Option Started) → Ages v.files.directory (finished v number slot).files.directory
+finished_ages : (v : State) (number : ℕ) (slot : Option Started) → Ages v.files.directory (with_finished v number slot).files.directory
 finished_ages v number None = same_age v.files.directory
 finished_ages v number (Some s) = same_age v.files.directory
 
@@ -163,7 +163,7 @@ removal_ages : (v : State) (p : List ℕ) (n : Option (List ℕ)) (refusal : Opt
 removal_ages v p n None = removed_ages v.files.directory p n
 removal_ages v p n (Some refusal) = same_age v.files.directory
 
-crash_ages : (v : State) (refusal : Option Refusal) → Ages v.files.directory (crashed v refusal).files.directory
+crash_ages : (v : State) (refusal : Option Refusal) → Ages v.files.directory (crash_step v refusal).files.directory
 crash_ages v None = same_age v.files.directory
 crash_ages v (Some refusal) = same_age v.files.directory
 

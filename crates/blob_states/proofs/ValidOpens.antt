@@ -42,7 +42,7 @@ pub exclusive_valid : (v : State) (p n : List ℕ) (versions : ℕ × ℕ) (repl
 exclusive_valid v p n versions reply left (inl m) so = absurd (false≢true (sym (ap made m.1) ∙ so))
 exclusive_valid v p n versions reply left (inr t) so =
     let denial : Option Refusal = open_denial v p n versions.0 versions.1 in
-    let is : refused_by reply ≡ denial = denied reply denial (answers.opened v p n versions) refl t.0 in
+    let is : refused_by reply ≡ denial = denied reply denial (answers.told_opened v p n versions) refl t.0 in
     valid_or p denial
     (λ invalid.
     ap (λ store. made (option_or (refused_if GenerationsExhausted (is_unnumbered v.names p n)) (option_or (option_or (refused_if Injected (draw v.config.open_rate v.stream).0) store) (open_already v.names p n))))
@@ -54,7 +54,7 @@ pub loose_valid : (v : State) (p n : List ℕ) (versions : ℕ × ℕ) (reply : 
 loose_valid v p n versions reply left (inl m) so = absurd (false≢true (sym (ap made m.1) ∙ so))
 loose_valid v p n versions reply left (inr t) so =
     let denial : Option Refusal = loose_denial v p n versions.0 versions.1 in
-    let is : refused_by reply ≡ denial = denied reply denial (answers.opened v p n versions) refl t.0 in
+    let is : refused_by reply ≡ denial = denied reply denial (answers.told_opened v p n versions) refl t.0 in
     valid_or p denial
     (λ invalid.
     ap (λ store. made (option_or (refused_if Injected (draw v.config.open_rate v.stream).0) store))

@@ -16,7 +16,7 @@ use Rattle.blob_calls.specs.declared.reply.Reply.{Reply}
 use Rattle.blob_calls.specs.declared.reply.Reply.TheVariants as reply
 use Rattle.blob_calls.specs.Acts.{Act, Open, OpenLoose, Remove, act_of}
 use Rattle.blob_states.specs.Answers.{answer}
-use Rattle.blob_states.specs.Runs.{Run}
+use Rattle.blob_states.specs.Runs.{LeadsTo}
 use Rattle.blob_states.specs.States.{State}
 use Rattle.blob_calls.specs.Told.{Told, Opened, refused_by}
 
@@ -40,7 +40,7 @@ pub record IsKept (v : State) (p n : List ℕ) (version : BlobVersion) (w : Stat
   pub calls : List Call
   pub replies : List Reply
   pub opens : opened_name (act_of opening) ≡ Some (p, n)
-  pub run : Run v (opening ∷ calls) (reply.Opened handle size version ∷ replies) w
+  pub run : LeadsTo v (opening ∷ calls) (reply.Opened handle size version ∷ replies) w
   pub keeps : AllZip (λ call reply. removes (act_of call) (refused_by reply) p n ≡ false) calls replies
 
 -- in a state with this stream, an open for versions from a first to a last one accepts this version: nothing is injected, and

@@ -7,7 +7,7 @@ use Rattle.blob_model.specs.Files.{Files, all_logged, started, admitted, after_o
 use Rattle.blob_header.specs.Refusals.{Refusal, BlobAlreadyOpen}
 use Rattle.blob_faults.specs.Faults.{resize_fate}
 use Rattle.blob_faults.specs.Recorded.{recorded_write, recorded_resize, live_of_write, live_of_resize, size_of_write, size_of_resize}
-use Rattle.blob_calls.specs.Acts.{Ask, Write, Resize, Sync, StartSync, Accepted, Act, Configure, Open, OpenLoose, Admit, Close, Through, Finish, Remove, Crash, Reopen}
+use Rattle.blob_calls.specs.Acts.{Ask, Write, Resize, Sync, StartSync, AcceptedVersions, Act, Configure, Open, OpenLoose, Admit, Close, Through, Finish, Remove, Crash, Reopen}
 use Rattle.blob_states.specs.Answers.{kept_at}
 use Rattle.blob_states.specs.Denials.{start_denial}
 use Rattle.blob_opens.specs.OpenNames as names
@@ -58,7 +58,7 @@ abbrev pub with_held : State → List ℕ → List ℕ → Files → Option Regi
 with_held v p n f registration = record v { files = f; handles = v.handles ++ option_map (held_on f registration) (current f.directory p n) ∷ [] }
 
 -- an exclusive open is admitted at once; where the name is open, what the store's open made stays
-abbrev pub exclusively_opened : State → List ℕ → List ℕ → Accepted → Option Refusal → State
+abbrev pub exclusively_opened : State → List ℕ → List ℕ → AcceptedVersions → Option Refusal → State
 exclusively_opened v p n versions None = with_held (record v { names = names.opened v.names p n }) p n
     (admitted (after_open v.files p n versions.0 versions.1) p n) (Some (record { partition = p; name = n; number = v.names.next }))
 exclusively_opened v p n versions (Some (BlobAlreadyOpen q m)) = record v { files = after_open v.files p n versions.0 versions.1 }
@@ -70,13 +70,13 @@ abbrev pub unregistered : OpenNames → Option Registration → OpenNames
 unregistered s None = s
 unregistered s (Some registration) = names.closed s registration
 
-abbrev pub closed : State → ℕ → Option Held → State
-closed v number None = v
-closed v number (Some h) = record v { names = unregistered v.names h.registration; handles = set v.handles number None }
+abbrev pub with_closed : State → ℕ → Option Held → State
+with_closed v number None = v
+with_closed v number (Some h) = record v { names = unregistered v.names h.registration; handles = set v.handles number None }
 
-abbrev pub finished : State → ℕ → Option Started → State
-finished v number None = v
-finished v number (Some s) = record v { syncs = set v.syncs number None }
+abbrev pub with_finished : State → ℕ → Option Started → State
+with_finished v number None = v
+with_finished v number (Some s) = record v { syncs = set v.syncs number None }
 
 -- but for the generator. A crash keeps what is drawn. In a rebuilt store all names are closed and all started syncs dropped;
 -- numbers aren't given again, and handles stay
@@ -85,9 +85,9 @@ changed v (Configure config) refusal = record v { config = config }
 changed v (Open p n (Some versions)) refusal = exclusively_opened v p n versions refusal
 changed v (OpenLoose p n (Some versions)) None = with_held v p n (after_open v.files p n versions.0 versions.1) None
 changed v (Admit p n) refusal = record v { files = admitted v.files p n }
-changed v (Close number) refusal = closed v number (kept_at v.handles number)
+changed v (Close number) refusal = with_closed v number (kept_at v.handles number)
 changed v (Through number ask) refusal = asked v number (kept_at v.handles number) ask refusal
-changed v (Finish number) refusal = finished v number (kept_at v.syncs number)
+changed v (Finish number) refusal = with_finished v number (kept_at v.syncs number)
 changed v (Remove p n) None = record v { files = after_remove v.files p n; names = names.ended v.names p n }
 changed v Crash None = record v { files = after_crash v.files (chosen_by (drawn v.stream (all_needs v.files.log)).0) }
 changed v Reopen refusal = record v { files = reopened v.files; names = none_open v.names.next; syncs = map (λ slot. None) v.syncs }

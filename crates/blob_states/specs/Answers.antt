@@ -8,7 +8,7 @@ use Rattle.blob_model.specs.Opening.{Opening, Continues, Begins, Declines, openi
 use Rattle.blob_header.specs.Refusals.{Refusal, Memory, Injected}
 use Rattle.blob_faults.specs.Faults.{draw, after_write, resize_fate}
 use Rattle.blob_calls.specs.declared.reply.Reply.{Reply}
-use Rattle.blob_calls.specs.Acts.{Ask, Read, Write, Resize, Size, Sync, StartSync, Accepted, Act, Configure, Open, OpenLoose, Admit, Close, Through, Finish, Remove, Scan, Crash, Reopen}
+use Rattle.blob_calls.specs.Acts.{Ask, Read, Write, Resize, Size, Sync, StartSync, AcceptedVersions, Act, Configure, Open, OpenLoose, Admit, Close, Through, Finish, Remove, Scan, Crash, Reopen}
 use Rattle.blob_states.specs.Denials.{refused_if, is_unnumbered, write_denial, reaching_denial, sync_denial, open_denial, loose_denial, remove_denial, scan_denial}
 use Rattle.blob_states.specs.States.{State, Held}
 use Rattle.blob_memory.specs.Answers.{read_refusal}
@@ -43,22 +43,22 @@ through v (Some h) StartSync = (told.Started (length v.syncs), (draw v.config.sy
 -- An open.
 
 -- the version of what an open finds
-abbrev pub version_of : Opening → ℕ
-version_of (Continues number layout version) = version
-version_of (Begins layout version live) = version
-version_of (Declines refusal) = 0
+abbrev pub opened_version : Opening → ℕ
+opened_version (Continues number layout version) = version
+opened_version (Begins layout version live) = version
+opened_version (Declines refusal) = 0
 
 -- how many bytes the handle reads
-abbrev pub size_of : Files → List ℕ → List ℕ → Opening → ℕ
-size_of f p n (Continues number layout version) = length (durable_at f (place_of p n number layout))
-size_of f p n (Begins layout version live) = length live
-size_of f p n (Declines refusal) = 0
+abbrev pub opened_size : Files → List ℕ → List ℕ → Opening → ℕ
+opened_size f p n (Continues number layout version) = length (durable_at f (place_of p n number layout))
+opened_size f p n (Begins layout version live) = length live
+opened_size f p n (Declines refusal) = 0
 
-abbrev pub found : State → List ℕ → List ℕ → ℕ → ℕ → Opening
-found v p n first last = opening p n (v.files.directory.file p n) first last
+abbrev pub found_at : State → List ℕ → List ℕ → ℕ → ℕ → Opening
+found_at v p n first last = opening p n (v.files.directory.file p n) first last
 
-abbrev pub opened : State → List ℕ → List ℕ → Accepted → Told
-opened v p n (first, last) = let o = found v p n first last in told.Opened (length v.handles) (size_of v.files p n o) (version_of o)
+abbrev pub told_opened : State → List ℕ → List ℕ → AcceptedVersions → Told
+told_opened v p n (first, last) = let o = found_at v p n first last in told.Opened (length v.handles) (opened_size v.files p n o) (opened_version o)
 
 -- Any call.
 
@@ -66,9 +66,9 @@ opened v p n (first, last) = let o = found v p n first last in told.Opened (leng
 abbrev pub answer : State → Act → Told × Stream
 answer v (Configure config) = (told.Done, v.stream)
 answer v (Open p n None) = (told.EmptyRange, v.stream)
-answer v (Open p n (Some versions)) = (unless_denied (open_denial v p n versions.0 versions.1) (opened v p n versions), if is_unnumbered v.names p n then v.stream else (draw v.config.open_rate v.stream).1)
+answer v (Open p n (Some versions)) = (unless_denied (open_denial v p n versions.0 versions.1) (told_opened v p n versions), if is_unnumbered v.names p n then v.stream else (draw v.config.open_rate v.stream).1)
 answer v (OpenLoose p n None) = (told.EmptyRange, v.stream)
-answer v (OpenLoose p n (Some versions)) = (unless_denied (loose_denial v p n versions.0 versions.1) (opened v p n versions), (draw v.config.open_rate v.stream).1)
+answer v (OpenLoose p n (Some versions)) = (unless_denied (loose_denial v p n versions.0 versions.1) (told_opened v p n versions), (draw v.config.open_rate v.stream).1)
 answer v (Admit p n) = (told.Done, v.stream)
 answer v (Close number) = (elim (kept_at v.handles number) [ None ↦ told.NoHandle | Some h ↦ told.Done ], v.stream)
 answer v (Through number ask) = through v (kept_at v.handles number) ask

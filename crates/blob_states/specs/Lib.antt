@@ -4,6 +4,7 @@ pub mod Answers
 pub mod Denials
 pub mod Exclusive
 pub mod Fixed
+pub mod Laws
 pub mod Reached
 pub mod Runs
 pub mod Scripted

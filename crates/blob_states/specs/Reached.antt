@@ -4,7 +4,7 @@ use Rattle.blob_faults.specs.declared.config.Config.{Config}
 use Rattle.blob_calls.specs.declared.call.Call.{Call}
 use Rattle.blob_calls.specs.declared.reply.Reply.{Reply}
 use Rattle.blob_calls.specs.Acts.{Act, OpenLoose, act_of}
-use Rattle.blob_states.specs.Runs.{Run}
+use Rattle.blob_states.specs.Runs.{LeadsTo}
 use Rattle.blob_states.specs.Scripted.{Words}
 use Rattle.blob_states.specs.States.{State, Image, start}
 
@@ -18,8 +18,8 @@ NoneLoose calls = All (λ call. is_loose (act_of call) ≡ false) calls
 
 -- by any calls
 abbrev pub Reached : State → Type 0
-Reached v = (images : List Image) × (words : Words) × (config : Config) × (calls : List Call) × (replies : List Reply) × Run (start images words config) calls replies v
+Reached v = (images : List Image) × (words : Words) × (config : Config) × (calls : List Call) × (replies : List Reply) × LeadsTo (start images words config) calls replies v
 
 -- by calls whose opens are all exclusive
 abbrev pub ReachedExclusively : State → Type 0
-ReachedExclusively v = (images : List Image) × (words : Words) × (config : Config) × (calls : List Call) × (replies : List Reply) × NoneLoose calls × Run (start images words config) calls replies v
+ReachedExclusively v = (images : List Image) × (words : Words) × (config : Config) × (calls : List Call) × (replies : List Reply) × NoneLoose calls × LeadsTo (start images words config) calls replies v

@@ -10,8 +10,8 @@ use Rattle.blob_states.specs.After.{after}
 use Rattle.blob_states.specs.States.{State}
 
 -- calls one after another, from a state, with these replies, to a state
-abbrev pub Run : State → List Call → List Reply → State → Type 0
-Run v [] [] w = v ≡ w
-Run v (call ∷ calls) (reply ∷ replies) w =
-    (left : Stream) × Answers v (act_of call) reply left × Run (after v (act_of call) (refused_by reply) left) calls replies w
-Run v calls replies w = ⊥
+abbrev pub LeadsTo : State → List Call → List Reply → State → Type 0
+LeadsTo v [] [] w = v ≡ w
+LeadsTo v (call ∷ calls) (reply ∷ replies) w =
+    (left : Stream) × Answers v (act_of call) reply left × LeadsTo (after v (act_of call) (refused_by reply) left) calls replies w
+LeadsTo v calls replies w = ⊥

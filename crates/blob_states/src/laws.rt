@@ -1,26 +1,25 @@
 //! What follows for the states of a laboratory, whatever calls came before. Each law is carried by a function that does
 //! nothing: its contract is the law.
 
-ghost use Rattle.std.specs.Prelude.{◌≡◌, ◌≢◌, ◌<◌, ◌≤◌, ◌-◌, ◌^◌, ◌++◌, ℕ, List, [], true, false, Option, Some, None, length};
+ghost use Rattle.std.specs.Prelude.{◌≡◌, ◌≤◌, List, [], false, Option, Some, None, length};
 ghost use Rattle.rand_core.specs.Stream.{Stream};
 ghost use Rattle.blob_model.specs.Directory.{is_current};
-ghost use Rattle.blob_model.specs.Draws.{drawn, chosen_by};
-ghost use Rattle.blob_model.specs.Files.{Files, log_of, all_needs, durable_at, ends_by};
-ghost use Rattle.blob_model.specs.Log.{crashed};
-ghost use Rattle.blob_model.specs.Places.{Place, same_place};
+ghost use Rattle.blob_model.specs.Draws.{drawn};
+ghost use Rattle.blob_model.specs.Files.{Files, all_needs, durable_at};
+ghost use Rattle.blob_model.specs.Places.{Place};
 ghost use Rattle.blob_header.specs.Refusals.{Refusal};
 ghost use Rattle.blob_faults.specs.Faults.{draw};
 ghost use Rattle.blob_faults.specs.declared.config.Config.{Config};
 ghost use Rattle.blob_memory.specs.Answers.{missing};
-ghost use Rattle.blob_states.specs.Accepted.{removes};
-ghost use Rattle.blob_calls.specs.Acts.{Act, Ask, StartSync, Remove, Crash};
+ghost use Rattle.blob_calls.specs.Acts.{Act, Ask, StartSync, Crash};
 ghost use Rattle.blob_states.specs.After.{after, files_after};
 ghost use Rattle.blob_states.specs.Answers.{answer};
-ghost use Rattle.blob_states.specs.Denials.{start_denial, sync_denial};
+ghost use Rattle.blob_states.specs.Denials.{sync_denial};
 ghost use Rattle.blob_states.specs.Exclusive.{HoldNames, Sole};
 ghost use Rattle.blob_opens.specs.OpenNames.{Registration};
+ghost use Rattle.blob_states.specs.Laws.{AskKeepsOtherFiles, CrashAgainChangesNothing, CrashReplaysTheLog, RemovalKeepsBases, RemovalKeepsOtherFiles, RemovalKeepsOtherLogs, RunsGoOn, StaleAskChangesNothing, StaleStartIsRefused, StaleStaysForEver, StaleStaysStale};
 ghost use Rattle.blob_states.specs.Reached.{NoneLoose, Reached, ReachedExclusively};
-ghost use Rattle.blob_states.specs.Runs.{Run};
+ghost use Rattle.blob_states.specs.Runs.{LeadsTo};
 ghost use Rattle.blob_states.specs.Scripted.{Words};
 ghost use Rattle.blob_states.specs.States.{State, Held, Image, held_on, start};
 ghost use Rattle.blob_calls.specs.Told as told;
@@ -36,18 +35,18 @@ pub mod rebuilt_stores;
 /// changes nothing more, answers no row and takes no word.
 pub fn crashes()
     ensures rows { (v : State) → answer v Crash ≡ (told.Crashed (drawn v.stream (all_needs v.files.log)).0, (drawn v.stream (all_needs v.files.log)).1) }
-    ensures left { (v : State) (rest : Stream) (o : Place) → durable_at (after v Crash None rest).files o ≡ crashed (v.files.base o) (log_of v.files.log o) (chosen_by (drawn v.stream (all_needs v.files.log)).0) }
+    ensures left { CrashReplaysTheLog }
     ensures headers { (v : State) (refusal : Option Refusal) (rest : Stream) → (after v Crash refusal rest).files.directory ≡ v.files.directory }
     ensures again { (v : State) (rest : Stream) → answer (after v Crash None rest) Crash ≡ (told.Crashed [], rest) }
-    ensures same { (v : State) (rest last : Stream) (o : Place) → durable_at (after (after v Crash None rest) Crash None last).files o ≡ durable_at (after v Crash None rest).files o }
+    ensures same { CrashAgainChangesNothing }
 {}
 
 /// A removal leaves the base and the log of every incarnation that it doesn't end, and the file of every name that it
 /// doesn't remove, a raw one too.
 pub fn removals()
-    ensures base { (v : State) (partition : List ℕ) (name : Option (List ℕ)) (refusal : Option Refusal) (rest : Stream) (o : Place) → (after v (Remove partition name) refusal rest).files.base o ≡ v.files.base o }
-    ensures files { (v : State) (partition : List ℕ) (name : Option (List ℕ)) (refusal : Option Refusal) (rest : Stream) (p n : List ℕ) → removes (Remove partition name) refusal p n ≡ false → (after v (Remove partition name) refusal rest).files.directory.file p n ≡ v.files.directory.file p n }
-    ensures log { (v : State) (partition : List ℕ) (name : Option (List ℕ)) (refusal : Option Refusal) (rest : Stream) (o : Place) → ends_by v.files.directory partition name o ≡ false → log_of (after v (Remove partition name) refusal rest).files.log o ≡ log_of v.files.log o }
+    ensures base { RemovalKeepsBases }
+    ensures files { RemovalKeepsOtherFiles }
+    ensures log { RemovalKeepsOtherLogs }
 {}
 
 /// A handle that was just opened reads what is durable and tracks its length.
@@ -59,8 +58,8 @@ pub fn opens()
 /// An incarnation that isn't its name's current one never is again, whatever is called, in a store that is rebuilt too.
 pub fn stale_stays_stale()
     ensures next { (v : State) (act : Act) (refusal : Option Refusal) (rest : Stream) → v.files.directory.next ≤ (after v act refusal rest).files.directory.next }
-    ensures stale { (v : State) (act : Act) (refusal : Option Refusal) (rest : Stream) (o : Place) → o.number < v.files.directory.next → is_current v.files.directory o ≡ false → is_current (after v act refusal rest).files.directory o ≡ false }
-    ensures ever { (v w : State) (calls : List Call) (replies : List Reply) (o : Place) → Run v calls replies w → o.number < v.files.directory.next → is_current v.files.directory o ≡ false → is_current w.files.directory o ≡ false }
+    ensures stale { StaleStaysStale }
+    ensures ever { StaleStaysForEver }
 {}
 
 /// What is asked through a handle changes no directory, and no durable byte but those of its own incarnation. So a stale
@@ -68,10 +67,10 @@ pub fn stale_stays_stale()
 /// number is left for a marker; whatever refuses that one, it begins nothing.
 pub fn asks()
     ensures directory { (v : State) (h : Held) (ask : Ask) (refusal : Option Refusal) → (files_after v h ask refusal).directory ≡ v.files.directory }
-    ensures others { (v : State) (h : Held) (ask : Ask) (refusal : Option Refusal) (o : Place) → same_place h.place o ≡ false → durable_at (files_after v h ask refusal) o ≡ durable_at v.files o }
-    ensures stale { (v : State) (h : Held) (ask : Ask) (refusal : Option Refusal) (o : Place) → is_current v.files.directory h.place ≡ false → is_current v.files.directory o ≡ true → durable_at (files_after v h ask refusal) o ≡ durable_at v.files o }
+    ensures others { AskKeepsOtherFiles }
+    ensures stale { StaleAskChangesNothing }
     ensures stale_sync { (v : State) (h : Held) → is_current v.files.directory h.place ≡ false → (draw v.config.sync_rate v.stream).0 ≡ false → sync_denial v h ≡ Some (missing h.place) }
-    ensures stale_start { (v : State) (h : Held) → is_current v.files.directory h.place ≡ false → (draw v.config.sync_rate v.stream).0 ≡ false → v.files.next_marker ≢ 2 ^ 64 - 1 → start_denial v h ≡ Some (missing h.place) }
+    ensures stale_start { StaleStartIsRefused }
     ensures stale_begun { (v : State) (h : Held) (refusal : Option Refusal) → is_current v.files.directory h.place ≡ false → files_after v h StartSync refusal ≡ v.files }
 {}
 
@@ -85,8 +84,8 @@ pub fn opens_are_exclusive()
 /// A run after another is one run, so that where calls lead from a state that was reached is reached too: exclusively,
 /// where no call of either is an open that isn't exclusive. A laboratory that was just made is reached so.
 pub fn runs_go_on()
-    ensures runs { (v w u : State) (calls more : List Call) (replies rest : List Reply) → Run v calls replies w → Run w more rest u → Run v (calls ++ more) (replies ++ rest) u }
+    ensures runs { RunsGoOn }
     ensures start { (images : List Image) (words : Words) (config : Config) → ReachedExclusively (start images words config) }
-    ensures reached { (v w : State) (calls : List Call) (replies : List Reply) → Reached v → Run v calls replies w → Reached w }
-    ensures exclusively { (v w : State) (calls : List Call) (replies : List Reply) → ReachedExclusively v → NoneLoose calls → Run v calls replies w → ReachedExclusively w }
+    ensures reached { (v w : State) (calls : List Call) (replies : List Reply) → Reached v → LeadsTo v calls replies w → Reached w }
+    ensures exclusively { (v w : State) (calls : List Call) (replies : List Reply) → ReachedExclusively v → NoneLoose calls → LeadsTo v calls replies w → ReachedExclusively w }
 {}

@@ -1,7 +1,7 @@
 // The lines of calls.
 ghost use Rattle.std.specs.Prelude.{◌≡◌, IfOk, Some, None, string_bytes, option_map};
 ghost use Rattle.std.specs.Range.{range_inclusive_start, range_inclusive_end, range_inclusive_exhausted};
-ghost use Rattle.blob_calls.specs.Acts.{act_of, accepted};
+ghost use Rattle.blob_calls.specs.Acts.{act_of, versions_of};
 ghost use Rattle.blob_calls.specs.CallLines.{call, writing};
 ghost use Rattle.blob_calls.specs.Forms.{text, hex, name, digits, versions};
 ghost use Rattle.blob_calls.specs.Tokens.{version_of};
@@ -128,7 +128,7 @@ fn index(tokens: &mut Tokens) -> Result<usize, RefusedLine>
 
 /// The two versions that are left, or where nothing is left the default alone.
 fn versions(tokens: &mut Tokens) -> Result<RangeInclusive<BlobVersion>, RefusedLine>
-    ensures ok { IfOk result (λ read. versions tokens.old ≡ Some (accepted (range_inclusive_exhausted read) (range_inclusive_start read).0 (range_inclusive_end read).0, tokens.new)) }
+    ensures ok { IfOk result (λ read. versions tokens.old ≡ Some (versions_of read, tokens.new)) }
     ensures bad { result ≡ Err RefusedLine.BadCall → versions tokens.old ≡ None }
 {
     let Some(first) = tokens.next() else {

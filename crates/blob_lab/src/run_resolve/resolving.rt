@@ -3,10 +3,10 @@ ghost use Rattle.std.specs.Prelude.{true, ◌≡◌, OnOk, ◌≢◌, ◌⊎◌,
 ghost use Rattle.std.specs.Io.KnownBytes.{Keeps};
 ghost use Rattle.std.specs.Io.BufRead.{DropsThrough, first_piece};
 ghost use Rattle.hex.specs.Hex.{decode_of};
-ghost use Rattle.blob_header.specs.Resolve.{Answers};
+ghost use Rattle.blob_header.specs.Resolve.{AnswersAs};
 ghost use Rattle.blob_lab.specs.Endings.{is_cut_of_resolve, is_of_stream};
 ghost use Rattle.blob_lab.specs.ResolveReplies.{AnswersLine, resolved_image};
-ghost use Rattle.blob_lab.specs.Streams.{reader_of, writer_of, is_flushed, Told};
+ghost use Rattle.blob_lab.specs.Streams.{reader_of, writer_of, is_flushed, ToldEnding};
 
 use crate::resolution_line::ResolutionLine;
 use crate::streams::drop_line_feed;
@@ -30,7 +30,7 @@ pub(super) fn resolve_line<R: BufRead, W: Write>(
         → Keeps (W.contents (writer_of output.old)) (W.contents (writer_of output.new))) }
     ensures cut { IfErr result (λ ending. is_cut_of_resolve ending ≡ true) }
     ensures handed_on { OnOk result (is_flushed output.new ≡ true) }
-    ensures told { Told result input.old input.new output.old output.new }
+    ensures told { ToldEnding result input.old input.new output.old output.new }
 {
     let line = read_line(alloc, input, output)?;
     let image = image_of(alloc, line.as_slice())?;
@@ -41,7 +41,7 @@ pub(super) fn resolve_line<R: BufRead, W: Write>(
 
 // What the bytes are as a whole blob, under the names that the program gives it.
 fn resolved(alloc: Global, image: &[u8]) -> Result<Option<(u64, BlobVersion, u64)>, Error>
-    ensures { Answers result (resolved_image image.now) }
+    ensures { AnswersAs result (resolved_image image.now) }
 {
     let versions = BlobVersion::new(0)..=BlobVersion::new(u16::MAX);
     let len = image.len() as u64;
@@ -66,7 +66,7 @@ fn read_line<R: BufRead, W: Write>(
     ensures rest { OnOk result (DropsThrough (R.remaining (reader_of input.old)) (R.remaining (reader_of input.new)) 10) }
     ensures ending { IfErr result (λ ending. is_of_stream ending ≡ true) }
     ensures kept { Keeps (W.contents (writer_of output.old)) (W.contents (writer_of output.new)) }
-    ensures told { Told result input.old input.new output.old output.new }
+    ensures told { ToldEnding result input.old input.new output.old output.new }
 {
     let mut line = Vec::new(alloc);
     input.read_line(&mut line, output)?;

@@ -8,7 +8,7 @@ ghost use Rattle.blob_laboratory.specs.LabStands.{Performs};
 ghost use Rattle.blob_lab.specs.Reading.{IsReadOut};
 ghost use Rattle.blob_lab.specs.ScriptReading.{Begins};
 ghost use Rattle.blob_lab.specs.Scripts.{OfLines, Script, Prints, PrintsUpTo, lines_of, no_script, printed_reply, script_of, with_lines};
-ghost use Rattle.blob_lab.specs.Streams.{reader_of, writer_of, AppendsPart, Told, ToldOutput};
+ghost use Rattle.blob_lab.specs.Streams.{reader_of, writer_of, AppendsPart, ToldEnding, ToldOutput};
 
 use super::Ahead;
 use super::lines::{Lines, Preamble};
@@ -26,7 +26,7 @@ pub(super) fn run_lines<R: Ahead, W: Write>(
     output: &mut Output<W>,
 ) -> Result<(), Ending>
     ensures cut { IfErr result (λ ending. is_cut ending ≡ true) }
-    ensures told { Told result input.old input.new output.old output.new }
+    ensures told { ToldEnding result input.old input.new output.old output.new }
     ensures read { OnOk result (IsReadOut (R.remaining (reader_of input.old)) (R.remaining (reader_of input.new))) }
     ensures all { OnOk result (IfSome (R.remaining (reader_of input.old))
         (λ bytes. Prints (script_of (lines_of bytes)) (W.contents (writer_of output.old)) (W.contents (writer_of output.new)))) }
@@ -55,7 +55,7 @@ fn answer_calls<R: Ahead, W: Write>(
     output: &mut Output<W>,
 ) -> Result<(), Ending>
     ensures cut { IfErr result (λ ending. is_cut ending ≡ true) }
-    ensures told { Told result input.old input.new output.old output.new }
+    ensures told { ToldEnding result input.old input.new output.old output.new }
     ensures read { OnOk result (IsReadOut (R.remaining (reader_of input.old)) (R.remaining (reader_of input.new))) }
     ensures all { OnOk result ((s : Script) (line : List ℕ) → Begins lab.old s line (act_of first) lines.old.config
         → IfSome (R.remaining (reader_of input.old))

@@ -4,14 +4,14 @@ ghost use Rattle.std.specs.Io.Iter.{u64_saturate};
 ghost use Rattle.std.specs.Io.KnownBytes.{Keeps};
 ghost use Rattle.blob_calls.specs.Acts.{act_of};
 ghost use Rattle.blob_lab.specs.Endings.{is_cut};
-ghost use Rattle.blob_laboratory.specs.LabStands.{StandsFor};
+ghost use Rattle.blob_laboratory.specs.LabStands.{LabStandsFor};
 ghost use Rattle.blob_calls.specs.Lines.{said_by};
 ghost use Rattle.blob_lab.specs.Reading.{StaysKnown, IsReadOut};
 ghost use Rattle.blob_lab.specs.ScriptReading.{TakesLine, TakesCall, TakesBadCall, TakesPart, preamble_of};
 ghost use Rattle.blob_lab.specs.Scripts.{OfLines, Script, TakesOne, with_lines};
 ghost use Rattle.blob_calls.specs.Settings.{cleared, configured};
 ghost use Rattle.blob_states.specs.States.{start};
-ghost use Rattle.blob_lab.specs.Streams.{reader_of, lines_left, writer_of, Told};
+ghost use Rattle.blob_lab.specs.Streams.{reader_of, lines_left, writer_of, ToldEnding};
 ghost use Rattle.blob_laboratory.specs.Tables.{images_of};
 
 use super::Ahead;
@@ -49,7 +49,7 @@ impl Preamble {
 
     /// The laboratory that these lines make. The only error is `Memory`.
     pub(crate) fn into_lab(self) -> Result<Lab, Error>
-        ensures { IfOk result (λ lab. StandsFor lab (start (images_of self.images.items) (record { given = self.words.items; seed = self.seed }) cleared)) }
+        ensures { IfOk result (λ lab. LabStandsFor lab (start (images_of self.images.items) (record { given = self.words.items; seed = self.seed }) cleared)) }
     {
         let Preamble {
             images,
@@ -91,7 +91,7 @@ impl Lines {
         preamble: &mut Preamble,
     ) -> Result<Option<Call>, Ending>
         ensures cut { IfErr result (λ ending. is_cut ending ≡ true) }
-        ensures told { Told result input.old input.new output.old output.new }
+        ensures told { ToldEnding result input.old input.new output.old output.new }
         ensures kept { Keeps (W.contents (writer_of output.old)) (W.contents (writer_of output.new)) }
         ensures known { OnOk result (StaysKnown (R.remaining (reader_of input.old)) (R.remaining (reader_of input.new))) }
         ensures end { IfOk result (λ call. IfNone call (IsReadOut (R.remaining (reader_of input.old)) (R.remaining (reader_of input.new)))) }
@@ -144,7 +144,7 @@ impl Lines {
         output: &mut Output<W>,
     ) -> Result<Option<Call>, Ending>
         ensures cut { IfErr result (λ ending. is_cut ending ≡ true) }
-        ensures told { Told result input.old input.new output.old output.new }
+        ensures told { ToldEnding result input.old input.new output.old output.new }
         ensures kept { Keeps (W.contents (writer_of output.old)) (W.contents (writer_of output.new)) }
         ensures known { OnOk result (StaysKnown (R.remaining (reader_of input.old)) (R.remaining (reader_of input.new))) }
         ensures end { IfOk result (λ call. IfNone call (IsReadOut (R.remaining (reader_of input.old)) (R.remaining (reader_of input.new)))) }
@@ -181,7 +181,7 @@ impl Lines {
         output: &mut Output<W>,
     ) -> Result<Option<Line>, Ending>
         ensures cut { IfErr result (λ ending. is_cut ending ≡ true) }
-        ensures told { Told result input.old input.new output.old output.new }
+        ensures told { ToldEnding result input.old input.new output.old output.new }
         ensures kept { Keeps (W.contents (writer_of output.old)) (W.contents (writer_of output.new)) }
         ensures known { OnOk result (StaysKnown (R.remaining (reader_of input.old)) (R.remaining (reader_of input.new))) }
         ensures end { IfOk result (λ line. IfNone line (IsReadOut (R.remaining (reader_of input.old)) (R.remaining (reader_of input.new)))) }

@@ -3,8 +3,8 @@ ghost use Rattle.std.specs.Prelude.{◌≡◌, ◌<◌, ◌++◌, ◌∷◌, [],
 ghost use Rattle.blob_header.specs.Refusals.{IsMemory};
 ghost use Rattle.blob_states.specs.After.{unregistered};
 ghost use Rattle.blob_states.specs.Answers.{kept_at};
-ghost use Rattle.blob_opens.specs.Opens.{names_of, inner_of, registration_of};
-ghost use Rattle.blob_laboratory.specs.Tables.{held_by, handles_of, HasRoom};
+ghost use Rattle.blob_opens.specs.Opens.{names_of, store_handle, registration_of};
+ghost use Rattle.blob_laboratory.specs.Tables.{as_held, handles_of, HasFreeSlot};
 
 use blob_base::Error;
 use blob_opens::Opens;
@@ -24,7 +24,7 @@ pub(crate) struct Handle {
 impl Handle {
     /// The handle of an exclusive open.
     pub(crate) fn exclusive(blob: open::Blob<WrapperBlob>) -> Handle
-        ensures blob { result.blob ≡ inner_of blob }
+        ensures blob { result.blob ≡ store_handle blob }
         ensures registration { result.registration ≡ Some (registration_of blob) }
     {
         let open::Blob {
@@ -79,7 +79,7 @@ impl Handles {
     /// Takes room for one more handle. The only error is `Memory`.
     pub(crate) fn reserve(&mut self) -> Result<(), Error>
         ensures handles { handles_of self.new ≡ handles_of self.old }
-        ensures room { OnOk result (HasRoom self.new) }
+        ensures room { OnOk result (HasFreeSlot self.new) }
         ensures memory { OnErr result (IsMemory result) }
     {
         self.slots.reserve(1)?;
@@ -88,9 +88,9 @@ impl Handles {
 
     /// Adds a handle where there is room, and answers its number.
     pub(crate) fn add(&mut self, handle: Handle) -> usize
-        requires { HasRoom self.old }
+        requires { HasFreeSlot self.old }
         ensures number { result ≡ length (handles_of self.old) }
-        ensures handles { handles_of self.new ≡ handles_of self.old ++ Some (held_by handle) ∷ [] }
+        ensures handles { handles_of self.new ≡ handles_of self.old ++ Some (as_held handle) ∷ [] }
     {
         let number = self.slots.len();
         self.slots.push(Some(handle)).unwrap();
@@ -98,7 +98,7 @@ impl Handles {
     }
 
     pub(crate) fn get(&self, number: usize) -> Option<&Handle>
-        ensures { option_map held_by (option_copied result) ≡ kept_at (handles_of self.now) number }
+        ensures { option_map as_held (option_copied result) ≡ kept_at (handles_of self.now) number }
     {
         match self.slots.get(number) {
             Some(slot) => slot.as_ref(),
@@ -108,7 +108,7 @@ impl Handles {
 
     /// Takes a handle out of its slot.
     pub(crate) fn take(&mut self, number: usize) -> Option<Handle>
-        ensures handle { option_map held_by result ≡ kept_at (handles_of self.old) number }
+        ensures handle { option_map as_held result ≡ kept_at (handles_of self.old) number }
         ensures there { IfSome result (λ h. number < length (handles_of self.new)) }
         ensures taken { IfSome result (λ h. handles_of self.new ≡ set (handles_of self.old) number None) }
         ensures none { IfNone result (handles_of self.new ≡ handles_of self.old) }
@@ -122,7 +122,7 @@ impl Handles {
     /// Puts a handle into the slot that it was taken from.
     pub(crate) fn put(&mut self, number: usize, handle: Handle)
         requires { number < length (handles_of self.old) }
-        ensures { handles_of self.new ≡ set (handles_of self.old) number (Some (held_by handle)) }
+        ensures { handles_of self.new ≡ set (handles_of self.old) number (Some (as_held handle)) }
     {
         self.slots[number] = Some(handle);
     }

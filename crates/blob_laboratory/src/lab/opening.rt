@@ -1,7 +1,7 @@
 // Opens, and closes.
 ghost use Rattle.std.specs.Prelude.{◌≡◌, ◌≤◌, false, Some, None, IfSome, IfNone};
 ghost use Rattle.std.specs.Range.{range_inclusive_start, range_inclusive_end, range_inclusive_exhausted};
-ghost use Rattle.blob_calls.specs.Acts.{Open, OpenLoose, Close, accepted};
+ghost use Rattle.blob_calls.specs.Acts.{Open, OpenLoose, Close, versions_of};
 ghost use Rattle.blob_laboratory.specs.LabStands.{Performs};
 
 use crate::ScriptedRng;
@@ -14,10 +14,10 @@ use std::ops::RangeInclusive;
 
 /// A copy of a range of versions; none where it is empty.
 fn accepted(versions: &RangeInclusive<BlobVersion>) -> Option<RangeInclusive<BlobVersion>>
-    ensures versions { IfSome result (λ v. accepted (range_inclusive_exhausted versions.now) (range_inclusive_start versions.now).0 (range_inclusive_end versions.now).0 ≡ Some ((range_inclusive_start v).0, (range_inclusive_end v).0)) }
+    ensures versions { IfSome result (λ v. versions_of versions.now ≡ Some ((range_inclusive_start v).0, (range_inclusive_end v).0)) }
     ensures fresh { IfSome result (λ v. range_inclusive_exhausted v ≡ false) }
     ensures some { IfSome result (λ v. (range_inclusive_start v).0 ≤ (range_inclusive_end v).0) }
-    ensures none { IfNone result (accepted (range_inclusive_exhausted versions.now) (range_inclusive_start versions.now).0 (range_inclusive_end versions.now).0 ≡ None) }
+    ensures none { IfNone result (versions_of versions.now ≡ None) }
 {
     if versions.is_empty() {
         return None;
@@ -33,7 +33,7 @@ impl Lab {
         name: &[u8],
         versions: &RangeInclusive<BlobVersion>,
     ) -> Reply
-        ensures { Performs self.old (Open partition.now name.now (accepted (range_inclusive_exhausted versions.now) (range_inclusive_start versions.now).0 (range_inclusive_end versions.now).0)) result self.new }
+        ensures { Performs self.old (Open partition.now name.now (versions_of versions.now)) result self.new }
     {
         let Some(versions) = accepted(versions) else {
             return Reply::EmptyRange;
@@ -61,7 +61,7 @@ impl Lab {
         name: &[u8],
         versions: &RangeInclusive<BlobVersion>,
     ) -> Reply
-        ensures { Performs self.old (OpenLoose partition.now name.now (accepted (range_inclusive_exhausted versions.now) (range_inclusive_start versions.now).0 (range_inclusive_end versions.now).0)) result self.new }
+        ensures { Performs self.old (OpenLoose partition.now name.now (versions_of versions.now)) result self.new }
     {
         let Some(versions) = accepted(versions) else {
             return Reply::EmptyRange;

@@ -3,7 +3,8 @@ ghost use Rattle.std.specs.Prelude.{◌≡◌};
 ghost use Rattle.blob_model.specs.Files.{Files, reopened};
 ghost use Rattle.blob_faulty.specs.Wrapper.{config_of};
 ghost use Rattle.blob_calls.specs.Acts.{Crash, Reopen};
-ghost use Rattle.blob_laboratory.specs.LabStands.{IsFor, Performs, stream_of};
+ghost use Rattle.blob_laboratory.specs.LabStands.{Performs, stream_of};
+ghost use Rattle.blob_faulty.specs.Keeps.{IsFor};
 
 use crate::ScriptedRng;
 use crate::lab::{Lab, Wrapper};

@@ -1,5 +1,5 @@
 // Which states a laboratory may stand for.
-ghost use Rattle.blob_laboratory.specs.LabStands.{StandsFor};
+ghost use Rattle.blob_laboratory.specs.LabStands.{LabStandsFor};
 ghost use Rattle.blob_states.specs.States.{State};
 
 use crate::lab::Lab;
@@ -12,5 +12,5 @@ pub trait Stands {
 }
 
 impl Stands for Lab {
-    ghost stands_for = { StandsFor };
+    ghost stands_for = { LabStandsFor };
 }

@@ -3,7 +3,7 @@
 ghost use Rattle.std.specs.Prelude.{List};
 ghost use Rattle.blob_states.specs.Fixed.{Persists};
 ghost use Rattle.blob_states.specs.Reached.{NoneLoose, ReachedExclusively};
-ghost use Rattle.blob_states.specs.Runs.{Run};
+ghost use Rattle.blob_states.specs.Runs.{LeadsTo};
 ghost use Rattle.blob_states.specs.States.{State};
 ghost use Rattle.blob_calls.specs.declared.call.Call.{Call};
 ghost use Rattle.blob_calls.specs.declared.reply.Reply.{Reply};
@@ -13,5 +13,5 @@ ghost use Rattle.blob_calls.specs.declared.reply.Reply.{Reply};
 /// answers, until a write whose range holds it, a resize to its position or below, or a removal reaches it.
 pub fn fixed_bytes_persist()
     ensures { (v w : State) (calls : List Call) (replies : List Reply) →
-        ReachedExclusively v → NoneLoose calls → Run v calls replies w → Persists v calls replies }
+        ReachedExclusively v → NoneLoose calls → LeadsTo v calls replies w → Persists v calls replies }
 {}

@@ -1,7 +1,7 @@
 use Rattle.std.proofs.Common.{◌≡◌, ◌<◌, ◌+◌, ◌∙◌, ap, sym, subst, List, ◌∷◌, drop, length, arith}
 use Rattle.blob_model.specs.Draws.{chosen_by}
 use Rattle.blob_model.specs.Log.{Choices}
-use Rattle.blob_model.specs.Order.{Held, held_at, ArePlacesApart}
+use Rattle.blob_model.specs.Order.{ListAt, held_at, ArePlacesApart}
 use Rattle.blob_model.specs.Places.{Place}
 use Rattle.blob_model.specs.Stands.{replayed_at}
 use Rattle.blob_memory.specs.Store.{durable}
@@ -22,12 +22,12 @@ loop-list-preserved c =
     let x = c.list-item.result in
     let h : i < length is = omega arith in
     let t : Choices = chosen_by (rows_in c.args.rows.now) in
-    let rest : List Held = held (λ (o : Place). o) (drop (i + 1) is) in
+    let rest : List ListAt = held (λ (o : Place). o) (drop (i + 1) is) in
     let here : held (λ (o : Place). o) (drop i is) ≡ held_by (λ (o : Place). o) x ∷ rest = held_more is i x h c.list-item.is in
     record {
-      apart = λ a. (subst (λ (hs : List Held). ArePlacesApart hs) here (c.loop-list.invariant.apart a)).1;
-      durable = λ a o. replay_first t (held_by (λ (p : Place). p) x) rest (durable c.loop-list.inner) (durable c.replay_list.new.inner) o (subst (λ (hs : List Held). ArePlacesApart hs) here (c.loop-list.invariant.apart a)).0 (c.replay_list.ensures.durable o)
-          ∙ ap (λ (hs : List Held). replayed_at t (held_at hs o) (durable c.loop-list.inner o)) (sym here) ∙ c.loop-list.invariant.durable a o;
+      apart = λ a. (subst (λ (hs : List ListAt). ArePlacesApart hs) here (c.loop-list.invariant.apart a)).1;
+      durable = λ a o. replay_first t (held_by (λ (p : Place). p) x) rest (durable c.loop-list.inner) (durable c.replay_list.new.inner) o (subst (λ (hs : List ListAt). ArePlacesApart hs) here (c.loop-list.invariant.apart a)).0 (c.replay_list.ensures.durable o)
+          ∙ ap (λ (hs : List ListAt). replayed_at t (held_at hs o) (durable c.loop-list.inner o)) (sym here) ∙ c.loop-list.invariant.durable a o;
       kept = record {
         directory = c.replay_list.ensures.kept.directory ∙ c.loop-list.invariant.kept.directory;
         room = λ o n f. c.replay_list.ensures.kept.room o n (c.loop-list.invariant.kept.room o n f);

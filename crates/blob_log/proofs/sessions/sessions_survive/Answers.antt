@@ -7,7 +7,7 @@ use Rattle.blob_model.specs.Opened.{IsNamed}
 use Rattle.blob_header.specs.Fronts.{BeginsWith}
 use Rattle.blob_header.specs.Refusals.{refused, refusal_of, Memory}
 use Rattle.blob_log.specs.declared.sessions.Session.{Session}
-use Rattle.blob_log.specs.Held.{items_of, acknowledged, place_of}
+use Rattle.blob_log.specs.Held.{record_bytes, acknowledged, log_place}
 use Rattle.blob_log.specs.Refused.{NotRecovered, NoMemory, Done}
 use Rattle.blob_log.proofs.Surviving.{answered_more, survive_more}
 use Rattle.blob_log.proofs.sessions.sessions_survive.Goals as goal
@@ -17,11 +17,11 @@ loop-entries-preserved g c =
     let before = c.loop-entries.before in
     let answers = c.in_ok-answers.answers in
     let session : Session = record { before = before; answers = answers } in
-    let o = place_of c.append_all.new.log in
+    let o = log_place c.append_all.new.log in
     let named : IsNamed o c.args.partition.now c.args.name.now = subst (λ (a : Place). IsNamed a c.args.partition.now c.args.name.now) (sym c.append_all.ensures.place) c.loop-entries.invariant.named in
     record {
       held = λ files stands.
-          let h = c.in_ok-answers.ensures.held (items_of before.items) (c.loop-entries.invariant.held files stands) in
+          let h = c.in_ok-answers.ensures.held (record_bytes before.items) (c.loop-entries.invariant.held files stands) in
           let k = c.crash.ensures.keeps o _ h.kept in
           c.in_ok-again.ensures.held k.files k.stands;
       named = c.in_ok-again.ensures.named;
@@ -30,11 +30,11 @@ loop-entries-preserved g c =
           c.loop-entries.invariant.answered c.loop-entries.invariant.count c.loop-entries-test.true c.entries-item.is c.in_ok-push.ensures.items
           (c.in_ok-answers.ensures.count ∙ ap (λ (l : List (Vec ℕ Global)). length l) c.deref.ensures.value);
       survive = λ files stands.
-          let h = c.in_ok-answers.ensures.held (items_of before.items) (c.loop-entries.invariant.held files stands) in
-          let found = c.in_ok-again.ensures.found o (items_of before.items ++ acknowledged answers.items (items_of c.deref.result.now)) named h.short (c.crash.ensures.keeps o _ h.kept) in
-          survive_more c.loop-entries.done.items c.push.new.self.items session c.args.sessions.now c.loop-entries.entries-index c.entries-item.result (items_of c.in_ok-again.after.items)
+          let h = c.in_ok-answers.ensures.held (record_bytes before.items) (c.loop-entries.invariant.held files stands) in
+          let found = c.in_ok-again.ensures.found o (record_bytes before.items ++ acknowledged answers.items (record_bytes c.deref.result.now)) named h.short (c.crash.ensures.keeps o _ h.kept) in
+          survive_more c.loop-entries.done.items c.push.new.self.items session c.args.sessions.now c.loop-entries.entries-index c.entries-item.result (record_bytes c.in_ok-again.after.items)
           (c.loop-entries.invariant.survive files stands) c.loop-entries.invariant.count c.loop-entries-test.true c.entries-item.is c.in_ok-push.ensures.items
-          (subst (λ (l : List (Vec ℕ Global)). BeginsWith (items_of before.items ++ acknowledged answers.items (items_of l)) (items_of c.in_ok-again.after.items)) c.deref.ensures.value found.1);
+          (subst (λ (l : List (Vec ℕ Global)). BeginsWith (record_bytes before.items ++ acknowledged answers.items (record_bytes l)) (record_bytes c.in_ok-again.after.items)) c.deref.ensures.value found.1);
     }
 
 -- Why it is answered so.

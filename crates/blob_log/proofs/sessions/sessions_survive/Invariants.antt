@@ -2,15 +2,15 @@ use Rattle.std.proofs.Common.{◌≡◌, length}
 use Rattle.blob_model.specs.Files.{Files}
 use Rattle.blob_model.specs.Opened.{IsNamed}
 use Rattle.blob_faulty.specs.Keeps.{IsFor}
-use Rattle.blob_log.specs.Held.{Holds, Survive, place_of, items_of}
+use Rattle.blob_log.specs.Held.{HoldsRecords, Survive, log_place, record_bytes}
 use Rattle.blob_log.proofs.Surviving.{Answered}
 use Rattle.blob_log.proofs.sessions.sessions_survive.Given as goal
 
 abbrev pub invariant-loop-entries : goal.invariant-loop-entries
 invariant-loop-entries g l = record {
-  held : (files : Files) → IsFor l.fn.store files → Holds l.log l.store (items_of l.before.items);
-  named : IsNamed (place_of l.log) l.partition l.name;
+  held : (files : Files) → IsFor l.fn.store files → HoldsRecords l.log l.store (record_bytes l.before.items);
+  named : IsNamed (log_place l.log) l.partition l.name;
   count : length l.done.items ≡ l.entries-index;
   answered : Answered l.done.items l.sessions;
-  survive : (files : Files) → IsFor l.fn.store files → Survive l.done.items l.sessions (items_of l.before.items);
+  survive : (files : Files) → IsFor l.fn.store files → Survive l.done.items l.sessions (record_bytes l.before.items);
 }

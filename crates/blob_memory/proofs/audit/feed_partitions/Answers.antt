@@ -5,7 +5,7 @@ use Rattle.std.specs.Map.Iter.{deref_pair}
 use Rattle.std.proofs.lemmas.List.{map-append}
 use Rattle.std.proofs.lemmas.Grind.{flat_map-append}
 use Rattle.blob_memory.specs.Audit.{pieces_of}
-use Rattle.blob_header.specs.Register.{Holds}
+use Rattle.blob_header.specs.Register.{HasTaken}
 use Rattle.blob_memory.specs.Listing.{listing_in, listing_all, AreAllOrdered}
 use Rattle.blob_memory.proofs.Fed.{fed_more}
 use Rattle.blob_memory.proofs.ListingOf.{all_more}
@@ -16,7 +16,7 @@ loop-partition-preserved c = record {
   fed = λ before h.
       let ys = map deref_pair c.loop-partition.yielded in
       let here = listing_in (string_bytes c.in-Some.partition.now) c.in-Some.names.now.entries in
-      subst (λ l. Holds c.feed_names.new.crc l)
+      subst (λ l. HasTaken c.feed_names.new.crc l)
       (fed_more before (listing_all ys) here _ _
       (ap listing_all (map-append deref_pair c.loop-partition.yielded ((c.in-Some.partition, c.in-Some.names) ∷ [])) ∙ flat_map-append (λ e. listing_in (string_bytes e.0) e.1.entries) ys ((c.in-Some.partition.now, c.in-Some.names.now) ∷ []) ∙ ap (λ l. listing_all ys ++ l) (append-nil here))
       (ap (λ (p : List ℕ). pieces_of (listing_in p c.in-Some.names.now.entries)) c.deref.ensures))

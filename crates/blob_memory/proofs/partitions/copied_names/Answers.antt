@@ -2,7 +2,7 @@ use Rattle.std.proofs.Common.{rules, ◌≡◌, sym, subst, append-nil}
 use Rattle.std.specs.Prelude.{map, is_some}
 use Rattle.std.specs.BTreeMap.{keys}
 use Rattle.blob_base.specs.Names.{AreNames}
-use Rattle.blob_memory.specs.Maps.{found}
+use Rattle.blob_names.specs.Names.{found}
 use Rattle.blob_memory.proofs.Listings.{names_are}
 use Rattle.blob_memory.proofs.partitions.copied_names.Goals as goal
 

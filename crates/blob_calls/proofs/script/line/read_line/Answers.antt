@@ -1,5 +1,5 @@
 use Rattle.std.proofs.Common.{rules, ◌≡◌, ◌∙◌, ap, Some, [], ◌∷◌, true, false}
-use Rattle.blob_calls.specs.Forms.{ended}
+use Rattle.blob_calls.specs.Forms.{unless_left}
 use Rattle.blob_calls.specs.Lines.{said_by, statement, is_comment}
 use Rattle.blob_calls.specs.Tokens.{tokens}
 use Rattle.blob_calls.proofs.SaidLines.{line_no_text, line_said, said_comment, said_statement}
@@ -28,7 +28,7 @@ returns-in-None-next-clause-ok c =
     let none : c.said.new.tokens ≡ [] = search rules in
     line_said c.args.line.now c.in-Ok.text.now _ (search rules) (search rules) all
     ∙ said_statement c.in-Some.word.now c.next.new.self _ _ statement_not read
-    ∙ ap (ended (said_by c.in_ok-read.read)) none
+    ∙ ap (unless_left (said_by c.in_ok-read.read)) none
 
 pub returns-in-Some-next-clause-bad : goal.returns-in-Some-next-clause-bad
 returns-in-Some-next-clause-bad c = λ _.
@@ -38,4 +38,4 @@ returns-in-Some-next-clause-bad c = λ _.
     let some : c.said.new.tokens ≡ c.in-Some-next.field-0.now ∷ c.next-2.new.self = search rules in
     line_said c.args.line.now c.in-Ok.text.now _ (search rules) (search rules) all
     ∙ said_statement c.in-Some.word.now c.next.new.self _ _ statement_not read
-    ∙ ap (ended (said_by c.in_ok-read.read)) some
+    ∙ ap (unless_left (said_by c.in_ok-read.read)) some

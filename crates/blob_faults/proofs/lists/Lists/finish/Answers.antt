@@ -1,5 +1,5 @@
 use Rattle.std.proofs.Common.{◌∙◌, sym, ap, subst, List}
-use Rattle.blob_model.specs.Order.{Held, held_at, ArePlacesApart}
+use Rattle.blob_model.specs.Order.{ListAt, held_at, ArePlacesApart}
 use Rattle.blob_faults.specs.Lists.{held}
 use Rattle.blob_faults.proofs.Distinct.{distinct_of, apart_of}
 use Rattle.blob_faults.proofs.ListSteps.{held_at_finished, apart_finished}
@@ -11,8 +11,8 @@ invariant_of-self g c =
     let is = c.args.self.now.all.lists.items in
     record {
       distinct = distinct_of place c.finish_all.new.lists.items
-          (subst (λ (hs : List Held). ArePlacesApart hs) (sym (c.finish_all.ensures place)) (apart_finished c.args.marker (held place is) (apart_of place is g.met.S.Durable.one_origin c.args.self.now.all.distinct)));
+          (subst (λ (hs : List ListAt). ArePlacesApart hs) (sym (c.finish_all.ensures place)) (apart_finished c.args.marker (held place is) (apart_of place is g.met.S.Durable.one_origin c.args.self.now.all.distinct)));
     }
 
 pub returns : goal.returns
-returns g c o = ap (λ (hs : List Held). held_at hs o) (c.finish_all.ensures g.S.Durable.place) ∙ held_at_finished c.args.marker (held g.S.Durable.place c.args.self.now.all.lists.items) o
+returns g c o = ap (λ (hs : List ListAt). held_at hs o) (c.finish_all.ensures g.S.Durable.place) ∙ held_at_finished c.args.marker (held g.S.Durable.place c.args.self.now.all.lists.items) o

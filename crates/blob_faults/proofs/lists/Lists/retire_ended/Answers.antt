@@ -2,7 +2,7 @@ use Rattle.std.proofs.Common.{not, get_or, ◌≡◌, ◌≢◌, ◌∙◌, ◌|
 use Rattle.std.proofs.lemmas.List.Kept.{AllPairs-filter}
 use Rattle.std.specs.List.{filter}
 use Rattle.blob_model.specs.Directory.{Directory, is_current}
-use Rattle.blob_model.specs.Order.{Held, held_at}
+use Rattle.blob_model.specs.Order.{ListAt, held_at}
 use Rattle.blob_faults.specs.declared.incarnation.Incarnation.{Incarnation}
 use Rattle.blob_faults.specs.Lists.{held, AreNoted, AreDistinct, has_ended}
 use Rattle.blob_faults.proofs.ListSteps.{held_filter, held_at_filter, filter_on, stays_is}
@@ -19,7 +19,7 @@ kept g c d noted =
     ∙ held_filter g.S.Durable.place (λ o. not (has_ended d now o)) c.args.self.now.all.lists.items
 
 pub returns : goal.returns
-returns g c d noted a = ap (λ (hs : List Held). held_at hs a) (kept g c d noted) ∙ held_at_filter (held g.S.Durable.place c.args.self.now.all.lists.items) (has_ended d (g.S.Durable.directory c.args.store.now)) a
+returns g c d noted a = ap (λ (hs : List ListAt). held_at hs a) (kept g c d noted) ∙ held_at_filter (held g.S.Durable.place c.args.self.now.all.lists.items) (has_ended d (g.S.Durable.directory c.args.store.now)) a
 
 pub invariant_of-self : goal.invariant_of-self
 invariant_of-self g c = record {

@@ -4,7 +4,7 @@ use Rattle.rand_core.specs.Stream.{Stream}
 use Rattle.blob_base.specs.Options.{is_sync}
 use Rattle.blob_faulty.proofs.Adding.{nothing_changed}
 use Rattle.blob_header.specs.Refusals.{refused, Memory}
-use Rattle.blob_faults.specs.Faults.{WriteFate, is_uncounted, write_fate}
+use Rattle.blob_faults.specs.Faults.{WriteFate, has_uncounted_end, write_fate}
 use Rattle.blob_faults.specs.Fates.{write_fate_of}
 use Rattle.blob_faulty.proofs.WriteLeaving.{write_idle, write_leaves, write_uncounted, write_undrawn}
 use Rattle.blob_faulty.proofs.blob.BlobBlobStorage.write_at.Given.{Over}
@@ -48,5 +48,5 @@ returns-then-len-eq0-clause-leaves g c =
 pub returns-then-is_none-clause-leaves : goal.returns-then-is_none-clause-leaves
 returns-then-is_none-clause-leaves g c =
     let some : is_sync c.args.options ≡ true → c.args.bytes ≢ [] = first_of (search rules, grind (arith, common_steps)) in
-    let over : is_uncounted c.args.offset c.args.bytes ≡ true = first_of (search rules, grind (arith, common_steps)) in
+    let over : has_uncounted_end c.args.offset c.args.bytes ≡ true = first_of (search rules, grind (arith, common_steps)) in
     write_uncounted g.S.Durable g.B.Blob g.R.Rng.stream c.args.self.now c.args.store.now (is_sync c.args.options) c.args.offset c.args.bytes some over

@@ -5,7 +5,7 @@ use Rattle.blob_model.specs.Places.{Place}
 use Rattle.blob_model.specs.Stands.{StandsFor}
 use Rattle.blob_model.proofs.FileSteps.{stands_wrapped}
 use Rattle.blob_faults.specs.declared.incarnation.Incarnation.{Incarnation}
-use Rattle.blob_faulty.specs.Keeps.{found_in}
+use Rattle.blob_faulty.specs.Keeps.{bytes_found}
 use Rattle.blob_faults.specs.Lists.{list_of}
 use Rattle.blob_faulty.proofs.storage.Storage.new_numbered.Given.{Over}
 use Rattle.blob_faulty.proofs.storage.Storage.new_numbered.Goals as goal
@@ -25,5 +25,5 @@ returns g c = record {
   next_write = refl;
   next_marker = refl;
   files = files g c;
-  represents = files g c (found_in (g.S.Durable.durable c.args.inner)) (λ o x holds. ap (λ (b : Option (List ℕ)). unwrap_or b []) holds);
+  represents = files g c (bytes_found (g.S.Durable.durable c.args.inner)) (λ o x holds. ap (λ (b : Option (List ℕ)). unwrap_or b []) holds);
 }

@@ -1,7 +1,7 @@
 use Rattle.std.proofs.Common.{rules, ◌≡◌, ◌+◌, refl, ap, Ok, Err, arith}
 use Rattle.std.proofs.lemmas.Result.{on_ok_weaker, IfErr-weaker}
 use Rattle.blob_calls.specs.Acts.{act_of}
-use Rattle.blob_laboratory.specs.LabStands.{StandsFor}
+use Rattle.blob_laboratory.specs.LabStands.{LabStandsFor}
 use Rattle.blob_lab.specs.ScriptReading.{preamble_of}
 use Rattle.blob_lab.specs.Scripts.{no_script}
 use Rattle.blob_lab.specs.Streams.{reader_of, writer_of}
@@ -44,7 +44,7 @@ pub returns-clause-all : goal.returns-clause-all
 returns-clause-all g c =
     let new = (goal.at.returns-clause-all g c).After-new-preamble in
     let t = preamble_of c.first_call.new.preamble c.new-lines.result.config in
-    let stands : StandsFor c.in-Ok.lab (start t.images t.words cleared) = c.in-Ok.ensures in
+    let stands : LabStandsFor c.in-Ok.lab (start t.images t.words cleared) = c.in-Ok.ensures in
     on_ok_weaker c.answer_calls-ran.result
     (all_lines (preamble_of c.new-preamble.result c.new-lines.result.config) (same g new) (c.new-lines.result.number + 1) (one g new) t refl
     (g.W.Write.contents (writer_of c.args.output.now)) (g.W.Write.contents (writer_of c.first_call.new.output)) (search rules)
@@ -56,7 +56,7 @@ pub returns-clause-front : goal.returns-clause-front
 returns-clause-front g c =
     let new = (goal.at.returns-clause-front g c).After-new-preamble in
     let t = preamble_of c.first_call.new.preamble c.new-lines.result.config in
-    let stands : StandsFor c.in-Ok.lab (start t.images t.words cleared) = c.in-Ok.ensures in
+    let stands : LabStandsFor c.in-Ok.lab (start t.images t.words cleared) = c.in-Ok.ensures in
     IfErr-weaker c.answer_calls-ran.result _ _
     (λ ending. front_lines (preamble_of c.new-preamble.result c.new-lines.result.config) (same g new) (c.new-lines.result.number + 1) (one g new) t refl
     (g.W.Write.contents (writer_of c.args.output.now)) (g.W.Write.contents (writer_of c.first_call.new.output)) (search rules)

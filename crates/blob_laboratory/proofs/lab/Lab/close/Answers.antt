@@ -1,10 +1,10 @@
 use Rattle.std.proofs.Common.{refl, sym}
-use Rattle.blob_laboratory.specs.Tables.{held_by}
+use Rattle.blob_laboratory.specs.Tables.{as_held}
 use Rattle.blob_laboratory.proofs.CallSteps.{close_some, close_none}
 use Rattle.blob_laboratory.proofs.lab.Lab.close.Goals as goal
 
 pub returns-in-Some : goal.returns-in-Some
-returns-in-Some c = close_some c.args.self.now _ c.args.number refl refl (held_by c.in-Some.handle) (sym c.in-Some.ensures.handle) c.close.ensures c.in-Some.ensures.taken
+returns-in-Some c = close_some c.args.self.now _ c.args.number refl refl (as_held c.in-Some.handle) (sym c.in-Some.ensures.handle) c.close.ensures c.in-Some.ensures.taken
 
 pub returns-in-None : goal.returns-in-None
 returns-in-None c = close_none c.args.self.now _ c.args.number refl refl (sym c.in-None.ensures.handle) refl c.in-None.ensures.none

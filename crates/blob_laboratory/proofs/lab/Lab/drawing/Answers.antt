@@ -10,7 +10,8 @@ use Rattle.blob_faulty.specs.Wrapper.{Stands, inner_of as store_of}
 use Rattle.blob_memory.specs.Contents.{directory_raw}
 use Rattle.blob_memory.specs.Store.{directory, durable}
 use Rattle.blob_memory.specs.declared.storage.Storage as memory
-use Rattle.blob_laboratory.specs.LabStands.{Wrapper, IsFor}
+use Rattle.blob_laboratory.specs.LabStands.{Wrapper}
+use Rattle.blob_faulty.specs.Keeps.{IsFor}
 use Rattle.blob_states.specs.Scripted.{scripted}
 use Rattle.blob_states.specs.States.{Image, empty_directory, with_image, with_images}
 use Rattle.blob_laboratory.specs.Tables.{images_of}

@@ -3,8 +3,8 @@ use Rattle.std.specs.Range.{range_inclusive_start, range_inclusive_end}
 use Rattle.blob_header.specs.Refusals.{Memory, refusal_of}
 use Rattle.blob_faulty.specs.Wrapper.{inside, size_of}
 use Rattle.blob_memory.specs.Store.{place, live}
-use Rattle.blob_opens.specs.Opens.{inner_of}
-use Rattle.blob_laboratory.specs.Tables.{held_by}
+use Rattle.blob_opens.specs.Opens.{store_handle}
+use Rattle.blob_laboratory.specs.Tables.{as_held}
 use Rattle.blob_laboratory.proofs.ExclusiveEnds.{exclusive_failed}
 use Rattle.blob_laboratory.proofs.ExclusiveOpens.{exclusive_done}
 use Rattle.blob_laboratory.proofs.OpenEnds.{open_empty, open_unasked, open_for, taken}
@@ -20,12 +20,12 @@ returns-in-Err c =
 
 pub returns-in-Ok : goal.returns-in-Ok
 returns-in-Ok c =
-    let h = held_by c.exclusive.result in
+    let h = as_held c.exclusive.result in
     let made = c.exclusive.ensures.blob in
     let v = c.in-Some.versions in
     let first = (range_inclusive_start v).0 in
     let last = (range_inclusive_end v).0 in
-    let inner = inner_of c.in-Ok.blob in
+    let inner = store_handle c.in-Ok.blob in
     let q = taken _ _ _ _ _ _ _ _ c.in-Ok.ensures.answer refl in
     let leaves = q.asked.1 in
     let found = c.in-Ok.ensures.accepted in

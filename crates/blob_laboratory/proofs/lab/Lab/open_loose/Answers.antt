@@ -3,7 +3,7 @@ use Rattle.std.specs.Range.{range_inclusive_start, range_inclusive_end}
 use Rattle.blob_header.specs.Refusals.{refusal_of}
 use Rattle.blob_faulty.specs.Wrapper.{inside, size_of}
 use Rattle.blob_memory.specs.Store.{place, live}
-use Rattle.blob_laboratory.specs.Tables.{held_by}
+use Rattle.blob_laboratory.specs.Tables.{as_held}
 use Rattle.blob_laboratory.proofs.LooseOpens.{loose_done, loose_failed}
 use Rattle.blob_laboratory.proofs.OpenEnds.{loose_empty, loose_unasked, loose_for}
 use Rattle.blob_laboratory.proofs.lab.Lab.open_loose.Goals as goal
@@ -16,7 +16,7 @@ returns-in-Err c = loose_unasked c.args.self.now _ c.args.partition.now c.args.n
 
 pub returns-in-Ok : goal.returns-in-Ok
 returns-in-Ok c =
-    let h = held_by c.loose.result in
+    let h = as_held c.loose.result in
     let made = c.loose.ensures.blob in
     let v = c.in-Some.versions in
     loose_for c.args.self.now _ c.args.partition.now c.args.name.now _ _ _ _ c.in-Some.ensures.versions

@@ -1,6 +1,7 @@
 use Rattle.std.proofs.Common.{refl, sym, ap, ◌∙◌, subst}
 use Rattle.blob_faulty.specs.Wrapper.{config_of}
-use Rattle.blob_laboratory.specs.LabStands.{IsFor, Wrapper, stream_of}
+use Rattle.blob_laboratory.specs.LabStands.{Wrapper, stream_of}
+use Rattle.blob_faulty.specs.Keeps.{IsFor}
 use Rattle.blob_laboratory.proofs.NamedCalls.{reopen_done}
 use Rattle.blob_laboratory.proofs.lab.Lab.reopen.Goals as goal
 

@@ -1,6 +1,6 @@
 use Rattle.std.proofs.Common.{rules, refl, arith, ◌≡◌, ◌++◌, ◌∷◌, ◌+◌, [], take, sym, ap, ◌∙◌, List, subst}
 use Rattle.std.proofs.lemmas.List.{take_all, take_more}
-use Rattle.blob_states.specs.Runs.{Run}
+use Rattle.blob_states.specs.Runs.{LeadsTo}
 use Rattle.blob_calls.specs.declared.call.Call.{Call}
 use Rattle.blob_calls.specs.declared.reply.Reply.{Reply}
 use Rattle.blob_states.proofs.Lasting.{run_persists}
@@ -10,7 +10,7 @@ use Rattle.blob_laboratory.proofs.lab.Lab.run.Goals as goal
 pub loop-call-init : goal.loop-call-init
 loop-call-init c =
     let none : c.in_ok-replies.replies.items ≡ [] = search rules in
-    record { room = search rules; count = search rules; stands = λ v h. (v, subst (λ (rs : List Reply). Run v [] rs v) (sym none) refl, h) }
+    record { room = search rules; count = search rules; stands = λ v h. (v, subst (λ (rs : List Reply). LeadsTo v [] rs v) (sym none) refl, h) }
 
 pub loop-call-preserved : goal.loop-call-preserved
 loop-call-preserved c =
@@ -32,4 +32,4 @@ returns-clause-fixed c = λ v h reached strict.
     let replies = c.loop-call.replies.items in
     let s = c.loop-call.invariant.stands v h in
     let all : take c.loop-call.call-index calls ≡ calls = take_all c.loop-call.call-index calls (omega arith) in
-    run_persists v s.0 calls replies reached strict (subst (λ (cs : List Call). Run v cs replies s.0) all s.1)
+    run_persists v s.0 calls replies reached strict (subst (λ (cs : List Call). LeadsTo v cs replies s.0) all s.1)

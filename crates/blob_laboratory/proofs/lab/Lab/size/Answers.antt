@@ -1,12 +1,12 @@
 use Rattle.std.proofs.Common.{refl, sym}
 use Rattle.blob_calls.specs.Acts.{Size}
-use Rattle.blob_laboratory.specs.Tables.{held_by}
+use Rattle.blob_laboratory.specs.Tables.{as_held}
 use Rattle.blob_laboratory.proofs.CallSteps.{size_some}
 use Rattle.blob_laboratory.proofs.ThroughHandles.{through_none}
 use Rattle.blob_laboratory.proofs.lab.Lab.size.Goals as goal
 
 pub returns-in-Some : goal.returns-in-Some
-returns-in-Some c = size_some c.args.self.now c.args.number c.size.result (held_by c.in-Some.handle.now) c.size.ensures (sym c.in-Some.ensures)
+returns-in-Some c = size_some c.args.self.now c.args.number c.size.result (as_held c.in-Some.handle.now) c.size.ensures (sym c.in-Some.ensures)
 
 pub returns-in-None : goal.returns-in-None
 returns-in-None c = through_none c.args.self.now _ c.args.number Size refl refl (sym c.in-None.ensures) refl refl

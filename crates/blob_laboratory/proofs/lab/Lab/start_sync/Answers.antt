@@ -2,8 +2,8 @@ use Rattle.std.proofs.Common.{refl, sym, ap, ◌∙◌, set, Some, None, subst}
 use Rattle.std.proofs.lemmas.List.{set-set}
 use Rattle.blob_calls.specs.Acts.{StartSync}
 use Rattle.blob_states.specs.States.{Held}
-use Rattle.blob_laboratory.specs.LabStands.{Starts}
-use Rattle.blob_laboratory.specs.Tables.{held_by, handles_of, syncs_of}
+use Rattle.blob_laboratory.specs.LabStands.{StartsSync}
+use Rattle.blob_laboratory.specs.Tables.{as_held, handles_of, syncs_of}
 use Rattle.blob_laboratory.proofs.ThroughHandles.{through_none, through_started}
 use Rattle.blob_laboratory.proofs.lab.Lab.start_sync.Goals as goal
 
@@ -12,8 +12,8 @@ returns-in_default c = through_none c.args.self.now _ c.args.number StartSync re
 
 pub returns : goal.returns
 returns c =
-    let h = held_by c.in-Some.handle in
+    let h = as_held c.in-Some.handle in
     let same = c.start_sync-reply.ensures.held in
     through_started c.args.self.now _ c.args.number h _ refl (sym c.in-Some.ensures.handle)
-    (subst (λ (x : Held). Starts c.args.self.now.wrapper h (syncs_of c.args.self.now.syncs) c.start_sync-reply.result c.start_sync-reply.new.wrapper x (syncs_of c.start_sync-reply.new.syncs)) same c.start_sync-reply.ensures)
-    (c.put.ensures ∙ ap (λ hs. set hs c.args.number (Some (held_by c.start_sync-reply.new.self))) c.in-Some.ensures.taken ∙ set-set (handles_of c.args.self.now.handles) c.args.number None (Some (held_by c.start_sync-reply.new.self)) ∙ ap (λ (x : Held). set (handles_of c.args.self.now.handles) c.args.number (Some x)) same)
+    (subst (λ (x : Held). StartsSync c.args.self.now.wrapper h (syncs_of c.args.self.now.syncs) c.start_sync-reply.result c.start_sync-reply.new.wrapper x (syncs_of c.start_sync-reply.new.syncs)) same c.start_sync-reply.ensures)
+    (c.put.ensures ∙ ap (λ hs. set hs c.args.number (Some (as_held c.start_sync-reply.new.self))) c.in-Some.ensures.taken ∙ set-set (handles_of c.args.self.now.handles) c.args.number None (Some (as_held c.start_sync-reply.new.self)) ∙ ap (λ (x : Held). set (handles_of c.args.self.now.handles) c.args.number (Some x)) same)

@@ -6,7 +6,7 @@ use Rattle.blob_header.specs.Refusals.{refused, refusal_of, Memory}
 use Rattle.blob_faulty.specs.Wrapper.{inside}
 use Rattle.blob_memory.specs.Store.{place, live}
 use Rattle.blob_log.specs.Frames.{frames, scan}
-use Rattle.blob_log.specs.Held.{Holds}
+use Rattle.blob_log.specs.Held.{HoldsRecords}
 use Rattle.blob_log.specs.Refused.{Opened, NoMemory}
 use Rattle.blob_log.proofs.Refusing.{starts, not_read}
 use Rattle.blob_log.proofs.Scans.{front_scanned}
@@ -28,7 +28,7 @@ returns-clause-held g c = λ files stands.
     let o = place (inside c.in_ok-blob.blob) in
     let s = c.in_ok-records.ensures in
     let kept = c.in_ok-read_into.ensures.keeps o bytes (c.in_ok-blob.ensures.accepted.fixed files stands) in
-    subst (λ (l : List (List ℕ)). Holds (record { alloc = c.args.alloc; blob = c.in_ok-blob.blob; end = c.in_ok-records.end }) c.read_into.new.store l) (sym s.records) (record {
+    subst (λ (l : List (List ℕ)). HoldsRecords (record { alloc = c.args.alloc; blob = c.in_ok-blob.blob; end = c.in_ok-records.end }) c.read_into.new.store l) (sym s.records) (record {
       kept = c.unrecorded_calls.ensures.front c.read_into.new.store o (frames (scan c.read_into.new.buf)) bytes (subst (λ (b : List ℕ). BeginsWith (frames (scan c.read_into.new.buf)) b) read s.front) kept;
       short = s.short;
       end = s.end;

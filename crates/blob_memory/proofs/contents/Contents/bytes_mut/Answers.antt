@@ -1,6 +1,6 @@
 use Rattle.std.proofs.Common.{◌∙◌, refl, sym, ap, IsSome}
 use Rattle.blob_memory.specs.Contents.{vec_in, file_of}
-use Rattle.blob_memory.specs.Numbers.{number_of}
+use Rattle.blob_memory.specs.Numbers.{item_number}
 use Rattle.blob_memory.specs.Partitions.{item_at}
 use Rattle.blob_memory.proofs.Directories.{same_directory}
 use Rattle.blob_memory.proofs.Exchanges.{numbers_still, files_still, vecs_after}
@@ -12,7 +12,7 @@ invariant_of-self-lent c = λ _.
     let s = c.args.self.now in
     let o = c.args.origin.now in (
       (λ w. ((λ p n k e. s.numbered p n k (sym (numbers_still (item_at s.partitions) (item_at (c.bytes_mut.follows.lender w)) o.partition o.name w (c.bytes_mut.follows.holds w).items p n) ∙ e)), (s.begun, tt))),
-      ((λ p n k e. s.numbered p n k (sym (ap number_of (c.bytes_mut.follows.holds-at-none.items p n)) ∙ e)), (s.begun, tt)),
+      ((λ p n k e. s.numbered p n k (sym (ap item_number (c.bytes_mut.follows.holds-at-none.items p n)) ∙ e)), (s.begun, tt)),
     )
 
 pub returns : goal.returns

@@ -1,7 +1,7 @@
 use Rattle.std.proofs.Common.{rules, ◌≡◌, refl, Some}
 use Rattle.std.specs.String.{string_bytes}
 use Rattle.std.specs.Option.{option_copied_mut}
-use Rattle.blob_memory.specs.Maps.{found}
+use Rattle.blob_names.specs.Names.{found}
 use Rattle.blob_memory.specs.Partitions.{item_at}
 use Rattle.blob_memory.proofs.Lent.{on_some, altered, unaltered}
 use Rattle.blob_memory.proofs.partitions.Partitions.get_mut.Goals as goal

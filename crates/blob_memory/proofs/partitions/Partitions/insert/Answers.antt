@@ -1,7 +1,7 @@
 use Rattle.std.proofs.Common.{rules, refl, ◌∙◌}
 use Rattle.std.specs.String.{string_bytes}
 use Rattle.std.specs.Prelude.{Some}
-use Rattle.blob_memory.specs.Maps.{found}
+use Rattle.blob_names.specs.Names.{found}
 use Rattle.blob_memory.proofs.ByBytes.{found_after, below_after, below_new, below_still, there_after, there_still, on_err}
 use Rattle.blob_memory.proofs.partitions.Partitions.insert.Goals as goal
 

@@ -2,7 +2,7 @@ use Rattle.std.proofs.Common.{rules, ◌≡◌, None, Some, ap, sym, subst}
 use Rattle.std.specs.Prelude.{map, is_some, IfOk}
 use Rattle.std.specs.String.{string_bytes}
 use Rattle.blob_base.specs.Names.{AreNames}
-use Rattle.blob_memory.specs.Maps.{found, below}
+use Rattle.blob_names.specs.Names.{found, below}
 use Rattle.blob_memory.proofs.Listings.{no_names}
 use Rattle.blob_memory.proofs.partitions.Partitions.names.Goals as goal
 

@@ -1,7 +1,7 @@
 use Rattle.std.proofs.Common.{rules}
 use Rattle.std.specs.String.{string_bytes}
 use Rattle.std.specs.Prelude.{Some, None}
-use Rattle.blob_memory.specs.Maps.{found}
+use Rattle.blob_names.specs.Names.{found}
 use Rattle.blob_memory.proofs.ByBytes.{found_after, below_after, there_still}
 use Rattle.blob_memory.proofs.partitions.Partitions.remove.Goals as goal
 

@@ -1,6 +1,6 @@
 use Rattle.std.specs.String.{string_bytes}
 use Rattle.std.specs.Prelude.{None}
-use Rattle.blob_memory.specs.Maps.{found}
+use Rattle.blob_names.specs.Names.{found}
 use Rattle.blob_memory.proofs.ByBytes.{found_after, below_gone, there_after}
 use Rattle.blob_memory.proofs.partitions.Partitions.remove_partition.Goals as goal
 

@@ -3,7 +3,7 @@ use Rattle.std.proofs.lemmas.Bool.{false≢true}
 use Rattle.blob_header.specs.Refusals.{refused, refusal_of, Memory}
 use Rattle.blob_opens.specs.OpenNames.{Accepted, Declined, NoMemory, ended}
 use Rattle.blob_opens.specs.Opens.{names_of}
-use Rattle.blob_names.specs.Names.{with_at}
+use Rattle.blob_names.specs.Names.{with_name}
 use Rattle.blob_opens.proofs.OpenNames.{taken_back, held, unregistered, is_made}
 use Rattle.blob_opens.proofs.opens.Opens.open.Goals as goal
 
@@ -44,5 +44,5 @@ returns-in-Err-clause-err g c =
     let free : s.registered c.args.partition.now c.args.name.now ≡ None = search rules in
     c.withdraw.ensures
     ∙ ap (λ t. ended t r.partition (Some r.name)) c.in_ok-registration.ensures.registered
-    ∙ ap (λ q. ended (record s { registered = with_at s.registered c.args.partition.now c.args.name.now (Some s.next) }) q.partition (Some q.name)) c.in_ok-registration.ensures.ok
+    ∙ ap (λ q. ended (record s { registered = with_name s.registered c.args.partition.now c.args.name.now (Some s.next) }) q.partition (Some q.name)) c.in_ok-registration.ensures.ok
     ∙ taken_back s c.args.partition.now c.args.name.now (Some s.next) free

@@ -4,7 +4,7 @@ use Rattle.blob_memory.specs.Store.{room_for}
 use Rattle.blob_faulty.specs.Wrapper.{inside, inner_of as store_of}
 use Rattle.blob_calls.specs.Acts.{Write}
 use Rattle.blob_laboratory.specs.LabStands.{Asks}
-use Rattle.blob_laboratory.specs.Tables.{held_by}
+use Rattle.blob_laboratory.specs.Tables.{as_held}
 use Rattle.blob_calls.specs.declared.reply.Reply.TheVariants.{Done, Failed}
 use Rattle.blob_laboratory.proofs.AskedWrites.{write_done, write_failed}
 use Rattle.blob_laboratory.proofs.lab.handles.Handle.write_plain.Goals as goal
@@ -15,8 +15,8 @@ not_refused e = cc
 pub returns-in-Ok : goal.returns-in-Ok
 returns-in-Ok c =
     let w = c.args.wrapper.now in
-    let h = held_by c.args.self.now in
-    let h' = held_by (record c.args.self.now { blob = c.write_from.new.self }) in
+    let h = as_held c.args.self.now in
+    let h' = as_held (record c.args.self.now { blob = c.write_from.new.self }) in
     let e = c.in-Ok.ensures in
     write_done w c.write_from.new.store h h' (room_for (inside c.args.self.now.blob) (store_of w)) c.args.offset c.args.bytes.now false (λ chosen. c.runs_are_choices.ensures.apart c.args.offset c.args.bytes.now chosen) e.directory e.leaves.config e.place refl
     e.allowed (e.leaves.drawn not_refused) (e.leaves.recorded refl) (e.leaves.live_after refl) (e.leaves.size refl)
@@ -24,8 +24,8 @@ returns-in-Ok c =
 pub returns-in-Err : goal.returns-in-Err
 returns-in-Err c =
     let w = c.args.wrapper.now in
-    let h = held_by c.args.self.now in
-    let h' = held_by (record c.args.self.now { blob = c.write_from.new.self }) in
+    let h = as_held c.args.self.now in
+    let h' = as_held (record c.args.self.now { blob = c.write_from.new.self }) in
     let e = c.in-Err.ensures in
     write_failed w c.write_from.new.store h h' (room_for (inside c.args.self.now.blob) (store_of w)) c.args.offset c.args.bytes.now false (λ chosen. c.runs_are_choices.ensures.apart c.args.offset c.args.bytes.now chosen) e.directory e.leaves.config e.place refl
     c.in-Err.e e.allowed e.leaves.drawn (e.leaves.recorded refl) (e.leaves.live_after refl) (e.leaves.size refl)

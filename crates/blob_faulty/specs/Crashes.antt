@@ -1,0 +1,42 @@
+-- What a crash of a wrapper over the memory store leaves, and what its replay makes of the durable bytes.
+use Rattle.std.specs.Prelude.{◌≡◌, ◌<◌, ◌+◌, ℕ, List, Bool, false, not, ◌&&◌, length, slice_index_or, Vec}
+use Rattle.std.specs.Global.{Global}
+use Rattle.rand_core.specs.Stream.{Stream}
+use Rattle.blob_model.specs.Directory.{Directory}
+use Rattle.blob_model.specs.Draws.{drawn, chosen_by}
+use Rattle.blob_model.specs.Durable.{Durable}
+use Rattle.blob_model.specs.Files.{Files, all_needs, after_crash}
+use Rattle.blob_model.specs.Holes.{in_holes}
+use Rattle.blob_model.specs.Order.{ArePlacesApart}
+use Rattle.blob_model.specs.Places.{Place}
+use Rattle.blob_model.specs.Stands.{replayed_at}
+use Rattle.blob_faults.specs.Lists.{held, list_of}
+use Rattle.blob_faults.specs.Ranges.{ranges}
+use Rattle.blob_faults.specs.Rows.{rows_in, table_of}
+use Rattle.blob_faults.specs.declared.incarnation.Incarnation.{Incarnation}
+use Rattle.blob_faults.specs.declared.selections.Selections.{Selections}
+use Rattle.blob_faults.specs.declared.write.PendingWrite.{PendingWrite}
+use Rattle.blob_faulty.specs.Keeps.{OverMemory, IsFor}
+use Rattle.blob_faulty.specs.Wrapper.{inner_of, rng_of, pending_of}
+use Rattle.blob_memory.specs.Store.{durable}
+
+-- whatever files the wrapper stood for, these rows are drawn for the writes that their log needs
+abbrev pub CrashDraws : {R : Type 0} → (R → Stream) → OverMemory R → OverMemory R → Selections → Type 0
+CrashDraws stream before after kept = (files : Files) → IsFor before files → (table_of kept, stream (rng_of after)) ≡ drawn (stream (rng_of before)) (all_needs files.log)
+
+-- and it stands for what a crash leaves of them that keeps these
+abbrev pub CrashLeaves : {R : Type 0} → OverMemory R → OverMemory R → Selections → Type 0
+CrashLeaves before after kept = (files : Files) → IsFor before files → IsFor after (after_crash files (chosen_by (table_of kept)))
+
+-- what was pending of each incarnation is replayed over its durable bytes by these
+abbrev pub ReplaysPending : {R : Type 0} → OverMemory R → OverMemory R → Selections → Type 0
+ReplaysPending before after kept = (o : Place) → durable (inner_of after) o ≡ replayed_at (chosen_by (table_of kept)) (pending_of (λ o. o) before o) (durable (inner_of before) o)
+
+-- the same of the lists of the code, and their rows
+abbrev pub ReplaysLists : List (Incarnation Place) → List (ℕ × Vec Bool Global) → Durable → Durable → Type 0
+ReplaysLists lists rows before after = ArePlacesApart (held (λ o. o) lists) → (o : Place) → after o ≡ replayed_at (chosen_by (rows_in rows)) (list_of (λ o. o) lists o) (before o)
+
+-- of each byte of a write the row's choice, but for those that a later durable range covers
+abbrev pub ChoosesUncovered : List Bool → PendingWrite → List Bool → Type 0
+ChoosesUncovered chosen write row = (i : ℕ) → i < length write.bytes
+    → slice_index_or chosen i false ≡ (not (in_holes (ranges write.holes.items) (write.offset + i)) && slice_index_or row i false)
