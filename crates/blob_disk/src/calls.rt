@@ -122,8 +122,8 @@ fn reopen<R: Rng>(store: &mut Wrapper<R>, blob: &mut Handle) -> Result<(), Error
     }
 }
 
-/// Loses what is drawn of what was not synced, and opens what is left. Where memory runs out for either, all that was written
-/// stays, as where the process alone dies.
+/// Loses what is drawn of what was not synced, and opens what is left. Where memory runs out for either, or the draw of the
+/// open is true, all that was written stays, as where the process alone dies.
 pub(crate) fn lose<R: Rng>(store: &mut Wrapper<R>, blob: &mut Handle) -> Result<(), Error>
     requires { IsCurrent blob.old store.old }
     ensures lost { OnOk result (IsDrawn blob.old store.old (live (inside blob.new))) }

@@ -109,7 +109,8 @@ impl<R: Rng> BlobDisk<R> {
     ///
     /// # Errors
     ///
-    /// Where memory runs out for either. Then all that was written is there, as where the process alone dies.
+    /// `Memory` where memory runs out for either, and `Injected` where the draw of the open is true. Then all that was written
+    /// is there, as where the process alone dies.
     pub fn try_crash(&mut self) -> Result<(), Error>
         ensures lost { OnOk result (MayDraw self.old (⟦<BlobDisk<R> as Disk>⟧.seen self.new)) }
         ensures kept { OnErr result (⟦<BlobDisk<R> as Disk>⟧.seen self.new ≡ ⟦<BlobDisk<R> as Disk>⟧.seen self.old) }
