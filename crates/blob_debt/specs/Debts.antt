@@ -1,19 +1,20 @@
 -- What a registry of durability debt keeps, and the histories that it stands for.
-use Rattle.std.specs.Prelude.{◌≡◌, ℕ, List, [], ◌∷◌, Bool, false, is_some, ◌||◌, Option, Some, None, Result, Ok, Err, option_map, ◌⊎◌}
+use Rattle.std.specs.Prelude.{◌≡◌, ℕ, List, [], ◌∷◌, Bool, false, if◌then◌else◌, is_some, ◌||◌, Option, Some, None, Result, Ok, Err, option_map, ◌⊎◌}
 use Rattle.std.specs.Prelude.{Vec, String}
 use Rattle.std.specs.Global.{Global}
 use Rattle.std.specs.String.{string_bytes}
 use Rattle.std.specs.BTreeSet.{contains}
 use Rattle.std.specs.Ordering.{nat_cmp}
 use Rattle.blob_header.specs.declared.error.Error.{Error}
-use Rattle.blob_header.specs.Refusals.{Refusal, refusal_of, refused, Memory}
+use Rattle.hex.specs.Hex.{encode_lower}
+use Rattle.blob_header.specs.Refusals.{Refusal, refusal_of, refused, BlobAlreadyOpen, Memory}
 use Rattle.blob_names.specs.declared.names.Names.{Names}
 use Rattle.blob_debt.specs.declared.pending.Pending.{Pending}
 use Rattle.blob_debt.specs.declared.pending.entry.Entry.{Entry}
 use Rattle.blob_debt.specs.declared.pending.entry.Change.{Change}
 use Rattle.blob_debt.specs.declared.pending.entry.Change.TheVariants as change
 use Rattle.blob_names.specs.Names.{at}
-use Rattle.blob_debt.specs.History.{Operation, Call, History, Event, To, Admit, Release, Settle, Clear, Close, AdmittedOpen, settling, debt, failure, is_live, over, latest, events, generations, tokens_given, is_outstanding}
+use Rattle.blob_debt.specs.History.{Operation, Call, History, Event, To, Admit, Release, Settle, Clear, Close, Admitted, AdmittedOpen, with_operation, settling, debt, failure, is_live, over, latest, events, generations, tokens_given, is_outstanding, found_by, admission}
 
 -- all that is known of a name
 pub record Standing : Type 0 where
@@ -41,6 +42,11 @@ operation_of (change.Release g token) = Release g token
 operation_of (change.Settle token dirty failed) = Settle token dirty (option_map refusal_of failed)
 operation_of (change.Clear g outcome) = Clear g (refused outcome)
 operation_of (change.Close g) = Close g
+
+-- an entry became what the name's events say after a change; none where that leaves nothing to tell
+abbrev pub FollowsChange : Entry → Change → Option Entry → Type 0
+FollowsChange before change after = (es : List Event) → standing_of (Some before) ≡ standing es
+    → standing_of after ≡ standing (with_operation (operation_of change) es)
 
 -- an operation on the name of a key
 abbrev pub to_key : String Global × Vec ℕ Global → Operation → Call
@@ -83,6 +89,19 @@ AnswersOrMemory (Err e) answer = (refusal_of e ≡ Memory) ⊎ (Err (refusal_of 
 abbrev pub told : List ℕ → List ℕ → Result Entry Error → Result (AdmittedOpen × Option ℕ × Bool) Error
 told p n (Ok e) = Ok (record { partition = p; name = n; number = e.generation }, e.settling, is_some e.settling || e.is_dirty)
 told p n (Err e) = Err e
+
+-- an open is answered by whatever history the registry represents, or refused for want of memory
+abbrev pub AnswersOpen : Pending → List ℕ → List ℕ → Bool → Result (AdmittedOpen × Option ℕ × Bool) Error → Type 0
+AnswersOpen r p n existing result = (h : History) → Represents r h → AnswersOrMemory result (admission h p n (found_by h p n existing))
+
+-- an entry is what such a history says of the name once it is opened
+abbrev pub IsOpenedEntry : Pending → List ℕ → List ℕ → Bool → Entry → Type 0
+IsOpenedEntry r p n existing entry = (h : History) → Represents r h
+    → standing_of (Some entry) ≡ standing (Admitted entry.generation ∷ found_by h p n existing)
+
+-- why an entry bars an open of its name: an open that isn't closed, or a failure
+abbrev pub entry_denial : Entry → List ℕ → List ℕ → Option Refusal
+entry_denial entry p n = if entry.is_live then Some (BlobAlreadyOpen p (encode_lower n)) else option_map refusal_of entry.failure
 
 -- the history after an open
 abbrev pub after_admit : History → Bool → Result (AdmittedOpen × Option ℕ × Bool) Error → History

@@ -3,12 +3,11 @@
 //! A backend whose handles are closed with work outstanding admits each open here. The open learns whether a predecessor
 //! is still at work, whether mutations are left to flush, and whether a failure was retained. A contract speaks of the
 //! history of accepted calls: whatever history the registry represented, it answers by it and represents it with the call added.
-ghost use Rattle.std.specs.Prelude.{◌≡◌, ◌≢◌, IsErr, Ok, List, ℕ, ◌∷◌, [], OnErr, OnOk, IfOk, not, option_map, option_copied, Some, None, if◌then◌else◌, false, ◌⊎◌, ◌<◌, ◌^◌, ◌-◌};
-ghost use Rattle.hex.specs.Hex.{encode_lower};
+ghost use Rattle.std.specs.Prelude.{◌≡◌, ◌≢◌, IsErr, Ok, ◌∷◌, [], OnErr, OnOk, IfOk, not, option_map, option_copied, Some, None, false, ◌⊎◌, ◌<◌, ◌^◌, ◌-◌};
 ghost use Rattle.std.specs.String.{string_bytes};
-ghost use Rattle.blob_header.specs.Refusals.{refusal_of, refused, Memory, BlobAlreadyOpen};
-ghost use Rattle.blob_debt.specs.History.{History, Operation, To, Admit, Release, Settle, Clear, Fail, Close, Forget, admission, released, owed, found_by, events, is_outstanding, Admitted};
-ghost use Rattle.blob_debt.specs.Debts.{Represents, IsUnchanged, HoldsNames, AnswersOrMemory, after_admit, after_release, operation_of, standing_of, standing, told, to_key, by_open};
+ghost use Rattle.blob_header.specs.Refusals.{refusal_of, refused, Memory};
+ghost use Rattle.blob_debt.specs.History.{History, To, Admit, Release, Settle, Clear, Fail, Close, Forget, released, owed, events, is_outstanding};
+ghost use Rattle.blob_debt.specs.Debts.{Represents, IsUnchanged, IsOpenedEntry, HoldsNames, AnswersOpen, AnswersOrMemory, after_admit, after_release, entry_denial, operation_of, told, to_key, by_open};
 
 pub(crate) mod entry;
 pub(crate) mod generation;
@@ -63,7 +62,7 @@ impl Pending {
         name: &[u8],
         existing: bool,
     ) -> Result<(Generation, Option<Receiver>, bool), Error>
-        ensures answer { (h : History) → Represents self.old h → AnswersOrMemory result (admission h partition.now name.now (found_by h partition.now name.now existing)) }
+        ensures answer { AnswersOpen self.old partition.now name.now existing result }
         ensures stands { (h : History) → Represents self.old h → Represents self.new (after_admit h existing result) }
         ensures refused { OnErr result (IsUnchanged self.old self.new) }
     {
@@ -83,8 +82,8 @@ impl Pending {
 
     /// The entry that an open leaves, or why it is refused.
     fn admitted(&self, partition: &str, name: &[u8], existing: bool) -> Result<Entry, Error>
-        ensures answer { (h : History) → Represents self.now h → AnswersOrMemory (told partition.now name.now result) (admission h partition.now name.now (found_by h partition.now name.now existing)) }
-        ensures entry { (h : History) → Represents self.now h → IfOk result (λ entry. standing_of (Some entry) ≡ standing (Admitted entry.generation ∷ found_by h partition.now name.now existing)) }
+        ensures answer { AnswersOpen self.now partition.now name.now existing (told partition.now name.now result) }
+        ensures entry { IfOk result (λ entry. IsOpenedEntry self.now partition.now name.now existing entry) }
         ensures number { IfOk result (λ entry. (entry.generation ≡ self.now.next_generation) × (entry.generation < 2 ^ 64 - 1)) }
     {
         let mut entry = Entry::opened(self.next_generation);
@@ -104,7 +103,7 @@ impl Pending {
     /// Refuses a name whose open isn't closed, or whose failure was retained.
     fn check_closed(&self, partition: &str, name: &[u8], entry: &Entry) -> Result<(), Error>
         ensures ok { OnOk result ((entry.now.is_live ≡ false) × (entry.now.failure ≡ None)) }
-        ensures err { OnErr result ((refused result ≡ Some Memory) ⊎ (refused result ≡ (if entry.now.is_live then Some (BlobAlreadyOpen partition.now (encode_lower name.now)) else option_map refusal_of entry.now.failure))) }
+        ensures err { OnErr result ((refused result ≡ Some Memory) ⊎ (refused result ≡ entry_denial entry.now partition.now name.now)) }
     {
         if entry.is_live {
             let partition = String::from_str(self.alloc, partition)?;

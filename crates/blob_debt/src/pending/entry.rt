@@ -1,5 +1,5 @@
 // What the registry keeps of one name.
-ghost use Rattle.std.specs.Prelude.{◌≡◌, List, Some, None, if◌then◌else◌, true, false};
+ghost use Rattle.std.specs.Prelude.{◌≡◌, Some, None, if◌then◌else◌, true, false};
 
 use blob_header::Error;
 
@@ -36,8 +36,7 @@ pub(crate) enum Change {
 }
 
 impl Entry {
-    ghost use Rattle.blob_debt.specs.History.{Event, with_operation};
-    ghost use Rattle.blob_debt.specs.Debts.{standing_of, is_standing_over, standing, operation_of};
+    ghost use Rattle.blob_debt.specs.Debts.{standing_of, is_standing_over, FollowsChange};
 
     /// The entry of a live open, to which nothing was left.
     pub(crate) fn opened(generation: u64) -> Entry
@@ -61,7 +60,7 @@ impl Entry {
 
     /// Makes a change, and answers whether it ends the name.
     pub(crate) fn apply(&mut self, change: Change) -> bool
-        ensures { (es : List Event) → standing_of (Some self.old) ≡ standing es → standing_of (if result then None else Some self.new) ≡ standing (with_operation (operation_of change) es) }
+        ensures { FollowsChange self.old change (if result then None else Some self.new) }
     {
         match change {
             Change::Release { generation, token } => {
