@@ -19,8 +19,8 @@ use Rattle.blob_memory.specs.Answers.{read_refusal, is_uncounted}
 use Rattle.blob_log.specs.Frames.{frame}
 use Rattle.blob_log.specs.Refused.{MayAppend, Asked, MayRecover, NotRead, opens}
 
-pub asked : (end : ℕ) (entry : List ℕ) (writes : List ℕ → Allowed) (bytes : List ℕ) (answer : Option Refusal) → bytes ≡ frame entry → writes bytes answer → MayAppend end entry writes answer
-asked end entry writes bytes answer is may = Asked answer (subst (λ (b : List ℕ). writes b answer) is may)
+pub asked : (end : ℕ) (entry : List ℕ) (writes : ℕ → List ℕ → Bool → Allowed) (bytes : List ℕ) (answer : Option Refusal) → bytes ≡ frame entry → writes end bytes true answer → MayAppend end entry writes answer
+asked end entry writes bytes answer is may = Asked answer (subst (λ (b : List ℕ). writes end b true answer) is may)
 
 -- an incarnation's bytes start behind a header
 start_of : (layout : Layout) → data_start layout ≤ 4096

@@ -2,6 +2,7 @@
 use Rattle.std.specs.Prelude.{◌≡◌, ℕ, List, [], ◌∷◌, ◌++◌, Bool, if◌then◌else◌, map, zip, All, Vec, length}
 use Rattle.std.specs.Global.{Global}
 use Rattle.blob_header.specs.Fronts.{BeginsWith}
+use Rattle.blob_model.specs.Opened.{IsNamed}
 use Rattle.blob_model.specs.Places.{Place}
 use Rattle.blob_faulty.specs.Keeps.{OverMemory, Keeps}
 use Rattle.blob_faulty.specs.Wrapper.{inside}
@@ -28,6 +29,15 @@ pub record HoldsRecords {R : Type 0} (log : Log) (store : OverMemory R) (records
   pub kept : Keeps store (log_place log) (frames records)
   pub short : AreShort records
   pub end : log.end ≡ length (frames records)
+
+-- whatever records the log held, it holds these behind them
+abbrev pub AddsRecords : {R : Type 0} → Log → OverMemory R → Log → OverMemory R → List (List ℕ) → Type 0
+AddsRecords log store log' store' added = (records : List (List ℕ)) → HoldsRecords log store records → HoldsRecords log' store' (records ++ added)
+
+-- all records whose frames were kept of the log of this name are found, first and in order, in that log
+abbrev pub FindsRecords : {R : Type 0} → OverMemory R → List ℕ → List ℕ → Log → List (List ℕ) → Type 0
+FindsRecords store p n log found = (o : Place) (records : List (List ℕ)) → IsNamed o p n → AreShort records → Keeps store o (frames records)
+    → (log_place log ≡ o) × BeginsWith records found
 
 -- the bytes of a list of records
 abbrev pub record_bytes : List (Vec ℕ Global) → List (List ℕ)

@@ -1,5 +1,5 @@
 -- What an append and a recovery of a log may answer: a refusal, or none for Ok.
-use Rattle.std.specs.Prelude.{◌≡◌, ℕ, ◌+◌, ◌^◌, ◌≤◌, true, List, length, Option, Some, None}
+use Rattle.std.specs.Prelude.{◌≡◌, ℕ, ◌+◌, ◌^◌, ◌≤◌, Bool, true, List, length, Option, Some, None}
 use Rattle.rand_core.specs.Stream.{Stream}
 use Rattle.blob_header.specs.Refusals.{Refusal, Memory, Injected, OffsetOverflow}
 use Rattle.blob_faulty.specs.Answers.{Allowed, injected_or}
@@ -10,15 +10,15 @@ use Rattle.blob_memory.specs.Answers.{OrMemory, open_refusal}
 use Rattle.blob_memory.specs.Store.{directory}
 use Rattle.blob_log.specs.Frames.{frame}
 
--- an append of a record to a log that ends there, where `writes` is what the wrapper's SYNC write of these bytes may answer
-pub data MayAppend (end : ℕ) (entry : List ℕ) (writes : List ℕ → Allowed) : Option Refusal → Type 0 where
+-- an append of a record to a log that ends there, where `writes` is what the wrapper's writes of its blob may answer
+pub data MayAppend (end : ℕ) (entry : List ℕ) (writes : ℕ → List ℕ → Bool → Allowed) : Option Refusal → Type 0 where
   -- four bytes don't hold the record's length
   TooLong : 2 ^ 32 ≤ length entry → MayAppend end entry writes (Some OffsetOverflow)
   -- where its frame ends can't be counted
   Uncounted : 2 ^ 64 ≤ end + length (frame entry) → MayAppend end entry writes (Some OffsetOverflow)
   NoMemory : MayAppend end entry writes (Some Memory)
-  -- its frame was written, or refused
-  Asked : (answer : Option Refusal) → writes (frame entry) answer → MayAppend end entry writes answer
+  -- the SYNC write of its frame was answered so
+  Asked : (answer : Option Refusal) → writes end (frame entry) true answer → MayAppend end entry writes answer
 
 -- an open of the log's blob
 abbrev pub opens : {R : Type 0} → (R → Stream) → OverMemory R → List ℕ → List ℕ → Allowed

@@ -1,13 +1,11 @@
 //! A log of records in one blob of a fault wrapper.
-ghost use Rattle.std.specs.Prelude.{◌≡◌, ◌++◌, ◌∷◌, [], List, ℕ, true, OnOk, OnErr, IfOk};
+ghost use Rattle.std.specs.Prelude.{◌≡◌, ◌∷◌, [], List, ℕ, OnOk, OnErr, IfOk};
 ghost use Rattle.blob_model.specs.Files.{Files};
-ghost use Rattle.blob_header.specs.Fronts.{BeginsWith};
 ghost use Rattle.blob_header.specs.Refusals.{refused};
 ghost use Rattle.blob_model.specs.Opened.{IsNamed};
 ghost use Rattle.blob_model.specs.Places.{Place};
 ghost use Rattle.blob_faulty.specs.Keeps.{IsFor, Keeps};
-ghost use Rattle.blob_log.specs.Frames.{AreShort, frames};
-ghost use Rattle.blob_log.specs.Held.{HoldsRecords, log_place, log_blob, log_end, record_bytes};
+ghost use Rattle.blob_log.specs.Held.{AddsRecords, FindsRecords, HoldsRecords, log_place, log_blob, log_end, record_bytes};
 ghost use Rattle.blob_log.specs.Refused.{MayAppend, MayRecover};
 
 use crate::frame::{frame_of, scan, scans_find_frames};
@@ -20,11 +18,14 @@ use std::alloc::Global;
 /// A fault wrapper over the memory store.
 pub type Store<R> = blob_faulty::Storage<blob_memory::Storage, R>;
 
+/// The wrapper's handle of a log's blob.
+pub type Handle = blob_faulty::Blob<blob_memory::Blob>;
+
 /// An open log, and where its next frame goes.
 #[derive(Drop)]
 pub struct Log {
     alloc: Global,
-    blob: blob_faulty::Blob<blob_memory::Blob>,
+    blob: Handle,
     end: u64,
 }
 
@@ -37,10 +38,10 @@ impl Log {
     /// wrapper's SYNC write of the frame is refused for. The log holds what it held, and the next frame goes to the same place:
     /// over whatever a failed write left there.
     pub fn append<R: Rng>(&mut self, store: &mut Store<R>, entry: &[u8]) -> Result<(), Error>
-        ensures acknowledged { OnOk result ((records : List (List ℕ)) → HoldsRecords self.old store.old records → HoldsRecords self.new store.new (records ++ entry.now ∷ [])) }
+        ensures acknowledged { OnOk result (AddsRecords self.old store.old self.new store.new (entry.now ∷ [])) }
         ensures refused { OnErr result ((records : List (List ℕ)) → HoldsRecords self.old store.old records → HoldsRecords self.new store.new records) }
         ensures place { log_place self.new ≡ log_place self.old }
-        ensures answer { MayAppend (log_end self.old) entry.now (λ bytes. ⟦<blob_faulty::Blob<blob_memory::Blob> as blob_base::Blob<Store<R>>>⟧.allows_write (log_blob self.old) store.old (log_end self.old) bytes true) (refused result) }
+        ensures answer { MayAppend (log_end self.old) entry.now (⟦<Handle as Blob<Store<R>>>⟧.allows_write (log_blob self.old) store.old) (refused result) }
     {
         writes::<blob_memory::Storage, R, blob_memory::Blob>();
         if entry.len() > u32::MAX as usize {
@@ -69,7 +70,7 @@ impl Log {
         name: &[u8],
     ) -> Result<(Log, Vec<Vec<u8>>), Error>
         ensures held { IfOk result (λ r. (files : Files) → IsFor store.old files → HoldsRecords r.0 store.new (record_bytes r.1.items)) }
-        ensures found { IfOk result (λ r. (o : Place) (records : List (List ℕ)) → IsNamed o partition.now name.now → AreShort records → Keeps store.old o (frames records) → (log_place r.0 ≡ o) × BeginsWith records (record_bytes r.1.items)) }
+        ensures found { IfOk result (λ r. FindsRecords store.old partition.now name.now r.0 (record_bytes r.1.items)) }
         ensures keeps { (o : Place) (bytes : List ℕ) → Keeps store.old o bytes → Keeps store.new o bytes }
         ensures named { IfOk result (λ r. IsNamed (log_place r.0) partition.now name.now) }
         ensures answer { MayRecover R.stream store.old partition.now name.now (refused result) }

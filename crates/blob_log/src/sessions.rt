@@ -1,9 +1,9 @@
 //! A log through crashes: what was acknowledged is found again.
-ghost use Rattle.std.specs.Prelude.{◌≡◌, ◌++◌, List, ℕ, IfOk, length};
+ghost use Rattle.std.specs.Prelude.{◌≡◌, IfOk, length};
 ghost use Rattle.blob_model.specs.Files.{Files};
 ghost use Rattle.blob_header.specs.Refusals.{refused};
 ghost use Rattle.blob_faulty.specs.Keeps.{IsFor};
-ghost use Rattle.blob_log.specs.Held.{AreAnswered, HoldsRecords, Survive, log_place, record_bytes, acknowledged};
+ghost use Rattle.blob_log.specs.Held.{AddsRecords, AreAnswered, Survive, log_place, record_bytes, acknowledged};
 ghost use Rattle.blob_log.specs.Refused.{MayStop};
 
 use crate::log::{Log, Store};
@@ -29,7 +29,7 @@ fn append_all<R: Rng>(
     entries: &[Vec<u8>],
 ) -> Result<Vec<bool>, AllocError>
     ensures count { IfOk result (λ answers. length answers.items ≡ length entries.now) }
-    ensures held { IfOk result (λ answers. (records : List (List ℕ)) → HoldsRecords log.old store.old records → HoldsRecords log.new store.new (records ++ acknowledged answers.items (record_bytes entries.now))) }
+    ensures held { IfOk result (λ answers. AddsRecords log.old store.old log.new store.new (acknowledged answers.items (record_bytes entries.now))) }
     ensures place { log_place log.new ≡ log_place log.old }
 {
     let mut answers = Vec::with_capacity(alloc, entries.len())?;
