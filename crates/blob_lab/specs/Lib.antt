@@ -30,5 +30,6 @@ pub use Rattle.blob_states.specs.Runs
 pub use Rattle.blob_states.specs.Scripted
 pub use Rattle.blob_states.specs.States
 pub use Rattle.blob_states.specs.Steps
+pub use Rattle.blob_laboratory.specs.LabRuns
 pub use Rattle.blob_laboratory.specs.LabStands
 pub use Rattle.blob_laboratory.specs.Tables

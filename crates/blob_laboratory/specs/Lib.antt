@@ -1,2 +1,3 @@
+pub mod LabRuns
 pub mod LabStands
 pub mod Tables

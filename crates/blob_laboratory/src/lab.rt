@@ -1,11 +1,9 @@
 //! The laboratory: a faulty memory store, its open handles and started syncs, and calls as data.
 ghost use Rattle.std.specs.Prelude.{◌≡◌, IfOk, OnErr};
 ghost use Rattle.blob_header.specs.Refusals.{IsMemory};
-ghost use Rattle.blob_states.specs.Fixed.{Persists};
-ghost use Rattle.blob_states.specs.Reached.{NoneLoose, ReachedExclusively};
-ghost use Rattle.blob_states.specs.Runs.{LeadsTo};
 ghost use Rattle.blob_states.specs.Scripted.{behind_seeded, only, scripted};
-ghost use Rattle.blob_states.specs.States.{State, start, start_on};
+ghost use Rattle.blob_states.specs.States.{start, start_on};
+ghost use Rattle.blob_laboratory.specs.LabRuns.{PersistsExclusively, RunsTo};
 ghost use Rattle.blob_laboratory.specs.Tables.{images_of};
 
 mod applying;
@@ -97,8 +95,8 @@ impl Lab {
     /// Where all opens, these and those of earlier calls, are exclusive, a byte that one of the calls fixes lasts through
     /// the calls after it, until one of them reaches it.
     pub fn run(&mut self, calls: &[Call]) -> Result<Vec<Reply>, Error>
-        ensures stands { IfOk result (λ replies. (v : State) → ⟦<Lab as Stands>⟧.stands_for self.old v → (w : State) × LeadsTo v calls.now replies.items w × ⟦<Lab as Stands>⟧.stands_for self.new w) }
-        ensures fixed { IfOk result (λ replies. (v : State) → ⟦<Lab as Stands>⟧.stands_for self.old v → ReachedExclusively v → NoneLoose calls.now → Persists v calls.now replies.items) }
+        ensures stands { IfOk result (λ replies. RunsTo (⟦<Lab as Stands>⟧.stands_for self.old) calls.now replies.items (⟦<Lab as Stands>⟧.stands_for self.new)) }
+        ensures fixed { IfOk result (λ replies. PersistsExclusively (⟦<Lab as Stands>⟧.stands_for self.old) calls.now replies.items) }
         ensures memory { OnErr result (IsMemory result) }
         ensures err { OnErr result (self.new ≡ self.old) }
     {
