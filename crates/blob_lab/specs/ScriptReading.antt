@@ -1,13 +1,16 @@
 -- How the lines of a script are read, where the bytes that a reader has left are known.
-use Rattle.std.specs.Prelude.{◌≡◌, ℕ, ◌+◌, List, [], ◌∷◌, ◌++◌, length, Option, Some, None}
+use Rattle.std.specs.Prelude.{◌≡◌, ◌≢◌, ℕ, ◌+◌, List, [], ◌∷◌, ◌++◌, length, Option, Some, None}
 use Rattle.std.specs.Io.Iter.{u64_saturate}
 use Rattle.blob_faults.specs.declared.config.Config.{Config}
 use Rattle.blob_laboratory.specs.declared.lab.Lab.{Lab}
+use Rattle.blob_lab.specs.declared.run_script.lines.Lines.{Lines}
 use Rattle.blob_lab.specs.declared.run_script.lines.Preamble.{Preamble}
-use Rattle.blob_calls.specs.Acts.{Act}
+use Rattle.blob_lab.specs.declared.streams.Input.{Input}
+use Rattle.blob_calls.specs.declared.call.Call.{Call}
+use Rattle.blob_calls.specs.Acts.{Act, act_of}
 use Rattle.blob_laboratory.specs.LabStands.{LabStandsFor}
 use Rattle.blob_calls.specs.Lines.{Said, line_of}
-use Rattle.blob_lab.specs.Scripts.{Script, TakesOne, with_call, with_line, with_lines}
+use Rattle.blob_lab.specs.Scripts.{OfRead, Script, TakesOne, with_call, with_line, with_lines}
 use Rattle.blob_calls.specs.Settings.{cleared}
 use Rattle.blob_states.specs.States.{start}
 use Rattle.blob_laboratory.specs.Tables.{images_of}
@@ -55,3 +58,37 @@ pub record Begins (lab : Lab) (s : Script) (line : List ℕ) (act : Act) (config
 -- what the lines of a preamble have made
 abbrev pub preamble_of : Preamble → Config → Script
 preamble_of preamble config = record { images = images_of preamble.images.items; words = record { given = preamble.words.items; seed = preamble.seed }; config = config; calls = [] }
+
+-- What reading up to a call takes: the reader before and after, and what was read so far.
+
+-- the lines of a preamble, and the first call
+abbrev pub ReadsFirstCall : {R : Type 0} → (R → Option (List ℕ)) → Input R → Input R → Preamble → Preamble → Lines → Lines → Call → Type 0
+ReadsFirstCall remaining i i' before after old new call = OfRead remaining i i'
+    (TakesCall (preamble_of before old.config) (preamble_of after old.config) (old.number + 1) new.number (act_of call) new.config)
+
+-- no lines but those of a preamble
+abbrev pub ReadsPreamble : {R : Type 0} → (R → Option (List ℕ)) → Input R → Input R → Preamble → Preamble → Lines → Type 0
+ReadsPreamble remaining i i' before after old = OfRead remaining i i'
+    (λ lines _. with_lines (preamble_of before old.config) lines ≡ Some (preamble_of after old.config))
+
+-- a preamble, and a line of this number that may not follow it
+abbrev pub ReadsBadStart : {R : Type 0} → (R → Option (List ℕ)) → Input R → Input R → Preamble → Preamble → Lines → ℕ → Type 0
+ReadsBadStart remaining i i' before after old number = OfRead remaining i i'
+    (TakesBadCall (preamble_of before old.config) (preamble_of after old.config) (old.number + 1) number)
+
+-- a part of a preamble
+abbrev pub ReadsPreamblePart : {R : Type 0} → (R → Option (List ℕ)) → Input R → Input R → Preamble → Lines → Type 0
+ReadsPreamblePart remaining i i' before old = (t : Script) × (t.calls ≡ []) × OfRead remaining i i' (TakesPart (preamble_of before old.config) t)
+
+-- the next call behind others
+abbrev pub ReadsNextCall : {R : Type 0} → (R → Option (List ℕ)) → Input R → Input R → Lines → Lines → Call → Type 0
+ReadsNextCall remaining i i' old new call = (s : Script) → s.config ≡ old.config
+    → OfRead remaining i i' (TakesCall s s (old.number + 1) new.number (act_of call) new.config)
+
+-- behind a call a line of this number that may not stand there
+abbrev pub ReadsBadCall : {R : Type 0} → (R → Option (List ℕ)) → Input R → Input R → Lines → ℕ → Type 0
+ReadsBadCall remaining i i' old number = (s : Script) → s.calls ≢ [] → OfRead remaining i i' (TakesBadCall s s (old.number + 1) number)
+
+-- the next line, which says nothing
+abbrev pub ReadsBadLine : {R : Type 0} → (R → Option (List ℕ)) → Input R → Input R → Lines → ℕ → Type 0
+ReadsBadLine remaining i i' old number = (number ≡ u64_saturate (old.number + 1)) × OfRead remaining i i' (TakesLine None)

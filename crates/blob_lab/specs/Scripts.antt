@@ -7,6 +7,9 @@ use Rattle.blob_faults.specs.declared.config.Config.{Config}
 use Rattle.blob_calls.specs.declared.call.Call.{Call as LabCall}
 use Rattle.blob_lab.specs.declared.ending.Ending.{Ending}
 use Rattle.blob_lab.specs.declared.ending.Ending.TheVariants.{BadCall, InputFailed, OutputFailed, NoMemory}
+use Rattle.blob_lab.specs.declared.streams.Input.{Input}
+use Rattle.blob_lab.specs.declared.streams.Output.{Output}
+use Rattle.blob_lab.specs.Streams.{reader_of, writer_of}
 use Rattle.blob_calls.specs.declared.reply.Reply.{Reply}
 use Rattle.blob_calls.specs.Acts as acts
 use Rattle.blob_calls.specs.Acts.{Act, act_of}
@@ -35,6 +38,15 @@ abbrev pub OfLines : Option (List ℕ) → Option (List ℕ) → (List (List ℕ
 OfLines None new P = Unit {0}
 OfLines (Some old) None P = ⊥
 OfLines (Some old) (Some new) P = P (lines_of old) (lines_of new)
+
+-- the same of a reader before and after
+abbrev pub OfRead : {R : Type 0} → (R → Option (List ℕ)) → Input R → Input R → (List (List ℕ) → List (List ℕ) → Type 0) → Type 0
+OfRead remaining i i' P = OfLines (remaining (reader_of i)) (remaining (reader_of i')) P
+
+-- the same, and of what a writer had and has then
+abbrev pub OfRun : {R W : Type 0} → (R → Option (List ℕ)) → (W → Option (List ℕ)) → Input R → Input R → Output W → Output W
+    → (List (List ℕ) → List (List ℕ) → Option (List ℕ) → Option (List ℕ) → Type 0) → Type 0
+OfRun remaining contents i i' o o' P = OfRead remaining i i' (λ lines left. P lines left (contents (writer_of o)) (contents (writer_of o')))
 
 -- What they make.
 
@@ -117,6 +129,10 @@ pub record PrintsBefore (s : Script) (first number : ℕ) (lines : List (List �
   pub numbered : number ≡ u64_saturate (first + length front)
   pub refused : with_lines s (front ++ bad ∷ []) ≡ None
   pub prints : Prints (with_lines s front) old new
+
+-- the same of a script's bytes, whose lines are numbered from 1
+abbrev pub PrintsBeforeLine : ℕ → List ℕ → Option (List ℕ) → Option (List ℕ) → Type 0
+PrintsBeforeLine number bytes old new = PrintsBefore no_script 1 number (lines_of bytes) old new
 
 -- a line with this before it
 abbrev pub behind_part : List ℕ → List (List ℕ) → List (List ℕ)

@@ -60,6 +60,10 @@ ToldEnding result i i' o o' = MatchResult result (λ _. StaySound i i' o o') (λ
 abbrev pub AppendsPart : Option (List ℕ) → Option (List ℕ) → List ℕ → Type 0
 AppendsPart old new bytes = (front : List ℕ) × (rest : List ℕ) × (bytes ≡ front ++ rest) × Appends old new front
 
+-- where the bytes that the reader has left are known: what holds of them, and of what the writer had and has then
+abbrev pub OfBytes : {R W : Type 0} → (R → Option (List ℕ)) → (W → Option (List ℕ)) → Input R → Output W → Output W → (List ℕ → Option (List ℕ) → Option (List ℕ) → Type 0) → Type 0
+OfBytes remaining contents i o o' P = IfSome (remaining (reader_of i)) (λ bytes. P bytes (contents (writer_of o)) (contents (writer_of o')))
+
 -- one line was read behind what a buffer had; where reading failed, a part of it at most
 pub record ReadsLine (result : Result ℕ Ending) (old new : Option (List ℕ)) (before after : List ℕ) : Type 0 where
   pub count : IfOk result (λ n. length after ≡ length before + n)

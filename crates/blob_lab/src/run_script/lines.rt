@@ -1,14 +1,14 @@
 // The lines of a script as they come in.
-ghost use Rattle.std.specs.Prelude.{◌≡◌, ◌≢◌, ℕ, ◌+◌, ◌<◌, [], true, IfSome, IfNone, IfOk, IfErr, OnOk};
+ghost use Rattle.std.specs.Prelude.{◌≡◌, ℕ, ◌+◌, ◌<◌, [], true, IfSome, IfNone, IfOk, IfErr, OnOk};
 ghost use Rattle.std.specs.Io.Iter.{u64_saturate};
 ghost use Rattle.std.specs.Io.KnownBytes.{Keeps};
-ghost use Rattle.blob_calls.specs.Acts.{act_of};
 ghost use Rattle.blob_lab.specs.Endings.{is_cut};
 ghost use Rattle.blob_laboratory.specs.LabStands.{LabStandsFor};
 ghost use Rattle.blob_calls.specs.Lines.{said_by};
 ghost use Rattle.blob_lab.specs.Reading.{StaysKnown, IsReadOut};
-ghost use Rattle.blob_lab.specs.ScriptReading.{TakesLine, TakesCall, TakesBadCall, TakesPart, preamble_of};
-ghost use Rattle.blob_lab.specs.Scripts.{OfLines, Script, TakesOne, with_lines};
+ghost use Rattle.blob_lab.specs.ScriptReading.{TakesLine, TakesPart, ReadsFirstCall, ReadsPreamble, ReadsBadStart, ReadsPreamblePart};
+ghost use Rattle.blob_lab.specs.ScriptReading.{ReadsNextCall, ReadsBadCall, ReadsBadLine};
+ghost use Rattle.blob_lab.specs.Scripts.{OfRead, Script, TakesOne, with_lines};
 ghost use Rattle.blob_calls.specs.Settings.{cleared, configured};
 ghost use Rattle.blob_states.specs.States.{start};
 ghost use Rattle.blob_lab.specs.Streams.{reader_of, lines_left, writer_of, ToldEnding};
@@ -95,16 +95,12 @@ impl Lines {
         ensures kept { Keeps (W.contents (writer_of output.old)) (W.contents (writer_of output.new)) }
         ensures known { OnOk result (StaysKnown (R.remaining (reader_of input.old)) (R.remaining (reader_of input.new))) }
         ensures end { IfOk result (λ call. IfNone call (IsReadOut (R.remaining (reader_of input.old)) (R.remaining (reader_of input.new)))) }
-        ensures call { IfOk result (λ call. IfSome call (λ call. OfLines (R.remaining (reader_of input.old)) (R.remaining (reader_of input.new))
-            (TakesCall (preamble_of preamble.old self.old.config) (preamble_of preamble.new self.old.config) (self.old.number + 1)
-            self.new.number (act_of call) self.new.config))) }
-        ensures over { IfOk result (λ call. IfNone call (OfLines (R.remaining (reader_of input.old)) (R.remaining (reader_of input.new))
-            (λ lines _. with_lines (preamble_of preamble.old self.old.config) lines ≡ Some (preamble_of preamble.new self.old.config)))) }
+        ensures call { IfOk result (λ call. IfSome call (λ call.
+            ReadsFirstCall R.remaining input.old input.new preamble.old preamble.new self.old self.new call)) }
+        ensures over { IfOk result (λ call. IfNone call (ReadsPreamble R.remaining input.old input.new preamble.old preamble.new self.old)) }
         ensures bad { (number : ℕ) → result ≡ Err (Ending.BadCall number)
-            → OfLines (R.remaining (reader_of input.old)) (R.remaining (reader_of input.new))
-            (TakesBadCall (preamble_of preamble.old self.old.config) (preamble_of preamble.new self.old.config) (self.old.number + 1) number) }
-        ensures part { IfErr result (λ _. (t : Script) × (t.calls ≡ []) × OfLines (R.remaining (reader_of input.old)) (R.remaining (reader_of input.new))
-            (TakesPart (preamble_of preamble.old self.old.config) t)) }
+            → ReadsBadStart R.remaining input.old input.new preamble.old preamble.new self.old number }
+        ensures part { IfErr result (λ _. ReadsPreamblePart R.remaining input.old input.new preamble.old self.old) }
         ensures fewer { IfOk result (λ call. IfSome call (λ _. lines_left input.new < lines_left input.old)) }
     {
         'lines: loop {
@@ -148,15 +144,10 @@ impl Lines {
         ensures kept { Keeps (W.contents (writer_of output.old)) (W.contents (writer_of output.new)) }
         ensures known { OnOk result (StaysKnown (R.remaining (reader_of input.old)) (R.remaining (reader_of input.new))) }
         ensures end { IfOk result (λ call. IfNone call (IsReadOut (R.remaining (reader_of input.old)) (R.remaining (reader_of input.new)))) }
-        ensures call { IfOk result (λ call. IfSome call (λ call. (s : Script) → s.config ≡ self.old.config
-            → OfLines (R.remaining (reader_of input.old)) (R.remaining (reader_of input.new))
-            (TakesCall s s (self.old.number + 1) self.new.number (act_of call) self.new.config))) }
-        ensures over { IfOk result (λ call. IfNone call ((s : Script)
-            → OfLines (R.remaining (reader_of input.old)) (R.remaining (reader_of input.new)) (λ lines _. with_lines s lines ≡ Some s))) }
-        ensures bad { (number : ℕ) → result ≡ Err (Ending.BadCall number) → (s : Script) → s.calls ≢ []
-            → OfLines (R.remaining (reader_of input.old)) (R.remaining (reader_of input.new))
-            (TakesBadCall s s (self.old.number + 1) number) }
-        ensures part { IfErr result (λ _. (s : Script) → OfLines (R.remaining (reader_of input.old)) (R.remaining (reader_of input.new)) (TakesPart s s)) }
+        ensures call { IfOk result (λ call. IfSome call (λ call. ReadsNextCall R.remaining input.old input.new self.old self.new call)) }
+        ensures over { IfOk result (λ call. IfNone call ((s : Script) → OfRead R.remaining input.old input.new (λ lines _. with_lines s lines ≡ Some s))) }
+        ensures bad { (number : ℕ) → result ≡ Err (Ending.BadCall number) → ReadsBadCall R.remaining input.old input.new self.old number }
+        ensures part { IfErr result (λ _. (s : Script) → OfRead R.remaining input.old input.new (TakesPart s s)) }
         ensures fewer { IfOk result (λ call. IfSome call (λ _. lines_left input.new < lines_left input.old)) }
     {
         'lines: loop {
@@ -185,13 +176,10 @@ impl Lines {
         ensures kept { Keeps (W.contents (writer_of output.old)) (W.contents (writer_of output.new)) }
         ensures known { OnOk result (StaysKnown (R.remaining (reader_of input.old)) (R.remaining (reader_of input.new))) }
         ensures end { IfOk result (λ line. IfNone line (IsReadOut (R.remaining (reader_of input.old)) (R.remaining (reader_of input.new)))) }
-        ensures line { IfOk result (λ line. IfSome line (λ line.
-            OfLines (R.remaining (reader_of input.old)) (R.remaining (reader_of input.new)) (TakesLine (Some (said_by line))))) }
-        ensures over { IfOk result (λ line. IfNone line
-            (OfLines (R.remaining (reader_of input.old)) (R.remaining (reader_of input.new)) (λ lines _. lines ≡ []))) }
-        ensures bad { (number : ℕ) → result ≡ Err (Ending.BadCall number) → (number ≡ u64_saturate (self.old.number + 1))
-            × OfLines (R.remaining (reader_of input.old)) (R.remaining (reader_of input.new)) (TakesLine None) }
-        ensures part { IfErr result (λ _. OfLines (R.remaining (reader_of input.old)) (R.remaining (reader_of input.new)) TakesOne) }
+        ensures line { IfOk result (λ line. IfSome line (λ line. OfRead R.remaining input.old input.new (TakesLine (Some (said_by line))))) }
+        ensures over { IfOk result (λ line. IfNone line (OfRead R.remaining input.old input.new (λ lines _. lines ≡ []))) }
+        ensures bad { (number : ℕ) → result ≡ Err (Ending.BadCall number) → ReadsBadLine R.remaining input.old input.new self.old number }
+        ensures part { IfErr result (λ _. OfRead R.remaining input.old input.new TakesOne) }
         ensures fewer { IfOk result (λ line. IfSome line (λ _. lines_left input.new < lines_left input.old)) }
         ensures numbered { IfOk result (λ line. IfSome line (λ _. self.new.number ≡ u64_saturate (self.old.number + 1))) }
         ensures same { self.new.config ≡ self.old.config }
