@@ -77,6 +77,7 @@ impl<R: BufRead> Input<R> {
         ensures sound { result ≢ Err Ending.InputFailed → read_failed self.new ≡ read_failed self.old }
         ensures ending { IfErr result (λ ending. (ending ≡ Ending.InputFailed) ⊎ (ending ≡ Ending.NoMemory)) }
         ensures read { OnOk result (IfSome (R.remaining (reader_of self.old)) (λ left. bytes.new.items ≡ bytes.old.items ++ left)) }
+        ensures left { lines_left self.new ≡ lines_left self.old }
     {
         match self.reader.read_to_end(bytes) {
             Ok(_) => Ok(()),
