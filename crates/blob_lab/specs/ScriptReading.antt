@@ -5,12 +5,16 @@ use Rattle.blob_faults.specs.declared.config.Config.{Config}
 use Rattle.blob_laboratory.specs.declared.lab.Lab.{Lab}
 use Rattle.blob_lab.specs.declared.run_script.lines.Lines.{Lines}
 use Rattle.blob_lab.specs.declared.run_script.lines.Preamble.{Preamble}
+use Rattle.blob_lab.specs.declared.ending.Ending.{Ending}
 use Rattle.blob_lab.specs.declared.streams.Input.{Input}
+use Rattle.blob_lab.specs.declared.streams.Output.{Output}
 use Rattle.blob_calls.specs.declared.call.Call.{Call}
+use Rattle.blob_calls.specs.declared.reply.Reply.{Reply}
 use Rattle.blob_calls.specs.Acts.{Act, act_of}
-use Rattle.blob_laboratory.specs.LabStands.{LabStandsFor}
+use Rattle.blob_laboratory.specs.LabStands.{LabStandsFor, Performs}
 use Rattle.blob_calls.specs.Lines.{Said, line_of}
-use Rattle.blob_lab.specs.Scripts.{OfRead, Script, TakesOne, with_call, with_line, with_lines}
+use Rattle.blob_lab.specs.Scripts.{OfRead, OfRun, Prints, PrintsUpTo, Script, TakesOne, lines_of, printed_reply, with_call, with_line, with_lines}
+use Rattle.blob_lab.specs.Streams.{OfBytes, writer_of}
 use Rattle.blob_calls.specs.Settings.{cleared}
 use Rattle.blob_states.specs.States.{start}
 use Rattle.blob_laboratory.specs.Tables.{images_of}
@@ -92,3 +96,20 @@ ReadsBadCall remaining i i' old number = (s : Script) → s.calls ≢ [] → OfR
 -- the next line, which says nothing
 abbrev pub ReadsBadLine : {R : Type 0} → (R → Option (List ℕ)) → Input R → Input R → Lines → ℕ → Type 0
 ReadsBadLine remaining i i' old number = (number ≡ u64_saturate (old.number + 1)) × OfRead remaining i i' (TakesLine None)
+
+-- What answering from a first call on prints, behind the lines that made its laboratory.
+
+-- all of it
+abbrev pub PrintsFrom : {R W : Type 0} → (R → Option (List ℕ)) → (W → Option (List ℕ)) → Lab → Call → Lines → Input R → Output W → Output W → Type 0
+PrintsFrom remaining contents lab first lines i o o' = (s : Script) (line : List ℕ) → Begins lab s line (act_of first) lines.config
+    → OfBytes remaining contents i o o' (λ bytes. Prints (with_lines s (line ∷ lines_of bytes)))
+
+-- cut short so
+abbrev pub PrintsFromUpTo : {R W : Type 0} → (R → Option (List ℕ)) → (W → Option (List ℕ)) → Ending → Lab → Call → Lines → Input R → Input R → Output W → Output W → Type 0
+PrintsFromUpTo remaining contents ending lab first lines i i' o o' = (s : Script) (line : List ℕ) → Begins lab s line (act_of first) lines.config
+    → OfRun remaining contents i i' o o' (λ all left. PrintsUpTo ending s lines.number (line ∷ all) left)
+
+-- a call was answered, and its reply's line was written so
+abbrev pub WritesReply : {W : Type 0} → (W → Option (List ℕ)) → Lab → Call → Lab → Output W → Output W → (Option (List ℕ) → Option (List ℕ) → List ℕ → Type 0) → Type 0
+WritesReply contents lab call lab' o o' Adds = (reply : Reply) × Performs lab (act_of call) reply lab'
+    × Adds (contents (writer_of o)) (contents (writer_of o')) (printed_reply reply)

@@ -46,7 +46,7 @@ OfRead remaining i i' P = OfLines (remaining (reader_of i)) (remaining (reader_o
 -- the same, and of what a writer had and has then
 abbrev pub OfRun : {R W : Type 0} → (R → Option (List ℕ)) → (W → Option (List ℕ)) → Input R → Input R → Output W → Output W
     → (List (List ℕ) → List (List ℕ) → Option (List ℕ) → Option (List ℕ) → Type 0) → Type 0
-OfRun remaining contents i i' o o' P = OfRead remaining i i' (λ lines left. P lines left (contents (writer_of o)) (contents (writer_of o')))
+OfRun remaining contents i i' o o' P = OfLines (remaining (reader_of i)) (remaining (reader_of i')) (λ lines left. P lines left (contents (writer_of o)) (contents (writer_of o')))
 
 -- What they make.
 

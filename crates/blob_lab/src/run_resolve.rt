@@ -4,7 +4,7 @@ ghost use Rattle.std.specs.Io.BufRead.{DropsThrough, first_piece};
 ghost use Rattle.hex.specs.Hex.{decode_of};
 ghost use Rattle.blob_lab.specs.Endings.{is_of_resolve};
 ghost use Rattle.blob_lab.specs.ResolveReplies.{AnswersLine};
-ghost use Rattle.blob_lab.specs.Streams.{reader_of, read_failed, writer_of, write_failed, is_flushed};
+ghost use Rattle.blob_lab.specs.Streams.{OfBytes, reader_of, read_failed, writer_of, write_failed, is_flushed};
 
 mod resolving;
 
@@ -19,8 +19,8 @@ pub fn run_resolve<R: BufRead, W: Write>(
     input: &mut Input<R>,
     output: &mut Output<W>,
 ) -> Ending
-    ensures replied { result ≡ Ending.Done → IfSome (R.remaining (reader_of input.old))
-        (λ bytes. AnswersLine (first_piece 10 bytes) (W.contents (writer_of output.old)) (W.contents (writer_of output.new))) }
+    ensures replied { result ≡ Ending.Done
+        → OfBytes R.remaining W.contents input.old output.old output.new (λ bytes. AnswersLine (first_piece 10 bytes)) }
     ensures rest { result ≡ Ending.Done → DropsThrough (R.remaining (reader_of input.old)) (R.remaining (reader_of input.new)) 10 }
     ensures bad_image { result ≡ Ending.BadImage → IfSome (R.remaining (reader_of input.old)) (λ bytes. IsErr (decode_of (first_piece 10 bytes))) }
     ensures nothing_written { result ≢ Ending.Done → result ≢ Ending.OutputFailed

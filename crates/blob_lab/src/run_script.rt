@@ -1,8 +1,8 @@
-ghost use Rattle.std.specs.Prelude.{◌≡◌, ◌≢◌, ℕ, true, IfSome};
+ghost use Rattle.std.specs.Prelude.{◌≡◌, ◌≢◌, ℕ, true};
 ghost use Rattle.blob_lab.specs.Endings.{is_of_script};
 ghost use Rattle.blob_lab.specs.Reading.{IsReadOut};
-ghost use Rattle.blob_lab.specs.Scripts.{OfLines, Prints, PrintsBefore, PrintsTaken, PrintsPart, lines_of, no_script, script_of};
-ghost use Rattle.blob_lab.specs.Streams.{reader_of, read_failed, writer_of, write_failed, is_flushed};
+ghost use Rattle.blob_lab.specs.Scripts.{OfRun, Prints, PrintsBeforeLine, PrintsTaken, PrintsPart, lines_of, no_script, script_of};
+ghost use Rattle.blob_lab.specs.Streams.{OfBytes, reader_of, read_failed, write_failed, is_flushed};
 
 mod ahead;
 mod answering;
@@ -27,14 +27,14 @@ pub fn run_script<R: Ahead, W: Write>(
 ) -> Ending
     ensures ending { is_of_script result ≡ true }
     ensures read { result ≡ Ending.Done → IsReadOut (R.remaining (reader_of input.old)) (R.remaining (reader_of input.new)) }
-    ensures done { result ≡ Ending.Done → IfSome (R.remaining (reader_of input.old))
-        (λ bytes. Prints (script_of (lines_of bytes)) (W.contents (writer_of output.old)) (W.contents (writer_of output.new))) }
-    ensures bad_call { (number : ℕ) → result ≡ Ending.BadCall number → IfSome (R.remaining (reader_of input.old))
-        (λ bytes. PrintsBefore no_script 1 number (lines_of bytes) (W.contents (writer_of output.old)) (W.contents (writer_of output.new))) }
-    ensures taken { result ≢ Ending.OutputFailed → OfLines (R.remaining (reader_of input.old)) (R.remaining (reader_of input.new))
-        (λ lines left. PrintsTaken no_script lines left (W.contents (writer_of output.old)) (W.contents (writer_of output.new))) }
-    ensures part { result ≡ Ending.OutputFailed → OfLines (R.remaining (reader_of input.old)) (R.remaining (reader_of input.new))
-        (λ lines left. PrintsPart no_script lines left (W.contents (writer_of output.old)) (W.contents (writer_of output.new))) }
+    ensures done { result ≡ Ending.Done
+        → OfBytes R.remaining W.contents input.old output.old output.new (λ bytes. Prints (script_of (lines_of bytes))) }
+    ensures bad_call { (number : ℕ) → result ≡ Ending.BadCall number
+        → OfBytes R.remaining W.contents input.old output.old output.new (PrintsBeforeLine number) }
+    ensures taken { result ≢ Ending.OutputFailed
+        → OfRun R.remaining W.contents input.old input.new output.old output.new (PrintsTaken no_script) }
+    ensures part { result ≡ Ending.OutputFailed
+        → OfRun R.remaining W.contents input.old input.new output.old output.new (PrintsPart no_script) }
     ensures handed_on { result ≢ Ending.OutputFailed → is_flushed output.new ≡ true }
     ensures input_failed { result ≡ Ending.InputFailed → read_failed input.new ≡ true }
     ensures output_failed { result ≡ Ending.OutputFailed → write_failed output.new ≡ true }

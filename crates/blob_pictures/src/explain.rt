@@ -2,10 +2,10 @@
 ghost use Rattle.std.specs.Prelude.{◌≡◌, ◌≢◌, ◌⊎◌, ◌<◌, ◌++◌, ◌∷◌, ℕ, true, IfSome, IfOk, IfErr, OnOk, length};
 ghost use Rattle.std.specs.Io.KnownBytes.{Keeps};
 ghost use Rattle.blob_lab.specs.Endings.{is_of_script};
-ghost use Rattle.blob_lab.specs.Scripts.{Prints, PrintsBefore, lines_of, no_script, script_of};
-ghost use Rattle.blob_lab.specs.Streams.{reader_of, read_failed, writer_of, write_failed, is_flushed};
+ghost use Rattle.blob_lab.specs.Scripts.{Prints, lines_of, script_of};
+ghost use Rattle.blob_lab.specs.Streams.{OfBytes, reader_of, read_failed, writer_of, write_failed, is_flushed};
 ghost use Rattle.blob_pictures.specs.Explained.{Explains, IsExplained, Remarks};
-ghost use Rattle.blob_pictures.specs.Explanations.{IsExplanation, WritesExplanation};
+ghost use Rattle.blob_pictures.specs.Explanations.{ExplainsBefore, IsExplanation, WritesExplanation};
 
 use crate::play::pictures_of;
 use crate::remarks::push_remarks;
@@ -26,10 +26,10 @@ pub fn explain_script<R: BufRead, W: Write>(
     output: &mut Output<W>,
 ) -> Ending
     ensures ending { is_of_script result ≡ true }
-    ensures done { result ≡ Ending.Done → IfSome (R.remaining (reader_of input.old))
-        (λ input. Explains (Prints (script_of (lines_of input))) (W.contents (writer_of output.old)) (W.contents (writer_of output.new))) }
-    ensures bad_call { (number : ℕ) → result ≡ Ending.BadCall number → IfSome (R.remaining (reader_of input.old))
-        (λ input. Explains (PrintsBefore no_script 1 number (lines_of input)) (W.contents (writer_of output.old)) (W.contents (writer_of output.new))) }
+    ensures done { result ≡ Ending.Done
+        → OfBytes R.remaining W.contents input.old output.old output.new (λ bytes. Explains (Prints (script_of (lines_of bytes)))) }
+    ensures bad_call { (number : ℕ) → result ≡ Ending.BadCall number
+        → OfBytes R.remaining W.contents input.old output.old output.new (ExplainsBefore number) }
     ensures unwritten { result ≡ Ending.InputFailed → Keeps (W.contents (writer_of output.old)) (W.contents (writer_of output.new)) }
     ensures handed_on { result ≢ Ending.OutputFailed → is_flushed output.new ≡ true }
     ensures input_failed { result ≡ Ending.InputFailed → read_failed input.new ≡ true }
@@ -53,8 +53,8 @@ fn write_explanation<R: BufRead, W: Write>(
 ) -> Result<Ending, Ending>
     ensures ended { IfOk result (λ ending. (is_of_script ending ≡ true) × (ending ≢ Ending.InputFailed) × (ending ≢ Ending.OutputFailed)) }
     ensures cut { IfErr result (λ ending. (ending ≡ Ending.InputFailed) ⊎ (ending ≡ Ending.NoMemory) ⊎ (ending ≡ Ending.OutputFailed)) }
-    ensures text { IfOk result (λ ending. IfSome (R.remaining (reader_of input.old))
-        (λ bytes. WritesExplanation bytes ending (W.contents (writer_of output.old)) (W.contents (writer_of output.new)))) }
+    ensures text { IfOk result (λ ending.
+        OfBytes R.remaining W.contents input.old output.old output.new (λ bytes. WritesExplanation bytes ending)) }
     ensures unwritten { result ≡ Err Ending.InputFailed → Keeps (W.contents (writer_of output.old)) (W.contents (writer_of output.new)) }
     ensures input_failed { result ≡ Err Ending.InputFailed → read_failed input.new ≡ true }
     ensures input_sound { result ≢ Err Ending.InputFailed → read_failed input.new ≡ read_failed input.old }

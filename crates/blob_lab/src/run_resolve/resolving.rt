@@ -6,7 +6,7 @@ ghost use Rattle.hex.specs.Hex.{decode_of};
 ghost use Rattle.blob_header.specs.Resolve.{AnswersAs};
 ghost use Rattle.blob_lab.specs.Endings.{is_cut_of_resolve, is_of_stream};
 ghost use Rattle.blob_lab.specs.ResolveReplies.{AnswersLine, resolved_image};
-ghost use Rattle.blob_lab.specs.Streams.{reader_of, writer_of, is_flushed, ToldEnding};
+ghost use Rattle.blob_lab.specs.Streams.{OfBytes, reader_of, writer_of, is_flushed, ToldEnding};
 
 use crate::resolution_line::ResolutionLine;
 use crate::streams::drop_line_feed;
@@ -22,11 +22,10 @@ pub(super) fn resolve_line<R: BufRead, W: Write>(
     input: &mut Input<R>,
     output: &mut Output<W>,
 ) -> Result<(), Ending>
-    ensures replied { OnOk result (IfSome (R.remaining (reader_of input.old))
-        (λ bytes. AnswersLine (first_piece 10 bytes) (W.contents (writer_of output.old)) (W.contents (writer_of output.new)))) }
+    ensures replied { OnOk result (OfBytes R.remaining W.contents input.old output.old output.new (λ bytes. AnswersLine (first_piece 10 bytes))) }
     ensures rest { OnOk result (DropsThrough (R.remaining (reader_of input.old)) (R.remaining (reader_of input.new)) 10) }
     ensures bad_image { result ≡ Err Ending.BadImage → IfSome (R.remaining (reader_of input.old)) (λ bytes. IsErr (decode_of (first_piece 10 bytes))) }
-    ensures nothing_written { IfErr result (λ ending. ending ≢ Ending.OutputFailed
+    ensures nothing_written { IfErr result (λ e. e ≢ Ending.OutputFailed
         → Keeps (W.contents (writer_of output.old)) (W.contents (writer_of output.new))) }
     ensures cut { IfErr result (λ ending. is_cut_of_resolve ending ≡ true) }
     ensures handed_on { OnOk result (is_flushed output.new ≡ true) }

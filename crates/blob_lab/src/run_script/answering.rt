@@ -1,14 +1,11 @@
 // The calls of a script, answered one after another.
-ghost use Rattle.std.specs.Prelude.{◌≡◌, ◌≢◌, ◌⊎◌, List, ◌∷◌, ℕ, true, IfSome, IfErr, OnOk};
+ghost use Rattle.std.specs.Prelude.{◌≡◌, ◌≢◌, ◌⊎◌, true, IfErr, OnOk};
 ghost use Rattle.std.specs.Io.KnownBytes.{Appends};
-ghost use Rattle.blob_calls.specs.declared.reply.Reply.{Reply};
-ghost use Rattle.blob_calls.specs.Acts.{act_of};
 ghost use Rattle.blob_lab.specs.Endings.{is_cut};
-ghost use Rattle.blob_laboratory.specs.LabStands.{Performs};
 ghost use Rattle.blob_lab.specs.Reading.{IsReadOut};
-ghost use Rattle.blob_lab.specs.ScriptReading.{Begins};
-ghost use Rattle.blob_lab.specs.Scripts.{OfLines, Script, Prints, PrintsUpTo, lines_of, no_script, printed_reply, script_of, with_lines};
-ghost use Rattle.blob_lab.specs.Streams.{reader_of, writer_of, AppendsPart, ToldEnding, ToldOutput};
+ghost use Rattle.blob_lab.specs.ScriptReading.{PrintsFrom, PrintsFromUpTo, WritesReply};
+ghost use Rattle.blob_lab.specs.Scripts.{OfRun, Prints, PrintsUpTo, lines_of, no_script, script_of};
+ghost use Rattle.blob_lab.specs.Streams.{reader_of, AppendsPart, OfBytes, ToldEnding, ToldOutput};
 
 use super::Ahead;
 use super::lines::{Lines, Preamble};
@@ -28,10 +25,9 @@ pub(super) fn run_lines<R: Ahead, W: Write>(
     ensures cut { IfErr result (λ ending. is_cut ending ≡ true) }
     ensures told { ToldEnding result input.old input.new output.old output.new }
     ensures read { OnOk result (IsReadOut (R.remaining (reader_of input.old)) (R.remaining (reader_of input.new))) }
-    ensures all { OnOk result (IfSome (R.remaining (reader_of input.old))
-        (λ bytes. Prints (script_of (lines_of bytes)) (W.contents (writer_of output.old)) (W.contents (writer_of output.new)))) }
-    ensures front { IfErr result (λ ending. OfLines (R.remaining (reader_of input.old)) (R.remaining (reader_of input.new))
-        (λ lines left. PrintsUpTo ending no_script 1 lines left (W.contents (writer_of output.old)) (W.contents (writer_of output.new)))) }
+    ensures all { OnOk result (OfBytes R.remaining W.contents input.old output.old output.new (λ bytes. Prints (script_of (lines_of bytes)))) }
+    ensures front { IfErr result (λ ending.
+        OfRun R.remaining W.contents input.old input.new output.old output.new (PrintsUpTo ending no_script 1)) }
 {
     let mut lines = Lines::new(alloc);
     let mut preamble = Preamble::new(alloc);
@@ -57,12 +53,9 @@ fn answer_calls<R: Ahead, W: Write>(
     ensures cut { IfErr result (λ ending. is_cut ending ≡ true) }
     ensures told { ToldEnding result input.old input.new output.old output.new }
     ensures read { OnOk result (IsReadOut (R.remaining (reader_of input.old)) (R.remaining (reader_of input.new))) }
-    ensures all { OnOk result ((s : Script) (line : List ℕ) → Begins lab.old s line (act_of first) lines.old.config
-        → IfSome (R.remaining (reader_of input.old))
-        (λ bytes. Prints (with_lines s (line ∷ lines_of bytes)) (W.contents (writer_of output.old)) (W.contents (writer_of output.new)))) }
-    ensures front { IfErr result (λ ending. (s : Script) (line : List ℕ) → Begins lab.old s line (act_of first) lines.old.config
-        → OfLines (R.remaining (reader_of input.old)) (R.remaining (reader_of input.new))
-        (λ all left. PrintsUpTo ending s lines.old.number (line ∷ all) left (W.contents (writer_of output.old)) (W.contents (writer_of output.new)))) }
+    ensures all { OnOk result (PrintsFrom R.remaining W.contents lab.old first lines.old input.old output.old output.new) }
+    ensures front { IfErr result (λ ending.
+        PrintsFromUpTo R.remaining W.contents ending lab.old first lines.old input.old input.new output.old output.new) }
 {
     let mut text = String::new(alloc);
     let mut call = first;
@@ -82,10 +75,8 @@ fn answer<W: Write>(
     text: &mut String,
     output: &mut Output<W>,
 ) -> Result<(), Ending>
-    ensures answered { OnOk result ((reply : Reply) × Performs lab.old (act_of call.now) reply lab.new
-        × Appends (W.contents (writer_of output.old)) (W.contents (writer_of output.new)) (printed_reply reply)) }
-    ensures part { result ≡ Err Ending.OutputFailed → (reply : Reply) × Performs lab.old (act_of call.now) reply lab.new
-        × AppendsPart (W.contents (writer_of output.old)) (W.contents (writer_of output.new)) (printed_reply reply) }
+    ensures answered { OnOk result (WritesReply W.contents lab.old call.now lab.new output.old output.new Appends) }
+    ensures part { result ≡ Err Ending.OutputFailed → WritesReply W.contents lab.old call.now lab.new output.old output.new AppendsPart }
     ensures same { result ≡ Err Ending.NoMemory → output.new ≡ output.old }
     ensures cut { IfErr result (λ ending. (ending ≡ Ending.OutputFailed) ⊎ (ending ≡ Ending.NoMemory)) }
     ensures told { result ≢ Err Ending.NoMemory → ToldOutput result output.old output.new }
