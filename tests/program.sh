@@ -93,14 +93,17 @@ expect 'an argument with a space' 2 '' "$usage"
 run "$top/blobcrash" "$(printf '\377')" </dev/null
 expect 'an argument that is not UTF-8' 2 '' "$usage"
 
-# Help, and the version with the toolchain that the program is built with.
+# Help, and the version with the toolchain that the README names. Another toolchain proves and builds the program as well:
+# it is told, and fails nothing.
 for word in help --help; do
     run "$top/blobcrash" "$word" </dev/null
     [ "$(head -n 1 "$work/out")" = "$usage" ] && grep -q '^  blobcrash resolve  ' "$work/out" && : >"$work/out"
     expect "$word" 0 '' ''
 done
 run "$top/blobcrash" version </dev/null
-kit=$("$(command -v rt || echo /opt/rattle/bin/rt)" version | cut -d ' ' -f 1)
+kit=$(sed -n 's/^    \(rattle-kit-[^ ]*\) .*/\1/p' "$top/README.md")
+here=$("$(command -v rt || echo /opt/rattle/bin/rt)" version | cut -d ' ' -f 1)
+[ "$here" = "$kit" ] || echo "note: the toolchain here is $here, and README.md and \`blobcrash version\` name $kit"
 release=$(sed -n 's/^## \([0-9.]*\),.*/\1/p' "$top/CHANGELOG.md" | head -n 1)
 expect 'the version' 0 "blobcrash $release, proved with $kit$line" ''
 
