@@ -1,5 +1,6 @@
 -- The calls of a handle, as data.
 use Rattle.std.specs.Prelude.{ℕ, List, Bool, Option}
+use Rattle.blob_header.specs.Refusals.{Refusal}
 
 pub data HandleCall : Type 0 where
   -- of so many bytes from an offset, into a new buffer or into the caller's
@@ -13,3 +14,7 @@ pub data HandleCall : Type 0 where
   StartSync : Option ℕ → HandleCall
   -- up to a logical end
   Reserve : ℕ → HandleCall
+
+-- whatever a write may be answered now it might have been before
+abbrev pub AllowsNoMoreWrites : (ℕ → List ℕ → Bool → Option Refusal → Type 0) → (ℕ → List ℕ → Bool → Option Refusal → Type 0) → Type 0
+AllowsNoMoreWrites before now = (offset : ℕ) (bytes : List ℕ) (sync : Bool) (answer : Option Refusal) → now offset bytes sync answer → before offset bytes sync answer

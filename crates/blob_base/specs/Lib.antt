@@ -4,6 +4,7 @@ pub mod HandleCalls
 pub mod Handles
 pub mod Names
 pub mod Options
+pub mod Stores
 pub use Rattle.blob_header.specs.Checksum
 pub use Rattle.blob_header.specs.Fronts
 pub use Rattle.blob_header.specs.Header

@@ -1,9 +1,9 @@
 // What the laws say of any store: callers that know nothing else of it.
 ghost use Rattle.std.specs.Prelude.{◌≡◌, ◌+◌, ◌<◌, ◌≤◌, ℕ, List, [], true, false, Some, None, OnOk, OnErr, IfOk, length, option_copied};
-ghost use Rattle.blob_model.specs.Bytes.{overlay, resized, written};
-ghost use Rattle.blob_base.specs.Callers.{InTurn, BeforeOrBetween};
+ghost use Rattle.blob_model.specs.Bytes.{resized, written};
+ghost use Rattle.blob_base.specs.Callers.{BeforeOrBetween, BeforeOrWritten, WrittenAndRemoved, ResizesAndStarts, WritesAndRemoves, WritesAndSyncs};
 ghost use Rattle.blob_model.specs.Directory.{is_current, removed};
-ghost use Rattle.blob_model.specs.Durable.{with_changed, durable_without};
+ghost use Rattle.blob_model.specs.Durable.{with_changed, with_overlay};
 ghost use Rattle.blob_model.specs.Live.{live_written};
 ghost use Rattle.blob_base.specs.Options.{is_sync};
 ghost use Rattle.blob_header.specs.Refusals.{refused, IsMemory};
@@ -24,7 +24,7 @@ pub fn write_and_sync<S: Durable, B: Blob<S>>(
     plain: WriteOptions,
 ) -> Result<(), Error>
     requires { is_sync plain ≡ false }
-    ensures answer { InTurn (B.allows_write blob.old store.old offset bytes false) (λ b s. (B.live b ≡ written (B.live blob.old) offset bytes) × (B.place b ≡ B.place blob.old) × (S.durable s ≡ S.durable store.old) × (S.directory s ≡ S.directory store.old)) B.allows_sync (refused result) }
+    ensures answer { WritesAndSyncs S.Durable B.Blob blob.old store.old offset bytes (refused result) }
     ensures live { OnOk result (B.live blob.new ≡ written (B.live blob.old) offset bytes) }
     ensures durable { OnOk result (S.durable store.new ≡ with_changed (S.durable store.old) (B.place blob.old) (λ _. written (B.live blob.old) offset bytes)) }
     ensures directory { S.directory store.new ≡ S.directory store.old }
@@ -43,7 +43,7 @@ pub fn resize_and_start_sync<S: Storage, B: Blob<S>>(
     blob: &mut B,
     len: u64,
 ) -> Result<(), Error>
-    ensures answer { InTurn (B.allows_resize blob.old store.old len) (λ b s. (B.live b ≡ resized (B.live blob.old) len) × (B.place b ≡ B.place blob.old) × (S.durable s ≡ S.durable store.old) × (S.directory s ≡ S.directory store.old)) B.allows_start_sync (refused result) }
+    ensures answer { ResizesAndStarts S.Durable B.Blob blob.old store.old len (refused result) }
     ensures live { OnOk result (B.live blob.new ≡ resized (B.live blob.old) len) }
     ensures durable { OnOk result (S.durable store.new ≡ with_changed (S.durable store.old) (B.place blob.old) (λ _. resized (B.live blob.old) len)) }
 
@@ -73,15 +73,15 @@ pub fn write_and_remove<S: Storage, B: Blob<S>>(
     name: &[u8],
 ) -> Result<(), Error>
     requires { is_sync synced ≡ true }
-    ensures answer { InTurn (B.allows_write blob.old store.old offset bytes true) (λ (b : B) s. (S.durable s ≡ with_changed (S.durable store.old) (B.place blob.old) (λ x. overlay x offset bytes)) × (S.directory s ≡ S.directory store.old)) (λ b s. S.allows_remove s partition.now (Some name.now)) (refused result) }
+    ensures answer { WritesAndRemoves S.Durable B.Blob blob.old store.old offset bytes (λ s. S.allows_remove s partition.now (Some name.now)) (refused result) }
     ensures live { OnOk result (B.live blob.new ≡ live_written true (B.live blob.old) offset bytes) }
-    ensures durable { OnOk result (S.durable store.new ≡ durable_without (with_changed (S.durable store.old) (B.place blob.old) (λ x. overlay x offset bytes)) partition.now (Some name.now)) }
+    ensures durable { OnOk result (WrittenAndRemoved (S.durable store.old) (B.place blob.old) offset bytes partition.now name.now (S.durable store.new)) }
     ensures directory { OnOk result (S.directory store.new ≡ removed (S.directory store.old) partition.now (Some name.now)) }
 
     // a refusal, of the write or behind it
     ensures memory_live { IsMemory result → BeforeOrBetween (B.live blob.old) (live_written true (B.live blob.old) offset bytes) (B.live blob.new) }
-    ensures memory { IsMemory result → BeforeOrBetween (S.durable store.old) (with_changed (S.durable store.old) (B.place blob.old) (λ x. overlay x offset bytes)) (S.durable store.new) }
-    ensures direct { B.is_direct ≡ true → OnErr result (BeforeOrBetween (S.durable store.old) (with_changed (S.durable store.old) (B.place blob.old) (λ x. overlay x offset bytes)) (S.durable store.new)) }
+    ensures memory { IsMemory result → BeforeOrWritten (S.durable store.old) (B.place blob.old) offset bytes (S.durable store.new) }
+    ensures direct { B.is_direct ≡ true → OnErr result (BeforeOrWritten (S.durable store.old) (B.place blob.old) offset bytes (S.durable store.new)) }
     ensures err { OnErr result (S.directory store.new ≡ S.directory store.old) }
 {
     blob.write_at(store, offset, bytes, synced)?;
@@ -108,7 +108,7 @@ pub fn write_within_room<S: Durable, B: Blob<S>>(
     ensures reserved { OnErr result (B.allows_reserve blob.old store.old end (refused result)) }
     ensures done { IfOk result (λ done. done ≡ Ok tt) }
     ensures live { OnOk result (B.live blob.new ≡ live_written true (B.live blob.old) offset bytes) }
-    ensures durable { OnOk result (S.durable store.new ≡ with_changed (S.durable store.old) (B.place blob.old) (λ x. overlay x offset bytes)) }
+    ensures durable { OnOk result (S.durable store.new ≡ with_overlay (S.durable store.old) (B.place blob.old) offset bytes) }
     ensures err { OnErr result ((B.live blob.new ≡ B.live blob.old) × (S.durable store.new ≡ S.durable store.old)) }
     ensures directory { S.directory store.new ≡ S.directory store.old }
 {

@@ -1,17 +1,17 @@
 // The storage traits, with what every store keeps.
 ghost use Rattle.std.specs.Prelude.{◌≡◌, ◌≢◌, ◌⊎◌, ◌+◌, ◌≤◌, ◌<◌, ◌^◌, ◌↔◌, ℕ, List, [], Bool, true, false, Option, Some, None, is_some, IsSome, IsTrue, OnOk, OnErr, IfOk, length, take, drop, map, option_copied};
-ghost use Rattle.std.specs.Range.{range_inclusive_start, range_inclusive_end, range_inclusive_exhausted};
-ghost use Rattle.blob_model.specs.Bytes.{overlay, resized};
+ghost use Rattle.std.specs.Range.{range_inclusive_exhausted};
+ghost use Rattle.blob_model.specs.Bytes.{resized};
 ghost use Rattle.blob_model.specs.Directory.{Directory, is_current, removed};
-ghost use Rattle.blob_model.specs.Durable.{Durable, with_changed, durable_without};
+ghost use Rattle.blob_model.specs.Durable.{Durable, with_changed, with_overlay, durable_without};
 ghost use Rattle.blob_model.specs.Live.{live_written, live_after};
 ghost use Rattle.blob_base.specs.Names.{AreNames};
-ghost use Rattle.blob_model.specs.Opening.{IsOpened};
-ghost use Rattle.blob_base.specs.HandleCalls.{HandleCall, Read, Write, Resize, Sync, StartSync, Reserve};
+ghost use Rattle.blob_base.specs.HandleCalls.{AllowsNoMoreWrites, HandleCall, Read, Write, Resize, Sync, StartSync, Reserve};
 ghost use Rattle.blob_base.specs.Handles.{outcome_of, marker_of};
 ghost use Rattle.blob_base.specs.Options.{is_sync};
 ghost use Rattle.blob_model.specs.Places.{Place, same_place};
 ghost use Rattle.blob_header.specs.Refusals.{Refusal, refused, Memory, Injected, OffsetOverflow, IsMemory};
+ghost use Rattle.blob_header.specs.Versions.{lower, upper};
 
 use crate::{Handle, IoBufs, IoBufsMut, ReadOptions, WriteOptions};
 use blob_header::{BlobVersion, DEFAULT_BLOB_VERSION, Error};
@@ -162,7 +162,7 @@ pub trait Blob<S: Durable> {
         ensures allowed { allows_write self.old store.old offset bytes (is_sync options) (refused result) }
         ensures leaves { leaves (Write offset bytes (is_sync options)) self.old store.old (refused result) self.new store.new }
         ensures live { OnOk result (live self.new ≡ live_written (is_sync options) (live self.old) offset bytes) }
-        ensures synced { OnOk result (is_sync options ≡ true → S.durable store.new ≡ with_changed (S.durable store.old) (place self.old) (λ x. overlay x offset bytes)) }
+        ensures synced { OnOk result (is_sync options ≡ true → S.durable store.new ≡ with_overlay (S.durable store.old) (place self.old) offset bytes) }
         ensures current { OnOk result (is_sync options ≡ true → bytes ≢ [] → is_current (S.directory store.old) (place self.old) ≡ true) }
         ensures plain { OnOk result (is_sync options ≡ false → S.durable store.new ≡ S.durable store.old) }
         ensures room { room self.old store.old ≤ room self.new store.new }
@@ -243,7 +243,7 @@ pub trait Blob<S: Durable> {
         ensures kept { room self.old store.old ≤ room self.new store.new }
         ensures live_kept { live_room self.old ≤ live_room self.new }
         ensures answers { (later : ℕ) (answer : Option Refusal) → allows_reserve self.new store.new later answer → allows_reserve self.old store.old later answer }
-        ensures write_answers { (offset : ℕ) (bytes : List ℕ) (sync : Bool) (answer : Option Refusal) → allows_write self.new store.new offset bytes sync answer → allows_write self.old store.old offset bytes sync answer }
+        ensures write_answers { AllowsNoMoreWrites (allows_write self.old store.old) (allows_write self.new store.new) }
         ensures live { live self.new ≡ live self.old }
         ensures durable { S.durable store.new ≡ S.durable store.old }
         ensures directory { S.directory store.new ≡ S.directory store.old }
@@ -288,6 +288,8 @@ pub trait Blob<S: Durable> {
 /// inside. After a refusal the files are as before. A partition's name is valid where it isn't empty and has only ASCII letters,
 /// digits, `-` and `_`; a blob's name may be any bytes, none too.
 pub trait Storage: Durable {
+    ghost use Rattle.blob_base.specs.Stores.{OpensBlob};
+
     /// A handle on one of its blobs.
     type Blob: Blob<Self> + Drop;
 
@@ -329,10 +331,10 @@ pub trait Storage: Durable {
         versions: RangeInclusive<BlobVersion>,
     ) -> Result<(Self::Blob, u64, BlobVersion), Error>
         requires fresh { range_inclusive_exhausted versions ≡ false }
-        requires some { (range_inclusive_start versions).0 ≤ (range_inclusive_end versions).0 }
-        ensures allowed { allows_open self.old partition.now name.now (range_inclusive_start versions).0 (range_inclusive_end versions).0 (refused result) }
-        ensures leaves { leaves_open self.old partition.now name.now (range_inclusive_start versions).0 (range_inclusive_end versions).0 (refused result) self.new }
-        ensures opened { IfOk result (λ opened. IsOpened (Self.directory self.old) (Self.durable self.old) (Self.directory self.new) (Self.durable self.new) partition.now name.now (range_inclusive_start versions).0 (range_inclusive_end versions).0 (Self.Blob.place opened.0) (Self.Blob.live opened.0) opened.2.0) }
+        requires some { lower versions ≤ upper versions }
+        ensures allowed { allows_open self.old partition.now name.now (lower versions) (upper versions) (refused result) }
+        ensures leaves { leaves_open self.old partition.now name.now (lower versions) (upper versions) (refused result) self.new }
+        ensures opened { IfOk result (λ o. OpensBlob Self.Durable Self.Blob.Blob self.old self.new partition.now name.now (lower versions) (upper versions) o.0 o.2.0) }
         ensures size { IfOk result (λ opened. opened.1 ≡ length (Self.Blob.live opened.0)) }
         ensures kept_size { IfOk result (λ opened. keeps_size opened.0 opened.1) }
         ensures err { OnErr result ((Self.directory self.new ≡ Self.directory self.old) × (Self.durable self.new ≡ Self.durable self.old)) };
@@ -345,7 +347,7 @@ pub trait Storage: Durable {
     fn open(&mut self, partition: &str, name: &[u8]) -> Result<(Self::Blob, u64), Error>
         ensures allowed { allows_open self.old partition.now name.now 0 0 (refused result) }
         ensures leaves { leaves_open self.old partition.now name.now 0 0 (refused result) self.new }
-        ensures opened { IfOk result (λ opened. IsOpened (Self.directory self.old) (Self.durable self.old) (Self.directory self.new) (Self.durable self.new) partition.now name.now 0 0 (Self.Blob.place opened.0) (Self.Blob.live opened.0) 0) }
+        ensures opened { IfOk result (λ o. OpensBlob Self.Durable Self.Blob.Blob self.old self.new partition.now name.now 0 0 o.0 0) }
         ensures size { IfOk result (λ opened. opened.1 ≡ length (Self.Blob.live opened.0)) }
         ensures kept_size { IfOk result (λ opened. keeps_size opened.0 opened.1) }
         ensures err { OnErr result ((Self.directory self.new ≡ Self.directory self.old) × (Self.durable self.new ≡ Self.durable self.old)) }

@@ -50,6 +50,10 @@ pub record Says (p : Preamble) (s : Script) : Type 0 where
   pub none : p.is_configured ≢ true → s.calls ≡ []
   pub some : p.is_configured ≡ true → s.calls ≢ []
 
+-- one more line, whatever script was said: with it it is a script, and settings alone stay so
+abbrev pub SaysOneMore : Preamble → List ℕ → Preamble → Type 0
+SaysOneMore p line p' = (s : Script) → Says p s → (t : Script) × (with_line s line ≡ Some t) × Says p' t × (All IsSetting s.calls → All IsSetting t.calls)
+
 -- the lines so far are a preamble's, and this many
 pub record IsReadTo (text rest : List ℕ) (number : ℕ) (p : Preamble) : Type 0 where
   pub front : List (List ℕ)

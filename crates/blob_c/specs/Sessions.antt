@@ -108,3 +108,8 @@ abbrev pub OnHeld : Option Kept → Option Kept → (Kept → Kept → Type 0) �
 OnHeld None None Open Closed = Closed
 OnHeld (Some k) (Some k') Open Closed = Open k k'
 OnHeld old new Open Closed = ⊥
+
+-- a read through a session; a closed one is told to be, and fills nothing
+abbrev pub ReadsInto : Session → Session → ℕ → ℕ → ℕ → List ℕ → List ℕ → Type 0
+ReadsInto before after handle offset status old new =
+    OnHeld (kept_of before) (kept_of after) (λ k k'. AnswersRead k k' handle offset status old new) ((status ≡ CLOSED) × (new ≡ old))

@@ -6,7 +6,7 @@
 ghost use Rattle.std.specs.Prelude.{◌≡◌, ◌⊎◌, ◌<◌, ◌≤◌, Some, None, IsSome, IfSome, [], take, length};
 ghost use Rattle.blob_lab.specs.Scripts.{Prints, PrintsBefore, no_script, lines_of, script_of};
 ghost use Rattle.blob_c.specs.Preambles.{BreaksAt, IsMadeOf};
-ghost use Rattle.blob_c.specs.Sessions.{RunsLine, AnswersRead, AnswersWrite, IsClosed, OnHeld, TellsAgain, kept_of};
+ghost use Rattle.blob_c.specs.Sessions.{RunsLine, ReadsInto, AnswersWrite, IsClosed, OnHeld, TellsAgain, kept_of};
 ghost use Rattle.blob_c.specs.WholeScripts.{WantsRoom};
 
 mod kept;
@@ -140,7 +140,7 @@ pub extern "C" fn blobcrash_read(
     offset: u64,
     into: &mut [u8],
 ) -> u32
-    ensures { OnHeld (kept_of session.old) (kept_of session.new) (λ k k'. AnswersRead k k' handle offset result into.old into.new) ((result ≡ CLOSED) × (into.new ≡ into.old)) }
+    ensures { ReadsInto session.old session.new handle offset result into.old into.new }
 {
     let Some(mut kept) = session.take(alloc) else {
         return CLOSED;

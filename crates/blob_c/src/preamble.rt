@@ -4,7 +4,7 @@ ghost use Rattle.blob_laboratory.specs.LabStands.{LabStandsFor};
 ghost use Rattle.blob_lab.specs.Scripts.{Script, lines_of, no_script, with_line};
 ghost use Rattle.blob_states.specs.States.{start};
 ghost use Rattle.blob_laboratory.specs.Tables.{images_of};
-ghost use Rattle.blob_c.specs.Preambles.{AreSettings, BreaksAt, IsMadeOf, IsNoSetting, IsSetting, Says};
+ghost use Rattle.blob_c.specs.Preambles.{AreSettings, BreaksAt, IsMadeOf, IsNoSetting, IsSetting, Says, SaysOneMore};
 
 use crate::kept::{Kept, copy_of};
 use blob_base::Error;
@@ -46,7 +46,7 @@ impl Preamble {
 
     /// Adds what a line says.
     fn add(&mut self, alloc: Global, line: &[u8]) -> Result<(), RefusedLine>
-        ensures ok { OnOk result ((s : Script) → Says self.old s → (t : Script) × (with_line s line.now ≡ Some t) × Says self.new t × (All IsSetting s.calls → All IsSetting t.calls)) }
+        ensures ok { OnOk result (SaysOneMore self.old line.now self.new) }
         ensures bad { result ≡ Err RefusedLine.BadCall → (s : Script) → Says self.old s → IsNoSetting s line.now }
     {
         match read_line(alloc, line)? {

@@ -1,5 +1,5 @@
 -- The pending lists of the incarnations, each by its place.
-use Rattle.std.specs.Prelude.{◌≡◌, ◌≢◌, AllPairs, ℕ, ◌<◌, List, Bool, true, false, not, ◌&&◌, All, length, map, vec_len, vec_capacity}
+use Rattle.std.specs.Prelude.{◌≡◌, ◌≢◌, AllPairs, ℕ, ◌<◌, List, [], cond, Bool, true, false, not, ◌&&◌, All, length, map, vec_len, vec_capacity}
 use Rattle.std.proofs.Common.{get_or}
 use Rattle.blob_model.specs.Directory.{Directory, is_current}
 use Rattle.blob_model.specs.Durable.{with_at}
@@ -30,6 +30,10 @@ is_list_of o h = same_place h.0 o
 abbrev pub IsCopyFor : List ℕ → List Pending → List ℕ → Type 0
 IsCopyFor copy list bytes = has_barrier list ≡ true → copy ≡ bytes
 
+-- a durable range of n bytes is laid in a list; where it is queued, `copy` has its bytes
+abbrev pub LaysRange : ℕ → ℕ → List ℕ → List Pending → List Pending → Type 0
+LaysRange offset n copy old new = (bytes : List ℕ) → length bytes ≡ n → IsCopyFor copy old bytes → new ≡ laid offset bytes old
+
 -- the list at i is the first of an incarnation
 pub record IsAt (hs : List ListAt) (i : ℕ) (o : Place) : Type 0 where
   pub inside : i < length hs
@@ -52,6 +56,10 @@ pub record Becomes {O : Type 0} (old new : Incarnation O) (q : List Pending) : T
   pub noted : new.was_current ≡ old.was_current
   pub entries : views new.entries.items ≡ q
 
+-- a durable range of n bytes is laid in it; where it is queued, `copy` has its bytes
+abbrev pub LaysInto : {O : Type 0} → ℕ → ℕ → List ℕ → Incarnation O → Incarnation O → Type 0
+LaysInto offset n copy old new = (bytes : List ℕ) → length bytes ≡ n → IsCopyFor copy (views old.entries.items) bytes → Becomes old new (laid offset bytes (views old.entries.items))
+
 -- the list at i is there, and can take this
 pub record HasRoomIn {O : Type 0} (is : List (Incarnation O)) (i : ℕ) (what : Room) : Type 0 where
   pub inside : i < length is
@@ -69,6 +77,10 @@ SameLists place old new = (o : Place) → list_of place new o ≡ list_of place 
 -- the list at i alone is another, by whichever incarnation it is of
 abbrev pub ChangesAt : {O : Type 0} → (O → Place) → List (Incarnation O) → List (Incarnation O) → ℕ → (List Pending → List Pending) → Type 0
 ChangesAt place old new i change = (o : Place) → IsAt (held place old) i o → (a : Place) → list_of place new a ≡ with_at (list_of place old) o (change (list_of place old o)) a
+
+-- the list at i, by whichever incarnation it is of, is handed these bytes where it queues a durable range of them
+abbrev pub IsCopyAt : {O : Type 0} → (O → Place) → List (Incarnation O) → ℕ → List ℕ → List ℕ → Type 0
+IsCopyAt place is i bytes copy = (o : Place) → IsAt (held place is) i o → IsCopyFor copy (list_of place is o) bytes
 
 -- a durable range is laid in the list at i; where it is queued there, `copy` has its bytes
 abbrev pub LaysAt : {O : Type 0} → (O → Place) → List (Incarnation O) → List (Incarnation O) → ℕ → ℕ → ℕ → List ℕ → Type 0
@@ -90,6 +102,10 @@ AreNoted place d is = All (λ i. i.was_current ≡ is_current d (place i.origin)
 -- whether an incarnation was current and isn't any more
 abbrev pub has_ended : Directory → Directory → Place → Bool
 has_ended before after o = is_current before o && not (is_current after o)
+
+-- of incarnations that were current when this was noted and aren't any more nothing is pending, of others the same
+abbrev pub RetiresEnded : {O : Type 0} → (O → Place) → Directory → List (Incarnation O) → List (Incarnation O) → Type 0
+RetiresEnded place now old new = (noted : Directory) → AreNoted place noted old → (a : Place) → list_of place new a ≡ cond (has_ended noted now a) [] (list_of place old a)
 
 -- the list at i is of an incarnation and can take these durable ranges
 pub record HasRoomAt {O : Type 0} (place : O → Place) (is : List (Incarnation O)) (i : ℕ) (o : Place) (hs : Holes) : Type 0 where

@@ -1,6 +1,6 @@
 -- Runs of a write by their positions.
-use Rattle.std.specs.Prelude.{◌≡◌, ℕ, ◌+◌, ◌-◌, ◌<◌, ◌≤◌, List, length, map, reverse, take, drop, slice_index}
-use Rattle.blob_model.specs.Runs.{Run, with_byte}
+use Rattle.std.specs.Prelude.{◌≡◌, ℕ, ◌+◌, ◌-◌, ◌<◌, ◌≤◌, Bool, List, length, map, reverse, take, drop, slice_index}
+use Rattle.blob_model.specs.Runs.{Run, runs, with_byte}
 use Rattle.blob_faults.specs.declared.runs.Span.{Span}
 
 -- the run of a write at offset that a span is
@@ -9,6 +9,10 @@ piece offset bytes s = (offset + s.start, take (s.end - s.start) (drop s.start b
 
 abbrev pub pieces : ℕ → List ℕ → List Span → List Run
 pieces offset bytes ss = map (piece offset bytes) ss
+
+-- they are the maximal runs of the chosen bytes of a write, wherever it is and whatever its bytes are
+abbrev pub AreRuns : List Bool → List Span → Type 0
+AreRuns chosen ss = (offset : ℕ) (bytes : List ℕ) → length bytes ≡ length chosen → pieces offset bytes ss ≡ runs offset bytes chosen
 
 abbrev pub ends_by : ℕ → Span → Type 0
 ends_by end s = s.end ≤ end

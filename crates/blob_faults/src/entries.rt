@@ -1,9 +1,9 @@
 //! What is pending of one incarnation, in issue order.
 ghost use Rattle.std.specs.Prelude.{◌≡◌, ◌<◌, ◌≤◌, ◌+◌, ◌^◌, ℕ, List, ◌++◌, ◌∷◌, [], All, OnOk, map, filter, drop, length, vec_len, vec_capacity, true};
 ghost use Rattle.blob_model.specs.Holes.{Holes};
-ghost use Rattle.blob_model.specs.Pending.{Pending, cut_by, laid, has_barrier, finished, ends};
+ghost use Rattle.blob_model.specs.Pending.{Pending, cut_by, has_barrier, finished, ends};
 ghost use Rattle.blob_faults.specs.Blocks.{AreBounded};
-ghost use Rattle.blob_faults.specs.Lists.{IsCopyFor};
+ghost use Rattle.blob_faults.specs.Lists.{LaysRange};
 ghost use Rattle.blob_faults.specs.Marks.{marks_of};
 ghost use Rattle.blob_faults.specs.Replays.{unmarked, widest};
 ghost use Rattle.blob_faults.specs.Rooms.{AreWithin, HasRoomFor, HasRoomsFor, CanCut, KeepsRest};
@@ -158,7 +158,7 @@ pub(crate) fn lay(
     requires bounded { AreBounded bounds.old.items (views entries.old.items) }
     requires room { CanCut offset len (λ hs. HasRoomsFor hs entries.old) }
     requires copied { length copy ≤ len }
-    ensures views { (bytes : List ℕ) → length bytes ≡ len → IsCopyFor copy (views entries.old.items) bytes → views entries.new.items ≡ laid offset bytes (views entries.old.items) }
+    ensures views { LaysRange offset len copy (views entries.old.items) (views entries.new.items) }
     ensures marks { marks_of (views entries.new.items) ≡ marks_of (views entries.old.items) }
     ensures queued { has_barrier (views entries.new.items) ≡ queues }
     ensures bounded { AreBounded bounds.new.items (views entries.new.items) }

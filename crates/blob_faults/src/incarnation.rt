@@ -49,8 +49,8 @@ fn drop_front(marks: &mut Vec<u64>, count: usize)
 impl<O> Incarnation<O> {
     ghost use Rattle.std.specs.Prelude.{◌<◌, ◌+◌, ◌^◌, ◌++◌, ◌∷◌, ℕ, List, [], OnOk, false, true, length};
     ghost use Rattle.blob_model.specs.Holes.{Holes};
-    ghost use Rattle.blob_model.specs.Pending.{Marker, laid, finished, is_marker};
-    ghost use Rattle.blob_faults.specs.Lists.{Becomes, HasRoom};
+    ghost use Rattle.blob_model.specs.Pending.{Marker, finished, is_marker};
+    ghost use Rattle.blob_faults.specs.Lists.{Becomes, HasRoom, LaysInto};
     ghost use Rattle.blob_faults.specs.Rooms.{HasRoomsFor, CanCut, KeepsRest};
     ghost use Rattle.blob_faults.specs.Views.{view};
 
@@ -119,8 +119,7 @@ impl<O> Incarnation<O> {
     pub fn lay(&mut self, offset: u64, len: u64, copy: IoBufs)
         requires room { CanCut offset len (λ hs. HasRoomsFor hs self.old.entries) }
         requires copied { length copy ≤ len }
-        ensures laid { (bytes : List ℕ) → length bytes ≡ len → (has_barrier (views self.old.entries.items) ≡ true → copy ≡ bytes) →
-            Becomes self.old self.new (laid offset bytes (views self.old.entries.items)) }
+        ensures laid { LaysInto offset len copy self.old self.new }
         ensures origin { self.new.origin ≡ self.old.origin }
         ensures room { KeepsRest offset len (λ hs. HasRoomsFor hs self.old.entries) (λ hs. HasRoomsFor hs self.new.entries) }
     {

@@ -9,7 +9,7 @@ ghost use Rattle.blob_model.specs.Pending.{Marker, finished, is_marker};
 ghost use Rattle.blob_header.specs.Refusals.{IsMemory};
 ghost use Rattle.blob_faults.specs.Rooms.{CanCut, KeepsRest};
 ghost use Rattle.blob_faults.specs.Views.{view};
-ghost use Rattle.blob_faults.specs.Lists.{held, list_of, IsAt, HasRoomIn, IsRoomAt, HasRangesAt, SameLists, ChangesAt, IsCopyFor, LaysAt, AreDistinct, finished_in, AreNoted, has_ended};
+ghost use Rattle.blob_faults.specs.Lists.{held, list_of, IsAt, HasRoomIn, IsRoomAt, HasRangesAt, SameLists, ChangesAt, IsCopyAt, LaysAt, AreDistinct, finished_in, AreNoted, RetiresEnded};
 
 use crate::entry::Entry;
 use crate::incarnation::Incarnation;
@@ -180,7 +180,7 @@ impl<S: Durable> Lists<S> {
     /// error is `Memory`.
     pub fn copy_for(&self, i: usize, bytes: &IoBufs) -> Result<IoBufs, Error>
         requires { i < vec_len self.now.all.lists }
-        ensures copied { IfOk result (λ copy. (o : Place) → IsAt (held S.place self.now.all.lists.items) i o → IsCopyFor copy (list_of S.place self.now.all.lists.items o) bytes.now) }
+        ensures copied { IfOk result (λ copy. IsCopyAt S.place self.now.all.lists.items i bytes.now copy) }
         ensures len { IfOk result (λ copy. length copy ≤ length bytes.now) }
         ensures memory { OnErr result (IsMemory result) }
     {
@@ -230,8 +230,7 @@ impl<S: Durable> Lists<S> {
 
     /// The lists of incarnations that were current when this was noted, and aren't any more, go.
     pub fn retire_ended(&mut self, store: &S)
-        ensures { (d : Directory) → AreNoted S.place d self.old.all.lists.items → (a : Place) →
-            list_of S.place self.new.all.lists.items a ≡ cond (has_ended d (S.directory store.now) a) [] (list_of S.place self.old.all.lists.items a) }
+        ensures { RetiresEnded S.place (S.directory store.now) self.old.all.lists.items self.new.all.lists.items }
     {
         drop_ended(&mut self.all.lists, store);
     }

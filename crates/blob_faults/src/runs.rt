@@ -14,7 +14,7 @@ pub struct Span {
 impl Span {
     ghost use Rattle.std.specs.Prelude.{◌≡◌, ◌≤◌, ◌+◌, ℕ, List, All, ◌^◌, length, reverse, slice_index, OnOk, IfOk};
     ghost use Rattle.blob_model.specs.Runs.{runs, with_byte};
-    ghost use Rattle.blob_faults.specs.Spans.{JoinsRuns, pieces, ends_by};
+    ghost use Rattle.blob_faults.specs.Spans.{AreRuns, JoinsRuns, ends_by};
 
     /// A chosen position joins the runs behind it, of which the nearest is the last.
     fn join(spans: &mut Vec<Span>, position: usize) -> Result<(), AllocError>
@@ -45,7 +45,7 @@ impl Span {
 
     /// The maximal runs of the chosen positions, in rising order, or a refusal for memory.
     pub fn of(alloc: Global, chosen: &[bool]) -> Result<Vec<Span>, AllocError>
-        ensures pieces { IfOk result (λ spans. (offset : ℕ) (bytes : List ℕ) → length bytes ≡ length chosen.now → pieces offset bytes spans.items ≡ runs offset bytes chosen.now) }
+        ensures pieces { IfOk result (λ spans. AreRuns chosen.now spans.items) }
         ensures inside { IfOk result (λ spans. All (ends_by (length chosen.now)) spans.items) }
     {
         let mut spans = Vec::new(alloc);

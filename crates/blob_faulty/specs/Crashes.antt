@@ -4,15 +4,17 @@ use Rattle.std.specs.Global.{Global}
 use Rattle.rand_core.specs.Stream.{Stream}
 use Rattle.blob_model.specs.Directory.{Directory}
 use Rattle.blob_model.specs.Draws.{drawn, chosen_by}
-use Rattle.blob_model.specs.Durable.{Durable}
+use Rattle.blob_model.specs.Durable.{Durable, with_changed}
 use Rattle.blob_model.specs.Files.{Files, all_needs, after_crash}
 use Rattle.blob_model.specs.Holes.{in_holes}
 use Rattle.blob_model.specs.Order.{ArePlacesApart}
+use Rattle.blob_model.specs.Pending.{replay}
 use Rattle.blob_model.specs.Places.{Place}
 use Rattle.blob_model.specs.Stands.{replayed_at}
 use Rattle.blob_faults.specs.Lists.{held, list_of}
 use Rattle.blob_faults.specs.Ranges.{ranges}
 use Rattle.blob_faults.specs.Rows.{rows_in, table_of}
+use Rattle.blob_faults.specs.Views.{views}
 use Rattle.blob_faults.specs.declared.incarnation.Incarnation.{Incarnation}
 use Rattle.blob_faults.specs.declared.selections.Selections.{Selections}
 use Rattle.blob_faults.specs.declared.write.PendingWrite.{PendingWrite}
@@ -35,6 +37,14 @@ ReplaysPending before after kept = (o : Place) → durable (inner_of after) o �
 -- the same of the lists of the code, and their rows
 abbrev pub ReplaysLists : List (Incarnation Place) → List (ℕ × Vec Bool Global) → Durable → Durable → Type 0
 ReplaysLists lists rows before after = ArePlacesApart (held (λ o. o) lists) → (o : Place) → after o ≡ replayed_at (chosen_by (rows_in rows)) (list_of (λ o. o) lists o) (before o)
+
+-- one list of the code, over its incarnation
+abbrev pub ReplaysList : Incarnation Place → List (ℕ × Vec Bool Global) → Durable → Durable → Type 0
+ReplaysList list rows before after = (o : Place) → after o ≡ with_changed before list.origin (replay (views list.entries.items) (chosen_by (rows_in rows))) o
+
+-- of the bytes of a write at offset those stay chosen that don't lie where this says
+abbrev pub StaysChosen : ℕ → (ℕ → Bool) → List Bool → List Bool → Type 0
+StaysChosen offset covered old new = (i : ℕ) → i < length old → slice_index_or new i false ≡ (not (covered (offset + i)) && slice_index_or old i false)
 
 -- of each byte of a write the row's choice, but for those that a later durable range covers
 abbrev pub ChoosesUncovered : List Bool → PendingWrite → List Bool → Type 0

@@ -1,6 +1,6 @@
 -- What opens and removals leave of a wrapper, and what that makes of the files that it stands for.
 use Rattle.std.specs.Prelude.{◌≡◌, ℕ, ◌≤◌, Bool, false, List, [], cond, Option, Some, None, IsSome, MatchBool}
-use Rattle.std.specs.Range.{range_inclusive_start, range_inclusive_end, range_inclusive_exhausted}
+use Rattle.std.specs.Range.{range_inclusive_exhausted}
 use Rattle.std.specs.declared.ops.RangeInclusive.{RangeInclusive}
 use Rattle.rand_core.specs.Stream.{Stream}
 use Rattle.blob_base.specs.declared.storage.Durable as stores
@@ -11,18 +11,12 @@ use Rattle.blob_model.specs.Opening.{IsOpened}
 use Rattle.blob_model.specs.Pending.{Pending}
 use Rattle.blob_model.specs.Places.{Place}
 use Rattle.blob_header.specs.Refusals.{Refusal}
+use Rattle.blob_header.specs.Versions.{lower, upper}
 use Rattle.blob_header.specs.declared.version.BlobVersion.{BlobVersion}
 use Rattle.blob_faulty.specs.declared.storage.Storage.{Storage}
 use Rattle.blob_faults.specs.Answers.{Allowed, injected_or}
 use Rattle.blob_faults.specs.Faults.{draw}
 use Rattle.blob_faulty.specs.Wrapper.{inner_of, rng_of, config_of, pending_of, finished_by, KeepsNumbers, KeepsRecords, Stands}
-
--- the bounds of the versions that an open accepts
-abbrev pub lower : RangeInclusive BlobVersion → ℕ
-lower versions = (range_inclusive_start versions).0
-
-abbrev pub upper : RangeInclusive BlobVersion → ℕ
-upper versions = (range_inclusive_end versions).0
 
 -- a range of some versions, not iterated to its end
 pub record AreVersions (versions : RangeInclusive BlobVersion) : Type 0 where

@@ -2,7 +2,8 @@
 ghost use Rattle.std.specs.Prelude.{IfOk};
 ghost use Rattle.blob_header.specs.Refusals.{refused};
 ghost use Rattle.blob_faulty.specs.Admitted.{AdmitsOpen, FindsKept};
-ghost use Rattle.blob_faulty.specs.Names.{AreVersions, lower, upper};
+ghost use Rattle.blob_faulty.specs.Names.{AreVersions};
+ghost use Rattle.blob_header.specs.Versions.{lower, upper};
 
 use crate::blob::Blob;
 use crate::laws::names::opens;

@@ -4,7 +4,8 @@ ghost use Rattle.blob_header.specs.Refusals.{refused};
 ghost use Rattle.blob_faulty.specs.Admitted.{FindsKept};
 ghost use Rattle.blob_faulty.specs.Exclusive.{ExclusiveAnswer};
 ghost use Rattle.blob_faulty.specs.Keeps.{LosesNothing};
-ghost use Rattle.blob_faulty.specs.Names.{AreVersions, lower, upper};
+ghost use Rattle.blob_faulty.specs.Names.{AreVersions};
+ghost use Rattle.blob_header.specs.Versions.{lower, upper};
 ghost use Rattle.blob_opens.specs.OpenNames.{opened};
 ghost use Rattle.blob_opens.specs.Opens.{names_of, registration_of, store_handle as handle_of};
 

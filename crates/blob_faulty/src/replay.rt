@@ -1,15 +1,13 @@
 //! What a crash makes of the durable bytes. Where there is room for it, no memory is taken.
-ghost use Rattle.std.specs.Prelude.{◌≡◌, ◌<◌, ◌≤◌, ◌+◌, ℕ, false, not, ◌&&◌, length, slice_index_or, vec_capacity, All};
+ghost use Rattle.std.specs.Prelude.{◌≡◌, ◌<◌, ◌≤◌, ℕ, false, length, slice_index_or, vec_capacity, All};
 ghost use Rattle.blob_model.specs.Bytes.{between};
 ghost use Rattle.blob_model.specs.Draws.{chosen_by};
-ghost use Rattle.blob_model.specs.Durable.{with_changed};
 ghost use Rattle.blob_model.specs.Holes.{in_holes};
 ghost use Rattle.blob_model.specs.Pending.{has_marker, replay, replayed, end_of, ends};
-ghost use Rattle.blob_model.specs.Places.{Place};
 ghost use Rattle.blob_faults.specs.Lists.{held, held_by};
 ghost use Rattle.blob_faults.specs.Ranges.{ranges};
 ghost use Rattle.blob_faults.specs.Replays.{width, widest, widest_of_all};
-ghost use Rattle.blob_faulty.specs.Crashes.{ChoosesUncovered, ReplaysLists};
+ghost use Rattle.blob_faulty.specs.Crashes.{ChoosesUncovered, ReplaysList, ReplaysLists, StaysChosen};
 ghost use Rattle.blob_faulty.specs.Ready.{IsReady, CanReplay};
 ghost use Rattle.blob_faults.specs.Rows.{rows_in, AreNumbered};
 ghost use Rattle.blob_faults.specs.Views.{view, views};
@@ -40,7 +38,7 @@ fn put_row(chosen: &mut Vec<bool>, row: &[bool], len: usize)
 
 /// Nothing that a hole covers is chosen of the bytes at `offset`.
 fn uncover(chosen: &mut [bool], offset: u64, hole: Hole)
-    ensures { (i : ℕ) → i < length chosen.old → slice_index_or chosen.new i false ≡ (not (between hole.start hole.end (offset + i)) && slice_index_or chosen.old i false) }
+    ensures { StaysChosen offset (between hole.start hole.end) chosen.old chosen.new }
 {
     let start = hole.start.saturating_sub(offset) as usize;
     let end = (hole.end.saturating_sub(offset) as usize).min(chosen.len());
@@ -51,7 +49,7 @@ fn uncover(chosen: &mut [bool], offset: u64, hole: Hole)
 
 /// No byte in any of the holes is chosen.
 fn uncover_all(chosen: &mut [bool], offset: u64, holes: &[Hole])
-    ensures { (i : ℕ) → i < length chosen.old → slice_index_or chosen.new i false ≡ (not (in_holes (ranges holes.now) (offset + i)) && slice_index_or chosen.old i false) }
+    ensures { StaysChosen offset (in_holes (ranges holes.now)) chosen.old chosen.new }
 {
     for hole in holes {
         uncover(chosen, offset, *hole);
@@ -123,7 +121,7 @@ fn replay_list(
     requires numbered { AreNumbered rows.now }
     requires ready { IsReady inner.old (held_by (λ o. o) list.now) }
     requires width { widest (views list.now.entries.items) ≤ vec_capacity chosen.old }
-    ensures durable { (o : Place) → durable inner.new o ≡ with_changed (durable inner.old) list.now.origin (replay (views list.now.entries.items) (chosen_by (rows_in rows.now))) o }
+    ensures durable { ReplaysList list.now rows.now (durable inner.old) (durable inner.new) }
     ensures kept { KeepsRoom inner.old inner.new }
     ensures capacity { vec_capacity chosen.old ≤ vec_capacity chosen.new }
 {

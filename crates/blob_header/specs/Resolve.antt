@@ -85,6 +85,10 @@ abbrev pub AnswersAs : {T : Type 0} → Result T Error → Result T Refusal → 
 AnswersAs (Ok x) expected = expected ≡ Ok x
 AnswersAs (Err e) expected = (expected ≡ Err (refusal_of e)) ⊎ (IsErr expected × (refusal_of e ≡ Memory))
 
+-- what holds of each blob of this length that begins with these bytes
+abbrev pub OfBlobs : List ℕ → ℕ → (List ℕ → Type 0) → Type 0
+OfBlobs raw raw_len P = (blob : List ℕ) → length blob ≡ raw_len → raw ≡ take (length raw) blob → P blob
+
 -- the blob is to be created
 abbrev pub IsNoneSide : {A : Type 0} → Result (Option A) Failure → Type 0
 IsNoneSide (Ok None) = Unit {0}

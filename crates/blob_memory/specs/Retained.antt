@@ -1,8 +1,9 @@
 -- What the calls of a crash leave of a memory store.
-use Rattle.std.specs.Prelude.{◌≡◌, ℕ, ◌<◌, ◌≤◌, ◌^◌, List, Some, None, Result, OnOk, OnErr, IsOk, if◌then◌else◌, Vec, vec_capacity}
+use Rattle.std.specs.Prelude.{◌≡◌, ℕ, ◌+◌, ◌<◌, ◌≤◌, ◌^◌, Bool, List, Some, None, Result, OnOk, OnErr, IsOk, if◌then◌else◌, Vec, vec_capacity}
 use Rattle.std.specs.Global.{Global}
 use Rattle.blob_header.specs.declared.error.Error.{Error}
 use Rattle.blob_header.specs.Refusals.{refused, OffsetOverflow}
+use Rattle.blob_model.specs.Bytes.{reach}
 use Rattle.blob_model.specs.Durable.{with_changed}
 use Rattle.blob_model.specs.Places.{Place}
 use Rattle.blob_memory.specs.declared.storage.Storage.{Storage}
@@ -18,6 +19,10 @@ pub record KeepsRoom (s t : Storage) : Type 0 where
 pub record NeedsRoom {T : Type 0} (result : Result T Error) (s : Storage) (o : Place) (end need : ℕ) : Type 0 where
   pub allowed : OrMemory (if is_uncounted end then Some OffsetOverflow else None) (refused result)
   pub succeeds : end < 2 ^ 64 → HasCrashRoom s o need → IsOk result
+
+-- the same of a write of n bytes whose chosen ones are laid
+abbrev pub NeedsWriteRoom : {T : Type 0} → Result T Error → Storage → Place → ℕ → ℕ → (ℕ → Bool) → Type 0
+NeedsWriteRoom result s o offset n chosen = NeedsRoom result s o (offset + o.start + n) (reach offset n chosen)
 
 -- the durable bytes b of an incarnation are w now
 pub record Retakes (s t : Storage) (o : Place) (b w : Vec ℕ Global) : Type 0 where

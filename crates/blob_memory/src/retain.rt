@@ -2,7 +2,7 @@
 ghost use Rattle.std.specs.Prelude.{◌≡◌, ◌≤◌, ◌+◌, ℕ, OnOk, IfSome, is_some, length, vec_capacity};
 ghost use Rattle.std.specs.Borrow.{sem};
 ghost use Rattle.std.specs.Option.{option_copied_mut};
-ghost use Rattle.blob_model.specs.Bytes.{overlay_by, reach, resized};
+ghost use Rattle.blob_model.specs.Bytes.{overlay_by, resized};
 ghost use Rattle.blob_model.specs.Directory.{is_current};
 ghost use Rattle.blob_model.specs.Runs.{picked};
 
@@ -14,7 +14,7 @@ use crate::storage::Storage;
 use blob_base::{Error, IoBufs};
 
 impl Storage {
-    ghost use Rattle.blob_memory.specs.Retained.{KeepsRoom, NeedsRoom, Retains};
+    ghost use Rattle.blob_memory.specs.Retained.{KeepsRoom, NeedsRoom, NeedsWriteRoom, Retains};
     ghost use Rattle.blob_memory.specs.Contents.{items_of};
     ghost use Rattle.blob_memory.specs.StorageLends.{LendsKept};
     ghost use Rattle.blob_memory.specs.Store.{directory, durable, HasCrashRoom};
@@ -35,7 +35,7 @@ impl Storage {
         keep: &[bool],
     ) -> Result<(), Error>
         requires { length keep.now ≡ length bytes.now }
-        ensures room { NeedsRoom result self.old origin.now (offset + origin.now.start + length bytes.now) (reach offset (length bytes.now) (picked keep.now)) }
+        ensures room { NeedsWriteRoom result self.old origin.now offset (length bytes.now) (picked keep.now) }
         ensures retained { Retains result self.old self.new origin.now (λ x. overlay_by x offset bytes.now (picked keep.now)) }
     {
         logical_end(origin.data_offset(), offset, bytes.remaining())?;
@@ -98,7 +98,7 @@ impl Storage {
 }
 
 impl Blob {
-    ghost use Rattle.blob_memory.specs.Retained.{NeedsRoom, Retains};
+    ghost use Rattle.blob_memory.specs.Retained.{NeedsRoom, NeedsWriteRoom, Retains};
     ghost use Rattle.blob_memory.specs.Store.{place};
 
     /// Lays the chosen bytes of a write at the logical `offset` over the durable bytes of the handle's incarnation, which grow only
@@ -115,7 +115,7 @@ impl Blob {
         keep: &[bool],
     ) -> Result<(), Error>
         requires { length keep.now ≡ length bytes.now }
-        ensures room { NeedsRoom result store.old (place self.now) (offset + (place self.now).start + length bytes.now) (reach offset (length bytes.now) (picked keep.now)) }
+        ensures room { NeedsWriteRoom result store.old (place self.now) offset (length bytes.now) (picked keep.now) }
         ensures retained { Retains result store.old store.new (place self.now) (λ x. overlay_by x offset bytes.now (picked keep.now)) }
     {
         store.retain_write(&self.origin, offset, bytes, keep)

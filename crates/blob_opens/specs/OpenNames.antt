@@ -1,5 +1,5 @@
 -- Which names of blobs are open, by what was done to them. Of a list of deeds the newest comes first.
-use Rattle.std.specs.Prelude.{◌≡◌, ℕ, ◌+◌, ◌-◌, ◌^◌, List, [], ◌∷◌, ◌==◌, if◌then◌else◌, Option, Some, None, ◌<◌}
+use Rattle.std.specs.Prelude.{◌≡◌, ◌≢◌, ℕ, ◌+◌, ◌-◌, ◌^◌, List, [], ◌∷◌, ◌==◌, if◌then◌else◌, Option, Some, None, ◌<◌}
 use Rattle.hex.specs.Hex.{encode_lower}
 use Rattle.blob_header.specs.Refusals.{Refusal, BlobAlreadyOpen, GenerationsExhausted, Memory}
 use Rattle.blob_names.specs.Names.{with_name, with_all_names}
@@ -25,6 +25,10 @@ pub data Deed : Type 0 where
   Ended : List ℕ → Option (List ℕ) → Deed
   -- the store was built anew
   Rebuilt : Deed
+
+-- a name held by the next number, which isn't counted yet
+abbrev pub with_registration : OpenNames → List ℕ → List ℕ → OpenNames
+with_registration s p n = record s { registered = with_name s.registered p n (Some s.next) }
 
 abbrev pub opened : OpenNames → List ℕ → List ℕ → OpenNames
 opened s p n = record { registered = with_name s.registered p n (Some s.next); next = s.next + 1 }
@@ -67,3 +71,8 @@ pub data OpenAnswer (s : OpenNames) (p n : List ℕ) (asked : Option Refusal →
   Declined : (refusal : Refusal) → (IsExhausted s p n → ⊥) → asked (Some refusal) → kept → OpenAnswer s p n asked made kept untouched (Some refusal)
   NoMemory : untouched → OpenAnswer s p n asked made kept untouched (Some Memory)
   NoNumber : IsExhausted s p n → untouched → OpenAnswer s p n asked made kept untouched (Some GenerationsExhausted)
+
+-- the close of a handle ends no open but its own
+abbrev pub ClosesNoOther : Type 0
+ClosesNoOther = (h : List Deed) (r : Registration) (p n : List ℕ) (number : ℕ) → (after_deeds h).registered p n ≡ Some number → number ≢ r.number
+    → (after_deeds (Closed r ∷ h)).registered p n ≡ Some number

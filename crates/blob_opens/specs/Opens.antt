@@ -1,5 +1,12 @@
 -- What the registry of open names shows.
-use Rattle.std.specs.Prelude.{ℕ, List}
+use Rattle.std.specs.Prelude.{◌≡◌, ℕ, List, Option}
+use Rattle.std.specs.declared.ops.RangeInclusive.{RangeInclusive}
+use Rattle.blob_base.specs.Stores.{OpensBlob}
+use Rattle.blob_base.specs.declared.storage.Blob as handles
+use Rattle.blob_base.specs.declared.storage.Durable as stores
+use Rattle.blob_header.specs.Refusals.{Refusal}
+use Rattle.blob_header.specs.Versions.{lower, upper}
+use Rattle.blob_header.specs.declared.version.BlobVersion.{BlobVersion}
 use Rattle.blob_model.specs.Directory.{Directory}
 use Rattle.blob_model.specs.Durable.{Durable}
 use Rattle.blob_model.specs.Opening.{IsOpened}
@@ -7,7 +14,7 @@ use Rattle.blob_model.specs.Places.{Place}
 use Rattle.blob_opens.specs.declared.open.Blob.{Blob}
 use Rattle.blob_opens.specs.declared.opens.Opens.{Opens}
 use Rattle.blob_names.specs.Names.{at}
-use Rattle.blob_opens.specs.OpenNames.{OpenNames, Registration}
+use Rattle.blob_opens.specs.OpenNames.{OpenAnswer, OpenNames, Registration}
 
 -- the open names and the next number
 abbrev pub names_of : Opens → OpenNames
@@ -27,3 +34,15 @@ pub record IsMade (d : Directory) (durable : Durable) (d' : Directory) (durable'
   pub live : List ℕ
   pub version : ℕ
   pub is : IsOpened d durable d' durable' p n first last place live version
+
+-- an open for these versions answered this handle, whose incarnation and live bytes are the store's own handle's, and this version
+abbrev pub OpensHandle : {S O B : Type 0} → stores.Ghosts S O → handles.Ghosts B S O → S → S → List ℕ → List ℕ → ℕ → ℕ → Blob B → ℕ → Type 0
+OpensHandle store handle s s' p n first last b version = OpensBlob store handle s s' p n first last (store_handle b) version
+
+-- what an open through the registry answers, by the names that were open, what the store allows of its own open and what that leaves
+abbrev pub RegistryOpens : {S O : Type 0} → stores.Ghosts S O → (S → List ℕ → List ℕ → ℕ → ℕ → Option Refusal → Type 0)
+    → (S → List ℕ → List ℕ → ℕ → ℕ → Option Refusal → S → Type 0) → Opens → S → S → List ℕ → List ℕ → RangeInclusive BlobVersion → Option Refusal → Type 0
+RegistryOpens store allows leaves opens s s' p n versions =
+    OpenAnswer (names_of opens) p n (λ answer. allows s p n (lower versions) (upper versions) answer × leaves s p n (lower versions) (upper versions) answer s')
+    (IsMade (store.directory s) (store.durable s) (store.directory s') (store.durable s') p n (lower versions) (upper versions))
+    ((store.directory s' ≡ store.directory s) × (store.durable s' ≡ store.durable s)) (s' ≡ s)

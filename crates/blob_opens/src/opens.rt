@@ -1,14 +1,13 @@
 //! Exclusive opens.
 ghost use Rattle.std.specs.Prelude.{◌≡◌, ◌≢◌, ◌≤◌, ◌+◌, ◌-◌, ◌^◌, ◌⊎◌, ℕ, Some, None, OnOk, OnErr, IfOk, IfErr, length, option_copied, is_some, false, ◌<◌};
-ghost use Rattle.std.specs.Range.{range_inclusive_start, range_inclusive_end, range_inclusive_exhausted};
+ghost use Rattle.std.specs.Range.{range_inclusive_exhausted};
 ghost use Rattle.hex.specs.Hex.{encode_lower};
 ghost use Rattle.blob_model.specs.Directory.{removed};
 ghost use Rattle.blob_model.specs.Durable.{durable_without};
-ghost use Rattle.blob_model.specs.Opening.{IsOpened};
 ghost use Rattle.blob_header.specs.Refusals.{refused, refusal_of, Memory, BlobAlreadyOpen, GenerationsExhausted, IsMemory};
-ghost use Rattle.blob_opens.specs.OpenNames.{opened, closed, ended, none_open, IsExhausted, OpenAnswer};
-ghost use Rattle.blob_names.specs.Names.{with_name};
-ghost use Rattle.blob_opens.specs.Opens.{names_of, registration_of, store_handle, IsMade};
+ghost use Rattle.blob_header.specs.Versions.{lower, upper};
+ghost use Rattle.blob_opens.specs.OpenNames.{opened, closed, ended, none_open, with_registration, IsExhausted};
+ghost use Rattle.blob_opens.specs.Opens.{names_of, registration_of, store_handle, OpensHandle, RegistryOpens};
 
 pub mod history;
 
@@ -58,13 +57,13 @@ impl Opens {
         versions: RangeInclusive<BlobVersion>,
     ) -> Result<(Blob<S::Blob>, u64, BlobVersion), Error>
         requires fresh { range_inclusive_exhausted versions ≡ false }
-        requires some { (range_inclusive_start versions).0 ≤ (range_inclusive_end versions).0 }
-        ensures answer { OpenAnswer (names_of self.old) partition.now name.now (λ answer. S.allows_open store.old partition.now name.now (range_inclusive_start versions).0 (range_inclusive_end versions).0 answer × S.leaves_open store.old partition.now name.now (range_inclusive_start versions).0 (range_inclusive_end versions).0 answer store.new) (IsMade (S.directory store.old) (S.durable store.old) (S.directory store.new) (S.durable store.new) partition.now name.now (range_inclusive_start versions).0 (range_inclusive_end versions).0) ((S.directory store.new ≡ S.directory store.old) × (S.durable store.new ≡ S.durable store.old)) (store.new ≡ store.old) (refused result) }
+        requires some { lower versions ≤ upper versions }
+        ensures answer { RegistryOpens S.Durable S.allows_open S.leaves_open self.old store.old store.new partition.now name.now versions (refused result) }
         ensures exhausted { IsExhausted (names_of self.old) partition.now name.now → refused result ≡ Some GenerationsExhausted }
         ensures registered { OnOk result (names_of self.new ≡ opened (names_of self.old) partition.now name.now) }
         ensures err { OnErr result (names_of self.new ≡ names_of self.old) }
         ensures handle { IfOk result (λ opened. registration_of opened.0 ≡ record { partition = partition.now; name = name.now; number = (names_of self.old).next }) }
-        ensures opened { IfOk result (λ opened. IsOpened (S.directory store.old) (S.durable store.old) (S.directory store.new) (S.durable store.new) partition.now name.now (range_inclusive_start versions).0 (range_inclusive_end versions).0 (S.Blob.place (store_handle opened.0)) (S.Blob.live (store_handle opened.0)) opened.2.0) }
+        ensures opened { IfOk result (λ o. OpensHandle S.Durable S.Blob.Blob store.old store.new partition.now name.now (lower versions) (upper versions) o.0 o.2.0) }
         ensures size { IfOk result (λ opened. opened.1 ≡ length (S.Blob.live (store_handle opened.0))) }
         ensures kept_size { IfOk result (λ opened. S.keeps_size (store_handle opened.0) opened.1) }
     {
@@ -176,7 +175,7 @@ impl Opens {
         requires { (names_of self.old).registered partition.now name.now ≡ None }
         ensures ok { IfOk result (λ r. r ≡ record { partition = partition.now; name = name.now; number = (names_of self.old).next }) }
         ensures left { OnOk result ((names_of self.old).next < 2 ^ 64 - 1) }
-        ensures registered { OnOk result (names_of self.new ≡ record { registered = with_name (names_of self.old).registered partition.now name.now (Some (names_of self.old).next); next = (names_of self.old).next }) }
+        ensures registered { OnOk result (names_of self.new ≡ with_registration (names_of self.old) partition.now name.now) }
         ensures exhausted { (names_of self.old).next ≡ 2 ^ 64 - 1 → refused result ≡ Some GenerationsExhausted }
         ensures refused { IfErr result (λ e. (refusal_of e ≡ Memory) ⊎ ((refusal_of e ≡ GenerationsExhausted) × ((names_of self.old).next ≡ 2 ^ 64 - 1))) }
         ensures err { OnErr result (names_of self.new ≡ names_of self.old) }

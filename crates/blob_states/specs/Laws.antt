@@ -15,13 +15,14 @@ use Rattle.blob_faults.specs.Faults.{draw}
 use Rattle.blob_memory.specs.Answers.{missing}
 use Rattle.blob_calls.specs.declared.call.Call.{Call}
 use Rattle.blob_calls.specs.declared.reply.Reply.{Reply}
-use Rattle.blob_calls.specs.Acts.{Act, Ask, Crash, Open, Remove, Reopen, Size, Through}
+use Rattle.blob_calls.specs.Acts.{Act, Ask, Crash, Open, Remove, Reopen, Size, StartSync, Through}
 use Rattle.blob_calls.specs.Told as told
 use Rattle.blob_states.specs.Accepted.{Accepts, HasFileOf, IsKept, IsToldOf, OpensAs, removes}
 use Rattle.blob_states.specs.After.{after, files_after}
 use Rattle.blob_states.specs.Answers.{answer, found_at, kept_at}
-use Rattle.blob_states.specs.Denials.{start_denial}
-use Rattle.blob_states.specs.Reached.{Reached}
+use Rattle.blob_states.specs.Denials.{start_denial, sync_denial}
+use Rattle.blob_states.specs.Fixed.{Persists}
+use Rattle.blob_states.specs.Reached.{NoneLoose, Reached, ReachedExclusively}
 use Rattle.blob_states.specs.Runs.{LeadsTo}
 use Rattle.blob_states.specs.States.{Held, State}
 
@@ -76,10 +77,33 @@ abbrev pub StaleStartIsRefused : Type 0
 StaleStartIsRefused = (v : State) (h : Held) → is_current v.files.directory h.place ≡ false → (draw v.config.sync_rate v.stream).0 ≡ false
     → v.files.next_marker ≢ 2 ^ 64 - 1 → start_denial v h ≡ Some (missing h.place)
 
+-- so is its sync
+abbrev pub StaleSyncIsRefused : Type 0
+StaleSyncIsRefused = (v : State) (h : Held) → is_current v.files.directory h.place ≡ false → (draw v.config.sync_rate v.stream).0 ≡ false
+    → sync_denial v h ≡ Some (missing h.place)
+
+-- whatever refuses a started sync of a stale handle, it begins nothing
+abbrev pub StaleStartBeginsNothing : Type 0
+StaleStartBeginsNothing = (v : State) (h : Held) (refusal : Option Refusal) → is_current v.files.directory h.place ≡ false
+    → files_after v h StartSync refusal ≡ v.files
+
 -- a run after another is one run
 abbrev pub RunsGoOn : Type 0
 RunsGoOn = (v w u : State) (calls more : List Call) (replies rest : List Reply) → LeadsTo v calls replies w → LeadsTo w more rest u
     → LeadsTo v (calls ++ more) (replies ++ rest) u
+
+-- what is reached by calls whose opens are all exclusive leads on to such states by such calls
+abbrev pub ExclusiveRunsGoOn : Type 0
+ExclusiveRunsGoOn = (v w : State) (calls : List Call) (replies : List Reply) → ReachedExclusively v → NoneLoose calls → LeadsTo v calls replies w → ReachedExclusively w
+
+-- and each byte that one of these fixes persists
+abbrev pub FixedBytesPersist : Type 0
+FixedBytesPersist = (v w : State) (calls : List Call) (replies : List Reply) → ReachedExclusively v → NoneLoose calls → LeadsTo v calls replies w → Persists v calls replies
+
+-- a handle on its name's current incarnation tracks the length of its live bytes
+abbrev pub CurrentSizeIsTracked : Type 0
+CurrentSizeIsTracked = (v : State) (number : ℕ) (h : Held) → Reached v → kept_at v.handles number ≡ Some h → is_current v.files.directory h.place ≡ true
+    → h.size ≡ length h.live
 
 -- a handle on its name's current incarnation is told the length of its live bytes
 abbrev pub CurrentSizeIsTold : Type 0

@@ -1,24 +1,20 @@
 //! What follows for the states of a laboratory, whatever calls came before. Each law is carried by a function that does
 //! nothing: its contract is the law.
 
-ghost use Rattle.std.specs.Prelude.{◌≡◌, ◌≤◌, List, [], false, Option, Some, None, length};
+ghost use Rattle.std.specs.Prelude.{◌≡◌, ◌≤◌, List, [], Option, None, length};
 ghost use Rattle.rand_core.specs.Stream.{Stream};
-ghost use Rattle.blob_model.specs.Directory.{is_current};
 ghost use Rattle.blob_model.specs.Draws.{drawn};
 ghost use Rattle.blob_model.specs.Files.{Files, all_needs, durable_at};
 ghost use Rattle.blob_model.specs.Places.{Place};
 ghost use Rattle.blob_header.specs.Refusals.{Refusal};
-ghost use Rattle.blob_faults.specs.Faults.{draw};
 ghost use Rattle.blob_faults.specs.declared.config.Config.{Config};
-ghost use Rattle.blob_memory.specs.Answers.{missing};
-ghost use Rattle.blob_calls.specs.Acts.{Act, Ask, StartSync, Crash};
+ghost use Rattle.blob_calls.specs.Acts.{Act, Ask, Crash};
 ghost use Rattle.blob_states.specs.After.{after, files_after};
 ghost use Rattle.blob_states.specs.Answers.{answer};
-ghost use Rattle.blob_states.specs.Denials.{sync_denial};
 ghost use Rattle.blob_states.specs.Exclusive.{HoldNames, Sole};
 ghost use Rattle.blob_opens.specs.OpenNames.{Registration};
-ghost use Rattle.blob_states.specs.Laws.{AskKeepsOtherFiles, CrashAgainChangesNothing, CrashReplaysTheLog, RemovalKeepsBases, RemovalKeepsOtherFiles, RemovalKeepsOtherLogs, RunsGoOn, StaleAskChangesNothing, StaleStartIsRefused, StaleStaysForEver, StaleStaysStale};
-ghost use Rattle.blob_states.specs.Reached.{NoneLoose, Reached, ReachedExclusively};
+ghost use Rattle.blob_states.specs.Laws.{AskKeepsOtherFiles, CrashAgainChangesNothing, CrashReplaysTheLog, ExclusiveRunsGoOn, RemovalKeepsBases, RemovalKeepsOtherFiles, RemovalKeepsOtherLogs, RunsGoOn, StaleAskChangesNothing, StaleStartBeginsNothing, StaleStartIsRefused, StaleStaysForEver, StaleStaysStale, StaleSyncIsRefused};
+ghost use Rattle.blob_states.specs.Reached.{Reached, ReachedExclusively};
 ghost use Rattle.blob_states.specs.Runs.{LeadsTo};
 ghost use Rattle.blob_states.specs.Scripted.{Words};
 ghost use Rattle.blob_states.specs.States.{State, Held, Image, held_on, start};
@@ -69,9 +65,9 @@ pub fn asks()
     ensures directory { (v : State) (h : Held) (ask : Ask) (refusal : Option Refusal) → (files_after v h ask refusal).directory ≡ v.files.directory }
     ensures others { AskKeepsOtherFiles }
     ensures stale { StaleAskChangesNothing }
-    ensures stale_sync { (v : State) (h : Held) → is_current v.files.directory h.place ≡ false → (draw v.config.sync_rate v.stream).0 ≡ false → sync_denial v h ≡ Some (missing h.place) }
+    ensures stale_sync { StaleSyncIsRefused }
     ensures stale_start { StaleStartIsRefused }
-    ensures stale_begun { (v : State) (h : Held) (refusal : Option Refusal) → is_current v.files.directory h.place ≡ false → files_after v h StartSync refusal ≡ v.files }
+    ensures stale_begun { StaleStartBeginsNothing }
 {}
 
 /// Where calls lead to whose opens are all exclusive, a current incarnation has one open handle at most, and the name of
@@ -87,5 +83,5 @@ pub fn runs_go_on()
     ensures runs { RunsGoOn }
     ensures start { (images : List Image) (words : Words) (config : Config) → ReachedExclusively (start images words config) }
     ensures reached { (v w : State) (calls : List Call) (replies : List Reply) → Reached v → LeadsTo v calls replies w → Reached w }
-    ensures exclusively { (v w : State) (calls : List Call) (replies : List Reply) → ReachedExclusively v → NoneLoose calls → LeadsTo v calls replies w → ReachedExclusively w }
+    ensures exclusively { ExclusiveRunsGoOn }
 {}

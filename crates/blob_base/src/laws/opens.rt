@@ -1,10 +1,8 @@
 //! What an accepted open leaves, in any store.
 
-ghost use Rattle.std.specs.Prelude.{◌≡◌, ◌<◌, ◌≤◌, ℕ, List, [], Some, None};
-ghost use Rattle.blob_model.specs.Directory.{Directory, current};
-ghost use Rattle.blob_model.specs.Durable.{Durable};
-ghost use Rattle.blob_model.specs.Opened.{IsNamed, GoesOn};
-ghost use Rattle.blob_model.specs.Opening.{IsOpened};
+ghost use Rattle.std.specs.Prelude.{◌≡◌, ◌<◌, ℕ, List, Some};
+ghost use Rattle.blob_model.specs.Directory.{current};
+ghost use Rattle.blob_model.specs.Opened.{OpensAreNamed, OpensAreCurrent, OpensAreDurable, CurrentGoesOn, NumbersDontFall, OneVersionIsAnswered, MissingNamesBeginEmpty};
 ghost use Rattle.blob_model.specs.Places.{Place};
 
 use crate::Durable as Shows;
@@ -13,20 +11,13 @@ use crate::Durable as Shows;
 /// durable bytes are the handle's live ones. An incarnation that was current goes on, and nothing changes. A name that has no
 /// file begins without bytes. Numbers don't fall. An open for one version answers that version.
 pub fn accepted_opens()
-    ensures named { (before after : Directory) (bytes bytes_after : Durable) (p n : List ℕ) (first last : ℕ) (o : Place) (live : List ℕ) (version : ℕ) →
-        IsOpened before bytes after bytes_after p n first last o live version → IsNamed o p n }
-    ensures current { (before after : Directory) (bytes bytes_after : Durable) (p n : List ℕ) (first last : ℕ) (o : Place) (live : List ℕ) (version : ℕ) →
-        IsOpened before bytes after bytes_after p n first last o live version → current after p n ≡ Some o }
-    ensures durable { (before after : Directory) (bytes bytes_after : Durable) (p n : List ℕ) (first last : ℕ) (o : Place) (live : List ℕ) (version : ℕ) →
-        IsOpened before bytes after bytes_after p n first last o live version → bytes_after o ≡ Some live }
-    ensures goes_on { (before after : Directory) (bytes bytes_after : Durable) (p n : List ℕ) (first last : ℕ) (o : Place) (live : List ℕ) (version : ℕ) (a : Place) →
-        IsOpened before bytes after bytes_after p n first last o live version → current before p n ≡ Some a → GoesOn before after bytes bytes_after a o live }
-    ensures next { (before after : Directory) (bytes bytes_after : Durable) (p n : List ℕ) (first last : ℕ) (o : Place) (live : List ℕ) (version : ℕ) →
-        IsOpened before bytes after bytes_after p n first last o live version → before.next ≤ after.next }
-    ensures one_version { (before after : Directory) (bytes bytes_after : Durable) (p n : List ℕ) (v : ℕ) (o : Place) (live : List ℕ) (version : ℕ) →
-        IsOpened before bytes after bytes_after p n v v o live version → version ≡ v }
-    ensures missing_names_begin_empty { (before after : Directory) (bytes bytes_after : Durable) (p n : List ℕ) (first last : ℕ) (o : Place) (live : List ℕ) (version : ℕ) →
-        IsOpened before bytes after bytes_after p n first last o live version → before.file p n ≡ None → live ≡ [] }
+    ensures named { OpensAreNamed }
+    ensures current { OpensAreCurrent }
+    ensures durable { OpensAreDurable }
+    ensures goes_on { CurrentGoesOn }
+    ensures next { NumbersDontFall }
+    ensures one_version { OneVersionIsAnswered }
+    ensures missing_names_begin_empty { MissingNamesBeginEmpty }
 {}
 
 /// The number of a current incarnation was given: the next one is above it.

@@ -1,11 +1,11 @@
 // Open names by what was done to them.
-ghost use Rattle.std.specs.Prelude.{◌≡◌, ◌≢◌, ℕ, List, ◌∷◌, Some, ◌<◌};
-ghost use Rattle.blob_opens.specs.OpenNames.{Deed, Registration, Closed, after_deeds};
+ghost use Rattle.std.specs.Prelude.{◌≡◌, ℕ, List, Some, ◌<◌};
+ghost use Rattle.blob_opens.specs.OpenNames.{ClosesNoOther, Deed, after_deeds};
 
 /// Does nothing: its contract is a law of all histories.
 ///
 /// An open's number is below the next one, so no later open gets it, and the close of a handle ends no open but its own.
 pub fn a_close_ends_its_own_open()
     ensures below { (h : List Deed) (p n : List ℕ) (number : ℕ) → (after_deeds h).registered p n ≡ Some number → number < (after_deeds h).next }
-    ensures others { (h : List Deed) (r : Registration) (p n : List ℕ) (number : ℕ) → (after_deeds h).registered p n ≡ Some number → number ≢ r.number → (after_deeds (Closed r ∷ h)).registered p n ≡ Some number }
+    ensures others { ClosesNoOther }
 {}

@@ -2,7 +2,7 @@ use Rattle.std.proofs.Common.{◌≡◌, Some, rules}
 use Rattle.std.proofs.lemmas.Bool.{false≢true}
 use Rattle.blob_header.specs.Refusals.{refused, refusal_of}
 use Rattle.blob_faulty.specs.Admitted.{OpensAlone, StaysSame}
-use Rattle.blob_faulty.specs.Names.{lower, upper}
+use Rattle.blob_header.specs.Versions.{lower, upper}
 use Rattle.blob_memory.specs.Store.{directory, durable}
 use Rattle.blob_faulty.proofs.AdmittedOpens.{leaves_admitted, leaves_alone, finds_kept}
 use Rattle.blob_faulty.proofs.Keeping.{keeps_open, keeps_same}

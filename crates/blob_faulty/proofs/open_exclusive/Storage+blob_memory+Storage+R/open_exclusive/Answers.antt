@@ -3,7 +3,8 @@ use Rattle.blob_header.specs.Refusals.{refused, refusal_of}
 use Rattle.blob_opens.specs.Opens.{names_of}
 use Rattle.blob_faulty.specs.Admitted.{OpensAlone}
 use Rattle.blob_faulty.specs.Exclusive.{ExclusiveAnswer}
-use Rattle.blob_faulty.specs.Names.{OpenLeaves, lower, upper}
+use Rattle.blob_faulty.specs.Names.{OpenLeaves}
+use Rattle.blob_header.specs.Versions.{lower, upper}
 use Rattle.blob_faulty.proofs.AdmittedOpens.{leaves_admitted, files_admitted, finds_kept}
 use Rattle.blob_faulty.proofs.Exclusives.{asked, told_admitted, told_refused, keeps_refused}
 use Rattle.blob_faulty.proofs.open_exclusive.Storage+blob_memory+Storage+R.open_exclusive.Given.{Over}
