@@ -37,6 +37,7 @@ answered k asked made k' line act ran old new asks kept reply makes same tells =
       no_reply = tells.no_reply;
       within = tells.within;
       unwritten = tells.unwritten;
+      behind = tells.behind;
     }
 
 pub declined : (k k' : Kept) (line : List ℕ) (ran : Ran) (room : List ℕ) → ran ≡ record { status = BAD_LINE; len = 0 } → IsNoCall line → k' ≡ k → RunsLine k k' line ran room room
@@ -51,4 +52,5 @@ declined k k' line ran room is bad same =
       no_reply = inr (inr none);
       within = inr (omega (arith, none));
       unwritten = inr refl;
+      behind = refl;
     }

@@ -1,5 +1,5 @@
 -- What a session holds, and what its calls do to that.
-use Rattle.std.specs.Prelude.{◌≡◌, ◌≢◌, ◌⊎◌, ◌<◌, ◌≤◌, ℕ, List, [], Bool, length, take, Option, Some, None, IfSome, MatchOption}
+use Rattle.std.specs.Prelude.{◌≡◌, ◌≢◌, ◌⊎◌, ◌<◌, ◌≤◌, ℕ, List, [], Bool, length, take, drop, Option, Some, None, IfSome, MatchOption}
 use Rattle.blob_faults.specs.declared.config.Config.{Config}
 use Rattle.blob_calls.specs.declared.script.setting.Setting.{Setting}
 use Rattle.blob_calls.specs.declared.reply.Reply.{Reply}
@@ -53,6 +53,8 @@ pub record RunsLine (k k' : Kept) (line : List ℕ) (ran : Ran) (old new : List 
   -- a length beyond the room is told where room is wanted, and nowhere else
   pub within : (ran.status ≡ NO_ROOM) ⊎ (ran.len ≤ length old)
   pub unwritten : (ran.status ≡ DONE) ⊎ (new ≡ old)
+  -- behind the reply the caller's room is as it was
+  pub behind : drop ran.len new ≡ drop ran.len old
 
 -- the last reply once more; of no call yet it has no bytes
 pub record TellsAgain (k k' : Kept) (ran : Ran) (old new : List ℕ) : Type 0 where
@@ -63,6 +65,8 @@ pub record TellsAgain (k k' : Kept) (ran : Ran) (old new : List ℕ) : Type 0 wh
   -- a length beyond the room is told where room is wanted, and nowhere else
   pub within : (ran.status ≡ NO_ROOM) ⊎ (ran.len ≤ length old)
   pub unwritten : (ran.status ≡ DONE) ⊎ (new ≡ old)
+  -- behind the reply the caller's room is as it was
+  pub behind : drop ran.len new ≡ drop ran.len old
   -- nothing changes but the text that replies are printed into
   pub lab : k'.lab ≡ k.lab
   pub config : k'.config ≡ k.config

@@ -3,7 +3,7 @@
 //! The header `bindings/c/blobcrash.h` says what callers owe: no check reaches them.
 #![tactic(auto)]
 
-ghost use Rattle.std.specs.Prelude.{◌≡◌, ◌⊎◌, ◌<◌, ◌≤◌, Some, None, IsSome, IfSome, [], take, length};
+ghost use Rattle.std.specs.Prelude.{◌≡◌, ◌⊎◌, ◌<◌, ◌≤◌, Some, None, IsSome, IfSome, [], take, drop, length};
 ghost use Rattle.blob_lab.specs.Scripts.{Prints, PrintsBefore, no_script, lines_of, script_of};
 ghost use Rattle.blob_c.specs.Preambles.{BreaksAt, IsMadeOf};
 ghost use Rattle.blob_c.specs.Sessions.{RunsLine, ReadsInto, AnswersWrite, IsClosed, OnHeld, TellsAgain, kept_of};
@@ -21,7 +21,7 @@ use ran::{BAD_LINE, CLOSED, DONE, ENDLESS, NO_MEMORY, NO_ROOM, Ran, ScriptRan};
 use session::Session;
 use std::alloc::Global;
 
-/// Runs a script, and writes its replies to the front of `replies`, a line each.
+/// Runs a script, and writes its replies to the front of `replies`, a line each. What is behind them stays as it was.
 ///
 /// `BAD_LINE` tells the line's number, and writes the replies before it. `NO_ROOM` writes nothing and tells how much room
 /// is wanted, and of a bad line, before which that is, the number; `NO_MEMORY` and `ENDLESS` write nothing.
@@ -34,6 +34,7 @@ pub extern "C" fn blobcrash_run(alloc: Global, script: &[u8], replies: &mut [u8]
     ensures no_line { result.status ≡ DONE → result.line ≡ 0 }
     ensures stopped { (result.status ≡ NO_MEMORY) ⊎ (result.status ≡ ENDLESS) → (result.len ≡ 0) × (result.line ≡ 0) }
     ensures unwritten { (result.status ≡ DONE) ⊎ (result.status ≡ BAD_LINE) ⊎ (replies.new ≡ replies.old) }
+    ensures behind { drop result.len replies.new ≡ drop result.len replies.old }
     ensures within { (result.status ≡ NO_ROOM) ⊎ (result.len ≤ length replies.old) }
     ensures status { (result.status ≡ DONE) ⊎ (result.status ≡ BAD_LINE) ⊎ (result.status ≡ NO_ROOM) ⊎ (result.status ≡ NO_MEMORY) ⊎ (result.status ≡ ENDLESS) }
 {
@@ -72,8 +73,8 @@ pub extern "C" fn blobcrash_open(alloc: Global, session: &mut Session, preamble:
     ScriptRan::stopped(DONE)
 }
 
-/// Makes the call that a line says, and writes its reply to the front of `reply`, without a line's end. An empty line and
-/// a comment are answered with no bytes.
+/// Makes the call that a line says, and writes its reply to the front of `reply`, without a line's end. What is behind it
+/// stays as it was. An empty line and a comment are answered with no bytes.
 ///
 /// `NO_ROOM` and `UNPRINTED`: the call was made, and `blobcrash_reply` tells its reply. `BAD_LINE` and `NO_MEMORY` change
 /// nothing; a call that was refused memory is `DONE`, and its reply says so.

@@ -1,5 +1,5 @@
 // A whole script at once.
-ghost use Rattle.std.specs.Prelude.{◌≡◌, ◌⊎◌, ◌<◌, ◌≤◌, ℕ, Some, [], take, length};
+ghost use Rattle.std.specs.Prelude.{◌≡◌, ◌⊎◌, ◌<◌, ◌≤◌, ℕ, Some, [], take, drop, length};
 ghost use Rattle.blob_lab.specs.Scripts.{Prints, PrintsBefore, no_script, lines_of, script_of};
 ghost use Rattle.blob_c.specs.WholeScripts.{WantsRoom};
 
@@ -17,6 +17,7 @@ pub(crate) fn run(alloc: Global, script: &[u8], replies: &mut [u8]) -> ScriptRan
     ensures no_line { result.status ≡ DONE → result.line ≡ 0 }
     ensures stopped { (result.status ≡ NO_MEMORY) ⊎ (result.status ≡ ENDLESS) → (result.len ≡ 0) × (result.line ≡ 0) }
     ensures unwritten { (result.status ≡ DONE) ⊎ (result.status ≡ BAD_LINE) ⊎ (replies.new ≡ replies.old) }
+    ensures behind { drop result.len replies.new ≡ drop result.len replies.old }
     ensures within { (result.status ≡ NO_ROOM) ⊎ (result.len ≤ length replies.old) }
     ensures status { (result.status ≡ DONE) ⊎ (result.status ≡ BAD_LINE) ⊎ (result.status ≡ NO_ROOM) ⊎ (result.status ≡ NO_MEMORY) ⊎ (result.status ≡ ENDLESS) }
 {
