@@ -171,9 +171,10 @@ def scratch(folder):
         file.writelines(f"{crate}: {' '.join(below[crate])}\n" for crate in sorted(crates | {"blob_names"}))
     subprocess.run(["git", "init", "-q", folder], check=True)
     subprocess.run(["rt", "new", "crates/my_log", "start_lib"], cwd=folder, check=True, stdout=subprocess.DEVNULL)
-    for part in ("BUILD.bazel", "specs", "proofs"):
+    for part in os.listdir(f"{folder}/crates/my_log"):
         path = f"{folder}/crates/my_log/{part}"
-        shutil.rmtree(path) if os.path.isdir(path) else os.remove(path)
+        if part != "src":
+            shutil.rmtree(path) if os.path.isdir(path) else os.remove(path)
     with open(f"{folder}/crates.txt", "a", encoding="utf-8") as file:
         file.write(own + "\n")
     tried = [line.strip() for above, block in blocks(steps) if above == TRIED for line in block]
