@@ -42,20 +42,27 @@ fn main(rt: HostRuntime) -> Result<()> {
 
 fn time_layers<R: Eprint + Clock>(rt: &R, alloc: Global) -> Result<()> {
     let bytes = noise(alloc)?;
-    let start = Instant::now(rt)?;
-    let by_bytes = byte_table::checksum(bytes.as_slice());
-    let byte_time = start.elapsed(rt)?.as_micros();
-    let start = Instant::now(rt)?;
-    let by_words = Crc32::checksum(bytes.as_slice());
-    let word_time = start.elapsed(rt)?.as_micros();
-    eprintln!(rt; "checksum of 64 MiB: {by_words:08x} in {word_time} us")?;
-    eprintln!(rt; "by a byte table:    {by_bytes:08x} in {byte_time} us")?;
+    time_checksums(rt, &bytes)?;
     let start = Instant::now(rt)?;
     let valid = resolutions(alloc)?;
     let time = start.elapsed(rt)?.as_micros();
     eprintln!(rt; "{RESOLUTIONS} resolutions of a region, {valid} valid: {time} us")?;
-    time_store(rt, alloc, bytes)?;
+    time_names(rt, alloc)?;
+    time_bytes(rt, alloc)?;
+    time_digest(rt, alloc, bytes)?;
     time_wrapper(rt, alloc)
+}
+
+fn time_checksums<R: Eprint + Clock>(rt: &R, bytes: &[u8]) -> Result<()> {
+    let start = Instant::now(rt)?;
+    let by_bytes = byte_table::checksum(bytes);
+    let byte_time = start.elapsed(rt)?.as_micros();
+    let start = Instant::now(rt)?;
+    let by_words = Crc32::checksum(bytes);
+    let word_time = start.elapsed(rt)?.as_micros();
+    eprintln!(rt; "checksum of 64 MiB: {by_words:08x} in {word_time} us")?;
+    eprintln!(rt; "by a byte table:    {by_bytes:08x} in {byte_time} us")?;
+    Ok(())
 }
 
 // The calls of a script, by kind.
@@ -65,17 +72,8 @@ fn time_script<R: AllocGlobal + Input + Eprint + Clock>(rt: &R) -> Result<()> {
     let times = script::run(rt, rt.alloc(), script)?;
     let mut all = 0u128;
     for kind in times.kinds.iter() {
-        let (name, calls, each) = (
-            kind.name,
-            kind.calls,
-            store::per_call(kind.time, kind.calls),
-        );
         all = all.wrapping_add(kind.time);
-        eprintln!(rt; "{name}: {calls} calls, {each} ns a call")?;
-        if name == "crash" && times.drawn > 0 {
-            let (drawn, each) = (times.drawn, kind.time / u128::from(times.drawn));
-            eprintln!(rt; "crash: {drawn} writes drawn, {each} ns a write")?;
-        }
+        tell_kind(rt, kind, times.drawn)?;
     }
     let (all, replies) = (all / 1000, times.replies);
     eprintln!(rt; "all: {all} us; checksum of the replies: {replies:08x}")?;
@@ -84,8 +82,19 @@ fn time_script<R: AllocGlobal + Input + Eprint + Clock>(rt: &R) -> Result<()> {
     Ok(())
 }
 
+fn tell_kind<R: Eprint>(rt: &R, kind: &script::Kind, drawn: u64) -> Result<()> {
+    let (name, calls) = (kind.name, kind.calls);
+    let each = store::per_call(kind.time, calls);
+    eprintln!(rt; "{name}: {calls} calls, {each} ns a call")?;
+    if name == "crash" && drawn > 0 {
+        let each = kind.time / u128::from(drawn);
+        eprintln!(rt; "crash: {drawn} writes drawn, {each} ns a write")?;
+    }
+    Ok(())
+}
+
 // The memory store: by name, by bytes, and its digest.
-fn time_store<R: Eprint + Clock>(rt: &R, alloc: Global, bytes: Vec<u8>) -> Result<()> {
+fn time_names<R: Eprint + Clock>(rt: &R, alloc: Global) -> Result<()> {
     for count in NAMES {
         let times = store::names(rt, alloc, count)?;
         let (created, opened, removed) = (times.created, times.opened, times.removed);
@@ -93,11 +102,19 @@ fn time_store<R: Eprint + Clock>(rt: &R, alloc: Global, bytes: Vec<u8>) -> Resul
             "{count} names: created {created}, opened {opened}, removed {removed} ns a name"
         )?;
     }
+    Ok(())
+}
+
+fn time_bytes<R: Eprint + Clock>(rt: &R, alloc: Global) -> Result<()> {
     let times = store::bytes(rt, alloc, WRITES)?;
     let (written, synced) = (times.written, times.synced);
     eprintln!(rt; "256 bytes of 1 MiB: written {written}, durably {synced} ns a write")?;
     let (read, read_into) = (times.read, times.read_into);
     eprintln!(rt; "256 bytes of 1 MiB: read {read}, into a buffer {read_into} ns a read")?;
+    Ok(())
+}
+
+fn time_digest<R: Eprint + Clock>(rt: &R, alloc: Global, bytes: Vec<u8>) -> Result<()> {
     let (digest, time) = store::audit(rt, alloc, bytes)?;
     let digest = u32::from_be_bytes(digest);
     eprintln!(rt; "digest of 64 MiB: {digest:08x} in {time} us")?;
@@ -107,21 +124,24 @@ fn time_store<R: Eprint + Clock>(rt: &R, alloc: Global, bytes: Vec<u8>) -> Resul
 // The wrapper: writes among many that are pending, and the crash.
 fn time_wrapper<R: Eprint + Clock>(rt: &R, alloc: Global) -> Result<()> {
     for count in PENDING {
-        let times = wrapper::over_pending(rt, alloc, count)?;
-        let (pending, synced) = (times.pending, times.synced);
-        eprintln!(rt;
-            "{count} pending writes: {pending}, durable ones over them {synced} ns a write"
-        )?;
-        let times = wrapper::beside_pending(rt, alloc, count)?;
-        let (pending, synced) = (times.pending, times.synced);
-        eprintln!(rt; "{count} of 100 other blobs: {pending}, durable ones {synced} ns a write")?;
-        let time = wrapper::behind_shrink(rt, alloc, count)?;
-        eprintln!(rt; "{count} durable writes behind a resize that survives: {time} ns a write")?;
+        time_pending(rt, alloc, count)?;
     }
     for count in CRASHED {
         let (time, rows) = wrapper::crash(rt, alloc, count)?;
         eprintln!(rt; "crash over {count} pending writes, {rows} drawn: {time} ns a write")?;
     }
+    Ok(())
+}
+
+fn time_pending<R: Eprint + Clock>(rt: &R, alloc: Global, count: u32) -> Result<()> {
+    let times = wrapper::over_pending(rt, alloc, count)?;
+    let (pending, synced) = (times.pending, times.synced);
+    eprintln!(rt; "{count} pending writes: {pending}, durable ones over them {synced} ns a write")?;
+    let times = wrapper::beside_pending(rt, alloc, count)?;
+    let (pending, synced) = (times.pending, times.synced);
+    eprintln!(rt; "{count} of 100 other blobs: {pending}, durable ones {synced} ns a write")?;
+    let time = wrapper::behind_shrink(rt, alloc, count)?;
+    eprintln!(rt; "{count} durable writes behind a resize that survives: {time} ns a write")?;
     Ok(())
 }
 

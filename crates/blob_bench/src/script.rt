@@ -51,29 +51,38 @@ pub fn read<R: BufRead>(alloc: Global, reader: &mut R) -> Result<Script> {
         if reader.read_until(b'\n', &mut line)? == 0 {
             return Ok(script);
         }
-        if line.last() == Some(&b'\n') {
-            let _ = line.pop();
-        }
-        match read_line(alloc, line.as_slice()) {
-            Ok(Line::Blank) => {}
-            Ok(
-                Line::Image {
-                    partition,
-                    name,
-                    bytes,
-                },
-            ) => script.images.push((partition, name, bytes))?,
-            Ok(Line::Words(words)) => script.words.extend_from_slice(&words)?,
-            Ok(Line::Seed(seed)) => script.seed = Some(seed),
-            Ok(Line::Configure(setting)) => {
-                config = setting.apply(config);
-                script.calls.push(Call::Configure(config.clone()?))?;
-            }
-            Ok(Line::Call(call)) => script.calls.push(call)?,
-            Err(_) => bail!("line {number}: bad call"),
-        }
+        let Ok(said) = read_line(alloc, without_end(&line)) else {
+            bail!("line {number}: bad call");
+        };
+        note(&mut script, &mut config, said)?;
     }
     bail!("the script has no end")
+}
+
+fn without_end(line: &[u8]) -> &[u8] {
+    match line {
+        [front @ .., b'\n'] => front,
+        _ => line,
+    }
+}
+
+fn note(script: &mut Script, config: &mut Config, said: Line) -> Result<()> {
+    match said {
+        Line::Blank => {}
+        Line::Image {
+            partition,
+            name,
+            bytes,
+        } => script.images.push((partition, name, bytes))?,
+        Line::Words(words) => script.words.extend_from_slice(&words)?,
+        Line::Seed(seed) => script.seed = Some(seed),
+        Line::Configure(setting) => {
+            *config = setting.apply(config.clone()?);
+            script.calls.push(Call::Configure(config.clone()?))?;
+        }
+        Line::Call(call) => script.calls.push(call)?,
+    }
+    Ok(())
 }
 
 /// Makes the calls, each timed by itself: the time of reading the clock is in it.
@@ -102,13 +111,9 @@ fn apply_all(clock: &impl Clock, alloc: Global, lab: &mut Lab, calls: &[Call]) -
     let mut replies = Crc32::new();
     let mut text = String::new(alloc);
     for call in calls.iter() {
-        let start = Instant::now(clock)?;
-        let reply = lab.apply(call);
-        let time = start.elapsed(clock)?.as_nanos();
+        let (reply, time) = apply(clock, lab, call)?;
         add(&mut times.kinds, name_of(call), time)?;
-        if let Reply::Crashed(selections) = &reply {
-            times.drawn = times.drawn.wrapping_add(selections.rows().len() as u64);
-        }
+        times.drawn = times.drawn.wrapping_add(drawn(&reply));
         text.clear();
         print_reply(&reply, &mut text)?;
         text.push('\n')?;
@@ -116,6 +121,20 @@ fn apply_all(clock: &impl Clock, alloc: Global, lab: &mut Lab, calls: &[Call]) -
     }
     times.replies = replies.finalize();
     Ok(times)
+}
+
+fn apply(clock: &impl Clock, lab: &mut Lab, call: &Call) -> Result<(Reply, u128)> {
+    let start = Instant::now(clock)?;
+    let reply = lab.apply(call);
+    Ok((reply, start.elapsed(clock)?.as_nanos()))
+}
+
+// For how many writes a crash drew.
+fn drawn(reply: &Reply) -> u64 {
+    match reply {
+        Reply::Crashed(selections) => selections.rows().len() as u64,
+        _ => 0,
+    }
 }
 
 /// What it takes to read the clock twice, on average.

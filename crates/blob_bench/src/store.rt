@@ -17,17 +17,9 @@ pub struct NameTimes {
 /// Creates so many blobs, opens each again, and removes each, in an order that isn't that of the names.
 pub fn names(clock: &impl Clock, alloc: Global, count: u32) -> Result<NameTimes> {
     let mut store = Memory::new(alloc);
-    let start = Instant::now(clock)?;
-    open_all(&mut store, count)?;
-    let created = per_call(start.elapsed(clock)?.as_nanos(), count);
-    let start = Instant::now(clock)?;
-    open_all(&mut store, count)?;
-    let opened = per_call(start.elapsed(clock)?.as_nanos(), count);
-    let start = Instant::now(clock)?;
-    for number in 0..count {
-        store.remove("p", Some(&name(number)))?;
-    }
-    let removed = per_call(start.elapsed(clock)?.as_nanos(), count);
+    let created = opens(clock, &mut store, count)?;
+    let opened = opens(clock, &mut store, count)?;
+    let removed = removals(clock, &mut store, count)?;
     Ok(NameTimes {
         created,
         opened,
@@ -35,11 +27,20 @@ pub fn names(clock: &impl Clock, alloc: Global, count: u32) -> Result<NameTimes>
     })
 }
 
-fn open_all(store: &mut Memory, count: u32) -> Result<()> {
+fn opens(clock: &impl Clock, store: &mut Memory, count: u32) -> Result<u128> {
+    let start = Instant::now(clock)?;
     for number in 0..count {
         let (_blob, _size) = store.open("p", &name(number))?;
     }
-    Ok(())
+    per_call_since(clock, start, count)
+}
+
+fn removals(clock: &impl Clock, store: &mut Memory, count: u32) -> Result<u128> {
+    let start = Instant::now(clock)?;
+    for number in 0..count {
+        store.remove("p", Some(&name(number)))?;
+    }
+    per_call_since(clock, start, count)
 }
 
 // An odd factor gives each number a name of its own.
@@ -53,6 +54,11 @@ pub fn per_call(time: u128, count: u32) -> u128 {
         return 0;
     }
     time / u128::from(count)
+}
+
+/// The time of one of so many calls, which began at `start`.
+pub fn per_call_since(clock: &impl Clock, start: Instant, count: u32) -> Result<u128> {
+    Ok(per_call(start.elapsed(clock)?.as_nanos(), count))
 }
 
 /// Times of 256 bytes written and read within a blob of 1 MiB.
@@ -71,26 +77,11 @@ const LEN: usize = 256;
 /// Writes and reads so often, all over the blob.
 pub fn bytes(clock: &impl Clock, alloc: Global, count: u32) -> Result<ByteTimes> {
     let mut store = Memory::new(alloc);
-    let (mut blob, _size) = store.open("p", b"b")?;
-    blob.resize(&mut store, SIZE)?;
-    blob.sync(&mut store)?;
-    let start = Instant::now(clock)?;
-    write_all(alloc, &mut store, &mut blob, count, WriteOptions::default())?;
-    let written = per_call(start.elapsed(clock)?.as_nanos(), count);
-    let start = Instant::now(clock)?;
-    write_all(alloc, &mut store, &mut blob, count, WriteOptions::SYNC)?;
-    let synced = per_call(start.elapsed(clock)?.as_nanos(), count);
-    let start = Instant::now(clock)?;
-    for number in 0..count {
-        blob.read_at(&mut store, place(number), LEN, ReadOptions::default())?;
-    }
-    let read = per_call(start.elapsed(clock)?.as_nanos(), count);
-    let start = Instant::now(clock)?;
-    for number in 0..count {
-        let buf = IoBufsMut::with_capacity(alloc, LEN)?;
-        blob.read_at_buf(&mut store, place(number), LEN, buf, ReadOptions::default())?;
-    }
-    let read_into = per_call(start.elapsed(clock)?.as_nanos(), count);
+    let mut blob = long_blob(&mut store)?;
+    let written = writes(clock, alloc, (&mut store, &mut blob), count, false)?;
+    let synced = writes(clock, alloc, (&mut store, &mut blob), count, true)?;
+    let read = reads(clock, &mut store, &blob, count)?;
+    let read_into = reads_into(clock, alloc, &mut store, &blob, count)?;
     Ok(ByteTimes {
         written,
         synced,
@@ -99,18 +90,54 @@ pub fn bytes(clock: &impl Clock, alloc: Global, count: u32) -> Result<ByteTimes>
     })
 }
 
-fn write_all(
+fn long_blob(store: &mut Memory) -> Result<Opened> {
+    let (mut blob, _size) = store.open("p", b"b")?;
+    blob.resize(store, SIZE)?;
+    blob.sync(store)?;
+    Ok(blob)
+}
+
+fn writes(
+    clock: &impl Clock,
     alloc: Global,
-    store: &mut Memory,
-    blob: &mut Opened,
+    (store, blob): (&mut Memory, &mut Opened),
     count: u32,
-    options: WriteOptions,
-) -> Result<()> {
+    durable: bool,
+) -> Result<u128> {
+    let options = if durable {
+        WriteOptions::SYNC
+    } else {
+        WriteOptions::default()
+    };
+    let start = Instant::now(clock)?;
     for number in 0..count {
         let bytes = IoBufs::from_vec(Vec::from_elem(alloc, 7u8, LEN)?)?;
         blob.write_at(store, place(number), bytes, options)?;
     }
-    Ok(())
+    per_call_since(clock, start, count)
+}
+
+fn reads(clock: &impl Clock, store: &mut Memory, blob: &Opened, count: u32) -> Result<u128> {
+    let start = Instant::now(clock)?;
+    for number in 0..count {
+        blob.read_at(store, place(number), LEN, ReadOptions::default())?;
+    }
+    per_call_since(clock, start, count)
+}
+
+fn reads_into(
+    clock: &impl Clock,
+    alloc: Global,
+    store: &mut Memory,
+    blob: &Opened,
+    count: u32,
+) -> Result<u128> {
+    let start = Instant::now(clock)?;
+    for number in 0..count {
+        let buf = IoBufsMut::with_capacity(alloc, LEN)?;
+        blob.read_at_buf(store, place(number), LEN, buf, ReadOptions::default())?;
+    }
+    per_call_since(clock, start, count)
 }
 
 // Somewhere in the blob, and not one after another.

@@ -1,7 +1,7 @@
 //! Times the wrapper over the memory store: writes of 64 bytes that stay pending, SYNC writes beside and over them, and the
 //! crash. Times are of one write, on average, in nanoseconds.
 
-use crate::store::per_call;
+use crate::store::per_call_since;
 use anyhow::Result;
 use blob_base::{Blob, Error, IoBufs, Probability, Storage, WriteOptions};
 use blob_faulty::{Config, ResizeConfig, write_config_from_cell};
@@ -73,6 +73,19 @@ fn sync_all(
     Ok(())
 }
 
+// The time of one of them.
+fn syncs(
+    clock: &impl Clock,
+    alloc: Global,
+    (store, blob): (&mut Wrapper, &mut Opened),
+    count: u32,
+    len: u32,
+) -> Result<u128> {
+    let start = Instant::now(clock)?;
+    sync_all(alloc, store, blob, count, len)?;
+    per_call_since(clock, start, count)
+}
+
 /// Times of pending writes, and of a tenth as many SYNC writes behind them.
 #[derive(Drop)]
 pub struct WriteTimes {
@@ -86,10 +99,8 @@ pub fn over_pending(clock: &impl Clock, alloc: Global, count: u32) -> Result<Wri
     let mut blob = open(&mut store, 0, count)?;
     let start = Instant::now(clock)?;
     write_all(alloc, &mut store, &mut blob, count)?;
-    let pending = per_call(start.elapsed(clock)?.as_nanos(), count);
-    let start = Instant::now(clock)?;
-    sync_all(alloc, &mut store, &mut blob, count / 10, count)?;
-    let synced = per_call(start.elapsed(clock)?.as_nanos(), count / 10);
+    let pending = per_call_since(clock, start, count)?;
+    let synced = syncs(clock, alloc, (&mut store, &mut blob), count / 10, count)?;
     Ok(WriteTimes { pending, synced })
 }
 
@@ -97,17 +108,19 @@ pub fn over_pending(clock: &impl Clock, alloc: Global, count: u32) -> Result<Wri
 pub fn beside_pending(clock: &impl Clock, alloc: Global, count: u32) -> Result<WriteTimes> {
     let mut store = wrapper(alloc);
     let mut blob = open(&mut store, 0, count)?;
-    let each = count / FILES;
     let start = Instant::now(clock)?;
-    for number in 1..=FILES {
-        let mut other = open(&mut store, number, each)?;
-        write_all(alloc, &mut store, &mut other, each)?;
-    }
-    let pending = per_call(start.elapsed(clock)?.as_nanos(), count);
-    let start = Instant::now(clock)?;
-    sync_all(alloc, &mut store, &mut blob, count / 10, count)?;
-    let synced = per_call(start.elapsed(clock)?.as_nanos(), count / 10);
+    write_others(alloc, &mut store, count / FILES)?;
+    let pending = per_call_since(clock, start, count)?;
+    let synced = syncs(clock, alloc, (&mut store, &mut blob), count / 10, count)?;
     Ok(WriteTimes { pending, synced })
+}
+
+fn write_others(alloc: Global, store: &mut Wrapper, each: u32) -> Result<()> {
+    for number in 1..=FILES {
+        let mut other = open(store, number, each)?;
+        write_all(alloc, store, &mut other, each)?;
+    }
+    Ok(())
 }
 
 /// The time of a crash over so many pending writes, for one of them, and how many it drew for.
@@ -117,7 +130,7 @@ pub fn crash(clock: &impl Clock, alloc: Global, count: u32) -> Result<(u128, usi
     write_all(alloc, &mut store, &mut blob, count)?;
     let start = Instant::now(clock)?;
     let kept = store.crash()?;
-    let time = per_call(start.elapsed(clock)?.as_nanos(), count);
+    let time = per_call_since(clock, start, count)?;
     Ok((time, kept.rows().len()))
 }
 
@@ -125,17 +138,18 @@ pub fn crash(clock: &impl Clock, alloc: Global, count: u32) -> Result<(u128, usi
 pub fn behind_shrink(clock: &impl Clock, alloc: Global, count: u32) -> Result<u128> {
     let mut store = wrapper(alloc);
     let mut blob = open(&mut store, 0, count)?;
-    let always = ResizeConfig {
+    shrink(&mut store, &mut blob)?;
+    syncs(clock, alloc, (&mut store, &mut blob), count, count)
+}
+
+// By a resize that fails, and reaches a size between, which survives.
+fn shrink(store: &mut Wrapper, blob: &mut Opened) -> Result<()> {
+    store.config().resize_rate = Some(ResizeConfig {
         failure_rate: Probability::ONE,
         partial_rate: Probability::ONE,
-    };
-    store.config().resize_rate = Some(always);
-    // It reaches a size between, which survives.
-    match blob.resize(&mut store, 0) {
-        Err(Error::Injected) => {}
-        other => other?,
+    });
+    match blob.resize(store, 0) {
+        Err(Error::Injected) => Ok(()),
+        other => Ok(other?),
     }
-    let start = Instant::now(clock)?;
-    sync_all(alloc, &mut store, &mut blob, count, count)?;
-    Ok(per_call(start.elapsed(clock)?.as_nanos(), count))
 }

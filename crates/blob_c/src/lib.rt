@@ -1,24 +1,16 @@
 //! The laboratory for programs in other languages: a whole script at once, or a session and one call after another.
 //!
-//! The header `bindings/c/blobcrash.h` says what callers owe: no check reaches them.
+//! What a session is and does is `blob_sessions`. The header `bindings/c/blobcrash.h` says what callers owe: no check reaches them.
 #![tactic(auto)]
 
 ghost use Rattle.std.specs.Prelude.{◌≡◌, ◌⊎◌, ◌<◌, ◌≤◌, Some, None, IsSome, IfSome, [], take, drop, length};
 ghost use Rattle.blob_lab.specs.Scripts.{Prints, PrintsBefore, no_script, lines_of, script_of};
-ghost use Rattle.blob_c.specs.Preambles.{BreaksAt, IsMadeOf};
-ghost use Rattle.blob_c.specs.Sessions.{RunsLine, ReadsInto, AnswersWrite, IsClosed, OnHeld, TellsAgain, kept_of};
-ghost use Rattle.blob_c.specs.WholeScripts.{WantsRoom};
+ghost use Rattle.blob_sessions.specs.Preambles.{BreaksAt, IsMadeOf};
+ghost use Rattle.blob_sessions.specs.Sessions.{RunsLine, ReadsInto, AnswersWrite, IsClosed, OnHeld, TellsAgain, kept_of};
+ghost use Rattle.blob_sessions.specs.WholeScripts.{WantsRoom};
 
-mod kept;
-mod loose;
-mod preamble;
-mod ran;
-mod script;
-mod session;
-
-use preamble::RefusedPreamble;
-use ran::{BAD_LINE, CLOSED, DONE, ENDLESS, NO_MEMORY, NO_ROOM, Ran, ScriptRan};
-use session::Session;
+use blob_sessions::ran::{BAD_LINE, CLOSED, DONE, ENDLESS, NO_MEMORY, NO_ROOM};
+use blob_sessions::{Ran, RefusedPreamble, ScriptRan, Session, preamble, script};
 use std::alloc::Global;
 
 /// Runs a script, and writes its replies to the front of `replies`, a line each. What is behind them stays as it was.

@@ -121,16 +121,16 @@ impl<S: Durable> Lists<S> {
     }
 
     /// Where the list of an incarnation is, which is added where there is none. A refusal leaves the lists as they were.
-    fn place_for(&mut self, origin: S::Origin, hint: usize) -> Result<usize, AllocError>
+    fn place_for(&mut self, origin: &S::Origin, hint: usize) -> Result<usize, AllocError>
         ensures same { SameLists S.place self.old.all.lists.items self.new.all.lists.items }
-        ensures at { IfOk result (λ i. IsAt (held S.place self.new.all.lists.items) i (S.place origin)) }
+        ensures at { IfOk result (λ i. IsAt (held S.place self.new.all.lists.items) i (S.place origin.now)) }
         ensures inside { IfOk result (λ i. i < vec_len self.new.all.lists) }
     {
-        if let Some(i) = self.find(&origin, hint) {
+        if let Some(i) = self.find(origin, hint) {
             return Ok(i);
         }
         let i = self.all.lists.len();
-        self.add(origin)?;
+        self.add(origin.clone()?)?;
         Ok(i)
     }
 
@@ -147,12 +147,12 @@ impl<S: Durable> Lists<S> {
     /// were.
     pub fn room_for(
         &mut self,
-        origin: S::Origin,
+        origin: &S::Origin,
         hint: usize,
         room: Room,
     ) -> Result<usize, AllocError>
         ensures same { SameLists S.place self.old.all.lists.items self.new.all.lists.items }
-        ensures ok { IfOk result (λ i. IsRoomAt S.place self.new.all.lists.items i (S.place origin) room) }
+        ensures ok { IfOk result (λ i. IsRoomAt S.place self.new.all.lists.items i (S.place origin.now) room) }
     {
         let i = self.place_for(origin, hint)?;
         self.reserve(i, room)?;

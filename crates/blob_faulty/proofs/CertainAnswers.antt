@@ -147,9 +147,6 @@ numbered_injected false inner h = h
 pub draw_injected : (rate : Option Rate) (stream : Stream) (inner : Allowed) → IsNever rate → injected_or (draw rate stream).0 inner (Some Injected) → inner (Some Injected)
 draw_injected rate stream inner never = (quiet_draw rate stream inner (Some Injected) never).0
 
-pub sync_injected : (rate : Option Rate) (stream : Stream) (inner : Allowed) → IsNever rate → injected_or (draw rate stream).0 (or_memory inner) (Some Injected) → inner (Some Injected)
-sync_injected rate stream inner never h = memory_injected inner ((quiet_draw rate stream (or_memory inner) (Some Injected) never).0 h)
-
 pub start_injected : (rate : Option Rate) (stream : Stream) (next : ℕ) (inner : Allowed) → IsNever rate → allows_start (draw rate stream).0 next inner (Some Injected) → inner (Some Injected)
 start_injected rate stream next inner never h = memory_injected inner (numbered_injected (next == 2 ^ 64 - 1) (or_memory inner) (subst (λ (d : Bool × Stream). allows_start d.0 next inner (Some Injected)) (never_drawn rate stream never) h))
 

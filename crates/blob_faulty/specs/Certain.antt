@@ -49,7 +49,7 @@ module _ {S R O B : Type 0} (wrapped : handles.Ghosts (Blob B) (Storage S R O) O
 
   abbrev pub QuietSyncs : Type 0
   QuietSyncs = (b : Blob B) (s : Storage S R O) (answer : Option Refusal) → IsNever (config_of s).sync_rate →
-      wrapped.allows_sync b s answer ↔ or_memory (inner.allows_sync (inside b) (inner_of s)) answer
+      wrapped.allows_sync b s answer ↔ inner.allows_sync (inside b) (inner_of s) answer
 
   abbrev pub QuietStarts : Type 0
   QuietStarts = (b : Blob B) (s : Storage S R O) (answer : Option Refusal) → IsNever (config_of s).sync_rate → next_marker_of s < 2 ^ 64 - 1 →

@@ -10,7 +10,7 @@ ghost use Rattle.blob_base.specs.Options.{is_sync};
 ghost use Rattle.blob_model.specs.Pending.{Marker};
 ghost use Rattle.blob_model.specs.Places.{Place};
 ghost use Rattle.blob_header.specs.Refusals.{Refusal, refused, Memory, IsMemory};
-ghost use Rattle.blob_faults.specs.Answers.{or_memory, injected_or, allows_write as answers_write, allows_resize as answers_resize, allows_start};
+ghost use Rattle.blob_faults.specs.Answers.{injected_or, allows_write as answers_write, allows_resize as answers_resize, allows_start};
 ghost use Rattle.blob_faults.specs.Faults.{Done, draw, write_fate, resize_fate, after_write};
 ghost use Rattle.blob_faulty.specs.HandleLeaves.{HandleLeaves};
 ghost use Rattle.blob_faults.specs.Recorded.{recorded_write, recorded_resize, live_of_write, live_of_resize, size_of_write, size_of_resize};
@@ -66,7 +66,7 @@ impl<S: blob_base::Storage, R: Rng, B: blob_base::Blob<S>> blob_base::Blob<Stora
 
     ghost allows_resize = { λ b s len. answers_resize (B.allows_resize b.inner s.inner) (resize_fate s.config.resize_rate b.size len (R.stream s.rng)).0 len };
 
-    ghost allows_sync = { λ b s. injected_or (draw s.config.sync_rate (R.stream s.rng)).0 (or_memory (B.allows_sync b.inner s.inner)) };
+    ghost allows_sync = { λ b s. injected_or (draw s.config.sync_rate (R.stream s.rng)).0 (B.allows_sync b.inner s.inner) };
 
     ghost allows_start_sync = { λ b s. allows_start (draw s.config.sync_rate (R.stream s.rng)).0 s.next_marker (B.allows_start_sync b.inner s.inner) };
 
@@ -203,8 +203,8 @@ impl<S: blob_base::Storage, R: Rng, B: blob_base::Blob<S>> blob_base::Blob<Stora
         self.inner.reserve(&mut store.inner, end)
     }
 
-    /// The incarnation that the handle inside was opened on. The only error is `Memory`.
-    fn origin(&self) -> Result<S::Origin, Error> {
+    /// The incarnation that the handle inside was opened on, lent. Takes no memory.
+    fn origin(&self) -> &S::Origin {
         self.inner.origin()
     }
 

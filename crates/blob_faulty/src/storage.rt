@@ -115,6 +115,8 @@ impl<S: blob_base::Storage, R: Rng> Durable for Storage<S, R> {
 
     ghost one_origin = { S.one_origin };
 
+    ghost cloned_origins = { S.cloned_origins };
+
     ghost currents = { λ s o. S.currents s.inner o };
 
     ghost given = { λ s o. S.given s.inner o };

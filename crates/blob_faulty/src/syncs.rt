@@ -18,15 +18,14 @@ impl<B> Blob<B> {
     ) -> Result<(), Error>
     where
         B: blob_base::Blob<S>,
-        ensures allowed { or_memory (B.allows_sync self.old.inner store.old.inner) (refused result) }
+        ensures allowed { B.allows_sync self.old.inner store.old.inner (refused result) }
         ensures synced { Syncs S.Durable B.Blob self.old store.old self.new store.new (refused result) }
         ensures asked { AsksSync B.Blob self.old store.old self.new store.new (refused result) }
         ensures retired { OnOk result (Retires S.Durable B.Blob self.old store.old self.new store.new []) }
         ensures next_marker { store.new.next_marker ≡ store.old.next_marker }
     {
-        let origin = self.inner.origin()?;
         self.inner.sync(&mut store.inner)?;
-        store.lists.retire(&origin, self.list);
+        store.lists.retire(self.inner.origin(), self.list);
         Ok(())
     }
 

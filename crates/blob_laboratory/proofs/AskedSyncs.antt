@@ -34,11 +34,10 @@ module _ (w w' : Wrapper) (h : Held) (names : directory (store_of w') ≡ direct
   denial d = option_or (refused_if Injected drawn) (sync_refusal d h.place)
 
   abbrev allowed : Option Refusal → Type 0
-  allowed answer = injected_or drawn (or_memory (OrMemory (sync_refusal (directory (store_of w)) h.place))) answer
+  allowed answer = injected_or drawn (OrMemory (sync_refusal (directory (store_of w)) h.place)) answer
 
   denied : (answer : Option Refusal) → allowed answer → OrMemory (denial (directory (store_of w))) answer
-  denied answer a = drawn_denial drawn (or_memory (OrMemory (sync_refusal (directory (store_of w)) h.place))) (sync_refusal (directory (store_of w)) h.place)
-      (memory_denial (OrMemory (sync_refusal (directory (store_of w)) h.place)) (sync_refusal (directory (store_of w)) h.place) (λ answer' m. m)) answer a
+  denied answer a = drawn_denial drawn (OrMemory (sync_refusal (directory (store_of w)) h.place)) (sync_refusal (directory (store_of w)) h.place) (λ answer' m. m) answer a
 
   seen : (v : State) → Wraps w (as_of w v) → denial (directory (store_of w)) ≡ sync_denial (as_of w v) h
   seen v u i = denial (u.files.directory i)

@@ -261,8 +261,8 @@ impl blob_base::Blob<Storage> for Blob {
         Ok(())
     }
 
-    /// The incarnation that the handle was opened on, as a copy. The only error is `Memory`.
-    fn origin(&self) -> Result<Origin, Error> {
-        Ok(self.origin.copied()?)
+    /// The incarnation that the handle was opened on, lent. Takes no memory.
+    fn origin(&self) -> &Origin {
+        &self.origin
     }
 }

@@ -48,6 +48,22 @@ impl Eq for Origin {
     ghost laws = { same_place_equiv };
 }
 
+impl Clone for Origin {
+    ghost is_clone = { λ a b. b ≡ a };
+
+    /// An equal origin with memory of its own. The only error is want of memory.
+    fn clone(&self) -> Result<Origin, AllocError> {
+        let alloc = *self.name.allocator();
+        Origin::new(
+            alloc,
+            self.partition(),
+            self.name(),
+            self.generation(),
+            self.data_offset(),
+        )
+    }
+}
+
 impl Origin {
     /// The origin of these parts. The only error is want of memory.
     pub fn new(
@@ -65,20 +81,6 @@ impl Origin {
             generation,
             data_offset,
         })
-    }
-
-    /// An equal origin with memory of its own. The only error is want of memory.
-    pub fn copied(&self) -> Result<Origin, AllocError>
-        ensures { IfOk result (λ o. o ≡ self.now) }
-    {
-        let alloc = *self.name.allocator();
-        Origin::new(
-            alloc,
-            self.partition(),
-            self.name(),
-            self.generation(),
-            self.data_offset(),
-        )
     }
 
     /// The partition of the blob.

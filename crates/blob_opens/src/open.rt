@@ -149,8 +149,8 @@ impl<S: Durable, B: blob_base::Blob<S>> blob_base::Blob<S> for Blob<B> {
         self.inner.reserve(store, end)
     }
 
-    /// The incarnation that the store's own handle was opened on. The only error is `Memory`.
-    fn origin(&self) -> Result<S::Origin, Error> {
+    /// The incarnation that the store's own handle was opened on, lent. Takes no memory.
+    fn origin(&self) -> &S::Origin {
         self.inner.origin()
     }
 }

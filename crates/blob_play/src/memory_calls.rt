@@ -73,7 +73,7 @@ impl MemoryPlace {
     // The partition, the name, the number and the offset of the data.
     fn origin(&self, handle: usize) -> Result<Found, Error> {
         let blob = self.place.handles.blobs.get(handle).ok_or(Error::Closed)?;
-        Ok(Found::Origin(blob.origin()?))
+        Ok(Found::Origin(blob.origin().clone()?))
     }
 
     fn retain(
@@ -98,8 +98,7 @@ impl MemoryPlace {
 
     fn reserve_crash(&mut self, handle: usize, len: u64) -> Result<Found, Error> {
         let blob = self.place.handles.blobs.get(handle).ok_or(Error::Closed)?;
-        let origin = blob.origin()?;
-        done(self.place.store.reserve_crash(&origin, len))
+        done(self.place.store.reserve_crash(blob.origin(), len))
     }
 
     /// A call that no script has.

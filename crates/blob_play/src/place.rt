@@ -164,8 +164,7 @@ impl<S: Storage + Drop> Place<S> {
     // Whether the handle's incarnation is its name's current one.
     fn is_current(&self, handle: usize) -> Result<Found, Error> {
         let blob = self.handles.blobs.get(handle).ok_or(Error::Closed)?;
-        let origin = blob.origin()?;
-        Ok(Found::Is(self.store.is_current(&origin)))
+        Ok(Found::Is(self.store.is_current(blob.origin())))
     }
 
     fn remove(&mut self, partition: &str, name: Option<&[u8]>) -> Result<Found, Error> {
@@ -180,7 +179,7 @@ impl<S: Storage + Drop> Place<S> {
     fn is_same(&self, handle: usize, other: usize) -> Result<Found, Error> {
         let blob = self.handles.blobs.get(handle).ok_or(Error::Closed)?;
         let other = self.handles.blobs.get(other).ok_or(Error::Closed)?;
-        Ok(Found::Is(blob.origin()? == other.origin()?))
+        Ok(Found::Is(blob.origin() == other.origin()))
     }
 
     // A call by names.

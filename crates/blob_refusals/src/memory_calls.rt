@@ -27,7 +27,7 @@ pub enum MemoryCall<'a> {
     /// The number of the incarnation that a handle was opened on.
     Generation(usize),
     NewOrigin,
-    CopiedOrigin(usize),
+    ClonedOrigin(usize),
 }
 
 fn maybe(answer: Result<Option<Vec<u8>>, Error>) -> Reply {
@@ -70,7 +70,7 @@ fn origin_of(place: &Place<Storage>, handle: usize) -> Result<Origin> {
     let Some(blob) = place.blobs.get(handle) else {
         bail!("no handle {handle}");
     };
-    Ok(blob.origin()?)
+    Ok(blob.origin().clone()?)
 }
 
 fn retain_write(
@@ -170,9 +170,9 @@ fn new_origin(alloc: Global) -> Reply {
     made(answer)
 }
 
-fn copied_origin(alloc: Global, origin: &Origin) -> Reply {
+fn cloned_origin(alloc: Global, origin: &Origin) -> Reply {
     window::begin(alloc);
-    let answer = origin.copied();
+    let answer: Result<Origin, AllocError> = origin.clone();
     window::end(alloc);
     made(answer)
 }
@@ -206,7 +206,7 @@ pub fn perform(alloc: Global, place: &mut Place<Storage>, call: MemoryCall<'_>) 
         MemoryCall::Audit => Ok(audit(alloc, &place.store)),
         MemoryCall::Rebuild => Ok(rebuild(alloc, &mut place.store)),
         MemoryCall::NewOrigin => Ok(new_origin(alloc)),
-        MemoryCall::CopiedOrigin(handle) => Ok(copied_origin(alloc, &origin_of(place, handle)?)),
+        MemoryCall::ClonedOrigin(handle) => Ok(cloned_origin(alloc, &origin_of(place, handle)?)),
         MemoryCall::Generation(handle) => {
             Ok(Reply::Size(origin_of(place, handle)?.generation()))
         }

@@ -144,12 +144,9 @@ fn reserve<S: Durable, B: Blob<S>>(alloc: Global, store: &mut S, blob: &mut B, e
 
 fn origin<S: Durable, B: Blob<S>>(alloc: Global, store: &S, blob: &B) -> Reply {
     window::begin(alloc);
-    let answer = blob.origin();
+    let origin = blob.origin();
     window::end(alloc);
-    match answer {
-        Ok(origin) => Reply::Size(u64::from(store.is_current(&origin))),
-        Err(e) => Reply::Failed(e),
-    }
+    Reply::Size(u64::from(store.is_current(origin)))
 }
 
 // The greatest length that can be read from the start, below 32 KiB.

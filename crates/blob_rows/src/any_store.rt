@@ -26,8 +26,7 @@ fn synced(alloc: Global, store: &mut Memory, blob: &mut Opened) -> Result<(), Er
 }
 
 fn within_room(alloc: Global, store: &mut Memory, blob: &mut Opened) -> Result<(), Error> {
-    let origin = blob.origin()?;
-    if !store.is_current(&origin) {
+    if !store.is_current(blob.origin()) {
         return Err(Error::Closed);
     }
     write_within_room(store, blob, 9, 5, bufs(alloc, b"xyz")?, WriteOptions::SYNC)?

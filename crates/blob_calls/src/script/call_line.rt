@@ -1,8 +1,8 @@
 // The lines of calls.
-ghost use Rattle.std.specs.Prelude.{◌≡◌, IfOk, Some, None, string_bytes, option_map};
+ghost use Rattle.std.specs.Prelude.{◌≡◌, IfOk, Some, None, string_bytes, option_map, codes};
 ghost use Rattle.std.specs.Range.{range_inclusive_start, range_inclusive_end, range_inclusive_exhausted};
-ghost use Rattle.blob_calls.specs.Acts.{act_of, versions_of};
-ghost use Rattle.blob_calls.specs.CallLines.{call, writing};
+ghost use Rattle.blob_calls.specs.Acts.{Open, OpenLoose, act_of, versions_of};
+ghost use Rattle.blob_calls.specs.CallLines.{call, open_form, writing};
 ghost use Rattle.blob_calls.specs.Forms.{text, hex, name, digits, versions};
 ghost use Rattle.blob_calls.specs.Tokens.{version_of};
 
@@ -18,55 +18,100 @@ pub(crate) fn call(alloc: Global, word: &str, tokens: &mut Tokens) -> Result<Cal
     ensures ok { IfOk result (λ asked. call word.now tokens.old ≡ Some (act_of asked, tokens.new)) }
     ensures bad { result ≡ Err RefusedLine.BadCall → call word.now tokens.old ≡ None }
 {
-    Ok(match word {
-        "open" => {
-            let (partition, name) = (text(alloc, tokens)?, hex(alloc, tokens)?);
-            let versions = versions(tokens)?;
-            Call::Open {
-                partition,
-                name,
-                versions,
-            }
-        }
-        "loose" => {
-            let (partition, name) = (text(alloc, tokens)?, hex(alloc, tokens)?);
-            let versions = versions(tokens)?;
-            Call::OpenLoose {
-                partition,
-                name,
-                versions,
-            }
-        }
-        "admit" => Call::Admit {
-            partition: text(alloc, tokens)?,
-            name: hex(alloc, tokens)?,
-        },
-        "close" => Call::Close(index(tokens)?),
-        "read" => Call::Read {
-            handle: index(tokens)?,
-            offset: digits(tokens)?,
-            len: index(tokens)?,
-        },
-        "write" => write(alloc, tokens, false)?,
-        "writes" => write(alloc, tokens, true)?,
-        "resize" => Call::Resize {
-            handle: index(tokens)?,
-            len: digits(tokens)?,
-        },
-        "size" => Call::Size(index(tokens)?),
-        "sync" => Call::Sync(index(tokens)?),
-        "startsync" => Call::StartSync(index(tokens)?),
-        "finish" => Call::Finish(index(tokens)?),
-        "remove" => Call::Remove {
-            partition: text(alloc, tokens)?,
-            name: name(alloc, tokens)?,
-        },
-        "scan" => Call::Scan {
-            partition: text(alloc, tokens)?,
-        },
-        "crash" => Call::Crash,
-        "reopen" => Call::Reopen,
-        _ => return Err(RefusedLine::BadCall),
+    match word {
+        "open" => open(alloc, tokens),
+        "loose" => loose(alloc, tokens),
+        "admit" => admit(alloc, tokens),
+        "close" => Ok(Call::Close(index(tokens)?)),
+        "read" => read(tokens),
+        "write" => write(alloc, tokens, false),
+        "writes" => write(alloc, tokens, true),
+        "resize" => resize(tokens),
+        "size" => Ok(Call::Size(index(tokens)?)),
+        "sync" => Ok(Call::Sync(index(tokens)?)),
+        "startsync" => Ok(Call::StartSync(index(tokens)?)),
+        "finish" => Ok(Call::Finish(index(tokens)?)),
+        "remove" => remove(alloc, tokens),
+        "scan" => scan(alloc, tokens),
+        "crash" => Ok(Call::Crash),
+        "reopen" => Ok(Call::Reopen),
+        _ => Err(RefusedLine::BadCall),
+    }
+}
+
+fn open(alloc: Global, tokens: &mut Tokens) -> Result<Call, RefusedLine>
+    ensures ok { IfOk result (λ asked. open_form Open tokens.old ≡ Some (act_of asked, tokens.new)) }
+    ensures bad { result ≡ Err RefusedLine.BadCall → open_form Open tokens.old ≡ None }
+{
+    let (partition, name) = (text(alloc, tokens)?, hex(alloc, tokens)?);
+    let versions = versions(tokens)?;
+    Ok(Call::Open {
+        partition,
+        name,
+        versions,
+    })
+}
+
+fn loose(alloc: Global, tokens: &mut Tokens) -> Result<Call, RefusedLine>
+    ensures ok { IfOk result (λ asked. open_form OpenLoose tokens.old ≡ Some (act_of asked, tokens.new)) }
+    ensures bad { result ≡ Err RefusedLine.BadCall → open_form OpenLoose tokens.old ≡ None }
+{
+    let (partition, name) = (text(alloc, tokens)?, hex(alloc, tokens)?);
+    let versions = versions(tokens)?;
+    Ok(Call::OpenLoose {
+        partition,
+        name,
+        versions,
+    })
+}
+
+fn admit(alloc: Global, tokens: &mut Tokens) -> Result<Call, RefusedLine>
+    ensures ok { IfOk result (λ asked. call (codes "admit") tokens.old ≡ Some (act_of asked, tokens.new)) }
+    ensures bad { result ≡ Err RefusedLine.BadCall → call (codes "admit") tokens.old ≡ None }
+{
+    Ok(Call::Admit {
+        partition: text(alloc, tokens)?,
+        name: hex(alloc, tokens)?,
+    })
+}
+
+fn read(tokens: &mut Tokens) -> Result<Call, RefusedLine>
+    ensures ok { IfOk result (λ asked. call (codes "read") tokens.old ≡ Some (act_of asked, tokens.new)) }
+    ensures bad { result ≡ Err RefusedLine.BadCall → call (codes "read") tokens.old ≡ None }
+{
+    Ok(Call::Read {
+        handle: index(tokens)?,
+        offset: digits(tokens)?,
+        len: index(tokens)?,
+    })
+}
+
+fn resize(tokens: &mut Tokens) -> Result<Call, RefusedLine>
+    ensures ok { IfOk result (λ asked. call (codes "resize") tokens.old ≡ Some (act_of asked, tokens.new)) }
+    ensures bad { result ≡ Err RefusedLine.BadCall → call (codes "resize") tokens.old ≡ None }
+{
+    Ok(Call::Resize {
+        handle: index(tokens)?,
+        len: digits(tokens)?,
+    })
+}
+
+fn remove(alloc: Global, tokens: &mut Tokens) -> Result<Call, RefusedLine>
+    ensures ok { IfOk result (λ asked. call (codes "remove") tokens.old ≡ Some (act_of asked, tokens.new)) }
+    ensures bad { result ≡ Err RefusedLine.BadCall → call (codes "remove") tokens.old ≡ None }
+{
+    Ok(Call::Remove {
+        partition: text(alloc, tokens)?,
+        name: name(alloc, tokens)?,
+    })
+}
+
+fn scan(alloc: Global, tokens: &mut Tokens) -> Result<Call, RefusedLine>
+    ensures ok { IfOk result (λ asked. call (codes "scan") tokens.old ≡ Some (act_of asked, tokens.new)) }
+    ensures bad { result ≡ Err RefusedLine.BadCall → call (codes "scan") tokens.old ≡ None }
+{
+    Ok(Call::Scan {
+        partition: text(alloc, tokens)?,
     })
 }
 

@@ -5,7 +5,7 @@ use crate::place::More::{Origin, ReadInto, Reserve};
 use crate::world::Step::{Wrapper, WrapperMore, WrapperOpen, WrapperOwn};
 use crate::wrapper_calls::WrapperCall::RemoveRetired;
 
-pub static GROWING: [Row; 22] = [
+pub static GROWING: [Row; 21] = [
     (
         "faulty open_versioned",
         &[],
@@ -78,8 +78,8 @@ pub static GROWING: [Row; 22] = [
     ),
     (
         "faulty resize, failed in part",
-        &[Wrapper("config resize 1 1 1 1")],
-        Wrapper("resize 0 6"),
+        &[Wrapper("open n 63"), Wrapper("config resize 1 1 1 1")],
+        Wrapper("resize 3 2"),
         "error Injected",
     ),
     (
@@ -101,7 +101,6 @@ pub static GROWING: [Row; 22] = [
         "started 0",
     ),
     ("faulty reserve", &[], WrapperMore(0, Reserve(9000)), "ok"),
-    ("faulty origin", &[], WrapperMore(0, Origin), "size 1"),
     (
         "faulty crash",
         &[],
@@ -110,7 +109,8 @@ pub static GROWING: [Row; 22] = [
     ),
 ];
 
-pub static STEADY: [Row; 4] = [
+pub static STEADY: [Row; 5] = [
+    ("faulty origin", &[], WrapperMore(0, Origin), "size 1"),
     ("faulty config", &[], Wrapper("config clear"), "ok"),
     ("faulty admit", &[], Wrapper("admit p 61"), "ok"),
     ("faulty finish", &[], Wrapper("finish 0"), "ok"),

@@ -2,13 +2,13 @@
 
 use crate::cases::Row;
 use crate::memory_calls::MemoryCall::{
-    Audit, CopiedOrigin, Logical, NewOrigin, Raw, Rebuild, ReserveCrash, RetainCrashResize,
+    Audit, ClonedOrigin, Logical, NewOrigin, Raw, Rebuild, ReserveCrash, RetainCrashResize,
     RetainCrashWrite, RetainResize, RetainWrite, SetRaw,
 };
 use crate::place::More::{Origin, ReadInto, Reserve};
 use crate::world::Step::{Memory, MemoryMore, MemoryOpen, MemoryOwn};
 
-pub static GROWING: [Row; 27] = [
+pub static GROWING: [Row; 26] = [
     (
         "memory open_versioned",
         &[],
@@ -128,17 +128,17 @@ pub static GROWING: [Row; 27] = [
         "started 0",
     ),
     ("memory reserve", &[], MemoryMore(0, Reserve(9000)), "ok"),
-    ("memory origin", &[], MemoryMore(0, Origin), "size 1"),
     ("Origin::new", &[], MemoryOwn(NewOrigin), "size 4096"),
     (
-        "Origin::copied",
+        "Origin::clone",
         &[],
-        MemoryOwn(CopiedOrigin(0)),
+        MemoryOwn(ClonedOrigin(0)),
         "size 4096",
     ),
 ];
 
-pub static STEADY: [Row; 9] = [
+pub static STEADY: [Row; 10] = [
+    ("memory origin", &[], MemoryMore(0, Origin), "size 1"),
     ("memory audit", &[], MemoryOwn(Audit), "size 2401795927"),
     (
         "memory take_snapshot and from_snapshot",

@@ -4,7 +4,7 @@ use crate::cases::Row;
 use crate::place::More::{Origin, ReadInto, Reserve};
 use crate::world::Step::{Exclusive, ExclusiveMore, Replace};
 
-pub static GROWING: [Row; 11] = [
+pub static GROWING: [Row; 10] = [
     ("Opens::open", &[], Exclusive("open n 63"), "opened 1 0 0"),
     (
         "Opens::open of an open name",
@@ -55,10 +55,10 @@ pub static GROWING: [Row; 11] = [
         ExclusiveMore(0, Reserve(9000)),
         "ok",
     ),
-    ("exclusive origin", &[], ExclusiveMore(0, Origin), "size 1"),
 ];
 
-pub static STEADY: [Row; 3] = [
+pub static STEADY: [Row; 4] = [
+    ("exclusive origin", &[], ExclusiveMore(0, Origin), "size 1"),
     (
         "exclusive read_at_buf",
         &[],

@@ -1,0 +1,119 @@
+-- What a session holds, and what its calls do to that.
+use Rattle.std.specs.Prelude.{◌≡◌, ◌≢◌, ◌⊎◌, ◌<◌, ◌≤◌, ℕ, List, [], Bool, length, take, drop, Option, Some, None, IfSome, MatchOption}
+use Rattle.blob_faults.specs.declared.config.Config.{Config}
+use Rattle.blob_calls.specs.declared.script.setting.Setting.{Setting}
+use Rattle.blob_calls.specs.declared.reply.Reply.{Reply}
+use Rattle.blob_calls.specs.declared.reply.Reply.TheVariants as replies
+use Rattle.blob_calls.specs.Acts as acts
+use Rattle.blob_calls.specs.Acts.{Act, Through, Read, Write}
+use Rattle.blob_laboratory.specs.LabStands.{Performs}
+use Rattle.blob_calls.specs.Lines.{Blank, Configure, Call, line_of}
+use Rattle.blob_calls.specs.Replies.{reply_line}
+use Rattle.blob_lab.specs.Scripts.{Script, with_line}
+use Rattle.blob_calls.specs.Settings.{configured}
+use Rattle.blob_sessions.specs.declared.kept.Kept.{Kept}
+use Rattle.blob_sessions.specs.declared.session.Session.{Session}
+use Rattle.blob_sessions.specs.declared.ran.Ran.{Ran}
+use Rattle.blob_sessions.specs.declared.ran.TheConstants.{DONE, BAD_LINE, NO_MEMORY, NO_ROOM, CLOSED, OTHER_REPLY, UNPRINTED}
+
+-- A laboratory with what is beside it.
+
+-- a call was made, and its reply is kept
+pub record Makes (k : Kept) (act : Act) (reply : Reply) (k' : Kept) : Type 0 where
+  pub performs : Performs k.lab act reply k'.lab
+  pub last : k'.last ≡ Some reply
+
+-- with these settings the line says this call, and leaves these
+abbrev pub SaysCall : Config → List ℕ → Act → Config → Type 0
+SaysCall c line act d = ((line_of line ≡ Some (Call act)) × (d ≡ c)) ⊎ ((setting : Setting) × (line_of line ≡ Some (Configure setting)) × (d ≡ configured c setting) × (act ≡ acts.Configure d))
+
+-- the call of a line was made, with a reply of which this holds
+abbrev pub Calls : Kept → List ℕ → Kept → (Reply → Type 0) → Type 0
+Calls k line k' P = (act : Act) × (reply : Reply) × SaysCall k.config line act k'.config × Makes k act reply k' × P reply
+
+-- the call of a line was made and its reply is printed; or the line says nothing, and nothing was done
+abbrev pub PrintsReply : Kept → List ℕ → Kept → List ℕ → Type 0
+PrintsReply k line k' printed = Calls k line k' (λ reply. printed ≡ reply_line reply) ⊎ ((line_of line ≡ Some Blank) × (k' ≡ k) × (printed ≡ []))
+
+-- behind a call it is no line of a script
+abbrev pub IsNoCall : List ℕ → Type 0
+IsNoCall line = (s : Script) → s.calls ≢ [] → with_line s line ≡ None
+
+-- Each call by the status that it ends with. Where no call was made, nothing has changed.
+
+-- a line
+pub record RunsLine (k k' : Kept) (line : List ℕ) (ran : Ran) (old new : List ℕ) : Type 0 where
+  pub done : ran.status ≡ DONE → PrintsReply k line k' (take ran.len new)
+  pub no_room : ran.status ≡ NO_ROOM → Calls k line k' (λ reply. (ran.len ≡ length (reply_line reply)) × (length old < ran.len))
+  pub unprinted : ran.status ≡ UNPRINTED → Calls k line k' (λ reply. Unit {0})
+  pub bad_line : ran.status ≡ BAD_LINE → IsNoCall line × (k' ≡ k)
+  pub no_memory : ran.status ≡ NO_MEMORY → k' ≡ k
+  pub status : (ran.status ≡ DONE) ⊎ (ran.status ≡ NO_ROOM) ⊎ (ran.status ≡ UNPRINTED) ⊎ (ran.status ≡ BAD_LINE) ⊎ (ran.status ≡ NO_MEMORY)
+  pub no_reply : (ran.status ≡ DONE) ⊎ (ran.status ≡ NO_ROOM) ⊎ (ran.len ≡ 0)
+  -- a length beyond the room is told where room is wanted, and nowhere else
+  pub within : (ran.status ≡ NO_ROOM) ⊎ (ran.len ≤ length old)
+  pub unwritten : (ran.status ≡ DONE) ⊎ (new ≡ old)
+  -- behind the reply the caller's room is as it was
+  pub behind : drop ran.len new ≡ drop ran.len old
+
+-- the last reply once more; of no call yet it has no bytes
+pub record TellsAgain (k k' : Kept) (ran : Ran) (old new : List ℕ) : Type 0 where
+  pub done : ran.status ≡ DONE → MatchOption k.last (ran.len ≡ 0) (λ reply. take ran.len new ≡ reply_line reply)
+  pub no_room : ran.status ≡ NO_ROOM → IfSome k.last (λ reply. (ran.len ≡ length (reply_line reply)) × (length old < ran.len))
+  pub status : (ran.status ≡ DONE) ⊎ (ran.status ≡ NO_ROOM) ⊎ (ran.status ≡ UNPRINTED)
+  pub no_reply : (ran.status ≡ DONE) ⊎ (ran.status ≡ NO_ROOM) ⊎ (ran.len ≡ 0)
+  -- a length beyond the room is told where room is wanted, and nowhere else
+  pub within : (ran.status ≡ NO_ROOM) ⊎ (ran.len ≤ length old)
+  pub unwritten : (ran.status ≡ DONE) ⊎ (new ≡ old)
+  -- behind the reply the caller's room is as it was
+  pub behind : drop ran.len new ≡ drop ran.len old
+  -- nothing changes but the text that replies are printed into
+  pub lab : k'.lab ≡ k.lab
+  pub config : k'.config ≡ k.config
+  pub last : k'.last ≡ k.last
+
+-- a write, which asks to be done
+pub record AnswersWrite (k k' : Kept) (handle offset : ℕ) (bytes : List ℕ) (sync : Bool) (status : ℕ) : Type 0 where
+  pub done : status ≡ DONE → Makes k (Through handle (Write offset bytes sync)) replies.Done k'
+  pub other : status ≡ OTHER_REPLY → (reply : Reply) × Makes k (Through handle (Write offset bytes sync)) reply k' × (reply ≢ replies.Done)
+  pub no_memory : status ≡ NO_MEMORY → k' ≡ k
+  pub config : k'.config ≡ k.config
+  pub known : (status ≡ DONE) ⊎ (status ≡ OTHER_REPLY) ⊎ (status ≡ NO_MEMORY)
+
+-- a reply with these bytes, or with so many
+abbrev pub RepliesBytes : Reply → List ℕ → Type 0
+RepliesBytes (replies.Bytes found) bytes = found.items ≡ bytes
+RepliesBytes reply bytes = ⊥
+
+abbrev pub HasLength : Reply → ℕ → Type 0
+HasLength (replies.Bytes found) len = length found.items ≡ len
+HasLength reply len = ⊥
+
+-- a read, which asks for as many bytes as there is room for
+pub record AnswersRead (k k' : Kept) (handle offset : ℕ) (status : ℕ) (old new : List ℕ) : Type 0 where
+  pub done : status ≡ DONE → (reply : Reply) × Makes k (Through handle (Read offset (length old))) reply k' × RepliesBytes reply new
+  pub other : status ≡ OTHER_REPLY → (reply : Reply) × Makes k (Through handle (Read offset (length old))) reply k' × (HasLength reply (length old) → ⊥) × (new ≡ old)
+  pub config : k'.config ≡ k.config
+  pub known : (status ≡ DONE) ⊎ (status ≡ OTHER_REPLY)
+
+-- a session that isn't open was asked
+pub record IsClosed (ran : Ran) (old new : List ℕ) : Type 0 where
+  pub status : ran.status ≡ CLOSED
+  pub len : ran.len ≡ 0
+  pub unwritten : new ≡ old
+
+-- A session.
+
+abbrev pub kept_of : Session → Option Kept
+kept_of session = session.loose.value
+
+-- what was held and is: an open session stays open, and a closed one closed
+abbrev pub OnHeld : Option Kept → Option Kept → (Kept → Kept → Type 0) → Type 0 → Type 0
+OnHeld None None Open Closed = Closed
+OnHeld (Some k) (Some k') Open Closed = Open k k'
+OnHeld old new Open Closed = ⊥
+
+-- a read through a session; a closed one is told to be, and fills nothing
+abbrev pub ReadsInto : Session → Session → ℕ → ℕ → ℕ → List ℕ → List ℕ → Type 0
+ReadsInto before after handle offset status old new =
+    OnHeld (kept_of before) (kept_of after) (λ k k'. AnswersRead k k' handle offset status old new) ((status ≡ CLOSED) × (new ≡ old))

@@ -1,0 +1,180 @@
+// A laboratory with what its lines need beside it.
+ghost use Rattle.std.specs.Prelude.{◌≡◌, Some, None, IfSome, IfNone, IfOk, OnErr};
+ghost use Rattle.blob_calls.specs.Acts.{act_of};
+ghost use Rattle.blob_calls.specs.Lines.{Blank, line_of};
+ghost use Rattle.blob_calls.specs.Settings.{configured};
+ghost use Rattle.blob_sessions.specs.Sessions.{RunsLine, AnswersRead, AnswersWrite, SaysCall, IsNoCall, Makes, TellsAgain};
+
+use crate::ran::{BAD_LINE, DONE, NO_MEMORY, NO_ROOM, OTHER_REPLY, Ran, UNPRINTED};
+use blob_faulty::Config;
+use blob_lab::script::{Line, RefusedLine, Setting, print_reply, read_line};
+use blob_lab::{Call, Lab, Reply};
+use std::alloc::Global;
+
+/// A laboratory, its settings, and the reply to its last call.
+pub struct Kept {
+    lab: Lab,
+    config: Config,
+    last: Option<Reply>,
+    /// Used again for each reply that is printed.
+    text: String,
+}
+
+impl Drop for Kept {
+    fn drop(self) {
+        let Kept {
+            lab,
+            config: _,
+            last: _,
+            text: _,
+        } = self;
+        lab.end();
+    }
+}
+
+impl Kept {
+    pub fn new(alloc: Global, lab: Lab, config: Config) -> Kept
+        ensures lab { result.lab ≡ lab }
+        ensures config { result.config ≡ config }
+        ensures last { result.last ≡ None }
+    {
+        Kept {
+            lab,
+            config,
+            last: None,
+            text: String::new(alloc),
+        }
+    }
+
+    /// Makes the call that a line says, and prints its reply. A line that says nothing is answered with nothing.
+    pub fn call(&mut self, alloc: Global, line: &[u8], reply: &mut [u8]) -> Ran
+        ensures { RunsLine self.old self.new line.now result reply.old reply.new }
+    {
+        match self.read_call(alloc, line) {
+            Ok(Some(call)) => {
+                self.make(&call);
+                self.tell(reply)
+            }
+            Ok(None) => Ran::stopped(DONE),
+            Err(RefusedLine::BadCall) => Ran::stopped(BAD_LINE),
+            Err(RefusedLine::NoMemory) => Ran::stopped(NO_MEMORY),
+        }
+    }
+
+    /// Prints the reply to the last call, or nothing where there was none.
+    pub fn tell(&mut self, reply: &mut [u8]) -> Ran
+        ensures { TellsAgain self.old self.new result reply.old reply.new }
+    {
+        let Some(made) = &self.last else {
+            return Ran::stopped(DONE);
+        };
+        self.text.clear();
+        if print_reply(made, &mut self.text).is_err() {
+            return Ran::stopped(UNPRINTED);
+        }
+        let bytes = self.text.as_bytes();
+        let len = bytes.len();
+        if len > reply.len() {
+            return Ran {
+                status: NO_ROOM,
+                len,
+            };
+        }
+        reply[..len].copy_from_slice(bytes);
+        Ran { status: DONE, len }
+    }
+
+    /// Writes bytes through a handle.
+    pub fn write(
+        &mut self,
+        alloc: Global,
+        handle: usize,
+        offset: u64,
+        bytes: &[u8],
+        sync: bool,
+    ) -> u32
+        ensures { AnswersWrite self.old self.new handle offset bytes.now sync result }
+    {
+        let Ok(bytes) = Vec::from_slice(alloc, bytes) else {
+            return NO_MEMORY;
+        };
+        self.make(&Call::Write {
+            handle,
+            offset,
+            bytes,
+            sync,
+        });
+        match &self.last {
+            Some(Reply::Done) => DONE,
+            _ => OTHER_REPLY,
+        }
+    }
+
+    /// Reads as many bytes through a handle as there is room for.
+    pub fn read(&mut self, handle: usize, offset: u64, into: &mut [u8]) -> u32
+        ensures { AnswersRead self.old self.new handle offset result into.old into.new }
+    {
+        self.make(&Call::Read {
+            handle,
+            offset,
+            len: into.len(),
+        });
+        match &self.last {
+            Some(Reply::Bytes(bytes)) if bytes.len() == into.len() => {
+                into.copy_from_slice(bytes);
+                DONE
+            }
+            _ => OTHER_REPLY,
+        }
+    }
+
+    /// Reads a line; none where it is empty or a comment.
+    fn read_call(&mut self, alloc: Global, line: &[u8]) -> Result<Option<Call>, RefusedLine>
+        ensures call { IfOk result (λ read. IfSome read (λ call. SaysCall self.old.config line.now (act_of call) self.new.config)) }
+        ensures blank { IfOk result (λ read. IfNone read (line_of line.now ≡ Some Blank)) }
+        ensures bad { result ≡ Err RefusedLine.BadCall → IsNoCall line.now }
+        ensures nothing { IfOk result (λ read. IfNone read (self.new ≡ self.old)) }
+        ensures err { OnErr result (self.new ≡ self.old) }
+        ensures kept { self.new ≡ record self.old { config = self.new.config } }
+    {
+        match read_line(alloc, line)? {
+            Line::Call(call) => Ok(Some(call)),
+            Line::Configure(setting) => Ok(Some(self.configure(setting))),
+            Line::Blank => Ok(None),
+            Line::Image { .. } | Line::Words(_) | Line::Seed(_) => Err(RefusedLine::BadCall),
+        }
+    }
+
+    /// Makes a call, whose reply is kept.
+    fn make(&mut self, call: &Call)
+        ensures made { (reply : Reply) × Makes self.old (act_of call.now) reply self.new }
+        ensures config { self.new.config ≡ self.old.config }
+    {
+        let reply = self.lab.apply(call);
+        self.last = Some(reply);
+    }
+
+    /// The call that hands the whole configuration so far on.
+    fn configure(&mut self, setting: Setting) -> Call
+        ensures whole { result ≡ Call.Configure (configured self.old.config setting) }
+        ensures kept { self.new ≡ record self.old { config = configured self.old.config setting } }
+    {
+        self.config = setting.apply(copy_of(&self.config));
+        Call::Configure(copy_of(&self.config))
+    }
+}
+
+/// The same configuration once more.
+pub fn copy_of(config: &Config) -> Config
+    ensures { result ≡ config.now }
+{
+    Config {
+        open_rate: config.open_rate,
+        read_rate: config.read_rate,
+        write_rate: config.write_rate,
+        sync_rate: config.sync_rate,
+        resize_rate: config.resize_rate,
+        remove_rate: config.remove_rate,
+        scan_rate: config.scan_rate,
+    }
+}

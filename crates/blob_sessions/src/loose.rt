@@ -1,0 +1,56 @@
+// A box as its pointer, or none, in a struct that C may hold.
+ghost use Rattle.std.specs.Prelude.{◌≡◌, Option, Some, None, IsSome};
+ghost use Rattle.std.specs.contracts.impls.GlobalAllocator.TheImpl.{ghosts};
+ghost use Rattle.blob_sessions.specs.Owned.{owned, kept_code};
+ghost use Rattle.blob_sessions.specs.declared.kept.Kept.{Kept};
+ghost use Rattle.blob_sessions.specs.contracts.kept.Kept.{the_row as kept-row};
+
+use crate::kept::Kept;
+use std::alloc::Global;
+use std::marker::Model;
+
+/// What lies behind the pointer is not C's.
+#[repr(C)]
+pub struct Opaque {
+    byte: u8,
+}
+
+#[repr(C)]
+#[derive(Drop)]
+pub struct Loose {
+    at: *mut Opaque,
+    alloc: Global,
+    pub ghost value: { Option Kept } by { kept_code },
+}
+
+impl Model for Loose {
+    ghost also_owns = { λ l. owned (ghosts.dealloc_token l.alloc) kept-row l.at l.value };
+}
+
+impl Loose {
+    pub fn none(alloc: Global) -> Loose
+        ensures { result.value ≡ None }
+    {
+        Loose {
+            at: std::ptr::null_mut(),
+            alloc,
+        }
+    }
+
+    pub fn of(value: Box<Kept>) -> Loose
+        ensures { result.value ≡ Some value.value }
+    {
+        let (at, alloc) = Box::into_raw_with_allocator(value);
+        let at = at as *mut Opaque;
+        Loose { at, alloc }
+    }
+
+    pub fn into_box(self) -> Box<Kept>
+        requires { IsSome self.value }
+        ensures { self.value ≡ Some result.value }
+    {
+        let Loose { at, alloc } = self;
+        let at = at as *mut Kept;
+        unsafe { Box::from_raw(alloc, at) }
+    }
+}

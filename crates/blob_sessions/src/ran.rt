@@ -1,0 +1,62 @@
+// What an exported call answers. C can't be handed an enum, so that a status is a number with a name.
+ghost use Rattle.std.specs.Prelude.{◌≡◌};
+
+/// The call is done; `len` bytes of its reply stand in the caller's room.
+pub const DONE: u32 = 0;
+/// A script has more lines than can be counted.
+pub const ENDLESS: u32 = 1;
+/// A line isn't a call, or may not stand there: no call was made.
+pub const BAD_LINE: u32 = 2;
+/// No memory could be had: no call was made.
+pub const NO_MEMORY: u32 = 3;
+/// The call was made, but its reply of `len` bytes doesn't fit. It is kept.
+pub const NO_ROOM: u32 = 4;
+/// The session isn't open.
+pub const CLOSED: u32 = 5;
+/// The call was made, and was given another reply than the one that it asks for. It is kept.
+pub const OTHER_REPLY: u32 = 6;
+/// The call was made, but no memory could be had to print its reply. It is kept.
+pub const UNPRINTED: u32 = 7;
+
+/// How a call ended, and how many bytes its reply has.
+#[repr(C)]
+#[derive(Clone, Copy)]
+pub struct Ran {
+    /// One of the statuses above.
+    pub status: u32,
+    /// In bytes; with `NO_ROOM` the room that is wanted.
+    pub len: usize,
+}
+
+/// How a script ended, how many bytes its replies have, and which line is bad, counted from 1.
+#[repr(C)]
+#[derive(Clone, Copy)]
+pub struct ScriptRan {
+    /// One of the statuses above.
+    pub status: u32,
+    /// In bytes; with `NO_ROOM` the room that is wanted.
+    pub len: usize,
+    /// With `BAD_LINE` the line's number, and with `NO_ROOM` that of the bad line before which the run stops; else 0.
+    pub line: u64,
+}
+
+impl Ran {
+    /// Without a reply.
+    pub fn stopped(status: u32) -> Ran
+        ensures { result ≡ record { status = status; len = 0 } }
+    {
+        Ran { status, len: 0 }
+    }
+}
+
+impl ScriptRan {
+    pub fn stopped(status: u32) -> ScriptRan
+        ensures { result ≡ record { status = status; len = 0; line = 0 } }
+    {
+        ScriptRan {
+            status,
+            len: 0,
+            line: 0,
+        }
+    }
+}

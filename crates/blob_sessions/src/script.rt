@@ -1,0 +1,53 @@
+// A whole script at once.
+ghost use Rattle.std.specs.Prelude.{◌≡◌, ◌⊎◌, ◌<◌, ◌≤◌, ℕ, Some, [], take, drop, length};
+ghost use Rattle.blob_lab.specs.Scripts.{Prints, PrintsBefore, no_script, lines_of, script_of};
+ghost use Rattle.blob_sessions.specs.WholeScripts.{WantsRoom};
+
+use crate::ran::{BAD_LINE, DONE, ENDLESS, NO_MEMORY, NO_ROOM, ScriptRan};
+use blob_lab::run_script::run_script;
+use blob_lab::{Ending, Input, Output};
+use std::alloc::Global;
+
+/// Runs a script, and copies what it prints where there is room for it. Where there is none, `len` says how much is wanted.
+pub fn run(alloc: Global, script: &[u8], replies: &mut [u8]) -> ScriptRan
+    ensures done { result.status ≡ DONE → Prints (script_of (lines_of script.now)) (Some []) (Some (take result.len replies.new)) }
+    ensures bad_line { result.status ≡ BAD_LINE → PrintsBefore no_script 1 result.line (lines_of script.now) (Some []) (Some (take result.len replies.new)) }
+    ensures no_room { result.status ≡ NO_ROOM → length replies.old < result.len }
+    ensures wanted { result.status ≡ NO_ROOM → WantsRoom script.now result.line result.len }
+    ensures no_line { result.status ≡ DONE → result.line ≡ 0 }
+    ensures stopped { (result.status ≡ NO_MEMORY) ⊎ (result.status ≡ ENDLESS) → (result.len ≡ 0) × (result.line ≡ 0) }
+    ensures unwritten { (result.status ≡ DONE) ⊎ (result.status ≡ BAD_LINE) ⊎ (replies.new ≡ replies.old) }
+    ensures behind { drop result.len replies.new ≡ drop result.len replies.old }
+    ensures within { (result.status ≡ NO_ROOM) ⊎ (result.len ≤ length replies.old) }
+    ensures status { (result.status ≡ DONE) ⊎ (result.status ≡ BAD_LINE) ⊎ (result.status ≡ NO_ROOM) ⊎ (result.status ≡ NO_MEMORY) ⊎ (result.status ≡ ENDLESS) }
+{
+    let (ending, printed) = printed_by(alloc, script);
+    let (status, line) = match ending {
+        Ending::Done => (DONE, 0),
+        Ending::BadCall(line) => (BAD_LINE, line),
+        Ending::InputFailed => return ScriptRan::stopped(ENDLESS),
+        // A list is a writer that fails for want of memory alone.
+        _ => return ScriptRan::stopped(NO_MEMORY),
+    };
+    let len = printed.len();
+    if len > replies.len() {
+        return ScriptRan {
+            status: NO_ROOM,
+            len,
+            line,
+        };
+    }
+    replies[..len].copy_from_slice(&printed);
+    ScriptRan { status, len, line }
+}
+
+/// How a script ends, and what it prints.
+fn printed_by(alloc: Global, script: &[u8]) -> (Ending, Vec<u8>)
+    ensures done { result.0 ≡ Ending.Done → Prints (script_of (lines_of script.now)) (Some []) (Some result.1.items) }
+    ensures bad_call { (number : ℕ) → result.0 ≡ Ending.BadCall number → PrintsBefore no_script 1 number (lines_of script.now) (Some []) (Some result.1.items) }
+{
+    let mut input = Input::new(script);
+    let mut output = Output::new(Vec::new(alloc));
+    let ending = run_script(alloc, &mut input, &mut output);
+    (ending, output.into_writer())
+}

@@ -1,0 +1,59 @@
+// What a program in another language holds of a laboratory.
+ghost use Rattle.std.specs.Prelude.{◌≡◌, Some, None, is_some, option_map};
+
+use crate::kept::Kept;
+use crate::loose::Loose;
+use std::alloc::Global;
+use std::mem;
+
+/// A laboratory, or none. All zeros are none.
+#[repr(C)]
+#[derive(Drop)]
+pub struct Session {
+    loose: Loose,
+    is_open: bool,
+    ghost tells: { is_open ≡ is_some loose.value },
+}
+
+impl Session {
+    ghost use Rattle.blob_sessions.specs.Sessions.{kept_of};
+
+    pub fn closed(alloc: Global) -> Session
+        ensures { kept_of result ≡ None }
+    {
+        Session {
+            loose: Loose::none(alloc),
+            is_open: false,
+        }
+    }
+
+    /// An open session.
+    pub fn of(kept: Box<Kept>) -> Session
+        ensures { kept_of result ≡ Some kept.value }
+    {
+        Session {
+            loose: Loose::of(kept),
+            is_open: true,
+        }
+    }
+
+    /// Takes out what it holds, and leaves it closed.
+    pub fn take(&mut self, alloc: Global) -> Option<Box<Kept>>
+        ensures was { option_map (λ kept. kept.value) result ≡ kept_of self.old }
+        ensures now { kept_of self.new ≡ None }
+    {
+        let Session { loose, is_open } = mem::replace(self, Session::closed(alloc));
+        if is_open {
+            Some(loose.into_box())
+        } else {
+            None
+        }
+    }
+
+    /// Closes it, and ends what it held.
+    pub fn close(&mut self, alloc: Global)
+        ensures { kept_of self.new ≡ None }
+    {
+        let _ = self.take(alloc);
+    }
+}
