@@ -82,8 +82,8 @@ impl Contents {
         Ok(())
     }
 
-    /// Gives a name that has no current incarnation a new one, with these logical bytes. The only error is want of memory,
-    /// where the name has no file; it leaves everything as it was.
+    /// Gives a name that has no current incarnation a new one, with these logical bytes. The only error is want of memory, and
+    /// leaves everything as it was.
     pub fn create(
         &mut self,
         partition: &str,
@@ -98,7 +98,6 @@ impl Contents {
         ensures durable { OnOk result (durable_of self.new ≡ durable_made self.old partition.now name.now layout bytes.items) }
         ensures err { OnErr result (directory_of self.new ≡ directory_of self.old) }
         ensures err_durable { OnErr result (durable_of self.new ≡ durable_of self.old) }
-        ensures succeeds { IsSome ((directory_of self.old).file partition.now name.now) → IsOk result }
     {
         let number = self.next;
         let item = Item::Held(Held {
@@ -107,7 +106,7 @@ impl Contents {
             version,
             bytes,
         });
-        self.partitions.put(partition, name, item)?;
+        self.partitions.insert(partition, name, item)?;
         self.next = number + 1;
         Ok(())
     }
