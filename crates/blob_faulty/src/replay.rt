@@ -11,7 +11,7 @@ ghost use Rattle.blob_faulty.specs.Crashes.{ChoosesUncovered, ReplaysList, Repla
 ghost use Rattle.blob_faulty.specs.Ready.{IsReady, CanReplay};
 ghost use Rattle.blob_faults.specs.Rows.{rows_in, AreNumbered};
 ghost use Rattle.blob_faults.specs.Views.{view, views};
-ghost use Rattle.blob_memory.specs.Overlays.{AreNow};
+ghost use Rattle.blob_overlay.specs.Overlays.{AreNow};
 ghost use Rattle.blob_memory.specs.Retained.{KeepsRoom};
 ghost use Rattle.blob_memory.specs.Store.{directory, durable};
 

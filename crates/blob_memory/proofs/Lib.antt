@@ -9,6 +9,4 @@ pub mod Kept
 pub mod Lent
 pub mod Listings
 pub mod Openings
-pub mod Overlays
-pub mod Pieces
 pub mod Rooms

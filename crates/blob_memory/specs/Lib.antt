@@ -9,7 +9,6 @@ pub mod Laws
 pub mod Leaves
 pub mod Listing
 pub mod Numbers
-pub mod Overlays
 pub mod Partitions
 pub mod Retained
 pub mod StorageLends

@@ -7,10 +7,11 @@ ghost use Rattle.blob_model.specs.Live.{live_after};
 ghost use Rattle.blob_header.specs.Refusals.{refused, refusal_of, IsMemory};
 ghost use Rattle.blob_memory.specs.Answers.{missing, read_refusal};
 
+use crate::live;
 use crate::origin::Origin;
 use crate::storage::Storage;
-use crate::{live, overlay};
 use blob_base::{Error, Handle, IoBufs, IoBufsMut, ReadOptions, WriteOptions};
+use blob_overlay::overlay;
 use std::alloc::AllocError;
 
 /// A handle on a blob of the memory store: live bytes of its own, and the incarnation that they were opened on.

@@ -7,8 +7,9 @@ ghost use Rattle.blob_memory.specs.Store.{place, live, directory, live_room, roo
 ghost use Rattle.blob_memory.specs.declared.storage.Storage.{Storage};
 
 use crate::blob::Blob;
-use crate::{live, overlay};
+use crate::live;
 use blob_base::Error;
+use blob_overlay::overlay;
 
 impl Blob {
     /// Reads live bytes from the logical `offset` on, as many as fill `buf`, by a stale handle too. Takes no memory.

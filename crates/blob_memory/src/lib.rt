@@ -10,13 +10,13 @@ pub mod images;
 mod item;
 mod live;
 pub mod origin;
-pub mod overlay;
 mod partitions;
 pub mod retain;
 pub mod snapshot;
 pub mod storage;
 
 pub use blob::Blob;
+pub use blob_overlay::overlay;
 pub use origin::Origin;
 pub use snapshot::Snapshot;
 pub use storage::Storage;

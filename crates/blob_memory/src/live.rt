@@ -4,8 +4,8 @@ ghost use Rattle.blob_model.specs.Bytes.{written};
 ghost use Rattle.blob_header.specs.Refusals.{refused, OffsetOverflow, IsMemory};
 ghost use Rattle.blob_memory.specs.Answers.{is_uncounted};
 
-use crate::overlay;
 use blob_base::{Error, IoBufs};
+use blob_overlay::overlay;
 
 /// The logical end of a range, where the raw one, behind a header of `start` bytes, can be counted; else `OffsetOverflow`.
 pub fn logical_end(start: u64, offset: u64, len: usize) -> Result<usize, Error>

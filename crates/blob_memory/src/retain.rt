@@ -9,9 +9,9 @@ ghost use Rattle.blob_model.specs.Runs.{picked};
 use crate::blob::Blob;
 use crate::live::logical_end;
 use crate::origin::Origin;
-use crate::overlay;
 use crate::storage::Storage;
 use blob_base::{Error, IoBufs};
+use blob_overlay::overlay;
 
 impl Storage {
     ghost use Rattle.blob_memory.specs.Retained.{KeepsRoom, NeedsRoom, NeedsWriteRoom, Retains};

@@ -7,8 +7,8 @@ ghost use Rattle.blob_memory.specs.Listing.{listing_at};
 
 use super::Contents;
 use crate::item::{Held, Item};
-use crate::overlay::drop_front;
 use blob_base::{BlobVersion, Layout};
+use blob_overlay::overlay::drop_front;
 
 /// The logical bytes of an item, where those of a raw file begin at `start`. They keep their memory.
 fn into_logical(item: Item, start: usize) -> Vec<u8>

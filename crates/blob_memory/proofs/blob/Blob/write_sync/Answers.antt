@@ -2,7 +2,7 @@ use Rattle.std.proofs.Common.{◌≡◌, sym, ap, refl, [], length, arith}
 use Rattle.blob_memory.specs.Store.{place, durable}
 use Rattle.blob_memory.proofs.ByBytes.{on_err}
 use Rattle.blob_memory.proofs.Kept.{lent, alters, stays, rooms}
-use Rattle.blob_memory.proofs.Overlays.{overlay_empty}
+use Rattle.blob_overlay.proofs.Overlays.{overlay_empty}
 use Rattle.blob_memory.proofs.Rooms.{changed_idle, room_kept}
 use Rattle.blob_memory.proofs.blob.Blob.write_sync.Goals as goal
 

@@ -1,0 +1,10 @@
+use Rattle.std.proofs.Common.{◌≡◌, ◌+◌, length, take}
+use Rattle.std.specs.List.{flat_map}
+use Rattle.blob_model.specs.Bytes.{overlay}
+use Rattle.blob_overlay.proofs.overlay.copy_pieces.Given as goal
+
+abbrev pub invariant-loop-piece : goal.invariant-loop-piece
+invariant-loop-piece l = record {
+  at : l.at ≡ l.offset + length (flat_map (λ p. p.items) (take l.piece-index l.pieces));
+  laid : l.bytes ≡ overlay l.initial.bytes l.offset (flat_map (λ p. p.items) (take l.piece-index l.pieces));
+}

@@ -1,0 +1,210 @@
+//! What a write and a resize make of a vector of bytes. Room is taken first; the rest takes no memory.
+ghost use Rattle.std.specs.Prelude.{◌≡◌, ◌≤◌, ◌<◌, ◌+◌, ◌^◌, length, max, drop, true, IsOk, OnOk, OnErr, vec_capacity};
+ghost use Rattle.std.specs.List.{flat_map, list_all};
+ghost use Rattle.blob_model.specs.Bytes.{overlay, overlay_by, reach, resized};
+ghost use Rattle.blob_model.specs.Runs.{picked};
+ghost use Rattle.blob_overlay.specs.Overlays.{AreNow, Grows};
+
+use blob_base::IoBufs;
+use std::alloc::AllocError;
+
+/// Room for so many bytes.
+pub fn make_room(bytes: &mut Vec<u8>, len: usize) -> Result<(), AllocError>
+    ensures bytes { Grows result bytes.old bytes.new len bytes.old.items }
+    ensures room { OnOk result (len ≤ vec_capacity bytes.new) }
+{
+    if bytes.capacity() < len {
+        bytes.reserve(len - bytes.len())?;
+    }
+    Ok(())
+}
+
+/// Adds zeros up to a length.
+pub fn grow(bytes: &mut Vec<u8>, len: usize)
+    requires { len ≤ vec_capacity bytes.old }
+    ensures { AreNow bytes.old bytes.new (resized bytes.old.items (max (length bytes.old.items) len)) }
+{
+    if bytes.len() < len {
+        bytes.resize(len, 0).unwrap();
+    }
+}
+
+/// Cuts off what lies past a length, or adds zeros up to it.
+fn set_len(bytes: &mut Vec<u8>, len: usize)
+    requires { len ≤ vec_capacity bytes.old }
+    ensures { AreNow bytes.old bytes.new (resized bytes.old.items len) }
+{
+    bytes.resize(len, 0).unwrap();
+}
+
+/// The end of the last chosen byte, or 0.
+fn reach_of(offset: usize, keep: &[bool]) -> usize
+    requires { offset + length keep.now < 2 ^ 64 }
+    ensures { result ≡ reach offset (length keep.now) (picked keep.now) }
+{
+    let mut end = 0;
+    for (i, kept) in keep.iter().enumerate() {
+        if *kept {
+            end = offset + i + 1;
+        }
+    }
+    end
+}
+
+/// Copies a run over bytes that are there.
+fn copy_over(bytes: &mut [u8], offset: usize, run: &[u8])
+    requires { offset + length run.now ≤ length bytes.old }
+    ensures { bytes.new ≡ overlay bytes.old offset run.now }
+{
+    let end = offset + run.len();
+    bytes[offset..end].copy_from_slice(run);
+}
+
+/// Copies the pieces of a run one after another over bytes that are there.
+fn copy_pieces(bytes: &mut [u8], offset: usize, pieces: &[Vec<u8>])
+    requires fits { offset + length (flat_map (λ p. p.items) pieces.now) < 2 ^ 64 }
+    requires inside { offset + length (flat_map (λ p. p.items) pieces.now) ≤ length bytes.old }
+    ensures { bytes.new ≡ overlay bytes.old offset (flat_map (λ p. p.items) pieces.now) }
+{
+    let mut at = offset;
+    for piece in pieces {
+        copy_over(bytes, at, piece);
+        at += piece.len();
+    }
+}
+
+/// Copies the chosen bytes of a run one by one.
+fn copy_some(bytes: &mut [u8], offset: usize, run: &[u8], keep: &[bool])
+    requires same { length keep.now ≡ length run.now }
+    requires fits { offset + length run.now < 2 ^ 64 }
+    requires inside { reach offset (length run.now) (picked keep.now) ≤ length bytes.old }
+    ensures { bytes.new ≡ overlay_by bytes.old offset run.now (picked keep.now) }
+{
+    for (i, kept) in keep.iter().enumerate() {
+        if *kept {
+            bytes[offset + i] = run[i];
+        }
+    }
+}
+
+/// Whether all are chosen.
+fn are_all(keep: &[bool]) -> bool
+    ensures { result ≡ list_all (λ kept. kept) keep.now }
+{
+    keep.iter().all(|kept| *kept)
+}
+
+/// Copies the chosen bytes of a run over bytes that are there.
+fn copy_chosen(bytes: &mut [u8], offset: usize, run: &[u8], keep: &[bool])
+    requires same { length keep.now ≡ length run.now }
+    requires fits { offset + length run.now < 2 ^ 64 }
+    requires inside { reach offset (length run.now) (picked keep.now) ≤ length bytes.old }
+    ensures { bytes.new ≡ overlay_by bytes.old offset run.now (picked keep.now) }
+{
+    if !run.is_empty() && are_all(keep) {
+        copy_over(bytes, offset, run);
+    } else {
+        copy_some(bytes, offset, run, keep);
+    }
+}
+
+/// Copies the chosen bytes of a run's pieces one after another over bytes that are there.
+fn copy_chosen_pieces(bytes: &mut [u8], offset: usize, pieces: &[Vec<u8>], keep: &[bool])
+    requires same { length keep.now ≡ length (flat_map (λ p. p.items) pieces.now) }
+    requires fits { offset + length (flat_map (λ p. p.items) pieces.now) < 2 ^ 64 }
+    requires inside { reach offset (length (flat_map (λ p. p.items) pieces.now)) (picked keep.now) ≤ length bytes.old }
+    ensures { bytes.new ≡ overlay_by bytes.old offset (flat_map (λ p. p.items) pieces.now) (picked keep.now) }
+{
+    let mut done = 0;
+    for piece in pieces {
+        let end = done + piece.len();
+        let part = &keep[done..end];
+        copy_chosen(bytes, offset + done, piece, part);
+        done = end;
+    }
+}
+
+/// Lays a run over bytes that have room for it.
+pub fn lay(bytes: &mut Vec<u8>, offset: usize, run: &IoBufs)
+    requires fits { offset + length run.now < 2 ^ 64 }
+    requires room { offset + length run.now ≤ vec_capacity bytes.old }
+    ensures { AreNow bytes.old bytes.new (overlay bytes.old.items offset run.now) }
+{
+    let len = run.remaining();
+    if len == 0 {
+        return;
+    }
+    grow(bytes, offset + len);
+    copy_pieces(bytes.as_mut_slice(), offset, run.pieces());
+}
+
+/// The same of one piece.
+pub fn lay_slice(bytes: &mut Vec<u8>, offset: usize, run: &[u8])
+    requires fits { offset + length run.now < 2 ^ 64 }
+    requires room { offset + length run.now ≤ vec_capacity bytes.old }
+    ensures { AreNow bytes.old bytes.new (overlay bytes.old.items offset run.now) }
+{
+    let len = run.len();
+    if len == 0 {
+        return;
+    }
+    grow(bytes, offset + len);
+    copy_over(bytes.as_mut_slice(), offset, run);
+}
+
+/// Lays the chosen bytes of a run. The only error is want of memory, where there was no room; it leaves the bytes.
+pub fn write_chosen(
+    bytes: &mut Vec<u8>,
+    offset: usize,
+    run: &IoBufs,
+    keep: &[bool],
+) -> Result<(), AllocError>
+    requires same { length keep.now ≡ length run.now }
+    requires fits { offset + length run.now < 2 ^ 64 }
+    ensures { Grows result bytes.old bytes.new (reach offset (length run.now) (picked keep.now)) (overlay_by bytes.old.items offset run.now (picked keep.now)) }
+{
+    let end = reach_of(offset, keep);
+    make_room(bytes, end)?;
+    grow(bytes, end);
+    copy_chosen_pieces(bytes.as_mut_slice(), offset, run.pieces(), keep);
+    Ok(())
+}
+
+/// Lays a run. The only error is want of memory, where there was no room; it leaves the bytes.
+pub fn write(bytes: &mut Vec<u8>, offset: usize, run: &IoBufs) -> Result<(), AllocError>
+    requires { offset + length run.now < 2 ^ 64 }
+    ensures { Grows result bytes.old bytes.new (offset + length run.now) (overlay bytes.old.items offset run.now) }
+{
+    make_room(bytes, offset + run.remaining())?;
+    lay(bytes, offset, run);
+    Ok(())
+}
+
+/// Cuts or lengthens by zeros. The only error is want of memory, where there was no room; it leaves the bytes.
+pub fn resize(bytes: &mut Vec<u8>, len: usize) -> Result<(), AllocError>
+    ensures { Grows result bytes.old bytes.new len (resized bytes.old.items len) }
+{
+    make_room(bytes, len)?;
+    set_len(bytes, len);
+    Ok(())
+}
+
+/// Makes the bytes others. The only error is want of memory, where there was no room; it leaves the bytes.
+pub fn replace(bytes: &mut Vec<u8>, new: &[u8]) -> Result<(), AllocError>
+    ensures { Grows result bytes.old bytes.new (length new.now) new.now }
+{
+    make_room(bytes, new.len())?;
+    bytes.clear();
+    bytes.extend_from_slice(new).unwrap();
+    Ok(())
+}
+
+/// Cuts off the first bytes, and keeps the memory.
+pub fn drop_front(bytes: &mut Vec<u8>, len: usize)
+    requires { len ≤ length bytes.old.items }
+    ensures { bytes.new.items ≡ drop len bytes.old.items }
+{
+    let left = bytes.len() - len;
+    bytes.rotate_left(len);
+    bytes.truncate(left);
+}
