@@ -14,9 +14,9 @@ use Rattle.blob_header.specs.Checksum.{crc32c}
 use Rattle.blob_header.specs.Header.{data_start, head, prelude, region, magic_of, layout_number, number_at}
 use Rattle.blob_header.specs.HeaderLaws.{HasHeader}
 use Rattle.blob_header.specs.Parse.{Accepted, Failure, UnsupportedLayoutVersion, LayoutMismatch, VersionMismatch, Truncated, InvalidPadding, InvalidChecksum, is_sealed, page_failure, region_failure, is_accepted, layout_numbered, parsed_whole, parsed_in, parsed}
-use Rattle.blob_header.specs.Resolve.{found_in, is_torn, resolution}
+use Rattle.blob_header.specs.Resolve.{is_torn, resolution}
 use Rattle.blob_header.specs.Versions.{is_in_range}
-use Rattle.blob_header.proofs.NoneSide.{Found, filled}
+use Rattle.blob_header.proofs.NoneSide.{Found, found_in, filled}
 
 -- what an accepted header says
 record Says (layout : Layout) (raw : List ℕ) (n : ℕ) (a : Accepted) (found : Found) : Type 0 where

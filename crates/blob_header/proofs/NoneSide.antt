@@ -8,6 +8,7 @@ use Rattle.std.proofs.lemmas.Bool.{cond_both, ltb-false, ltb-true}
 use Rattle.std.specs.Int.{to_be_bytes, w32}
 use Rattle.std.specs.Str.{bytes_eq}
 use Rattle.std.specs.List.{list_all}
+use Rattle.std.specs.Result.{result_map_both}
 use Rattle.blob_header.specs.declared.layout.Layout.{Layout}
 use Rattle.blob_header.specs.declared.layout.Layout.TheVariants.{V0, V1}
 use Rattle.blob_header.specs.declared.version.BlobVersion.{BlobVersion}
@@ -19,6 +20,10 @@ use Rattle.blob_header.proofs.Fronts.{front_at, all_zeros, version_of}
 
 abbrev pub Found : Type 0
 Found = ℕ × BlobVersion × ℕ
+
+-- what was found in a blob that isn't to be created
+abbrev pub found_in : Result Found Failure → Result (Option Found) Failure
+found_in answer = result_map_both Some (λ failure. failure) answer
 
 abbrev pub NotTorn : {A : Type 0} → Result A Failure → Type 0
 NotTorn (Ok found) = Unit {0}

@@ -10,9 +10,9 @@ use Rattle.blob_header.specs.declared.version.BlobVersion.{BlobVersion}
 use Rattle.blob_header.specs.Header.{data_start, prelude, region, IsTorn, number_at}
 use Rattle.blob_header.specs.HeaderLaws.{resolved_whole}
 use Rattle.blob_header.specs.Parse.{Accepted, accepted, every_layout, Failure, LayoutMismatch, VersionMismatch, is_accepted, parsed_whole, parsed}
-use Rattle.blob_header.specs.Resolve.{found_in, is_torn, resolution}
+use Rattle.blob_header.specs.Resolve.{is_torn, resolution}
 use Rattle.blob_header.specs.Versions.{is_in_range}
-use Rattle.blob_header.proofs.NoneSide.{Found, whole_page, length_region, not_true, not_v0}
+use Rattle.blob_header.proofs.NoneSide.{Found, found_in, whole_page, length_region, not_true, not_v0}
 use Rattle.blob_header.proofs.Resolutions.{parsed-append, past_none}
 use Rattle.blob_header.proofs.TornTest.{is_torn-IsTorn}
 

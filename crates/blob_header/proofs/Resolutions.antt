@@ -8,8 +8,8 @@ use Rattle.blob_header.specs.Header.{IsTorn, number_at}
 use Rattle.blob_header.specs.Parse.{Accepted, Failure, page_failure, layout_of, parsed_whole, parsed_in, parsed}
 use Rattle.blob_header.specs.declared.error.Error.{Error}
 use Rattle.blob_header.specs.Refusals.{Memory, refusal_of}
-use Rattle.blob_header.specs.Resolve.{AnswersAs, AnswersParsed, IsNoneSide, found_in, is_torn, refusal_for, refusing, resolution}
-use Rattle.blob_header.proofs.NoneSide.{Found, not_true, over_blob}
+use Rattle.blob_header.specs.Resolve.{AnswersAs, AnswersParsed, IsNoneSide, is_torn, refusal_for, refusing, resolution}
+use Rattle.blob_header.proofs.NoneSide.{Found, found_in, not_true, over_blob}
 use Rattle.blob_header.proofs.TornTest.{is_torn-IsTorn}
 
 same_whole : (f : Option Failure) (layout : Layout) (raw blob : List ℕ) (n : ℕ) (a : Accepted) → number_at raw 6 ≡ number_at blob 6

@@ -11,8 +11,7 @@ field_of [] = codes "-"
 field_of (byte ∷ bytes) = byte ∷ bytes
 
 abbrev pub layout_name : Layout → List ℕ
-layout_name V0 = codes "V0"
-layout_name V1 = codes "V1"
+layout_name layout = elim layout [ V0 ↦ codes "V0" | V1 ↦ codes "V1" ]
 
 -- `error`, the variant's name and its fields, each after a space
 abbrev pub refusal_line : Refusal → List ℕ

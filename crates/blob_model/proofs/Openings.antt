@@ -9,7 +9,8 @@ use Rattle.blob_header.specs.Header.{data_start, number_at}
 use Rattle.blob_model.specs.Durable.{Durable}
 use Rattle.blob_header.specs.Parse.{Accepted, Failure, VersionMismatch, LayoutMismatch, parsed, parsed_in, parsed_whole, region_failure, layout_of, is_accepted, every_layout}
 use Rattle.blob_model.specs.Places.{Place}
-use Rattle.blob_header.specs.Resolve.{resolution, found_in, is_torn}
+use Rattle.blob_header.specs.Resolve.{resolution, is_torn}
+use Rattle.blob_header.proofs.NoneSide.{found_in}
 use Rattle.blob_header.specs.Refusals.{Refusal}
 use Rattle.blob_header.specs.Versions.{is_in_range}
 use Rattle.blob_model.specs.Opening.{Opening, Continues, Begins, Declines, opening, opening_raw, IsOpened, Continued, Begun}
