@@ -27,8 +27,7 @@ is_torn blob =
 -- None where the blob is to be created; else what its header says, as size, version and data offset
 unfoldable pub resolution : List ℕ → Accepted → Result (Option (ℕ × BlobVersion × ℕ)) Failure
 resolution blob accepted =
-    if nat_lt (length blob) 8 then Ok None
-    else if is_torn blob then Ok None
+    if nat_lt (length blob) 8 || is_torn blob then Ok None
     else result_map_both Some (λ failure. failure) (parsed blob (length blob) accepted)
 
 -- a header's failure as the refusal of a call that was given this partition and name
