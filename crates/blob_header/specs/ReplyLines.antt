@@ -1,5 +1,5 @@
 -- What is printed of a refusal and of a resolved image, without the line's end.
-use Rattle.std.specs.Prelude.{ℕ, List, [], ◌∷◌, ◌++◌, codes}
+use Rattle.std.specs.Prelude.{ℕ, List, [], ◌++◌, codes}
 use Rattle.std.specs.Fmt.{decimal}
 use Rattle.blob_header.specs.declared.layout.Layout.{Layout}
 use Rattle.blob_header.specs.declared.layout.Layout.TheVariants.{V0, V1}
@@ -8,11 +8,10 @@ use Rattle.blob_header.specs.Refusals.{Refusal, OffsetOverflow, BlobInsufficient
 -- a text as a field of a line; the empty one is a dash
 abbrev pub field_of : List ℕ → List ℕ
 field_of [] = codes "-"
-field_of (byte ∷ bytes) = byte ∷ bytes
+field_of text = text
 
 abbrev pub layout_name : Layout → List ℕ
-layout_name V0 = codes "V0"
-layout_name V1 = codes "V1"
+layout_name layout = elim layout [ V0 ↦ codes "V0" | V1 ↦ codes "V1" ]
 
 -- `error`, the variant's name and its fields, each after a space
 abbrev pub refusal_line : Refusal → List ℕ

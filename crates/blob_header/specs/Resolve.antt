@@ -1,6 +1,8 @@
 -- What a whole blob resolves to, and how a call refuses it.
-use Rattle.std.specs.Prelude.{◌≡◌, ℕ, zero, suc, ◌-◌, nat_lt, nat_le, Bool, true, false, not, ◌&&◌, ◌||◌, if◌then◌else◌, List, ◌++◌, length, take, replicate, slice_index, Option, Some, None, Result, Ok, Err, IsErr, ◌⊎◌, codes}
+use Rattle.std.specs.Prelude.{◌≡◌, ℕ, zero, suc, ◌-◌, nat_lt, nat_le, Bool, true, false, not, ◌&&◌, ◌||◌, if◌then◌else◌, List, ◌++◌, length, take, replicate, Option, Some, None, Result, Ok, Err, IsErr, ◌⊎◌, codes}
 use Rattle.std.specs.Fmt.{decimal}
+use Rattle.std.specs.List.{join_by}
+use Rattle.std.specs.Result.{result_map_both}
 use Rattle.std.specs.Str.{bytes_eq}
 use Rattle.hex.specs.Hex.{encode_lower}
 use Rattle.blob_header.specs.declared.error.Error.{Error}
@@ -15,55 +17,31 @@ unfoldable pub any_below : ℕ → (ℕ → Bool) → Bool
 any_below zero p = false
 any_below (suc n) p = p n || any_below n p
 
--- the first bytes of a region, then zeros, in this length
-unfoldable pub padded_front : ℕ → ℕ → ℕ → List ℕ
-padded_front version kept len = take kept (region V1 version) ++ replicate (len - kept) 0
-
--- whether a blob is one of these, of some version below the first bound, with fewer bytes kept than the second
-unfoldable pub is_some_front : ℕ → ℕ → List ℕ → Bool
-is_some_front versions keeps blob =
-    any_below versions (λ version. any_below keeps (λ kept. bytes_eq blob (padded_front version kept (length blob))))
-
--- whether a blob is the whole region of some version below the bound
-unfoldable pub is_some_region : ℕ → List ℕ → Bool
-is_some_region versions blob = any_below versions (λ version. bytes_eq blob (region V1 version))
-
--- `IsTorn` as a test
+-- `IsTorn` as a test: the first bytes of some version's region and then zeros, at most 4096 in all, but no whole region
 unfoldable pub is_torn : List ℕ → Bool
-is_torn blob = nat_le (length blob) 4096 && (is_some_front 65536 4097 blob && not (is_some_region 65536 blob))
-
-abbrev pub found_in : Result (ℕ × BlobVersion × ℕ) Failure → Result (Option (ℕ × BlobVersion × ℕ)) Failure
-found_in (Ok found) = Ok (Some found)
-found_in (Err failure) = Err failure
+is_torn blob =
+    nat_le (length blob) 4096
+    && any_below 65536 (λ version. any_below 4097 (λ kept. bytes_eq blob (take kept (region V1 version) ++ replicate (length blob - kept) 0)))
+    && not (any_below 65536 (λ version. bytes_eq blob (region V1 version)))
 
 -- None where the blob is to be created; else what its header says, as size, version and data offset
 unfoldable pub resolution : List ℕ → Accepted → Result (Option (ℕ × BlobVersion × ℕ)) Failure
 resolution blob accepted =
-    if nat_lt (length blob) 8 then Ok None
-    else if is_torn blob then Ok None
-    else found_in (parsed blob (length blob) accepted)
-
--- the reasons of a corrupt blob
-abbrev pub magic_text : List ℕ → List ℕ
-magic_text found =
-    codes "invalid magic: found [" ++ decimal (slice_index found 0) ++ codes ", " ++ decimal (slice_index found 1)
-    ++ codes ", " ++ decimal (slice_index found 2) ++ codes ", " ++ decimal (slice_index found 3) ++ codes "]"
-
-abbrev pub number_text : ℕ → ℕ → List ℕ
-number_text expected found = codes "unsupported layout version: expected " ++ decimal expected ++ codes ", found " ++ decimal found
-
-abbrev pub length_text : ℕ → ℕ → List ℕ
-length_text required_len raw_len = codes "truncated header: required length " ++ decimal required_len ++ codes ", raw length " ++ decimal raw_len
+    if nat_lt (length blob) 8 || is_torn blob then Ok None
+    else result_map_both Some (λ failure. failure) (parsed blob (length blob) accepted)
 
 -- a header's failure as the refusal of a call that was given this partition and name
 abbrev pub refusal_for : List ℕ → List ℕ → Failure → Refusal
-refusal_for partition name (InvalidMagic found) = BlobCorrupt partition (encode_lower name) (magic_text found)
-refusal_for partition name (UnsupportedLayoutVersion expected found) = BlobCorrupt partition (encode_lower name) (number_text expected found)
+refusal_for partition name (InvalidMagic found) =
+    BlobCorrupt partition (encode_lower name) (codes "invalid magic: found [" ++ join_by decimal (codes ", ") found ++ codes "]")
+refusal_for partition name (UnsupportedLayoutVersion expected found) =
+    BlobCorrupt partition (encode_lower name) (codes "unsupported layout version: expected " ++ decimal expected ++ codes ", found " ++ decimal found)
 refusal_for partition name (LayoutMismatch first last found) = BlobLayoutMismatch first last found
 refusal_for partition name (VersionMismatch first last found) = BlobVersionMismatch first last found
 refusal_for partition name InvalidChecksum = BlobCorrupt partition (encode_lower name) (codes "invalid header checksum")
 refusal_for partition name InvalidPadding = BlobCorrupt partition (encode_lower name) (codes "invalid header padding")
-refusal_for partition name (Truncated required_len raw_len) = BlobCorrupt partition (encode_lower name) (length_text required_len raw_len)
+refusal_for partition name (Truncated required_len raw_len) =
+    BlobCorrupt partition (encode_lower name) (codes "truncated header: required length " ++ decimal required_len ++ codes ", raw length " ++ decimal raw_len)
 
 -- whether a failure is told with texts, which take memory
 abbrev pub has_texts : Failure → Bool
@@ -77,8 +55,7 @@ has_texts (Truncated required_len raw_len) = true
 
 -- the same of an answer
 abbrev pub refusing : {T : Type 0} → List ℕ → List ℕ → Result T Failure → Result T Refusal
-refusing partition name (Ok x) = Ok x
-refusing partition name (Err failure) = Err (refusal_for partition name failure)
+refusing partition name answer = result_map_both (λ found. found) (refusal_for partition name) answer
 
 -- a call answers as expected, but that Memory may stand in place of a refusal
 abbrev pub AnswersAs : {T : Type 0} → Result T Error → Result T Refusal → Type 0

@@ -1,9 +1,11 @@
-ghost use Rattle.std.specs.Prelude.{◌≡◌, ◌⊎◌, false, IfOk, IsOk};
+ghost use Rattle.std.specs.Prelude.{◌≡◌, ◌⊎◌, ◌++◌, false, IfOk, IsOk, codes};
+ghost use Rattle.std.specs.Fmt.{decimal};
+ghost use Rattle.std.specs.List.{join_by};
 ghost use Rattle.std.specs.String.{string_bytes};
 ghost use Rattle.hex.specs.Hex.{encode_lower};
 ghost use Rattle.blob_header.specs.Parse.{failure_of, may_be_torn};
 ghost use Rattle.blob_header.specs.Refusals.{refusal_of, BlobCorrupt, Memory};
-ghost use Rattle.blob_header.specs.Resolve.{has_texts, length_text, magic_text, number_text, refusal_for};
+ghost use Rattle.blob_header.specs.Resolve.{has_texts, refusal_for};
 
 use crate::error::Error;
 use crate::layout::Layout;
@@ -118,20 +120,20 @@ impl HeaderError {
 }
 
 fn magic_reason(alloc: Global, found: [u8; 4]) -> Result<String, AllocError>
-    ensures { IfOk result (λ text. string_bytes text ≡ magic_text found) }
+    ensures { IfOk result (λ text. string_bytes text ≡ codes "invalid magic: found [" ++ join_by decimal (codes ", ") found ++ codes "]") }
 {
     let [a, b, c, d] = found;
     format!(in alloc; "invalid magic: found [{a}, {b}, {c}, {d}]")
 }
 
 fn number_reason(alloc: Global, expected: u16, found: u16) -> Result<String, AllocError>
-    ensures { IfOk result (λ text. string_bytes text ≡ number_text expected found) }
+    ensures { IfOk result (λ text. string_bytes text ≡ codes "unsupported layout version: expected " ++ decimal expected ++ codes ", found " ++ decimal found) }
 {
     format!(in alloc; "unsupported layout version: expected {expected}, found {found}")
 }
 
 fn length_reason(alloc: Global, required_len: u64, raw_len: u64) -> Result<String, AllocError>
-    ensures { IfOk result (λ text. string_bytes text ≡ length_text required_len raw_len) }
+    ensures { IfOk result (λ text. string_bytes text ≡ codes "truncated header: required length " ++ decimal required_len ++ codes ", raw length " ++ decimal raw_len) }
 {
     format!(in alloc; "truncated header: required length {required_len}, raw length {raw_len}")
 }

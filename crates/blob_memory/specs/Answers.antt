@@ -1,12 +1,13 @@
 -- What each call answers at a state: the refusal that comes first, or none for Ok.
 use Rattle.std.specs.Prelude.{◌≡◌, ◌⊎◌, ℕ, ◌+◌, ◌-◌, ◌^◌, ◌==◌, nat_lt, nat_le, Bool, not, ◌&&◌, ◌||◌, if◌then◌else◌, List, length, Option, Some, None, is_none, IsTrue}
+use Rattle.std.specs.Option.{option_or}
 use Rattle.hex.specs.Hex.{encode_lower}
 use Rattle.blob_model.specs.Directory.{Directory, is_current}
 use Rattle.blob_model.specs.Live.{is_idle}
 use Rattle.blob_model.specs.Opening.{Opening, Continues, Begins, Declines, opening}
 use Rattle.blob_header.specs.PartitionName.{is_partition_name}
 use Rattle.blob_model.specs.Places.{Place}
-use Rattle.blob_header.specs.Refusals.{Refusal, OffsetOverflow, BlobInsufficientLength, PartitionNameInvalid, PartitionMissing, BlobMissing, GenerationsExhausted, Memory}
+use Rattle.blob_header.specs.Refusals.{Refusal, OffsetOverflow, BlobInsufficientLength, PartitionNameInvalid, PartitionMissing, BlobMissing, GenerationsExhausted, Memory, refused_if}
 
 -- a raw offset that no `usize` is
 abbrev pub is_uncounted : ℕ → Bool
@@ -19,19 +20,17 @@ missing o = BlobMissing o.partition (encode_lower o.name)
 abbrev pub read_refusal : Place → List ℕ → ℕ → ℕ → Option Refusal
 read_refusal o live offset len =
     if is_uncounted (offset + o.start + len) then Some OffsetOverflow
-    else if nat_lt (length live) (offset + len) then Some BlobInsufficientLength
-    else None
+    else refused_if BlobInsufficientLength (nat_lt (length live) (offset + len))
 
 abbrev pub write_refusal : Directory → Place → ℕ → List ℕ → Bool → Option Refusal
 write_refusal d o offset bytes sync =
     if is_idle sync bytes then None
     else if is_uncounted (offset + o.start + length bytes) then Some OffsetOverflow
-    else if sync && not (is_current d o) then Some (missing o)
-    else None
+    else refused_if (missing o) (sync && not (is_current d o))
 
 -- of a resize to a logical length, and of room up to a logical end
 abbrev pub end_refusal : Place → ℕ → Option Refusal
-end_refusal o end = if is_uncounted (end + o.start) then Some OffsetOverflow else None
+end_refusal o end = refused_if OffsetOverflow (is_uncounted (end + o.start))
 
 -- of a sync, and of a started one
 abbrev pub sync_refusal : Directory → Place → Option Refusal
@@ -40,29 +39,22 @@ sync_refusal d o = if is_current d o then None else Some (missing o)
 -- of an open, by what it finds and the next incarnation's number
 abbrev pub opening_refusal : Opening → ℕ → Option Refusal
 opening_refusal (Continues number layout version) next = None
-opening_refusal (Begins layout version live) next = if next == 2 ^ 64 - 1 then Some GenerationsExhausted else None
+opening_refusal (Begins layout version live) next = refused_if GenerationsExhausted (next == 2 ^ 64 - 1)
 opening_refusal (Declines refusal) next = Some refusal
 
 abbrev pub open_refusal : Directory → List ℕ → List ℕ → ℕ → ℕ → Option Refusal
 open_refusal d p n first last =
-    if not (is_partition_name p) then Some (PartitionNameInvalid p)
-    else opening_refusal (opening p n (d.file p n) first last) d.next
+    if not (is_partition_name p) then Some (PartitionNameInvalid p) else opening_refusal (opening p n (d.file p n) first last) d.next
 
 -- of a scan, and of the removal of a partition
 abbrev pub partition_refusal : Directory → List ℕ → Option Refusal
 partition_refusal d p =
-    if not (is_partition_name p) then Some (PartitionNameInvalid p)
-    else if not (d.has_partition p) then Some (PartitionMissing p)
-    else None
+    if not (is_partition_name p) then Some (PartitionNameInvalid p) else refused_if (PartitionMissing p) (not (d.has_partition p))
 
 -- the same, then a name that isn't there
 abbrev pub remove_refusal : Directory → List ℕ → Option (List ℕ) → Option Refusal
 remove_refusal d p None = partition_refusal d p
-remove_refusal d p (Some n) =
-    if not (is_partition_name p) then Some (PartitionNameInvalid p)
-    else if not (d.has_partition p) then Some (PartitionMissing p)
-    else if is_none (d.file p n) then Some (BlobMissing p (encode_lower n))
-    else None
+remove_refusal d p (Some n) = option_or (partition_refusal d p) (refused_if (BlobMissing p (encode_lower n)) (is_none (d.file p n)))
 
 -- a call that takes memory answers so, or that there is none
 abbrev pub OrMemory : Option Refusal → Option Refusal → Type 0

@@ -3,10 +3,10 @@ use Rattle.std.proofs.Common.{◌≡◌, ℕ, List, [], ◌∷◌, true, false, 
 use Rattle.std.specs.Prelude.{codes}
 use Rattle.hex.specs.Hex.{encode_lower}
 use Rattle.blob_model.specs.Bytes.{overlay_by, resized}
-use Rattle.blob_header.specs.Checksum.{crc32c, register_of, low_bits, with_bit}
+use Rattle.blob_header.specs.Checksum.{crc32c, low_bits, with_bit}
 use Rattle.blob_model.specs.Draws.{front}
 use Rattle.blob_header.specs.Header.{region}
-use Rattle.blob_header.specs.Parse.{page_failure}
+use Rattle.blob_header.specs.Parse.{page_tests}
 use Rattle.blob_model.specs.Rates.{sampled}
 use Rattle.blob_header.specs.Refusals.{BlobAlreadyOpen}
 use Rattle.blob_header.specs.Resolve.{resolution, is_torn}
@@ -62,5 +62,5 @@ crash_draws = refl
 
 -- after the crash it is laid under the SYNC write
 crash_leaves : (answer (done (done (done written Crash) Reopen) opens) (Through 1 (Read 0 3))).0 ≡ told.Bytes (97 ∷ 88 ∷ 99 ∷ [])
-unfolding front sampled recorded_write overlay_by resized resolution region is_torn page_failure crc32c register_of low_bits with_bit
+unfolding front sampled recorded_write overlay_by resized resolution region is_torn page_tests crc32c low_bits with_bit
 crash_leaves = refl

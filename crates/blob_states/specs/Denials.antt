@@ -5,17 +5,13 @@ use Rattle.hex.specs.Hex.{encode_lower}
 use Rattle.blob_model.specs.Directory.{Directory}
 use Rattle.blob_model.specs.Places.{Place}
 use Rattle.blob_header.specs.Refusals.{Refusal, OffsetOverflow, BlobAlreadyOpen, Injected, GenerationsExhausted}
+pub use Rattle.blob_header.specs.Refusals.{refused_if}
 use Rattle.blob_model.specs.Runs.{Run, runs}
 use Rattle.blob_faults.specs.Answers.{lacks_number, last_end}
 use Rattle.blob_faults.specs.Faults.{WriteFate, Done, Unsynced, Failed, ResizeFate, Resizes, Stays, Reaches, draw, retention, by_fate}
 use Rattle.blob_memory.specs.Answers.{write_refusal, end_refusal, sync_refusal, open_refusal, partition_refusal, remove_refusal}
 use Rattle.blob_opens.specs.OpenNames.{OpenNames}
 use Rattle.blob_states.specs.States.{State, Held}
-
--- a refusal where its condition holds, as a draw that is true or no number that is left
-abbrev pub refused_if : Refusal → Bool → Option Refusal
-refused_if refusal true = Some refusal
-refused_if refusal false = None
 
 -- a call that fails, unless the store refuses what it does of it
 abbrev pub or_injected : Option Refusal → Option Refusal
