@@ -21,9 +21,9 @@ IMPORT = re.compile(r"^\s*(?:pub )?(?:ghost )?use Rattle\.(\w+)\.specs\.([\w.]+)
 ALIAS = re.compile(r"^\s*(?:ghost )?use Rattle\.(\w+)\.specs\.([\w.]+) as (\w+)", re.M)
 PASSED_ON = re.compile(r"^pub use Rattle\.(\w+)\.specs\.([\w.]+)$", re.M)
 WORD = re.compile(r"[A-Za-z_][\w'-]*")
-# A line that begins a definition, and one within it that names a constructor.
+# A line that begins a definition, and one within it that names constructors.
 BEGINS = re.compile(r"^(?:abbrev |unfoldable |reducible )*(?:pub )?(?:record |data )?([^\s:({]+)\s*[:({]")
-PART = re.compile(r"^\s+(?:pub )?([A-Z][\w'-]*) :")
+PART = re.compile(r"^\s+(?:pub )?((?:[A-Z][\w'-]* )+):")
 MARKED = re.compile(r"^(?:abbrev|unfoldable|reducible|pub|record|data) ")
 SIGNED = re.compile(r"^\S+ :")
 
@@ -80,9 +80,9 @@ class Specs:
                 now = own[begins[1]] = (module, begins[1])
             if now:
                 self.lines.setdefault(now, []).append(line)
-                part = PART.match(line)
-                if part:
-                    self.part_of[module, part[1]] = own[part[1]] = now
+                parts = PART.match(line)
+                for part in parts[1].split() if parts else []:
+                    self.part_of[module, part] = own[part] = now
 
     def known(self, module, name):
         """The definition that a name of a module is, or is a part of; none for other names."""
