@@ -1,6 +1,6 @@
 -- What a wrapper may answer where its draws are certain.
 use Rattle.std.proofs.Common.{◌≡◌, inl, inr, ℕ, ◌-◌, ◌^◌, ◌<◌, Bool, true, false, ◌==◌, ◌&&◌, min, max, nat_lt, List, length, cond, Option, Some, None, refl, sym, ◌∙◌, ap, subst, arith}
-use Rattle.std.specs.Prelude.{is_some, MatchBool, ◌↔◌}
+use Rattle.std.specs.Prelude.{is_some, MatchBool, ◌↔◌, if◌then◌else◌}
 use Rattle.std.proofs.lemmas.Bool.{cond-true, cond-false}
 use Rattle.std.proofs.lemmas.Bool.Decides.{nat_tests}
 use Rattle.rand_core.specs.Stream.{Stream}
@@ -14,7 +14,8 @@ use Rattle.blob_faults.specs.declared.config.ResizeConfig.{ResizeConfig}
 use Rattle.blob_faulty.specs.AnswerLaws.{injected_none, numbered_none, memory_none, uncounted_none}
 use Rattle.blob_faults.specs.Answers.{Allowed, injected_or, injected_for, or_memory, numbered, lacks_number, allows_runs, allows_done, allows_fate, allows_write, allows_resize, allows_start}
 use Rattle.blob_faulty.specs.Certain.{IsNever, IsAlways, resize_failure}
-use Rattle.blob_faults.specs.Faults.{draw, write_failure, retention, WriteFate, Done, Unsynced, Failed, failed, not_failed, synced_or_not, write_fate, has_uncounted_end, ResizeFate, Resizes, Stays, Reaches, partly, resize_fate, size_between}
+use Rattle.blob_faults.specs.Fates.{write_failure}
+use Rattle.blob_faults.specs.Faults.{draw, retention, WriteFate, Done, Unsynced, Failed, failed, write_fate, has_uncounted_end, ResizeFate, Resizes, Stays, Reaches, partly, resize_fate, size_between}
 
 -- The draws.
 
@@ -58,6 +59,13 @@ always_unresized (Some c) size len stream always =
     let d = sampled c.partial_rate stream in
     ap (λ (d : Bool × Stream). is_resized (cond d.0 (partly size len (sampled c.partial_rate d.1)) (Resizes (sampled c.failure_rate d.1).0, (sampled c.failure_rate d.1).1)).0) (always_drawn (Some c.failure_rate) stream always)
     ∙ either_fails (d.0 && nat_lt 1 (max size len - min size len)) (size_between (min size len) (max size len) d.1) d.1
+
+-- what the draws of a write that doesn't fail come to
+abbrev synced_or_not : Bool × Stream → WriteFate × Stream
+synced_or_not d = (if d.0 then Unsynced else Done, d.1)
+
+abbrev not_failed : Config → Bool → Stream → WriteFate × Stream
+not_failed config sync stream = if sync then synced_or_not (draw config.sync_rate stream) else (Done, stream)
 
 never_failed : (config : Config) (sync : Bool) (offset len : ℕ) (stream : Stream) → IsNever (write_failure config.write_rate) → (sync ≡ true → IsNever config.sync_rate) → (write_fate config sync offset len stream).0 ≡ Done
 never_failed config sync offset len stream no_write no_sync =

@@ -10,7 +10,8 @@ use Rattle.blob_model.proofs.Persistence.{fixed_all, fixed_published, fixed_star
 use Rattle.blob_faults.specs.Faults.{resize_fate}
 use Rattle.blob_faults.specs.Recorded.{recorded_write, recorded_resize}
 use Rattle.blob_calls.specs.Acts.{Ask, Read, Write, Resize, Size, Sync, StartSync}
-use Rattle.blob_states.specs.After.{begun, files_after, held_after}
+use Rattle.blob_states.specs.After.{files_after, held_after}
+use Rattle.blob_states.specs.Steps.{begun}
 use Rattle.blob_states.specs.Answers.{kept_at}
 use Rattle.blob_states.specs.Denials.{start_denial}
 use Rattle.blob_states.specs.Fixed.{Byte, is_on, asks_for, reaches_through}

@@ -14,8 +14,8 @@ use Rattle.blob_faults.specs.Recorded.{recorded_write, recorded_resize}
 use Rattle.blob_calls.specs.declared.call.Call.{Call}
 use Rattle.blob_calls.specs.declared.reply.Reply.{Reply}
 use Rattle.blob_calls.specs.Acts.{Ask, Read, Write, Resize, Size, Sync, StartSync, AcceptedVersions, Act, Configure, Open, OpenLoose, Admit, Close, Through, Finish, Remove, Scan, Crash, Reopen, act_of}
-use Rattle.blob_states.specs.After.{after, asked, begun, files_after, exclusively_opened, with_closed, with_finished}
-use Rattle.blob_states.specs.Steps.{loosely_opened, removal_step, crash_step}
+use Rattle.blob_states.specs.After.{after, asked, files_after, exclusively_opened}
+use Rattle.blob_states.specs.Steps.{begun, loosely_opened, removal_step, crash_step}
 use Rattle.blob_states.specs.Answers.{kept_at}
 use Rattle.blob_states.specs.Denials.{start_denial}
 use Rattle.blob_states.specs.Reached.{is_loose, NoneLoose, ReachedExclusively}
@@ -83,14 +83,6 @@ module _ (v : State) (x : Exclusive v) (fresh : IsFresh v.files) where
   loosely p n versions None = fresh_opened v.files p n (opening p n (v.files.directory.file p n) versions.0 versions.1) fresh
   loosely p n versions (Some refusal) = fresh
 
-  closes : (number : ℕ) (slot : Option Held) → IsFresh (with_closed v number slot).files
-  closes number None = fresh
-  closes number (Some h) = fresh
-
-  finishes : (number : ℕ) (slot : Option Started) → IsFresh (with_finished v number slot).files
-  finishes number None = fresh
-  finishes number (Some s) = fresh
-
   removes : (p : List ℕ) (n : Option (List ℕ)) (refusal : Option Refusal) → IsFresh (removal_step v p n refusal).files
   removes p n None = fresh_removed v.files p n fresh
   removes p n (Some refusal) = fresh
@@ -106,9 +98,9 @@ module _ (v : State) (x : Exclusive v) (fresh : IsFresh v.files) where
   fresh_after (OpenLoose p n None) refusal left = fresh
   fresh_after (OpenLoose p n (Some versions)) refusal left = loosely p n versions refusal
   fresh_after (Admit p n) refusal left = fresh_admitted v.files p n fresh
-  fresh_after (Close number) refusal left = closes number (kept_at v.handles number)
+  fresh_after (Close number) refusal left = fresh
   fresh_after (Through number ask) refusal left = through number (kept_at v.handles number) ask refusal refl
-  fresh_after (Finish number) refusal left = finishes number (kept_at v.syncs number)
+  fresh_after (Finish number) refusal left = fresh
   fresh_after (Remove p n) refusal left = removes p n refusal
   fresh_after (Scan p) refusal left = fresh
   fresh_after Crash refusal left = crashes refusal

@@ -18,10 +18,10 @@ use Rattle.blob_memory.specs.Answers.{missing, sync_refusal}
 use Rattle.blob_model.specs.SamePlace.{parts, same_place_exact}
 use Rattle.blob_model.proofs.Durables.{others_logged, others_published}
 use Rattle.blob_calls.specs.Acts.{Ask, Read, Write, Resize, Size, Sync, StartSync, Act, Configure, Open, OpenLoose, Admit, Close, Through, Finish, Remove, Scan, Crash, Reopen}
-use Rattle.blob_states.specs.After.{after, asked, begun, files_after, held_after, with_closed, with_finished, exclusively_opened}
-use Rattle.blob_states.specs.Steps.{removal_step as removal, crash_step, loosely_opened}
+use Rattle.blob_states.specs.After.{after, asked, files_after, held_after, exclusively_opened}
+use Rattle.blob_states.specs.Steps.{begun, sync_denial, removal_step as removal, crash_step, loosely_opened}
 use Rattle.blob_states.specs.Answers.{kept_at}
-use Rattle.blob_states.specs.Denials.{refused_if, start_denial, sync_denial}
+use Rattle.blob_states.specs.Denials.{refused_if, start_denial}
 use Rattle.blob_states.specs.States.{State, Held, Started}
 
 -- each current incarnation has a number that was given
@@ -151,14 +151,6 @@ loose_ages : (v : State) (p n : List ℕ) (versions : ℕ × ℕ) (refusal : Opt
 loose_ages v p n versions None = open_ages v.files p n versions.0 versions.1
 loose_ages v p n versions (Some refusal) = same_age v.files.directory
 
-closed_ages : (v : State) (number : ℕ) (slot : Option Held) → Ages v.files.directory (with_closed v number slot).files.directory
-closed_ages v number None = same_age v.files.directory
-closed_ages v number (Some h) = same_age v.files.directory
-
-finished_ages : (v : State) (number : ℕ) (slot : Option Started) → Ages v.files.directory (with_finished v number slot).files.directory
-finished_ages v number None = same_age v.files.directory
-finished_ages v number (Some s) = same_age v.files.directory
-
 removal_ages : (v : State) (p : List ℕ) (n : Option (List ℕ)) (refusal : Option Refusal) → Ages v.files.directory (removal v p n refusal).files.directory
 removal_ages v p n None = removed_ages v.files.directory p n
 removal_ages v p n (Some refusal) = same_age v.files.directory
@@ -174,9 +166,9 @@ ages v (Open p n (Some versions)) refusal rest = exclusive_ages v p n versions r
 ages v (OpenLoose p n None) refusal rest = same_age v.files.directory
 ages v (OpenLoose p n (Some versions)) refusal rest = loose_ages v p n versions refusal
 ages v (Admit p n) refusal rest = admitted_ages v.files.directory v.files p n (same_age v.files.directory)
-ages v (Close number) refusal rest = closed_ages v number (kept_at v.handles number)
+ages v (Close number) refusal rest = same_age v.files.directory
 ages v (Through number ask) refusal rest = through_ages v number (kept_at v.handles number) ask refusal
-ages v (Finish number) refusal rest = finished_ages v number (kept_at v.syncs number)
+ages v (Finish number) refusal rest = same_age v.files.directory
 ages v (Remove p n) refusal rest = removal_ages v p n refusal
 ages v (Scan p) refusal rest = same_age v.files.directory
 ages v Crash refusal rest = crash_ages v refusal

@@ -8,7 +8,7 @@ use Rattle.blob_header.specs.Refusals.{Refusal, OffsetOverflow, BlobAlreadyOpen,
 use Rattle.blob_model.specs.Runs.{Run, runs}
 use Rattle.blob_faults.specs.Answers.{lacks_number, last_end}
 use Rattle.blob_faults.specs.Faults.{WriteFate, Done, Unsynced, Failed, ResizeFate, Resizes, Stays, Reaches, draw, retention, by_fate}
-use Rattle.blob_memory.specs.Answers.{write_refusal, end_refusal, sync_refusal, open_refusal, partition_refusal, remove_refusal}
+use Rattle.blob_memory.specs.Answers.{write_refusal, end_refusal, sync_refusal, open_refusal}
 use Rattle.blob_opens.specs.OpenNames.{OpenNames}
 use Rattle.blob_states.specs.States.{State, Held}
 
@@ -46,9 +46,6 @@ reaching_denial (Resizes survives) o len = end_refusal o len
 reaching_denial Stays o len = Some Injected
 reaching_denial (Reaches size) o len = or_injected (end_refusal o size)
 
-abbrev pub sync_denial : State → Held → Option Refusal
-sync_denial v h = option_or (refused_if Injected (draw v.config.sync_rate v.stream).0) (sync_refusal v.files.directory h.place)
-
 -- a started sync wants a number for its marker
 abbrev pub start_denial : State → Held → Option Refusal
 start_denial v h = option_or (refused_if Injected (draw v.config.sync_rate v.stream).0) (option_or (refused_if GenerationsExhausted (v.files.next_marker == 2 ^ 64 - 1)) (sync_refusal v.files.directory h.place))
@@ -69,9 +66,3 @@ open_already names p n = if is_some (names.registered p n) then Some (BlobAlread
 abbrev pub open_denial : State → List ℕ → List ℕ → ℕ → ℕ → Option Refusal
 open_denial v p n first last =
     option_or (refused_if GenerationsExhausted (is_unnumbered v.names p n)) (option_or (loose_denial v p n first last) (open_already v.names p n))
-
-abbrev pub remove_denial : State → List ℕ → Option (List ℕ) → Option Refusal
-remove_denial v p n = option_or (refused_if Injected (draw v.config.remove_rate v.stream).0) (remove_refusal v.files.directory p n)
-
-abbrev pub scan_denial : State → List ℕ → Option Refusal
-scan_denial v p = option_or (refused_if Injected (draw v.config.scan_rate v.stream).0) (partition_refusal v.files.directory p)
