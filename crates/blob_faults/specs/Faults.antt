@@ -23,6 +23,8 @@ retention config = option_and_then (λ c. if c.retention_rate.numerator == 0 the
 -- What the draws of a write come to.
 
 pub data WriteFate : Type 0 where
+  Idle : WriteFate  -- it does nothing: a SYNC write of no bytes
+  Uncounted : WriteFate  -- its end can't be counted
   Done : WriteFate  -- it is done as the inner store does it
   Unsynced : WriteFate  -- it is a SYNC write and its sync fails
   Failed : List Bool → WriteFate  -- it fails and keeps the chosen bytes
@@ -31,26 +33,20 @@ abbrev pub failed : Option (PartialWriteMode × Rate) → ℕ → ℕ → Stream
 failed None offset len stream = (Failed [], stream)
 failed (Some kept) offset len stream = let d = positions kept.0 kept.1 offset len stream in (Failed d.0, d.1)
 
-abbrev pub write_fate : Config → Bool → ℕ → ℕ → Stream → WriteFate × Stream
-write_fate config sync offset len stream =
+-- of a write that draws: whether it fails, and whether the sync of a SYNC write does that didn't
+abbrev pub drawn_fate : Config → Bool → ℕ → ℕ → Stream → WriteFate × Stream
+drawn_fate config sync offset len stream =
     let d = draw (option_map (λ c. c.failure_rate) config.write_rate) stream in
     if d.0 then failed (retention config.write_rate) offset len d.1
     else if sync then (let e = draw config.sync_rate d.1 in (if e.0 then Unsynced else Done, e.1))
     else (Done, d.1)
 
-abbrev pub has_uncounted_end : ℕ → List ℕ → Bool
-has_uncounted_end offset bytes = nat_lt (2 ^ 64 - 1) (offset + length bytes)
-
--- what comes of a write, of one that does nothing and of one whose end can't be counted, which draw nothing, or else by its fate and what its draws leave
-abbrev pub by_fate : {X : Type 0} → Config → Bool → ℕ → List ℕ → Stream → X → X → (WriteFate × Stream → X) → X
-by_fate config sync offset bytes stream idle uncounted drawn =
-    if is_idle sync bytes then idle
-    else if has_uncounted_end offset bytes then uncounted
-    else drawn (write_fate config sync offset (length bytes) stream)
-
--- what a write leaves of the stream
-abbrev pub after_write : Config → Bool → ℕ → List ℕ → Stream → Stream
-after_write config sync offset bytes stream = by_fate config sync offset bytes stream stream stream (λ d. d.1)
+-- of any write, and what is left of the stream
+abbrev pub write_fate : Config → Bool → ℕ → List ℕ → Stream → WriteFate × Stream
+write_fate config sync offset bytes stream =
+    if is_idle sync bytes then (Idle, stream)
+    else if nat_lt (2 ^ 64 - 1) (offset + length bytes) then (Uncounted, stream)
+    else drawn_fate config sync offset (length bytes) stream
 
 -- What the draws of a resize come to.
 

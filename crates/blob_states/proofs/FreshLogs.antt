@@ -10,7 +10,8 @@ use Rattle.blob_model.specs.Places.{Place, same_place}
 use Rattle.blob_header.specs.Refusals.{Refusal, BlobAlreadyOpen}
 use Rattle.blob_model.proofs.FileSteps.{log_push_at, log_without, still_fresh, still_none}
 use Rattle.blob_faults.specs.Faults.{resize_fate}
-use Rattle.blob_faults.specs.Recorded.{recorded_write, recorded_resize}
+use Rattle.blob_faults.specs.Changes.{resize_changes}
+use Rattle.blob_faults.specs.Recorded.{recorded_write}
 use Rattle.blob_calls.specs.declared.call.Call.{Call}
 use Rattle.blob_calls.specs.declared.reply.Reply.{Reply}
 use Rattle.blob_calls.specs.Acts.{Ask, Read, Write, Resize, Size, Sync, StartSync, AcceptedVersions, Act, Configure, Open, OpenLoose, Admit, Close, Through, Finish, Remove, Scan, Crash, Reopen, act_of}
@@ -59,7 +60,7 @@ fresh_begun f h (Some refusal) fresh = fresh
 
 fresh_asked : (v : State) (h : Held) (ask : Ask) (refusal : Option Refusal) → h.place.number < v.files.directory.next → IsFresh v.files → IsFresh (files_after v h ask refusal)
 fresh_asked v h (Write offset bytes sync) refusal below fresh = fresh_all v.files h.place (recorded_write v.config v.files.next_write v.stream sync offset bytes refusal) below fresh
-fresh_asked v h (Resize len) refusal below fresh = fresh_all v.files h.place (recorded_resize (resize_fate v.config.resize_rate h.size len v.stream).0 len refusal) below fresh
+fresh_asked v h (Resize len) refusal below fresh = fresh_all v.files h.place ((resize_changes (resize_fate v.config.resize_rate h.size len v.stream).0 len refusal).entries v.files.next_write) below fresh
 fresh_asked v h Sync None below fresh = fresh_published v.files h.place h.live fresh
 fresh_asked v h Sync (Some refusal) below fresh = fresh
 fresh_asked v h StartSync None below fresh = fresh_begun v.files h (start_denial v h) fresh

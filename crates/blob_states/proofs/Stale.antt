@@ -13,7 +13,8 @@ use Rattle.blob_model.specs.Opening.{Opening, Continues, Begins, Declines, openi
 use Rattle.blob_model.specs.Places.{Place, same_place}
 use Rattle.blob_header.specs.Refusals.{Refusal, BlobAlreadyOpen, GenerationsExhausted, Injected}
 use Rattle.blob_faults.specs.Faults.{draw, resize_fate}
-use Rattle.blob_faults.specs.Recorded.{recorded_write, recorded_resize}
+use Rattle.blob_faults.specs.Changes.{resize_changes}
+use Rattle.blob_faults.specs.Recorded.{recorded_write}
 use Rattle.blob_memory.specs.Answers.{missing, sync_refusal}
 use Rattle.blob_model.specs.SamePlace.{parts, same_place_exact}
 use Rattle.blob_model.proofs.Durables.{others_logged, others_published}
@@ -124,7 +125,7 @@ begun_directory f h (Some refusal) = refl
 
 pub asked_directory : (v : State) (h : Held) (ask : Ask) (refusal : Option Refusal) → (files_after v h ask refusal).directory ≡ v.files.directory
 asked_directory v h (Write offset bytes sync) refusal = logged_directory v.files h.place (recorded_write v.config v.files.next_write v.stream sync offset bytes refusal)
-asked_directory v h (Resize len) refusal = logged_directory v.files h.place (recorded_resize (resize_fate v.config.resize_rate h.size len v.stream).0 len refusal)
+asked_directory v h (Resize len) refusal = logged_directory v.files h.place ((resize_changes (resize_fate v.config.resize_rate h.size len v.stream).0 len refusal).entries v.files.next_write)
 asked_directory v h Sync None = refl
 asked_directory v h Sync (Some refusal) = refl
 asked_directory v h StartSync None = begun_directory v.files h (start_denial v h)
@@ -185,7 +186,7 @@ other_begun f h (Some refusal) a other = refl
 
 pub other_asked : (v : State) (h : Held) (ask : Ask) (refusal : Option Refusal) (a : Place) → same_place h.place a ≡ false → durable_at (files_after v h ask refusal) a ≡ durable_at v.files a
 other_asked v h (Write offset bytes sync) refusal a other = other_logged v.files h.place a (recorded_write v.config v.files.next_write v.stream sync offset bytes refusal) other
-other_asked v h (Resize len) refusal a other = other_logged v.files h.place a (recorded_resize (resize_fate v.config.resize_rate h.size len v.stream).0 len refusal) other
+other_asked v h (Resize len) refusal a other = other_logged v.files h.place a ((resize_changes (resize_fate v.config.resize_rate h.size len v.stream).0 len refusal).entries v.files.next_write) other
 other_asked v h Sync None a other = (others_published v.files h.place h.live a other).0
 other_asked v h Sync (Some refusal) a other = refl
 other_asked v h StartSync None a other = other_begun v.files h (start_denial v h) a other

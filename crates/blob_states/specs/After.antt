@@ -6,8 +6,8 @@ use Rattle.blob_model.specs.Directory.{current}
 use Rattle.blob_model.specs.Draws.{chosen_by, drawn}
 use Rattle.blob_model.specs.Files.{Files, all_logged, started, admitted, after_open, after_remove, after_crash, reopened, all_needs, published}
 use Rattle.blob_header.specs.Refusals.{Refusal, BlobAlreadyOpen}
-use Rattle.blob_faults.specs.Faults.{resize_fate}
-use Rattle.blob_faults.specs.Recorded.{recorded_write, recorded_resize, live_of_write, live_of_resize, size_of_write, size_of_resize}
+use Rattle.blob_faults.specs.Changes.{Changes, laying, write_changes, resize_changes}
+use Rattle.blob_faults.specs.Faults.{retention, write_fate, resize_fate}
 use Rattle.blob_calls.specs.Acts.{Ask, Write, Resize, Sync, StartSync, AcceptedVersions, Act, Configure, Open, OpenLoose, Admit, Close, Through, Finish, Remove, Crash, Reopen}
 use Rattle.blob_states.specs.Answers.{kept_at}
 use Rattle.blob_states.specs.Denials.{start_denial}
@@ -17,23 +17,19 @@ use Rattle.blob_states.specs.States.{State, Held, Started, held_on}
 
 -- Through a handle.
 
+-- what it adds to the log of the handle's incarnation, and makes of the handle
+abbrev pub ask_changes : State → Held → Ask → Option Refusal → Changes
+ask_changes v h (Write offset bytes sync) refusal = write_changes (write_fate v.config sync offset bytes v.stream).0 (retention v.config.write_rate) sync offset bytes refusal
+ask_changes v h (Resize len) refusal = resize_changes (resize_fate v.config.resize_rate h.size len v.stream).0 len refusal
+ask_changes v h ask refusal = laying [] (λ number. [])
+
 abbrev pub files_after : State → Held → Ask → Option Refusal → Files
-files_after v h (Write offset bytes sync) refusal = all_logged v.files h.place (recorded_write v.config v.files.next_write v.stream sync offset bytes refusal)
-files_after v h (Resize len) refusal = all_logged v.files h.place (recorded_resize (resize_fate v.config.resize_rate h.size len v.stream).0 len refusal)
 files_after v h Sync None = published v.files h.place h.live
 files_after v h StartSync None = elim (start_denial v h) [ None ↦ started v.files h.place h.live | Some refusal ↦ v.files ]
-files_after v h ask refusal = v.files
+files_after v h ask refusal = all_logged v.files h.place ((ask_changes v h ask refusal).entries v.files.next_write)
 
 abbrev pub held_after : State → Held → Ask → Option Refusal → Held
-held_after v h (Write offset bytes sync) refusal = record h {
-  live = live_of_write v.config v.stream sync h.live offset bytes refusal;
-  size = size_of_write v.config v.stream sync h.size offset bytes refusal;
-}
-held_after v h (Resize len) refusal = record h {
-  live = live_of_resize (resize_fate v.config.resize_rate h.size len v.stream).0 h.live len refusal;
-  size = size_of_resize (resize_fate v.config.resize_rate h.size len v.stream).0 h.size len refusal;
-}
-held_after v h ask refusal = h
+held_after v h ask refusal = let changes = ask_changes v h ask refusal in record h { live = changes.live h.live; size = changes.size h.size }
 
 abbrev pub syncs_after : State → Held → Ask → Option Refusal → List (Option Started)
 syncs_after v h StartSync None = v.syncs ++ Some (record { outcome = start_denial v h }) ∷ []

@@ -7,7 +7,7 @@ use Rattle.blob_model.specs.Files.{Files, all_needs, durable_at}
 use Rattle.blob_model.specs.Rates.{Rate}
 use Rattle.blob_model.specs.Opening.{Opening, Continues, Begins, Declines, opening, place_of}
 use Rattle.blob_header.specs.Refusals.{Refusal, Memory, Injected}
-use Rattle.blob_faults.specs.Faults.{draw, after_write, resize_fate}
+use Rattle.blob_faults.specs.Faults.{draw, write_fate, resize_fate}
 use Rattle.blob_calls.specs.declared.reply.Reply.{Reply}
 use Rattle.blob_calls.specs.Acts.{Ask, Read, Write, Resize, Size, Sync, StartSync, AcceptedVersions, Act, Configure, Open, OpenLoose, Admit, Close, Through, Finish, Remove, Scan, Crash, Reopen}
 use Rattle.blob_states.specs.Denials.{refused_if, is_unnumbered, write_denial, reaching_denial, open_denial}
@@ -36,7 +36,7 @@ kept_at slots number = option_and_then (λ slot. slot) (slice_get slots number)
 abbrev pub through : State → Option Held → Ask → Told × Stream
 through v None ask = (told.NoHandle, v.stream)
 through v (Some h) (Read offset len) = unless_drawn v.stream v.config.read_rate (read_refusal h.place h.live offset len) (told.Bytes (take len (drop offset h.live)))
-through v (Some h) (Write offset bytes sync) = (unless_denied (write_denial v h offset bytes sync) told.Done, after_write v.config sync offset bytes v.stream)
+through v (Some h) (Write offset bytes sync) = (unless_denied (write_denial v h offset bytes sync) told.Done, (write_fate v.config sync offset bytes v.stream).1)
 through v (Some h) (Resize len) =
     let d = resize_fate v.config.resize_rate h.size len v.stream in
     (unless_denied (reaching_denial d.0 h.place len) told.Done, d.1)

@@ -15,6 +15,10 @@ use Rattle.blob_states.specs.States.{State, Held, Image, with_image}
 
 -- What refuses them.
 
+-- a call that fails, unless the store refuses what it does of it
+abbrev pub or_injected : Option Refusal → Option Refusal
+or_injected refusal = option_or refusal (Some Injected)
+
 abbrev pub sync_denial : State → Held → Option Refusal
 sync_denial v h = option_or (refused_if Injected (draw v.config.sync_rate v.stream).0) (sync_refusal v.files.directory h.place)
 
