@@ -16,5 +16,6 @@ pub mod Sizes
 pub mod Sorting
 pub mod SpanSteps
 pub mod Taking
+pub mod Unchanged
 pub mod Unmarked
 pub mod Unreached

@@ -8,8 +8,11 @@ use Rattle.blob_header.specs.Refusals.{Refusal, BlobMissing, Injected}
 use Rattle.blob_model.specs.Runs.{Run, runs}
 use Rattle.blob_model.proofs.Bytes.{length-overlay_by, length-resized, reach_all}
 use Rattle.blob_faults.specs.declared.config.Config.{Config}
-use Rattle.blob_faults.specs.Faults.{WriteFate, Done, Unsynced, Failed, ResizeFate, Resizes, Reaches, write_fate, has_uncounted_end}
-use Rattle.blob_faults.specs.Recorded.{live_by, live_of_write, live_of_resize, size_by, size_of_write, size_of_resize, size_of_runs}
+use Rattle.blob_model.specs.declared.mode.PartialWriteMode.{PartialWriteMode}
+use Rattle.blob_model.specs.Rates.{Rate}
+use Rattle.blob_faults.specs.Faults.{WriteFate, Done, Unsynced, Failed, ResizeFate, Resizes, Reaches, write_fate, retention}
+use Rattle.blob_faults.specs.Changes.{size_of_runs, write_changes}
+use Rattle.blob_faults.specs.Recorded.{live_of_write, live_of_resize, size_of_write, size_of_resize}
 
 abbrev IsFound : Option Refusal → Type 0
 IsFound answer = (p n : List ℕ) → answer ≡ Some (BlobMissing p n) → ⊥
@@ -28,34 +31,20 @@ runs_sized : (size : ℕ) (live : List ℕ) (rs : List Run) → size ≡ length 
 runs_sized size live [] e = e
 runs_sized size live (r ∷ rs) e = runs_sized (max size (r.0 + length r.1)) (written live r.0 r.1) rs (write_sized size live r.0 r.1 e)
 
-done_sized : (sync : Bool) (size : ℕ) (live : List ℕ) (o : ℕ) (b : List ℕ) → is_idle sync b ≡ false → size ≡ length live → max size (o + length b) ≡ length (live_written sync live o b)
-done_sized true size live o [] some e = absurd (false≢true (sym some))
-done_sized true size live o (x ∷ b) some e = write_sized size live o (x ∷ b) e
-done_sized false size live o b some e = write_sized size live o b e
-
-by_fate_sized : (fate : WriteFate) (sync : Bool) (size : ℕ) (live : List ℕ) (o : ℕ) (b : List ℕ) (answer : Option Refusal) → is_idle sync b ≡ false → IsFound answer → size ≡ length live →
-    size_by fate size o b answer ≡ length (live_by fate sync live o b answer)
-by_fate_sized Done sync size live o b None some found e = done_sized sync size live o b some e
-by_fate_sized Done sync size live o b (Some (BlobMissing p n)) some found e = absurd (found p n refl)
-by_fate_sized Done true size live o b (Some r) some found e = e
-by_fate_sized Done false size live o b (Some r) some found e = e
-by_fate_sized Unsynced sync size live o b (Some Injected) some found e = write_sized size live o b e
-by_fate_sized (Failed chosen) sync size live o b (Some Injected) some found e = runs_sized size live (runs o b chosen) e
-by_fate_sized (Failed chosen) sync size live o b (Some (BlobMissing p n)) some found e = absurd (found p n refl)
-by_fate_sized fate sync size live o b answer some found e = e
+changes_sized : (fate : WriteFate) (retained : Option (PartialWriteMode × Rate)) (sync : Bool) (size : ℕ) (live : List ℕ) (o : ℕ) (b : List ℕ) (answer : Option Refusal) → IsFound answer → size ≡ length live →
+    (write_changes fate retained sync o b answer).size size ≡ length ((write_changes fate retained sync o b answer).live live)
+changes_sized Done retained true size live o b None found e = write_sized size live o b e
+changes_sized Done retained false size live o b None found e = write_sized size live o b e
+changes_sized Done retained true size live o b (Some (BlobMissing p n)) found e = absurd (found p n refl)
+changes_sized Unsynced retained sync size live o b (Some Injected) found e = write_sized size live o b e
+changes_sized (Failed chosen) retained sync size live o b (Some Injected) found e = runs_sized size live (runs o b chosen) e
+changes_sized (Failed chosen) retained sync size live o b (Some (BlobMissing p n)) found e = absurd (found p n refl)
+changes_sized fate retained true size live o b answer found e = e
+changes_sized fate retained false size live o b answer found e = e
 
 pub sized_after_write : (config : Config) (stream : Stream) (sync : Bool) (size : ℕ) (live : List ℕ) (o : ℕ) (b : List ℕ) (answer : Option Refusal) → IsFound answer → size ≡ length live →
     size_of_write config stream sync size o b answer ≡ length (live_of_write config stream sync live o b answer)
-sized_after_write config stream sync size live o b answer found e = go (is_idle sync b) (has_uncounted_end o b) refl
-  where
-    fate : WriteFate
-    fate = (write_fate config sync o (length b) stream).0
-
-    go : (nothing uncounted : Bool) → is_idle sync b ≡ nothing → (if nothing then size else if uncounted then size else size_by fate size o b answer)
-        ≡ length (if nothing then live else if uncounted then live else live_by fate sync live o b answer)
-    go true uncounted some = e
-    go false true some = e
-    go false false some = by_fate_sized fate sync size live o b answer some found e
+sized_after_write config stream sync size live o b answer found e = changes_sized (write_fate config sync o b stream).0 (retention config.write_rate) sync size live o b answer found e
 
 pub sized_after_resize : (fate : ResizeFate) (size : ℕ) (live : List ℕ) (len : ℕ) (answer : Option Refusal) → size ≡ length live → size_of_resize fate size len answer ≡ length (live_of_resize fate live len answer)
 sized_after_resize (Resizes survives) size live len None e = sym (length-resized live len)

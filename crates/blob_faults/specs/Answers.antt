@@ -5,7 +5,8 @@ use Rattle.blob_model.specs.Live.{is_idle}
 use Rattle.blob_header.specs.Refusals.{Refusal, Memory, Injected, OffsetOverflow, WriteFailed, GenerationsExhausted}
 use Rattle.blob_model.specs.Runs.{Run, runs}
 use Rattle.blob_faults.specs.declared.config.Config.{Config}
-use Rattle.blob_faults.specs.Faults.{WriteFate, Done, Unsynced, Failed, ResizeFate, Resizes, Stays, Reaches, write_fate, retention, has_uncounted_end}
+use Rattle.blob_faults.specs.Fates.{has_uncounted_end}
+use Rattle.blob_faults.specs.Faults.{WriteFate, Done, Unsynced, Failed, ResizeFate, Resizes, Stays, Reaches, drawn_fate, retention}
 
 -- which answers a call may have: a refusal, or none for Ok
 abbrev pub Allowed : Type 1
@@ -57,16 +58,18 @@ abbrev pub allows_done : (ℕ → List ℕ → Bool → Allowed) → Bool → �
 allows_done writes retained next true offset bytes answer = writes offset bytes true answer
 allows_done writes retained next false offset bytes answer = numbered (lacks_number retained next bytes) (writes offset bytes false) answer
 
+-- by a fate that was drawn: no other is
 abbrev pub allows_fate : WriteFate → (ℕ → List ℕ → Bool → Allowed) → (ℕ → Allowed) → Bool → Bool → ℕ → Bool → ℕ → List ℕ → Allowed
 allows_fate Done writes reserves direct retained next sync offset bytes answer = allows_done writes retained next sync offset bytes answer
 allows_fate Unsynced writes reserves direct retained next sync offset bytes answer = numbered (lacks_number retained next bytes) (injected_for (writes offset bytes false)) answer
 allows_fate (Failed kept) writes reserves direct retained next sync offset bytes answer = injected_for (allows_runs writes reserves direct (runs offset bytes kept)) answer
+allows_fate fate writes reserves direct retained next sync offset bytes answer = ⊥
 
 -- `writes` and `reserves` are what the inner blob allows, `direct` whether it injects nothing
 unfoldable pub allows_write : (ℕ → List ℕ → Bool → Allowed) → (ℕ → Allowed) → Bool → Config → ℕ → Stream → ℕ → List ℕ → Bool → Allowed
 allows_write writes reserves direct config next stream offset bytes sync answer =
     MatchBool (is_idle sync bytes) (answer ≡ None) (MatchBool (has_uncounted_end offset bytes) (answer ≡ Some OffsetOverflow)
-    (or_memory (allows_fate (write_fate config sync offset (length bytes) stream).0 writes reserves direct (is_some (retention config.write_rate)) next sync offset bytes) answer))
+    (or_memory (allows_fate (drawn_fate config sync offset (length bytes) stream).0 writes reserves direct (is_some (retention config.write_rate)) next sync offset bytes) answer))
 
 abbrev pub allows_resize : (ℕ → Allowed) → ResizeFate → ℕ → Allowed
 allows_resize resizes (Resizes survives) len answer = or_memory (resizes len) answer

@@ -1,5 +1,5 @@
 -- The blocks of 64 entries of a pending list, with bounds of where their writes lie.
-use Rattle.std.specs.Prelude.{◌≡◌, ℕ, ◌+◌, ◌/◌, ◌<◌, ◌≤◌, Bool, true, ◌&&◌, ◌||◌, List, length, slice_index_or, nat_le}
+use Rattle.std.specs.Prelude.{◌≡◌, ℕ, ◌+◌, ◌/◌, ◌<◌, Bool, true, ◌&&◌, ◌||◌, List, length, nat_le}
 use Rattle.std.proofs.Common.{get_or}
 use Rattle.blob_model.specs.Log.{has_bare}
 use Rattle.blob_model.specs.Pending.{Pending, Waiting, Cut, Again, Marker}

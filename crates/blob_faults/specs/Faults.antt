@@ -1,5 +1,5 @@
 -- What a wrapper's draws make of a call.
-use Rattle.std.specs.Prelude.{ℕ, ◌+◌, ◌-◌, ◌^◌, min, max, Bool, true, false, ◌&&◌, List, [], ◌∷◌, length, Option, Some, None, if◌then◌else◌, nat_lt, ◌==◌}
+use Rattle.std.specs.Prelude.{ℕ, ◌+◌, ◌-◌, ◌^◌, min, max, Bool, false, ◌&&◌, List, [], length, Option, Some, None, option_map, option_and_then, if◌then◌else◌, nat_lt, ◌==◌}
 use Rattle.rand_core.specs.Stream.{Stream, next_u64}
 use Rattle.rand.specs.Uniform.{canon}
 use Rattle.blob_model.specs.Draws.{positions}
@@ -16,68 +16,44 @@ abbrev pub draw : Option Rate → Stream → Bool × Stream
 draw None stream = (false, stream)
 draw (Some rate) stream = sampled rate stream
 
-abbrev pub write_failure : Option WriteConfig → Option Rate
-write_failure None = None
-write_failure (Some c) = Some c.failure_rate
-
 -- how what is retained of a write is chosen, where the retention rate is set and isn't zero
 abbrev pub retention : Option WriteConfig → Option (PartialWriteMode × Rate)
-retention None = None
-retention (Some c) = if c.retention_rate.numerator == 0 then None else Some (c.mode, c.retention_rate)
-
-abbrev pub kept_by : Option WriteConfig → Option (PartialWriteMode × Rate)
-kept_by None = None
-kept_by (Some c) = Some (c.mode, c.retention_rate)
+retention config = option_and_then (λ c. if c.retention_rate.numerator == 0 then None else Some (c.mode, c.retention_rate)) config
 
 -- What the draws of a write come to.
 
 pub data WriteFate : Type 0 where
-  -- it is done as the inner store does it
-  Done : WriteFate
-  -- it is a SYNC write and its sync fails
-  Unsynced : WriteFate
-  -- it fails and keeps the chosen bytes
-  Failed : List Bool → WriteFate
+  Idle : WriteFate  -- it does nothing: a SYNC write of no bytes
+  Uncounted : WriteFate  -- its end can't be counted
+  Done : WriteFate  -- it is done as the inner store does it
+  Unsynced : WriteFate  -- it is a SYNC write and its sync fails
+  Failed : List Bool → WriteFate  -- it fails and keeps the chosen bytes
 
 abbrev pub failed : Option (PartialWriteMode × Rate) → ℕ → ℕ → Stream → WriteFate × Stream
 failed None offset len stream = (Failed [], stream)
 failed (Some kept) offset len stream = let d = positions kept.0 kept.1 offset len stream in (Failed d.0, d.1)
 
-abbrev pub synced_or_not : Bool × Stream → WriteFate × Stream
-synced_or_not d = (if d.0 then Unsynced else Done, d.1)
+-- of a write that draws: whether it fails, and whether the sync of a SYNC write does that didn't
+abbrev pub drawn_fate : Config → Bool → ℕ → ℕ → Stream → WriteFate × Stream
+drawn_fate config sync offset len stream =
+    let d = draw (option_map (λ c. c.failure_rate) config.write_rate) stream in
+    if d.0 then failed (retention config.write_rate) offset len d.1
+    else if sync then (let e = draw config.sync_rate d.1 in (if e.0 then Unsynced else Done, e.1))
+    else (Done, d.1)
 
-abbrev pub not_failed : Config → Bool → Stream → WriteFate × Stream
-not_failed config false stream = (Done, stream)
-not_failed config true stream = synced_or_not (draw config.sync_rate stream)
-
-abbrev pub write_fate : Config → Bool → ℕ → ℕ → Stream → WriteFate × Stream
-write_fate config sync offset len stream =
-    let d = draw (write_failure config.write_rate) stream in
-    if d.0 then failed (retention config.write_rate) offset len d.1 else not_failed config sync d.1
-
-abbrev pub has_uncounted_end : ℕ → List ℕ → Bool
-has_uncounted_end offset bytes = nat_lt (2 ^ 64 - 1) (offset + length bytes)
-
--- what comes of a write, of one that does nothing and of one whose end can't be counted, which draw nothing, or else by its fate and what its draws leave
-abbrev pub by_fate : {X : Type 0} → Config → Bool → ℕ → List ℕ → Stream → X → X → (WriteFate × Stream → X) → X
-by_fate config sync offset bytes stream idle uncounted drawn =
-    if is_idle sync bytes then idle
-    else if has_uncounted_end offset bytes then uncounted
-    else drawn (write_fate config sync offset (length bytes) stream)
-
--- what a write leaves of the stream
-abbrev pub after_write : Config → Bool → ℕ → List ℕ → Stream → Stream
-after_write config sync offset bytes stream = by_fate config sync offset bytes stream stream stream (λ d. d.1)
+-- of any write, and what is left of the stream
+abbrev pub write_fate : Config → Bool → ℕ → List ℕ → Stream → WriteFate × Stream
+write_fate config sync offset bytes stream =
+    if is_idle sync bytes then (Idle, stream)
+    else if nat_lt (2 ^ 64 - 1) (offset + length bytes) then (Uncounted, stream)
+    else drawn_fate config sync offset (length bytes) stream
 
 -- What the draws of a resize come to.
 
 pub data ResizeFate : Type 0 where
-  -- it is done, and survives a crash or not
-  Resizes : Bool → ResizeFate
-  -- it fails, and changes nothing
-  Stays : ResizeFate
-  -- it fails, and reaches this size
-  Reaches : ℕ → ResizeFate
+  Resizes : Bool → ResizeFate  -- it is done, and survives a crash or not
+  Stays : ResizeFate  -- it fails, and changes nothing
+  Reaches : ℕ → ResizeFate  -- it fails, and reaches this size
 
 -- a size strictly between two others, as `random_range` of `rand` draws it
 abbrev pub size_between : ℕ → ℕ → Stream → ℕ × Stream

@@ -1,6 +1,7 @@
 pub mod Answers
 pub mod Blocks
 pub mod Cells
+pub mod Changes
 pub mod Drawings
 pub mod Fates
 pub mod Faults

@@ -1,9 +1,9 @@
 //! What the draws of a call come to, before the inner store is asked.
 ghost use Rattle.std.specs.Prelude.{◌≡◌, ◌<◌, ◌+◌, ◌^◌, Some, None, IfOk, OnErr, length, replicate, false, IfSome};
 ghost use Rattle.blob_header.specs.Refusals.{IsMemory};
-ghost use Rattle.blob_faults.specs.Faults.{draw, retention, kept_by, write_failure, failed, write_fate, partly, resize_fate, size_between};
+ghost use Rattle.blob_faults.specs.Faults.{draw, retention, failed, drawn_fate, partly, resize_fate, size_between};
 ghost use Rattle.blob_model.specs.Rates.{sampled};
-ghost use Rattle.blob_faults.specs.Fates.{write_fate_of, resize_fate_of, IsSized};
+ghost use Rattle.blob_faults.specs.Fates.{kept_by, write_failure, write_fate_of, resize_fate_of, IsSized};
 
 use crate::config::{Config, ResizeConfig, WriteConfig};
 use crate::selection::draw_positions;
@@ -95,7 +95,7 @@ pub fn draw_write<R: Rng>(
     rng: &mut R,
 ) -> Result<WriteFate, Error>
     requires { offset + len < 2 ^ 64 }
-    ensures ok { IfOk result (λ fate. (write_fate_of fate, R.stream rng.new) ≡ write_fate config.now sync offset len (R.stream rng.old)) }
+    ensures ok { IfOk result (λ fate. (write_fate_of fate, R.stream rng.new) ≡ drawn_fate config.now sync offset len (R.stream rng.old)) }
     ensures sized { IfOk result (λ fate. IsSized len (write_fate_of fate)) }
     ensures memory { OnErr result (IsMemory result) }
 {

@@ -7,7 +7,8 @@ use Rattle.blob_header.specs.Refusals.{Refusal, OffsetOverflow}
 use Rattle.blob_model.specs.Runs.{Run, runs}
 use Rattle.blob_faults.specs.declared.config.Config.{Config}
 use Rattle.blob_faults.specs.Answers.{Allowed, injected_for, or_memory, numbered, lacks_number, last_end, allows_laid, allows_runs, allows_fate, allows_write}
-use Rattle.blob_faults.specs.Faults.{WriteFate, Done, Unsynced, Failed, write_fate, retention, has_uncounted_end}
+use Rattle.blob_faults.specs.Fates.{has_uncounted_end}
+use Rattle.blob_faults.specs.Faults.{WriteFate, Done, Unsynced, Failed, drawn_fate, retention}
 
 more_injected : (less more : Allowed) → ((a : Option Refusal) → less a → more a) → (a : Option Refusal) → injected_for less a → injected_for more a
 more_injected less more grow a (inl h) = inl (h.0, grow None h.1)
@@ -46,12 +47,13 @@ module _ (writes writes' : ℕ → List ℕ → Bool → Allowed) (reserves rese
       more_numbered (lacks_number retained next b) (injected_for (writes' o b false)) (injected_for (writes o b false)) (more_injected (writes' o b false) (writes o b false) (more o b false)) a h
   more_fate (Failed kept) direct retained next sync o b a h =
       more_injected (allows_runs writes' reserves' direct (runs o b kept)) (allows_runs writes reserves direct (runs o b kept)) (more_runs direct (runs o b kept)) a h
+  more_fate fate direct retained next sync o b a h = absurd h
 
   pub more_write : (direct : Bool) (config : Config) (next : ℕ) (stream : Stream) (o : ℕ) (b : List ℕ) (sync : Bool) (a : Option Refusal) →
       allows_write writes' reserves' direct config next stream o b sync a → allows_write writes reserves direct config next stream o b sync a
   unfolding allows_write
   more_write direct config next stream o b sync a h = matched (is_idle sync b) (a ≡ None) _ _
       (matched (has_uncounted_end o b) (a ≡ Some OffsetOverflow) _ _
-      (more_memory (allows_fate (write_fate config sync o (length b) stream).0 writes' reserves' direct (is_some (retention config.write_rate)) next sync o b)
-      (allows_fate (write_fate config sync o (length b) stream).0 writes reserves direct (is_some (retention config.write_rate)) next sync o b)
-      (more_fate (write_fate config sync o (length b) stream).0 direct (is_some (retention config.write_rate)) next sync o b) a)) h
+      (more_memory (allows_fate (drawn_fate config sync o (length b) stream).0 writes' reserves' direct (is_some (retention config.write_rate)) next sync o b)
+      (allows_fate (drawn_fate config sync o (length b) stream).0 writes reserves direct (is_some (retention config.write_rate)) next sync o b)
+      (more_fate (drawn_fate config sync o (length b) stream).0 direct (is_some (retention config.write_rate)) next sync o b) a)) h

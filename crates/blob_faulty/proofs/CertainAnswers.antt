@@ -1,6 +1,6 @@
 -- What a wrapper may answer where its draws are certain.
 use Rattle.std.proofs.Common.{◌≡◌, inl, inr, ℕ, ◌-◌, ◌^◌, ◌<◌, Bool, true, false, ◌==◌, ◌&&◌, min, max, nat_lt, List, length, cond, Option, Some, None, refl, sym, ◌∙◌, ap, subst, arith}
-use Rattle.std.specs.Prelude.{is_some, MatchBool, ◌↔◌}
+use Rattle.std.specs.Prelude.{is_some, MatchBool, ◌↔◌, if◌then◌else◌}
 use Rattle.std.proofs.lemmas.Bool.{cond-true, cond-false}
 use Rattle.std.proofs.lemmas.Bool.Decides.{nat_tests}
 use Rattle.rand_core.specs.Stream.{Stream}
@@ -14,7 +14,8 @@ use Rattle.blob_faults.specs.declared.config.ResizeConfig.{ResizeConfig}
 use Rattle.blob_faulty.specs.AnswerLaws.{injected_none, numbered_none, memory_none, uncounted_none}
 use Rattle.blob_faults.specs.Answers.{Allowed, injected_or, injected_for, or_memory, numbered, lacks_number, allows_runs, allows_done, allows_fate, allows_write, allows_resize, allows_start}
 use Rattle.blob_faulty.specs.Certain.{IsNever, IsAlways, resize_failure}
-use Rattle.blob_faults.specs.Faults.{draw, write_failure, retention, WriteFate, Done, Unsynced, Failed, failed, not_failed, synced_or_not, write_fate, has_uncounted_end, ResizeFate, Resizes, Stays, Reaches, partly, resize_fate, size_between}
+use Rattle.blob_faults.specs.Fates.{write_failure, has_uncounted_end}
+use Rattle.blob_faults.specs.Faults.{draw, retention, WriteFate, Done, Unsynced, Failed, failed, drawn_fate, ResizeFate, Resizes, Stays, Reaches, partly, resize_fate, size_between}
 
 -- The draws.
 
@@ -59,7 +60,14 @@ always_unresized (Some c) size len stream always =
     ap (λ (d : Bool × Stream). is_resized (cond d.0 (partly size len (sampled c.partial_rate d.1)) (Resizes (sampled c.failure_rate d.1).0, (sampled c.failure_rate d.1).1)).0) (always_drawn (Some c.failure_rate) stream always)
     ∙ either_fails (d.0 && nat_lt 1 (max size len - min size len)) (size_between (min size len) (max size len) d.1) d.1
 
-never_failed : (config : Config) (sync : Bool) (offset len : ℕ) (stream : Stream) → IsNever (write_failure config.write_rate) → (sync ≡ true → IsNever config.sync_rate) → (write_fate config sync offset len stream).0 ≡ Done
+-- what the draws of a write that doesn't fail come to
+abbrev synced_or_not : Bool × Stream → WriteFate × Stream
+synced_or_not d = (if d.0 then Unsynced else Done, d.1)
+
+abbrev not_failed : Config → Bool → Stream → WriteFate × Stream
+not_failed config sync stream = if sync then synced_or_not (draw config.sync_rate stream) else (Done, stream)
+
+never_failed : (config : Config) (sync : Bool) (offset len : ℕ) (stream : Stream) → IsNever (write_failure config.write_rate) → (sync ≡ true → IsNever config.sync_rate) → (drawn_fate config sync offset len stream).0 ≡ Done
 never_failed config sync offset len stream no_write no_sync =
     ap (λ (d : Bool × Stream). (cond d.0 (failed (retention config.write_rate) offset len d.1) (not_failed config sync d.1)).0) (never_drawn (write_failure config.write_rate) stream no_write) ∙ done sync no_sync
   where
@@ -69,19 +77,18 @@ never_failed config sync offset len stream no_write no_sync =
 
 abbrev is_done : WriteFate → Bool
 is_done Done = true
-is_done Unsynced = false
-is_done (Failed kept) = false
+is_done fate = false
 
 failed_not : (kept : Option (PartialWriteMode × Rate)) (offset len : ℕ) (stream : Stream) → is_done (failed kept offset len stream).0 ≡ false
 failed_not None offset len stream = refl
 failed_not (Some kept) offset len stream = refl
 
-always_failed : (config : Config) (sync : Bool) (offset len : ℕ) (stream : Stream) → IsAlways (write_failure config.write_rate) → is_done (write_fate config sync offset len stream).0 ≡ false
+always_failed : (config : Config) (sync : Bool) (offset len : ℕ) (stream : Stream) → IsAlways (write_failure config.write_rate) → is_done (drawn_fate config sync offset len stream).0 ≡ false
 always_failed config sync offset len stream always =
     ap (λ (d : Bool × Stream). is_done (cond d.0 (failed (retention config.write_rate) offset len d.1) (not_failed config sync d.1)).0) (always_drawn (write_failure config.write_rate) stream always)
     ∙ failed_not (retention config.write_rate) offset len stream
 
-always_unsynced : (config : Config) (offset len : ℕ) (stream : Stream) → IsAlways config.sync_rate → is_done (write_fate config true offset len stream).0 ≡ false
+always_unsynced : (config : Config) (offset len : ℕ) (stream : Stream) → IsAlways config.sync_rate → is_done (drawn_fate config true offset len stream).0 ≡ false
 always_unsynced config offset len stream always = go (draw (write_failure config.write_rate) stream).0 (draw (write_failure config.write_rate) stream).1
   where
     go : (b : Bool) (s : Stream) → is_done (cond b (failed (retention config.write_rate) offset len s) (not_failed config true s)).0 ≡ false
@@ -127,7 +134,7 @@ pub quiet_write : (writes : ℕ → List ℕ → Bool → Allowed) (reserves : �
 unfolding allows_write
 quiet_write writes reserves direct config next stream offset bytes sync answer no_write no_sync some counted left =
     let retained : Bool = is_some (retention config.write_rate) in
-    let fate : WriteFate = (write_fate config sync offset (length bytes) stream).0 in
+    let fate : WriteFate = (drawn_fate config sync offset (length bytes) stream).0 in
     let told : Type 0 = or_memory (writes offset bytes sync) answer in
     subst (λ (b : Bool). MatchBool b (answer ≡ None) (MatchBool (has_uncounted_end offset bytes) (answer ≡ Some OffsetOverflow) (or_memory (allows_fate fate writes reserves direct retained next sync offset bytes) answer)) ↔ told) (sym some)
     (subst (λ (b : Bool). MatchBool b (answer ≡ Some OffsetOverflow) (or_memory (allows_fate fate writes reserves direct retained next sync offset bytes) answer) ↔ told) (sym counted)
@@ -201,13 +208,14 @@ undone_none : (fate : WriteFate) (writes : ℕ → List ℕ → Bool → Allowed
 undone_none Done writes reserves direct retained next sync offset bytes e h = cc
 undone_none Unsynced writes reserves direct retained next sync offset bytes e h = numbered_none (lacks_number retained next bytes) (injected_for (writes offset bytes false)) (injected_none (writes offset bytes false)) h
 undone_none (Failed kept) writes reserves direct retained next sync offset bytes e h = injected_none (allows_runs writes reserves direct (runs offset bytes kept)) h
+undone_none fate writes reserves direct retained next sync offset bytes e h = h
 
 undone_write : (writes : ℕ → List ℕ → Bool → Allowed) (reserves : ℕ → Allowed) (direct : Bool) (config : Config) (next : ℕ) (stream : Stream) (offset : ℕ) (bytes : List ℕ) (sync : Bool) →
-    is_done (write_fate config sync offset (length bytes) stream).0 ≡ false → is_idle sync bytes ≡ false → allows_write writes reserves direct config next stream offset bytes sync None → ⊥
+    is_done (drawn_fate config sync offset (length bytes) stream).0 ≡ false → is_idle sync bytes ≡ false → allows_write writes reserves direct config next stream offset bytes sync None → ⊥
 unfolding allows_write
 undone_write writes reserves direct config next stream offset bytes sync undone some h =
     let retained : Bool = is_some (retention config.write_rate) in
-    let fate : WriteFate = (write_fate config sync offset (length bytes) stream).0 in
+    let fate : WriteFate = (drawn_fate config sync offset (length bytes) stream).0 in
     uncounted_none (has_uncounted_end offset bytes) (or_memory (allows_fate fate writes reserves direct retained next sync offset bytes))
     (memory_none (allows_fate fate writes reserves direct retained next sync offset bytes) (undone_none fate writes reserves direct retained next sync offset bytes undone))
     (subst (λ (b : Bool). MatchBool b (◌≡◌ {A = Option Refusal} None None) (MatchBool (has_uncounted_end offset bytes) (◌≡◌ {A = Option Refusal} None (Some OffsetOverflow)) (or_memory (allows_fate fate writes reserves direct retained next sync offset bytes) None))) some h)

@@ -9,7 +9,8 @@ use Rattle.blob_header.specs.Refusals.{Refusal, BlobMissing, OffsetOverflow}
 use Rattle.blob_model.specs.Runs.{Run, runs}
 use Rattle.blob_faults.specs.declared.config.Config.{Config}
 use Rattle.blob_faults.specs.Answers.{Allowed, or_memory, injected_for, numbered, one_then, allows_laid, allows_runs, allows_fate, allows_write}
-use Rattle.blob_faults.specs.Faults.{WriteFate, Done, Unsynced, Failed, write_fate, has_uncounted_end}
+use Rattle.blob_faults.specs.Fates.{has_uncounted_end}
+use Rattle.blob_faults.specs.Faults.{WriteFate, Done, Unsynced, Failed, drawn_fate}
 use Rattle.blob_memory.specs.Answers as memory
 use Rattle.blob_memory.specs.Answers.{AllowsWrite, OrMemory, write_refusal, end_refusal, missing}
 
@@ -57,13 +58,14 @@ module _ (p n : List ℕ) where
     not_by_fate Done direct retained next false offset bytes h = not_numbered _ (writes offset bytes false) (found offset bytes false) h
     not_by_fate Unsynced direct retained next sync offset bytes h = not_numbered _ (injected_for (writes offset bytes false)) (not_injected (writes offset bytes false) (found offset bytes false)) h
     not_by_fate (Failed chosen) direct retained next sync offset bytes h = not_injected (allows_runs writes reserves direct (runs offset bytes chosen)) (not_runs direct (runs offset bytes chosen)) h
+    not_by_fate fate direct retained next sync offset bytes h = h
 
     not_missing : (direct : Bool) (config : Config) (next : ℕ) (stream : Stream) (offset : ℕ) (bytes : List ℕ) (sync : Bool) → allows_write writes reserves direct config next stream offset bytes sync gone → ⊥
     unfolding allows_write
     not_missing direct config next stream offset bytes sync h =
         not_beyond (is_idle sync bytes) None _ (λ e. cc) (λ k.
         not_beyond (has_uncounted_end offset bytes) (Some OffsetOverflow) _ (λ e. cc) (λ m.
-        not_memory (allows_fate (write_fate config sync offset (length bytes) stream).0 writes reserves direct _ next sync offset bytes) (not_by_fate (write_fate config sync offset (length bytes) stream).0 direct _ next sync offset bytes) m) k) h
+        not_memory (allows_fate (drawn_fate config sync offset (length bytes) stream).0 writes reserves direct _ next sync offset bytes) (not_by_fate (drawn_fate config sync offset (length bytes) stream).0 direct _ next sync offset bytes) m) k) h
 
   -- the memory store's
   no_end : (o : Place) (end : ℕ) → OrMemory (end_refusal o end) gone → ⊥

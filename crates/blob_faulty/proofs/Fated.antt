@@ -1,13 +1,14 @@
 -- What a write leaves that is done by the fate that was drawn for it, and what it may then be answered.
-use Rattle.std.proofs.Common.{◌≡◌, ◌≢◌, ℕ, Bool, true, false, List, [], ◌∷◌, Option, Some, None, inl, inr, refl, sym, subst}
+use Rattle.std.proofs.Common.{◌≡◌, ◌≢◌, ℕ, Bool, true, false, List, [], ◌∷◌, Option, Some, None, inl, inr, refl, sym, ◌∙◌, subst}
 use Rattle.std.specs.Prelude.{Result, Ok, Err, OnErr, IsSome}
 use Rattle.blob_header.specs.Refusals.{Refusal, Injected, WriteFailed, refused}
 use Rattle.blob_header.specs.declared.error.Error.{Error}
+use Rattle.blob_model.specs.Log.{Entry}
 use Rattle.blob_model.specs.Runs.{Run, runs}
 use Rattle.blob_faults.specs.Answers.{Allowed, or_memory, allows_laid, allows_runs, last_end, numbered, injected_for}
-use Rattle.blob_faults.specs.Faults.{WriteFate, Done, Unsynced, Failed}
-use Rattle.blob_faulty.specs.Writes.{View, Recorded, WroteBy, plain, laid_runs}
-use Rattle.blob_faulty.proofs.Fating.{done_plainly}
+use Rattle.blob_faults.specs.Faults.{WriteFate, Done, Unsynced, Failed, retention}
+use Rattle.blob_faulty.specs.Writes.{View, Logs, Recorded, WroteBy, plain, laid_runs}
+use Rattle.blob_faulty.proofs.Fating.{done_plainly, of_synced}
 use Rattle.blob_faulty.proofs.Writing.{same_logs}
 
 synced : {R : Type 0} (direct : Bool) (old new : View R) (offset : ℕ) (bytes : List ℕ) (answer : Option Refusal) → bytes ≢ [] → Recorded direct true old new (laid_runs ((offset, bytes) ∷ [])) answer → WroteBy Done direct old new true offset bytes answer
@@ -28,11 +29,11 @@ synced direct old new offset (b ∷ bytes) None some w = record {
   config = w.config;
   rng = w.rng;
 }
-synced direct old new offset (b ∷ bytes) (Some refusal) some w = record {
+synced direct old new offset (b ∷ bytes) (Some refusal) some w = let table = of_synced old.live old.size old.next_write offset (b ∷ bytes) (retention old.config.write_rate) refusal in record {
   done = λ ok. absurd (cc);
-  live = λ d. (w.wrote.refused d refl).live;
-  size = λ d. (w.wrote.refused d refl).size;
-  logs = λ d. same_logs old new w.wrote.directory (w.wrote.refused d refl).durable (w.refused refl refl);
+  live = λ d. (w.wrote.refused d refl).live ∙ sym table.live_left;
+  size = λ d. (w.wrote.refused d refl).size ∙ sym table.size_left;
+  logs = λ d. subst (λ (es : List Entry). Logs old new es) (sym table.entries) (same_logs old new w.wrote.directory (w.wrote.refused d refl).durable (w.refused refl refl));
   recorded = λ ok. absurd (cc);
   undone = λ is some. w.refused refl refl;
   unrecorded = λ some uninjected early. w.refused refl refl;

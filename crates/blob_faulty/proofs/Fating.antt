@@ -1,8 +1,8 @@
 -- What a refused write leaves, by the fate that was drawn for it.
-use Rattle.std.proofs.Common.{◌≡◌, ◌≢◌, ◌⊎◌, ⊎_elim, ℕ, ◌+◌, ◌^◌, ◌<◌, Bool, true, false, cond, List, [], ◌∷◌, length, Option, Some, None, inl, inr, refl, sym, ◌∙◌, ap, subst, arith}
+use Rattle.std.proofs.Common.{◌≡◌, ◌≢◌, ◌⊎◌, ⊎_elim, ℕ, ◌+◌, ◌^◌, ◌<◌, Bool, true, false, cond, List, [], ◌∷◌, length, take, Option, Some, None, inl, inr, refl, sym, ◌∙◌, ap, subst, arith}
 use Rattle.std.proofs.lemmas.Bool.{cond-false, le-ltb}
 use Rattle.rand_core.specs.Stream.{Stream}
-use Rattle.blob_model.specs.Live.{live_after, is_idle}
+use Rattle.blob_model.specs.Live.{all_written, live_after, is_idle}
 use Rattle.blob_model.specs.Log.{Entry}
 use Rattle.blob_model.specs.declared.mode.PartialWriteMode.{PartialWriteMode}
 use Rattle.blob_model.specs.Rates.{Rate}
@@ -10,18 +10,25 @@ use Rattle.blob_header.specs.Refusals.{Refusal, OffsetOverflow, BlobMissing, Inj
 use Rattle.blob_model.specs.Runs.{Run, runs}
 use Rattle.blob_faults.specs.declared.config.Config.{Config}
 use Rattle.blob_faults.specs.Answers.{Allowed, or_memory, numbered, allows_laid, allows_runs, last_end}
-use Rattle.blob_faults.specs.Faults.{WriteFate, Done, Unsynced, Failed, write_fate, retention, has_uncounted_end}
+use Rattle.blob_faults.specs.Fates.{has_uncounted_end}
+use Rattle.blob_faults.specs.Faults.{WriteFate, Done, Unsynced, Failed, drawn_fate, write_fate, retention}
 use Rattle.blob_faulty.specs.Pieces.{first_after}
-use Rattle.blob_faults.specs.Recorded.{recorded_by, recorded_write, first_written, live_by, size_by}
+use Rattle.blob_faults.specs.Changes.{write_changes}
+use Rattle.blob_faults.specs.Recorded.{recorded_write}
 use Rattle.blob_faulty.specs.Writes.{View, Effect, Logs, Recorded, WroteBy, plain, laid_runs, live_of_runs}
 use Rattle.blob_faulty.proofs.Adding.{nothing_not}
 use Rattle.blob_faulty.proofs.Writing.{same_logs}
 
 -- what the tables say of a refusal that isn't the wrapper's own
-record Refused (fate : WriteFate) (sync : Bool) (live : List ℕ) (size number offset : ℕ) (bytes : List ℕ) (kept : Option (PartialWriteMode × Rate)) (left : List ℕ) (refusal : Refusal) : Type 0 where
-  live_left : live_by fate sync live offset bytes (Some refusal) ≡ left
-  size_left : size_by fate size offset bytes (Some refusal) ≡ size
-  entries : recorded_by fate kept number sync offset bytes (Some refusal) ≡ []
+pub record Refused (fate : WriteFate) (sync : Bool) (live : List ℕ) (size number offset : ℕ) (bytes : List ℕ) (kept : Option (PartialWriteMode × Rate)) (left : List ℕ) (refusal : Refusal) : Type 0 where
+  pub live_left : (write_changes fate kept sync offset bytes (Some refusal)).live live ≡ left
+  pub size_left : (write_changes fate kept sync offset bytes (Some refusal)).size size ≡ size
+  pub entries : (write_changes fate kept sync offset bytes (Some refusal)).entries number ≡ []
+
+pub of_synced : (live : List ℕ) (size number offset : ℕ) (bytes : List ℕ) (kept : Option (PartialWriteMode × Rate)) (refusal : Refusal) →
+    Refused Done true live size number offset bytes kept (live_after true live offset bytes (Some refusal)) refusal
+of_synced live size number offset bytes kept (BlobMissing a b) = record { live_left = refl; size_left = refl; entries = refl }
+of_synced live size number offset bytes kept _ = record { live_left = refl; size_left = refl; entries = refl }
 
 of_unsynced : (sync : Bool) (live : List ℕ) (size number offset : ℕ) (bytes : List ℕ) (kept : Option (PartialWriteMode × Rate)) (refusal : Refusal) → refusal ≢ Injected →
     Refused Unsynced sync live size number offset bytes kept (live_after false live offset bytes (Some refusal)) refusal
@@ -32,7 +39,7 @@ spared : (live : List ℕ) (rs : List Run) (refusal : Refusal) → ((o : ℕ) (b
 spared live [] refusal same = refl
 spared live (r ∷ rs) refusal same = sym (same r.0 r.1)
 
-gone : (live : List ℕ) (rs : List Run) (a b : List ℕ) → first_written live rs ≡ first_after live rs (Some (BlobMissing a b))
+gone : (live : List ℕ) (rs : List Run) (a b : List ℕ) → all_written live (take 1 rs) ≡ first_after live rs (Some (BlobMissing a b))
 gone live [] a b = refl
 gone live (r ∷ rs) a b = refl
 
@@ -103,26 +110,11 @@ pub of_fate : {R : Type 0} (fate fate' : WriteFate) (direct : Bool) (old new : V
 of_fate fate fate' direct old new sync offset bytes answer answer' f a w =
     subst (λ (x : WriteFate). WroteBy x direct old new sync offset bytes answer) (sym f) (subst (λ (x : Option Refusal). WroteBy fate' direct old new sync offset bytes x) (sym a) w)
 
--- what a write of some bytes whose end can be counted records
-pub recorded_so : (config : Config) (number : ℕ) (stream : Stream) (sync : Bool) (offset : ℕ) (bytes : List ℕ) (answer : Option Refusal) (fate : WriteFate) → (sync ≡ true → bytes ≢ []) → offset + length bytes < 2 ^ 64 →
-    fate ≡ (write_fate config sync offset (length bytes) stream).0 → recorded_write config number stream sync offset bytes answer ≡ recorded_by fate (retention config.write_rate) number sync offset bytes answer
-unfolding recorded_write
-recorded_so config number stream sync offset bytes answer fate some fits is =
+-- a write of some bytes whose end can be counted is drawn
+pub drawn_so : (config : Config) (sync : Bool) (offset : ℕ) (bytes : List ℕ) (stream : Stream) → (sync ≡ true → bytes ≢ []) → offset + length bytes < 2 ^ 64 →
+    write_fate config sync offset bytes stream ≡ drawn_fate config sync offset (length bytes) stream
+drawn_so config sync offset bytes stream some fits =
     cond-false (is_idle sync bytes) _ _ (nothing_not sync bytes some) ∙ cond-false (has_uncounted_end offset bytes) _ _ (le-ltb _ _ (omega (arith, fits)))
-    ∙ ap (λ (f : WriteFate). recorded_by f (retention config.write_rate) number sync offset bytes answer) (sym is)
-
--- refused for memory, nothing
-pub recorded_none : (config : Config) (number : ℕ) (stream : Stream) (sync : Bool) (offset : ℕ) (bytes : List ℕ) → recorded_write config number stream sync offset bytes (Some Memory) ≡ []
-unfolding recorded_write
-recorded_none config number stream sync offset bytes = go (is_idle sync bytes) (has_uncounted_end offset bytes) sync (write_fate config sync offset (length bytes) stream).0
-  where
-    go : (a b s : Bool) (fate : WriteFate) → cond a [] (cond b [] (recorded_by fate (retention config.write_rate) number s offset bytes (Some Memory))) ≡ []
-    go true b s fate = refl
-    go false true s fate = refl
-    go false false true Done = refl
-    go false false false Done = refl
-    go false false s Unsynced = refl
-    go false false s (Failed kept) = refl
 
 -- a plain write that no draw fails
 pub done_plainly : {R : Type 0} (direct : Bool) (old new : View R) (offset : ℕ) (bytes : List ℕ) (answer : Option Refusal) → Recorded direct true old new (plain offset bytes) answer → WroteBy Done direct old new false offset bytes answer

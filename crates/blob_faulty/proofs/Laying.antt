@@ -4,8 +4,8 @@ use Rattle.std.proofs.lemmas.Bool.{cond_both, cases_lt}
 use Rattle.std.proofs.lemmas.List.{get_or_past}
 use Rattle.rand_core.specs.Stream.{Stream}
 use Rattle.blob_model.specs.Bytes.{overlay_by, overlay, resized, written}
-use Rattle.blob_model.specs.Live.{live_written, all_written, is_idle}
-use Rattle.blob_model.specs.Log.{Choices, crashed}
+use Rattle.blob_model.specs.Live.{all_written}
+use Rattle.blob_model.specs.Log.{Choices, Kept, crashed}
 use Rattle.blob_model.specs.declared.mode.PartialWriteMode.{PartialWriteMode}
 use Rattle.blob_model.specs.Rates.{Rate, sampled}
 use Rattle.blob_header.specs.Refusals.{Refusal, BlobMissing, Injected}
@@ -15,9 +15,10 @@ use Rattle.blob_model.proofs.Runs.{AreSome, laid_runs, runs_some}
 use Rattle.blob_faults.specs.declared.config.Config.{Config}
 use Rattle.blob_faults.specs.declared.config.ResizeConfig.{ResizeConfig}
 use Rattle.blob_faulty.specs.Certain.{IsNever, partial_resizes}
-use Rattle.blob_faults.specs.Faults.{WriteFate, Done, Unsynced, Failed, ResizeFate, Resizes, Stays, Reaches, write_fate, resize_fate, partly, size_between, retention, has_uncounted_end}
+use Rattle.blob_faults.specs.Faults.{WriteFate, Done, Unsynced, Failed, ResizeFate, Resizes, Stays, Reaches, write_fate, resize_fate, partly, size_between, retention}
 use Rattle.blob_faulty.specs.Outcomes.{LaysSome, WritesSome}
-use Rattle.blob_faults.specs.Recorded.{loose, kept, recorded_by, recorded_write, recorded_resize, live_by, live_of_write, live_of_resize}
+use Rattle.blob_faults.specs.Changes.{loose, write_changes}
+use Rattle.blob_faults.specs.Recorded.{recorded_write, recorded_resize, live_of_write, live_of_resize}
 use Rattle.blob_faults.proofs.Sizes.{length-written}
 use Rattle.blob_faulty.proofs.CertainAnswers.{never_drawn}
 
@@ -36,26 +37,24 @@ loose_laid k n o [] t = none_laid o [] t
 loose_laid None n o (x ∷ b) t = none_laid o (x ∷ b) t
 loose_laid (Some k) n o (x ∷ b) t = (t n, λ y. refl)
 
-kept_laid : (o : ℕ) (b : List ℕ) (t : Choices) → LaysSome o b (kept o b) t
-kept_laid o [] t = none_laid o [] t
-kept_laid o (x ∷ b) t = (λ _. true, λ y. refl)
+kept_laid : (o : ℕ) (b : List ℕ) (t : Choices) → LaysSome o b (Kept o b ∷ []) t
+kept_laid o b t = (λ _. true, λ y. refl)
 
 runs_laid : (o : ℕ) (b : List ℕ) (c : List Bool) (t : Choices) → LaysSome o b (kept_runs (runs o b c)) t
 runs_laid o b c t = (picked c, λ x. all_kept (runs o b c) x t ∙ laid_runs o b c x)
 
-by_fate_laid : (fate : WriteFate) (k : Option (PartialWriteMode × Rate)) (n : ℕ) (sync : Bool) (o : ℕ) (b : List ℕ) (answer : Option Refusal) (t : Choices) → LaysSome o b (recorded_by fate k n sync o b answer) t
-by_fate_laid Done k n true o b None t = kept_laid o b t
-by_fate_laid Done k n false o b None t = loose_laid k n o b t
-by_fate_laid Unsynced k n sync o b (Some Injected) t = loose_laid k n o b t
-by_fate_laid (Failed chosen) k n sync o b (Some Injected) t = runs_laid o b chosen t
-by_fate_laid fate k n sync o b answer t = none_laid o b t
+changes_laid : (fate : WriteFate) (k : Option (PartialWriteMode × Rate)) (n : ℕ) (sync : Bool) (o : ℕ) (b : List ℕ) (answer : Option Refusal) (t : Choices) → LaysSome o b ((write_changes fate k sync o b answer).entries n) t
+changes_laid Done k n true o b None t = kept_laid o b t
+changes_laid Done k n false o b None t = loose_laid k n o b t
+changes_laid Done k n true o b (Some (BlobMissing p m)) t = none_laid o b t
+changes_laid Unsynced k n sync o b (Some Injected) t = loose_laid k n o b t
+changes_laid (Failed chosen) k n sync o b (Some Injected) t = runs_laid o b chosen t
+changes_laid (Failed chosen) k n sync o b (Some (BlobMissing p m)) t = none_laid o b t
+changes_laid fate k n true o b answer t = none_laid o b t
+changes_laid fate k n false o b answer t = none_laid o b t
 
 pub write_laid : (config : Config) (n : ℕ) (stream : Stream) (sync : Bool) (o : ℕ) (b : List ℕ) (answer : Option Refusal) (t : Choices) → LaysSome o b (recorded_write config n stream sync o b answer) t
-unfolding recorded_write
-write_laid config n stream sync o b answer t =
-    cond_both (is_idle sync b) [] _ (λ es. LaysSome o b es t) (λ _. none_laid o b t)
-    (λ _. cond_both (has_uncounted_end o b) [] _ (λ es. LaysSome o b es t) (λ _. none_laid o b t)
-    (λ _. by_fate_laid (write_fate config sync o (length b) stream).0 (retention config.write_rate) n sync o b answer t))
+write_laid config n stream sync o b answer t = changes_laid (write_fate config sync o b stream).0 (retention config.write_rate) n sync o b answer t
 
 -- Resizes, where none fails in part.
 
@@ -80,8 +79,8 @@ whole_fate (Some c) size len stream never =
 fate_resizes : (fate : ResizeFate) (len : ℕ) (answer : Option Refusal) (t : Choices) (x : List ℕ) → IsWhole fate →
     (crashed x (recorded_resize fate len answer) t ≡ x) ⊎ (crashed x (recorded_resize fate len answer) t ≡ resized x len)
 fate_resizes (Resizes true) len None t x whole = inr refl
-fate_resizes (Resizes true) len (Some r) t x whole = inl refl
-fate_resizes (Resizes false) len answer t x whole = inl refl
+fate_resizes (Resizes false) len None t x whole = inl refl
+fate_resizes (Resizes survives) len (Some r) t x whole = inl refl
 fate_resizes Stays len answer t x whole = inl refl
 fate_resizes (Reaches size) len answer t x whole = absurd whole
 
@@ -140,23 +139,15 @@ module _ (live : List ℕ) (o : ℕ) (b : List ℕ) where
   runs_written : (c : List Bool) → WritesSome o b live (all_written live (runs o b c))
   runs_written c = subst (λ (x : List ℕ). WritesSome o b live x) (sym (all_written_some (runs o b c) live (runs_some o b c) ∙ laid_runs o b c live)) (laid_some (picked c))
 
-done_written : (sync : Bool) (live : List ℕ) (o : ℕ) (b : List ℕ) → WritesSome o b live (live_written sync live o b)
-done_written true live o [] = none_written live o []
-done_written true live o (x ∷ b) = all_bytes live o (x ∷ b)
-done_written false live o b = all_bytes live o b
-
-by_fate_written : (fate : WriteFate) (sync : Bool) (live : List ℕ) (o : ℕ) (b : List ℕ) (answer : Option Refusal) → IsFound answer → WritesSome o b live (live_by fate sync live o b answer)
-by_fate_written Done sync live o b None found = done_written sync live o b
-by_fate_written Done sync live o b (Some (BlobMissing p n)) found = absurd (found p n refl)
-by_fate_written Done true live o b (Some r) found = none_written live o b
-by_fate_written Done false live o b (Some r) found = none_written live o b
-by_fate_written Unsynced sync live o b (Some Injected) found = all_bytes live o b
-by_fate_written (Failed chosen) sync live o b (Some Injected) found = runs_written live o b chosen
-by_fate_written (Failed chosen) sync live o b (Some (BlobMissing p n)) found = absurd (found p n refl)
-by_fate_written fate sync live o b answer found = none_written live o b
+changes_written : (fate : WriteFate) (k : Option (PartialWriteMode × Rate)) (sync : Bool) (live : List ℕ) (o : ℕ) (b : List ℕ) (answer : Option Refusal) → IsFound answer → WritesSome o b live ((write_changes fate k sync o b answer).live live)
+changes_written Done k true live o b None found = all_bytes live o b
+changes_written Done k false live o b None found = all_bytes live o b
+changes_written Done k true live o b (Some (BlobMissing p n)) found = absurd (found p n refl)
+changes_written Unsynced k sync live o b (Some Injected) found = all_bytes live o b
+changes_written (Failed chosen) k sync live o b (Some Injected) found = runs_written live o b chosen
+changes_written (Failed chosen) k sync live o b (Some (BlobMissing p n)) found = absurd (found p n refl)
+changes_written fate k true live o b answer found = none_written live o b
+changes_written fate k false live o b answer found = none_written live o b
 
 pub live_laid : (config : Config) (stream : Stream) (sync : Bool) (live : List ℕ) (o : ℕ) (b : List ℕ) (answer : Option Refusal) → IsFound answer → WritesSome o b live (live_of_write config stream sync live o b answer)
-live_laid config stream sync live o b answer found =
-    cond_both (is_idle sync b) live _ (λ x. WritesSome o b live x) (λ _. none_written live o b)
-    (λ _. cond_both (has_uncounted_end o b) live _ (λ x. WritesSome o b live x) (λ _. none_written live o b)
-    (λ _. by_fate_written (write_fate config sync o (length b) stream).0 sync live o b answer found))
+live_laid config stream sync live o b answer found = changes_written (write_fate config sync o b stream).0 (retention config.write_rate) sync live o b answer found

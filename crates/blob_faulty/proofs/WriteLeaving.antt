@@ -8,37 +8,23 @@ use Rattle.blob_base.specs.declared.storage.Durable as stores
 use Rattle.blob_header.specs.Refusals.{Refusal, Memory, Injected, OffsetOverflow, WriteFailed}
 use Rattle.blob_model.specs.Live.{is_idle}
 use Rattle.blob_faults.specs.declared.config.Config.{Config}
-use Rattle.blob_faults.specs.Faults.{WriteFate, Done, Unsynced, Failed, write_fate, retention, has_uncounted_end, after_write}
-use Rattle.blob_faults.specs.Recorded.{recorded_by, recorded_write, live_by, live_of_write, size_by, size_of_write}
+use Rattle.blob_faults.specs.Fates.{has_uncounted_end, after_write}
+use Rattle.blob_faults.specs.Faults.{WriteFate, Uncounted, Failed, drawn_fate, write_fate, retention}
+use Rattle.blob_faults.specs.Changes.{Changes, laying, write_changes}
+use Rattle.blob_faults.specs.Recorded.{written_by, recorded_write, live_of_write, size_of_write}
+use Rattle.blob_faults.proofs.Unchanged.{memory_changes}
 use Rattle.blob_faulty.specs.declared.blob.Blob.{Blob}
 use Rattle.blob_faulty.specs.declared.storage.Storage.{Storage}
 use Rattle.blob_faulty.specs.Asked.{InnerMade, Unasked, AsksWrite, AsksDrawn}
 use Rattle.blob_faulty.specs.HandleLeaves.{WriteLeaves, LeavesFailed, AddsToLog, Untouched, size_written}
 use Rattle.blob_faulty.specs.Writes.{WroteBy, FailedBy, SameRecords, Logs, seen}
 use Rattle.blob_faulty.proofs.Adding.{nothing_not}
-use Rattle.blob_faulty.proofs.Fating.{recorded_so, recorded_none}
+use Rattle.blob_faulty.proofs.Fating.{drawn_so}
 use Rattle.blob_faulty.proofs.Writing.{adds_of, drawn_adds}
 
-live_none : (config : Config) (stream : Stream) (sync : Bool) (live : List ℕ) (offset : ℕ) (bytes : List ℕ) → live_of_write config stream sync live offset bytes (Some Memory) ≡ live
-live_none config stream sync live offset bytes = go (is_idle sync bytes) (has_uncounted_end offset bytes) sync bytes (write_fate config sync offset (length bytes) stream).0
-  where
-    go : (a b s : Bool) (x : List ℕ) (fate : WriteFate) → cond a live (cond b live (live_by fate s live offset x (Some Memory))) ≡ live
-    go true b s x fate = refl
-    go false true s x fate = refl
-    go false false true x Done = refl
-    go false false false x Done = refl
-    go false false s x Unsynced = refl
-    go false false s x (Failed kept) = refl
-
-size_none : (config : Config) (stream : Stream) (sync : Bool) (size offset : ℕ) (bytes : List ℕ) → size_of_write config stream sync size offset bytes (Some Memory) ≡ size
-size_none config stream sync size offset bytes = go (is_idle sync bytes) (has_uncounted_end offset bytes) (write_fate config sync offset (length bytes) stream).0
-  where
-    go : (a b : Bool) (fate : WriteFate) → cond a size (cond b size (size_by fate size offset bytes (Some Memory))) ≡ size
-    go true b fate = refl
-    go false true fate = refl
-    go false false Done = refl
-    go false false Unsynced = refl
-    go false false (Failed kept) = refl
+-- refused for memory, a write changes nothing
+none_changed : (config : Config) (stream : Stream) (sync : Bool) (offset : ℕ) (bytes : List ℕ) → written_by config stream sync offset bytes (Some Memory) ≡ laying [] (λ number. [])
+none_changed config stream sync offset bytes = memory_changes (write_fate config sync offset bytes stream).0 (retention config.write_rate) sync offset bytes
 
 -- the size behind a write with something to do
 size_some : (sync : Bool) (size offset : ℕ) (bytes : List ℕ) → (sync ≡ true → bytes ≢ []) → size_written sync size offset bytes ≡ max size (offset + length bytes)
@@ -59,40 +45,29 @@ match_any : (t : Bool) (A B : Type 0) → A → B → MatchBool t A B
 match_any true A B a b = a
 match_any false A B a b = b
 
--- the tables of a write with something to do whose end can be counted
+-- of a write with something to do whose end can be counted
 counted : (offset : ℕ) (bytes : List ℕ) → offset + length bytes < 2 ^ 64 → has_uncounted_end offset bytes ≡ false
 counted offset bytes fits = le-ltb _ _ (omega (arith, fits))
 
-after_so : (config : Config) (sync : Bool) (offset : ℕ) (bytes : List ℕ) (stream : Stream) → (sync ≡ true → bytes ≢ []) → offset + length bytes < 2 ^ 64 →
-    after_write config sync offset bytes stream ≡ (write_fate config sync offset (length bytes) stream).1
-after_so config sync offset bytes stream some fits = cond-false (is_idle sync bytes) _ _ (nothing_not sync bytes some) ∙ cond-false (has_uncounted_end offset bytes) _ _ (counted offset bytes fits)
-
-live_so : (config : Config) (stream : Stream) (sync : Bool) (live : List ℕ) (offset : ℕ) (bytes : List ℕ) (answer : Option Refusal) (fate : WriteFate) → (sync ≡ true → bytes ≢ []) → offset + length bytes < 2 ^ 64 →
-    fate ≡ (write_fate config sync offset (length bytes) stream).0 → live_of_write config stream sync live offset bytes answer ≡ live_by fate sync live offset bytes answer
-live_so config stream sync live offset bytes answer fate some fits is =
-    cond-false (is_idle sync bytes) _ _ (nothing_not sync bytes some) ∙ cond-false (has_uncounted_end offset bytes) _ _ (counted offset bytes fits)
-    ∙ ap (λ (f : WriteFate). live_by f sync live offset bytes answer) (sym is)
-
-size_so : (config : Config) (stream : Stream) (sync : Bool) (size offset : ℕ) (bytes : List ℕ) (answer : Option Refusal) (fate : WriteFate) → (sync ≡ true → bytes ≢ []) → offset + length bytes < 2 ^ 64 →
-    fate ≡ (write_fate config sync offset (length bytes) stream).0 → size_of_write config stream sync size offset bytes answer ≡ size_by fate size offset bytes answer
-size_so config stream sync size offset bytes answer fate some fits is =
-    cond-false (is_idle sync bytes) _ _ (nothing_not sync bytes some) ∙ cond-false (has_uncounted_end offset bytes) _ _ (counted offset bytes fits)
-    ∙ ap (λ (f : WriteFate). size_by f size offset bytes answer) (sym is)
+changes_so : (config : Config) (stream : Stream) (sync : Bool) (offset : ℕ) (bytes : List ℕ) (answer : Option Refusal) (fate : WriteFate) → (sync ≡ true → bytes ≢ []) → offset + length bytes < 2 ^ 64 →
+    fate ≡ (drawn_fate config sync offset (length bytes) stream).0 → written_by config stream sync offset bytes answer ≡ write_changes fate (retention config.write_rate) sync offset bytes answer
+changes_so config stream sync offset bytes answer fate some fits is =
+    ap (λ (f : WriteFate). write_changes f (retention config.write_rate) sync offset bytes answer) (ap (λ (d : WriteFate × Stream). d.0) (drawn_so config sync offset bytes stream some fits) ∙ sym is)
 
 -- what was asked by the fate was asked by the draws
 asked_so : {S R O B : Type 0} (handle : handles.Ghosts B S O) (b c : Blob B) (w w' : Storage S R O) (stream : Stream) (sync : Bool) (offset : ℕ) (bytes : List ℕ) (answer : Option Refusal) (fate : WriteFate) → (sync ≡ true → bytes ≢ []) → offset + length bytes < 2 ^ 64 →
-    fate ≡ (write_fate w.config sync offset (length bytes) stream).0 → AsksWrite handle b w c w' fate sync offset bytes answer → AsksDrawn handle b w c w' w.config stream sync offset bytes answer
+    fate ≡ (drawn_fate w.config sync offset (length bytes) stream).0 → AsksWrite handle b w c w' fate sync offset bytes answer → AsksDrawn handle b w c w' w.config stream sync offset bytes answer
 asked_so {S} {R} {O} {B} handle b c w w' stream sync offset bytes answer fate some fits is asked =
-    match_false (is_idle sync bytes) (InnerMade handle b w c w' [] answer) (MatchBool (has_uncounted_end offset bytes) (Unasked handle b w c w' answer) (AsksWrite handle b w c w' (write_fate w.config sync offset (length bytes) stream).0 sync offset bytes answer))
+    match_false (is_idle sync bytes) (InnerMade handle b w c w' [] answer) (MatchBool (has_uncounted_end offset bytes) (Unasked handle b w c w' answer) (AsksWrite handle b w c w' (drawn_fate w.config sync offset (length bytes) stream).0 sync offset bytes answer))
     (nothing_not sync bytes some)
-    (match_false (has_uncounted_end offset bytes) (Unasked handle b w c w' answer) (AsksWrite handle b w c w' (write_fate w.config sync offset (length bytes) stream).0 sync offset bytes answer) (counted offset bytes fits)
+    (match_false (has_uncounted_end offset bytes) (Unasked handle b w c w' answer) (AsksWrite handle b w c w' (drawn_fate w.config sync offset (length bytes) stream).0 sync offset bytes answer) (counted offset bytes fits)
     (subst (λ (f : WriteFate). AsksWrite handle b w c w' f sync offset bytes answer) is asked))
 
 -- refused for memory before the draws
 unasked_so : {S R O B : Type 0} (handle : handles.Ghosts B S O) (b : Blob B) (w w' : Storage S R O) (stream : Stream) (sync : Bool) (offset : ℕ) (bytes : List ℕ) (answer : Option Refusal) →
     (sync ≡ true → bytes ≢ []) → answer ≡ Some Memory → w'.inner ≡ w.inner → AsksDrawn handle b w b w' w.config stream sync offset bytes answer
 unasked_so {S} {R} {O} {B} handle b w w' stream sync offset bytes answer some memory same =
-    match_false (is_idle sync bytes) (InnerMade handle b w b w' [] answer) (MatchBool (has_uncounted_end offset bytes) (Unasked handle b w b w' answer) (AsksWrite handle b w b w' (write_fate w.config sync offset (length bytes) stream).0 sync offset bytes answer))
+    match_false (is_idle sync bytes) (InnerMade handle b w b w' [] answer) (MatchBool (has_uncounted_end offset bytes) (Unasked handle b w b w' answer) (AsksWrite handle b w b w' (drawn_fate w.config sync offset (length bytes) stream).0 sync offset bytes answer))
     (nothing_not sync bytes some)
     (match_any (has_uncounted_end offset bytes) _ _ unasked (inl unasked))
   where
@@ -102,18 +77,18 @@ unasked_so {S} {R} {O} {B} handle b w w' stream sync offset bytes answer some me
 -- by its fate
 pub write_leaves : {S R O B : Type 0} (store : stores.Ghosts S O) (handle : handles.Ghosts B S O) (stream : R → Stream) (b c : Blob B) (w w' : Storage S R O) (rng : R) (sync : Bool) (offset : ℕ) (bytes : List ℕ) (answer : Option Refusal) (fate : WriteFate) →
     (sync ≡ true → bytes ≢ []) → offset + length bytes < 2 ^ 64 →
-    fate ≡ (write_fate w.config sync offset (length bytes) (stream w.rng)).0 → stream rng ≡ (write_fate w.config sync offset (length bytes) (stream w.rng)).1 →
+    fate ≡ (drawn_fate w.config sync offset (length bytes) (stream w.rng)).0 → stream rng ≡ (drawn_fate w.config sync offset (length bytes) (stream w.rng)).1 →
     AsksWrite handle b w c w' fate sync offset bytes answer →
     WroteBy fate handle.is_direct (seen store handle b (record w { rng = rng })) (seen store handle c w') sync offset bytes answer →
     (answer ≡ Some WriteFailed → FailedBy store handle b (record w { rng = rng }) c w' fate offset bytes) →
     WriteLeaves store handle stream offset bytes sync b w answer c w'
 write_leaves {S} {R} {O} {B} store handle stream b c w w' rng sync offset bytes answer fate some fits is left asked wrote failed = record {
-  drawn = λ other. ap stream wrote.rng ∙ left ∙ sym (after_so w.config sync offset bytes (stream w.rng) some fits);
+  drawn = λ other. ap stream wrote.rng ∙ left ∙ sym (ap (λ (d : WriteFate × Stream). d.1) (drawn_so w.config sync offset bytes (stream w.rng) some fits));
   config = wrote.config;
   asked = asked_so handle b c w w' (stream w.rng) sync offset bytes answer fate some fits is asked;
   recorded = λ direct. logged answer (wrote.logs direct);
-  live_after = λ direct. wrote.live direct ∙ sym (live_so w.config (stream w.rng) sync (handle.live b.inner) offset bytes answer fate some fits is);
-  size = λ direct. wrote.size direct ∙ sym (size_so w.config (stream w.rng) sync b.size offset bytes answer fate some fits is);
+  live_after = λ direct. wrote.live direct ∙ sym (ap (λ (c : Changes). c.live (handle.live b.inner)) (changes_so w.config (stream w.rng) sync offset bytes answer fate some fits is));
+  size = λ direct. wrote.size direct ∙ sym (ap (λ (c : Changes). c.size b.size) (changes_so w.config (stream w.rng) sync offset bytes answer fate some fits is));
   done = λ ok. logged None (wrote.recorded ok);
   done_size = λ ok. (wrote.done ok).size ∙ sym (size_some sync b.size offset bytes some);
   refused = λ done refusal. untouched (wrote.undone (is ∙ done) refusal);
@@ -122,16 +97,14 @@ write_leaves {S} {R} {O} {B} store handle stream b c w w' rng sync offset bytes 
   failed = λ early. subst (λ (f : WriteFate). LeavesFailed store handle f offset bytes b w c w') is (left_by fate (failed early));
 }
   where
-    logged : (a : Option Refusal) → Logs (seen store handle b (record w { rng = rng })) (seen store handle c w') (recorded_by fate (retention w.config.write_rate) w.next_write sync offset bytes a) →
+    logged : (a : Option Refusal) → Logs (seen store handle b (record w { rng = rng })) (seen store handle c w') ((write_changes fate (retention w.config.write_rate) sync offset bytes a).entries w.next_write) →
         AddsToLog store handle b w w' (recorded_write w.config w.next_write (stream w.rng) sync offset bytes a)
-    logged a logs = adds_of store handle b c w w' rng _ _ wrote.directory (recorded_so w.config w.next_write (stream w.rng) sync offset bytes a fate some fits is) logs
+    logged a logs = adds_of store handle b c w w' rng _ _ wrote.directory (ap (λ (c : Changes). c.entries w.next_write) (changes_so w.config (stream w.rng) sync offset bytes a fate some fits is)) logs
 
     untouched : SameRecords (seen store handle b (record w { rng = rng })) (seen store handle c w') → Untouched store b w c w'
     untouched k = record { records = record { pending = k.pending; numbers = record { next_write = k.next_write; next_marker = k.next_marker; config = wrote.config } }; size = k.size }
 
     left_by : (f : WriteFate) → FailedBy store handle b (record w { rng = rng }) c w' f offset bytes → LeavesFailed store handle f offset bytes b w c w'
-    left_by Done k = untouched k
-    left_by Unsynced k = untouched k
     left_by (Failed chosen) l = record {
       front = l.1.front;
       left = l.0;
@@ -141,6 +114,7 @@ write_leaves {S} {R} {O} {B} store handle stream b c w w' rng sync offset bytes 
       size = l.1.lays.size;
       numbers = record { next_write = l.1.lays.next_write; next_marker = l.1.lays.next_marker; config = wrote.config };
     }
+    left_by fate k = untouched k
 
 -- refused for memory before its fate was drawn
 pub write_undrawn : {S R O B : Type 0} (store : stores.Ghosts S O) (handle : handles.Ghosts B S O) (stream : R → Stream) (b : Blob B) (w : Storage S R O) (rng : R) (sync : Bool) (offset : ℕ) (bytes : List ℕ) (answer : Option Refusal) → (sync ≡ true → bytes ≢ []) →
@@ -149,9 +123,9 @@ write_undrawn {S} {R} {O} {B} store handle stream b w rng sync offset bytes answ
   drawn = λ other. absurd (other memory);
   config = refl;
   asked = unasked_so handle b w (record w { rng = rng }) (stream w.rng) sync offset bytes answer some memory refl;
-  recorded = λ direct. drawn_adds store.place _ _ w rng _ _ (ap (recorded_write w.config w.next_write (stream w.rng) sync offset bytes) memory ∙ recorded_none w.config w.next_write (stream w.rng) sync offset bytes);
-  live_after = λ direct. sym (ap (live_of_write w.config (stream w.rng) sync (handle.live b.inner) offset bytes) memory ∙ live_none w.config (stream w.rng) sync (handle.live b.inner) offset bytes);
-  size = λ direct. sym (ap (size_of_write w.config (stream w.rng) sync b.size offset bytes) memory ∙ size_none w.config (stream w.rng) sync b.size offset bytes);
+  recorded = λ direct. drawn_adds store.place _ _ w rng _ _ (ap (recorded_write w.config w.next_write (stream w.rng) sync offset bytes) memory ∙ ap (λ (c : Changes). c.entries w.next_write) (none_changed w.config (stream w.rng) sync offset bytes));
+  live_after = λ direct. sym (ap (live_of_write w.config (stream w.rng) sync (handle.live b.inner) offset bytes) memory ∙ ap (λ (c : Changes). c.live (handle.live b.inner)) (none_changed w.config (stream w.rng) sync offset bytes));
+  size = λ direct. sym (ap (size_of_write w.config (stream w.rng) sync b.size offset bytes) memory ∙ ap (λ (c : Changes). c.size b.size) (none_changed w.config (stream w.rng) sync offset bytes));
   done = λ ok. absurd (cc);
   done_size = λ ok. absurd (cc);
   refused = λ done refusal. same;
@@ -167,7 +141,6 @@ write_undrawn {S} {R} {O} {B} store handle stream b w rng sync offset bytes answ
 
 -- a SYNC write of no byte
 pub write_idle : {S R O B : Type 0} (store : stores.Ghosts S O) (handle : handles.Ghosts B S O) (stream : R → Stream) (b : Blob B) (w : Storage S R O) (sync : Bool) (offset : ℕ) (bytes : List ℕ) → sync ≡ true → bytes ≡ [] → WriteLeaves store handle stream offset bytes sync b w None b w
-unfolding recorded_write
 write_idle store handle stream b w false offset bytes s e = absurd (cc)
 write_idle store handle stream b w true offset (x ∷ bytes) s e = absurd (cc)
 write_idle store handle stream b w true offset [] s e = record {
@@ -188,16 +161,15 @@ write_idle store handle stream b w true offset [] s e = record {
 -- one whose end can't be counted
 pub write_uncounted : {S R O B : Type 0} (store : stores.Ghosts S O) (handle : handles.Ghosts B S O) (stream : R → Stream) (b : Blob B) (w : Storage S R O) (sync : Bool) (offset : ℕ) (bytes : List ℕ) → (sync ≡ true → bytes ≢ []) → has_uncounted_end offset bytes ≡ true →
     WriteLeaves store handle stream offset bytes sync b w (Some OffsetOverflow) b w
-unfolding recorded_write
 write_uncounted {S} {R} {O} {B} store handle stream b w sync offset bytes some over = record {
-  drawn = λ other. sym (cond-false (is_idle sync bytes) _ _ idle ∙ cond-true (has_uncounted_end offset bytes) _ _ over);
+  drawn = λ other. sym (ap (λ (d : WriteFate × Stream). d.1) uncounted);
   config = refl;
   asked =
-      match_false (is_idle sync bytes) (InnerMade handle b w b w [] (Some OffsetOverflow)) (MatchBool (has_uncounted_end offset bytes) (Unasked handle b w b w (Some OffsetOverflow)) (AsksWrite handle b w b w (write_fate w.config sync offset (length bytes) (stream w.rng)).0 sync offset bytes (Some OffsetOverflow)))
+      match_false (is_idle sync bytes) (InnerMade handle b w b w [] (Some OffsetOverflow)) (MatchBool (has_uncounted_end offset bytes) (Unasked handle b w b w (Some OffsetOverflow)) (AsksWrite handle b w b w (drawn_fate w.config sync offset (length bytes) (stream w.rng)).0 sync offset bytes (Some OffsetOverflow)))
       idle (match_true (has_uncounted_end offset bytes) _ _ over (refl, refl, refl));
-  recorded = λ direct. drawn_adds store.place _ _ w w.rng _ _ (cond-false (is_idle sync bytes) _ _ idle ∙ cond-true (has_uncounted_end offset bytes) _ _ over);
-  live_after = λ direct. sym (cond-false (is_idle sync bytes) _ _ idle ∙ cond-true (has_uncounted_end offset bytes) _ _ over);
-  size = λ direct. sym (cond-false (is_idle sync bytes) _ _ idle ∙ cond-true (has_uncounted_end offset bytes) _ _ over);
+  recorded = λ direct. drawn_adds store.place _ _ w w.rng _ _ (ap (λ (c : Changes). c.entries w.next_write) unchanged);
+  live_after = λ direct. sym (ap (λ (c : Changes). c.live (handle.live b.inner)) unchanged);
+  size = λ direct. sym (ap (λ (c : Changes). c.size b.size) unchanged);
   done = λ ok. absurd (cc);
   done_size = λ ok. absurd (cc);
   refused = λ done refusal. same;
@@ -208,6 +180,12 @@ write_uncounted {S} {R} {O} {B} store handle stream b w sync offset bytes some o
   where
     idle : is_idle sync bytes ≡ false
     idle = nothing_not sync bytes some
+
+    uncounted : write_fate w.config sync offset bytes (stream w.rng) ≡ (Uncounted, stream w.rng)
+    uncounted = cond-false (is_idle sync bytes) _ _ idle ∙ cond-true (has_uncounted_end offset bytes) _ _ over
+
+    unchanged : written_by w.config (stream w.rng) sync offset bytes (Some OffsetOverflow) ≡ laying [] (λ number. [])
+    unchanged = ap (λ (d : WriteFate × Stream). write_changes d.0 (retention w.config.write_rate) sync offset bytes (Some OffsetOverflow)) uncounted
 
     same : Untouched store b w b w
     same = record { records = record { pending = λ o. refl; numbers = record { next_write = refl; next_marker = refl; config = refl } }; size = refl }

@@ -7,7 +7,8 @@ use Rattle.blob_header.specs.Refusals.{Refusal, OffsetOverflow, Memory}
 use Rattle.blob_model.specs.Runs.{runs}
 use Rattle.blob_faults.specs.declared.config.Config.{Config}
 use Rattle.blob_faults.specs.Answers.{Allowed, or_memory, injected_or, injected_for, numbered, lacks_number, allows_runs, allows_fate, allows_write}
-use Rattle.blob_faults.specs.Faults.{WriteFate, Done, Unsynced, Failed, write_fate, retention, has_uncounted_end}
+use Rattle.blob_faults.specs.Fates.{has_uncounted_end}
+use Rattle.blob_faults.specs.Faults.{WriteFate, Done, Unsynced, Failed, drawn_fate, retention}
 
 -- where the inner store's answers are among others, so are the wrapper's
 pub injected_alike : (drawn : Bool) (inner wider : Allowed) (answer : Option Refusal) → (inner answer → wider answer) → injected_or drawn inner answer → injected_or drawn wider answer
@@ -28,6 +29,7 @@ pub fate_none : (fate : WriteFate) (writes : ℕ → List ℕ → Bool → Allow
 fate_none Done writes reserves direct retained next offset bytes never a = never a
 fate_none Unsynced writes reserves direct retained next offset bytes never a = numbered_none (lacks_number retained next bytes) (injected_for (writes offset bytes false)) (injected_none (writes offset bytes false)) a
 fate_none (Failed kept) writes reserves direct retained next offset bytes never a = injected_none (allows_runs writes reserves direct (runs offset bytes kept)) a
+fate_none fate writes reserves direct retained next offset bytes never a = a
 
 pub memory_none : (inner : Allowed) → (inner None → ⊥) → or_memory inner None → ⊥
 memory_none inner never (inl a) = cc
@@ -43,9 +45,9 @@ pub write_none : (writes : ℕ → List ℕ → Bool → Allowed) (reserves : �
 unfolding allows_write
 write_none writes reserves direct config next stream offset [] some never a = some refl
 write_none writes reserves direct config next stream offset (b ∷ bytes) some never a =
-    uncounted_none (has_uncounted_end offset (b ∷ bytes)) (or_memory (allows_fate (write_fate config true offset (length (b ∷ bytes)) stream).0 writes reserves direct (is_some (retention config.write_rate)) next true offset (b ∷ bytes)))
-    (memory_none (allows_fate (write_fate config true offset (length (b ∷ bytes)) stream).0 writes reserves direct (is_some (retention config.write_rate)) next true offset (b ∷ bytes))
-    (fate_none (write_fate config true offset (length (b ∷ bytes)) stream).0 writes reserves direct (is_some (retention config.write_rate)) next offset (b ∷ bytes) never))
+    uncounted_none (has_uncounted_end offset (b ∷ bytes)) (or_memory (allows_fate (drawn_fate config true offset (length (b ∷ bytes)) stream).0 writes reserves direct (is_some (retention config.write_rate)) next true offset (b ∷ bytes)))
+    (memory_none (allows_fate (drawn_fate config true offset (length (b ∷ bytes)) stream).0 writes reserves direct (is_some (retention config.write_rate)) next true offset (b ∷ bytes))
+    (fate_none (drawn_fate config true offset (length (b ∷ bytes)) stream).0 writes reserves direct (is_some (retention config.write_rate)) next offset (b ∷ bytes) never))
     a
 
 -- a SYNC write of no bytes is answered Ok

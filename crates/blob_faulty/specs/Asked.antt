@@ -8,7 +8,8 @@ use Rattle.blob_model.specs.Live.{is_idle}
 use Rattle.blob_model.specs.Runs.{Run, runs}
 use Rattle.blob_faults.specs.declared.config.Config.{Config}
 use Rattle.blob_faults.specs.Answers.{Allowed, injected_for, last_end}
-use Rattle.blob_faults.specs.Faults.{WriteFate, Done, Unsynced, Failed, ResizeFate, Resizes, Stays, Reaches, write_fate, has_uncounted_end}
+use Rattle.blob_faults.specs.Fates.{has_uncounted_end}
+use Rattle.blob_faults.specs.Faults.{WriteFate, Done, Unsynced, Failed, ResizeFate, Resizes, Stays, Reaches, drawn_fate}
 use Rattle.blob_faulty.specs.declared.blob.Blob.{Blob}
 use Rattle.blob_faulty.specs.declared.storage.Storage.{Storage}
 use Rattle.blob_faulty.specs.Wrapper.{inner_of, inside}
@@ -53,6 +54,7 @@ abbrev pub write_calls : (List HandleCall → Allowed) → WriteFate → Bool �
 write_calls made Done sync offset bytes answer = made (Write offset bytes sync ∷ []) answer
 write_calls made Unsynced sync offset bytes answer = injected_for (made (Write offset bytes false ∷ [])) answer
 write_calls made (Failed kept) sync offset bytes answer = injected_for (or_failed (made (kept_calls (runs offset bytes kept)))) answer
+write_calls made fate sync offset bytes answer = made [] answer
 
 -- and a resize
 abbrev pub resize_calls : (List HandleCall → Allowed) → ResizeFate → ℕ → Allowed
@@ -97,4 +99,4 @@ module _ {S R O B : Type 0} (handle : handles.Ghosts B S O) (b : Blob B) (before
   abbrev pub AsksDrawn : Config → Stream → Bool → ℕ → List ℕ → Allowed
   AsksDrawn config stream sync offset bytes answer =
       MatchBool (is_idle sync bytes) (InnerMade [] answer) (MatchBool (has_uncounted_end offset bytes) (Unasked answer)
-      (AsksWrite (write_fate config sync offset (length bytes) stream).0 sync offset bytes answer))
+      (AsksWrite (drawn_fate config sync offset (length bytes) stream).0 sync offset bytes answer))

@@ -5,7 +5,8 @@ use Rattle.blob_model.specs.Rates.{Rate}
 use Rattle.blob_header.specs.Refusals.{Refusal, Injected}
 use Rattle.blob_base.specs.declared.storage.Blob as handles
 use Rattle.blob_faults.specs.declared.config.ResizeConfig.{ResizeConfig}
-use Rattle.blob_faults.specs.Faults.{write_failure, retention, has_uncounted_end}
+use Rattle.blob_faults.specs.Fates.{write_failure, has_uncounted_end}
+use Rattle.blob_faults.specs.Faults.{retention}
 use Rattle.blob_faulty.specs.declared.blob.Blob.{Blob}
 use Rattle.blob_faulty.specs.declared.storage.Storage.{Storage}
 use Rattle.blob_faults.specs.Answers.{or_memory, lacks_number}

@@ -12,8 +12,10 @@ use Rattle.blob_header.specs.Refusals.{Refusal, Injected, Memory, WriteFailed}
 use Rattle.blob_model.specs.Runs.{Run, all_behind, runs}
 use Rattle.blob_faulty.specs.declared.storage.Storage.{Storage}
 use Rattle.blob_faulty.specs.declared.blob.Blob.{Blob}
-use Rattle.blob_faults.specs.Faults.{WriteFate, Done, Failed, draw, ResizeFate, resize_fate, write_fate, after_write}
-use Rattle.blob_faults.specs.Recorded.{recorded_write, recorded_resize, live_of_write, live_of_resize, size_of_runs, size_of_write, size_of_resize}
+use Rattle.blob_faults.specs.Fates.{after_write}
+use Rattle.blob_faults.specs.Faults.{WriteFate, Done, Failed, draw, ResizeFate, resize_fate, drawn_fate}
+use Rattle.blob_faults.specs.Changes.{size_of_runs}
+use Rattle.blob_faults.specs.Recorded.{recorded_write, recorded_resize, live_of_write, live_of_resize, size_of_write, size_of_resize}
 use Rattle.blob_faulty.specs.Asked.{AsksDrawn, AsksResize, InnerRefusedInRoom}
 use Rattle.blob_faulty.specs.Names.{Steps}
 use Rattle.blob_faulty.specs.Syncs.{Publishes, Starts}
@@ -91,13 +93,13 @@ pub record WriteLeaves {S R O B : Type 0} (store : stores.Ghosts S O) (handle : 
   pub done : answer ≡ None → AddsToLog store handle b before after (recorded_write (config_of before) (next_write_of before) (stream (rng_of before)) sync offset bytes None)
   pub done_size : answer ≡ None → size_of c ≡ size_written sync (size_of b) offset bytes
   -- refused over any store: where no draw fails it, and by all but a fault of the draws or of the inner store
-  pub refused : (write_fate (config_of before) sync offset (length bytes) (stream (rng_of before))).0 ≡ Done → IsSome answer → Untouched store b before c after
+  pub refused : (drawn_fate (config_of before) sync offset (length bytes) (stream (rng_of before))).0 ≡ Done → IsSome answer → Untouched store b before c after
   pub unrecorded : IsSome answer → answer ≢ Some Injected → answer ≢ Some WriteFailed → Untouched store b before c after
   -- a fault leaves nothing recorded, or all that is kept of the write
   pub injected : answer ≡ Some Injected →
       Untouched store b before c after ⊎ AddsToLog store handle b before after (recorded_write (config_of before) (next_write_of before) (stream (rng_of before)) sync offset bytes (Some Injected))
   -- where the inner store refused a run, those before it are recorded
-  pub failed : answer ≡ Some WriteFailed → LeavesFailed store handle (write_fate (config_of before) sync offset (length bytes) (stream (rng_of before))).0 offset bytes b before c after
+  pub failed : answer ≡ Some WriteFailed → LeavesFailed store handle (drawn_fate (config_of before) sync offset (length bytes) (stream (rng_of before))).0 offset bytes b before c after
 
 -- a resize, by the fate that is drawn for it
 pub record ResizeLeaves {S R O B : Type 0} (store : stores.Ghosts S O) (handle : handles.Ghosts B S O) (stream : R → Stream) (len : ℕ) (fate : ResizeFate) (left : Stream) (b : Blob B) (before : Storage S R O) (answer : Option Refusal) (c : Blob B) (after : Storage S R O) : Type 0 where

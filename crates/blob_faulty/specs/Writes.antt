@@ -22,7 +22,8 @@ use Rattle.blob_faulty.specs.Asked.{AsksLaid, InnerRefused, InnerRefusedInRoom}
 use Rattle.blob_faulty.specs.Pieces.{first_after}
 use Rattle.blob_faulty.specs.Wrapper.{pending_of}
 use Rattle.blob_faults.specs.Faults.{WriteFate, Done, Failed, ResizeFate, retention}
-use Rattle.blob_faults.specs.Recorded.{loose, size_of_runs, recorded_by, live_by, size_by, recorded_resize, live_of_resize, size_of_resize}
+use Rattle.blob_faults.specs.Changes.{Changes, loose, size_of_runs, write_changes}
+use Rattle.blob_faults.specs.Recorded.{recorded_resize, live_of_resize, size_of_resize}
 
 -- a handle and its wrapper, over an inner store
 pub record View (R : Type 0) : Type 0 where
@@ -163,18 +164,22 @@ live_of_runs live rs (Some refusal) = first_after live rs (Some refusal)
 abbrev pub laid_runs : {R : Type 0} → List Run → View R → Effect
 laid_runs rs v = record { live = live_of_runs v.live rs; durable = all_changed v.durable v.place rs; size = size_of_runs v.size rs; entries = kept_runs rs }
 
--- a write of some bytes by the fate that was drawn for it
+-- what a write changes, by the fate that was drawn for it
+abbrev pub changes_by : {R : Type 0} → WriteFate → View R → Bool → ℕ → List ℕ → Option Refusal → Changes
+changes_by fate old sync offset bytes answer = write_changes fate (retention old.config.write_rate) sync offset bytes answer
+
+-- a write of some bytes by this fate
 pub record WroteBy {R : Type 0} (fate : WriteFate) (direct : Bool) (old new : View R) (sync : Bool) (offset : ℕ) (bytes : List ℕ) (answer : Option Refusal) : Type 0 where
   pub done : answer ≡ None → HasBytes new (live_written sync old.live offset bytes) (durable_written sync old.durable old.place offset bytes) (max old.size (offset + length bytes))
   -- whatever is answered, by a store that injects nothing
-  pub live : direct ≡ true → new.live ≡ live_by fate sync old.live offset bytes answer
-  pub size : direct ≡ true → new.size ≡ size_by fate old.size offset bytes answer
-  pub logs : direct ≡ true → Logs old new (recorded_by fate (retention old.config.write_rate) old.next_write sync offset bytes answer)
+  pub live : direct ≡ true → new.live ≡ (changes_by fate old sync offset bytes answer).live old.live
+  pub size : direct ≡ true → new.size ≡ (changes_by fate old sync offset bytes answer).size old.size
+  pub logs : direct ≡ true → Logs old new ((changes_by fate old sync offset bytes answer).entries old.next_write)
   -- by any store, what was done is recorded, and of a write that no draw fails nothing else is
-  pub recorded : answer ≡ None → Logs old new (recorded_by fate (retention old.config.write_rate) old.next_write sync offset bytes None)
+  pub recorded : answer ≡ None → Logs old new ((changes_by fate old sync offset bytes None).entries old.next_write)
   pub undone : fate ≡ Done → IsSome answer → SameRecords old new
   pub unrecorded : IsSome answer → answer ≢ Some Injected → answer ≢ Some WriteFailed → SameRecords old new
-  pub injected : answer ≡ Some Injected → SameRecords old new ⊎ Logs old new (recorded_by fate (retention old.config.write_rate) old.next_write sync offset bytes (Some Injected))
+  pub injected : answer ≡ Some Injected → SameRecords old new ⊎ Logs old new ((changes_by fate old sync offset bytes (Some Injected)).entries old.next_write)
   -- refused for memory
   pub memory : answer ≡ Some Memory → HasBytes new old.live old.durable old.size
   -- by the handle of an incarnation that is gone

@@ -11,7 +11,8 @@ ghost use Rattle.blob_model.specs.Pending.{Marker};
 ghost use Rattle.blob_model.specs.Places.{Place};
 ghost use Rattle.blob_header.specs.Refusals.{Refusal, refused, Memory, IsMemory};
 ghost use Rattle.blob_faults.specs.Answers.{injected_or, allows_write as answers_write, allows_resize as answers_resize, allows_start};
-ghost use Rattle.blob_faults.specs.Faults.{Done, draw, write_fate, resize_fate, after_write};
+ghost use Rattle.blob_faults.specs.Fates.{after_write};
+ghost use Rattle.blob_faults.specs.Faults.{Done, draw, drawn_fate, resize_fate};
 ghost use Rattle.blob_faulty.specs.HandleLeaves.{HandleLeaves};
 ghost use Rattle.blob_faults.specs.Recorded.{recorded_write, recorded_resize, live_of_write, live_of_resize, size_of_write, size_of_resize};
 ghost use Rattle.blob_faulty.specs.Syncs.{Publishes, Starts};
@@ -128,7 +129,7 @@ impl<S: blob_base::Storage, R: Rng, B: blob_base::Blob<S>> blob_base::Blob<Stora
     ///   first run.
     /// - `WriteFailed` where the store inside refused a run behind the first: those before it stay. Memory stores refuse none.
     /// - `Memory`: nothing changes but the generator.
-    #[tactic(auto, unfolding(blob_faults::specs::Answers::allows_write, blob_faults::specs::Recorded::recorded_write))]
+    #[tactic(auto, unfolding(blob_faults::specs::Answers::allows_write))]
     fn write_at(
         &mut self,
         store: &mut Storage<S, R>,

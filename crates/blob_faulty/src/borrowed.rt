@@ -130,7 +130,7 @@ impl Blob<blob_memory::Blob> {
     /// # Errors
     ///
     /// As `write_at`.
-    #[tactic(auto, unfolding(blob_faults::specs::Answers::allows_write, blob_faults::specs::Recorded::recorded_write))]
+    #[tactic(auto, unfolding(blob_faults::specs::Answers::allows_write))]
     pub fn write_from<R: Rng>(
         &mut self,
         store: &mut Storage<Memory, R>,

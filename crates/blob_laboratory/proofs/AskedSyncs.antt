@@ -14,8 +14,8 @@ use Rattle.blob_memory.specs.Store.{directory, durable}
 use Rattle.blob_calls.specs.declared.reply.Reply.{Reply}
 use Rattle.blob_calls.specs.declared.reply.Reply.TheVariants.{Done, Failed, Started}
 use Rattle.blob_calls.specs.Acts.{Sync}
-use Rattle.blob_states.specs.After.{begun}
-use Rattle.blob_states.specs.Denials.{refused_if, sync_denial, start_denial}
+use Rattle.blob_states.specs.Steps.{begun, sync_denial}
+use Rattle.blob_states.specs.Denials.{refused_if, start_denial}
 use Rattle.blob_laboratory.specs.LabStands.{Wrapper, Wraps, Asks, StartsSync, stream_of}
 use Rattle.blob_faulty.specs.Keeps.{IsFor}
 use Rattle.blob_states.specs.States as states

@@ -6,20 +6,24 @@ use Rattle.blob_model.specs.Directory.{Directory}
 use Rattle.blob_model.specs.Files.{Files, all_logged}
 use Rattle.blob_model.specs.Log.{Entry}
 use Rattle.blob_model.specs.Places.{Place}
-use Rattle.blob_header.specs.Refusals.{Refusal, Memory, OffsetOverflow, refusal_of}
+use Rattle.blob_header.specs.Refusals.{Refusal, Memory, Injected, refusal_of}
 use Rattle.blob_model.specs.Runs.{runs, AreRunsApart}
 use Rattle.blob_header.specs.declared.error.Error.{Error}
 use Rattle.blob_faults.specs.Answers.{allows_write, allows_fate, allows_resize, injected_for}
 use Rattle.blob_model.specs.declared.mode.PartialWriteMode.{PartialWriteMode}
 use Rattle.blob_model.specs.Rates.{Rate}
-use Rattle.blob_faults.specs.Faults.{WriteFate, Done, Unsynced, Failed, ResizeFate, Resizes, Stays, Reaches, write_fate, resize_fate, retention, has_uncounted_end, after_write}
-use Rattle.blob_faults.specs.Recorded.{recorded_by, live_by, size_by, recorded_write, recorded_resize, live_of_write, live_of_resize, size_of_write, size_of_resize}
+use Rattle.blob_faults.specs.Fates.{has_uncounted_end, after_write}
+use Rattle.blob_faults.specs.Faults.{ResizeFate, Resizes, Stays, Reaches, drawn_fate, write_fate, resize_fate, retention}
+use Rattle.blob_faults.specs.Changes.{Changes, laying, resize_changes}
+use Rattle.blob_faults.specs.Recorded.{written_by, recorded_write, recorded_resize, live_of_write, live_of_resize, size_of_write, size_of_resize}
+use Rattle.blob_faults.proofs.Unchanged.{memory_changes}
 use Rattle.blob_faulty.specs.Wrapper.{Stands, Adds, config_of, inner_of as store_of, next_write_of}
 use Rattle.blob_memory.specs.Answers.{OrMemory, AllowsWrite, end_refusal}
 use Rattle.blob_memory.specs.Store.{directory, durable}
 use Rattle.blob_calls.specs.declared.reply.Reply.TheVariants as reply
 use Rattle.blob_calls.specs.Acts.{Write, Resize}
-use Rattle.blob_states.specs.Denials.{fate_denial, write_denial, reaching_denial, or_injected}
+use Rattle.blob_states.specs.Denials.{fate_denial, write_denial, reaching_denial}
+use Rattle.blob_states.specs.Steps.{or_injected}
 use Rattle.blob_laboratory.specs.LabStands.{Wrapper, Wraps, Asks, stream_of}
 use Rattle.blob_faulty.specs.Keeps.{IsFor}
 use Rattle.blob_states.specs.States.{State, Held}
@@ -43,10 +47,7 @@ same_held h h' live size p l s r i = record { place = p i; live = l i; size = s 
 module _ (w w' : Wrapper) (h h' : Held) (room : Bool → ℕ) (offset : ℕ) (bytes : List ℕ) (sync : Bool) (apart : (chosen : List Bool) → AreRunsApart offset (runs offset bytes chosen))
     (names : directory (store_of w') ≡ directory (store_of w)) (config : config_of w' ≡ config_of w) (place : h'.place ≡ h.place) (registration : h'.registration ≡ h.registration) where
   abbrev denial : Directory → ℕ → Option Refusal
-  denial d next =
-      if is_idle sync bytes then None
-      else if has_uncounted_end offset bytes then Some OffsetOverflow
-      else fate_denial (write_fate (config_of w) sync offset (length bytes) (stream_of w)).0 d h.place (is_some (retention (config_of w).write_rate)) next sync offset bytes
+  denial d next = fate_denial (write_fate (config_of w) sync offset bytes (stream_of w)).0 d h.place (is_some (retention (config_of w).write_rate)) next sync offset bytes
 
   abbrev allowed : Option Refusal → Type 0
   allowed answer =
@@ -64,10 +65,10 @@ module _ (w w' : Wrapper) (h h' : Held) (room : Bool → ℕ) (offset : ℕ) (by
   denied : (answer : Option Refusal) → allowed answer → OrMemory (denial (directory (store_of w)) (next_write_of w)) answer
   unfolding allows_write
   denied answer a =
-      counted_denial (is_idle sync bytes) (has_uncounted_end offset bytes)
-      (allows_fate (write_fate (config_of w) sync offset (length bytes) (stream_of w)).0 (λ o b s. AllowsWrite (directory (store_of w)) h.place room o b s) (λ end. OrMemory (end_refusal h.place end)) true (is_some (retention (config_of w).write_rate)) (next_write_of w) sync offset bytes)
-      (fate_denial (write_fate (config_of w) sync offset (length bytes) (stream_of w)).0 (directory (store_of w)) h.place (is_some (retention (config_of w).write_rate)) (next_write_of w) sync offset bytes)
-      (fate_denied (directory (store_of w)) h.place room (write_fate (config_of w) sync offset (length bytes) (stream_of w)).0 (is_some (retention (config_of w).write_rate)) (next_write_of w) sync offset bytes apart)
+      counted_denial (directory (store_of w)) h.place (is_some (retention (config_of w).write_rate)) (next_write_of w) sync offset bytes (drawn_fate (config_of w) sync offset (length bytes) (stream_of w)) (stream_of w)
+      (is_idle sync bytes) (has_uncounted_end offset bytes)
+      (allows_fate (drawn_fate (config_of w) sync offset (length bytes) (stream_of w)).0 (λ o b s. AllowsWrite (directory (store_of w)) h.place room o b s) (λ end. OrMemory (end_refusal h.place end)) true (is_some (retention (config_of w).write_rate)) (next_write_of w) sync offset bytes)
+      (fate_denied (directory (store_of w)) h.place room (drawn_fate (config_of w) sync offset (length bytes) (stream_of w)).0 (is_some (retention (config_of w).write_rate)) (next_write_of w) sync offset bytes apart)
       answer a
 
   seen : (v : State) → Wraps w (as_of w v) → denial (directory (store_of w)) (next_write_of w) ≡ write_denial (as_of w v) h offset bytes sync
@@ -90,6 +91,15 @@ module _ (w w' : Wrapper) (h h' : Held) (room : Bool → ℕ) (offset : ℕ) (by
 
 -- A resize.
 
+-- it takes no number
+unnumbered : (fate : ResizeFate) (len : ℕ) (answer : Option Refusal) (m n : ℕ) → (resize_changes fate len answer).entries m ≡ (resize_changes fate len answer).entries n
+unnumbered (Resizes survives) len None m n = refl
+unnumbered (Resizes survives) len (Some r) m n = refl
+unnumbered Stays len answer m n = refl
+unnumbered (Reaches size) len None m n = refl
+unnumbered (Reaches size) len (Some Injected) m n = refl
+unnumbered (Reaches size) len (Some r) m n = refl
+
 resize_denied : (fate : ResizeFate) (o : Place) (len : ℕ) (answer : Option Refusal) → allows_resize (λ n. OrMemory (end_refusal o n)) fate len answer → OrMemory (reaching_denial fate o len) answer
 resize_denied (Resizes survives) o len answer a = memory_denial (OrMemory (end_refusal o len)) (end_refusal o len) (λ answer' m. m) answer a
 resize_denied Stays o len answer a = inr a
@@ -106,59 +116,32 @@ module _ (w w' : Wrapper) (h h' : Held) (len : ℕ) (names : directory (store_of
   abbrev IsResizeRecorded : Option Refusal → Type 0
   IsResizeRecorded answer = Adds (λ a. a) (directory (store_of w)) (durable (store_of w)) (durable (store_of w')) w w' h.place (recorded_resize fate len answer)
 
+  by_any_number : (answer : Option Refusal) → IsResizeRecorded answer → Adds (λ a. a) (directory (store_of w)) (durable (store_of w)) (durable (store_of w')) w w' h.place ((resize_changes fate len answer).entries (next_write_of w))
+  by_any_number answer adds = subst (λ (es : List Entry). Adds (λ a. a) (directory (store_of w)) (durable (store_of w)) (durable (store_of w')) w w' h.place es) (unnumbered fate len answer 0 (next_write_of w)) adds
+
   pub resize_done : stream_of w' ≡ (resize_fate (config_of w).resize_rate h.size len (stream_of w)).1 → IsResizeAllowed None → IsResizeRecorded None → h'.live ≡ live_of_resize fate h.live len None → h'.size ≡ size_of_resize fate h.size len None → Asks w h (Resize len) reply.Done w' h'
   resize_done stream a adds live size = asks_by w w' h h' (Resize len) reply.Done
       (λ v u. done_answers reply.Done (reaching_denial fate h.place len) told.Done (stream_of w') ((resize_fate (config_of w).resize_rate h.size len (stream_of w)).1) tt (not_memory (reaching_denial fate h.place len) (resize_denied fate h.place len None a)) stream)
-      (λ v u below. added w w' v.files h.place (λ n. recorded_resize fate len None) names adds below u.files)
+      (λ v u below. added w w' v.files h.place (λ n. (resize_changes fate len None).entries n) names (by_any_number None adds) below u.files)
       (λ v. same_held h h' (live_of_resize fate h.live len None) (size_of_resize fate h.size len None) place live size registration)
       config
 
   pub resize_failed : (e : Error) → stream_of w' ≡ (resize_fate (config_of w).resize_rate h.size len (stream_of w)).1 → IsResizeAllowed (Some (refusal_of e)) → IsResizeRecorded (Some (refusal_of e)) → h'.live ≡ live_of_resize fate h.live len (Some (refusal_of e)) → h'.size ≡ size_of_resize fate h.size len (Some (refusal_of e)) → Asks w h (Resize len) (reply.Failed e) w' h'
   resize_failed e stream a adds live size = asks_by w w' h h' (Resize len) (reply.Failed e)
       (λ v u. failed_answers e (reaching_denial fate h.place len) told.Done (stream_of w') ((resize_fate (config_of w).resize_rate h.size len (stream_of w)).1) (resize_denied fate h.place len (Some (refusal_of e)) a) (λ no. stream))
-      (λ v u below. added w w' v.files h.place (λ n. recorded_resize fate len (Some (refusal_of e))) names adds below u.files)
+      (λ v u below. added w w' v.files h.place (λ n. (resize_changes fate len (Some (refusal_of e))).entries n) names (by_any_number (Some (refusal_of e)) adds) below u.files)
       (λ v. same_held h h' (live_of_resize fate h.live len (Some (refusal_of e))) (size_of_resize fate h.size len (Some (refusal_of e))) place live size registration)
       config
 
 -- A write for whose copy there is no memory: the wrapper wasn't asked.
 
-unless_either : {X : Type 0} (a b : Bool) (x y : X) → y ≡ x → (if a then x else if b then x else y) ≡ x
-unless_either true b x y e = refl
-unless_either false true x y e = refl
-unless_either false false x y e = e
-
-recorded_memory : (fate : WriteFate) (kept : Option (PartialWriteMode × Rate)) (number : ℕ) (sync : Bool) (offset : ℕ) (bytes : List ℕ) → recorded_by fate kept number sync offset bytes (Some Memory) ≡ []
-recorded_memory Done kept number true offset bytes = refl
-recorded_memory Done kept number false offset bytes = refl
-recorded_memory Unsynced kept number sync offset bytes = refl
-recorded_memory (Failed chosen) kept number sync offset bytes = refl
-
-live_memory : (fate : WriteFate) (sync : Bool) (live : List ℕ) (offset : ℕ) (bytes : List ℕ) → live_by fate sync live offset bytes (Some Memory) ≡ live
-live_memory Done true live offset bytes = refl
-live_memory Done false live offset bytes = refl
-live_memory Unsynced sync live offset bytes = refl
-live_memory (Failed chosen) sync live offset bytes = refl
-
-size_memory : (fate : WriteFate) (size offset : ℕ) (bytes : List ℕ) → size_by fate size offset bytes (Some Memory) ≡ size
-size_memory Done size offset bytes = refl
-size_memory Unsynced size offset bytes = refl
-size_memory (Failed chosen) size offset bytes = refl
-
 pub write_unasked : (w : Wrapper) (h : Held) (offset : ℕ) (bytes : List ℕ) (sync : Bool) (e : Error) → Some (refusal_of e) ≡ Some Memory → Asks w h (Write offset bytes sync) (reply.Failed e) w h
-unfolding recorded_write
 write_unasked w h offset bytes sync e memory =
-    let fate = (write_fate (config_of w) sync offset (length bytes) (stream_of w)).0 in
-    let entries : (n : ℕ) → recorded_write (config_of w) n (stream_of w) sync offset bytes (Some (refusal_of e)) ≡ [] = λ n.
-    ap (recorded_write (config_of w) n (stream_of w) sync offset bytes) memory
-    ∙ unless_either (is_idle sync bytes) (has_uncounted_end offset bytes) [] (recorded_by fate (retention (config_of w).write_rate) n sync offset bytes (Some Memory)) (recorded_memory fate (retention (config_of w).write_rate) n sync offset bytes) in
-    let live : live_of_write (config_of w) (stream_of w) sync h.live offset bytes (Some (refusal_of e)) ≡ h.live =
-    ap (live_of_write (config_of w) (stream_of w) sync h.live offset bytes) memory
-    ∙ unless_either (is_idle sync bytes) (has_uncounted_end offset bytes) h.live (live_by fate sync h.live offset bytes (Some Memory)) (live_memory fate sync h.live offset bytes) in
-    let size : size_of_write (config_of w) (stream_of w) sync h.size offset bytes (Some (refusal_of e)) ≡ h.size =
-    ap (size_of_write (config_of w) (stream_of w) sync h.size offset bytes) memory
-    ∙ unless_either (is_idle sync bytes) (has_uncounted_end offset bytes) h.size (size_by fate h.size offset bytes (Some Memory)) (size_memory fate h.size offset bytes) in
+    let unchanged : written_by (config_of w) (stream_of w) sync offset bytes (Some (refusal_of e)) ≡ laying [] (λ number. []) =
+    ap (written_by (config_of w) (stream_of w) sync offset bytes) memory ∙ memory_changes (write_fate (config_of w) sync offset bytes (stream_of w)).0 (retention (config_of w).write_rate) sync offset bytes in
     asks_by w w h h (Write offset bytes sync) (reply.Failed e)
     (λ v u. inl (refl, memory))
-    (λ v u below. subst (λ (es : List Entry). IsFor w (all_logged v.files h.place es)) (sym (entries v.files.next_write)) u.files)
-    (λ v. same_held h h (live_of_write (config_of w) (stream_of w) sync h.live offset bytes (Some (refusal_of e))) (size_of_write (config_of w) (stream_of w) sync h.size offset bytes (Some (refusal_of e))) refl (sym live) (sym size) refl)
+    (λ v u below. subst (λ (c : Changes). IsFor w (all_logged v.files h.place (c.entries v.files.next_write))) (sym unchanged) u.files)
+    (λ v. same_held h h (live_of_write (config_of w) (stream_of w) sync h.live offset bytes (Some (refusal_of e))) (size_of_write (config_of w) (stream_of w) sync h.size offset bytes (Some (refusal_of e))) refl
+    (sym (ap (λ (c : Changes). c.live h.live) unchanged)) (sym (ap (λ (c : Changes). c.size h.size) unchanged)) refl)
     refl

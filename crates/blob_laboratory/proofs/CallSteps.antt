@@ -10,8 +10,8 @@ use Rattle.blob_laboratory.specs.declared.lab.Lab.{Lab}
 use Rattle.blob_calls.specs.declared.reply.Reply.{Reply}
 use Rattle.blob_calls.specs.declared.reply.Reply.TheVariants as reply
 use Rattle.blob_calls.specs.Acts.{Close, Finish, Through, Size}
-use Rattle.blob_states.specs.After as after
-use Rattle.blob_states.specs.After.{unregistered, asked}
+use Rattle.blob_states.specs.After.{asked}
+use Rattle.blob_states.specs.Steps.{unregistered, with_closed}
 use Rattle.blob_states.specs.Answers.{through, kept_at, unless_denied}
 use Rattle.blob_laboratory.specs.LabStands.{LabStandsFor, Performs, Wrapper, stream_of}
 use Rattle.blob_faulty.specs.Keeps.{IsFor}
@@ -22,6 +22,7 @@ use Rattle.blob_calls.specs.Told as told
 use Rattle.blob_calls.specs.Told.{Told, Tells}
 use Rattle.blob_laboratory.proofs.Performing.{state_of, performs, stands_same}
 use Rattle.blob_states.proofs.GivenHandles.{filled}
+use Rattle.blob_states.proofs.Slots.{emptied_again}
 
 -- what is told of a slot by a close, and by the end of a started sync
 abbrev closed_told : Option Held → Told
@@ -37,13 +38,13 @@ module _ (lab lab' : Lab) (number : ℕ) (same : lab'.wrapper ≡ lab.wrapper) (
   pub close_none : kept_at (handles_of lab.handles) number ≡ None → names_of lab'.opens ≡ names_of lab.opens → handles_of lab'.handles ≡ handles_of lab.handles → Performs lab (Close number) reply.NoHandle lab'
   close_none gone names handles = performs lab lab' (Close number) reply.NoHandle
       (λ f s. inr (subst (λ (o : Option Held). Tells reply.NoHandle (closed_told o)) (sym gone) tt, ap stream_of same))
-      (λ f s. subst (λ (o : Option Held). LabStandsFor lab' (record (after.with_closed (state_of lab f) number o) { stream = stream_of lab'.wrapper })) (sym gone) (stands_same lab lab' f same names handles syncs s))
+      (λ f s. subst (λ (o : Option Held). LabStandsFor lab' (record (with_closed (state_of lab f) number o) { stream = stream_of lab'.wrapper })) (sym gone) (subst (λ hs. LabStandsFor lab' (record (state_of lab f) { handles = hs; stream = stream_of lab'.wrapper })) (sym (emptied_again (handles_of lab.handles) number gone)) (stands_same lab lab' f same names handles syncs s)))
 
   -- an open handle
   pub close_some : (h : Held) → kept_at (handles_of lab.handles) number ≡ Some h → names_of lab'.opens ≡ unregistered (names_of lab.opens) h.registration → handles_of lab'.handles ≡ set (handles_of lab.handles) number None → Performs lab (Close number) reply.Done lab'
   close_some h here names handles = performs lab lab' (Close number) reply.Done
       (λ f s. inr (subst (λ (o : Option Held). Tells reply.Done (closed_told o)) (sym here) tt, ap stream_of same))
-      (λ f s. subst (λ (o : Option Held). LabStandsFor lab' (record (after.with_closed (state_of lab f) number o) { stream = stream_of lab'.wrapper })) (sym here)
+      (λ f s. subst (λ (o : Option Held). LabStandsFor lab' (record (with_closed (state_of lab f) number o) { stream = stream_of lab'.wrapper })) (sym here)
       (record {
         wrapper = record { files = subst (λ (w : Wrapper). IsFor w f) (sym same) s.wrapper.files; config = ap config_of same; stream = refl };
         names = names;
@@ -75,18 +76,17 @@ module _ (lab lab' : Lab) (names : names_of lab'.opens ≡ names_of lab.opens) (
   pub finish_none : (number : ℕ) → kept_at (syncs_of lab.syncs) number ≡ None → lab'.wrapper ≡ lab.wrapper → syncs_of lab'.syncs ≡ syncs_of lab.syncs → Performs lab (Finish number) reply.NoHandle lab'
   finish_none number gone same syncs = performs lab lab' (Finish number) reply.NoHandle
       (λ f s. inr (subst (λ (o : Option Started). Tells reply.NoHandle (finished_told o)) (sym gone) tt, ap stream_of same))
-      (λ f s. subst (λ (o : Option Started). LabStandsFor lab' (record (after.with_finished (state_of lab f) number o) { stream = stream_of lab'.wrapper })) (sym gone) (stands_same lab lab' f same names handles syncs s))
+      (λ f s. subst (λ ss. LabStandsFor lab' (record (state_of lab f) { syncs = ss; stream = stream_of lab'.wrapper })) (sym (emptied_again (syncs_of lab.syncs) number gone)) (stands_same lab lab' f same names handles syncs s))
 
   -- a started sync, whose outcome is told
   pub finish_some : (number : ℕ) (started : Started) (answered : Reply) → kept_at (syncs_of lab.syncs) number ≡ Some started → Tells answered (unless_denied started.outcome told.Done) → syncs_of lab'.syncs ≡ set (syncs_of lab.syncs) number None
       → config_of lab'.wrapper ≡ config_of lab.wrapper → stream_of lab'.wrapper ≡ stream_of lab.wrapper → ((f : Files) → IsFor lab.wrapper f → IsFor lab'.wrapper f) → Performs lab (Finish number) answered lab'
   finish_some number started answered here tells syncs config stream stands = performs lab lab' (Finish number) answered
       (λ f s. inr (subst (λ (o : Option Started). Tells answered (finished_told o)) (sym here) tells, stream))
-      (λ f s. subst (λ (o : Option Started). LabStandsFor lab' (record (after.with_finished (state_of lab f) number o) { stream = stream_of lab'.wrapper })) (sym here)
-      (record {
+      (λ f s. record {
         wrapper = record { files = stands f s.wrapper.files; config = config; stream = refl };
         names = names;
         handles = handles;
         syncs = syncs;
         given = s.given;
-      }))
+      })

@@ -19,7 +19,8 @@ use Rattle.blob_laboratory.specs.declared.lab.Lab.{Lab}
 use Rattle.blob_calls.specs.declared.reply.Reply.{Reply}
 use Rattle.blob_calls.specs.declared.reply.Reply.TheVariants as reply
 use Rattle.blob_calls.specs.Acts.{Configure, Admit, Remove, Scan, Crash, Reopen}
-use Rattle.blob_states.specs.Denials.{refused_if, remove_denial, scan_denial}
+use Rattle.blob_states.specs.Denials.{refused_if}
+use Rattle.blob_states.specs.Steps.{remove_denial, scan_denial}
 use Rattle.blob_states.specs.Steps as steps
 use Rattle.blob_laboratory.specs.LabStands.{LabStandsFor, Performs, stream_of}
 use Rattle.blob_faulty.specs.Keeps.{IsFor}

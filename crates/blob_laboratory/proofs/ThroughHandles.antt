@@ -7,9 +7,10 @@ use Rattle.blob_header.specs.Refusals.{Refusal}
 use Rattle.blob_laboratory.specs.declared.lab.Lab.{Lab}
 use Rattle.blob_calls.specs.declared.reply.Reply.{Reply}
 use Rattle.blob_calls.specs.declared.reply.Reply.TheVariants.{NoHandle}
-use Rattle.blob_calls.specs.Acts.{Ask, StartSync, Through}
+use Rattle.blob_calls.specs.Acts.{Ask, Size, StartSync, Through}
 use Rattle.blob_states.specs.After.{asked, files_after, held_after, syncs_after}
-use Rattle.blob_states.specs.Answers.{IsAnswer, through, asks_memory, kept_at}
+use Rattle.blob_states.specs.Answers.{IsAnswer, through, may_grow, kept_at}
+use Rattle.blob_states.specs.Steps.{asks_memory}
 use Rattle.blob_laboratory.specs.LabStands.{LabStandsFor, Performs, Asks, StartsSync, stream_of}
 use Rattle.blob_opens.specs.Opens.{names_of}
 use Rattle.blob_states.specs.States.{State, Held, AreGiven}
@@ -25,11 +26,15 @@ given_after d d' handles number h h' same place below given =
     subst (λ (e : Directory). AreGiven e.next (set handles number (Some h'))) (sym same)
     (All-set (λ slot. IfSome slot (λ g. g.place.number < d.next)) handles number (Some h') (subst (λ (o : Place). o.number < d.next) (sym place) below) given)
 
+grows_as : (v : State) (number : ℕ) (ask : Ask) → may_grow v (Through number ask) ≡ asks_memory ask (kept_at v.handles number)
+grows_as v number Size = refl
+grows_as v number ask = refl
+
 module _ (lab lab' : Lab) (number : ℕ) (ask : Ask) (names : names_of lab'.opens ≡ names_of lab.opens) (syncs : syncs_of lab'.syncs ≡ syncs_of lab.syncs) where
   -- a closed handle, or one that never was
   pub through_none : kept_at (handles_of lab.handles) number ≡ None → lab'.wrapper ≡ lab.wrapper → handles_of lab'.handles ≡ handles_of lab.handles → Performs lab (Through number ask) NoHandle lab'
   through_none gone w hs = performs lab lab' (Through number ask) NoHandle
-      (λ f s. subst (λ (o : Option Held). IsAnswer (asks_memory ask o) (through (state_of lab f) o ask) NoHandle (stream_of lab'.wrapper)) (sym gone) (inr (tt, ap stream_of w)))
+      (λ f s. subst (λ (o : Option Held). IsAnswer (may_grow (state_of lab f) (Through number ask)) (through (state_of lab f) o ask) NoHandle (stream_of lab'.wrapper)) (sym gone) (inr (tt, ap stream_of w)))
       (λ f s. subst (λ (o : Option Held). LabStandsFor lab' (record (asked (state_of lab f) number o ask None) { stream = stream_of lab'.wrapper })) (sym gone) (stands_same lab lab' f w names hs syncs s))
 
   module _ (h h' : Held) (reply : Reply) (grows : asks_memory ask (Some h) ≡ true) (plain : (v : State) (r : Option Refusal) → syncs_after v h ask r ≡ v.syncs) where
@@ -38,8 +43,8 @@ module _ (lab lab' : Lab) (number : ℕ) (ask : Ask) (names : names_of lab'.open
     through_some here asks table = performs lab lab' (Through number ask) reply
         (λ f s.
         let a : IsAnswer true (through (state_of lab f) (Some h) ask) reply (stream_of lab'.wrapper) = asks.answers (state_of lab f) s.wrapper in
-        subst (λ (o : Option Held). IsAnswer (asks_memory ask o) (through (state_of lab f) o ask) reply (stream_of lab'.wrapper)) (sym here)
-        (subst (λ (b : Bool). IsAnswer b (through (state_of lab f) (Some h) ask) reply (stream_of lab'.wrapper)) (sym grows) a))
+        subst (λ (o : Option Held). IsAnswer (may_grow (state_of lab f) (Through number ask)) (through (state_of lab f) o ask) reply (stream_of lab'.wrapper)) (sym here)
+        (subst (λ (b : Bool). IsAnswer b (through (state_of lab f) (Some h) ask) reply (stream_of lab'.wrapper)) (sym (grows_as (state_of lab f) number ask ∙ ap (asks_memory ask) here ∙ grows)) a))
         (λ f s.
         let v = state_of lab f in
         let r = refused_by reply in

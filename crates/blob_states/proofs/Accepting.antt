@@ -18,7 +18,7 @@ use Rattle.blob_calls.specs.declared.call.Call.{Call}
 use Rattle.blob_calls.specs.declared.reply.Reply.{Reply}
 use Rattle.blob_states.specs.Accepted.{removes}
 use Rattle.blob_calls.specs.Acts.{Ask, Act, Configure, Open, OpenLoose, Admit, Close, Through, Finish, Remove, Scan, Crash, Reopen, act_of}
-use Rattle.blob_states.specs.After.{after, asked, with_closed, with_finished, exclusively_opened}
+use Rattle.blob_states.specs.After.{after, asked, exclusively_opened}
 use Rattle.blob_states.specs.Steps.{removal_step as removal, crash_step, loosely_opened}
 use Rattle.blob_states.specs.Answers.{found_at, kept_at, opened_version}
 use Rattle.blob_states.specs.Runs.{LeadsTo}
@@ -111,14 +111,6 @@ module _ (v : State) (rest : Stream) (p n : List ℕ) (version : ℕ) (fits : ve
   asked_still number None ask refusal = is
   asked_still number (Some h) ask refusal = by_same (asked v number (Some h) ask refusal) (asked_directory v h ask refusal)
 
-  closed_still : (number : ℕ) (slot : Option Held) → Still (with_closed v number slot)
-  closed_still number None = is
-  closed_still number (Some h) = is
-
-  finished_still : (number : ℕ) (slot : Option Started) → Still (with_finished v number slot)
-  finished_still number None = is
-  finished_still number (Some s) = is
-
   removal_still : (q : List ℕ) (m : Option (List ℕ)) (refusal : Option Refusal) → removes (Remove q m) refusal p n ≡ false → Still (removal v q m refusal)
   removal_still q m None stays = of_removed v.files.directory q m p n version stays is
   removal_still q m (Some refusal) stays = is
@@ -134,9 +126,9 @@ module _ (v : State) (rest : Stream) (p n : List ℕ) (version : ℕ) (fits : ve
   still_after (OpenLoose q m None) refusal stays = is
   still_after (OpenLoose q m (Some versions)) refusal stays = loose_still q m versions refusal
   still_after (Admit q m) refusal stays = subst (λ (d : Directory). IsOf (d.file p n) version) (sym (admitted_directory v.files q m)) is
-  still_after (Close number) refusal stays = closed_still number (kept_at v.handles number)
+  still_after (Close number) refusal stays = is
   still_after (Through number ask) refusal stays = asked_still number (kept_at v.handles number) ask refusal
-  still_after (Finish number) refusal stays = finished_still number (kept_at v.syncs number)
+  still_after (Finish number) refusal stays = is
   still_after (Remove q m) refusal stays = removal_still q m refusal stays
   still_after (Scan q) refusal stays = is
   still_after Crash refusal stays = crashed_still refusal

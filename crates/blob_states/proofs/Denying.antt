@@ -9,9 +9,11 @@ use Rattle.blob_model.specs.Places.{Place}
 use Rattle.blob_header.specs.Refusals.{Refusal, Memory, Injected, OffsetOverflow, GenerationsExhausted}
 use Rattle.blob_model.specs.Runs.{Run, runs, AreRunsApart}
 use Rattle.blob_faults.specs.Answers.{Allowed, injected_or, injected_for, or_memory, numbered, lacks_number, last_end, one_then, allows_laid, allows_runs, allows_fate}
-use Rattle.blob_faults.specs.Faults.{WriteFate, Done, Unsynced, Failed}
+use Rattle.blob_faults.specs.Faults.{WriteFate, Idle, Uncounted, Done, Unsynced, Failed}
+use Rattle.rand_core.specs.Stream.{Stream}
 use Rattle.blob_memory.specs.Answers.{OrMemory, AllowsWrite, write_refusal, end_refusal, sync_refusal, is_uncounted, missing}
-use Rattle.blob_states.specs.Denials.{refused_if, or_injected, runs_denial, fate_denial}
+use Rattle.blob_states.specs.Steps.{or_injected}
+use Rattle.blob_states.specs.Denials.{refused_if, runs_denial, fate_denial}
 
 -- what may be answered, where the answer may also be that there is no memory
 abbrev Expects : Allowed → Option Refusal → Type 0
@@ -113,10 +115,13 @@ module _ (d : Directory) (o : Place) (room : Bool → ℕ) where
       numbered_denial (lacks_number retained next bytes) (injected_for (writes offset bytes false)) (or_injected (write_refusal d o offset bytes false))
       (injected_denial (writes offset bytes false) (write_refusal d o offset bytes false) (write_denied offset bytes false)) answer a
   fate_denied (Failed chosen) retained next sync offset bytes apart answer a = runs_denied offset (runs offset bytes chosen) (apart chosen) answer a
+  fate_denied fate retained next sync offset bytes apart answer a = absurd a
 
 -- a write that does nothing, and one whose end can't be counted, come before all
-pub counted_denial : (nothing uncounted : Bool) (inner : Allowed) (expected : Option Refusal) → Expects inner expected
-    → Expects (λ answer. MatchBool nothing (answer ≡ None) (MatchBool uncounted (answer ≡ Some OffsetOverflow) (or_memory inner answer))) (if nothing then None else if uncounted then Some OffsetOverflow else expected)
-counted_denial true uncounted inner expected i answer a = inr a
-counted_denial false true inner expected i answer a = inr a
-counted_denial false false inner expected i answer a = memory_denial inner expected i answer a
+module _ (d : Directory) (o : Place) (retained : Bool) (next : ℕ) (sync : Bool) (offset : ℕ) (bytes : List ℕ) (drawn : WriteFate × Stream) (left : Stream) where
+  pub counted_denial : (nothing uncounted : Bool) (inner : Allowed) → Expects inner (fate_denial drawn.0 d o retained next sync offset bytes)
+      → Expects (λ answer. MatchBool nothing (answer ≡ None) (MatchBool uncounted (answer ≡ Some OffsetOverflow) (or_memory inner answer)))
+      (fate_denial (if nothing then (Idle, left) else if uncounted then (Uncounted, left) else drawn).0 d o retained next sync offset bytes)
+  counted_denial true uncounted inner i answer a = inr a
+  counted_denial false true inner i answer a = inr a
+  counted_denial false false inner i answer a = memory_denial inner (fate_denial drawn.0 d o retained next sync offset bytes) i answer a

@@ -17,8 +17,8 @@ use Rattle.blob_faults.specs.declared.config.Config.{Config}
 use Rattle.blob_calls.specs.declared.call.Call.{Call}
 use Rattle.blob_calls.specs.declared.reply.Reply.{Reply}
 use Rattle.blob_calls.specs.Acts.{Ask, Write, Resize, AcceptedVersions, Act, Configure, Open, OpenLoose, Admit, Close, Through, Finish, Remove, Scan, Crash, Reopen, act_of}
-use Rattle.blob_states.specs.After.{after, asked, with_closed, with_finished, exclusively_opened, held_after}
-use Rattle.blob_states.specs.Steps.{removal_step as removal, crash_step, rebuilt}
+use Rattle.blob_states.specs.After.{after, asked, exclusively_opened, held_after}
+use Rattle.blob_states.specs.Steps.{with_closed, with_images, removal_step as removal, crash_step, rebuilt}
 use Rattle.blob_states.specs.Answers.{Answers, kept_at, told_opened}
 use Rattle.blob_states.specs.Denials.{refused_if, is_unnumbered, loose_denial, open_already, open_denial}
 use Rattle.blob_states.specs.Exclusive.{HoldNames, Sole}
@@ -26,7 +26,7 @@ use Rattle.blob_opens.specs.OpenNames.{OpenNames}
 use Rattle.blob_states.specs.Reached.{is_loose, NoneLoose, ReachedExclusively}
 use Rattle.blob_states.specs.Runs.{LeadsTo}
 use Rattle.blob_states.specs.Scripted.{Words}
-use Rattle.blob_states.specs.States.{State, Held, Started, Image, start, held_on, empty_directory, with_image, with_images}
+use Rattle.blob_states.specs.States.{State, Held, Started, Image, start, held_on, empty_directory, with_image}
 use Rattle.blob_calls.specs.Told.{refused_by}
 use Rattle.blob_states.proofs.ExclusiveSteps.{AreExclusive, IsNew, aged, closed_one, put_back, ended_names, added}
 use Rattle.blob_states.proofs.Stale.{ages, asked_directory, none_current, place_after, with_file_stale}
@@ -131,8 +131,7 @@ exclusive_opened v p n versions left (Some refusal) free x = x
 -- The other calls.
 
 exclusive_closed : (v : State) (number : ℕ) (slot : Option Held) → kept_at v.handles number ≡ slot → Exclusive v → Exclusive (with_closed v number slot)
-exclusive_closed v number None here x = x
-exclusive_closed v number (Some h) here x = closed_one v.files.directory v.names v.handles number h h.registration here refl x
+exclusive_closed v number slot here x = closed_one v.files.directory v.names v.handles number slot here x
 
 registration_after : (v : State) (h : Held) (ask : Ask) (refusal : Option Refusal) → (held_after v h ask refusal).registration ≡ h.registration
 registration_after v h (Write offset bytes sync) refusal = refl
@@ -145,10 +144,6 @@ exclusive_asked v number (Some h) ask refusal here x =
     let g = held_after v h ask refusal in
     subst (λ (d : Directory). AreExclusive d v.names (asked v number (Some h) ask refusal).handles) (sym (asked_directory v h ask refusal))
     (put_back v.files.directory v.names v.handles number h g here (place_after v h ask refusal) (registration_after v h ask refusal) x)
-
-exclusive_finished : (v : State) (number : ℕ) (slot : Option Started) → Exclusive v → Exclusive (with_finished v number slot)
-exclusive_finished v number None x = x
-exclusive_finished v number (Some s) x = x
 
 exclusive_removed : (v : State) (p : List ℕ) (n : Option (List ℕ)) (left : Stream) (refusal : Option Refusal) → Exclusive v → Exclusive (removal v p n refusal)
 exclusive_removed v p n left None x = ended_names v.files.directory v.names v.handles p n (ages v (Remove p n) None left) x
@@ -180,7 +175,7 @@ exclusive_after v (OpenLoose p n versions) answered left x strict answers = absu
 exclusive_after v (Admit p n) answered left x strict answers = aged v.files.directory (admitted v.files p n).directory v.names v.handles (ages v (Admit p n) None left) x
 exclusive_after v (Close number) answered left x strict answers = exclusive_closed v number (kept_at v.handles number) refl x
 exclusive_after v (Through number ask) answered left x strict answers = exclusive_asked v number (kept_at v.handles number) ask (refused_by answered) refl x
-exclusive_after v (Finish number) answered left x strict answers = exclusive_finished v number (kept_at v.syncs number) x
+exclusive_after v (Finish number) answered left x strict answers = x
 exclusive_after v (Remove p n) answered left x strict answers = exclusive_removed v p n left (refused_by answered) x
 exclusive_after v (Scan p) answered left x strict answers = x
 exclusive_after v Crash answered left x strict answers = exclusive_crashed v (refused_by answered) x

@@ -7,7 +7,8 @@ use Rattle.std.proofs.lemmas.List.Elements.{All-set, All-push, All-weaker}
 use Rattle.std.proofs.lemmas.Option.{none-some, same_Some}
 use Rattle.blob_model.specs.Directory.{Directory, File, is_current, is_that, removed}
 use Rattle.blob_model.specs.Places.{Place}
-use Rattle.blob_states.specs.After.{unregistered}
+use Rattle.std.specs.Prelude.{option_and_then}
+use Rattle.blob_states.specs.Steps.{unregistered}
 use Rattle.blob_states.specs.Answers.{kept_at}
 use Rattle.blob_states.specs.Exclusive.{IsOpenBy}
 use Rattle.blob_names.specs.Names.{with_name}
@@ -88,13 +89,17 @@ emptied d s t handles number next stays x = record {
   current = x.current;
 }
 
-pub closed_one : (d : Directory) (s : OpenNames) (handles : List (Option Held)) (number : ℕ) (h : Held) (registration : Option Registration) → kept_at handles number ≡ Some h → h.registration ≡ registration
-    → AreExclusive d s handles → AreExclusive d (unregistered s registration) (set handles number None)
-closed_one d s handles number h None here by x = emptied d s s handles number refl (λ i k other was is_open. is_open) x
-closed_one d s handles number h (Some r) here by x =
-    emptied d s (closed s r) handles number refl
-    (λ i k other was is_open. closed_open s r k.place k.registration is_open (λ same. other (x.apart number i h k r is_open.by here was by is_open.held (sym same))))
-    x
+pub closed_one : (d : Directory) (s : OpenNames) (handles : List (Option Held)) (number : ℕ) (slot : Option Held) → kept_at handles number ≡ slot
+    → AreExclusive d s handles → AreExclusive d (unregistered s (option_and_then (λ h. h.registration) slot)) (set handles number None)
+closed_one d s handles number None here x = emptied d s s handles number refl (λ i k other was is_open. is_open) x
+closed_one d s handles number (Some h) here x = by_registration h.registration refl
+  where
+    by_registration : (registration : Option Registration) → h.registration ≡ registration → AreExclusive d (unregistered s registration) (set handles number None)
+    by_registration None by = emptied d s s handles number refl (λ i k other was is_open. is_open) x
+    by_registration (Some r) by =
+        emptied d s (closed s r) handles number refl
+        (λ i k other was is_open. closed_open s r k.place k.registration is_open (λ same. other (x.apart number i h k r is_open.by here was by is_open.held (sym same))))
+        x
 
 -- A handle that is put back on its incarnation, with its registration.
 

@@ -8,9 +8,11 @@ use Rattle.blob_model.specs.Places.{Place, same_place}
 use Rattle.blob_header.specs.Refusals.{Refusal}
 use Rattle.blob_model.proofs.Persistence.{fixed_all, fixed_published, fixed_started}
 use Rattle.blob_faults.specs.Faults.{resize_fate}
-use Rattle.blob_faults.specs.Recorded.{recorded_write, recorded_resize}
+use Rattle.blob_faults.specs.Changes.{resize_changes}
+use Rattle.blob_faults.specs.Recorded.{recorded_write}
 use Rattle.blob_calls.specs.Acts.{Ask, Read, Write, Resize, Size, Sync, StartSync}
-use Rattle.blob_states.specs.After.{begun, files_after, held_after}
+use Rattle.blob_states.specs.After.{files_after, held_after}
+use Rattle.blob_states.specs.Steps.{begun}
 use Rattle.blob_states.specs.Answers.{kept_at}
 use Rattle.blob_states.specs.Denials.{start_denial}
 use Rattle.blob_states.specs.Fixed.{Byte, is_on, asks_for, reaches_through}
@@ -48,8 +50,8 @@ fixed_asked v h (Write offset bytes sync) refusal b o out live fixed =
     fixed_all v.files h.place o b.position b.value (recorded_write v.config v.files.next_write v.stream sync offset bytes refusal) (λ same. write_out b.position offset bytes (out same) v.config v.files.next_write v.stream sync refusal) fixed
 fixed_asked v h (Resize len) refusal b o out live fixed =
     let fate = (resize_fate v.config.resize_rate h.size len v.stream).0 in
-    fixed_all v.files h.place o b.position b.value (recorded_resize fate len refusal)
-    (λ same. resize_out b.position len (min h.size len) (out same) (omega (arith, (live same).size, leb-false len b.position (out same))) fate refusal (reached_above v.config.resize_rate h.size len v.stream)) fixed
+    fixed_all v.files h.place o b.position b.value ((resize_changes fate len refusal).entries v.files.next_write)
+    (λ same. resize_out b.position len (min h.size len) (out same) (omega (arith, (live same).size, leb-false len b.position (out same))) fate refusal v.files.next_write (reached_above v.config.resize_rate h.size len v.stream)) fixed
 fixed_asked v h Sync None b o out live fixed = fixed_published v.files h.place o b.position b.value h.live (λ same. (live same).live) fixed
 fixed_asked v h Sync (Some refusal) b o out live fixed = fixed
 fixed_asked v h StartSync None b o out live fixed = fixed_begun v.files h o b.position b.value (start_denial v h) (λ same. (live same).live) fixed

@@ -6,7 +6,7 @@ use Rattle.blob_model.specs.Files.{log_of, all_needs, after_open, admitted}
 use Rattle.blob_model.specs.Places.{Place}
 use Rattle.blob_header.specs.Refusals.{Refusal, BlobAlreadyOpen}
 use Rattle.blob_calls.specs.Acts.{Ask, AcceptedVersions, Act, Configure, Open, OpenLoose, Admit, Close, Through, Finish, Remove, Scan, Crash, Reopen}
-use Rattle.blob_states.specs.After.{after, asked, exclusively_opened, with_closed, with_finished}
+use Rattle.blob_states.specs.After.{after, asked, exclusively_opened}
 use Rattle.blob_states.specs.Steps.{loosely_opened, removal_step, crash_step}
 use Rattle.blob_states.specs.Answers.{kept_at}
 use Rattle.blob_states.specs.Fixed.{Byte, reaches, reaches_through}
@@ -40,17 +40,9 @@ module _ (v : State) (b : Byte) (sound : IsSound v) (firm : HasFirm v b) where
   loosely p n versions None = firm_held (after_open v.files p n versions.0 versions.1) v.handles p n None b (opens p n versions)
   loosely p n versions (Some refusal) = firm
 
-  closes : (number : ℕ) (slot : Option Held) → HasFirm (with_closed v number slot) b
-  closes number None = firm
-  closes number (Some h) = firm_closed v.files v.handles number b firm
-
   asks : (number : ℕ) (slot : Option Held) (ask : Ask) (refusal : Option Refusal) → kept_at v.handles number ≡ slot → reaches_through v slot ask b ≡ false → HasFirm (asked v number slot ask refusal) b
   asks number None ask refusal here out = firm
   asks number (Some h) ask refusal here out = firm_asked v number h ask refusal b here out firm
-
-  finishes : (number : ℕ) (slot : Option Started) → HasFirm (with_finished v number slot) b
-  finishes number None = firm
-  finishes number (Some s) = firm
 
   removes : (p : List ℕ) (n : Option (List ℕ)) (refusal : Option Refusal) → reaches v (Remove p n) refusal b ≡ false → HasFirm (removal_step v p n refusal) b
   removes p n None out = firm_removed v.files v.handles p n b out firm
@@ -67,9 +59,9 @@ module _ (v : State) (b : Byte) (sound : IsSound v) (firm : HasFirm v b) where
   firm_after (OpenLoose p n None) refusal left out = firm
   firm_after (OpenLoose p n (Some versions)) refusal left out = loosely p n versions refusal
   firm_after (Admit p n) refusal left out = firm_admitted v.files v.handles p n b firm
-  firm_after (Close number) refusal left out = closes number (kept_at v.handles number)
+  firm_after (Close number) refusal left out = firm_closed v.files v.handles number b firm
   firm_after (Through number ask) refusal left out = asks number (kept_at v.handles number) ask refusal refl out
-  firm_after (Finish number) refusal left out = finishes number (kept_at v.syncs number)
+  firm_after (Finish number) refusal left out = firm
   firm_after (Remove p n) refusal left out = removes p n refusal out
   firm_after (Scan p) refusal left out = firm
   firm_after Crash refusal left out = crashes refusal

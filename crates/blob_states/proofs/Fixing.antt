@@ -15,8 +15,9 @@ use Rattle.blob_model.proofs.Durables.{durable_published}
 use Rattle.blob_model.proofs.Persistence.{fixed_by_write, new_written, fixed_by_sync, fixed_by_start, fixed_by_open}
 use Rattle.blob_calls.specs.declared.reply.Reply.{Reply}
 use Rattle.blob_calls.specs.Acts.{Ask, Read, Write, Resize, Size, Sync, StartSync, AcceptedVersions, Act, Open, Through}
-use Rattle.blob_states.specs.After.{after, asked, begun, files_after, held_after, exclusively_opened}
-use Rattle.blob_states.specs.Answers.{asks_memory, Answers, IsAnswer, through, kept_at}
+use Rattle.blob_states.specs.After.{after, asked, files_after, held_after, exclusively_opened}
+use Rattle.blob_states.specs.Steps.{asks_memory, begun}
+use Rattle.blob_states.specs.Answers.{Answers, IsAnswer, through, kept_at}
 use Rattle.blob_states.specs.Denials.{write_denial, start_denial}
 use Rattle.blob_states.specs.Exclusive.{Sole}
 use Rattle.blob_states.specs.Fixed.{Byte, is_of, is_on, HasIn, HasDurably, Submits, FixesThrough, Fixes}

@@ -10,12 +10,13 @@ use Rattle.blob_model.specs.Places.{Place, same_place}
 use Rattle.blob_header.specs.Refusals.{Refusal, BlobAlreadyOpen}
 use Rattle.blob_model.proofs.FileSteps.{log_push_at, log_without, still_fresh, still_none}
 use Rattle.blob_faults.specs.Faults.{resize_fate}
-use Rattle.blob_faults.specs.Recorded.{recorded_write, recorded_resize}
+use Rattle.blob_faults.specs.Changes.{resize_changes}
+use Rattle.blob_faults.specs.Recorded.{recorded_write}
 use Rattle.blob_calls.specs.declared.call.Call.{Call}
 use Rattle.blob_calls.specs.declared.reply.Reply.{Reply}
 use Rattle.blob_calls.specs.Acts.{Ask, Read, Write, Resize, Size, Sync, StartSync, AcceptedVersions, Act, Configure, Open, OpenLoose, Admit, Close, Through, Finish, Remove, Scan, Crash, Reopen, act_of}
-use Rattle.blob_states.specs.After.{after, asked, begun, files_after, exclusively_opened, with_closed, with_finished}
-use Rattle.blob_states.specs.Steps.{loosely_opened, removal_step, crash_step}
+use Rattle.blob_states.specs.After.{after, asked, files_after, exclusively_opened}
+use Rattle.blob_states.specs.Steps.{begun, loosely_opened, removal_step, crash_step}
 use Rattle.blob_states.specs.Answers.{kept_at}
 use Rattle.blob_states.specs.Denials.{start_denial}
 use Rattle.blob_states.specs.Reached.{is_loose, NoneLoose, ReachedExclusively}
@@ -59,7 +60,7 @@ fresh_begun f h (Some refusal) fresh = fresh
 
 fresh_asked : (v : State) (h : Held) (ask : Ask) (refusal : Option Refusal) → h.place.number < v.files.directory.next → IsFresh v.files → IsFresh (files_after v h ask refusal)
 fresh_asked v h (Write offset bytes sync) refusal below fresh = fresh_all v.files h.place (recorded_write v.config v.files.next_write v.stream sync offset bytes refusal) below fresh
-fresh_asked v h (Resize len) refusal below fresh = fresh_all v.files h.place (recorded_resize (resize_fate v.config.resize_rate h.size len v.stream).0 len refusal) below fresh
+fresh_asked v h (Resize len) refusal below fresh = fresh_all v.files h.place ((resize_changes (resize_fate v.config.resize_rate h.size len v.stream).0 len refusal).entries v.files.next_write) below fresh
 fresh_asked v h Sync None below fresh = fresh_published v.files h.place h.live fresh
 fresh_asked v h Sync (Some refusal) below fresh = fresh
 fresh_asked v h StartSync None below fresh = fresh_begun v.files h (start_denial v h) fresh
@@ -83,14 +84,6 @@ module _ (v : State) (x : Exclusive v) (fresh : IsFresh v.files) where
   loosely p n versions None = fresh_opened v.files p n (opening p n (v.files.directory.file p n) versions.0 versions.1) fresh
   loosely p n versions (Some refusal) = fresh
 
-  closes : (number : ℕ) (slot : Option Held) → IsFresh (with_closed v number slot).files
-  closes number None = fresh
-  closes number (Some h) = fresh
-
-  finishes : (number : ℕ) (slot : Option Started) → IsFresh (with_finished v number slot).files
-  finishes number None = fresh
-  finishes number (Some s) = fresh
-
   removes : (p : List ℕ) (n : Option (List ℕ)) (refusal : Option Refusal) → IsFresh (removal_step v p n refusal).files
   removes p n None = fresh_removed v.files p n fresh
   removes p n (Some refusal) = fresh
@@ -106,9 +99,9 @@ module _ (v : State) (x : Exclusive v) (fresh : IsFresh v.files) where
   fresh_after (OpenLoose p n None) refusal left = fresh
   fresh_after (OpenLoose p n (Some versions)) refusal left = loosely p n versions refusal
   fresh_after (Admit p n) refusal left = fresh_admitted v.files p n fresh
-  fresh_after (Close number) refusal left = closes number (kept_at v.handles number)
+  fresh_after (Close number) refusal left = fresh
   fresh_after (Through number ask) refusal left = through number (kept_at v.handles number) ask refusal refl
-  fresh_after (Finish number) refusal left = finishes number (kept_at v.syncs number)
+  fresh_after (Finish number) refusal left = fresh
   fresh_after (Remove p n) refusal left = removes p n refusal
   fresh_after (Scan p) refusal left = fresh
   fresh_after Crash refusal left = crashes refusal

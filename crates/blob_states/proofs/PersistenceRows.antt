@@ -46,12 +46,12 @@ written = done (done (start [] (only (0 ∷ 18446744073709551615 ∷ [])) cleare
 
 -- a sync fixes what is live
 sync_fixes : Fixes written (Through 0 Sync) None (byte 0 97)
-unfolding recorded_write overlay_by resized
+unfolding overlay_by resized
 sync_fixes = (refl, (omega arith, refl))
 
 -- and so does a started one, at once, where its outcome is Ok
 start_fixes : Fixes written (Through 0 StartSync) None (byte 0 97)
-unfolding recorded_write overlay_by resized
+unfolding overlay_by resized
 start_fixes = (refl, refl, (omega arith, refl))
 
 -- but for the bytes that aren't there
@@ -64,23 +64,18 @@ synced = done (done written (Through 0 Sync)) (Configure halving)
 
 -- a write reaches the bytes of its range, whatever is answered, and a resize those from its length on
 write_reaches : reaches synced (Through 0 (Write 1 (88 ∷ 89 ∷ []) false)) None (byte 1 98) ≡ true
-unfolding recorded_write
 write_reaches = refl
 
 write_beside : reaches synced (Through 0 (Write 1 (88 ∷ 89 ∷ []) false)) None (byte 0 97) ≡ false
-unfolding recorded_write
 write_beside = refl
 
 resize_reaches : reaches synced (Through 0 (Resize 1)) None (byte 1 98) ≡ true
-unfolding recorded_write
 resize_reaches = refl
 
 resize_above : reaches synced (Through 0 (Resize 1)) None (byte 0 97) ≡ false
-unfolding recorded_write
 resize_above = refl
 
 failed_write_reaches : reaches synced (Through 0 (Write 1 (88 ∷ 89 ∷ []) false)) (Some Injected) (byte 1 98) ≡ true
-unfolding recorded_write
 failed_write_reaches = refl
 
 -- a removal reaches them all, where it is done
@@ -92,7 +87,6 @@ failed_removal_reaches_none = refl
 
 -- a stale handle reaches none
 stale_reaches_none : reaches (done (done synced (Remove partition (Some name))) opens) (Through 0 (Write 0 (88 ∷ []) false)) None (byte 0 97) ≡ false
-unfolding recorded_write
 stale_reaches_none = refl
 
 abbrev loosened : State
@@ -100,7 +94,7 @@ loosened = done synced (Through 0 (Write 1 (88 ∷ 89 ∷ []) false))
 
 -- a SYNC write fixes what it submits, and not the zeros before it
 sync_write_fixes : Fixes loosened (Through 0 (Write 4 (90 ∷ []) true)) None (byte 4 90)
-unfolding recorded_write sampled
+unfolding sampled
 sync_write_fixes = (refl, (omega arith, omega arith, refl))
 
 gap_isn't_fixed : Fixes loosened (Through 0 (Write 4 (90 ∷ []) true)) None (byte 3 0) → ⊥
@@ -111,12 +105,12 @@ abbrev kept : State
 kept = done (done (done (done loosened (Through 0 (Write 4 (90 ∷ []) true))) Crash) (Close 0)) opens
 
 reads : (answer kept (Through 1 (Read 0 5))).0 ≡ told.Bytes (97 ∷ 88 ∷ 99 ∷ 0 ∷ 90 ∷ [])
-unfolding recorded_write overlay_by resized front sampled next_u64 stream_of
+unfolding overlay_by resized front sampled next_u64 stream_of
 reads = refl
 
 -- the open fixes all that it finds durable
 open_fixes : Fixes (done (done (done loosened (Through 0 (Write 4 (90 ∷ []) true))) Crash) (Close 0)) opens None (byte 1 88)
-unfolding recorded_write overlay_by resized front sampled next_u64 stream_of
+unfolding overlay_by resized front sampled next_u64 stream_of
 open_fixes = (refl, (omega arith, refl))
 
 -- Why an open that isn't exclusive is left out: a byte that a SYNC write fixed changes by a sync through another handle, and
@@ -129,16 +123,14 @@ abbrev both : State
 both = done first (OpenLoose partition name (Some (0, 0)))
 
 second_fixes : Fixes both (Through 1 (Write 0 (98 ∷ []) true)) None (byte 0 98)
-unfolding recorded_write
 second_fixes = (refl, (omega arith, omega arith, refl))
 
 abbrev fixed : State
 fixed = done both (Through 1 (Write 0 (98 ∷ []) true))
 
 sync_reaches_none : reaches fixed (Through 0 Sync) None (byte 0 98) ≡ false
-unfolding recorded_write
 sync_reaches_none = refl
 
 changed_all_the_same : HasDurably (done fixed (Through 0 Sync)).files (byte 0 97)
-unfolding recorded_write overlay_by resized
+unfolding overlay_by resized
 changed_all_the_same = (omega arith, refl)

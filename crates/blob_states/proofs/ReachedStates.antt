@@ -19,13 +19,14 @@ use Rattle.blob_faults.specs.declared.config.Config.{Config}
 use Rattle.blob_calls.specs.declared.call.Call.{Call}
 use Rattle.blob_calls.specs.declared.reply.Reply.{Reply}
 use Rattle.blob_calls.specs.Acts.{Ask, Size, Act, Configure, Open, OpenLoose, Admit, Close, Through, Finish, Remove, Scan, Crash, Reopen, act_of}
-use Rattle.blob_states.specs.After.{after, asked, files_after, held_after, with_closed, with_finished}
+use Rattle.blob_states.specs.After.{after, asked, files_after, held_after}
+use Rattle.blob_states.specs.Steps.{with_images}
 use Rattle.blob_states.specs.Answers.{Answers, IsAnswer, answer, through, may_grow, kept_at}
 use Rattle.blob_opens.specs.OpenNames.{Registration}
 use Rattle.blob_states.specs.Reached.{Reached}
 use Rattle.blob_states.specs.Runs.{LeadsTo}
 use Rattle.blob_states.specs.Scripted.{Words}
-use Rattle.blob_states.specs.States.{State, Held, Started, Image, empty_directory, with_image, with_images, start, held_on}
+use Rattle.blob_states.specs.States.{State, Held, Started, Image, empty_directory, with_image, start, held_on}
 use Rattle.blob_calls.specs.Told as told
 use Rattle.blob_calls.specs.Told.{refused_by}
 use Rattle.blob_states.proofs.Exclusive.{current_of, exclusive_start}
@@ -179,13 +180,11 @@ module _ (v : State) (rest : Stream) (h : Holds v) where
   holds_crashed None = holds_same v (after v Crash None rest) h (ages v Crash None rest) h.valid refl
   holds_crashed (Some refusal) = holds_same v (after v Crash (Some refusal) rest) h (ages v Crash (Some refusal) rest) h.valid refl
 
-  closed_at : (number : ℕ) (slot : Option Held) → Holds (record (with_closed v number slot) { stream = rest })
-  closed_at number None = record { valid = h.valid; given = h.given; handles = h.handles }
-  closed_at number (Some held) = record { valid = h.valid; given = h.given; handles = All-set (Slot d) v.handles number None tt h.handles }
+  closed_at : (number : ℕ) (refusal : Option Refusal) → Holds (after v (Close number) refusal rest)
+  closed_at number refusal = record { valid = h.valid; given = h.given; handles = All-set (Slot d) v.handles number None tt h.handles }
 
-  finished_at : (number : ℕ) (slot : Option Started) → Holds (record (with_finished v number slot) { stream = rest })
-  finished_at number None = record { valid = h.valid; given = h.given; handles = h.handles }
-  finished_at number (Some s) = record { valid = h.valid; given = h.given; handles = h.handles }
+  finished_at : (number : ℕ) (refusal : Option Refusal) → Holds (after v (Finish number) refusal rest)
+  finished_at number refusal = record { valid = h.valid; given = h.given; handles = h.handles }
 
   -- what is asked through a handle changes that handle alone
   asked_at : (number : ℕ) (slot : Option Held) (ask : Ask) (grows : Bool) (reply : Reply) (left : Stream) → IfSome slot (IsTracked d) → IsAnswer grows (through v slot ask) reply left
@@ -214,10 +213,10 @@ holds_after v (OpenLoose p n (Some versions)) reply left h a = holds_loose v lef
 holds_after v (Admit p n) reply left h a =
     holds_same v (after v (Admit p n) (refused_by reply) left) h (ages v (Admit p n) (refused_by reply) left)
     (valid_by v.files.directory (admitted v.files p n).directory (admitted_directory v.files p n) h.valid) refl
-holds_after v (Close number) reply left h a = closed_at v left h number (kept_at v.handles number)
+holds_after v (Close number) reply left h a = closed_at v left h number (refused_by reply)
 holds_after v (Through number ask) reply left h a =
     asked_at v left h number (kept_at v.handles number) ask (may_grow v (Through number ask)) reply left (kept_tracked v.files.directory v.handles number h.handles) a
-holds_after v (Finish number) reply left h a = finished_at v left h number (kept_at v.syncs number)
+holds_after v (Finish number) reply left h a = finished_at v left h number (refused_by reply)
 holds_after v (Remove p n) reply left h a = holds_removed v left h p n (refused_by reply)
 holds_after v (Scan p) reply left h a = holds_same v (after v (Scan p) (refused_by reply) left) h (ages v (Scan p) (refused_by reply) left) h.valid refl
 holds_after v Crash reply left h a = holds_crashed v left h (refused_by reply)

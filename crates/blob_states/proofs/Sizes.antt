@@ -10,7 +10,8 @@ use Rattle.blob_model.specs.Places.{Place}
 use Rattle.blob_header.specs.Refusals.{Refusal, BlobMissing, Injected, OffsetOverflow, GenerationsExhausted}
 use Rattle.blob_model.specs.Runs.{Run, runs}
 use Rattle.blob_faults.specs.Answers.{lacks_number, last_end}
-use Rattle.blob_faults.specs.Faults.{WriteFate, Done, Unsynced, Failed, write_fate, resize_fate, retention, has_uncounted_end}
+use Rattle.blob_faults.specs.Fates.{has_uncounted_end}
+use Rattle.blob_faults.specs.Faults.{WriteFate, Idle, Uncounted, Done, Unsynced, Failed, write_fate, resize_fate, retention}
 use Rattle.blob_faults.proofs.Sizes.{sized_after_write, sized_after_resize}
 use Rattle.blob_memory.specs.Answers.{write_refusal, end_refusal, sync_refusal, missing}
 use Rattle.blob_memory.specs.Answers as memory
@@ -18,7 +19,8 @@ use Rattle.blob_calls.specs.declared.reply.Reply.{Reply}
 use Rattle.blob_calls.specs.Acts.{Ask, Read, Write, Resize, Size, Sync, StartSync}
 use Rattle.blob_states.specs.After.{held_after}
 use Rattle.blob_states.specs.Answers.{IsAnswer, unless_denied, through}
-use Rattle.blob_states.specs.Denials.{refused_if, or_injected, runs_denial, fate_denial, write_denial}
+use Rattle.blob_states.specs.Steps.{or_injected}
+use Rattle.blob_states.specs.Denials.{refused_if, runs_denial, fate_denial, write_denial}
 use Rattle.blob_states.specs.States.{State, Held}
 use Rattle.blob_calls.specs.Told as told
 use Rattle.blob_calls.specs.Told.{refused_by}
@@ -64,6 +66,8 @@ module _ (d : Directory) (o : Place) (now : is_current d o ≡ true) where
   runs_there (r ∷ rs) = then_there (option_or (end_refusal o (last_end 0 (r ∷ rs))) (sync_refusal d o)) (Some Injected) (then_there (end_refusal o (last_end 0 (r ∷ rs))) (sync_refusal d o) (end_there (last_end 0 (r ∷ rs))) sync_there) refl
 
   fate_there : (fate : WriteFate) (retained : Bool) (next : ℕ) (sync : Bool) (offset : ℕ) (bytes : List ℕ) → is_missing (fate_denial fate d o retained next sync offset bytes) ≡ false
+  fate_there Idle retained next sync offset bytes = refl
+  fate_there Uncounted retained next sync offset bytes = refl
   fate_there Done retained next true offset bytes = write_there offset bytes true
   fate_there Done retained next false offset bytes = then_there (refused_if GenerationsExhausted (lacks_number retained next bytes)) (write_refusal d o offset bytes false) (exhausted_there (lacks_number retained next bytes)) (write_there offset bytes false)
   fate_there Unsynced retained next sync offset bytes =
@@ -72,14 +76,7 @@ module _ (d : Directory) (o : Place) (now : is_current d o ≡ true) where
   fate_there (Failed chosen) retained next sync offset bytes = runs_there (runs offset bytes chosen)
 
 denial_there : (v : State) (h : Held) (offset : ℕ) (bytes : List ℕ) (sync : Bool) → is_current v.files.directory h.place ≡ true → is_missing (write_denial v h offset bytes sync) ≡ false
-denial_there v h offset bytes sync now = go (is_idle sync bytes) (has_uncounted_end offset bytes) where
-  denial : Option Refusal
-  denial = fate_denial (write_fate v.config sync offset (length bytes) v.stream).0 v.files.directory h.place (is_some (retention v.config.write_rate)) v.files.next_write sync offset bytes
-
-  go : (nothing uncounted : Bool) → is_missing (if nothing then None else if uncounted then Some OffsetOverflow else denial) ≡ false
-  go true uncounted = refl
-  go false true = refl
-  go false false = fate_there v.files.directory h.place now (write_fate v.config sync offset (length bytes) v.stream).0 (is_some (retention v.config.write_rate)) v.files.next_write sync offset bytes
+denial_there v h offset bytes sync now = fate_there v.files.directory h.place now (write_fate v.config sync offset bytes v.stream).0 (is_some (retention v.config.write_rate)) v.files.next_write sync offset bytes
 
 reply_there : (r : Reply) (denial : Option Refusal) (grows : Bool) (left expected : Stream) → is_missing denial ≡ false → IsAnswer grows (unless_denied denial told.Done, expected) r left → is_missing (refused_by r) ≡ false
 reply_there r denial grows left expected there (inl m) = ap is_missing m.1

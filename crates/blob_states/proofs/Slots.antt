@@ -1,5 +1,5 @@
 -- What a slot of a table holds after one is made new or added.
-use Rattle.std.proofs.Common.{◌≡◌, ℕ, zero, suc, ◌++◌, ◌⊎◌, inl, inr, List, [], ◌∷◌, set, length, Option, Some, None, refl, ap, ⊎_elim, arith}
+use Rattle.std.proofs.Common.{◌≡◌, ℕ, zero, suc, ◌++◌, ◌⊎◌, inl, inr, List, [], ◌∷◌, set, length, Option, Some, None, refl, sym, ap, ⊎_elim, arith}
 use Rattle.std.proofs.lemmas.Option.{none-some}
 use Rattle.blob_states.specs.Answers.{kept_at}
 
@@ -35,3 +35,9 @@ kept_emptied slots number i x here =
     (λ (new : (number ≡ i) × (None ≡ Some x)). absurd (none-some x new.1))
     (λ (old : (number ≡ i → ⊥) × (kept_at slots i ≡ Some x)). old)
     (kept_set slots number None i x here)
+
+-- one where nothing is
+pub emptied_again : {X : Type 0} (slots : List (Option X)) (number : ℕ) → kept_at slots number ≡ None → set slots number None ≡ slots
+emptied_again [] number gone = refl
+emptied_again (y ∷ slots) zero gone = ap (λ slot. slot ∷ slots) (sym gone)
+emptied_again (y ∷ slots) (suc number) gone = ap (λ rest. y ∷ rest) (emptied_again slots number gone)

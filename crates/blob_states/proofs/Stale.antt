@@ -13,15 +13,16 @@ use Rattle.blob_model.specs.Opening.{Opening, Continues, Begins, Declines, openi
 use Rattle.blob_model.specs.Places.{Place, same_place}
 use Rattle.blob_header.specs.Refusals.{Refusal, BlobAlreadyOpen, GenerationsExhausted, Injected}
 use Rattle.blob_faults.specs.Faults.{draw, resize_fate}
-use Rattle.blob_faults.specs.Recorded.{recorded_write, recorded_resize}
+use Rattle.blob_faults.specs.Changes.{resize_changes}
+use Rattle.blob_faults.specs.Recorded.{recorded_write}
 use Rattle.blob_memory.specs.Answers.{missing, sync_refusal}
 use Rattle.blob_model.specs.SamePlace.{parts, same_place_exact}
 use Rattle.blob_model.proofs.Durables.{others_logged, others_published}
 use Rattle.blob_calls.specs.Acts.{Ask, Read, Write, Resize, Size, Sync, StartSync, Act, Configure, Open, OpenLoose, Admit, Close, Through, Finish, Remove, Scan, Crash, Reopen}
-use Rattle.blob_states.specs.After.{after, asked, begun, files_after, held_after, with_closed, with_finished, exclusively_opened}
-use Rattle.blob_states.specs.Steps.{removal_step as removal, crash_step, loosely_opened}
+use Rattle.blob_states.specs.After.{after, asked, files_after, held_after, exclusively_opened}
+use Rattle.blob_states.specs.Steps.{begun, sync_denial, removal_step as removal, crash_step, loosely_opened}
 use Rattle.blob_states.specs.Answers.{kept_at}
-use Rattle.blob_states.specs.Denials.{refused_if, start_denial, sync_denial}
+use Rattle.blob_states.specs.Denials.{refused_if, start_denial}
 use Rattle.blob_states.specs.States.{State, Held, Started}
 
 -- each current incarnation has a number that was given
@@ -124,7 +125,7 @@ begun_directory f h (Some refusal) = refl
 
 pub asked_directory : (v : State) (h : Held) (ask : Ask) (refusal : Option Refusal) → (files_after v h ask refusal).directory ≡ v.files.directory
 asked_directory v h (Write offset bytes sync) refusal = logged_directory v.files h.place (recorded_write v.config v.files.next_write v.stream sync offset bytes refusal)
-asked_directory v h (Resize len) refusal = logged_directory v.files h.place (recorded_resize (resize_fate v.config.resize_rate h.size len v.stream).0 len refusal)
+asked_directory v h (Resize len) refusal = logged_directory v.files h.place ((resize_changes (resize_fate v.config.resize_rate h.size len v.stream).0 len refusal).entries v.files.next_write)
 asked_directory v h Sync None = refl
 asked_directory v h Sync (Some refusal) = refl
 asked_directory v h StartSync None = begun_directory v.files h (start_denial v h)
@@ -151,14 +152,6 @@ loose_ages : (v : State) (p n : List ℕ) (versions : ℕ × ℕ) (refusal : Opt
 loose_ages v p n versions None = open_ages v.files p n versions.0 versions.1
 loose_ages v p n versions (Some refusal) = same_age v.files.directory
 
-closed_ages : (v : State) (number : ℕ) (slot : Option Held) → Ages v.files.directory (with_closed v number slot).files.directory
-closed_ages v number None = same_age v.files.directory
-closed_ages v number (Some h) = same_age v.files.directory
-
-finished_ages : (v : State) (number : ℕ) (slot : Option Started) → Ages v.files.directory (with_finished v number slot).files.directory
-finished_ages v number None = same_age v.files.directory
-finished_ages v number (Some s) = same_age v.files.directory
-
 removal_ages : (v : State) (p : List ℕ) (n : Option (List ℕ)) (refusal : Option Refusal) → Ages v.files.directory (removal v p n refusal).files.directory
 removal_ages v p n None = removed_ages v.files.directory p n
 removal_ages v p n (Some refusal) = same_age v.files.directory
@@ -174,9 +167,9 @@ ages v (Open p n (Some versions)) refusal rest = exclusive_ages v p n versions r
 ages v (OpenLoose p n None) refusal rest = same_age v.files.directory
 ages v (OpenLoose p n (Some versions)) refusal rest = loose_ages v p n versions refusal
 ages v (Admit p n) refusal rest = admitted_ages v.files.directory v.files p n (same_age v.files.directory)
-ages v (Close number) refusal rest = closed_ages v number (kept_at v.handles number)
+ages v (Close number) refusal rest = same_age v.files.directory
 ages v (Through number ask) refusal rest = through_ages v number (kept_at v.handles number) ask refusal
-ages v (Finish number) refusal rest = finished_ages v number (kept_at v.syncs number)
+ages v (Finish number) refusal rest = same_age v.files.directory
 ages v (Remove p n) refusal rest = removal_ages v p n refusal
 ages v (Scan p) refusal rest = same_age v.files.directory
 ages v Crash refusal rest = crash_ages v refusal
@@ -193,7 +186,7 @@ other_begun f h (Some refusal) a other = refl
 
 pub other_asked : (v : State) (h : Held) (ask : Ask) (refusal : Option Refusal) (a : Place) → same_place h.place a ≡ false → durable_at (files_after v h ask refusal) a ≡ durable_at v.files a
 other_asked v h (Write offset bytes sync) refusal a other = other_logged v.files h.place a (recorded_write v.config v.files.next_write v.stream sync offset bytes refusal) other
-other_asked v h (Resize len) refusal a other = other_logged v.files h.place a (recorded_resize (resize_fate v.config.resize_rate h.size len v.stream).0 len refusal) other
+other_asked v h (Resize len) refusal a other = other_logged v.files h.place a ((resize_changes (resize_fate v.config.resize_rate h.size len v.stream).0 len refusal).entries v.files.next_write) other
 other_asked v h Sync None a other = (others_published v.files h.place h.live a other).0
 other_asked v h Sync (Some refusal) a other = refl
 other_asked v h StartSync None a other = other_begun v.files h (start_denial v h) a other

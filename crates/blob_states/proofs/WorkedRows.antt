@@ -57,10 +57,10 @@ live_read = refl
 
 -- the pending write is drawn for, with one choice a byte
 crash_draws : (answer written Crash).0 ≡ told.Crashed ((0, true ∷ true ∷ true ∷ []) ∷ [])
-unfolding front sampled recorded_write
+unfolding front sampled
 crash_draws = refl
 
 -- after the crash it is laid under the SYNC write
 crash_leaves : (answer (done (done (done written Crash) Reopen) opens) (Through 1 (Read 0 3))).0 ≡ told.Bytes (97 ∷ 88 ∷ 99 ∷ [])
-unfolding front sampled recorded_write overlay_by resized resolution region is_torn page_tests crc32c low_bits with_bit
+unfolding front sampled overlay_by resized resolution region is_torn page_tests crc32c low_bits with_bit
 crash_leaves = refl

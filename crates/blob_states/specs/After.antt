@@ -1,12 +1,13 @@
 -- What a call leaves of a laboratory, by what it refused.
-use Rattle.std.specs.Prelude.{ℕ, List, [], ◌∷◌, ◌++◌, map, set, Option, Some, None, option_map}
+use Rattle.std.specs.Prelude.{ℕ, List, [], ◌∷◌, ◌++◌, map, set, Option, Some, None, option_map, option_and_then}
+use Rattle.std.specs.Option.{option_map_or}
 use Rattle.rand_core.specs.Stream.{Stream}
 use Rattle.blob_model.specs.Directory.{current}
 use Rattle.blob_model.specs.Draws.{chosen_by, drawn}
 use Rattle.blob_model.specs.Files.{Files, all_logged, started, admitted, after_open, after_remove, after_crash, reopened, all_needs, published}
 use Rattle.blob_header.specs.Refusals.{Refusal, BlobAlreadyOpen}
-use Rattle.blob_faults.specs.Faults.{resize_fate}
-use Rattle.blob_faults.specs.Recorded.{recorded_write, recorded_resize, live_of_write, live_of_resize, size_of_write, size_of_resize}
+use Rattle.blob_faults.specs.Changes.{Changes, laying, write_changes, resize_changes}
+use Rattle.blob_faults.specs.Faults.{retention, write_fate, resize_fate}
 use Rattle.blob_calls.specs.Acts.{Ask, Write, Resize, Sync, StartSync, AcceptedVersions, Act, Configure, Open, OpenLoose, Admit, Close, Through, Finish, Remove, Crash, Reopen}
 use Rattle.blob_states.specs.Answers.{kept_at}
 use Rattle.blob_states.specs.Denials.{start_denial}
@@ -16,28 +17,19 @@ use Rattle.blob_states.specs.States.{State, Held, Started, held_on}
 
 -- Through a handle.
 
--- a started sync with this outcome
-abbrev pub begun : Files → Held → Option Refusal → Files
-begun f h None = started f h.place h.live
-begun f h (Some refusal) = f
+-- what it adds to the log of the handle's incarnation, and makes of the handle
+abbrev pub ask_changes : State → Held → Ask → Option Refusal → Changes
+ask_changes v h (Write offset bytes sync) refusal = write_changes (write_fate v.config sync offset bytes v.stream).0 (retention v.config.write_rate) sync offset bytes refusal
+ask_changes v h (Resize len) refusal = resize_changes (resize_fate v.config.resize_rate h.size len v.stream).0 len refusal
+ask_changes v h ask refusal = laying [] (λ number. [])
 
 abbrev pub files_after : State → Held → Ask → Option Refusal → Files
-files_after v h (Write offset bytes sync) refusal = all_logged v.files h.place (recorded_write v.config v.files.next_write v.stream sync offset bytes refusal)
-files_after v h (Resize len) refusal = all_logged v.files h.place (recorded_resize (resize_fate v.config.resize_rate h.size len v.stream).0 len refusal)
 files_after v h Sync None = published v.files h.place h.live
-files_after v h StartSync None = begun v.files h (start_denial v h)
-files_after v h ask refusal = v.files
+files_after v h StartSync None = elim (start_denial v h) [ None ↦ started v.files h.place h.live | Some refusal ↦ v.files ]
+files_after v h ask refusal = all_logged v.files h.place ((ask_changes v h ask refusal).entries v.files.next_write)
 
 abbrev pub held_after : State → Held → Ask → Option Refusal → Held
-held_after v h (Write offset bytes sync) refusal = record h {
-  live = live_of_write v.config v.stream sync h.live offset bytes refusal;
-  size = size_of_write v.config v.stream sync h.size offset bytes refusal;
-}
-held_after v h (Resize len) refusal = record h {
-  live = live_of_resize (resize_fate v.config.resize_rate h.size len v.stream).0 h.live len refusal;
-  size = size_of_resize (resize_fate v.config.resize_rate h.size len v.stream).0 h.size len refusal;
-}
-held_after v h ask refusal = h
+held_after v h ask refusal = let changes = ask_changes v h ask refusal in record h { live = changes.live h.live; size = changes.size h.size }
 
 abbrev pub syncs_after : State → Held → Ask → Option Refusal → List (Option Started)
 syncs_after v h StartSync None = v.syncs ++ Some (record { outcome = start_denial v h }) ∷ []
@@ -45,11 +37,9 @@ syncs_after v h ask refusal = v.syncs
 
 abbrev pub asked : State → ℕ → Option Held → Ask → Option Refusal → State
 asked v number None ask refusal = v
-asked v number (Some h) ask refusal = record v {
-  files = files_after v h ask refusal;
-  handles = set v.handles number (Some (held_after v h ask refusal));
-  syncs = syncs_after v h ask refusal;
-}
+asked v number (Some h) ask refusal =
+    let handles = set v.handles number (Some (held_after v h ask refusal)) in
+    record v { files = files_after v h ask refusal; handles = handles; syncs = syncs_after v h ask refusal }
 
 -- Opens.
 
@@ -66,18 +56,6 @@ exclusively_opened v p n versions (Some refusal) = v
 
 -- Any call.
 
-abbrev pub unregistered : OpenNames → Option Registration → OpenNames
-unregistered s None = s
-unregistered s (Some registration) = names.closed s registration
-
-abbrev pub with_closed : State → ℕ → Option Held → State
-with_closed v number None = v
-with_closed v number (Some h) = record v { names = unregistered v.names h.registration; handles = set v.handles number None }
-
-abbrev pub with_finished : State → ℕ → Option Started → State
-with_finished v number None = v
-with_finished v number (Some s) = record v { syncs = set v.syncs number None }
-
 -- but for the generator. A crash keeps what is drawn. In a rebuilt store all names are closed and all started syncs dropped;
 -- numbers aren't given again, and handles stay
 abbrev pub changed : State → Act → Option Refusal → State
@@ -85,9 +63,11 @@ changed v (Configure config) refusal = record v { config = config }
 changed v (Open p n (Some versions)) refusal = exclusively_opened v p n versions refusal
 changed v (OpenLoose p n (Some versions)) None = with_held v p n (after_open v.files p n versions.0 versions.1) None
 changed v (Admit p n) refusal = record v { files = admitted v.files p n }
-changed v (Close number) refusal = with_closed v number (kept_at v.handles number)
+changed v (Close number) refusal =
+    let registration = option_and_then (λ h. h.registration) (kept_at v.handles number) in
+    record v { names = option_map_or (names.closed v.names) registration v.names; handles = set v.handles number None }
 changed v (Through number ask) refusal = asked v number (kept_at v.handles number) ask refusal
-changed v (Finish number) refusal = with_finished v number (kept_at v.syncs number)
+changed v (Finish number) refusal = record v { syncs = set v.syncs number None }
 changed v (Remove p n) None = record v { files = after_remove v.files p n; names = names.ended v.names p n }
 changed v Crash None = record v { files = after_crash v.files (chosen_by (drawn v.stream (all_needs v.files.log)).0) }
 changed v Reopen refusal = record v { files = reopened v.files; names = none_open v.names.next; syncs = map (λ slot. None) v.syncs }

@@ -4,14 +4,15 @@ use Rattle.std.specs.Option.{option_or}
 use Rattle.rand_core.specs.Stream.{Stream}
 use Rattle.blob_model.specs.Draws.{drawn}
 use Rattle.blob_model.specs.Files.{Files, all_needs, durable_at}
+use Rattle.blob_model.specs.Rates.{Rate}
 use Rattle.blob_model.specs.Opening.{Opening, Continues, Begins, Declines, opening, place_of}
 use Rattle.blob_header.specs.Refusals.{Refusal, Memory, Injected}
-use Rattle.blob_faults.specs.Faults.{draw, after_write, resize_fate}
+use Rattle.blob_faults.specs.Faults.{draw, write_fate, resize_fate}
 use Rattle.blob_calls.specs.declared.reply.Reply.{Reply}
 use Rattle.blob_calls.specs.Acts.{Ask, Read, Write, Resize, Size, Sync, StartSync, AcceptedVersions, Act, Configure, Open, OpenLoose, Admit, Close, Through, Finish, Remove, Scan, Crash, Reopen}
-use Rattle.blob_states.specs.Denials.{refused_if, is_unnumbered, write_denial, reaching_denial, sync_denial, open_denial, loose_denial, remove_denial, scan_denial}
+use Rattle.blob_states.specs.Denials.{refused_if, is_unnumbered, write_denial, reaching_denial, open_denial}
 use Rattle.blob_states.specs.States.{State, Held}
-use Rattle.blob_memory.specs.Answers.{read_refusal}
+use Rattle.blob_memory.specs.Answers.{read_refusal, sync_refusal, open_refusal, partition_refusal, remove_refusal}
 use Rattle.blob_calls.specs.Told as told
 use Rattle.blob_calls.specs.Told.{Told, Tells, refused_by}
 
@@ -19,6 +20,11 @@ use Rattle.blob_calls.specs.Told.{Told, Tells, refused_by}
 abbrev pub unless_denied : Option Refusal → Told → Told
 unless_denied None otherwise = otherwise
 unless_denied (Some refusal) otherwise = told.Failed refusal
+
+-- of a call that draws one rate: injected where the draw is true, else the refusal, or with none this; and what is left of the stream
+abbrev pub unless_drawn : Stream → Option Rate → Option Refusal → Told → Told × Stream
+unless_drawn stream rate refusal otherwise =
+    let d = draw rate stream in (unless_denied (option_or (refused_if Injected d.0) refusal) otherwise, d.1)
 
 -- what is there of a number
 abbrev pub kept_at : {X : Type 0} → List (Option X) → ℕ → Option X
@@ -29,15 +35,13 @@ kept_at slots number = option_and_then (λ slot. slot) (slice_get slots number)
 -- what is told, and what is left of the stream. The outcome of a started sync is told when it is finished
 abbrev pub through : State → Option Held → Ask → Told × Stream
 through v None ask = (told.NoHandle, v.stream)
-through v (Some h) (Read offset len) =
-    let d = draw v.config.read_rate v.stream in
-    (unless_denied (option_or (refused_if Injected d.0) (read_refusal h.place h.live offset len)) (told.Bytes (take len (drop offset h.live))), d.1)
-through v (Some h) (Write offset bytes sync) = (unless_denied (write_denial v h offset bytes sync) told.Done, after_write v.config sync offset bytes v.stream)
+through v (Some h) (Read offset len) = unless_drawn v.stream v.config.read_rate (read_refusal h.place h.live offset len) (told.Bytes (take len (drop offset h.live)))
+through v (Some h) (Write offset bytes sync) = (unless_denied (write_denial v h offset bytes sync) told.Done, (write_fate v.config sync offset bytes v.stream).1)
 through v (Some h) (Resize len) =
     let d = resize_fate v.config.resize_rate h.size len v.stream in
     (unless_denied (reaching_denial d.0 h.place len) told.Done, d.1)
 through v (Some h) Size = (told.Size h.size, v.stream)
-through v (Some h) Sync = (unless_denied (sync_denial v h) told.Done, (draw v.config.sync_rate v.stream).1)
+through v (Some h) Sync = unless_drawn v.stream v.config.sync_rate (sync_refusal v.files.directory h.place) told.Done
 through v (Some h) StartSync = (told.Started (length v.syncs), (draw v.config.sync_rate v.stream).1)
 
 -- An open.
@@ -68,34 +72,27 @@ answer v (Configure config) = (told.Done, v.stream)
 answer v (Open p n None) = (told.EmptyRange, v.stream)
 answer v (Open p n (Some versions)) = (unless_denied (open_denial v p n versions.0 versions.1) (told_opened v p n versions), if is_unnumbered v.names p n then v.stream else (draw v.config.open_rate v.stream).1)
 answer v (OpenLoose p n None) = (told.EmptyRange, v.stream)
-answer v (OpenLoose p n (Some versions)) = (unless_denied (loose_denial v p n versions.0 versions.1) (told_opened v p n versions), (draw v.config.open_rate v.stream).1)
+answer v (OpenLoose p n (Some versions)) = unless_drawn v.stream v.config.open_rate (open_refusal v.files.directory p n versions.0 versions.1) (told_opened v p n versions)
 answer v (Admit p n) = (told.Done, v.stream)
 answer v (Close number) = (elim (kept_at v.handles number) [ None ↦ told.NoHandle | Some h ↦ told.Done ], v.stream)
 answer v (Through number ask) = through v (kept_at v.handles number) ask
 answer v (Finish number) = (elim (kept_at v.syncs number) [ None ↦ told.NoHandle | Some s ↦ unless_denied s.outcome told.Done ], v.stream)
-answer v (Remove p n) = (unless_denied (remove_denial v p n) told.Done, (draw v.config.remove_rate v.stream).1)
-answer v (Scan p) = (unless_denied (scan_denial v p) (told.Names (λ n. is_some (v.files.directory.file p n))), (draw v.config.scan_rate v.stream).1)
+answer v (Remove p n) = unless_drawn v.stream v.config.remove_rate (remove_refusal v.files.directory p n) told.Done
+answer v (Scan p) = unless_drawn v.stream v.config.scan_rate (partition_refusal v.files.directory p) (told.Names (λ n. is_some (v.files.directory.file p n)))
 answer v Crash = let d = drawn v.stream (all_needs v.files.log) in (told.Crashed d.0, d.1)
 answer v Reopen = (told.Done, v.stream)
 
 -- whether what is asked through a handle may want memory: a number without a handle never does
-abbrev pub asks_memory : Ask → Option Held → Bool
-asks_memory Size slot = false
-asks_memory ask slot = is_some slot
-
 -- whether a call may want memory that can't be had
 abbrev pub may_grow : State → Act → Bool
-may_grow v (Configure config) = false
 may_grow v (Open p n versions) = is_some versions
 may_grow v (OpenLoose p n versions) = is_some versions
-may_grow v (Admit p n) = false
-may_grow v (Close number) = false
-may_grow v (Through number ask) = asks_memory ask (kept_at v.handles number)
-may_grow v (Finish number) = false
+may_grow v (Through number Size) = false
+may_grow v (Through number ask) = is_some (kept_at v.handles number)
 may_grow v (Remove p n) = true
 may_grow v (Scan p) = true
 may_grow v Crash = true
-may_grow v Reopen = false
+may_grow v act = false
 
 -- A reply that may be given, with what is left of the stream: the answer, or, where the call may grow, that there is no
 -- memory. Then any draws may have been made.

@@ -8,42 +8,39 @@ use Rattle.blob_header.specs.Refusals.{Refusal, OffsetOverflow, BlobAlreadyOpen,
 pub use Rattle.blob_header.specs.Refusals.{refused_if}
 use Rattle.blob_model.specs.Runs.{Run, runs}
 use Rattle.blob_faults.specs.Answers.{lacks_number, last_end}
-use Rattle.blob_faults.specs.Faults.{WriteFate, Done, Unsynced, Failed, ResizeFate, Resizes, Stays, Reaches, draw, retention, by_fate}
-use Rattle.blob_memory.specs.Answers.{write_refusal, end_refusal, sync_refusal, open_refusal, partition_refusal, remove_refusal}
+use Rattle.blob_faults.specs.Faults.{WriteFate, Idle, Uncounted, Done, Unsynced, Failed, ResizeFate, Resizes, Stays, Reaches, draw, retention, write_fate}
+use Rattle.blob_memory.specs.Answers.{write_refusal, end_refusal, sync_refusal, open_refusal}
 use Rattle.blob_opens.specs.OpenNames.{OpenNames}
 use Rattle.blob_states.specs.States.{State, Held}
 
--- a call that fails, unless the store refuses what it does of it
-abbrev pub or_injected : Option Refusal → Option Refusal
-or_injected refusal = option_or refusal (Some Injected)
 
 -- Writes.
 
 -- of a failed write's kept runs: all of them have to be counted, and they are laid by a current handle alone
 abbrev pub runs_denial : Directory → Place → List Run → Option Refusal
 runs_denial d o [] = Some Injected
-runs_denial d o (r ∷ rs) = or_injected (option_or (end_refusal o (last_end 0 (r ∷ rs))) (sync_refusal d o))
+runs_denial d o (r ∷ rs) = option_or (option_or (end_refusal o (last_end 0 (r ∷ rs))) (sync_refusal d o)) (Some Injected)
 
 -- by what the draws of the write come to
 abbrev pub fate_denial : WriteFate → Directory → Place → Bool → ℕ → Bool → ℕ → List ℕ → Option Refusal
+fate_denial Idle d o retained next sync offset bytes = None
+fate_denial Uncounted d o retained next sync offset bytes = Some OffsetOverflow
 fate_denial Done d o retained next true offset bytes = write_refusal d o offset bytes true
 fate_denial Done d o retained next false offset bytes = option_or (refused_if GenerationsExhausted (lacks_number retained next bytes)) (write_refusal d o offset bytes false)
-fate_denial Unsynced d o retained next sync offset bytes = option_or (refused_if GenerationsExhausted (lacks_number retained next bytes)) (or_injected (write_refusal d o offset bytes false))
+fate_denial Unsynced d o retained next sync offset bytes = option_or (refused_if GenerationsExhausted (lacks_number retained next bytes)) (option_or (write_refusal d o offset bytes false) (Some Injected))
 fate_denial (Failed chosen) d o retained next sync offset bytes = runs_denial d o (runs offset bytes chosen)
 
 abbrev pub write_denial : State → Held → ℕ → List ℕ → Bool → Option Refusal
-write_denial v h offset bytes sync = by_fate v.config sync offset bytes v.stream None (Some OffsetOverflow)
-    (λ d. fate_denial d.0 v.files.directory h.place (is_some (retention v.config.write_rate)) v.files.next_write sync offset bytes)
+write_denial v h offset bytes sync =
+    let fate = (write_fate v.config sync offset bytes v.stream).0 in
+    fate_denial fate v.files.directory h.place (is_some (retention v.config.write_rate)) v.files.next_write sync offset bytes
 
 -- The other calls through a handle.
 
 abbrev pub reaching_denial : ResizeFate → Place → ℕ → Option Refusal
 reaching_denial (Resizes survives) o len = end_refusal o len
 reaching_denial Stays o len = Some Injected
-reaching_denial (Reaches size) o len = or_injected (end_refusal o size)
-
-abbrev pub sync_denial : State → Held → Option Refusal
-sync_denial v h = option_or (refused_if Injected (draw v.config.sync_rate v.stream).0) (sync_refusal v.files.directory h.place)
+reaching_denial (Reaches size) o len = option_or (end_refusal o size) (Some Injected)
 
 -- a started sync wants a number for its marker
 abbrev pub start_denial : State → Held → Option Refusal
@@ -60,14 +57,8 @@ is_unnumbered names p n = is_none (names.registered p n) && (names.next == 2 ^ 6
 
 -- of a name that is open, which is told after the store's open
 abbrev pub open_already : OpenNames → List ℕ → List ℕ → Option Refusal
-open_already names p n = if is_some (names.registered p n) then Some (BlobAlreadyOpen p (encode_lower n)) else None
+open_already names p n = refused_if (BlobAlreadyOpen p (encode_lower n)) (is_some (names.registered p n))
 
 abbrev pub open_denial : State → List ℕ → List ℕ → ℕ → ℕ → Option Refusal
 open_denial v p n first last =
     option_or (refused_if GenerationsExhausted (is_unnumbered v.names p n)) (option_or (loose_denial v p n first last) (open_already v.names p n))
-
-abbrev pub remove_denial : State → List ℕ → Option (List ℕ) → Option Refusal
-remove_denial v p n = option_or (refused_if Injected (draw v.config.remove_rate v.stream).0) (remove_refusal v.files.directory p n)
-
-abbrev pub scan_denial : State → List ℕ → Option Refusal
-scan_denial v p = option_or (refused_if Injected (draw v.config.scan_rate v.stream).0) (partition_refusal v.files.directory p)

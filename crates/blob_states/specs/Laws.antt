@@ -20,7 +20,8 @@ use Rattle.blob_calls.specs.Told as told
 use Rattle.blob_states.specs.Accepted.{Accepts, HasFileOf, IsKept, IsToldOf, OpensAs, removes}
 use Rattle.blob_states.specs.After.{after, files_after}
 use Rattle.blob_states.specs.Answers.{answer, found_at, kept_at}
-use Rattle.blob_states.specs.Denials.{start_denial, sync_denial}
+use Rattle.blob_states.specs.Denials.{start_denial}
+use Rattle.blob_states.specs.Steps.{sync_denial}
 use Rattle.blob_states.specs.Fixed.{Persists}
 use Rattle.blob_states.specs.Reached.{NoneLoose, Reached, ReachedExclusively}
 use Rattle.blob_states.specs.Runs.{LeadsTo}

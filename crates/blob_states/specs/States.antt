@@ -1,5 +1,5 @@
 -- What a laboratory is seen as: files, and what is kept beside them.
-use Rattle.std.specs.Prelude.{◌<◌, ℕ, List, [], ◌∷◌, true, false, All, Option, Some, None, length, IfSome, option_map}
+use Rattle.std.specs.Prelude.{◌<◌, ℕ, List, [], ◌∷◌, true, false, All, Option, Some, None, length, IfSome, option_map, fold}
 use Rattle.rand_core.specs.Stream.{Stream}
 use Rattle.blob_model.specs.Directory.{Directory, Raw, with_file, with_partition}
 use Rattle.blob_model.specs.Files.{Files, wrapped, durable_at}
@@ -11,29 +11,22 @@ use Rattle.blob_states.specs.Scripted.{Words, scripted, state_of}
 
 -- an open handle
 pub record Held : Type 0 where
-  -- the incarnation that it was opened on
-  pub place : Place
+  pub place : Place  -- the incarnation that it was opened on
   pub live : List ℕ
-  -- the tracked size
-  pub size : ℕ
-  -- the exclusive open that it is of, none of a loose one
-  pub registration : Option Registration
+  pub size : ℕ  -- the tracked size
+  pub registration : Option Registration  -- the exclusive open that it is of, none of a loose one
 
 -- a started sync
 pub record Started : Type 0 where
-  -- what it answers
-  pub outcome : Option Refusal
+  pub outcome : Option Refusal  -- what it answers
 
 pub record State : Type 0 where
   pub files : Files
   pub config : Config
-  -- what is left of the generator
-  pub stream : Stream
+  pub stream : Stream  -- what is left of the generator
   pub names : OpenNames
-  -- each handle by its number, none where it is closed
-  pub handles : List (Option Held)
-  -- each started sync by its number, none where it is finished or dropped
-  pub syncs : List (Option Started)
+  pub handles : List (Option Held)  -- each handle by its number, none where it is closed
+  pub syncs : List (Option Started)  -- each started sync by its number, none where it is finished or dropped
 
 -- a handle that was just opened on an incarnation
 abbrev pub held_on : Files → Option Registration → Place → Held
@@ -51,20 +44,11 @@ empty_directory = record { has_partition = λ p. false; file = λ p n. None; nex
 abbrev pub with_image : Directory → Image → Directory
 with_image d (p, n, bytes) = record { has_partition = with_partition d.has_partition p true; file = with_file d.file p n (Some (Raw bytes)); next = d.next }
 
--- set one after another
-abbrev pub with_images : Directory → List Image → Directory
-with_images d [] = d
-with_images d (i ∷ is) = with_images (with_image d i) is
-
+-- the images are set one after another
 abbrev pub start_on : List Image → Stream → Config → State
-start_on images stream config = record {
-  files = wrapped (with_images empty_directory images) (λ o. []) 0 0;
-  config = config;
-  stream = stream;
-  names = none_open 0;
-  handles = [];
-  syncs = [];
-}
+start_on images stream config =
+    let files = wrapped (fold with_image empty_directory images) (λ o. []) 0 0 in
+    record { files = files; config = config; stream = stream; names = none_open 0; handles = []; syncs = [] }
 
 abbrev pub start : List Image → Words → Config → State
 start images words config = start_on images (scripted (words.given, option_map state_of words.seed)) config

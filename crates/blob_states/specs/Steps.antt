@@ -1,9 +1,55 @@
--- What single calls leave of a state, for proofs.
-use Rattle.std.specs.Prelude.{List, ℕ, Option, Some, None}
-use Rattle.blob_header.specs.Refusals.{Refusal}
-use Rattle.blob_calls.specs.Acts.{AcceptedVersions, OpenLoose, Remove, Crash, Reopen}
+-- What single calls answer and what they leave of a state, for proofs.
+use Rattle.std.specs.Prelude.{List, ℕ, Bool, false, Option, Some, None, is_some, option_and_then, fold, set}
+use Rattle.std.specs.Option.{option_or, option_map_or}
+use Rattle.blob_header.specs.Refusals.{Refusal, Injected}
+use Rattle.blob_memory.specs.Answers.{sync_refusal, open_refusal, partition_refusal, remove_refusal}
+use Rattle.blob_model.specs.Directory.{Directory}
+use Rattle.blob_model.specs.Files.{Files, started}
+use Rattle.blob_faults.specs.Faults.{draw}
+use Rattle.blob_calls.specs.Acts.{Ask, Size, AcceptedVersions, OpenLoose, Remove, Crash, Reopen}
+use Rattle.blob_opens.specs.OpenNames as names
+use Rattle.blob_opens.specs.OpenNames.{OpenNames, Registration}
 use Rattle.blob_states.specs.After.{changed}
-use Rattle.blob_states.specs.States.{State}
+use Rattle.blob_states.specs.Denials.{refused_if}
+use Rattle.blob_states.specs.States.{State, Held, Image, with_image}
+
+-- What refuses them.
+
+-- a call that fails, unless the store refuses what it does of it
+abbrev pub or_injected : Option Refusal → Option Refusal
+or_injected refusal = option_or refusal (Some Injected)
+
+abbrev pub sync_denial : State → Held → Option Refusal
+sync_denial v h = option_or (refused_if Injected (draw v.config.sync_rate v.stream).0) (sync_refusal v.files.directory h.place)
+
+abbrev pub remove_denial : State → List ℕ → Option (List ℕ) → Option Refusal
+remove_denial v p n = option_or (refused_if Injected (draw v.config.remove_rate v.stream).0) (remove_refusal v.files.directory p n)
+
+abbrev pub scan_denial : State → List ℕ → Option Refusal
+scan_denial v p = option_or (refused_if Injected (draw v.config.scan_rate v.stream).0) (partition_refusal v.files.directory p)
+
+-- whether what is asked may want memory
+abbrev pub asks_memory : Ask → Option Held → Bool
+asks_memory Size slot = false
+asks_memory ask slot = is_some slot
+
+-- What they leave.
+
+-- a started sync with this outcome
+abbrev pub begun : Files → Held → Option Refusal → Files
+begun f h None = started f h.place h.live
+begun f h (Some refusal) = f
+
+-- an exclusive open ended, of a loose one nothing
+abbrev pub unregistered : OpenNames → Option Registration → OpenNames
+unregistered s registration = option_map_or (names.closed s) registration s
+
+-- a handle's slot emptied, and its open ended
+abbrev pub with_closed : State → ℕ → Option Held → State
+with_closed v number slot = record v { names = unregistered v.names (option_and_then (λ h. h.registration) slot); handles = set v.handles number None }
+
+abbrev pub with_images : Directory → List Image → Directory
+with_images d images = fold with_image d images
 
 abbrev pub loosely_opened : State → List ℕ → List ℕ → AcceptedVersions → Option Refusal → State
 loosely_opened v p n versions refusal = changed v (OpenLoose p n (Some versions)) refusal

@@ -1,7 +1,7 @@
 //! The handles of a laboratory by their numbers, from 0 in the order of accepted opens. No number is given again.
 ghost use Rattle.std.specs.Prelude.{◌≡◌, ◌<◌, ◌++◌, ◌∷◌, [], Some, None, OnOk, OnErr, IfSome, IfNone, length, set, option_map, option_copied};
 ghost use Rattle.blob_header.specs.Refusals.{IsMemory};
-ghost use Rattle.blob_states.specs.After.{unregistered};
+ghost use Rattle.blob_states.specs.Steps.{unregistered};
 ghost use Rattle.blob_states.specs.Answers.{kept_at};
 ghost use Rattle.blob_opens.specs.Opens.{names_of, store_handle, registration_of};
 ghost use Rattle.blob_laboratory.specs.Tables.{as_held, handles_of, HasFreeSlot};

@@ -1,8 +1,7 @@
-use Rattle.std.proofs.Common.{rules, ◌≡◌, ◌<◌, ◌∙◌, ℕ, refl, length, get_or, arith}
+use Rattle.std.proofs.Common.{rules, ◌≡◌, ◌<◌, ◌∙◌, refl, length, get_or, arith}
 use Rattle.blob_faults.specs.Rooms.{AreWithin, HasRoomFor}
 use Rattle.blob_faults.specs.Views.{view}
 use Rattle.blob_model.specs.Holes.{Holes}
-use Rattle.blob_faults.specs.declared.entry.Entry.{Entry}
 use Rattle.blob_faults.proofs.Bounded.{passed_room, jump}
 use Rattle.blob_faults.proofs.CutSteps.{views_set, later_set}
 use Rattle.blob_faults.proofs.entries.reserve_holes.Goals as goal

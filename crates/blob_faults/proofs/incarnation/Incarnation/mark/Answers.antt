@@ -1,4 +1,4 @@
-use Rattle.std.proofs.Common.{rules, ◌≡◌, ◌||◌, ◌++◌, ◌∷◌, [], List, ℕ, sym, ◌∙◌, ap, subst}
+use Rattle.std.proofs.Common.{rules, ◌≡◌, ◌++◌, ◌∷◌, [], List, ℕ, sym, ◌∙◌, ap, subst}
 use Rattle.blob_model.specs.Pending.{Pending, Marker, has_barrier}
 use Rattle.blob_faults.specs.Blocks.{AreBounded}
 use Rattle.blob_faults.specs.Marks.{marks_of}

@@ -4,8 +4,8 @@ use Rattle.rand_core.specs.Stream.{Stream}
 use Rattle.blob_base.specs.Options.{is_sync}
 use Rattle.blob_faulty.proofs.Adding.{nothing_changed}
 use Rattle.blob_header.specs.Refusals.{refused, Memory}
-use Rattle.blob_faults.specs.Faults.{WriteFate, has_uncounted_end, write_fate}
-use Rattle.blob_faults.specs.Fates.{write_fate_of}
+use Rattle.blob_faults.specs.Fates.{has_uncounted_end, write_fate_of}
+use Rattle.blob_faults.specs.Faults.{WriteFate, drawn_fate}
 use Rattle.blob_faulty.proofs.WriteLeaving.{write_idle, write_leaves, write_uncounted, write_undrawn}
 use Rattle.blob_faulty.proofs.blob.BlobBlobStorage.write_at.Given.{Over}
 use Rattle.blob_faulty.proofs.blob.BlobBlobStorage.write_at.Goals as goal
@@ -20,15 +20,15 @@ returns-in_err-fate-clause-leaves g c =
     write_undrawn g.S.Durable g.B.Blob g.R.Rng.stream c.args.self.now c.args.store.now c.draw_write.new.rng (is_sync c.args.options) c.args.offset c.args.bytes (refused c.from_residual.result) some memory
 
 -- what was drawn
-drawn : (g : Over) (c : goal.After-write_by_fate g) → write_fate_of c.in_ok-fate.fate ≡ (write_fate c.args.store.now.config (is_sync c.args.options) c.args.offset (length c.args.bytes) (g.R.Rng.stream c.args.store.now.rng)).0
+drawn : (g : Over) (c : goal.After-write_by_fate g) → write_fate_of c.in_ok-fate.fate ≡ (drawn_fate c.args.store.now.config (is_sync c.args.options) c.args.offset (length c.args.bytes) (g.R.Rng.stream c.args.store.now.rng)).0
 drawn g c =
     ap (λ (d : WriteFate × Stream). d.0) c.in_ok-fate.ensures.ok
-    ∙ ap₂ (λ (s : Bool) (n : ℕ). (write_fate c.args.store.now.config s c.args.offset n (g.R.Rng.stream c.args.store.now.rng)).0) c.contains-sync.ensures c.remaining-len.ensures
+    ∙ ap₂ (λ (s : Bool) (n : ℕ). (drawn_fate c.args.store.now.config s c.args.offset n (g.R.Rng.stream c.args.store.now.rng)).0) c.contains-sync.ensures c.remaining-len.ensures
 
-left : (g : Over) (c : goal.After-write_by_fate g) → g.R.Rng.stream c.draw_write.new.rng ≡ (write_fate c.args.store.now.config (is_sync c.args.options) c.args.offset (length c.args.bytes) (g.R.Rng.stream c.args.store.now.rng)).1
+left : (g : Over) (c : goal.After-write_by_fate g) → g.R.Rng.stream c.draw_write.new.rng ≡ (drawn_fate c.args.store.now.config (is_sync c.args.options) c.args.offset (length c.args.bytes) (g.R.Rng.stream c.args.store.now.rng)).1
 left g c =
     ap (λ (d : WriteFate × Stream). d.1) c.in_ok-fate.ensures.ok
-    ∙ ap₂ (λ (s : Bool) (n : ℕ). (write_fate c.args.store.now.config s c.args.offset n (g.R.Rng.stream c.args.store.now.rng)).1) c.contains-sync.ensures c.remaining-len.ensures
+    ∙ ap₂ (λ (s : Bool) (n : ℕ). (drawn_fate c.args.store.now.config s c.args.offset n (g.R.Rng.stream c.args.store.now.rng)).1) c.contains-sync.ensures c.remaining-len.ensures
 
 pub returns-clause-leaves : goal.returns-clause-leaves
 returns-clause-leaves g c =

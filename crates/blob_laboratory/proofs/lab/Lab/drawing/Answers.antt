@@ -13,7 +13,8 @@ use Rattle.blob_memory.specs.declared.storage.Storage as memory
 use Rattle.blob_laboratory.specs.LabStands.{Wrapper}
 use Rattle.blob_faulty.specs.Keeps.{IsFor}
 use Rattle.blob_states.specs.Scripted.{scripted}
-use Rattle.blob_states.specs.States.{Image, empty_directory, with_image, with_images}
+use Rattle.blob_states.specs.States.{Image, empty_directory, with_image}
+use Rattle.blob_states.specs.Steps.{with_images}
 use Rattle.blob_laboratory.specs.Tables.{images_of}
 use Rattle.blob_laboratory.proofs.lab.Lab.drawing.Goals as goal
 

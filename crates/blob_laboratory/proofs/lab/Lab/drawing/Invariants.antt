@@ -1,6 +1,7 @@
 use Rattle.std.proofs.Common.{◌≡◌, None}
 use Rattle.blob_model.specs.Places.{Place}
-use Rattle.blob_states.specs.States.{empty_directory, with_images}
+use Rattle.blob_states.specs.States.{empty_directory}
+use Rattle.blob_states.specs.Steps.{with_images}
 use Rattle.blob_laboratory.specs.Tables.{images_of}
 use Rattle.blob_memory.specs.Store.{directory, durable}
 use Rattle.blob_laboratory.proofs.lab.Lab.drawing.Given as goal
