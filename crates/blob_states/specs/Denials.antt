@@ -13,7 +13,6 @@ use Rattle.blob_memory.specs.Answers.{write_refusal, end_refusal, sync_refusal, 
 use Rattle.blob_opens.specs.OpenNames.{OpenNames}
 use Rattle.blob_states.specs.States.{State, Held}
 
-
 -- Writes.
 
 -- of a failed write's kept runs: all of them have to be counted, and they are laid by a current handle alone
