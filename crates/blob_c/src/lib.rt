@@ -4,7 +4,7 @@
 #![tactic(auto)]
 
 ghost use Rattle.std.specs.Prelude.{◌≡◌, ◌⊎◌, ◌<◌, ◌≤◌, Some, None, IsSome, IfSome, [], take, drop, length};
-ghost use Rattle.blob_lab.specs.Scripts.{Prints, PrintsBefore, no_script, lines_of, script_of};
+ghost use Rattle.blob_lab.specs.Scripts.{Prints, PrintsBeforeLine, lines_of, script_of};
 ghost use Rattle.blob_sessions.specs.Preambles.{BreaksAt, IsMadeOf};
 ghost use Rattle.blob_sessions.specs.Sessions.{RunsLine, ReadsInto, AnswersWrite, IsClosed, OnHeld, TellsAgain, kept_of};
 ghost use Rattle.blob_sessions.specs.WholeScripts.{WantsRoom};
@@ -20,7 +20,7 @@ use std::alloc::Global;
 #[unsafe(no_mangle)]
 pub extern "C" fn blobcrash_run(alloc: Global, script: &[u8], replies: &mut [u8]) -> ScriptRan
     ensures done { result.status ≡ DONE → Prints (script_of (lines_of script.now)) (Some []) (Some (take result.len replies.new)) }
-    ensures bad_line { result.status ≡ BAD_LINE → PrintsBefore no_script 1 result.line (lines_of script.now) (Some []) (Some (take result.len replies.new)) }
+    ensures bad_line { result.status ≡ BAD_LINE → PrintsBeforeLine result.line script.now (Some []) (Some (take result.len replies.new)) }
     ensures no_room { result.status ≡ NO_ROOM → length replies.old < result.len }
     ensures wanted { result.status ≡ NO_ROOM → WantsRoom script.now result.line result.len }
     ensures no_line { result.status ≡ DONE → result.line ≡ 0 }

@@ -1,4 +1,5 @@
 pub mod HexDigits
+pub mod HexFields
 pub mod Numbers
 pub mod SaidLines
 pub mod Through

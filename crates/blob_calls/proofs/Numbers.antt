@@ -1,11 +1,16 @@
 -- The test of a number.
-use Rattle.std.proofs.Common.{◌≡◌, ◌↔◌, ℕ, ◌<◌, ◌^◌, List, [], ◌∷◌, length, Bool, true, false, Option, Some, None, IsSome, IfSome, refl, ap, arith, cond}
+use Rattle.std.proofs.Common.{◌≡◌, ◌↔◌, ℕ, ◌<◌, ◌^◌, ◌&&◌, nat_lt, List, [], ◌∷◌, length, Bool, true, false, Option, Some, None, IsSome, IfSome, refl, ap, arith, cond}
 use Rattle.std.specs.Bool.{Decides}
 use Rattle.std.specs.Char.{is_digit, digit_value}
 use Rattle.std.specs.List.{list_all}
 use Rattle.std.specs.Str.Parse.{AllDigits, digits_value}
 use Rattle.std.proofs.lemmas.Bool.Decides.{Decides-and, Decides-ltb, Decides-like}
-use Rattle.blob_calls.specs.Tokens.{IsNumber, is_number, number_of, has_bytes}
+use Rattle.blob_calls.specs.Tokens.{IsNumber, number_of}
+use Rattle.blob_calls.proofs.Tokens.{has_bytes}
+
+-- `IsNumber` as a test
+abbrev is_number : List ℕ → Bool
+is_number token = has_bytes token && list_all (λ byte. is_digit byte 10) token && nat_lt (digits_value 10 token) (2 ^ 64)
 
 digits_decides : (bytes : List ℕ) → Decides (list_all (λ byte. is_digit byte 10) bytes) (AllDigits 10 bytes)
 digits_decides [] = (λ _. tt, λ _. refl)

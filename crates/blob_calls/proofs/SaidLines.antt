@@ -1,10 +1,15 @@
 -- What a line says, step by step.
-use Rattle.std.proofs.Common.{◌≡◌, ℕ, List, ◌∷◌, Bool, true, false, Some, None, refl, sym, ap, ◌∙◌, cond, option_and_then, IsUtf8}
-use Rattle.std.specs.Str.{is_utf8}
+use Rattle.std.proofs.Common.{◌≡◌, ◌==◌, ℕ, List, ◌∷◌, Bool, true, false, Option, Some, None, if◌then◌else◌, slice_index, refl, sym, ap, ◌∙◌, cond, option_and_then, IsUtf8}
+use Rattle.std.specs.Str.{is_utf8, byte}
 use Rattle.std.proofs.lemmas.Str.{is_utf8-from_IsUtf8, IsUtf8-from_is_utf8}
-use Rattle.blob_calls.specs.Forms.{unless_left}
-use Rattle.blob_calls.specs.Lines.{Said, Blank, said_of, line_of, statement, is_comment}
-use Rattle.blob_calls.specs.Tokens.{tokens}
+use Rattle.blob_calls.specs.Lines.{Said, Blank, said_of, line_of, statement}
+use Rattle.blob_calls.specs.Tokens.{is_empty, tokens}
+
+abbrev pub is_comment : List ℕ → Bool
+is_comment word = slice_index word 0 == byte "#"
+
+abbrev pub unless_left : {X : Type 0} → X → List (List ℕ) → Option X
+unless_left x tokens = if is_empty tokens then Some x else None
 
 false_of : (test : Bool) → (test ≡ true → ⊥) → test ≡ false
 false_of true h = absurd (h refl)

@@ -1,10 +1,16 @@
 -- Tokens from the front on.
-use Rattle.std.proofs.Common.{◌≡◌, ℕ, ◌<◌, List, [], ◌∷◌, true, false, length, refl, sym, ap, ◌∙◌, arith, cond}
+use Rattle.std.proofs.Common.{◌≡◌, ◌==◌, ℕ, ◌<◌, List, [], ◌∷◌, Bool, not, true, false, length, refl, sym, ap, ◌∙◌, arith, cond}
 use Rattle.std.specs.List.{filter, slice_split, position_or_len, before_first, after_first}
 use Rattle.std.proofs.lemmas.List.Splits.{slice_split_first, slice_split_none}
 use Rattle.std.proofs.lemmas.List.Sums.{fails_before_first}
 use Rattle.std.proofs.lemmas.List.Elements.{All-from_get_or}
-use Rattle.blob_calls.specs.Tokens.{is_space, has_bytes, tokens}
+use Rattle.blob_calls.specs.Tokens.{is_empty, tokens}
+
+abbrev pub is_space : ℕ → Bool
+is_space byte = byte == 32
+
+abbrev pub has_bytes : List ℕ → Bool
+has_bytes bytes = not (is_empty bytes)
 
 filter_cons : (t : List ℕ) (ts : List (List ℕ)) → filter has_bytes (t ∷ ts) ≡ cond (has_bytes t) (t ∷ filter has_bytes ts) (filter has_bytes ts)
 filter_cons [] ts = refl

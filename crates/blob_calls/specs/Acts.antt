@@ -11,8 +11,7 @@ use Rattle.blob_calls.specs.declared.call.Call.TheVariants as call
 -- what is asked through a handle
 pub data Ask : Type 0 where
   Read : ℕ → ℕ → Ask
-  -- with `true` a SYNC write
-  Write : ℕ → List ℕ → Bool → Ask
+  Write : ℕ → List ℕ → Bool → Ask  -- with `true` a SYNC write
   Resize : ℕ → Ask
   Size : Ask
   Sync : Ask
@@ -24,13 +23,11 @@ AcceptedVersions = ℕ × ℕ
 
 pub data Act : Type 0 where
   Configure : Config → Act
-  -- partition, name and versions, which are none where the range is empty
-  Open : List ℕ → List ℕ → Option AcceptedVersions → Act
+  Open : List ℕ → List ℕ → Option AcceptedVersions → Act  -- partition, name and versions, which are none where the range is empty
   OpenLoose : List ℕ → List ℕ → Option AcceptedVersions → Act
   Admit : List ℕ → List ℕ → Act
   Close : ℕ → Act
-  -- through the handle of a number
-  Through : ℕ → Ask → Act
+  Through : ℕ → Ask → Act  -- through the handle of a number
   Finish : ℕ → Act
   Remove : List ℕ → Option (List ℕ) → Act
   Scan : List ℕ → Act

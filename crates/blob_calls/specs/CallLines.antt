@@ -4,19 +4,11 @@ use Rattle.blob_calls.specs.Acts.{Act, AcceptedVersions, Open, OpenLoose, Admit,
 use Rattle.blob_calls.specs.Forms.{Form, ◌>>=◌, gives, no_form, beside, text, hex, name, digits, versions}
 
 abbrev pub open_form : (List ℕ → List ℕ → Option AcceptedVersions → Act) → Form Act
-open_form act = do
-  partition ← text
-  name ← hex
-  accepts ← versions
-  gives (act partition name accepts)
+open_form act = do partition ← text; name ← hex; accepts ← versions; gives (act partition name accepts)
 
 -- with `true` a SYNC write
 abbrev pub writing : Bool → Form Act
-writing sync = do
-  handle ← digits
-  offset ← digits
-  bytes ← hex
-  gives (Through handle (Write offset bytes sync))
+writing sync = do handle ← digits; offset ← digits; bytes ← hex; gives (Through handle (Write offset bytes sync))
 
 -- what follows the word of a call
 abbrev pub call : List ℕ → Form Act
@@ -37,5 +29,4 @@ call = beside (
     ∷ (codes "scan", do partition ← text; gives (Scan partition))
     ∷ (codes "crash", gives Crash)
     ∷ (codes "reopen", gives Reopen)
-    ∷ [])
-    no_form
+    ∷ []) no_form

@@ -3,7 +3,7 @@ use Rattle.std.specs.Prelude.{ℕ, List, [], ◌∷◌, false, Option, Some, Non
 use Rattle.std.specs.Result.{result_ok}
 use Rattle.std.specs.Str.{bytes_eq}
 use Rattle.blob_calls.specs.Acts.{AcceptedVersions, accepted_versions}
-use Rattle.blob_calls.specs.Tokens.{bytes_of, number_of, version_of, word_of}
+use Rattle.blob_calls.specs.Tokens.{bytes_of, is_empty, number_of, version_of, word_of}
 
 -- what the first tokens stand for, and the tokens that are left; none where they aren't of the form
 abbrev pub Form : Type 0 → Type 0
@@ -32,16 +32,11 @@ token meaning (next ∷ tokens) = gives_some (meaning next) tokens
 
 -- this where no token is left, or else the form
 abbrev pub at_end : {X : Type 0} → X → Form X → Form X
-at_end x form [] = Some (x, [])
-at_end x form (next ∷ tokens) = form (next ∷ tokens)
+at_end x form tokens = if is_empty tokens then Some (x, tokens) else form tokens
 
 -- no token may be left
-abbrev pub unless_left : {X : Type 0} → X → List (List ℕ) → Option X
-unless_left x [] = Some x
-unless_left x (next ∷ tokens) = None
-
 abbrev pub whole : {X : Type 0} → Form X → List (List ℕ) → Option X
-whole form tokens = option_and_then (λ read. unless_left read.0 read.1) (form tokens)
+whole form tokens = option_and_then (λ read. if is_empty read.1 then Some read.0 else None) (form tokens)
 
 -- the form beside a word in a table, or else the other one
 abbrev pub beside : {X : Type 0} → List (List ℕ × Form X) → Form X → List ℕ → Form X
@@ -50,6 +45,11 @@ beside (row ∷ rows) otherwise word = if bytes_eq word row.0 then row.1 else be
 
 abbrev pub text : Form (List ℕ)
 text = token Some
+
+-- a word, and the form beside it in a table
+abbrev pub by_word : {X : Type 0} → List (List ℕ × Form X) → Form X
+by_word rows [] = None
+by_word rows (word ∷ tokens) = beside rows no_form word tokens
 
 abbrev pub hex : Form (List ℕ)
 hex = token (λ next. result_ok (bytes_of next))
@@ -72,5 +72,4 @@ all_tokens meaning (next ∷ tokens) = option_and_then (λ x. option_map (λ xs.
 
 -- one word at least
 abbrev pub words : Form (List ℕ)
-words [] = None
-words (next ∷ tokens) = option_map (λ read. (read, [])) (all_tokens word_of (next ∷ tokens))
+words tokens = if is_empty tokens then None else option_map (λ read. (read, [])) (all_tokens word_of tokens)

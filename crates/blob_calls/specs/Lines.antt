@@ -1,5 +1,5 @@
 -- What the lines of a script say.
-use Rattle.std.specs.Prelude.{ℕ, List, [], ◌∷◌, Bool, ◌==◌, Option, Some, None, if◌then◌else◌, slice_index, string_bytes, codes}
+use Rattle.std.specs.Prelude.{ℕ, List, [], ◌∷◌, ◌==◌, Option, Some, None, if◌then◌else◌, slice_index, string_bytes, codes}
 use Rattle.std.specs.Str.{is_utf8, byte}
 use Rattle.blob_calls.specs.declared.script.line.Line.{Line}
 use Rattle.blob_calls.specs.declared.script.line.Line.TheVariants as line
@@ -11,14 +11,10 @@ use Rattle.blob_calls.specs.SettingLines.{setting}
 use Rattle.blob_calls.specs.Tokens.{tokens}
 
 pub data Said : Type 0 where
-  -- nothing, or a comment
-  Blank : Said
-  -- partition, name and bytes of a raw image
-  Image : List ℕ → List ℕ → List ℕ → Said
-  -- further words of the generator
-  Given : List ℕ → Said
-  -- the seed of the words behind them
-  Seed : ℕ → Said
+  Blank : Said  -- nothing, or a comment
+  Image : List ℕ → List ℕ → List ℕ → Said  -- partition, name and bytes of a raw image
+  Given : List ℕ → Said  -- further words of the generator
+  Seed : ℕ → Said  -- the seed of the words behind them
   Configure : Setting → Said
   Call : Act → Said
 
@@ -41,12 +37,9 @@ statement word = beside (
     (do act ← call word; gives (Call act)) word
 
 -- a comment begins at its first character
-abbrev pub is_comment : List ℕ → Bool
-is_comment word = slice_index word 0 == byte "#"
-
 abbrev pub said_of : List (List ℕ) → Option Said
 said_of [] = Some Blank
-said_of (word ∷ tokens) = if is_comment word then Some Blank else whole (statement word) tokens
+said_of (word ∷ tokens) = if slice_index word 0 == byte "#" then Some Blank else whole (statement word) tokens
 
 -- what a line says, without its end; none where it is a bad call
 abbrev pub line_of : List ℕ → Option Said

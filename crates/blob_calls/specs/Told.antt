@@ -9,12 +9,10 @@ use Rattle.blob_calls.specs.declared.reply.Reply.TheVariants as reply
 
 pub data Told : Type 0 where
   Done : Told
-  -- a handle's number, its size and its version
-  Opened : ℕ → ℕ → ℕ → Told
+  Opened : ℕ → ℕ → ℕ → Told  -- a handle's number, its size and its version
   Bytes : List ℕ → Told
   Size : ℕ → Told
-  -- which names are there
-  Names : (List ℕ → Bool) → Told
+  Names : (List ℕ → Bool) → Told  -- which names are there
   Started : ℕ → Told
   Crashed : List Row → Told
   Failed : Refusal → Told

@@ -1,3 +1,4 @@
+pub mod InHand
 pub mod Reading
 pub mod ResolvedLines
 pub mod ScriptEnds

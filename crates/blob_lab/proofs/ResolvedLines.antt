@@ -9,7 +9,7 @@ use Rattle.blob_header.specs.declared.version.BlobVersion.{BlobVersion}
 use Rattle.blob_header.specs.Refusals.{Memory}
 use Rattle.blob_header.specs.ReplyLines.{refusal_line}
 use Rattle.blob_header.specs.Resolve.{AnswersAs}
-use Rattle.blob_lab.specs.ResolveReplies.{AnswersLine, RepliesTo, by_refusal, resolution_line, resolved_image}
+use Rattle.blob_lab.specs.ResolveReplies.{AnswersLine, by_refusal, resolution_line, resolved_image}
 use Rattle.blob_lab.proofs.ScriptRuns.{kept_Appends}
 
 -- the line of the resolution of these bytes, or that there was no memory for a refusal
@@ -25,7 +25,7 @@ is_reply (Err e) image (inr (refused, memory)) = inr (refused, ap refusal_line m
 pub replied_line : (line image reply : List ℕ) (w0 w1 w2 w3 : Option (List ℕ)) → decode_of line ≡ Ok image → IsReplyTo image reply → Keeps w0 w1 → Appends w1 w2 (reply ++ 10 ∷ []) → Keeps w2 w3 → AnswersLine line w0 w3
 replied_line line image reply w0 w1 w2 w3 decoded is before written behind =
     let added : Appends w0 w3 (reply ++ 10 ∷ []) = Appends-kept w0 w2 w3 (reply ++ 10 ∷ []) (kept_Appends w0 w1 w2 (reply ++ 10 ∷ []) before written) behind in
-    subst (λ r. RepliesTo r w0 w3) (sym decoded) (reply, is, added)
+    (image, reply, decoded, added, is)
 
 pub replied : {T E : Type 0} (result : Result T E) (input : Option (List ℕ)) (line : List ℕ) (w0 w3 : Option (List ℕ)) → IfSome input (λ bytes. line ≡ first_piece 10 bytes) → AnswersLine line w0 w3
     → OnOk result (IfSome input (λ bytes. AnswersLine (first_piece 10 bytes) w0 w3))

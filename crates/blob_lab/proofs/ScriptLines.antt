@@ -6,8 +6,9 @@ use Rattle.std.specs.Io.BufRead.{DropsThrough, take_through, drop_through, strip
 use Rattle.std.specs.Io.{StopsAt}
 use Rattle.std.specs.Io.KnownBytes.{Consumes}
 use Rattle.blob_calls.specs.Lines.{Said, line_of}
-use Rattle.blob_lab.specs.ScriptReading.{TakesLine}
-use Rattle.blob_lab.specs.Scripts.{OfLines, TakesOne, behind_part, with_line_byte, lines_of}
+use Rattle.blob_lab.specs.ScriptReading.{OfLines, TakesLine, TakesOne, behind_part}
+use Rattle.blob_lab.specs.Scripts.{lines_of}
+use Rattle.std.specs.List.{onto_first}
 
 strip_cons : (x y : ℕ) (ys : List ℕ) → strip_last 10 (x ∷ y ∷ ys) ≡ x ∷ strip_last 10 (y ∷ ys)
 strip_cons x y ys = simp (sub-one, lt-ltb 0 (suc (suc (length ys))) (omega arith), lt-ltb 0 (suc (length ys)) (omega arith))
@@ -27,8 +28,8 @@ first_is b bs true h = simp h
 first_is b [] false h = simp h
 first_is b (c ∷ cs) false h =
     let after = lines_of (drop_through 10 (c ∷ cs)) in
-    ap (λ t. cond t ([] ∷ lines_of (c ∷ cs)) (with_line_byte b (lines_of (c ∷ cs)))) h
-    ∙ ap (with_line_byte b) (first_is c cs (c == 10) refl)
+    ap (λ t. cond t ([] ∷ lines_of (c ∷ cs)) (onto_first b (lines_of (c ∷ cs)))) h
+    ∙ ap (onto_first b) (first_is c cs (c == 10) refl)
     ∙ ap (λ l. l ∷ after) (sym (piece_cons b c cs h))
     ∙ ap (λ t. first_piece 10 (b ∷ c ∷ cs) ∷ lines_of (cond t (c ∷ cs) (drop_through 10 (c ∷ cs)))) (sym h)
 
@@ -52,14 +53,14 @@ pub part_nil : (lines : List (List ℕ)) → lines ≡ behind_part [] lines
 part_nil [] = refl
 part_nil (line ∷ lines) = refl
 
-one_byte_more : (b : ℕ) (lines left : List (List ℕ)) → TakesOne lines left → TakesOne (with_line_byte b lines) left
-one_byte_more b lines left (inl (line, e)) = inl (b ∷ line, ap (with_line_byte b) e)
-one_byte_more b lines [] (inr (part, e)) = inl (b ∷ [], ap (with_line_byte b) e)
-one_byte_more b lines (line ∷ left) (inr (part, e)) = inr (b ∷ part, ap (with_line_byte b) e)
+one_byte_more : (b : ℕ) (lines left : List (List ℕ)) → TakesOne lines left → TakesOne (onto_first b lines) left
+one_byte_more b lines left (inl (line, e)) = inl (b ∷ line, ap (onto_first b) e)
+one_byte_more b lines [] (inr (part, e)) = inl (b ∷ [], ap (onto_first b) e)
+one_byte_more b lines (line ∷ left) (inr (part, e)) = inr (b ∷ part, ap (onto_first b) e)
 
 begun_with : (b : ℕ) (bs : List ℕ) (left : List (List ℕ)) (test : Bool) → (b == 10) ≡ test → (test ≡ true → lines_of bs ≡ left) → (test ≡ false → TakesOne (lines_of bs) left) → TakesOne (lines_of (b ∷ bs)) left
-begun_with b bs left true h last more = inl ([], ap (λ t. cond t ([] ∷ lines_of bs) (with_line_byte b (lines_of bs))) h ∙ ap (λ l. [] ∷ l) (last refl))
-begun_with b bs left false h last more = subst (λ lines. TakesOne lines left) (ap (λ t. cond t ([] ∷ lines_of bs) (with_line_byte b (lines_of bs))) (sym h)) (one_byte_more b (lines_of bs) left (more refl))
+begun_with b bs left true h last more = inl ([], ap (λ t. cond t ([] ∷ lines_of bs) (onto_first b (lines_of bs))) h ∙ ap (λ l. [] ∷ l) (last refl))
+begun_with b bs left false h last more = subst (λ lines. TakesOne lines left) (ap (λ t. cond t ([] ∷ lines_of bs) (onto_first b (lines_of bs))) (sym h)) (one_byte_more b (lines_of bs) left (more refl))
 
 -- the bytes of one line at most stand before those that are left
 begun : (hand left : List ℕ) → StopsAt hand 10 → TakesOne (lines_of (hand ++ left)) (lines_of left)

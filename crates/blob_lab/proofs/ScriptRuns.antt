@@ -13,8 +13,8 @@ use Rattle.blob_laboratory.specs.declared.lab.Lab.{Lab}
 use Rattle.blob_calls.specs.declared.reply.Reply.{Reply}
 use Rattle.blob_calls.specs.Acts.{Act, act_of}
 use Rattle.blob_laboratory.specs.LabStands.{LabStandsFor, Performs}
-use Rattle.blob_lab.specs.ScriptReading.{AddsCall, TakesCall, TakesBadCall, TakesPart, Begins}
-use Rattle.blob_lab.specs.Scripts.{OfLines, Script, Answered, IsPrinted, Prints, PrintsTaken, PrintsPart, PrintsBefore, PrintsUpTo, printed_reply, lines_of, with_call, with_lines}
+use Rattle.blob_lab.specs.ScriptReading.{OfLines, AddsCall, TakesCall, TakesBadCall, TakesPart, Begins, Answered, PrintsFront, PrintsBefore, PrintsUpTo, printed_reply, with_call}
+use Rattle.blob_lab.specs.Scripts.{Script, IsPrinted, Prints, lines_of, with_lines}
 use Rattle.blob_calls.specs.Settings.{cleared}
 use Rattle.blob_states.specs.States.{State, start}
 use Rattle.blob_lab.specs.Streams.{AppendsPart}
@@ -58,21 +58,19 @@ kept_Appends (Some xs) None c bs kept more = absurd kept
 kept_Appends (Some xs) (Some ys) None bs kept more = absurd more
 kept_Appends (Some xs) (Some ys) (Some zs) bs kept more = more ∙ ap (λ l. l ++ bs) kept
 
-pub part_of_taken : (s : Script) (lines left : List (List ℕ)) (old new : Option (List ℕ)) → PrintsTaken s lines left old new → PrintsPart s lines left old new
-part_of_taken s lines left old new a =
-    let p = a.prints in
-    record {
-      front = a.front;
-      rest = a.rest;
-      parts = a.parts;
-      in_hand = a.in_hand;
-      of = p.of;
-      is = p.is;
-      written = p.printed;
-      unwritten = [];
-      prints = subst (IsPrinted p.of) (sym (append-nil p.printed)) p.prints;
-      added = p.added;
-    }
+pub part_of_taken : (s : Script) (lines left : List (List ℕ)) (old new : Option (List ℕ)) → PrintsFront s Appends lines left old new → PrintsFront s AppendsPart lines left old new
+part_of_taken s lines left old new a = record {
+  front = a.front;
+  rest = a.rest;
+  parts = a.parts;
+  in_hand = a.in_hand;
+  printed = a.printed;
+  prints = a.prints;
+  added = (a.printed, [], sym (append-nil a.printed), a.added);
+}
+
+pub printed_of : (o : Option Script) (t : Script) (printed : List ℕ) (w : State) → o ≡ Some t → Answered t printed w → IsPrinted o printed
+printed_of o t printed w is a = subst (λ (x : Option Script). IsPrinted x printed) (sym is) (a.calls, a.replies, w, a.are, a.run, a.lines)
 
 -- What is printed so far.
 
@@ -91,7 +89,7 @@ module _ (s : Script) (first : ℕ) (old : Option (List ℕ)) (all : List (List 
   }
 
   pub settled_part : (next : ℕ) (lab : Lab) (config : Config) (new : Option (List ℕ)) (lines left : List (List ℕ)) → Settled s first next lab config old new all lines → ((t : Script) → TakesPart t t lines left)
-      → PrintsTaken s all left old new
+      → PrintsFront s Appends all left old new
   settled_part next lab config new lines left a part =
       let p = part a.t in
       record {
@@ -99,25 +97,31 @@ module _ (s : Script) (first : ℕ) (old : Option (List ℕ)) (all : List (List 
         rest = p.rest;
         parts = a.taken.parts ∙ ap (λ l. a.taken.front ++ l) p.parts ∙ sym (append_assoc a.taken.front p.front p.rest);
         in_hand = p.in_hand;
-        prints = record { of = a.t; is = more_lines s a.t a.taken.front p.front a.taken.makes ∙ p.makes; printed = a.printed; prints = (a.w, a.answered); added = a.added };
+        printed = a.printed;
+        prints = printed_of (with_lines s (a.taken.front ++ p.front)) a.t a.printed a.w (more_lines s a.t a.taken.front p.front a.taken.makes ∙ p.makes) a.answered;
+        added = a.added;
       }
 
-  settled_taken : (next : ℕ) (lab : Lab) (config : Config) (new : Option (List ℕ)) (rest : List (List ℕ)) → Settled s first next lab config old new all rest → PrintsTaken s all rest old new
+  settled_taken : (next : ℕ) (lab : Lab) (config : Config) (new : Option (List ℕ)) (rest : List (List ℕ)) → Settled s first next lab config old new all rest → PrintsFront s Appends all rest old new
   settled_taken next lab config new rest a = record {
     front = a.taken.front;
     rest = rest;
     parts = a.taken.parts;
     in_hand = inr ([], part_nil rest);
-    prints = record { of = a.t; is = a.taken.makes; printed = a.printed; prints = (a.w, a.answered); added = a.added };
+    printed = a.printed;
+    prints = printed_of (with_lines s a.taken.front) a.t a.printed a.w a.taken.makes a.answered;
+    added = a.added;
   }
 
-  awaiting_taken : (number : ℕ) (lab : Lab) (act : Act) (config : Config) (new : Option (List ℕ)) (rest : List (List ℕ)) → Awaiting s first number lab act config old new all rest → PrintsTaken s all rest old new
+  awaiting_taken : (number : ℕ) (lab : Lab) (act : Act) (config : Config) (new : Option (List ℕ)) (rest : List (List ℕ)) → Awaiting s first number lab act config old new all rest → PrintsFront s Appends all rest old new
   awaiting_taken number lab act config new rest a = record {
     front = a.taken.front;
     rest = a.line ∷ rest;
     parts = a.taken.parts;
     in_hand = inl (a.line, refl);
-    prints = record { of = a.t; is = a.taken.makes; printed = a.printed; prints = (a.w, a.answered); added = a.added };
+    printed = a.printed;
+    prints = printed_of (with_lines s a.taken.front) a.t a.printed a.w a.taken.makes a.answered;
+    added = a.added;
   }
 
   -- One more answer.
@@ -163,7 +167,7 @@ module _ (s : Script) (first : ℕ) (old : Option (List ℕ)) (all : List (List 
       }
 
   settle_part : (number : ℕ) (lab lab' : Lab) (call : Call) (reply : Reply) (config : Config) (mid new : Option (List ℕ)) (rest : List (List ℕ)) → Awaiting s first number lab (act_of call) config old mid all rest
-      → Performs lab (act_of call) reply lab' → AppendsPart mid new (printed_reply reply) → PrintsPart s all rest old new
+      → Performs lab (act_of call) reply lab' → AppendsPart mid new (printed_reply reply) → PrintsFront s AppendsPart all rest old new
   settle_part number lab lab' call reply config mid new rest a performs (front, left_out, is, written) =
       let taken = more_taken number lab (act_of call) config mid rest a in
       let (w, answered, stands) = more_answered number lab lab' call reply config mid rest a performs in
@@ -173,25 +177,25 @@ module _ (s : Script) (first : ℕ) (old : Option (List ℕ)) (all : List (List 
         rest = rest;
         parts = taken.parts;
         in_hand = inr ([], part_nil rest);
-        of = t;
-        is = taken.makes;
-        written = a.printed ++ front;
-        unwritten = left_out;
-        prints = subst (IsPrinted t) (ap (λ l. a.printed ++ l) is ∙ sym (append_assoc a.printed front left_out)) (w, answered);
-        added = Appends-trans old mid new a.printed front a.added written;
+        printed = a.printed ++ printed_reply reply;
+        prints = printed_of (with_lines s taken.front) t (a.printed ++ printed_reply reply) w taken.makes answered;
+        added = (
+          a.printed ++ front,
+          left_out,
+          ap (λ l. a.printed ++ l) is ∙ sym (append_assoc a.printed front left_out),
+          Appends-trans old mid new a.printed front a.added written,
+        );
       }
 
   -- What is read behind it.
 
   pub settled_over : (next : ℕ) (lab : Lab) (config : Config) (mid new : Option (List ℕ)) (rest : List (List ℕ)) → Settled s first next lab config old mid all rest → Keeps mid new
       → ((t : Script) → with_lines t rest ≡ Some t) → Prints (with_lines s all) old new
-  settled_over next lab config mid new rest a kept over = record {
-    of = a.t;
-    is = ap (with_lines s) a.taken.parts ∙ more_lines s a.t a.taken.front rest a.taken.makes ∙ over a.t;
-    printed = a.printed;
-    prints = (a.w, a.answered);
-    added = Appends-kept old mid new a.printed a.added kept;
-  }
+  settled_over next lab config mid new rest a kept over = (
+    a.printed,
+    printed_of (with_lines s all) a.t a.printed a.w (ap (with_lines s) a.taken.parts ∙ more_lines s a.t a.taken.front rest a.taken.makes ∙ over a.t) a.answered,
+    Appends-kept old mid new a.printed a.added kept,
+  )
 
   pub settled_call : (n n' : ℕ) (lab : Lab) (act : Act) (config config' : Config) (mid new : Option (List ℕ)) (lines rest : List (List ℕ)) → Settled s first (n + 1) lab config old mid all lines → Keeps mid new
       → ((t : Script) → t.config ≡ config → TakesCall t t (n + 1) n' act config' lines rest) → Awaiting s first n' lab act config' old new all rest
@@ -230,13 +234,11 @@ module _ (s : Script) (first : ℕ) (old : Option (List ℕ)) (all : List (List 
               ∙ more_lines a.t a.t call.front (call.bad ∷ []) call.makes
               ∙ one_line a.t call.bad
               ∙ call.refused;
-          prints = record {
-            of = a.t;
-            is = more_lines s a.t a.taken.front call.front a.taken.makes ∙ call.makes;
-            printed = a.printed;
-            prints = (a.w, a.answered);
-            added = a.added;
-          };
+          prints = (
+            a.printed,
+            printed_of (with_lines s (a.taken.front ++ call.front)) a.t a.printed a.w (more_lines s a.t a.taken.front call.front a.taken.makes ∙ call.makes) a.answered,
+            a.added,
+          );
         },
         refl,
       )
@@ -296,7 +298,7 @@ module _ (s : Script) (first : ℕ) (old : Option (List ℕ)) (line : List ℕ) 
       let (reply, performs, written) = part refl in
       settle_part s first old all number lab lab' call reply config mid new rest a performs written
   answer_cut NoMemory all rest number lab lab' call config mid new a cut part same =
-      subst (λ (o : Option (List ℕ)). PrintsTaken s all rest old o) (sym (same refl)) (awaiting_taken s first old all number lab (act_of call) config mid rest a)
+      subst (λ (o : Option (List ℕ)). PrintsFront s Appends all rest old o) (sym (same refl)) (awaiting_taken s first old all number lab (act_of call) config mid rest a)
   answer_cut InputFailed all rest number lab lab' call config mid new a cut part same = elim cut [ inl e ↦ cc | inr e ↦ cc ]
   answer_cut (BadCall line) all rest number lab lab' call config mid new a cut part same = elim cut [ inl e ↦ cc | inr e ↦ cc ]
   answer_cut Done all rest number lab lab' call config mid new a cut part same = tt

@@ -3,7 +3,7 @@ use Rattle.std.proofs.Common.{◌≡◌, ℕ, ◌+◌, List, [], ◌∷◌, ◌+
 use Rattle.std.proofs.KnownBytes.{Appends-kept, Appends-nil}
 use Rattle.std.proofs.Math.ListN.{length-append}
 use Rattle.std.specs.Io.Iter.{u64_saturate}
-use Rattle.std.specs.Io.KnownBytes.{Keeps}
+use Rattle.std.specs.Io.KnownBytes.{Appends, Keeps}
 use Rattle.blob_faults.specs.declared.config.Config.{Config}
 use Rattle.blob_lab.specs.declared.ending.Ending.{Ending}
 use Rattle.blob_lab.specs.declared.ending.Ending.TheVariants.{Done, InputFailed, OutputFailed, BadCall, BadImage, Usage, NoMemory}
@@ -11,13 +11,14 @@ use Rattle.blob_laboratory.specs.declared.lab.Lab.{Lab}
 use Rattle.blob_lab.specs.declared.run_script.lines.Preamble.{Preamble}
 use Rattle.blob_calls.specs.Acts.{Act}
 use Rattle.blob_laboratory.specs.LabStands.{LabStandsFor}
-use Rattle.blob_lab.specs.ScriptReading.{TakesCall, TakesBadCall, TakesPart, Begins, preamble_of}
-use Rattle.blob_lab.specs.Scripts.{OfLines, Script, IsPrinted, Prints, PrintsTaken, PrintsBefore, PrintsUpTo, lines_of, no_script, script_of, with_lines}
+use Rattle.blob_lab.specs.ScriptReading.{OfLines, TakesCall, TakesBadCall, TakesOne, TakesPart, Begins, PrintsFront, PrintsBefore, PrintsUpTo, preamble_of}
+use Rattle.blob_lab.specs.Scripts.{Script, IsPrinted, Prints, lines_of, no_script, script_of, with_lines}
+use Rattle.blob_lab.specs.Streams.{AppendsPart}
 use Rattle.blob_states.specs.Scripted.{only}
 use Rattle.blob_calls.specs.Settings.{cleared}
 use Rattle.blob_states.specs.States.{start}
 use Rattle.blob_laboratory.specs.Tables.{images_of}
-use Rattle.blob_lab.proofs.ScriptRuns.{kept_Appends, part_of_taken}
+use Rattle.blob_lab.proofs.ScriptRuns.{kept_Appends, part_of_taken, printed_of}
 use Rattle.blob_lab.proofs.ScriptSteps.{more_lines, one_line}
 
 pub empty_preamble : (p : Preamble) (config : Config) → p.images.items ≡ [] → p.words.items ≡ [] → p.seed ≡ None → config ≡ cleared → preamble_of p config ≡ no_script
@@ -29,28 +30,46 @@ empty_preamble p config images words seed same =
 
 -- No call is answered.
 
-none_printed : (t : Script) → t.calls ≡ [] → IsPrinted t []
-none_printed t none = (start t.images t.words cleared, record { calls = []; replies = []; are = sym none; run = refl; lines = refl })
+none_printed : (o : Option Script) (t : Script) → o ≡ Some t → t.calls ≡ [] → IsPrinted o []
+none_printed o t is none = printed_of o t [] (start t.images t.words cleared) is (record { calls = []; replies = []; are = sym none; run = refl; lines = refl })
+
+none_added : (old new : Option (List ℕ)) → Keeps old new → Appends old new []
+none_added old new kept = Appends-kept old old new [] (Appends-nil old) kept
 
 nothing : (o : Option Script) (t : Script) (old new : Option (List ℕ)) → Keeps old new → o ≡ Some t → t.calls ≡ [] → Prints o old new
-nothing o t old new kept is none = record { of = t; is = is; printed = []; prints = none_printed t none; added = Appends-kept old old new [] (Appends-nil old) kept }
+nothing o t old new kept is none = ([], none_printed o t is none, none_added old new kept)
+
+nothing_of : (t : Script) (lines left front rest : List (List ℕ)) (old new : Option (List ℕ)) → Keeps old new → lines ≡ front ++ rest → TakesOne rest left → with_lines no_script front ≡ Some t → t.calls ≡ []
+    → PrintsFront no_script Appends lines left old new
+nothing_of t lines left front rest old new kept parts in_hand is none = record {
+  front = front;
+  rest = rest;
+  parts = parts;
+  in_hand = in_hand;
+  printed = [];
+  prints = none_printed (with_lines no_script front) t is none;
+  added = none_added old new kept;
+}
 
 -- Lines before those that were printed of.
 
 prints_kept : (o : Option Script) (old mid new : Option (List ℕ)) → Keeps old mid → Prints o mid new → Prints o old new
-prints_kept o old mid new kept p = record { of = p.of; is = p.is; printed = p.printed; prints = p.prints; added = kept_Appends old mid new p.printed kept p.added }
+prints_kept o old mid new kept (printed, prints, added) = (printed, prints, kept_Appends old mid new printed kept added)
 
 module _ (s t : Script) (front all rest left : List (List ℕ)) (old mid : Option (List ℕ)) (kept : Keeps old mid) (parts : all ≡ front ++ rest) (makes : with_lines s front ≡ Some t) where
   prints_behind : (more : List (List ℕ)) (new : Option (List ℕ)) → Prints (with_lines t more) mid new → Prints (with_lines s (front ++ more)) old new
   prints_behind more new p = subst (λ (o : Option Script). Prints o old new) (sym (more_lines s t front more makes)) (prints_kept (with_lines t more) old mid new kept p)
 
-  taken_behind : (new : Option (List ℕ)) → PrintsTaken t rest left mid new → PrintsTaken s all left old new
-  taken_behind new p = record {
+  front_behind : (Adds : Option (List ℕ) → Option (List ℕ) → List ℕ → Type 0) (new : Option (List ℕ)) → ((bytes : List ℕ) → Adds mid new bytes → Adds old new bytes) → PrintsFront t Adds rest left mid new
+      → PrintsFront s Adds all left old new
+  front_behind Adds new adds p = record {
     front = front ++ p.front;
     rest = p.rest;
     parts = parts ∙ ap (λ l. front ++ l) p.parts ∙ sym (append_assoc front p.front p.rest);
     in_hand = p.in_hand;
-    prints = prints_behind p.front new p.prints;
+    printed = p.printed;
+    prints = subst (λ (o : Option Script). IsPrinted o p.printed) (sym (more_lines s t front p.front makes)) p.prints;
+    added = adds p.printed p.added;
   }
 
   pub behind : (ending : Ending) (first n : ℕ) (new : Option (List ℕ)) → n ≡ u64_saturate (first + length front) → PrintsUpTo ending t n rest left mid new → PrintsUpTo ending s first all left old new
@@ -66,20 +85,10 @@ module _ (s t : Script) (front all rest left : List (List ℕ)) (old mid : Optio
     },
     is,
   )
-  behind InputFailed first n new counted p = taken_behind new p
-  behind NoMemory first n new counted p = taken_behind new p
-  behind OutputFailed first n new counted p = record {
-    front = front ++ p.front;
-    rest = p.rest;
-    parts = parts ∙ ap (λ l. front ++ l) p.parts ∙ sym (append_assoc front p.front p.rest);
-    in_hand = p.in_hand;
-    of = p.of;
-    is = more_lines s t front p.front makes ∙ p.is;
-    written = p.written;
-    unwritten = p.unwritten;
-    prints = p.prints;
-    added = kept_Appends old mid new p.written kept p.added;
-  }
+  behind InputFailed first n new counted p = front_behind Appends new (λ bytes. kept_Appends old mid new bytes kept) p
+  behind NoMemory first n new counted p = front_behind Appends new (λ bytes. kept_Appends old mid new bytes kept) p
+  behind OutputFailed first n new counted p =
+      front_behind AppendsPart new (λ bytes part. (part.0, part.1, part.2, kept_Appends old mid new part.0 kept part.3)) p
   behind Done first n new counted p = tt
   behind BadImage first n new counted p = tt
   behind Usage first n new counted p = tt
@@ -107,16 +116,11 @@ module _ (s : Script) (same : s ≡ no_script) (first : ℕ) (one : first ≡ 1)
       )
 
   -- a laboratory wasn't made
-  pub no_laboratory : (n : ℕ) (act : Act) (config : Config) (a b : Option (List ℕ)) → OfLines a b (TakesCall s t first n act config) → OfLines a b (λ lines left. PrintsTaken no_script lines left old mid)
+  pub no_laboratory : (n : ℕ) (act : Act) (config : Config) (a b : Option (List ℕ)) → OfLines a b (TakesCall s t first n act config) → OfLines a b (λ lines left. PrintsFront no_script Appends lines left old mid)
   no_laboratory n act config None b call = tt
   no_laboratory n act config (Some xs) None call = absurd call
-  no_laboratory n act config (Some xs) (Some ys) call = record {
-    front = call.front;
-    rest = call.line ∷ lines_of ys;
-    parts = call.parts;
-    in_hand = inl (call.line, refl);
-    prints = nothing (with_lines no_script call.front) t old mid kept (ap (λ u. with_lines u call.front) (sym same) ∙ call.makes) none;
-  }
+  no_laboratory n act config (Some xs) (Some ys) call =
+      nothing_of t (lines_of xs) (lines_of ys) call.front (call.line ∷ lines_of ys) old mid kept call.parts (inl (call.line, refl)) (ap (λ u. with_lines u call.front) (sym same) ∙ call.makes) none
 
   module _ (n : ℕ) (act : Act) (config : Config) (lab : Lab) (stands : LabStandsFor lab (start t.images t.words cleared)) (new : Option (List ℕ)) where
     pub all_lines : (a b : Option (List ℕ)) → OfLines a b (TakesCall s t first n act config)
@@ -142,14 +146,8 @@ module _ (s : Script) (same : s ≡ no_script) (first : ℕ) (one : first ≡ 1)
 
 -- the same where no call was read; u is what was made of s by then
 module _ (s : Script) (same : s ≡ no_script) (old mid : Option (List ℕ)) (kept : Keeps old mid) where
-  part_first : (u : Script) (none : u.calls ≡ []) (lines left : List (List ℕ)) → TakesPart s u lines left → PrintsTaken no_script lines left old mid
-  part_first u none lines left part = record {
-    front = part.front;
-    rest = part.rest;
-    parts = part.parts;
-    in_hand = part.in_hand;
-    prints = nothing (with_lines no_script part.front) u old mid kept (ap (λ v. with_lines v part.front) (sym same) ∙ part.makes) none;
-  }
+  part_first : (u : Script) (none : u.calls ≡ []) (lines left : List (List ℕ)) → TakesPart s u lines left → PrintsFront no_script Appends lines left old mid
+  part_first u none lines left part = nothing_of u lines left part.front part.rest old mid kept part.parts part.in_hand (ap (λ v. with_lines v part.front) (sym same) ∙ part.makes) none
 
   module _ (first : ℕ) (one : first ≡ 1) (t : Script) (none : t.calls ≡ []) where
     first_cut : (ending : Ending) (u : Script) (silent : u.calls ≡ []) (lines left : List (List ℕ)) → ((number : ℕ) → ending ≡ BadCall number → TakesBadCall s t first number lines left) → TakesPart s u lines left

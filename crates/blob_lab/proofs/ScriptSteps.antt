@@ -1,5 +1,5 @@
 -- The lines of a script, one after another: what they have made, and what one more makes of that.
-use Rattle.std.proofs.Common.{◌≡◌, ◌≢◌, ℕ, ◌+◌, List, [], ◌∷◌, ◌++◌, Option, Some, None, option_and_then, Vec, String, string_bytes, length, refl, sym, ap, ◌∙◌, append_assoc, arith}
+use Rattle.std.proofs.Common.{◌≡◌, ◌≢◌, ℕ, ◌+◌, List, [], ◌∷◌, ◌++◌, Bool, ◌&&◌, if◌then◌else◌, Option, Some, None, is_none, option_and_then, Vec, String, string_bytes, length, refl, sym, ap, ◌∙◌, append_assoc, arith}
 use Rattle.std.proofs.lemmas.List.{append-nil, map-append}
 use Rattle.std.proofs.Math.ListN.{length-append}
 use Rattle.std.specs.Global.{Global}
@@ -13,8 +13,9 @@ use Rattle.blob_calls.specs.declared.script.setting.Setting.{Setting}
 use Rattle.blob_calls.specs.Acts as acts
 use Rattle.blob_calls.specs.Acts.{Act, act_of}
 use Rattle.blob_calls.specs.Lines.{Said, Configure, Call, line_of, said_by}
-use Rattle.blob_lab.specs.ScriptReading.{TakesLine, TakesCall, TakesBadCall, TakesPart, preamble_of}
-use Rattle.blob_lab.specs.Scripts.{OfLines, Script, TakesOne, lines_of, with_call, before_calls, unseeded, with_said, with_line, with_lines}
+use Rattle.blob_lab.specs.ScriptReading.{OfLines, TakesLine, TakesOne, TakesCall, TakesBadCall, TakesPart, preamble_of, with_call}
+use Rattle.blob_lab.specs.Scripts.{Script, lines_of, with_said, with_line, with_lines}
+use Rattle.blob_calls.specs.Tokens.{is_empty}
 use Rattle.blob_states.specs.Scripted.{behind_seeded}
 use Rattle.blob_calls.specs.Settings.{configured}
 use Rattle.blob_laboratory.specs.Tables.{images_of}
@@ -58,21 +59,24 @@ said_words a b config words images more seed =
 pub said_seed : (a b : Preamble) (config : Config) (seed : ℕ) → a.seed ≡ None → b.images.items ≡ a.images.items → b.words.items ≡ a.words.items → b.seed ≡ Some seed
     → with_said (preamble_of a config) (said_by (line.Seed seed)) ≡ Some (preamble_of b config)
 said_seed a b config seed none images words some =
-    ap (λ n. option_and_then (unseeded n) (Some (record { images = images_of a.images.items; words = behind_seeded a.words.items seed; config = config; calls = [] }))) none
+    ap (λ n. if is_none n then Some (record { images = images_of a.images.items; words = behind_seeded a.words.items seed; config = config; calls = [] }) else None) none
     ∙ ap (λ ws. Some (record { images = images_of a.images.items; words = behind_seeded ws seed; config = config; calls = [] })) (sym words)
     ∙ ap (λ n. Some (record { images = images_of a.images.items; words = record { given = b.words.items; seed = n }; config = config; calls = [] })) (sym some)
     ∙ ap (λ is. Some (record { images = images_of is; words = record { given = b.words.items; seed = b.seed }; config = config; calls = [] })) (sym images)
 
 -- and a second one
-pub none_behind_seed : (seed : Option ℕ) (s : Option Script) → seed ≢ None → option_and_then (unseeded seed) s ≡ None
+pub none_behind_seed : (seed : Option ℕ) (s : Script) → seed ≢ None → (if is_none seed then Some s else None) ≡ None
 none_behind_seed None s some = absurd (some refl)
-none_behind_seed (Some n) None some = refl
-none_behind_seed (Some n) (Some s) some = refl
+none_behind_seed (Some n) s some = refl
 
 -- and behind one
-pub none_behind_calls : (calls : List Act) (s : Script) → calls ≢ [] → before_calls calls s ≡ None
+pub none_behind_calls : (calls : List Act) (s : Script) → calls ≢ [] → (if is_empty calls then Some s else None) ≡ None
 none_behind_calls [] s some = absurd (some refl)
 none_behind_calls (act ∷ acts) s some = refl
+
+pub no_seed_behind_calls : (calls : List Act) (first : Bool) (s : Script) → calls ≢ [] → (if is_empty calls && first then Some s else None) ≡ None
+no_seed_behind_calls [] first s some = absurd (some refl)
+no_seed_behind_calls (act ∷ acts) first s some = refl
 
 -- Lines.
 

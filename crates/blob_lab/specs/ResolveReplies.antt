@@ -2,7 +2,6 @@
 use Rattle.std.specs.Prelude.{ℕ, List, [], ◌∷◌, ◌++◌, ◌≡◌, ◌⊎◌, codes, Option, Some, None, Result, Ok, Err, IsErr}
 use Rattle.std.specs.Fmt.{decimal}
 use Rattle.std.specs.Io.KnownBytes.{Appends}
-use Rattle.hex.specs.declared.error.FromHexError.{FromHexError}
 use Rattle.hex.specs.Hex.{decode_of}
 use Rattle.blob_header.specs.declared.version.BlobVersion.{BlobVersion}
 use Rattle.blob_header.specs.declared.error.Error.{Error}
@@ -26,13 +25,7 @@ by_refusal (Err e) = Err (refusal_of e)
 abbrev pub resolved_image : List ℕ → Result (Option (ℕ × BlobVersion × ℕ)) Refusal
 resolved_image image = refusing (codes "image") (codes "blob") (resolution image (every_layout 0 65535))
 
--- the reply to an image; where it is a refusal, the refusal may be the one for want of memory
-abbrev pub RepliesTo : Result (List ℕ) FromHexError → Option (List ℕ) → Option (List ℕ) → Type 0
-RepliesTo (Ok image) old new = (reply : List ℕ)
-    × ((reply ≡ resolution_line (resolved_image image)) ⊎ (IsErr (resolved_image image) × (reply ≡ refusal_line Memory)))
-    × Appends old new (reply ++ 10 ∷ [])
-RepliesTo (Err e) old new = ⊥
-
--- a line of hex was answered, by one line
+-- a line of hex was answered, by one line; where that is a refusal, it may be the one for want of memory
 abbrev pub AnswersLine : List ℕ → Option (List ℕ) → Option (List ℕ) → Type 0
-AnswersLine line old new = RepliesTo (decode_of line) old new
+AnswersLine line old new = (image : List ℕ) × (reply : List ℕ) × (decode_of line ≡ Ok image) × Appends old new (reply ++ 10 ∷ [])
+    × ((reply ≡ resolution_line (resolved_image image)) ⊎ (IsErr (resolved_image image) × (reply ≡ refusal_line Memory)))

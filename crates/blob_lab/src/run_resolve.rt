@@ -1,8 +1,7 @@
-ghost use Rattle.std.specs.Prelude.{true, ◌≡◌, ◌≢◌, IfSome, IsErr};
+ghost use Rattle.std.specs.Prelude.{true, ◌≡◌, ◌≢◌, ℕ, IfSome, IsErr};
 ghost use Rattle.std.specs.Io.KnownBytes.{Keeps};
 ghost use Rattle.std.specs.Io.BufRead.{DropsThrough, first_piece};
 ghost use Rattle.hex.specs.Hex.{decode_of};
-ghost use Rattle.blob_lab.specs.Endings.{is_of_resolve};
 ghost use Rattle.blob_lab.specs.ResolveReplies.{AnswersLine};
 ghost use Rattle.blob_lab.specs.Streams.{OfBytes, reader_of, read_failed, writer_of, write_failed, is_flushed};
 
@@ -25,7 +24,7 @@ pub fn run_resolve<R: BufRead, W: Write>(
     ensures bad_image { result ≡ Ending.BadImage → IfSome (R.remaining (reader_of input.old)) (λ bytes. IsErr (decode_of (first_piece 10 bytes))) }
     ensures nothing_written { result ≢ Ending.Done → result ≢ Ending.OutputFailed
         → Keeps (W.contents (writer_of output.old)) (W.contents (writer_of output.new)) }
-    ensures ending { is_of_resolve result ≡ true }
+    ensures ending { ((line : ℕ) → result ≢ Ending.BadCall line) × (result ≢ Ending.Usage) }
     ensures handed_on { result ≡ Ending.Done → is_flushed output.new ≡ true }
     ensures input_failed { result ≡ Ending.InputFailed → read_failed input.new ≡ true }
     ensures output_failed { result ≡ Ending.OutputFailed → write_failed output.new ≡ true }

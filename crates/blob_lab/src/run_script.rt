@@ -1,8 +1,7 @@
-ghost use Rattle.std.specs.Prelude.{◌≡◌, ◌≢◌, ℕ, true};
-ghost use Rattle.blob_lab.specs.Endings.{is_of_script};
-ghost use Rattle.blob_lab.specs.Reading.{IsReadOut};
-ghost use Rattle.blob_lab.specs.Scripts.{OfRun, Prints, PrintsBeforeLine, PrintsTaken, PrintsPart, lines_of, no_script, script_of};
-ghost use Rattle.blob_lab.specs.Streams.{OfBytes, reader_of, read_failed, write_failed, is_flushed};
+ghost use Rattle.std.specs.Prelude.{◌≡◌, ◌≢◌, [], ℕ, true, Some, IfSome};
+ghost use Rattle.std.specs.Io.KnownBytes.{Appends};
+ghost use Rattle.blob_lab.specs.Scripts.{OfRun, Prints, PrintsBeforeLine, PrintsTaken, lines_of, script_of};
+ghost use Rattle.blob_lab.specs.Streams.{AppendsPart, OfBytes, reader_of, read_failed, write_failed, is_flushed};
 
 mod ahead;
 mod answering;
@@ -25,16 +24,16 @@ pub fn run_script<R: Ahead, W: Write>(
     input: &mut Input<R>,
     output: &mut Output<W>,
 ) -> Ending
-    ensures ending { is_of_script result ≡ true }
-    ensures read { result ≡ Ending.Done → IsReadOut (R.remaining (reader_of input.old)) (R.remaining (reader_of input.new)) }
+    ensures ending { (result ≢ Ending.BadImage) × (result ≢ Ending.Usage) }
+    ensures read { result ≡ Ending.Done → IfSome (R.remaining (reader_of input.old)) (λ _. R.remaining (reader_of input.new) ≡ Some []) }
     ensures done { result ≡ Ending.Done
         → OfBytes R.remaining W.contents input.old output.old output.new (λ bytes. Prints (script_of (lines_of bytes))) }
     ensures bad_call { (number : ℕ) → result ≡ Ending.BadCall number
         → OfBytes R.remaining W.contents input.old output.old output.new (PrintsBeforeLine number) }
     ensures taken { result ≢ Ending.OutputFailed
-        → OfRun R.remaining W.contents input.old input.new output.old output.new (PrintsTaken no_script) }
+        → OfRun R.remaining W.contents input.old input.new output.old output.new (PrintsTaken Appends) }
     ensures part { result ≡ Ending.OutputFailed
-        → OfRun R.remaining W.contents input.old input.new output.old output.new (PrintsPart no_script) }
+        → OfRun R.remaining W.contents input.old input.new output.old output.new (PrintsTaken AppendsPart) }
     ensures handed_on { result ≢ Ending.OutputFailed → is_flushed output.new ≡ true }
     ensures input_failed { result ≡ Ending.InputFailed → read_failed input.new ≡ true }
     ensures output_failed { result ≡ Ending.OutputFailed → write_failed output.new ≡ true }

@@ -25,7 +25,7 @@ pub fn explain_script<R: BufRead, W: Write>(
     input: &mut Input<R>,
     output: &mut Output<W>,
 ) -> Ending
-    ensures ending { is_of_script result ≡ true }
+    ensures ending { (result ≢ Ending.BadImage) × (result ≢ Ending.Usage) }
     ensures done { result ≡ Ending.Done
         → OfBytes R.remaining W.contents input.old output.old output.new (λ bytes. Explains (Prints (script_of (lines_of bytes)))) }
     ensures bad_call { (number : ℕ) → result ≡ Ending.BadCall number

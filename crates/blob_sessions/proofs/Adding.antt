@@ -1,5 +1,5 @@
 -- What one more line makes of a preamble.
-use Rattle.std.proofs.Common.{◌≡◌, ℕ, ◌+◌, ◌≤◌, List, [], ◌∷◌, ◌++◌, All, Some, None, true, option_and_then, Vec, String, string_bytes, length, refl, sym, ap, ◌∙◌, append_assoc, arith}
+use Rattle.std.proofs.Common.{◌≡◌, ℕ, ◌+◌, ◌≤◌, List, [], ◌∷◌, ◌++◌, All, Some, None, true, ◌&&◌, if◌then◌else◌, is_none, option_and_then, Vec, String, string_bytes, length, refl, sym, ap, ◌∙◌, append_assoc, arith}
 use Rattle.std.proofs.lemmas.List.{length_push, map-append}
 use Rattle.std.proofs.lemmas.List.Elements.{All-push}
 use Rattle.std.specs.Global.{Global}
@@ -7,7 +7,8 @@ use Rattle.blob_calls.specs.declared.script.setting.Setting.{Setting}
 use Rattle.blob_calls.specs.Acts as acts
 use Rattle.blob_calls.specs.Acts.{Act}
 use Rattle.blob_calls.specs.Lines.{Image, Given, Seed, Configure, line_of}
-use Rattle.blob_lab.specs.Scripts.{Script, no_script, lines_of, with_call, before_calls, unseeded, with_said, with_line}
+use Rattle.blob_calls.specs.Tokens.{is_empty}
+use Rattle.blob_lab.specs.Scripts.{Script, no_script, lines_of, with_said, with_line}
 use Rattle.blob_states.specs.Scripted.{behind_seeded}
 use Rattle.blob_calls.specs.Settings.{configured}
 use Rattle.blob_states.specs.States as states
@@ -28,7 +29,7 @@ pub adds_setting : (p q : Preamble) (line : List ℕ) (setting : Setting) → li
     → (s : Script) → Says p s → Adds s line q
 adds_setting p q line setting says images words seed config set s said =
     let d = configured s.config setting in (
-      with_call (record s { config = d }) (acts.Configure d),
+      record s { config = d; calls = s.calls ++ acts.Configure d ∷ [] },
       ap (option_and_then (with_said s)) says,
       record {
         images = ap (λ is. images_of is.items) images ∙ said.images;
@@ -45,7 +46,7 @@ pub adds_image : (p q : Preamble) (line : List ℕ) (partition : String Global) 
 adds_image p q line partition name bytes says not images words seed config same s said =
     let none = said.none not in let i : states.Image = (string_bytes partition, name.items, bytes.items) in let t : Script = record s { images = s.images ++ i ∷ [] } in (
       t,
-      ap (option_and_then (with_said s)) says ∙ ap (λ calls. before_calls calls t) none,
+      ap (option_and_then (with_said s)) says ∙ ap (λ calls. if is_empty calls then Some t else None) none,
       record {
         images = ap images_of images ∙ map-append (λ j. (string_bytes j.0, j.1.items, j.2.items)) p.images.items ((partition, name, bytes) ∷ []) ∙ ap (λ is. is ++ i ∷ []) said.images;
         words = ap (λ ws. record { given = ws.items; seed = q.seed }) words ∙ ap (λ n. record { given = p.words.items; seed = n }) seed ∙ said.words;
@@ -61,7 +62,7 @@ pub adds_words : (p q : Preamble) (line : List ℕ) (more : List ℕ) → line_o
 adds_words p q line more says not words seed images config same s said =
     let none = said.none not in let t : Script = record s { words = record { given = s.words.given ++ more; seed = s.words.seed } } in (
       t,
-      ap (option_and_then (with_said s)) says ∙ ap (λ calls. before_calls calls t) none,
+      ap (option_and_then (with_said s)) says ∙ ap (λ calls. if is_empty calls then Some t else None) none,
       record {
         images = ap (λ is. images_of is.items) images ∙ said.images;
         words = ap (λ l. record { given = l; seed = q.seed }) words ∙ ap (λ n. record { given = p.words.items ++ more; seed = n }) seed ∙ ap (λ w. record { given = w.given ++ more; seed = w.seed }) said.words;
@@ -77,7 +78,7 @@ pub adds_seed : (p q : Preamble) (line : List ℕ) (seed : ℕ) → line_of line
 adds_seed p q line seed says not first set images words config same s said =
     let none = said.none not in let t : Script = record s { words = behind_seeded s.words.given seed } in (
       t,
-      ap (option_and_then (with_said s)) says ∙ ap (λ calls. option_and_then (unseeded s.words.seed) (before_calls calls t)) none ∙ ap (λ n. unseeded n t) (ap (λ w. w.seed) (sym said.words) ∙ first),
+      ap (option_and_then (with_said s)) says ∙ ap (λ calls. if is_empty calls && is_none s.words.seed then Some t else None) none ∙ ap (λ n. if is_none n then Some t else None) (ap (λ w. w.seed) (sym said.words) ∙ first),
       record {
         images = ap (λ is. images_of is.items) images ∙ said.images;
         words = ap (λ ws. record { given = ws.items; seed = q.seed }) words ∙ ap (λ n. record { given = p.words.items; seed = n }) set ∙ ap (λ w. behind_seeded w.given seed) said.words;

@@ -4,7 +4,7 @@ use Rattle.blob_calls.specs.Acts as acts
 use Rattle.blob_calls.specs.Acts.{Act}
 use Rattle.blob_laboratory.specs.LabStands.{LabStandsFor}
 use Rattle.blob_calls.specs.Lines.{Call, line_of}
-use Rattle.blob_lab.specs.Scripts.{Script, no_script, lines_of, with_line, with_lines}
+use Rattle.blob_lab.specs.Scripts.{Script, lines_of, script_of, with_line}
 use Rattle.blob_states.specs.States.{start}
 use Rattle.blob_laboratory.specs.Tables.{images_of}
 use Rattle.blob_sessions.specs.declared.kept.Kept.{Kept}
@@ -16,7 +16,7 @@ IsSetting act = ⊥
 
 -- these lines are such a script
 pub record AreSettings (lines : List (List ℕ)) (s : Script) : Type 0 where
-  pub script : with_lines no_script lines ≡ Some s
+  pub script : script_of lines ≡ Some s
   pub settings : All IsSetting s.calls
 
 -- a line that can't follow them

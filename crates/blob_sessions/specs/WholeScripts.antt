@@ -1,11 +1,11 @@
 -- What the run of a whole script prints.
 use Rattle.std.specs.Prelude.{◌≡◌, ◌⊎◌, ℕ, List, [], Some, length}
-use Rattle.blob_lab.specs.Scripts.{Prints, PrintsBefore, no_script, lines_of, script_of}
+use Rattle.blob_lab.specs.Scripts.{Prints, PrintsBeforeLine, lines_of, script_of}
 
 -- these bytes: of the whole script, with 0 for a line, or before the bad line of this number
 abbrev pub RunPrints : List ℕ → ℕ → List ℕ → Type 0
 RunPrints script line printed =
-    ((line ≡ 0) × Prints (script_of (lines_of script)) (Some []) (Some printed)) ⊎ PrintsBefore no_script 1 line (lines_of script) (Some []) (Some printed)
+    ((line ≡ 0) × Prints (script_of (lines_of script)) (Some []) (Some printed)) ⊎ PrintsBeforeLine line script (Some []) (Some printed)
 
 -- so many bytes
 abbrev pub WantsRoom : List ℕ → ℕ → ℕ → Type 0

@@ -1,6 +1,6 @@
 // A whole script at once.
 ghost use Rattle.std.specs.Prelude.{◌≡◌, ◌⊎◌, ◌<◌, ◌≤◌, ℕ, Some, [], take, drop, length};
-ghost use Rattle.blob_lab.specs.Scripts.{Prints, PrintsBefore, no_script, lines_of, script_of};
+ghost use Rattle.blob_lab.specs.Scripts.{Prints, PrintsBeforeLine, lines_of, script_of};
 ghost use Rattle.blob_sessions.specs.WholeScripts.{WantsRoom};
 
 use crate::ran::{BAD_LINE, DONE, ENDLESS, NO_MEMORY, NO_ROOM, ScriptRan};
@@ -11,7 +11,7 @@ use std::alloc::Global;
 /// Runs a script, and copies what it prints where there is room for it. Where there is none, `len` says how much is wanted.
 pub fn run(alloc: Global, script: &[u8], replies: &mut [u8]) -> ScriptRan
     ensures done { result.status ≡ DONE → Prints (script_of (lines_of script.now)) (Some []) (Some (take result.len replies.new)) }
-    ensures bad_line { result.status ≡ BAD_LINE → PrintsBefore no_script 1 result.line (lines_of script.now) (Some []) (Some (take result.len replies.new)) }
+    ensures bad_line { result.status ≡ BAD_LINE → PrintsBeforeLine result.line script.now (Some []) (Some (take result.len replies.new)) }
     ensures no_room { result.status ≡ NO_ROOM → length replies.old < result.len }
     ensures wanted { result.status ≡ NO_ROOM → WantsRoom script.now result.line result.len }
     ensures no_line { result.status ≡ DONE → result.line ≡ 0 }
@@ -44,7 +44,7 @@ pub fn run(alloc: Global, script: &[u8], replies: &mut [u8]) -> ScriptRan
 /// How a script ends, and what it prints.
 fn printed_by(alloc: Global, script: &[u8]) -> (Ending, Vec<u8>)
     ensures done { result.0 ≡ Ending.Done → Prints (script_of (lines_of script.now)) (Some []) (Some result.1.items) }
-    ensures bad_call { (number : ℕ) → result.0 ≡ Ending.BadCall number → PrintsBefore no_script 1 number (lines_of script.now) (Some []) (Some result.1.items) }
+    ensures bad_call { (number : ℕ) → result.0 ≡ Ending.BadCall number → PrintsBeforeLine number script.now (Some []) (Some result.1.items) }
 {
     let mut input = Input::new(script);
     let mut output = Output::new(Vec::new(alloc));

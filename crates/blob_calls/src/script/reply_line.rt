@@ -1,9 +1,9 @@
 // Replies as lines.
-ghost use Rattle.std.specs.Prelude.{◌≡◌, ◌++◌, ◌∷◌, OnOk, map, string_bytes};
+ghost use Rattle.std.specs.Prelude.{◌≡◌, ◌++◌, ◌∷◌, OnOk, map, string_bytes, codes, if◌then◌else◌};
 ghost use Rattle.std.specs.List.{flat_map};
 ghost use Rattle.std.specs.Fmt.{decimal};
 ghost use Rattle.blob_faults.specs.Rows.{row_in, rows_in};
-ghost use Rattle.blob_calls.specs.Replies.{reply_line, hex_field, name_field, row_field, digit_of};
+ghost use Rattle.blob_calls.specs.Replies.{reply_line, hex_field, row_field};
 
 use crate::Reply;
 use blob_base::RefusalLine;
@@ -47,6 +47,7 @@ pub fn print_reply(reply: &Reply, line: &mut String) -> Result<(), AllocError>
 }
 
 /// Adds bytes in lower-case hex, no bytes as a dash.
+#[tactic(auto, using(crate::proofs::HexFields::none, crate::proofs::HexFields::some))]
 fn print_hex(bytes: &[u8], line: &mut String) -> Result<(), AllocError>
     ensures { OnOk result (string_bytes line.new ≡ string_bytes line.old ++ hex_field bytes.now) }
 {
@@ -58,7 +59,7 @@ fn print_hex(bytes: &[u8], line: &mut String) -> Result<(), AllocError>
 }
 
 fn print_names(names: &[Vec<u8>], line: &mut String) -> Result<(), AllocError>
-    ensures { OnOk result (string_bytes line.new ≡ string_bytes line.old ++ flat_map (λ name. name_field name.items) names.now) }
+    ensures { OnOk result (string_bytes line.new ≡ string_bytes line.old ++ flat_map (λ name. codes " " ++ hex_field name.items) names.now) }
 {
     for name in names {
         line.push(' ')?;
@@ -78,7 +79,7 @@ fn print_rows(rows: &[(u64, Vec<bool>)], line: &mut String) -> Result<(), AllocE
 }
 
 fn print_choices(choices: &[bool], line: &mut String) -> Result<(), AllocError>
-    ensures { OnOk result (string_bytes line.new ≡ string_bytes line.old ++ map digit_of choices.now) }
+    ensures { OnOk result (string_bytes line.new ≡ string_bytes line.old ++ map (λ kept. if kept then 49 else 48) choices.now) }
 {
     for kept in choices {
         line.push(if *kept { '1' } else { '0' })?;

@@ -2,7 +2,7 @@ use Rattle.std.proofs.Common.{rules, ◌≡◌, ℕ, List, [], ◌++◌, Some, a
 use Rattle.std.proofs.lemmas.Grind.{common_steps}
 use Rattle.std.proofs.lemmas.Option.{IfSome_then}
 use Rattle.blob_lab.specs.declared.ending.Ending.TheVariants.{Done, BadCall}
-use Rattle.blob_lab.specs.Scripts.{Prints, PrintsBefore, lines_of, no_script, script_of}
+use Rattle.blob_lab.specs.Scripts.{Prints, PrintsBeforeLine, lines_of, script_of}
 use Rattle.blob_lab.specs.Streams.{reader_of}
 use Rattle.blob_pictures.specs.Explained.{IsExplained}
 use Rattle.blob_pictures.proofs.explain.explanation.Goals as goal
@@ -12,7 +12,7 @@ returns-clause-text g c =
     let script : List ℕ = c.read_all.new.bytes.items in
     let printed : List ℕ = c.into_writer-printed.result.items in
     let done : c.run_script-ending.result ≡ Done → Prints (script_of (lines_of script)) (Some []) (Some printed) = λ e. first_of (search rules, grind (arith, common_steps)) in
-    let bad_call : (number : ℕ) → c.run_script-ending.result ≡ BadCall number → PrintsBefore no_script 1 number (lines_of script) (Some []) (Some printed) = λ number e. first_of (search rules, grind (arith, common_steps)) in
+    let bad_call : (number : ℕ) → c.run_script-ending.result ≡ BadCall number → PrintsBeforeLine number script (Some []) (Some printed) = λ number e. first_of (search rules, grind (arith, common_steps)) in
     let explained : IsExplained printed c.in-Ok-explained.text.items = first_of (search rules, grind (arith, common_steps)) in
     let none : c.new-script.result.items ≡ [] = first_of (search rules, cc) in
     IfSome_then (g.R.Read.remaining (reader_of c.args.input.now)) c.in_ok-read_all.ensures.read (λ bytes is.
@@ -21,5 +21,5 @@ returns-clause-text g c =
       printed = printed;
       explained = explained;
       done = λ e. subst (λ (xs : List ℕ). Prints (script_of (lines_of xs)) (Some []) (Some printed)) same (done e);
-      bad_call = λ number e. subst (λ (xs : List ℕ). PrintsBefore no_script 1 number (lines_of xs) (Some []) (Some printed)) same (bad_call number e);
+      bad_call = λ number e. subst (λ (xs : List ℕ). PrintsBeforeLine number xs (Some []) (Some printed)) same (bad_call number e);
     })

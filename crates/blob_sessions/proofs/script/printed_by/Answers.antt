@@ -1,5 +1,5 @@
 use Rattle.std.proofs.Common.{rules, ◌≡◌, ℕ, List, [], Option, Some, IfSome, subst}
-use Rattle.blob_lab.specs.Scripts.{Prints, PrintsBefore, no_script, lines_of, script_of}
+use Rattle.blob_lab.specs.Scripts.{Prints, PrintsBeforeLine, lines_of, script_of}
 use Rattle.blob_sessions.proofs.script.printed_by.Goals as goal
 
 -- what is said of known bytes and of a writer, of the bytes and of what it had and has
@@ -13,4 +13,4 @@ returns-clause-done c = λ e.
 
 pub returns-clause-bad_call : goal.returns-clause-bad_call
 returns-clause-bad_call c = λ number e.
-    moved (λ bs old new. PrintsBefore no_script 1 number (lines_of bs) old new) (Some c.new-input.result.reader.now) c.args.script.now (Some c.new-output.result.writer.items) (Some []) (Some c.run_script-ending.new.output.writer.items) (Some c.into_writer.result.items) (search rules) (search rules) (search rules) (c.run_script-ending.ensures.bad_call number e)
+    moved (λ bs old new. PrintsBeforeLine number bs old new) (Some c.new-input.result.reader.now) c.args.script.now (Some c.new-output.result.writer.items) (Some []) (Some c.run_script-ending.new.output.writer.items) (Some c.into_writer.result.items) (search rules) (search rules) (search rules) (c.run_script-ending.ensures.bad_call number e)

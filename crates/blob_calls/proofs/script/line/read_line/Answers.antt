@@ -1,8 +1,7 @@
 use Rattle.std.proofs.Common.{rules, ◌≡◌, ◌∙◌, ap, Some, [], ◌∷◌, true, false}
-use Rattle.blob_calls.specs.Forms.{unless_left}
-use Rattle.blob_calls.specs.Lines.{said_by, statement, is_comment}
+use Rattle.blob_calls.specs.Lines.{said_by, statement}
 use Rattle.blob_calls.specs.Tokens.{tokens}
-use Rattle.blob_calls.proofs.SaidLines.{line_no_text, line_said, said_comment, said_statement}
+use Rattle.blob_calls.proofs.SaidLines.{is_comment, unless_left, line_no_text, line_said, said_comment, said_statement}
 use Rattle.blob_calls.proofs.script.line.read_line.Goals as goal
 
 pub returns-in_default-clause-bad : goal.returns-in_default-clause-bad

@@ -1,5 +1,5 @@
-use Rattle.std.proofs.Common.{◌≡◌, ◌∙◌, ◌++◌, ◌+◌, List, ℕ, IfSome, Option, Some, None, subst, ap, sym, eq-eqb, eqb-true, take, arith, rules}
-use Rattle.std.specs.Io.BufRead.{FillKeeps, take_through}
+use Rattle.std.proofs.Common.{◌+◌, subst, eq-eqb, eqb-true, take, arith, rules}
+use Rattle.std.specs.Io.BufRead.{FillKeeps}
 use Rattle.blob_calls.proofs.Through.{FirstAt, takes_shown, appended, consumed, stops, stops_at}
 use Rattle.blob_calls.proofs.script.reading.take_ready.Goals as goal
 

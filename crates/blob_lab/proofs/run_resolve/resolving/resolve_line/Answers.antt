@@ -1,4 +1,4 @@
-use Rattle.std.proofs.Common.{rules, ◌≡◌, ◌∙◌, ℕ, List, Ok, IfSome, sym, ap, subst}
+use Rattle.std.proofs.Common.{◌≡◌, ◌∙◌, ℕ, List, Ok, IfSome, sym, ap, subst}
 use Rattle.std.specs.Io.BufRead.{first_piece}
 use Rattle.blob_lab.specs.ResolveReplies.{by_refusal, resolution_line}
 use Rattle.blob_lab.specs.Streams.{reader_of, writer_of}

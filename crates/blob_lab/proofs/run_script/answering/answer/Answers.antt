@@ -1,5 +1,5 @@
 use Rattle.std.proofs.Common.{rules, ◌≡◌, ◌∙◌, sym}
-use Rattle.blob_lab.specs.Scripts.{printed_reply}
+use Rattle.blob_lab.specs.ScriptReading.{printed_reply}
 use Rattle.blob_lab.proofs.run_script.answering.answer.Goals as goal
 
 pub returns-clause-part : goal.returns-clause-part

@@ -1,7 +1,7 @@
-use Rattle.std.proofs.Common.{rules, ◌≡◌, ◌+◌, ◌∷◌, ◌∙◌, ℕ, List, inl, inr, ap, refl, Err}
+use Rattle.std.proofs.Common.{rules, ◌≡◌, ◌+◌, ◌∷◌, ◌∙◌, ℕ, List, ap, refl, Err}
 use Rattle.blob_calls.specs.Acts.{act_of}
-use Rattle.blob_lab.specs.ScriptReading.{Begins}
-use Rattle.blob_lab.specs.Scripts.{OfLines, Script}
+use Rattle.blob_lab.specs.ScriptReading.{Begins, OfLines}
+use Rattle.blob_lab.specs.Scripts.{Script}
 use Rattle.blob_lab.specs.Streams.{reader_of, writer_of, StaySound}
 use Rattle.blob_lab.proofs.ScriptRuns.{Settled, begins, settles, awaits_next, prints_all, unread, unanswered}
 use Rattle.blob_lab.proofs.StreamSteps.{tells_behind, unanswered_told}

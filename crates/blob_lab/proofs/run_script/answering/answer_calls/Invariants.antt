@@ -1,8 +1,8 @@
 use Rattle.std.proofs.Common.{List, ℕ, ◌∷◌}
 use Rattle.blob_calls.specs.Acts.{act_of}
 use Rattle.blob_lab.specs.Reading.{StaysKnown}
-use Rattle.blob_lab.specs.ScriptReading.{Begins}
-use Rattle.blob_lab.specs.Scripts.{OfLines, Script}
+use Rattle.blob_lab.specs.ScriptReading.{Begins, OfLines}
+use Rattle.blob_lab.specs.Scripts.{Script}
 use Rattle.blob_lab.specs.Streams.{reader_of, writer_of, lines_left, StaySound}
 use Rattle.blob_lab.proofs.ScriptRuns.{Awaiting}
 use Rattle.blob_lab.proofs.run_script.answering.answer_calls.Given as goal

@@ -1,4 +1,4 @@
-use Rattle.std.proofs.Common.{rules, ◌≡◌, ◌+◌, refl, ap, Ok, Err, arith}
+use Rattle.std.proofs.Common.{rules, ◌≡◌, ◌+◌, refl, ap, Err, arith}
 use Rattle.std.proofs.lemmas.Result.{on_ok_weaker, IfErr-weaker}
 use Rattle.blob_calls.specs.Acts.{act_of}
 use Rattle.blob_laboratory.specs.LabStands.{LabStandsFor}

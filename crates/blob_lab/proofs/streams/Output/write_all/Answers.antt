@@ -2,7 +2,6 @@ use Rattle.std.proofs.Common.{◌≡◌, ℕ, ◌-◌, List, [], ◌++◌, rules
 use Rattle.std.proofs.lemmas.List.{take_rest}
 use Rattle.std.specs.Io.KnownBytes.{Appends}
 use Rattle.std.proofs.KnownBytes.{Appends-kept, Appends-nil, Appends-trans}
-use Rattle.blob_lab.specs.Streams.{writer_of}
 use Rattle.blob_lab.proofs.streams.Output.write_all.Goals as goal
 use Rattle.blob_lab.proofs.streams.Output.write_all.Goals.{in-Ok, in-Err}
 

@@ -1,7 +1,7 @@
 use Rattle.std.proofs.Common.{rules, ◌≡◌, ◌∷◌, [], ◌<◌, length, true, cond, ◌∙◌, sym, ap}
 use Rattle.std.specs.List.{position_or_len, before_first, after_first}
-use Rattle.blob_calls.specs.Tokens.{tokens, is_space, has_bytes}
-use Rattle.blob_calls.proofs.Tokens.{tokens_take, tokens_none, nonempty_has}
+use Rattle.blob_calls.specs.Tokens.{tokens}
+use Rattle.blob_calls.proofs.Tokens.{is_space, has_bytes, tokens_take, tokens_none, nonempty_has}
 use Rattle.blob_calls.proofs.script.token.Tokens.next.Goals as goal
 
 pub returns-then-not-is_empty-clause-some : goal.returns-then-not-is_empty-clause-some

@@ -3,9 +3,9 @@ use Rattle.std.proofs.KnownBytes.{Keeps-trans}
 use Rattle.blob_lab.specs.declared.run_script.lines.Preamble.{Preamble}
 use Rattle.blob_calls.specs.Acts.{act_of}
 use Rattle.blob_calls.specs.Lines.{Configure, Call, said_by}
-use Rattle.blob_lab.specs.ScriptReading.{TakesPart, preamble_of}
+use Rattle.blob_lab.specs.ScriptReading.{OfLines, TakesPart, preamble_of}
 use Rattle.blob_states.specs.Scripted.{behind_seeded}
-use Rattle.blob_lab.specs.Scripts.{OfLines, Script, with_said}
+use Rattle.blob_lab.specs.Scripts.{Script, with_said}
 use Rattle.blob_lab.specs.Streams.{reader_of}
 use Rattle.blob_lab.proofs.ScriptLines.{taken_whole}
 use Rattle.blob_lab.proofs.StreamSteps.{any_error, tells_behind}
@@ -41,7 +41,7 @@ returns-then-is_some-clause-bad g c = λ number is.
     let some : c.lines.preamble.seed ≢ None = search rules in
     line_bad (preamble_of c.args.preamble.now c.args.self.now.config) t (c.args.self.now.number + 1) c.lines.self.number number
     (g.R.Read.remaining (reader_of c.args.input.now)) (g.R.Read.remaining (reader_of c.lines.input)) (g.R.Read.remaining (reader_of c.next_line.new.input)) (Some (said_by c.in-Some.line))
-    c.lines.invariant.taken (search rules) (ap (λ l. with_said t (said_by l)) c.in-Seed.is ∙ none_behind_seed c.lines.preamble.seed (Some (record t { words = behind_seeded t.words.given c.in-Seed.seed })) some) (search rules)
+    c.lines.invariant.taken (search rules) (ap (λ l. with_said t (said_by l)) c.in-Seed.is ∙ none_behind_seed c.lines.preamble.seed (record t { words = behind_seeded t.words.given c.in-Seed.seed }) some) (search rules)
 
 pub returns-in_err-line-clause-part : goal.returns-in_err-line-clause-part
 returns-in_err-line-clause-part g c =

@@ -1,11 +1,10 @@
 use Rattle.std.proofs.Common.{◌≡◌, ◌+◌, ◌≤◌}
 use Rattle.std.specs.Io.KnownBytes.{Keeps}
 use Rattle.blob_lab.specs.Reading.{StaysKnown}
-use Rattle.blob_lab.specs.ScriptReading.{preamble_of}
+use Rattle.blob_lab.specs.ScriptReading.{OfLines, preamble_of}
 use Rattle.blob_lab.specs.Streams.{reader_of, writer_of, lines_left, StaySound}
 use Rattle.blob_lab.proofs.ScriptSteps.{TakesFront}
 use Rattle.blob_lab.proofs.run_script.lines.Lines.first_call.Given as goal
-use Rattle.blob_lab.specs.Scripts.{OfLines}
 
 abbrev pub invariant-lines : goal.invariant-lines
 invariant-lines g l = record {

@@ -1,12 +1,12 @@
-use Rattle.std.proofs.Common.{rules, Err, ◌≡◌, option_and_then, ◌+◌, Some, None, inl, inr, refl, ap, ◌∙◌}
+use Rattle.std.proofs.Common.{rules, Err, ◌≡◌, ◌+◌, Some, None, inl, inr, refl, ap, ◌∙◌}
 use Rattle.std.proofs.KnownBytes.{Keeps-trans}
 use Rattle.blob_calls.specs.Acts.{act_of}
 use Rattle.blob_calls.specs.Lines.{Blank, Configure, Call, said_by}
-use Rattle.blob_lab.specs.Scripts.{unseeded, with_said}
+use Rattle.blob_lab.specs.Scripts.{with_said}
 use Rattle.blob_lab.specs.Streams.{reader_of}
 use Rattle.blob_lab.proofs.ScriptLines.{taken_whole}
 use Rattle.blob_lab.proofs.StreamSteps.{tells_behind}
-use Rattle.blob_lab.proofs.ScriptSteps.{line_more, line_part, line_call, line_bad, lines_over, said_call, said_setting, none_behind_calls}
+use Rattle.blob_lab.proofs.ScriptSteps.{line_more, line_part, line_call, line_bad, lines_over, said_call, said_setting, none_behind_calls, no_seed_behind_calls}
 use Rattle.blob_lab.proofs.run_script.lines.Lines.next_call.Goals as goal
 
 pub returns-in_err-line-clause-bad : goal.returns-in_err-line-clause-bad
@@ -40,7 +40,7 @@ returns-in-Image-clause-bad g c = λ number is s some.
       | inl (p, n, bytes, e) ↦ ap (λ l. with_said s (said_by l)) e ∙ none_behind_calls s.calls _ some
       | inr more ↦ elim more [
         | inl (words, e) ↦ ap (λ l. with_said s (said_by l)) e ∙ none_behind_calls s.calls _ some
-        | inr (seed, e) ↦ ap (λ l. with_said s (said_by l)) e ∙ ap (option_and_then (unseeded s.words.seed)) (none_behind_calls s.calls _ some)
+        | inr (seed, e) ↦ ap (λ l. with_said s (said_by l)) e ∙ no_seed_behind_calls s.calls _ _ some
       ]
     ])
     (search rules)

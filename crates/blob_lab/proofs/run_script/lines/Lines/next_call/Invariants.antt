@@ -1,7 +1,8 @@
 use Rattle.std.proofs.Common.{◌≡◌, ◌+◌, ◌≤◌}
 use Rattle.std.specs.Io.KnownBytes.{Keeps}
 use Rattle.blob_lab.specs.Reading.{StaysKnown}
-use Rattle.blob_lab.specs.Scripts.{OfLines, Script}
+use Rattle.blob_lab.specs.ScriptReading.{OfLines}
+use Rattle.blob_lab.specs.Scripts.{Script}
 use Rattle.blob_lab.specs.Streams.{reader_of, writer_of, lines_left, StaySound}
 use Rattle.blob_lab.proofs.ScriptSteps.{TakesFront}
 use Rattle.blob_lab.proofs.run_script.lines.Lines.next_call.Given as goal
