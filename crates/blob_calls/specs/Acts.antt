@@ -13,9 +13,7 @@ pub data Ask : Type 0 where
   Read : ℕ → ℕ → Ask
   Write : ℕ → List ℕ → Bool → Ask  -- with `true` a SYNC write
   Resize : ℕ → Ask
-  Size : Ask
-  Sync : Ask
-  StartSync : Ask
+  Size Sync StartSync : Ask
 
 -- the first and the last version that an open accepts
 abbrev pub AcceptedVersions : Type 0
@@ -31,8 +29,7 @@ pub data Act : Type 0 where
   Finish : ℕ → Act
   Remove : List ℕ → Option (List ℕ) → Act
   Scan : List ℕ → Act
-  Crash : Act
-  Reopen : Act
+  Crash Reopen : Act
 
 -- a range that is exhausted, or starts behind its end, is empty
 abbrev pub accepted_versions : Bool → ℕ → ℕ → Option AcceptedVersions

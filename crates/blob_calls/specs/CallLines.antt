@@ -28,5 +28,4 @@ call = beside (
     ∷ (codes "remove", do partition ← text; named ← name; gives (Remove partition named))
     ∷ (codes "scan", do partition ← text; gives (Scan partition))
     ∷ (codes "crash", gives Crash)
-    ∷ (codes "reopen", gives Reopen)
-    ∷ []) no_form
+    ∷ (codes "reopen", gives Reopen) ∷ []) no_form

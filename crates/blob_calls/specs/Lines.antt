@@ -32,8 +32,7 @@ statement word = beside (
     (codes "image", do partition ← text; name ← hex; bytes ← hex; gives (Image partition name bytes))
     ∷ (codes "words", do read ← words; gives (Given read))
     ∷ (codes "seed", do read ← digits; gives (Seed read))
-    ∷ (codes "config", do set ← setting; gives (Configure set))
-    ∷ [])
+    ∷ (codes "config", do set ← setting; gives (Configure set)) ∷ [])
     (do act ← call word; gives (Call act)) word
 
 -- a comment begins at its first character

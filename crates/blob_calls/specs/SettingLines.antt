@@ -16,8 +16,7 @@ abbrev pub mode : Form PartialWriteMode
 mode = by_word (
     (codes "prefix", gives Prefix)
     ∷ (codes "subset", gives Subset)
-    ∷ (codes "sectors", do size ← digits; gives_some (if nat_lt 0 size then Some (Sectors size) else None))
-    ∷ [])
+    ∷ (codes "sectors", do size ← digits; gives_some (if nat_lt 0 size then Some (Sectors size) else None)) ∷ [])
 
 abbrev pub setting : Form Setting
 setting = by_word (
@@ -28,5 +27,4 @@ setting = by_word (
     ∷ (codes "resize", do failure ← rate; partial ← rate; gives (Resize (record { failure_rate = failure; partial_rate = partial })))
     ∷ (codes "remove", do r ← rate; gives (Remove r))
     ∷ (codes "scan", do r ← rate; gives (Scan r))
-    ∷ (codes "clear", gives Clear)
-    ∷ [])
+    ∷ (codes "clear", gives Clear) ∷ [])

@@ -16,8 +16,7 @@ pub data Told : Type 0 where
   Started : ℕ → Told
   Crashed : List Row → Told
   Failed : Refusal → Told
-  NoHandle : Told
-  EmptyRange : Told
+  NoHandle EmptyRange : Told
 
 -- whether a reply says this; names are listed once each, sorted by their bytes
 abbrev pub Tells : Reply → Told → Type 0
