@@ -5,6 +5,7 @@ use Rattle.blob_model.specs.Live.{is_idle}
 use Rattle.blob_header.specs.Refusals.{Refusal, Memory, Injected, OffsetOverflow, WriteFailed, GenerationsExhausted}
 use Rattle.blob_model.specs.Runs.{Run, runs}
 use Rattle.blob_faults.specs.declared.config.Config.{Config}
+use Rattle.blob_faults.specs.Changes.{lacks_number}
 use Rattle.blob_faults.specs.Fates.{has_uncounted_end}
 use Rattle.blob_faults.specs.Faults.{WriteFate, Done, Unsynced, Failed, ResizeFate, Resizes, Stays, Reaches, drawn_fate, retention}
 
@@ -24,11 +25,6 @@ injected_for inner answer = ((answer ≡ Some Injected) × inner None) ⊎ (IsSo
 -- the call takes memory of its own
 abbrev pub or_memory : Allowed → Allowed
 or_memory inner answer = (answer ≡ Some Memory) ⊎ inner answer
-
--- no number is left for a write that is recorded
-abbrev pub lacks_number : Bool → ℕ → List ℕ → Bool
-lacks_number retained next [] = false
-lacks_number retained next (b ∷ bytes) = retained && (next == 2 ^ 64 - 1)
 
 abbrev pub numbered : Bool → Allowed → Allowed
 numbered true inner answer = answer ≡ Some GenerationsExhausted

@@ -1,6 +1,6 @@
 -- What a write or a resize adds to the log and makes of its handle, over a store that injects nothing. Another one may refuse
 -- a call with some of it done, and its `Injected` is told apart from the wrapper's by nothing.
-use Rattle.std.specs.Prelude.{ℕ, ◌+◌, max, Bool, true, false, List, [], ◌∷◌, length, take, fold, Option, Some, None, if◌then◌else◌}
+use Rattle.std.specs.Prelude.{ℕ, ◌+◌, ◌-◌, ◌^◌, ◌==◌, max, Bool, true, false, ◌&&◌, List, [], ◌∷◌, length, take, fold, Option, Some, None, if◌then◌else◌}
 use Rattle.blob_model.specs.Bytes.{resized}
 use Rattle.blob_model.specs.Live.{all_written}
 use Rattle.blob_model.specs.Log.{Entry, Kept, Loose, Resized}
@@ -15,6 +15,11 @@ abbrev pub loose : Option (PartialWriteMode × Rate) → ℕ → ℕ → List �
 loose kept number offset [] = []
 loose None number offset (b ∷ bytes) = []
 loose (Some kept) number offset (b ∷ bytes) = Loose (record { number = number; offset = offset; bytes = b ∷ bytes; mode = kept.0; rate = kept.1 }) ∷ []
+
+-- no number is left for a write that is recorded
+abbrev pub lacks_number : Bool → ℕ → List ℕ → Bool
+lacks_number retained next [] = false
+lacks_number retained next (b ∷ bytes) = retained && (next == 2 ^ 64 - 1)
 
 -- a size that some runs raise to the greatest of their ends
 abbrev pub size_of_runs : ℕ → List Run → ℕ

@@ -6,7 +6,8 @@ use Rattle.blob_model.specs.Live.{is_idle}
 use Rattle.blob_header.specs.Refusals.{Refusal, OffsetOverflow}
 use Rattle.blob_model.specs.Runs.{Run, runs}
 use Rattle.blob_faults.specs.declared.config.Config.{Config}
-use Rattle.blob_faults.specs.Answers.{Allowed, injected_for, or_memory, numbered, lacks_number, last_end, allows_laid, allows_runs, allows_fate, allows_write}
+use Rattle.blob_faults.specs.Changes.{lacks_number}
+use Rattle.blob_faults.specs.Answers.{Allowed, injected_for, or_memory, numbered, last_end, allows_laid, allows_runs, allows_fate, allows_write}
 use Rattle.blob_faults.specs.Fates.{has_uncounted_end}
 use Rattle.blob_faults.specs.Faults.{WriteFate, Done, Unsynced, Failed, drawn_fate, retention}
 

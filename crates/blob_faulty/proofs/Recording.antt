@@ -9,10 +9,10 @@ use Rattle.blob_model.specs.Rates.{Rate}
 use Rattle.blob_header.specs.Refusals.{OffsetOverflow}
 use Rattle.blob_model.specs.Runs.{runs}
 use Rattle.blob_faults.specs.declared.config.Config.{Config}
-use Rattle.blob_faults.specs.Answers.{Allowed, allows_write, allows_fate, allows_runs, or_memory, numbered, injected_for, lacks_number}
+use Rattle.blob_faults.specs.Changes.{lacks_number, write_changes}
+use Rattle.blob_faults.specs.Answers.{Allowed, allows_write, allows_fate, allows_runs, or_memory, numbered, injected_for}
 use Rattle.blob_faults.specs.Fates.{has_uncounted_end}
 use Rattle.blob_faults.specs.Faults.{WriteFate, Uncounted, Done, Unsynced, Failed, drawn_fate, retention}
-use Rattle.blob_faults.specs.Changes.{write_changes}
 use Rattle.blob_faults.specs.Recorded.{kept, recorded_write}
 
 -- an Ok is no fault in place of one

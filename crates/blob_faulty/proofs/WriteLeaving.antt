@@ -1,6 +1,6 @@
 -- What a write leaves, from what its fate makes of a handle and its wrapper.
 use Rattle.std.specs.Prelude.{max, is_some, MatchBool}
-use Rattle.std.proofs.Common.{◌≡◌, ◌≢◌, ⊎_elim, ℕ, ◌+◌, ◌^◌, ◌<◌, Bool, true, false, true≢false, cond, List, [], ◌∷◌, length, Option, Some, None, inl, inr, refl, sym, ◌∙◌, ap, subst, arith}
+use Rattle.std.proofs.Common.{◌≡◌, ◌≢◌, ⊎_elim, ℕ, ◌+◌, ◌^◌, ◌<◌, Bool, true, false, true≢false, List, [], ◌∷◌, length, Option, Some, None, inl, inr, refl, sym, ◌∙◌, ap, subst, arith}
 use Rattle.std.proofs.lemmas.Bool.{cond-false, cond-true, le-ltb}
 use Rattle.rand_core.specs.Stream.{Stream}
 use Rattle.blob_base.specs.declared.storage.Blob as handles
@@ -8,7 +8,7 @@ use Rattle.blob_base.specs.declared.storage.Durable as stores
 use Rattle.blob_header.specs.Refusals.{Refusal, Memory, Injected, OffsetOverflow, WriteFailed}
 use Rattle.blob_model.specs.Live.{is_idle}
 use Rattle.blob_faults.specs.declared.config.Config.{Config}
-use Rattle.blob_faults.specs.Fates.{has_uncounted_end, after_write}
+use Rattle.blob_faults.specs.Fates.{has_uncounted_end}
 use Rattle.blob_faults.specs.Faults.{WriteFate, Uncounted, Failed, drawn_fate, write_fate, retention}
 use Rattle.blob_faults.specs.Changes.{Changes, laying, write_changes}
 use Rattle.blob_faults.specs.Recorded.{written_by, recorded_write, live_of_write, size_of_write}

@@ -6,7 +6,8 @@ use Rattle.blob_header.specs.Refusals.{Refusal}
 use Rattle.blob_model.specs.Directory.{is_current}
 use Rattle.blob_model.specs.Holes.{Holes}
 use Rattle.blob_model.specs.Runs.{Run}
-use Rattle.blob_faults.specs.Answers.{Allowed, or_memory, numbered, lacks_number, allows_fate, allows_laid, allows_runs}
+use Rattle.blob_faults.specs.Changes.{lacks_number}
+use Rattle.blob_faults.specs.Answers.{Allowed, or_memory, numbered, allows_fate, allows_laid, allows_runs}
 use Rattle.blob_faults.specs.Faults.{WriteFate, retention}
 use Rattle.blob_faults.specs.Lists.{HasRoomAt}
 use Rattle.blob_faulty.specs.declared.blob.Blob.{Blob}

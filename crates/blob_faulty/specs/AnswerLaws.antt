@@ -6,7 +6,8 @@ use Rattle.rand_core.specs.Stream.{Stream}
 use Rattle.blob_header.specs.Refusals.{Refusal, OffsetOverflow, Memory}
 use Rattle.blob_model.specs.Runs.{runs}
 use Rattle.blob_faults.specs.declared.config.Config.{Config}
-use Rattle.blob_faults.specs.Answers.{Allowed, or_memory, injected_or, injected_for, numbered, lacks_number, allows_runs, allows_fate, allows_write}
+use Rattle.blob_faults.specs.Changes.{lacks_number}
+use Rattle.blob_faults.specs.Answers.{Allowed, or_memory, injected_or, injected_for, numbered, allows_runs, allows_fate, allows_write}
 use Rattle.blob_faults.specs.Fates.{has_uncounted_end}
 use Rattle.blob_faults.specs.Faults.{WriteFate, Done, Unsynced, Failed, drawn_fate, retention}
 

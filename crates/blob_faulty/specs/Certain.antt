@@ -9,7 +9,8 @@ use Rattle.blob_faults.specs.Fates.{write_failure, has_uncounted_end}
 use Rattle.blob_faults.specs.Faults.{retention}
 use Rattle.blob_faulty.specs.declared.blob.Blob.{Blob}
 use Rattle.blob_faulty.specs.declared.storage.Storage.{Storage}
-use Rattle.blob_faults.specs.Answers.{or_memory, lacks_number}
+use Rattle.blob_faults.specs.Changes.{lacks_number}
+use Rattle.blob_faults.specs.Answers.{or_memory}
 use Rattle.blob_faulty.specs.Wrapper.{inner_of, config_of, next_write_of, next_marker_of, inside}
 
 -- not set, or zero

@@ -2,7 +2,6 @@
 use Rattle.std.specs.Prelude.{◌≡◌, ◌<◌, ◌+◌, ℕ, List, Bool, false, not, ◌&&◌, length, slice_index_or, Vec}
 use Rattle.std.specs.Global.{Global}
 use Rattle.rand_core.specs.Stream.{Stream}
-use Rattle.blob_model.specs.Directory.{Directory}
 use Rattle.blob_model.specs.Draws.{drawn, chosen_by}
 use Rattle.blob_model.specs.Durable.{Durable, with_changed}
 use Rattle.blob_model.specs.Files.{Files, all_needs, after_crash}

@@ -1,5 +1,5 @@
 -- What is asked of a handle by a write and by a resize, from what the wrapper promises of them.
-use Rattle.std.proofs.Common.{inl, [], false, refl, ap, ◌≡◌, ◌≢◌, ℕ, ◌<◌, inr, List, Bool, true, Option, Some, None, sym, ◌∙◌, subst, length, if◌then◌else◌}
+use Rattle.std.proofs.Common.{inl, [], refl, ap, ◌≡◌, ◌≢◌, ℕ, ◌<◌, inr, List, Bool, true, Option, Some, None, sym, ◌∙◌, subst, length}
 use Rattle.std.specs.Prelude.{is_some}
 use Rattle.blob_model.specs.Live.{is_idle}
 use Rattle.blob_model.specs.Directory.{Directory}
@@ -10,8 +10,6 @@ use Rattle.blob_header.specs.Refusals.{Refusal, Memory, Injected, refusal_of}
 use Rattle.blob_model.specs.Runs.{runs, AreRunsApart}
 use Rattle.blob_header.specs.declared.error.Error.{Error}
 use Rattle.blob_faults.specs.Answers.{allows_write, allows_fate, allows_resize, injected_for}
-use Rattle.blob_model.specs.declared.mode.PartialWriteMode.{PartialWriteMode}
-use Rattle.blob_model.specs.Rates.{Rate}
 use Rattle.blob_faults.specs.Fates.{has_uncounted_end, after_write}
 use Rattle.blob_faults.specs.Faults.{ResizeFate, Resizes, Stays, Reaches, drawn_fate, write_fate, resize_fate, retention}
 use Rattle.blob_faults.specs.Changes.{Changes, laying, resize_changes}
@@ -22,8 +20,8 @@ use Rattle.blob_memory.specs.Answers.{OrMemory, AllowsWrite, end_refusal}
 use Rattle.blob_memory.specs.Store.{directory, durable}
 use Rattle.blob_calls.specs.declared.reply.Reply.TheVariants as reply
 use Rattle.blob_calls.specs.Acts.{Write, Resize}
-use Rattle.blob_states.specs.Denials.{fate_denial, write_denial, reaching_denial}
-use Rattle.blob_states.specs.Steps.{or_injected}
+use Rattle.blob_states.specs.Denials.{reaching_denial}
+use Rattle.blob_states.specs.Steps.{write_denial_by, write_denial, or_injected}
 use Rattle.blob_laboratory.specs.LabStands.{Wrapper, Wraps, Asks, stream_of}
 use Rattle.blob_faulty.specs.Keeps.{IsFor}
 use Rattle.blob_states.specs.States.{State, Held}
@@ -47,7 +45,7 @@ same_held h h' live size p l s r i = record { place = p i; live = l i; size = s 
 module _ (w w' : Wrapper) (h h' : Held) (room : Bool → ℕ) (offset : ℕ) (bytes : List ℕ) (sync : Bool) (apart : (chosen : List Bool) → AreRunsApart offset (runs offset bytes chosen))
     (names : directory (store_of w') ≡ directory (store_of w)) (config : config_of w' ≡ config_of w) (place : h'.place ≡ h.place) (registration : h'.registration ≡ h.registration) where
   abbrev denial : Directory → ℕ → Option Refusal
-  denial d next = fate_denial (write_fate (config_of w) sync offset bytes (stream_of w)).0 d h.place (is_some (retention (config_of w).write_rate)) next sync offset bytes
+  denial d next = write_denial_by (write_fate (config_of w) sync offset bytes (stream_of w)).0 d h.place (is_some (retention (config_of w).write_rate)) next sync offset bytes
 
   abbrev allowed : Option Refusal → Type 0
   allowed answer =

@@ -26,7 +26,8 @@ use Rattle.blob_calls.specs.declared.reply.Reply.TheVariants as reply
 use Rattle.blob_calls.specs.Acts.{Open}
 use Rattle.blob_states.specs.After.{exclusively_opened}
 use Rattle.blob_states.specs.Answers.{told_opened, IsAnswer, unless_denied}
-use Rattle.blob_states.specs.Denials.{refused_if, is_unnumbered, open_denial}
+use Rattle.blob_states.specs.Steps.{is_unnumbered, open_denial}
+use Rattle.blob_states.specs.Denials.{refused_if}
 use Rattle.blob_laboratory.specs.LabStands.{LabStandsFor, Performs, Wrapper, stream_of}
 use Rattle.blob_faulty.specs.Keeps.{IsFor}
 use Rattle.blob_opens.specs.OpenNames as names
@@ -39,10 +40,7 @@ use Rattle.blob_states.proofs.Denying.{not_memory}
 use Rattle.blob_laboratory.proofs.LooseOpens.{IsOpenAllowed, open_denied_by, open_denied, open_tells, open_adds, open_given}
 use Rattle.blob_laboratory.proofs.Performing.{state_of, performs}
 use Rattle.blob_states.proofs.Telling.{done_answers, failed_answers}
-
--- what an exclusive open leaves of the stream
-abbrev left_of_open : State → List ℕ → List ℕ → Stream
-left_of_open v p n = if is_unnumbered v.names p n then v.stream else (draw v.config.open_rate v.stream).1
+use Rattle.blob_states.proofs.ToldOpens.{left_of_open, exclusive_answers}
 
 -- A store's open isn't refused as open already.
 
@@ -130,7 +128,7 @@ module _ (lab lab' : Lab) (p n : List ℕ) (first last : ℕ) where
   drawn_left = (draw (config_of lab.wrapper).open_rate (stream_of lab.wrapper)).1
 
   abbrev denial : Bool → Directory → Option ℕ → Option Refusal
-  denial unnumbered d held = option_or (refused_if GenerationsExhausted unnumbered) (option_or (open_denied_by lab.wrapper p n first last d) (if is_some held then Some (BlobAlreadyOpen p (encode_lower n)) else None))
+  denial unnumbered d held = option_or (refused_if GenerationsExhausted unnumbered) (option_or (open_denied_by lab.wrapper p n first last d) (refused_if (BlobAlreadyOpen p (encode_lower n)) (is_some held)))
 
   denial_seen : (f : Files) → LabStandsFor lab (state_of lab f) → (unnumbered : Bool) → is_unnumbered (names_of lab.opens) p n ≡ unnumbered → (held : Option ℕ) → (names_of lab.opens).registered p n ≡ held
       → denial unnumbered (directory (store_of lab.wrapper)) held ≡ open_denial (state_of lab f) p n first last
@@ -152,10 +150,11 @@ module _ (lab lab' : Lab) (p n : List ℕ) (first last : ℕ) where
       (λ f s.
       let numbered : is_unnumbered (names_of lab.opens) p n ≡ false = numbered_false (names_of lab.opens) p n left in
       let store : None ≡ open_denied_by lab.wrapper p n first last (directory (store_of lab.wrapper)) = not_memory (open_denied_by lab.wrapper p n first last (directory (store_of lab.wrapper))) (open_denied lab.wrapper p n first last None a) in
-      done_answers (reply.Opened number size ver) (open_denial (state_of lab f) p n first last) (told_opened (state_of lab f) p n (first, last)) (stream_of lab'.wrapper) (left_of_open (state_of lab f) p n)
+      exclusive_answers (state_of lab f) p n (first, last) (reply.Opened number size ver) (stream_of lab'.wrapper)
+      (done_answers (reply.Opened number size ver) (open_denial (state_of lab f) p n first last) (told_opened (state_of lab f) p n (first, last)) (stream_of lab'.wrapper) (left_of_open (state_of lab f) p n)
       (open_tells lab lab' w p n first last o live version h number size ver opens count long is place bytes tracked table same-names same-bytes f s)
       (ap (λ (x : Option Refusal). option_or x None) store ∙ denial_seen f s false numbered None free)
-      (stream ∙ left_seen f false numbered))
+      (stream ∙ left_seen f false numbered)))
       (λ f s.
       let f' = admitted (after_open f p n first last) p n in
       let s' = stands f s.wrapper.files in
@@ -183,7 +182,8 @@ module _ (lab lab' : Lab) (p n : List ℕ) (first last : ℕ) where
         let numbered : is_unnumbered (names_of lab.opens) p n ≡ false = held_false (names_of lab.opens) p n k here in
         let store : None ≡ open_denied_by lab.wrapper p n first last (directory (store_of lab.wrapper)) = not_memory (open_denied_by lab.wrapper p n first last (directory (store_of lab.wrapper))) (open_denied lab.wrapper p n first last None a) in
         let already : Some (BlobAlreadyOpen p (encode_lower n)) ≡ open_denial (state_of lab f) p n first last = ap (λ (x : Option Refusal). option_or x (Some (BlobAlreadyOpen p (encode_lower n)))) store ∙ denial_seen f s false numbered (Some k) here in
-        refused_as e (open_denial (state_of lab f) p n first last) (inr (ap Some is ∙ already)) (stream_of lab'.wrapper) (left_of_open (state_of lab f) p n) (stream ∙ left_seen f false numbered) (state_of lab f))
+        exclusive_answers (state_of lab f) p n (first, last) (reply.Failed e) (stream_of lab'.wrapper)
+        (refused_as e (open_denial (state_of lab f) p n first last) (inr (ap Some is ∙ already)) (stream_of lab'.wrapper) (left_of_open (state_of lab f) p n) (stream ∙ left_seen f false numbered) (state_of lab f)))
         (λ f s.
         let s' = stands f s.wrapper.files in
         subst (λ (r : Refusal). LabStandsFor lab' (record (exclusively_opened (state_of lab f) p n (first, last) (Some r)) { stream = stream_of lab'.wrapper })) (sym is)
@@ -217,7 +217,8 @@ module _ (lab lab' : Lab) (p n : List ℕ) (first last : ℕ) where
       exclusive_exhausted is out stream = performs lab lab' (Open p n (Some (first, last))) (reply.Failed e)
           (λ f s.
           let none : is_unnumbered (names_of lab.opens) p n ≡ true = exhausted_true (names_of lab.opens) p n out in
-          refused_as e (open_denial (state_of lab f) p n first last) (inr (ap Some is ∙ denial_seen f s true none None out.free)) (stream_of lab'.wrapper) (left_of_open (state_of lab f) p n) (stream ∙ left_seen f true none) (state_of lab f))
+          exclusive_answers (state_of lab f) p n (first, last) (reply.Failed e) (stream_of lab'.wrapper)
+          (refused_as e (open_denial (state_of lab f) p n first last) (inr (ap Some is ∙ denial_seen f s true none None out.free)) (stream_of lab'.wrapper) (left_of_open (state_of lab f) p n) (stream ∙ left_seen f true none) (state_of lab f)))
           (λ f s. stays GenerationsExhausted exhausted_other is f s)
 
       -- the store refused
@@ -231,7 +232,8 @@ module _ (lab lab' : Lab) (p n : List ℕ) (first last : ℕ) where
           performs lab lab' (Open p n (Some (first, last))) (reply.Failed e)
           (λ f s.
           let held = (names_of lab.opens).registered p n in
-          let told : Some (refusal_of e) ≡ denial false (directory (store_of lab.wrapper)) held = subst (λ (x : Option Refusal). Some (refusal_of e) ≡ option_or x (if is_some held then Some (BlobAlreadyOpen p (encode_lower n)) else None)) is refl in
-          refused_as e (open_denial (state_of lab f) p n first last) (inr (told ∙ denial_seen f s false numbered held refl)) (stream_of lab'.wrapper) (left_of_open (state_of lab f) p n) (stream ∙ left_seen f false numbered) (state_of lab f))
+          let told : Some (refusal_of e) ≡ denial false (directory (store_of lab.wrapper)) held = subst (λ (x : Option Refusal). Some (refusal_of e) ≡ option_or x (refused_if (BlobAlreadyOpen p (encode_lower n)) (is_some held))) is refl in
+          exclusive_answers (state_of lab f) p n (first, last) (reply.Failed e) (stream_of lab'.wrapper)
+          (refused_as e (open_denial (state_of lab f) p n first last) (inr (told ∙ denial_seen f s false numbered held refl)) (stream_of lab'.wrapper) (left_of_open (state_of lab f) p n) (stream ∙ left_seen f false numbered) (state_of lab f)))
           (λ f s. stays (refusal_of e) other refl f s))
           (open_denied lab.wrapper p n first last (Some (refusal_of e)) a)

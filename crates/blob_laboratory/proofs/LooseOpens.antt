@@ -20,7 +20,8 @@ use Rattle.blob_laboratory.specs.declared.lab.Lab.{Lab}
 use Rattle.blob_calls.specs.declared.reply.Reply.TheVariants as reply
 use Rattle.blob_calls.specs.Acts.{OpenLoose}
 use Rattle.blob_states.specs.Answers.{told_opened, opened_size, opened_version}
-use Rattle.blob_states.specs.Denials.{refused_if, loose_denial}
+use Rattle.blob_states.specs.Steps.{loose_denial}
+use Rattle.blob_states.specs.Denials.{refused_if}
 use Rattle.blob_laboratory.specs.LabStands.{LabStandsFor, Performs, Wrapper, stream_of}
 use Rattle.blob_faulty.specs.Keeps.{IsFor}
 use Rattle.blob_opens.specs.OpenNames.{Registration}

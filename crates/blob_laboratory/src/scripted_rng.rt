@@ -1,6 +1,8 @@
 //! A generator whose first words are given.
 ghost use Rattle.std.specs.Prelude.{◌≡◌};
-ghost use Rattle.blob_states.specs.Scripted.{next_of, scripted, state_of};
+ghost use Rattle.blob_states.specs.Scripted.{next_of, scripted};
+ghost use Rattle.rand_xoshiro.specs.SplitMix64.{splitmix_seed};
+ghost use Rattle.rand_xoshiro.specs.Xoshiro256.{of_seed};
 
 use rand_core::utils::NextWord;
 use rand_core::{Rng, SeedableRng, utils};
@@ -42,7 +44,7 @@ impl ScriptedRng {
 
     /// A generator of these words, and of those of `Xoshiro256PlusPlus::seed_from_u64` behind them.
     pub fn seeded(words: Vec<u64>, seed: u64) -> ScriptedRng
-        ensures { result ≡ (words.items, Some (state_of seed)) }
+        ensures { result ≡ (words.items, Some (of_seed (splitmix_seed 32 seed))) }
     {
         ScriptedRng {
             words,

@@ -11,14 +11,14 @@ pub record Registration : Type 0 where
   pub number : ℕ
 
 pub record OpenNames : Type 0 where
-  pub registered : List ℕ → List ℕ → Option ℕ -- the number of the open that a name is held by
-  pub next : ℕ -- the next open's number
+  pub registered : List ℕ → List ℕ → Option ℕ  -- the number of the open that a name is held by
+  pub next : ℕ  -- the next open's number
 
 pub data Deed : Type 0 where
-  Opened : List ℕ → List ℕ → Deed -- an open of a name was accepted
-  Closed : Registration → Deed -- the handle of that open was closed
-  Ended : List ℕ → Option (List ℕ) → Deed -- a removal or replacement of a name succeeded, or with none of a whole partition
-  Rebuilt : Deed -- the store was built anew
+  Opened : List ℕ → List ℕ → Deed  -- an open of a name was accepted
+  Closed : Registration → Deed  -- the handle of that open was closed
+  Ended : List ℕ → Option (List ℕ) → Deed  -- a removal or replacement of a name succeeded, or with none of a whole partition
+  Rebuilt : Deed  -- the store was built anew
 
 -- a name held by the next number, which isn't counted yet
 abbrev pub with_registration : OpenNames → List ℕ → List ℕ → OpenNames

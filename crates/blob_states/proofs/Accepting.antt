@@ -19,10 +19,10 @@ use Rattle.blob_calls.specs.declared.reply.Reply.{Reply}
 use Rattle.blob_states.specs.Accepted.{removes}
 use Rattle.blob_calls.specs.Acts.{Ask, Act, Configure, Open, OpenLoose, Admit, Close, Through, Finish, Remove, Scan, Crash, Reopen, act_of}
 use Rattle.blob_states.specs.After.{after, asked, exclusively_opened}
-use Rattle.blob_states.specs.Steps.{removal_step as removal, crash_step, loosely_opened}
-use Rattle.blob_states.specs.Answers.{found_at, kept_at, opened_version}
+use Rattle.blob_states.specs.Steps.{found_at, removal_step as removal, crash_step, loosely_opened}
+use Rattle.blob_states.specs.Answers.{kept_at, opened_version}
 use Rattle.blob_states.specs.Runs.{LeadsTo}
-use Rattle.blob_states.specs.States.{State, Held, Started}
+use Rattle.blob_states.specs.States.{State, Held}
 use Rattle.blob_calls.specs.Told.{refused_by}
 use Rattle.blob_states.proofs.Stale.{asked_directory, admitted_directory}
 

@@ -1,5 +1,5 @@
 -- What a wrapper over memory may answer is what is expected of the state, or that there is no memory.
-use Rattle.std.proofs.Common.{◌≡◌, ℕ, ◌+◌, ◌≤◌, ◌<◌, suc, inl, inr, Bool, true, false, not, ◌&&◌, List, [], ◌∷◌, length, Option, Some, None, refl, sym, ap, ◌∙◌, subst, if◌then◌else◌, arith, ⊎_elim}
+use Rattle.std.proofs.Common.{◌≡◌, ℕ, max, ◌+◌, ◌≤◌, ◌<◌, suc, inl, inr, Bool, true, false, not, ◌&&◌, List, [], ◌∷◌, length, Option, Some, None, refl, sym, ap, ◌∙◌, subst, if◌then◌else◌, arith, ⊎_elim}
 use Rattle.std.specs.Prelude.{MatchBool}
 use Rattle.std.proofs.lemmas.Bool.{false≢true}
 use Rattle.std.proofs.lemmas.Bool.Decides.{nat_tests}
@@ -8,12 +8,13 @@ use Rattle.blob_model.specs.Directory.{Directory, is_current}
 use Rattle.blob_model.specs.Places.{Place}
 use Rattle.blob_header.specs.Refusals.{Refusal, Memory, Injected, OffsetOverflow, GenerationsExhausted}
 use Rattle.blob_model.specs.Runs.{Run, runs, AreRunsApart}
-use Rattle.blob_faults.specs.Answers.{Allowed, injected_or, injected_for, or_memory, numbered, lacks_number, last_end, one_then, allows_laid, allows_runs, allows_fate}
+use Rattle.blob_faults.specs.Changes.{lacks_number, size_of_runs}
+use Rattle.blob_faults.specs.Answers.{Allowed, injected_or, injected_for, or_memory, numbered, last_end, one_then, allows_laid, allows_runs, allows_fate}
 use Rattle.blob_faults.specs.Faults.{WriteFate, Idle, Uncounted, Done, Unsynced, Failed}
 use Rattle.rand_core.specs.Stream.{Stream}
 use Rattle.blob_memory.specs.Answers.{OrMemory, AllowsWrite, write_refusal, end_refusal, sync_refusal, is_uncounted, missing}
-use Rattle.blob_states.specs.Steps.{or_injected}
-use Rattle.blob_states.specs.Denials.{refused_if, runs_denial, fate_denial}
+use Rattle.blob_states.specs.Steps.{write_denial_by, or_injected}
+use Rattle.blob_states.specs.Denials.{refused_if, runs_denial}
 
 -- what may be answered, where the answer may also be that there is no memory
 abbrev Expects : Allowed → Option Refusal → Type 0
@@ -89,6 +90,13 @@ module _ (d : Directory) (o : Place) (room : Bool → ℕ) where
       let first : from ≤ r.0 = apart.0 in
       omega arith
 
+  greatest_last : (from before : ℕ) (rs : List Run) → before ≤ from → AreRunsApart from rs → size_of_runs before rs ≡ last_end before rs
+  greatest_last from before [] below apart = refl
+  greatest_last from before (r ∷ rs) below apart =
+      let first : from ≤ r.0 = apart.0 in
+      let later : max before (r.0 + length r.1) ≡ r.0 + length r.1 = omega arith in
+      ap (λ (most : ℕ). size_of_runs most rs) later ∙ greatest_last (suc (r.0 + length r.1)) (r.0 + length r.1) rs (omega arith) apart.2
+
   within_last : (first last : ℕ) → first ≤ last → is_uncounted (last + o.start) ≡ false → (offset len : ℕ) → offset + len ≡ first → is_uncounted (offset + o.start + len) ≡ false
   within_last first last below counted offset len same = grind (arith, nat_tests)
 
@@ -104,11 +112,12 @@ module _ (d : Directory) (o : Place) (room : Bool → ℕ) where
       let e : write_refusal d o r.0 r.1 true ≡ sync_refusal d o = first_denied r.0 r.1 apart.1 (within_last (r.0 + length r.1) end more (counted (end + o.start) free) r.0 (length r.1) refl) in
       subst (λ (x : Option Refusal). OrMemory x answer') e (write_denied r.0 r.1 true answer' w))
       (λ no. absurd (false≢true (sym no.1))) a' in
-      injected_denial (allows_runs writes reserves true (r ∷ rs)) (option_or (end_refusal o end) (sync_refusal d o))
-      (then_denial (reserves end) (allows_laid writes true (r ∷ rs)) (end_refusal o end) (sync_refusal d o) (λ answer' m. m) laid) answer a
+      subst (λ (most : ℕ). OrMemory (or_injected (option_or (end_refusal o most) (sync_refusal d o))) answer) (sym (greatest_last from 0 (r ∷ rs) (omega arith) apart))
+      (injected_denial (allows_runs writes reserves true (r ∷ rs)) (option_or (end_refusal o end) (sync_refusal d o))
+      (then_denial (reserves end) (allows_laid writes true (r ∷ rs)) (end_refusal o end) (sync_refusal d o) (λ answer' m. m) laid) answer a)
 
   pub fate_denied : (fate : WriteFate) (retained : Bool) (next : ℕ) (sync : Bool) (offset : ℕ) (bytes : List ℕ) → ((chosen : List Bool) → AreRunsApart offset (runs offset bytes chosen))
-      → Expects (allows_fate fate writes reserves true retained next sync offset bytes) (fate_denial fate d o retained next sync offset bytes)
+      → Expects (allows_fate fate writes reserves true retained next sync offset bytes) (write_denial_by fate d o retained next sync offset bytes)
   fate_denied Done retained next true offset bytes apart answer a = write_denied offset bytes true answer a
   fate_denied Done retained next false offset bytes apart answer a = numbered_denial (lacks_number retained next bytes) (writes offset bytes false) (write_refusal d o offset bytes false) (write_denied offset bytes false) answer a
   fate_denied Unsynced retained next sync offset bytes apart answer a =
@@ -119,9 +128,9 @@ module _ (d : Directory) (o : Place) (room : Bool → ℕ) where
 
 -- a write that does nothing, and one whose end can't be counted, come before all
 module _ (d : Directory) (o : Place) (retained : Bool) (next : ℕ) (sync : Bool) (offset : ℕ) (bytes : List ℕ) (drawn : WriteFate × Stream) (left : Stream) where
-  pub counted_denial : (nothing uncounted : Bool) (inner : Allowed) → Expects inner (fate_denial drawn.0 d o retained next sync offset bytes)
+  pub counted_denial : (nothing uncounted : Bool) (inner : Allowed) → Expects inner (write_denial_by drawn.0 d o retained next sync offset bytes)
       → Expects (λ answer. MatchBool nothing (answer ≡ None) (MatchBool uncounted (answer ≡ Some OffsetOverflow) (or_memory inner answer)))
-      (fate_denial (if nothing then (Idle, left) else if uncounted then (Uncounted, left) else drawn).0 d o retained next sync offset bytes)
+      (write_denial_by (if nothing then (Idle, left) else if uncounted then (Uncounted, left) else drawn).0 d o retained next sync offset bytes)
   counted_denial true uncounted inner i answer a = inr a
   counted_denial false true inner i answer a = inr a
-  counted_denial false false inner i answer a = memory_denial inner (fate_denial drawn.0 d o retained next sync offset bytes) i answer a
+  counted_denial false false inner i answer a = memory_denial inner (write_denial_by drawn.0 d o retained next sync offset bytes) i answer a

@@ -8,23 +8,21 @@ use Rattle.std.proofs.lemmas.Bool.{false≢true}
 use Rattle.std.proofs.lemmas.Option.{none-some}
 use Rattle.rand_core.specs.Stream.{Stream}
 use Rattle.std.specs.Option.{option_or}
-use Rattle.blob_model.specs.Live.{is_idle}
 use Rattle.blob_model.specs.Bytes.{written}
 use Rattle.blob_model.specs.Directory.{Directory}
 use Rattle.blob_model.specs.Log.{Kept}
 use Rattle.blob_model.specs.Places.{Place}
-use Rattle.blob_header.specs.Refusals.{Refusal, Memory, OffsetOverflow, GenerationsExhausted}
+use Rattle.blob_header.specs.Refusals.{Refusal, Memory, GenerationsExhausted}
 use Rattle.blob_model.specs.Runs.{runs}
-use Rattle.blob_faults.specs.Answers.{lacks_number}
+use Rattle.blob_faults.specs.Changes.{lacks_number, write_changes}
 use Rattle.blob_faults.specs.Fates.{has_uncounted_end}
 use Rattle.blob_faults.specs.Faults.{WriteFate, Idle, Uncounted, Done, Unsynced, Failed, draw, failed, drawn_fate, write_fate, retention}
-use Rattle.blob_faults.specs.Changes.{write_changes}
 use Rattle.blob_faults.specs.Recorded.{recorded_write, live_of_write, size_of_write}
 use Rattle.blob_calls.specs.declared.reply.Reply.{Reply}
 use Rattle.blob_calls.specs.Acts.{Write}
 use Rattle.blob_states.specs.Answers.{IsAnswer, through}
-use Rattle.blob_states.specs.Steps.{or_injected}
-use Rattle.blob_states.specs.Denials.{refused_if, runs_denial, fate_denial, write_denial}
+use Rattle.blob_states.specs.Steps.{write_denial_by, write_denial, or_injected}
+use Rattle.blob_states.specs.Denials.{refused_if, runs_denial}
 use Rattle.blob_states.specs.States.{State, Held}
 use Rattle.blob_calls.specs.Told as told
 use Rattle.blob_calls.specs.Told.{refused_by}
@@ -53,7 +51,7 @@ drawn_some config sync offset len stream = go d.0 sync (draw config.sync_rate d.
     go false false unsynced = refl
 
 -- why its fate is no other
-done_fate : (fate : WriteFate) (d : Directory) (o : Place) (retained : Bool) (next : ℕ) (offset : ℕ) (bytes : List ℕ) → is_nothing fate ≡ false → fate_denial fate d o retained next true offset bytes ≡ None → fate ≡ Done
+done_fate : (fate : WriteFate) (d : Directory) (o : Place) (retained : Bool) (next : ℕ) (offset : ℕ) (bytes : List ℕ) → is_nothing fate ≡ false → write_denial_by fate d o retained next true offset bytes ≡ None → fate ≡ Done
 done_fate Idle d o retained next offset bytes some free = absurd (false≢true (sym some))
 done_fate Uncounted d o retained next offset bytes some free = cc
 done_fate Done d o retained next offset bytes some free = refl

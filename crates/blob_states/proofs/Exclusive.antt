@@ -1,5 +1,5 @@
 -- Handles of a laboratory whose opens are all exclusive: a current incarnation has one handle, whatever is called.
-use Rattle.std.proofs.Common.{◌≡◌, ℕ, List, [], ◌∷◌, true, false, Option, Some, None, option_map, refl, sym, ap, ◌∙◌, subst, ⊎_elim, if◌then◌else◌, ◌==◌}
+use Rattle.std.proofs.Common.{◌≡◌, ℕ, List, [], ◌∷◌, true, false, Option, Some, None, option_map, refl, sym, ap, ◌∙◌, subst, ⊎_elim, ◌==◌}
 use Rattle.std.specs.Prelude.{◌<◌, is_some, IfSome}
 use Rattle.std.proofs.lemmas.Bool.{and_from, false≢true, eq-eqb}
 use Rattle.std.proofs.lemmas.List.Elements.{All-nil, All-head, All-tail}
@@ -18,18 +18,19 @@ use Rattle.blob_calls.specs.declared.call.Call.{Call}
 use Rattle.blob_calls.specs.declared.reply.Reply.{Reply}
 use Rattle.blob_calls.specs.Acts.{Ask, Write, Resize, AcceptedVersions, Act, Configure, Open, OpenLoose, Admit, Close, Through, Finish, Remove, Scan, Crash, Reopen, act_of}
 use Rattle.blob_states.specs.After.{after, asked, exclusively_opened, held_after}
-use Rattle.blob_states.specs.Steps.{with_closed, with_images, removal_step as removal, crash_step, rebuilt}
+use Rattle.blob_states.specs.Steps.{is_unnumbered, loose_denial, open_already, open_denial, with_closed, with_images, removal_step as removal, crash_step, rebuilt}
 use Rattle.blob_states.specs.Answers.{Answers, kept_at, told_opened}
-use Rattle.blob_states.specs.Denials.{refused_if, is_unnumbered, loose_denial, open_already, open_denial}
+use Rattle.blob_states.specs.Denials.{refused_if}
 use Rattle.blob_states.specs.Exclusive.{HoldNames, Sole}
 use Rattle.blob_opens.specs.OpenNames.{OpenNames}
 use Rattle.blob_states.specs.Reached.{is_loose, NoneLoose, ReachedExclusively}
 use Rattle.blob_states.specs.Runs.{LeadsTo}
 use Rattle.blob_states.specs.Scripted.{Words}
-use Rattle.blob_states.specs.States.{State, Held, Started, Image, start, held_on, empty_directory, with_image}
+use Rattle.blob_states.specs.States.{State, Held, Image, start, held_on, empty_directory, with_image}
 use Rattle.blob_calls.specs.Told.{refused_by}
 use Rattle.blob_states.proofs.ExclusiveSteps.{AreExclusive, IsNew, aged, closed_one, put_back, ended_names, added}
 use Rattle.blob_states.proofs.Stale.{ages, asked_directory, none_current, place_after, with_file_stale}
+use Rattle.blob_states.proofs.ToldOpens.{exclusive_told}
 use Rattle.blob_states.proofs.ToldRefusals.{denied}
 
 abbrev pub Exclusive : State → Type 0
@@ -68,7 +69,7 @@ pub or_then_none : (first later : Option Refusal) → option_or first later ≡ 
 or_then_none None later none = (refl, none)
 or_then_none (Some r) later none = cc
 
-not_open : (o : Option ℕ) (r : Refusal) → (if is_some o then Some r else None) ≡ None → o ≡ None
+not_open : (o : Option ℕ) (r : Refusal) → refused_if r (is_some o) ≡ None → o ≡ None
 not_open None r none = refl
 not_open (Some k) r none = cc
 
@@ -82,7 +83,7 @@ open_free v p n versions answered left answers done =
     let later = or_then_none (refused_if GenerationsExhausted (is_unnumbered v.names p n)) (option_or (loose_denial v p n versions.0 versions.1) (open_already v.names p n)) free in
     let last = or_then_none (loose_denial v p n versions.0 versions.1) (open_already v.names p n) later.1 in
     not_open (v.names.registered p n) _ last.1)
-    answers
+    (exclusive_told v p n versions answered left answers)
 
 -- before it no handle of the name is current
 pub fresh : (v : State) (p n : List ℕ) (versions : AcceptedVersions) (answered : Reply) (left : Stream) → Exclusive v → Answers v (Open p n (Some versions)) answered left → refused_by answered ≡ None

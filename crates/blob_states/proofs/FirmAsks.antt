@@ -12,10 +12,10 @@ use Rattle.blob_faults.specs.Changes.{resize_changes}
 use Rattle.blob_faults.specs.Recorded.{recorded_write}
 use Rattle.blob_calls.specs.Acts.{Ask, Read, Write, Resize, Size, Sync, StartSync}
 use Rattle.blob_states.specs.After.{files_after, held_after}
-use Rattle.blob_states.specs.Steps.{begun}
+use Rattle.blob_states.specs.Steps.{reaches_through, begun}
 use Rattle.blob_states.specs.Answers.{kept_at}
 use Rattle.blob_states.specs.Denials.{start_denial}
-use Rattle.blob_states.specs.Fixed.{Byte, is_on, asks_for, reaches_through}
+use Rattle.blob_states.specs.Fixed.{Byte, is_on, asks_for}
 use Rattle.blob_states.specs.States.{State, Held}
 use Rattle.blob_states.proofs.Firm.{IsFirm, Now, Behind, IsLive, at, live_set, place_on}
 use Rattle.blob_states.proofs.Stale.{asked_directory, place_after}

@@ -7,10 +7,10 @@ use Rattle.blob_model.specs.Places.{Place}
 use Rattle.blob_header.specs.Refusals.{Refusal, BlobAlreadyOpen}
 use Rattle.blob_calls.specs.Acts.{Ask, AcceptedVersions, Act, Configure, Open, OpenLoose, Admit, Close, Through, Finish, Remove, Scan, Crash, Reopen}
 use Rattle.blob_states.specs.After.{after, asked, exclusively_opened}
-use Rattle.blob_states.specs.Steps.{loosely_opened, removal_step, crash_step}
+use Rattle.blob_states.specs.Steps.{reaches_through, loosely_opened, removal_step, crash_step}
 use Rattle.blob_states.specs.Answers.{kept_at}
-use Rattle.blob_states.specs.Fixed.{Byte, reaches, reaches_through}
-use Rattle.blob_states.specs.States.{State, Held, Started}
+use Rattle.blob_states.specs.Fixed.{Byte, reaches}
+use Rattle.blob_states.specs.States.{State, Held}
 use Rattle.blob_states.proofs.Firm.{IsFirm, firm_held, firm_closed}
 use Rattle.blob_states.proofs.FirmAsks.{firm_asked}
 use Rattle.blob_states.proofs.FirmFiles.{firm_admitted, firm_crashed, firm_reopened, firm_removed}

@@ -1,5 +1,6 @@
 -- What a call fixes is fixed after it, where opens are exclusive.
-use Rattle.std.proofs.Common.{◌≡◌, ℕ, ◌<◌, List, true, false, Option, Some, None, refl, sym, ap, ◌∙◌, subst, set, arith, ⊎_elim}
+use Rattle.std.specs.Prelude.{slice_index}
+use Rattle.std.proofs.Common.{◌≡◌, ℕ, ◌+◌, ◌-◌, ◌<◌, ◌≤◌, length, List, true, false, Option, Some, None, refl, sym, ap, ◌∙◌, subst, set, arith, ⊎_elim}
 use Rattle.std.proofs.lemmas.Bool.{and_parts, cond-true, false≢true, cases_Bool}
 use Rattle.std.proofs.lemmas.Option.{same_Some}
 use Rattle.rand_core.specs.Stream.{Stream}
@@ -16,11 +17,11 @@ use Rattle.blob_model.proofs.Persistence.{fixed_by_write, new_written, fixed_by_
 use Rattle.blob_calls.specs.declared.reply.Reply.{Reply}
 use Rattle.blob_calls.specs.Acts.{Ask, Read, Write, Resize, Size, Sync, StartSync, AcceptedVersions, Act, Open, Through}
 use Rattle.blob_states.specs.After.{after, asked, files_after, held_after, exclusively_opened}
-use Rattle.blob_states.specs.Steps.{asks_memory, begun}
+use Rattle.blob_states.specs.Steps.{write_denial, asks_memory, begun}
 use Rattle.blob_states.specs.Answers.{Answers, IsAnswer, through, kept_at}
-use Rattle.blob_states.specs.Denials.{write_denial, start_denial}
+use Rattle.blob_states.specs.Denials.{start_denial}
 use Rattle.blob_states.specs.Exclusive.{Sole}
-use Rattle.blob_states.specs.Fixed.{Byte, is_of, is_on, HasIn, HasDurably, Submits, FixesThrough, Fixes}
+use Rattle.blob_states.specs.Fixed.{Byte, is_of, is_on, HasIn, HasDurably, FixesThrough, Fixes}
 use Rattle.blob_states.specs.Reached.{ReachedExclusively}
 use Rattle.blob_states.specs.States.{State, Held}
 use Rattle.blob_calls.specs.Told.{refused_by}
@@ -79,7 +80,10 @@ module _ (v : State) (b : Byte) (number : ℕ) (h : Held) (here : kept_at v.hand
       (subst (λ (x : Option Refusal). IsFixed b.position b.value (begun v.files h x) h.place) (sym free) (fixed_by_start v.files h.place b.position b.value h.live has))
       (record { live = has; size = size })
 
-  write_firm : (offset : ℕ) (bytes : List ℕ) → write_denial v h offset bytes true ≡ None → Submits offset bytes b
+  abbrev Submits : ℕ → List ℕ → Type 0
+  Submits offset bytes = (offset ≤ b.position) × (b.position < offset + length bytes) × (slice_index bytes (b.position - offset) ≡ b.value)
+
+  write_firm : (offset : ℕ) (bytes : List ℕ) → write_denial v h offset bytes true ≡ None → Submits offset bytes
       → IsFirm (files_after v h (Write offset bytes true) None) (set v.handles number (Some (held_after v h (Write offset bytes true) None))) b
   write_firm offset bytes free submits =
       let done = was_done v h offset bytes (omega (arith, submits.0, submits.1)) free in
@@ -105,7 +109,7 @@ fixes_through v number (Some h) StartSync answered left b reached here answers d
     start_firm v b number h here fixes.0 (sole v (reached_exclusive v reached)) fixes.1 fixes.2 (counted v number h b reached here fixes.0 fixes.2)
 fixes_through v number (Some h) (Write offset bytes true) answered left b reached here answers done fixes =
     let asks : IsAnswer true (through v (Some h) (Write offset bytes true)) answered left = subst (λ (x : Option Held). IsAnswer (asks_memory (Write offset bytes true) x) (through v x (Write offset bytes true)) answered left) here answers in
-    write_firm v b number h here fixes.0 (sole v (reached_exclusive v reached)) offset bytes (write_free v h offset bytes answered left asks done) fixes.1
+    write_firm v b number h here fixes.0 (sole v (reached_exclusive v reached)) offset bytes (write_free v h offset bytes answered left asks done) (fixes.1, omega (arith, fixes.1, fixes.2.0), fixes.2.1)
 fixes_through v number (Some h) (Write offset bytes false) answered left b reached here answers done fixes = absurd fixes
 fixes_through v number (Some h) (Read offset len) answered left b reached here answers done fixes = absurd fixes
 fixes_through v number (Some h) (Resize len) answered left b reached here answers done fixes = absurd fixes

@@ -21,7 +21,7 @@ use Rattle.blob_states.specs.Answers.{kept_at}
 use Rattle.blob_states.specs.Denials.{start_denial}
 use Rattle.blob_states.specs.Reached.{is_loose, NoneLoose, ReachedExclusively}
 use Rattle.blob_states.specs.Runs.{LeadsTo}
-use Rattle.blob_states.specs.States.{State, Held, Started, start}
+use Rattle.blob_states.specs.States.{State, Held, start}
 use Rattle.blob_calls.specs.Told.{refused_by}
 use Rattle.blob_states.proofs.Exclusive.{Exclusive, exclusive_start, exclusive_after}
 use Rattle.blob_states.proofs.GivenHandles.{given_at}

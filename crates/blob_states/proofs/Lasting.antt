@@ -20,7 +20,8 @@ use Rattle.blob_calls.specs.Acts.{AcceptedVersions, Act, Open, act_of}
 use Rattle.blob_states.specs.After.{after}
 use Rattle.blob_states.specs.Answers as answers
 use Rattle.blob_states.specs.Answers.{Answers, IsAnswer, kept_at, unless_denied}
-use Rattle.blob_states.specs.Denials.{refused_if, is_unnumbered, loose_denial, open_already, open_denial}
+use Rattle.blob_states.specs.Steps.{is_unnumbered, loose_denial, open_already, open_denial}
+use Rattle.blob_states.specs.Denials.{refused_if}
 use Rattle.blob_states.specs.Fixed.{Byte, is_of, Opens, Lasts, Persists}
 use Rattle.blob_opens.specs.OpenNames.{Registration}
 use Rattle.blob_states.specs.Reached.{is_loose, NoneLoose, ReachedExclusively}
@@ -37,6 +38,7 @@ use Rattle.blob_states.proofs.OpensAgain.{valid_open}
 use Rattle.blob_states.proofs.GivenHandles.{given_at}
 use Rattle.blob_states.proofs.RunSteps.{reached_strictly}
 use Rattle.blob_states.proofs.Stale.{admitted_directory}
+use Rattle.blob_states.proofs.ToldOpens.{exclusive_told}
 use Rattle.blob_states.proofs.ToldRefusals.{denied}
 
 -- The states of a run.
@@ -107,7 +109,7 @@ opens_with : (v : State) (act : Act) (answered : Reply) (left : Stream) (b : Byt
 opens_with v (Open p n (Some versions)) (reply.Opened handle size version) left b a firm = λ own.
     let f = admitted (after_open v.files p n versions.0 versions.1) p n in
     let registration : Option Registration = Some (record { partition = p; name = n; number = v.names.next }) in
-    let tells = ⊎_elim (λ memory. absurd (none-some Memory memory.1)) (λ told. told.0) a in
+    let tells = ⊎_elim (λ memory. absurd (none-some Memory memory.1)) (λ told. told.0) (exclusive_told v p n versions (reply.Opened handle size version) left a) in
     let free = sym (denied (reply.Opened handle size version) (open_denial v p n versions.0 versions.1) (answers.told_opened v p n versions) refl tells) in
     let c = found_current v p n versions free in
     let number : handle ≡ length v.handles = (subst (λ (x : Option Refusal). Tells (reply.Opened handle size version) (unless_denied x (answers.told_opened v p n versions))) free tells).0 in (

@@ -22,6 +22,7 @@ pub mod Slots
 pub mod Stale
 pub mod TableSteps
 pub mod Telling
+pub mod ToldOpens
 pub mod ToldRefusals
 pub mod ValidOpens
 pub mod WorkedRows

@@ -23,12 +23,14 @@ use Rattle.blob_calls.specs.declared.reply.Reply.TheVariants as reply
 use Rattle.blob_states.specs.Accepted.{opened_name, IsKept, Accepts, HasFileOf, IsCurrent, IsRaw, OpensAs, IsToldOf}
 use Rattle.blob_calls.specs.Acts.{Act, Configure, Open, OpenLoose, Admit, Close, Through, Finish, Remove, Scan, Crash, Reopen, act_of}
 use Rattle.blob_states.specs.After.{after}
-use Rattle.blob_states.specs.Answers.{Answers, answer, found_at, opened_size, unless_denied, opened_version}
+use Rattle.blob_states.specs.Answers.{Answers, answer, opened_size, unless_denied, opened_version}
 use Rattle.blob_states.specs.Answers as answers
-use Rattle.blob_states.specs.Denials.{refused_if, open_denial, loose_denial, is_unnumbered, open_already}
+use Rattle.blob_states.specs.Steps.{found_at, open_denial, loose_denial, is_unnumbered, open_already}
+use Rattle.blob_states.specs.Denials.{refused_if}
 use Rattle.blob_states.specs.States.{State}
 use Rattle.blob_calls.specs.Told as told
 use Rattle.blob_calls.specs.Told.{Told, Tells}
+use Rattle.blob_states.proofs.ToldOpens.{exclusive_answer}
 use Rattle.blob_states.proofs.Accepting.{IsOf, of_again, still_run}
 use Rattle.blob_states.proofs.Exclusive.{or_then_none}
 use Rattle.blob_model.proofs.Opened.{with_file_here}
@@ -94,7 +96,8 @@ module _ (v : State) (handle size : ℕ) (version : BlobVersion) (left : Stream)
   accepted_exclusive p n None (inr t) = absurd t.0
   accepted_exclusive p n (Some versions) (inl m) = absurd (none-some _ m.1)
   accepted_exclusive p n (Some versions) (inr t) =
-      let parts = tells_opened (open_denial v p n versions.0 versions.1) handle size version (length v.handles) (opened_size v.files p n (found_at v p n versions.0 versions.1)) (opened_version (found_at v p n versions.0 versions.1)) t.0 in
+      let told = subst (λ (x : Told × Stream). Tells (reply.Opened handle size version) x.0) (exclusive_answer v p n versions) t.0 in
+      let parts = tells_opened (open_denial v p n versions.0 versions.1) handle size version (length v.handles) (opened_size v.files p n (found_at v p n versions.0 versions.1)) (opened_version (found_at v p n versions.0 versions.1)) told in
       let f : Files = after_open v.files p n versions.0 versions.1 in
       as_told (Open p n (Some versions)) p n (opened_version (found_at v p n versions.0 versions.1)) parts.1
       (subst (λ (d : Directory). IsOpened d p n (opened_version (found_at v p n versions.0 versions.1))) (sym (admitted_directory f p n))
@@ -136,11 +139,12 @@ module _ (v : State) (p n : List ℕ) (first last version : ℕ) (accepts : Acce
       (ap (λ (o : Option ℕ). is_none o && (v.names.next == 2 ^ 64 - 1)) free ∙ ne_eqb v.names.next (2 ^ 64 - 1) accepts.registration)
       ∙ ap (λ b. option_or (option_or (refused_if Injected b) (open_refusal v.files.directory p n first last)) (open_already v.names p n)) accepts.uninjected
       ∙ ap (λ r. option_or r (open_already v.names p n)) store
-      ∙ ap (λ (o : Option ℕ). if is_some o then Some (BlobAlreadyOpen p (encode_lower n)) else None) free
+      ∙ ap (λ (o : Option ℕ). refused_if (BlobAlreadyOpen p (encode_lower n)) (is_some o)) free
 
   told_by : (o : Opening) → found_at v p n first last ≡ o → is_partition_name p ≡ true → opening_refusal o v.files.directory.next ≡ None → (answer v (Open p n (Some (first, last)))).0 ≡ told.Opened (length v.handles) (opened_size v.files p n o) (opened_version o)
   told_by o finds valid later =
-      ap (λ r. unless_denied r (answers.told_opened v p n (first, last)))
+      ap (λ (x : Told × Stream). x.0) (exclusive_answer v p n (first, last))
+      ∙ ap (λ r. unless_denied r (answers.told_opened v p n (first, last)))
       (undenied (ap (λ b. if not b then Some (PartitionNameInvalid p) else opening_refusal (found_at v p n first last) v.files.directory.next) valid ∙ ap (λ x. opening_refusal x v.files.directory.next) finds ∙ later))
       ∙ ap (λ x. told.Opened (length v.handles) (opened_size v.files p n x) (opened_version x)) finds
 

@@ -9,7 +9,6 @@ use Rattle.blob_model.specs.Rates.{sampled}
 use Rattle.blob_header.specs.Refusals.{Injected}
 use Rattle.blob_faults.specs.declared.config.Config.{Config}
 use Rattle.blob_model.specs.declared.mode.PartialWriteMode.TheVariants.{Prefix}
-use Rattle.blob_faults.specs.Recorded.{recorded_write}
 use Rattle.blob_calls.specs.Acts.{Act, Open, OpenLoose, Configure, Close, Through, Read, Write, Resize, Sync, StartSync, Crash, Remove}
 use Rattle.blob_states.specs.After.{after}
 use Rattle.blob_states.specs.Answers.{answer}
@@ -95,10 +94,10 @@ loosened = done synced (Through 0 (Write 1 (88 ∷ 89 ∷ []) false))
 -- a SYNC write fixes what it submits, and not the zeros before it
 sync_write_fixes : Fixes loosened (Through 0 (Write 4 (90 ∷ []) true)) None (byte 4 90)
 unfolding sampled
-sync_write_fixes = (refl, (omega arith, omega arith, refl))
+sync_write_fixes = (refl, omega arith, (omega arith, refl))
 
 gap_isn't_fixed : Fixes loosened (Through 0 (Write 4 (90 ∷ []) true)) None (byte 3 0) → ⊥
-gap_isn't_fixed fixes = let low : 4 ≤ 3 = fixes.1.0 in omega arith
+gap_isn't_fixed fixes = let low : 4 ≤ 3 = fixes.1 in omega arith
 
 -- the crash keeps one byte of the pending write, and what was fixed is there
 abbrev kept : State
@@ -123,7 +122,7 @@ abbrev both : State
 both = done first (OpenLoose partition name (Some (0, 0)))
 
 second_fixes : Fixes both (Through 1 (Write 0 (98 ∷ []) true)) None (byte 0 98)
-second_fixes = (refl, (omega arith, omega arith, refl))
+second_fixes = (refl, omega arith, (omega arith, refl))
 
 abbrev fixed : State
 fixed = done both (Through 1 (Write 0 (98 ∷ []) true))

@@ -26,7 +26,7 @@ use Rattle.blob_opens.specs.OpenNames.{Registration}
 use Rattle.blob_states.specs.Reached.{Reached}
 use Rattle.blob_states.specs.Runs.{LeadsTo}
 use Rattle.blob_states.specs.Scripted.{Words}
-use Rattle.blob_states.specs.States.{State, Held, Started, Image, empty_directory, with_image, start, held_on}
+use Rattle.blob_states.specs.States.{State, Held, Image, empty_directory, with_image, start, held_on}
 use Rattle.blob_calls.specs.Told as told
 use Rattle.blob_calls.specs.Told.{refused_by}
 use Rattle.blob_states.proofs.Exclusive.{current_of, exclusive_start}

@@ -9,8 +9,7 @@ use Rattle.blob_model.specs.Live.{is_idle}
 use Rattle.blob_model.specs.Places.{Place}
 use Rattle.blob_header.specs.Refusals.{Refusal, BlobMissing, Injected, OffsetOverflow, GenerationsExhausted}
 use Rattle.blob_model.specs.Runs.{Run, runs}
-use Rattle.blob_faults.specs.Answers.{lacks_number, last_end}
-use Rattle.blob_faults.specs.Fates.{has_uncounted_end}
+use Rattle.blob_faults.specs.Changes.{lacks_number, size_of_runs}
 use Rattle.blob_faults.specs.Faults.{WriteFate, Idle, Uncounted, Done, Unsynced, Failed, write_fate, resize_fate, retention}
 use Rattle.blob_faults.proofs.Sizes.{sized_after_write, sized_after_resize}
 use Rattle.blob_memory.specs.Answers.{write_refusal, end_refusal, sync_refusal, missing}
@@ -19,8 +18,8 @@ use Rattle.blob_calls.specs.declared.reply.Reply.{Reply}
 use Rattle.blob_calls.specs.Acts.{Ask, Read, Write, Resize, Size, Sync, StartSync}
 use Rattle.blob_states.specs.After.{held_after}
 use Rattle.blob_states.specs.Answers.{IsAnswer, unless_denied, through}
-use Rattle.blob_states.specs.Steps.{or_injected}
-use Rattle.blob_states.specs.Denials.{refused_if, runs_denial, fate_denial, write_denial}
+use Rattle.blob_states.specs.Steps.{write_denial_by, write_denial, or_injected}
+use Rattle.blob_states.specs.Denials.{refused_if, runs_denial}
 use Rattle.blob_states.specs.States.{State, Held}
 use Rattle.blob_calls.specs.Told as told
 use Rattle.blob_calls.specs.Told.{refused_by}
@@ -63,9 +62,9 @@ module _ (d : Directory) (o : Place) (now : is_current d o ≡ true) where
 
   runs_there : (rs : List Run) → is_missing (runs_denial d o rs) ≡ false
   runs_there [] = refl
-  runs_there (r ∷ rs) = then_there (option_or (end_refusal o (last_end 0 (r ∷ rs))) (sync_refusal d o)) (Some Injected) (then_there (end_refusal o (last_end 0 (r ∷ rs))) (sync_refusal d o) (end_there (last_end 0 (r ∷ rs))) sync_there) refl
+  runs_there (r ∷ rs) = then_there (option_or (end_refusal o (size_of_runs 0 (r ∷ rs))) (sync_refusal d o)) (Some Injected) (then_there (end_refusal o (size_of_runs 0 (r ∷ rs))) (sync_refusal d o) (end_there (size_of_runs 0 (r ∷ rs))) sync_there) refl
 
-  fate_there : (fate : WriteFate) (retained : Bool) (next : ℕ) (sync : Bool) (offset : ℕ) (bytes : List ℕ) → is_missing (fate_denial fate d o retained next sync offset bytes) ≡ false
+  fate_there : (fate : WriteFate) (retained : Bool) (next : ℕ) (sync : Bool) (offset : ℕ) (bytes : List ℕ) → is_missing (write_denial_by fate d o retained next sync offset bytes) ≡ false
   fate_there Idle retained next sync offset bytes = refl
   fate_there Uncounted retained next sync offset bytes = refl
   fate_there Done retained next true offset bytes = write_there offset bytes true

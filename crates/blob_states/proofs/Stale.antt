@@ -23,7 +23,7 @@ use Rattle.blob_states.specs.After.{after, asked, files_after, held_after, exclu
 use Rattle.blob_states.specs.Steps.{begun, sync_denial, removal_step as removal, crash_step, loosely_opened}
 use Rattle.blob_states.specs.Answers.{kept_at}
 use Rattle.blob_states.specs.Denials.{refused_if, start_denial}
-use Rattle.blob_states.specs.States.{State, Held, Started}
+use Rattle.blob_states.specs.States.{State, Held}
 
 -- each current incarnation has a number that was given
 abbrev pub AreCurrentGiven : Directory → Type 0

@@ -1,5 +1,5 @@
 -- An open that the store has done is of a valid partition name.
-use Rattle.std.proofs.Common.{◌≡◌, inl, inr, ⊎_elim, ℕ, Bool, true, false, not, List, Option, Some, None, refl, sym, ap, ◌∙◌, if◌then◌else◌}
+use Rattle.std.proofs.Common.{◌≡◌, inl, inr, ⊎_elim, ℕ, Bool, true, false, not, List, Option, Some, None, refl, sym, ap, ◌∙◌, subst, if◌then◌else◌}
 use Rattle.std.proofs.lemmas.Bool.{cases_Bool, false≢true}
 use Rattle.rand_core.specs.Stream.{Stream}
 use Rattle.std.specs.Option.{option_or}
@@ -12,9 +12,11 @@ use Rattle.blob_calls.specs.declared.reply.Reply.{Reply}
 use Rattle.blob_calls.specs.Acts.{Open, OpenLoose}
 use Rattle.blob_states.specs.Answers as answers
 use Rattle.blob_states.specs.Answers.{Answers}
-use Rattle.blob_states.specs.Denials.{refused_if, open_denial, loose_denial, is_unnumbered, open_already}
+use Rattle.blob_states.specs.Steps.{open_denial, loose_denial, is_unnumbered, open_already}
+use Rattle.blob_states.specs.Denials.{refused_if}
 use Rattle.blob_states.specs.States.{State}
-use Rattle.blob_calls.specs.Told.{refused_by}
+use Rattle.blob_calls.specs.Told.{Told, Tells, refused_by}
+use Rattle.blob_states.proofs.ToldOpens.{exclusive_answer}
 use Rattle.blob_states.proofs.ToldRefusals.{denied}
 
 -- the open of the store was done: it was accepted, or refused because the name is open
@@ -42,7 +44,8 @@ pub exclusive_valid : (v : State) (p n : List ℕ) (versions : ℕ × ℕ) (repl
 exclusive_valid v p n versions reply left (inl m) so = absurd (false≢true (sym (ap made m.1) ∙ so))
 exclusive_valid v p n versions reply left (inr t) so =
     let denial : Option Refusal = open_denial v p n versions.0 versions.1 in
-    let is : refused_by reply ≡ denial = denied reply denial (answers.told_opened v p n versions) refl t.0 in
+    let told = subst (λ (x : Told × Stream). Tells reply x.0) (exclusive_answer v p n versions) t.0 in
+    let is : refused_by reply ≡ denial = denied reply denial (answers.told_opened v p n versions) refl told in
     valid_or p denial
     (λ invalid.
     ap (λ store. made (option_or (refused_if GenerationsExhausted (is_unnumbered v.names p n)) (option_or (option_or (refused_if Injected (draw v.config.open_rate v.stream).0) store) (open_already v.names p n))))

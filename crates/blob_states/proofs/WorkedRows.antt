@@ -12,7 +12,6 @@ use Rattle.blob_header.specs.Refusals.{BlobAlreadyOpen}
 use Rattle.blob_header.specs.Resolve.{resolution, is_torn}
 use Rattle.blob_faults.specs.declared.config.Config.{Config}
 use Rattle.blob_model.specs.declared.mode.PartialWriteMode.TheVariants.{Prefix}
-use Rattle.blob_faults.specs.Recorded.{recorded_write}
 use Rattle.blob_calls.specs.Acts.{Act, Open, Configure, Through, Read, Write, Sync, Crash, Reopen}
 use Rattle.blob_states.specs.After.{after}
 use Rattle.blob_states.specs.Answers.{answer}

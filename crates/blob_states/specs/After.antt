@@ -19,7 +19,8 @@ use Rattle.blob_states.specs.States.{State, Held, Started, held_on}
 
 -- what it adds to the log of the handle's incarnation, and makes of the handle
 abbrev pub ask_changes : State → Held → Ask → Option Refusal → Changes
-ask_changes v h (Write offset bytes sync) refusal = write_changes (write_fate v.config sync offset bytes v.stream).0 (retention v.config.write_rate) sync offset bytes refusal
+ask_changes v h (Write offset bytes sync) refusal =
+    write_changes (write_fate v.config sync offset bytes v.stream).0 (retention v.config.write_rate) sync offset bytes refusal
 ask_changes v h (Resize len) refusal = resize_changes (resize_fate v.config.resize_rate h.size len v.stream).0 len refusal
 ask_changes v h ask refusal = laying [] (λ number. [])
 

@@ -1,16 +1,18 @@
 -- What a call of a laboratory is told, and what its draws leave of the generator's stream.
-use Rattle.std.specs.Prelude.{◌≡◌, ◌⊎◌, ℕ, Bool, true, false, if◌then◌else◌, List, length, take, drop, Option, Some, None, is_some, slice_get, option_and_then, IsTrue}
+use Rattle.std.specs.Prelude.{◌≡◌, ◌⊎◌, ℕ, ◌-◌, ◌^◌, ◌==◌, Bool, true, false, ◌&&◌, if◌then◌else◌, List, length, take, drop, Option, Some, None, is_some, is_none, slice_get, option_and_then, IsTrue}
 use Rattle.std.specs.Option.{option_or}
 use Rattle.rand_core.specs.Stream.{Stream}
 use Rattle.blob_model.specs.Draws.{drawn}
 use Rattle.blob_model.specs.Files.{Files, all_needs, durable_at}
 use Rattle.blob_model.specs.Rates.{Rate}
 use Rattle.blob_model.specs.Opening.{Opening, Continues, Begins, Declines, opening, place_of}
-use Rattle.blob_header.specs.Refusals.{Refusal, Memory, Injected}
-use Rattle.blob_faults.specs.Faults.{draw, write_fate, resize_fate}
+use Rattle.blob_header.specs.Refusals.{Refusal, Memory, Injected, GenerationsExhausted, BlobAlreadyOpen}
+use Rattle.hex.specs.Hex.{encode_lower}
+use Rattle.blob_faults.specs.Changes.{lacks_number}
+use Rattle.blob_faults.specs.Faults.{draw, retention, write_fate, resize_fate}
 use Rattle.blob_calls.specs.declared.reply.Reply.{Reply}
-use Rattle.blob_calls.specs.Acts.{Ask, Read, Write, Resize, Size, Sync, StartSync, AcceptedVersions, Act, Configure, Open, OpenLoose, Admit, Close, Through, Finish, Remove, Scan, Crash, Reopen}
-use Rattle.blob_states.specs.Denials.{refused_if, is_unnumbered, write_denial, reaching_denial, open_denial}
+use Rattle.blob_calls.specs.Acts.{Ask, Read, Write, Resize, Size, Sync, StartSync, AcceptedVersions, Act, Open, OpenLoose, Close, Through, Finish, Remove, Scan, Crash}
+use Rattle.blob_states.specs.Denials.{refused_if, fate_denial, reaching_denial}
 use Rattle.blob_states.specs.States.{State, Held}
 use Rattle.blob_memory.specs.Answers.{read_refusal, sync_refusal, open_refusal, partition_refusal, remove_refusal}
 use Rattle.blob_calls.specs.Told as told
@@ -22,9 +24,8 @@ unless_denied None otherwise = otherwise
 unless_denied (Some refusal) otherwise = told.Failed refusal
 
 -- of a call that draws one rate: injected where the draw is true, else the refusal, or with none this; and what is left of the stream
-abbrev pub unless_drawn : Stream → Option Rate → Option Refusal → Told → Told × Stream
-unless_drawn stream rate refusal otherwise =
-    let d = draw rate stream in (unless_denied (option_or (refused_if Injected d.0) refusal) otherwise, d.1)
+abbrev pub unless_drawn : State → Option Rate → Option Refusal → Told → Told × Stream
+unless_drawn v rate refusal otherwise = let d = draw rate v.stream in (unless_denied (option_or (refused_if Injected d.0) refusal) otherwise, d.1)
 
 -- what is there of a number
 abbrev pub kept_at : {X : Type 0} → List (Option X) → ℕ → Option X
@@ -35,13 +36,15 @@ kept_at slots number = option_and_then (λ slot. slot) (slice_get slots number)
 -- what is told, and what is left of the stream. The outcome of a started sync is told when it is finished
 abbrev pub through : State → Option Held → Ask → Told × Stream
 through v None ask = (told.NoHandle, v.stream)
-through v (Some h) (Read offset len) = unless_drawn v.stream v.config.read_rate (read_refusal h.place h.live offset len) (told.Bytes (take len (drop offset h.live)))
-through v (Some h) (Write offset bytes sync) = (unless_denied (write_denial v h offset bytes sync) told.Done, (write_fate v.config sync offset bytes v.stream).1)
+through v (Some h) (Read offset len) = unless_drawn v v.config.read_rate (read_refusal h.place h.live offset len) (told.Bytes (take len (drop offset h.live)))
+through v (Some h) (Write offset bytes sync) =
+    let d = write_fate v.config sync offset bytes v.stream in
+    let unnumbered = refused_if GenerationsExhausted (lacks_number (is_some (retention v.config.write_rate)) v.files.next_write bytes) in
+    (unless_denied (fate_denial d.0 v.files.directory h.place unnumbered sync offset bytes) told.Done, d.1)
 through v (Some h) (Resize len) =
-    let d = resize_fate v.config.resize_rate h.size len v.stream in
-    (unless_denied (reaching_denial d.0 h.place len) told.Done, d.1)
+    let d = resize_fate v.config.resize_rate h.size len v.stream in (unless_denied (reaching_denial d.0 h.place len) told.Done, d.1)
 through v (Some h) Size = (told.Size h.size, v.stream)
-through v (Some h) Sync = unless_drawn v.stream v.config.sync_rate (sync_refusal v.files.directory h.place) told.Done
+through v (Some h) Sync = unless_drawn v v.config.sync_rate (sync_refusal v.files.directory h.place) told.Done
 through v (Some h) StartSync = (told.Started (length v.syncs), (draw v.config.sync_rate v.stream).1)
 
 -- An open.
@@ -58,29 +61,29 @@ opened_size f p n (Continues number layout version) = length (durable_at f (plac
 opened_size f p n (Begins layout version live) = length live
 opened_size f p n (Declines refusal) = 0
 
-abbrev pub found_at : State → List ℕ → List ℕ → ℕ → ℕ → Opening
-found_at v p n first last = opening p n (v.files.directory.file p n) first last
-
 abbrev pub told_opened : State → List ℕ → List ℕ → AcceptedVersions → Told
-told_opened v p n (first, last) = let o = found_at v p n first last in told.Opened (length v.handles) (opened_size v.files p n o) (opened_version o)
+told_opened v p n (first, last) =
+    let found = opening p n (v.files.directory.file p n) first last in told.Opened (length v.handles) (opened_size v.files p n found) (opened_version found)
 
 -- Any call.
 
--- where no number is left for an exclusive open, the store isn't asked
+-- where no number is left for an exclusive open, the store isn't asked; that the name is open is told after the store's open
 abbrev pub answer : State → Act → Told × Stream
-answer v (Configure config) = (told.Done, v.stream)
 answer v (Open p n None) = (told.EmptyRange, v.stream)
-answer v (Open p n (Some versions)) = (unless_denied (open_denial v p n versions.0 versions.1) (told_opened v p n versions), if is_unnumbered v.names p n then v.stream else (draw v.config.open_rate v.stream).1)
+answer v (Open p n (Some (first, last))) =
+    if is_none (v.names.registered p n) && (v.names.next == 2 ^ 64 - 1) then (told.Failed GenerationsExhausted, v.stream)
+    else (let already = refused_if (BlobAlreadyOpen p (encode_lower n)) (is_some (v.names.registered p n)) in
+    unless_drawn v v.config.open_rate (option_or (open_refusal v.files.directory p n first last) already) (told_opened v p n (first, last)))
 answer v (OpenLoose p n None) = (told.EmptyRange, v.stream)
-answer v (OpenLoose p n (Some versions)) = unless_drawn v.stream v.config.open_rate (open_refusal v.files.directory p n versions.0 versions.1) (told_opened v p n versions)
-answer v (Admit p n) = (told.Done, v.stream)
+answer v (OpenLoose p n (Some (first, last))) =
+    unless_drawn v v.config.open_rate (open_refusal v.files.directory p n first last) (told_opened v p n (first, last))
 answer v (Close number) = (elim (kept_at v.handles number) [ None ↦ told.NoHandle | Some h ↦ told.Done ], v.stream)
 answer v (Through number ask) = through v (kept_at v.handles number) ask
 answer v (Finish number) = (elim (kept_at v.syncs number) [ None ↦ told.NoHandle | Some s ↦ unless_denied s.outcome told.Done ], v.stream)
-answer v (Remove p n) = unless_drawn v.stream v.config.remove_rate (remove_refusal v.files.directory p n) told.Done
-answer v (Scan p) = unless_drawn v.stream v.config.scan_rate (partition_refusal v.files.directory p) (told.Names (λ n. is_some (v.files.directory.file p n)))
+answer v (Remove p n) = unless_drawn v v.config.remove_rate (remove_refusal v.files.directory p n) told.Done
+answer v (Scan p) = unless_drawn v v.config.scan_rate (partition_refusal v.files.directory p) (told.Names (λ n. is_some (v.files.directory.file p n)))
 answer v Crash = let d = drawn v.stream (all_needs v.files.log) in (told.Crashed d.0, d.1)
-answer v Reopen = (told.Done, v.stream)
+answer v act = (told.Done, v.stream)
 
 -- whether what is asked through a handle may want memory: a number without a handle never does
 -- whether a call may want memory that can't be had

@@ -1,5 +1,5 @@
 -- Bytes that are fixed: what fixes one, what reaches one, and that it keeps its value until then.
-use Rattle.std.specs.Prelude.{◌≡◌, ◌≤◌, ◌<◌, ◌+◌, ◌-◌, ℕ, List, [], ◌∷◌, ◌++◌, Bool, true, false, ◌&&◌, Option, Some, None, length, slice_index, nat_le}
+use Rattle.std.specs.Prelude.{◌≡◌, ◌≤◌, ◌-◌, ℕ, List, [], ◌∷◌, ◌++◌, Bool, true, false, ◌&&◌, Option, Some, None, length, nat_le}
 use Rattle.std.specs.Str.{bytes_eq}
 use Rattle.rand_core.specs.Stream.{Stream}
 use Rattle.blob_header.specs.declared.layout.Layout.{Layout}
@@ -44,13 +44,9 @@ asks_for (Write offset bytes sync) b = lies offset (length bytes) b.position
 asks_for (Resize len) b = nat_le len b.position
 asks_for ask b = false
 
-abbrev pub reaches_through : State → Option Held → Ask → Byte → Bool
-reaches_through v None ask b = false
-reaches_through v (Some h) ask b = is_on v.files.directory h b && asks_for ask b
-
 -- through a handle on its blob, whatever is answered; or a removal that is answered Ok
 abbrev pub reaches : State → Act → Option Refusal → Byte → Bool
-reaches v (Through number ask) refusal b = reaches_through v (kept_at v.handles number) ask b
+reaches v (Through number ask) refusal b = elim (kept_at v.handles number) [ None ↦ false | Some h ↦ is_on v.files.directory h b && asks_for ask b ]
 reaches v (Remove p n) None b = is_of p n b
 reaches v act refusal b = false
 
@@ -72,15 +68,11 @@ pub record Has (v : State) (b : Byte) : Type 0 where
 
 -- What fixes it.
 
--- a write submits it
-abbrev pub Submits : ℕ → List ℕ → Byte → Type 0
-Submits offset bytes b = (offset ≤ b.position) × (b.position < offset + length bytes) × (slice_index bytes (b.position - offset) ≡ b.value)
-
 -- a sync, and a started one whose outcome is Ok, by the live bytes; a SYNC write by what it submits
 abbrev pub FixesThrough : State → Option Held → Ask → Byte → Type 0
 FixesThrough v (Some h) Sync b = (is_on v.files.directory h b ≡ true) × HasByte b.position b.value h.live
 FixesThrough v (Some h) StartSync b = (is_on v.files.directory h b ≡ true) × (start_denial v h ≡ None) × HasByte b.position b.value h.live
-FixesThrough v (Some h) (Write offset bytes true) b = (is_on v.files.directory h b ≡ true) × Submits offset bytes b
+FixesThrough v (Some h) (Write offset bytes true) b = (is_on v.files.directory h b ≡ true) × (offset ≤ b.position) × HasByte (b.position - offset) b.value bytes
 FixesThrough v slot ask b = ⊥
 
 -- answered Ok; an open by the durable bytes that it finds
@@ -93,13 +85,15 @@ Fixes v act refusal b = ⊥
 
 -- where a call opened its blob, the new handle's live bytes have it
 abbrev pub Opens : State → Act → Reply → Byte → Type 0
-Opens v (Open p n versions) (Opened handle size version) b = is_of p (Some n) b ≡ true → (h : Held) × (kept_at v.handles handle ≡ Some h) × HasByte b.position b.value h.live
+Opens v (Open p n versions) (Opened handle size version) b =
+    is_of p (Some n) b ≡ true → (h : Held) × (kept_at v.handles handle ≡ Some h) × HasByte b.position b.value h.live
 Opens v act reply b = Unit {0}
 
 -- from a state on it has its value, after each call until one reaches it
 abbrev pub Lasts : State → Byte → List Call → List Reply → Type 0
 Lasts v b [] [] = Has v b
-Lasts v b (call ∷ calls) (reply ∷ replies) = Has v b × ((left : Stream) → Answers v (act_of call) reply left → reaches v (act_of call) (refused_by reply) b ≡ false →
+Lasts v b (call ∷ calls) (reply ∷ replies) = Has v b × ((left : Stream) → Answers v (act_of call) reply left →
+    reaches v (act_of call) (refused_by reply) b ≡ false →
     let w = after v (act_of call) (refused_by reply) left in Opens w (act_of call) reply b × Lasts w b calls replies)
 Lasts v b calls replies = ⊥
 
@@ -107,5 +101,6 @@ Lasts v b calls replies = ⊥
 abbrev pub Persists : State → List Call → List Reply → Type 0
 Persists v [] [] = Unit {0}
 Persists v (call ∷ calls) (reply ∷ replies) = (left : Stream) → Answers v (act_of call) reply left →
-    let w = after v (act_of call) (refused_by reply) left in ((b : Byte) → Fixes v (act_of call) (refused_by reply) b → Lasts w b calls replies) × Persists w calls replies
+    let w = after v (act_of call) (refused_by reply) left in
+    ((b : Byte) → Fixes v (act_of call) (refused_by reply) b → Lasts w b calls replies) × Persists w calls replies
 Persists v calls replies = ⊥

@@ -1,5 +1,5 @@
 -- What follows for the calls of a laboratory, as statements: each is carried by a law of `laws.rt`.
-use Rattle.std.specs.Prelude.{◌≡◌, ◌≢◌, ◌<◌, ◌-◌, ◌^◌, ℕ, Bool, true, false, List, ◌++◌, length, Option, Some, None}
+use Rattle.std.specs.Prelude.{◌≡◌, ◌≢◌, ◌<◌, ◌-◌, ◌^◌, ℕ, true, false, List, ◌++◌, length, Option, Some, None}
 use Rattle.rand_core.specs.Stream.{Stream}
 use Rattle.blob_header.specs.PartitionName.{is_partition_name}
 use Rattle.blob_header.specs.Refusals.{Refusal}
@@ -19,9 +19,9 @@ use Rattle.blob_calls.specs.Acts.{Act, Ask, Crash, Open, Remove, Reopen, Size, S
 use Rattle.blob_calls.specs.Told as told
 use Rattle.blob_states.specs.Accepted.{Accepts, HasFileOf, IsKept, IsToldOf, OpensAs, removes}
 use Rattle.blob_states.specs.After.{after, files_after}
-use Rattle.blob_states.specs.Answers.{answer, found_at, kept_at}
+use Rattle.blob_states.specs.Answers.{answer, kept_at}
 use Rattle.blob_states.specs.Denials.{start_denial}
-use Rattle.blob_states.specs.Steps.{sync_denial}
+use Rattle.blob_states.specs.Steps.{found_at, sync_denial}
 use Rattle.blob_states.specs.Fixed.{Persists}
 use Rattle.blob_states.specs.Reached.{NoneLoose, Reached, ReachedExclusively}
 use Rattle.blob_states.specs.Runs.{LeadsTo}

@@ -18,8 +18,10 @@ NoneLoose calls = All (λ call. is_loose (act_of call) ≡ false) calls
 
 -- by any calls
 abbrev pub Reached : State → Type 0
-Reached v = (images : List Image) × (words : Words) × (config : Config) × (calls : List Call) × (replies : List Reply) × LeadsTo (start images words config) calls replies v
+Reached v = (images : List Image) × (words : Words) × (config : Config) × (calls : List Call) × (replies : List Reply)
+    × LeadsTo (start images words config) calls replies v
 
 -- by calls whose opens are all exclusive
 abbrev pub ReachedExclusively : State → Type 0
-ReachedExclusively v = (images : List Image) × (words : Words) × (config : Config) × (calls : List Call) × (replies : List Reply) × NoneLoose calls × LeadsTo (start images words config) calls replies v
+ReachedExclusively v = (images : List Image) × (words : Words) × (config : Config) × (calls : List Call) × (replies : List Reply)
+    × NoneLoose calls × LeadsTo (start images words config) calls replies v

@@ -2,8 +2,7 @@
 use Rattle.std.specs.Prelude.{ℕ, List, [], ◌∷◌, Option, Some, None}
 use Rattle.rand_core.specs.Stream.{Stream}
 use Rattle.rand_core.specs.Steps.{stream_of, steps_u64_low}
-use Rattle.rand_xoshiro.specs.SplitMix64.{splitmix_seed}
-use Rattle.rand_xoshiro.specs.Xoshiro256.{of_seed, plus_plus}
+use Rattle.rand_xoshiro.specs.Xoshiro256.{plus_plus}
 
 -- the words that are left, and behind them xoshiro256++ in a state, or else zeros for good
 abbrev pub Left : Type 0
@@ -18,10 +17,6 @@ next_of ([], Some state) = ((plus_plus state).0, ([], Some (plus_plus state).1))
 -- a draw of 32 bits is the low half of one word
 abbrev pub scripted : Left → Stream
 scripted = stream_of (steps_u64_low next_of)
-
--- the state that a seed gives
-abbrev pub state_of : ℕ → List ℕ
-state_of seed = of_seed (splitmix_seed 32 seed)
 
 -- the words that a script gives, and the seed of those behind them
 pub record Words : Type 0 where

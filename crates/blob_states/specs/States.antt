@@ -1,5 +1,5 @@
 -- What a laboratory is seen as: files, and what is kept beside them.
-use Rattle.std.specs.Prelude.{◌<◌, ℕ, List, [], ◌∷◌, true, false, All, Option, Some, None, length, IfSome, option_map, fold}
+use Rattle.std.specs.Prelude.{◌<◌, ℕ, List, [], true, false, All, Option, Some, None, length, IfSome, option_map, fold}
 use Rattle.rand_core.specs.Stream.{Stream}
 use Rattle.blob_model.specs.Directory.{Directory, Raw, with_file, with_partition}
 use Rattle.blob_model.specs.Files.{Files, wrapped, durable_at}
@@ -7,7 +7,9 @@ use Rattle.blob_model.specs.Places.{Place}
 use Rattle.blob_header.specs.Refusals.{Refusal}
 use Rattle.blob_faults.specs.declared.config.Config.{Config}
 use Rattle.blob_opens.specs.OpenNames.{OpenNames, Registration, none_open}
-use Rattle.blob_states.specs.Scripted.{Words, scripted, state_of}
+use Rattle.rand_xoshiro.specs.SplitMix64.{splitmix_seed}
+use Rattle.rand_xoshiro.specs.Xoshiro256.{of_seed}
+use Rattle.blob_states.specs.Scripted.{Words, scripted}
 
 -- an open handle
 pub record Held : Type 0 where
@@ -51,7 +53,7 @@ start_on images stream config =
     record { files = files; config = config; stream = stream; names = none_open 0; handles = []; syncs = [] }
 
 abbrev pub start : List Image → Words → Config → State
-start images words config = start_on images (scripted (words.given, option_map state_of words.seed)) config
+start images words config = start_on images (scripted (words.given, option_map (λ seed. of_seed (splitmix_seed 32 seed)) words.seed)) config
 
 -- every handle's incarnation has a number that was given
 abbrev pub AreGiven : ℕ → List (Option Held) → Type 0

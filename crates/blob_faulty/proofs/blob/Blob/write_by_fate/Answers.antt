@@ -4,7 +4,8 @@ use Rattle.std.proofs.lemmas.Grind.{common_steps}
 use Rattle.blob_base.specs.Options.{is_sync}
 use Rattle.blob_header.specs.Refusals.{Refusal, refused, refusal_of}
 use Rattle.blob_model.specs.Runs.{runs}
-use Rattle.blob_faults.specs.Answers.{or_memory, injected_for, lacks_number, allows_runs}
+use Rattle.blob_faults.specs.Changes.{lacks_number}
+use Rattle.blob_faults.specs.Answers.{or_memory, injected_for, allows_runs}
 use Rattle.blob_faults.specs.Faults.{WriteFate, Done, Unsynced, Failed, retention}
 use Rattle.blob_faults.specs.Fates.{write_fate_of}
 use Rattle.blob_base.specs.HandleCalls.{Write}

@@ -1,11 +1,8 @@
-use Rattle.std.proofs.Common.{◌≡◌, ◌≢◌, refl, List, ℕ, Some, None, false}
+use Rattle.std.proofs.Common.{◌≢◌, refl, Some, None, false}
 use Rattle.blob_header.specs.Refusals.{Memory}
 use Rattle.blob_memory.specs.Store.{room_for}
 use Rattle.blob_faulty.specs.Wrapper.{inside, inner_of as store_of}
-use Rattle.blob_calls.specs.Acts.{Write}
-use Rattle.blob_laboratory.specs.LabStands.{Asks}
 use Rattle.blob_laboratory.specs.Tables.{as_held}
-use Rattle.blob_calls.specs.declared.reply.Reply.TheVariants.{Done, Failed}
 use Rattle.blob_laboratory.proofs.AskedWrites.{write_done, write_failed}
 use Rattle.blob_laboratory.proofs.lab.handles.Handle.write_plain.Goals as goal
 
