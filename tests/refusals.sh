@@ -39,7 +39,8 @@ give_up() {
 
 cc -shared -fPIC -O2 -o "$library" "$top/tests/refusals/refuse.c" || give_up "the library can't be built"
 "$top/blobcrash" resolve </dev/null >/dev/null || give_up "blobcrash can't be built or started"
-calls=$("$top/tools/built" blob_refusals steady) || give_up "blob_refusals can't be built"
+tried=$top/crates/blob_play/data/refusals.calls
+calls=$("$top/tools/built" blob_play "$tried") || give_up "blob_play can't be built"
 program=$top/out/blobcrash
 
 # under NAME=VALUE.. COMMAND..: runs it with the library, and leaves its status, what it printed and the library's counts.
@@ -64,7 +65,7 @@ sweep() {
     n=0
     while :; do
         n=$((n + 1))
-        under REFUSE="$n" ${2:-} "$calls" "$name"
+        under REFUSE="$n" ${2:-} "$calls" try "$tried" "$name"
         tally
         if [ "$status" -ne 0 ] || [ -z "$refusals" ]; then
             fail "'$name' with request $n refused${2:+, and all after it}"
@@ -86,17 +87,17 @@ all_comparisons=0
 growing=0
 steady=0
 
-"$calls" growing >"$work/growing"
+sed -n 's/^grows //p' "$tried" >"$work/growing"
 while IFS= read -r name; do
     growing=$((growing + 1))
     sweep "$name"
     sweep "$name" REFUSE_ON=1
 done <"$work/growing"
 
-"$calls" steady >"$work/steady"
+sed -n 's/^steady //p' "$tried" >"$work/steady"
 while IFS= read -r name; do
     steady=$((steady + 1))
-    under REFUSE=1 REFUSE_ON=1 "$calls" "$name"
+    under REFUSE=1 REFUSE_ON=1 "$calls" try "$tried" "$name"
     tally
     if [ "$status" -eq 0 ] && [ "$refusals" = 0 ] && [ "$counted" = 0 ]; then
         pass

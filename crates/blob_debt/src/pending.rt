@@ -3,10 +3,10 @@
 //! A backend whose handles are closed with work outstanding admits each open here. The open learns whether a predecessor
 //! is still at work, whether mutations are left to flush, and whether a failure was retained. A contract speaks of the
 //! history of accepted calls: whatever history the registry represented, it answers by it and represents it with the call added.
-ghost use Rattle.std.specs.Prelude.{◌≡◌, ◌≢◌, IsErr, Ok, ◌∷◌, [], OnErr, OnOk, IfOk, not, option_map, option_copied, Some, None, false, ◌⊎◌, ◌<◌, ◌^◌, ◌-◌};
+ghost use Rattle.std.specs.Prelude.{◌≡◌, ◌≢◌, IsErr, is_some, Ok, ◌∷◌, [], OnErr, OnOk, IfOk, not, option_map, option_copied, Some, None, false, ◌⊎◌, ◌<◌, ◌^◌, ◌-◌};
 ghost use Rattle.std.specs.String.{string_bytes};
 ghost use Rattle.blob_header.specs.Refusals.{refusal_of, refused, Memory};
-ghost use Rattle.blob_debt.specs.History.{History, To, Admit, Release, Settle, Clear, Fail, Close, Forget, released, owed, events, is_outstanding};
+ghost use Rattle.blob_debt.specs.History.{History, To, Admit, Release, Settle, Clear, Fail, Close, Forget, latest, released, owed, events, is_outstanding};
 ghost use Rattle.blob_debt.specs.Debts.{Represents, IsUnchanged, IsOpenedEntry, HoldsNames, AnswersOpen, AnswersOrMemory, after_admit, after_release, entry_denial, operation_of, told, to_key, by_open};
 
 pub(crate) mod entry;
@@ -49,6 +49,28 @@ impl Pending {
             next_token: 0,
             alloc,
         }
+    }
+
+    /// A registry in which nothing happened, whose first generation and token have these numbers.
+    pub fn starting_at(alloc: Global, next_generation: u64, next_token: u64) -> Pending
+        ensures names { HoldsNames result.names [] }
+        ensures generations { result.next_generation ≡ next_generation }
+        ensures tokens { result.next_token ≡ next_token }
+    {
+        Pending {
+            names: Names::new(alloc),
+            outstanding: BTreeSet::new(alloc),
+            next_generation,
+            next_token,
+            alloc,
+        }
+    }
+
+    /// Whether anything is kept of a name: an open that isn't closed or not settled, debt, or a failure.
+    pub fn keeps(&self, partition: &str, name: &[u8]) -> bool
+        ensures { (h : History) → Represents self.now h → result ≡ is_some (latest (events h partition.now name.now)) }
+    {
+        self.names.get(partition, name).is_some()
     }
 
     /// Admits an open. `existing` tells whether the blob was there; where it wasn't, the name is forgotten first.
@@ -270,6 +292,3 @@ fn change(names: &mut Names<Entry>, key: &(String, Vec<u8>), change: Change)
         names.exchange(partition, name, &mut entry);
     }
 }
-
-#[cfg(test)]
-mod tests;

@@ -1,44 +1,98 @@
-//! Plays rows: calls of the memory store and of the wrapper, each with the answer that it has to give.
+//! Plays rows: calls of the memory store, of the wrapper, of the registries over them and of a laboratory, each with the answer
+//! that it has to give.
 //!
 //!     blob_play FILE ..
+//!     blob_play try FILE NAME
 //!
-//! A line tells of each row that was answered otherwise, and one of each file how many of its rows were played. Exit statuses: 0
-//! where every row was answered so, 1 where one wasn't, or a file can't be read.
+//! A line tells of each row that was answered otherwise, and one of each file how many of its rows were played. A file that
+//! ends in `.calls` has calls that are tried while a preloaded library refuses requests for memory: `window` tells it which ones,
+//! and without it none is refused. `try` tries one of them by its name. Exit statuses: 0 where every row and call was answered so, 1
+//! where one wasn't, or a file can't be read.
 #![tactic(auto)]
 
-mod found;
-mod layers;
-mod memory_calls;
-mod place;
+mod debts;
+mod exclusive;
+mod laboratory;
 mod preamble;
+mod sections;
+mod slots;
 mod table;
-mod tokens;
-mod values;
-mod words;
+mod trial;
 mod world;
-mod wrapper_calls;
 
-use anyhow::{Context, Result};
+use anyhow::{Context, Result, bail};
+use sections::Section;
+use std::alloc::Global;
 use std::process::ExitCode;
 use std::rt::Files;
 use std::{env, fs};
 
-// How many rows of a file were answered otherwise.
-fn play_file<R: AllocGlobal + Files + Print>(rt: &R, file: &str) -> Result<u64> {
-    let text = fs::read_to_string(rt, file).context(format_args!("{file}"))?;
-    let (tally, failures) = table::play(rt.alloc(), file, text.as_str())?;
+// Plays the rows of a file, and tells how many were answered otherwise.
+fn play<R: AllocGlobal + Print>(rt: &R, file: &str, text: &str) -> Result<u64> {
+    let (tally, failures) = table::play(rt.alloc(), file, text)?;
     print!(rt; "{failures}")?;
     let (cases, rows, failed) = (tally.cases, tally.rows, tally.failed);
     println!(rt; "{file}: {cases} cases, {rows} rows, {failed} failed")?;
     Ok(failed)
 }
 
+// What a refusal leaves, and what the call answers where none came.
+fn try_call<R: Print>(rt: &R, alloc: Global, all: &[Section<'_>], one: &Section<'_>) -> Result<()> {
+    let name = one.name;
+    let tally = trial::try_call(alloc, all, one).context(format_args!("{name}"))?;
+    let (refused, compared) = (tally.refused, tally.compared);
+    println!(rt; "{name}: {refused} refused, {compared} compared")?;
+    Ok(())
+}
+
+// Tries the call of a name, or each.
+fn try_calls<R: AllocGlobal + Print>(rt: &R, text: &str, name: Option<&str>) -> Result<()> {
+    let sections = sections::read(rt.alloc(), text)?;
+    let mut tried = 0u64;
+    for section in sections.iter() {
+        if section.kind != "part" && name.unwrap_or(section.name) == section.name {
+            try_call(rt, rt.alloc(), &sections, section)?;
+            tried = tried.wrapping_add(1);
+        }
+    }
+    if tried == 0 {
+        bail!("no such call");
+    }
+    Ok(())
+}
+
+fn read<R: AllocGlobal + Files>(rt: &R, file: &str) -> Result<String> {
+    Ok(fs::read_to_string(rt, file).context(format_args!("{file}"))?)
+}
+
+// Whether all of a file was answered so.
+fn is_right<R: AllocGlobal + Files + Print>(rt: &R, file: &str) -> Result<bool> {
+    let text = read(rt, file)?;
+    if file.ends_with(".calls") {
+        try_calls(rt, &text, None)?;
+        return Ok(true);
+    }
+    Ok(play(rt, file, &text)? == 0)
+}
+
+fn run<R: AllocGlobal + Files + Print>(rt: &R, words: &[String]) -> Result<bool> {
+    if let [word, file, name] = words {
+        if word.as_str() == "try" {
+            let text = read(rt, file)?;
+            try_calls(rt, &text, Some(name))?;
+            return Ok(true);
+        }
+    }
+    let mut are_right = true;
+    for file in words {
+        are_right &= is_right(rt, file)?;
+    }
+    Ok(are_right)
+}
+
 fn main(rt: HostRuntime) -> Result<ExitCode> {
     let mut args = env::args(&rt)?;
     let _program = args.next();
-    let mut is_wrong = false;
-    for file in args {
-        is_wrong |= play_file(&rt, file.as_str())? > 0;
-    }
-    Ok(ExitCode::from(u8::from(is_wrong)))
+    let words: Vec<String> = args.collect(rt.alloc())?;
+    Ok(ExitCode::from(u8::from(!run(&rt, &words)?)))
 }

@@ -1,62 +1,69 @@
 //! What a case begins with.
 
-use crate::layers::Layers;
-use crate::memory_calls::MemoryPlace;
-use crate::tokens::number;
-use crate::world::World;
-use crate::wrapper_calls::WrapperPlace;
 use blob_base::Error;
-use blob_calls::script::{Line, read_line};
+use blob_lab::script::{Line, read_line};
+use blob_player::tokens::number;
 use std::alloc::Global;
 
-/// The store, the words of its generator, and its first numbers.
+/// What calls are made on.
+#[derive(Clone, Copy)]
+pub enum Layer {
+    /// The memory store itself.
+    Memory,
+    /// A wrapper over another one.
+    Wrapper,
+    /// Exclusive opens over that wrapper.
+    Opens,
+    /// A laboratory, by the lines of a script.
+    Laboratory,
+}
+
+/// The layer of its calls, the words of generators, and the first numbers.
 #[derive(Drop)]
 pub struct Preamble {
-    is_wrapper: bool,
-    words: Vec<u64>,
-    next: u64,
-    next_marker: u64,
+    pub layer: Layer,
+    pub words: Vec<u64>,
+    pub next: u64,
+    pub next_marker: u64,
+}
+
+/// The layer that a line turns to, if it is such a line.
+pub fn layer_of(line: &str) -> Option<Layer> {
+    Some(match line {
+        "over memory" => Layer::Memory,
+        "over wrapper" => Layer::Wrapper,
+        "over opens" => Layer::Opens,
+        "over laboratory" => Layer::Laboratory,
+        _ => return None,
+    })
 }
 
 impl Preamble {
     pub fn new(alloc: Global) -> Preamble {
         Preamble {
-            is_wrapper: false,
+            layer: Layer::Memory,
             words: Vec::new(alloc),
             next: 0,
             next_marker: 0,
         }
     }
 
-    /// Another case begins: over the same kind of store, without words, and with numbers from 0.
+    /// Another case begins: over the same layer, without words, and with numbers from 0.
     pub fn clear(&mut self) {
         self.words.clear();
         self.next = 0;
         self.next_marker = 0;
     }
 
-    /// How many words are given.
-    pub fn given(&self) -> usize {
-        self.words.len()
-    }
-
-    /// The store that it tells of.
-    pub fn world(&self, alloc: Global) -> Result<World, Error> {
-        if !self.is_wrapper {
-            return Ok(World::Memory(MemoryPlace::starting_at(alloc, self.next)));
-        }
-        let words = Vec::from_slice(alloc, &self.words)?;
-        let place = WrapperPlace::new(alloc, words, self.next, self.next_marker)?;
-        Ok(World::Wrapper(Layers::new(place)))
-    }
-
-    /// Reads a line, if it is one of a preamble: `over memory` and `over wrapper`, which hold for the cases behind them too,
-    /// `numbers N` and `numbers N M`, and a script's `words`.
+    /// Reads a line, if it is one of a preamble: `over LAYER`, which holds for the cases behind it too, `numbers N` and
+    /// `numbers N M`, and a script's `words`.
     pub fn read(&mut self, alloc: Global, line: &str) -> Result<bool, Error> {
+        if let Some(layer) = layer_of(line) {
+            self.layer = layer;
+            return Ok(true);
+        }
         let tokens: Vec<&str> = line.split(' ').collect(alloc)?;
         match tokens.as_slice() {
-            ["over", "memory"] => self.is_wrapper = false,
-            ["over", "wrapper"] => self.is_wrapper = true,
             ["numbers", next] => self.next = number(next)?,
             ["numbers", next, next_marker] => {
                 self.next = number(next)?;

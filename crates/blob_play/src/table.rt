@@ -1,11 +1,11 @@
 //! A file of rows, line by line.
 
-use crate::found::{Found, bytes, line_of};
 use crate::preamble::Preamble;
-use crate::tokens;
 use crate::world::World;
 use anyhow::Result;
 use blob_base::Error;
+use blob_player::found::{Found, bytes, line_of};
+use blob_player::tokens;
 use std::alloc::Global;
 
 /// How many cases and rows were played, and how many rows were answered otherwise.
@@ -17,7 +17,6 @@ pub struct Tally {
 }
 
 // What is played of a file.
-#[derive(Drop)]
 struct Player<'a> {
     alloc: Global,
     file: &'a str,
@@ -30,11 +29,18 @@ struct Player<'a> {
     failures: String,
 }
 
-// A wanted answer as it is printed: its bytes may be written in pieces.
-fn printed(alloc: Global, answer: &str) -> Result<String, Error> {
+/// A wanted answer as it is printed: its bytes may be written in pieces.
+pub fn printed(alloc: Global, answer: &str) -> Result<String, Error> {
     match answer.strip_prefix("bytes ") {
         Some(token) => Ok(line_of(alloc, Ok(bytes(tokens::bytes(alloc, token)?)))?),
         None => Ok(String::from_str(alloc, answer)?),
+    }
+}
+
+// Puts a world in the place of another.
+fn put(place: &mut Option<World>, world: World) {
+    if let Some(earlier) = place.replace(world) {
+        earlier.end();
     }
 }
 
@@ -53,24 +59,43 @@ impl<'a> Player<'a> {
         Ok(())
     }
 
+    // What a call finds in the world of the case, which its first row begins.
+    fn find(&mut self, asked: &str) -> Result<String> {
+        if self.world.is_none() {
+            match World::new(self.alloc, &self.preamble) {
+                Ok(world) => put(&mut self.world, world),
+                Err(e) => return Err(e.into()),
+            }
+        }
+        let found = match &mut self.world {
+            Some(world) => world.perform(asked),
+            None => Err(Error::Closed),
+        };
+        Ok(line_of(self.alloc, found)?)
+    }
+
     fn row(&mut self, line: usize, asked: &str, answer: &str) -> Result<()> {
         self.tally.rows = self.tally.rows.wrapping_add(1);
-        let mut world = match self.world.take() {
-            Some(world) => world,
-            None => self.preamble.world(self.alloc)?,
-        };
-        let found = line_of(self.alloc, world.perform(self.alloc, asked))?;
-        self.world = Some(world);
+        let found = self.find(asked)?;
         let wanted = printed(self.alloc, answer)?;
         self.expect(line, asked, &wanted, &found)
     }
 
+    // Ends the world, and answers how many words were taken.
+    fn end_world(&mut self) -> Option<Result<Found, Error>> {
+        let mut world = self.world.take()?;
+        let taken = world.taken();
+        world.end();
+        Some(taken)
+    }
+
     // All given words have to be taken at the end of a case.
     fn end(&mut self, line: usize) -> Result<()> {
-        if let Some(world) = self.world.take() {
+        if let Some(taken) = self.end_world() {
             if !self.is_failed {
-                let wanted = line_of(self.alloc, Ok(Found::Taken(self.preamble.given())))?;
-                let found = line_of(self.alloc, world.taken().map(Found::Taken))?;
+                let given = self.preamble.words.len();
+                let wanted = line_of(self.alloc, Ok(Found::Taken(given)))?;
+                let found = line_of(self.alloc, taken)?;
                 self.expect(line, "the end", &wanted, &found)?;
             }
         }
@@ -86,6 +111,17 @@ impl<'a> Player<'a> {
         Ok(())
     }
 
+    // What isn't a row. In the midst of a case it may turn to another layer.
+    fn say(&mut self, line: usize, text: &str) -> Result<()> {
+        if !self.preamble.read(self.alloc, text)? {
+            return self.expect(line, text, "a row", "none");
+        }
+        if let Some(world) = &mut self.world {
+            world.layer = self.preamble.layer;
+        }
+        Ok(())
+    }
+
     fn line(&mut self, line: usize, text: &'a str) -> Result<()> {
         if text.is_empty() || text.starts_with('#') {
             return Ok(());
@@ -98,11 +134,17 @@ impl<'a> Player<'a> {
         }
         match text.split_once(" => ") {
             Some((asked, answer)) => self.row(line, asked, answer),
-            None => match self.preamble.read(self.alloc, text)? {
-                true => Ok(()),
-                false => self.expect(line, text, "a row", "none"),
-            },
+            None => self.say(line, text),
         }
+    }
+
+    fn lines(&mut self, text: &'a str) -> Result<()> {
+        let mut last = 0;
+        for (i, line) in text.lines().enumerate() {
+            last = i.wrapping_add(1);
+            self.line(last, line)?;
+        }
+        self.end(last)
     }
 }
 
@@ -118,11 +160,20 @@ pub fn play(alloc: Global, file: &str, text: &str) -> Result<(Tally, String)> {
         tally: Tally::default(),
         failures: String::new(alloc),
     };
-    let mut last = 0;
-    for (i, line) in text.lines().enumerate() {
-        last = i.wrapping_add(1);
-        player.line(last, line)?;
+    let outcome = player.lines(text);
+    let Player {
+        alloc: _,
+        file: _,
+        title: _,
+        preamble: _,
+        world,
+        is_failed: _,
+        tally,
+        failures,
+    } = player;
+    if let Some(world) = world {
+        world.end();
     }
-    player.end(last)?;
-    Ok((player.tally, player.failures))
+    outcome?;
+    Ok((tally, failures))
 }

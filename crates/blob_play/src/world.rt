@@ -1,87 +1,137 @@
-//! All that the calls of a case are made on, and the lines of these calls.
+//! All that the calls of a case are made on.
 
-use crate::found::{Found, bytes_of};
-use crate::layers::Layers;
-use crate::memory_calls::MemoryPlace;
-use crate::tokens;
-use blob_base::Error;
-use blob_calls::Call;
-use blob_calls::script::{Line, RefusedLine, Setting, read_line};
+use crate::debts::Debts;
+use crate::exclusive::Exclusive;
+use crate::laboratory::Laboratory;
+use crate::preamble::{Layer, Preamble};
+use blob_base::{Error, IoBufs};
 use blob_memory::Storage as Memory;
-use std::alloc::{AllocError, Global};
+use blob_player::args::Args;
+use blob_player::calls::{self, Ask, Kept, Own};
+use blob_player::found::{Found, bytes, bytes_of, done};
+use blob_player::layers::Layers;
+use blob_player::memory_calls::MemoryPlace;
+use blob_player::wrapper_calls::WrapperPlace;
+use blob_player::{values, window};
+use std::alloc::Global;
 
-/// The store of a case, with its handles.
-#[derive(Drop)]
-pub enum World {
-    Memory(MemoryPlace),
-    Wrapper(Layers),
+/// Stores and registries of every layer, and a list of pieces.
+pub struct World {
+    alloc: Global,
+    /// What calls are made on.
+    pub layer: Layer,
+    pieces: IoBufs,
+    memory: MemoryPlace,
+    layers: Layers,
+    exclusive: Exclusive,
+    debts: Debts,
+    laboratory: Laboratory,
 }
 
 impl World {
-    fn memory(&self) -> &Memory {
-        match self {
-            World::Memory(place) => &place.place.store,
-            World::Wrapper(layers) => layers.memory(),
+    /// Empty ones, as a preamble says.
+    pub fn new(alloc: Global, preamble: &Preamble) -> Result<World, Error> {
+        let words = Vec::from_slice(alloc, &preamble.words)?;
+        let (next, next_marker) = (preamble.next, preamble.next_marker);
+        let wrapper = WrapperPlace::new(alloc, Memory::new(alloc), words, (next, next_marker))?;
+        let words = Vec::from_slice(alloc, &preamble.words)?;
+        Ok(World {
+            alloc,
+            layer: preamble.layer,
+            pieces: IoBufs::new(alloc),
+            memory: MemoryPlace::starting_at(alloc, next),
+            layers: Layers::new(alloc, wrapper),
+            exclusive: Exclusive::new(alloc),
+            debts: Debts::new(alloc),
+            laboratory: Laboratory::new(alloc, words),
+        })
+    }
+
+    /// Closes what is open.
+    pub fn end(self) {
+        let World {
+            alloc: _,
+            layer: _,
+            pieces: _,
+            memory: _,
+            layers: _,
+            exclusive,
+            debts,
+            laboratory,
+        } = self;
+        exclusive.end();
+        debts.end();
+        laboratory.end();
+    }
+
+    // The store whose bytes are told.
+    fn store(&self) -> &Memory {
+        match self.layer {
+            Layer::Memory => &self.memory.place.store,
+            _ => self.layers.memory(),
         }
     }
 
-    fn configure(&mut self, setting: Setting) -> Result<Found, Error> {
-        match self {
-            World::Memory(_) => Err(Error::Closed),
-            World::Wrapper(layers) => layers.configure(setting),
+    fn call_of_kept(&mut self, kept: Kept, args: &mut Args<'_>) -> Result<Found, Error> {
+        match kept {
+            Kept::Push => self.pieces.push(args.take_bytes()).map(done),
+            Kept::Pieces => self.pieces.copied()?.coalesce().map(bytes),
+            Kept::Raw => self
+                .store()
+                .raw_blob(&args.partition, &args.name)
+                .map(bytes_of),
+            Kept::Logical => self
+                .store()
+                .logical_blob(&args.partition, &args.name)
+                .map(bytes_of),
         }
     }
 
-    fn call(&mut self, call: &Call) -> Result<Found, Error> {
-        match self {
-            World::Memory(place) => place.place.call(call),
-            World::Wrapper(layers) => layers.call(call),
-        }
-    }
-
-    fn raw(&self, alloc: Global, partition: &str, name: &str) -> Result<Found, Error> {
-        let partition = tokens::partition(alloc, partition)?;
-        let name = tokens::bytes(alloc, name)?;
-        Ok(bytes_of(self.memory().raw_blob(&partition, &name)?))
-    }
-
-    fn logical(&self, alloc: Global, partition: &str, name: &str) -> Result<Found, Error> {
-        let partition = tokens::partition(alloc, partition)?;
-        let name = tokens::bytes(alloc, name)?;
-        Ok(bytes_of(self.memory().logical_blob(&partition, &name)?))
-    }
-
-    // A call that no script has.
-    fn more(&mut self, alloc: Global, words: &[&str]) -> Result<Found, Error> {
-        match words {
-            ["raw", partition, name] => self.raw(alloc, partition, name),
-            ["logical", partition, name] => self.logical(alloc, partition, name),
-            _ => match self {
-                World::Memory(place) => place.more(words),
-                World::Wrapper(layers) => layers.more(words),
-            },
-        }
-    }
-
-    /// Makes the call that a line says. What isn't a call here is refused as `Closed`, which no store answers.
-    pub fn perform(&mut self, alloc: Global, line: &str) -> Result<Found, Error> {
-        match read_line(alloc, line.as_bytes()) {
-            Ok(Line::Call(call)) => self.call(&call),
-            Ok(Line::Configure(setting)) => self.configure(setting),
-            Ok(_) => Err(Error::Closed),
-            Err(RefusedLine::NoMemory) => Err(Error::Memory(AllocError)),
-            Err(RefusedLine::BadCall) => {
-                let words: Vec<&str> = line.split(' ').collect(alloc)?;
-                self.more(alloc, words.as_slice())
+    fn call_of_layer(&mut self, own: Own, args: &mut Args<'_>) -> Result<Found, Error> {
+        match self.layer {
+            Layer::Memory => self.memory.call(own, args),
+            Layer::Wrapper => self.layers.call(own, args),
+            Layer::Opens => {
+                let wrapper = &mut self.layers.below.place.store;
+                self.exclusive.call(wrapper, own, args)
             }
+            Layer::Laboratory => Err(Error::Closed),
         }
     }
 
-    /// How many words were taken, at the end.
-    pub fn taken(self) -> Result<usize, Error> {
-        match self {
-            World::Memory(_) => Ok(0),
-            World::Wrapper(layers) => layers.taken(),
+    fn call(&mut self, ask: Ask, args: &mut Args<'_>) -> Result<Found, Error> {
+        match ask {
+            Ask::Value(value) => values::call(value, args),
+            Ask::Kept(kept) => self.call_of_kept(kept, args),
+            Ask::Own(own) => self.call_of_layer(own, args),
+            Ask::Debt(debt) => self.debts.call(debt, args),
         }
+    }
+
+    // Takes room for what a call may leave, so that keeping it takes no memory.
+    fn make_room(&mut self) -> Result<(), Error> {
+        self.memory.place.make_room()?;
+        self.layers.below.place.make_room()?;
+        self.exclusive.make_room()?;
+        Ok(())
+    }
+
+    /// Makes the call that a line says. What isn't a call here is refused as `Closed`, which no store answers. All requests for
+    /// memory between the marks are the call's own.
+    pub fn perform(&mut self, line: &str) -> Result<Found, Error> {
+        if let Layer::Laboratory = self.layer {
+            return self.laboratory.perform(line);
+        }
+        let (ask, mut args) = calls::read(self.alloc, line)?;
+        self.make_room()?;
+        window::begin(self.alloc);
+        let found = self.call(ask, &mut args);
+        window::end(self.alloc);
+        found
+    }
+
+    /// How many words of the wrapper over memory were taken, at the end.
+    pub fn taken(&mut self) -> Result<Found, Error> {
+        self.layers.below.taken()
     }
 }

@@ -1,11 +1,9 @@
-//! A header's bytes, its region, and what a blob resolves to.
+//! The region of a header, and what a blob resolves to.
 
-use blob_header::header_laws::decodes_what_encodes;
-use blob_header::{BlobVersion, Error, Header, HeaderError, Layout, resolve};
+use blob_header::{BlobVersion, Error, Header, Layout, resolve};
 use std::alloc::Global;
 use std::ops::RangeInclusive;
 use std::process::Abort;
-use std::test::Fail;
 
 fn versions(first: u16, last: u16) -> RangeInclusive<BlobVersion> {
     BlobVersion::new(first)..=BlobVersion::new(last)
@@ -45,34 +43,4 @@ pub(crate) fn region_of(
     let mut region = [0; 4096];
     region.copy_from_slice(bytes.as_slice());
     Ok(region)
-}
-
-#[test]
-fn headers_are_read_by_their_layout(rt: HostRuntime) -> Result<(), Fail> {
-    let header = Header {
-        magic: *b"CWIK",
-        layout_version: 0,
-        blob_version: BlobVersion::new(5),
-    };
-    let unsupported = HeaderError::UnsupportedLayoutVersion {
-        expected: 1,
-        found: 0,
-    };
-    assert_eq!(rt; header.validate(), Err(unsupported));
-    assert_eq!(rt; header.encode(), *b"CWIK\x00\x00\x00\x05");
-    assert_eq!(rt; decodes_what_encodes(header), header);
-    assert!(rt; Header::missing(7) && !Header::missing(8));
-    assert_eq!(rt; Header::resolve_len(4095), 4095);
-    assert_eq!(rt; Header::resolve_len(4097), 4096);
-    let only = Layout::V1..=Layout::V1;
-    let old = b"CWIC\x00\x00\x00\x05payload".as_slice();
-    let mismatch = HeaderError::LayoutMismatch {
-        expected: Layout::V1..=Layout::V1,
-        found: Layout::V0,
-    };
-    assert_eq!(rt;
-        Header::parse(old, 15, &only, &versions(0, 0)),
-        Err(mismatch)
-    );
-    Ok(())
 }

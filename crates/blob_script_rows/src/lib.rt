@@ -1,5 +1,4 @@
-//! Tests by rows: lines, replies and generators of scripts, whole scripts and `resolve` over streams that fail, through their
-//! public calls.
+//! Tests of whole scripts and of `resolve` over streams that fail, through their public calls.
 #![tactic(auto)]
 
 #[cfg(test)]
@@ -7,8 +6,4 @@ mod failing;
 #[cfg(test)]
 mod resolutions;
 #[cfg(test)]
-mod script_lines;
-#[cfg(test)]
 mod script_runs;
-#[cfg(test)]
-mod seeded_words;

@@ -1,0 +1,173 @@
+//! A laboratory, with the lines of a script.
+
+use blob_base::Error;
+use blob_faulty::Config;
+use blob_lab::script::{Line, RefusedLine, read_line};
+use blob_lab::{Call, Lab, Reply};
+use blob_player::found::{Found, bytes_of, done};
+use blob_player::{tokens, window};
+use std::alloc::Global;
+use std::mem;
+
+/// A laboratory, which is there from its first call on, and its configuration.
+pub struct Laboratory {
+    alloc: Global,
+    words: Vec<u64>,
+    lab: Option<Lab>,
+    config: Config,
+}
+
+// Whether a laboratory is made over one image.
+fn made(alloc: Global, partition: &str, name: &str, raw: &str) -> Result<Found, Error> {
+    let partition = tokens::text(alloc, partition)?;
+    let (name, raw) = (tokens::bytes(alloc, name)?, tokens::bytes(alloc, raw)?);
+    let mut images = Vec::with_capacity(alloc, 1)?;
+    images.push((partition, name, raw))?;
+    window::begin(alloc);
+    let answer = Lab::new(images, Vec::new(alloc), Config::default());
+    window::end(alloc);
+    match answer {
+        Ok(lab) => {
+            lab.end();
+            Ok(done(()))
+        }
+        Err(e) => Err(e),
+    }
+}
+
+// All live bytes of a handle, below 32 KiB: as many as can be read.
+fn all(lab: &mut Lab, handle: usize) -> Reply {
+    let (offset, mut len) = (0, 0usize);
+    for bit in 0..15u32 {
+        let longer = len | (1usize << (14 - bit));
+        let call = Call::Read {
+            handle,
+            offset,
+            len: longer,
+        };
+        if let Reply::Bytes(_) = lab.apply(&call) {
+            len = longer;
+        }
+    }
+    lab.apply(&Call::Read {
+        handle,
+        offset,
+        len,
+    })
+}
+
+impl Laboratory {
+    /// A laboratory whose generator has these words.
+    pub fn new(alloc: Global, words: Vec<u64>) -> Laboratory {
+        Laboratory {
+            alloc,
+            words,
+            lab: None,
+            config: Config::default(),
+        }
+    }
+
+    /// Ends it.
+    pub fn end(self) {
+        let Laboratory {
+            alloc: _,
+            words: _,
+            lab,
+            config: _,
+        } = self;
+        if let Some(lab) = lab {
+            lab.end();
+        }
+    }
+
+    fn begin(&mut self) -> Result<(), Error> {
+        if self.lab.is_none() {
+            let words = mem::replace(&mut self.words, Vec::new(self.alloc));
+            match Lab::new(Vec::new(self.alloc), words, Config::default()) {
+                Ok(lab) => {
+                    if let Some(earlier) = self.lab.replace(lab) {
+                        earlier.end();
+                    }
+                }
+                Err(e) => return Err(e),
+            }
+        }
+        Ok(())
+    }
+
+    // The call of a line, if a script has it.
+    fn call_of(&mut self, line: &str) -> Result<Option<Call>, Error> {
+        match read_line(self.alloc, line.as_bytes()) {
+            Ok(Line::Call(call)) => Ok(Some(call)),
+            Ok(Line::Configure(setting)) => {
+                self.config = setting.apply(mem::take(&mut self.config));
+                Ok(Some(Call::Configure(self.config.clone()?)))
+            }
+            Err(RefusedLine::NoMemory) => Err(tokens::refused(RefusedLine::NoMemory)),
+            _ => Ok(None),
+        }
+    }
+
+    fn apply(&mut self, call: &Call) -> Result<Found, Error> {
+        let lab = self.lab.as_mut().ok_or(Error::Closed)?;
+        window::begin(self.alloc);
+        let reply = lab.apply(call);
+        window::end(self.alloc);
+        Ok(Found::Told(reply))
+    }
+
+    // Makes calls as one list, and tells how many replies there are.
+    fn run(&mut self, lines: &str) -> Result<Found, Error> {
+        let mut calls = Vec::new(self.alloc);
+        for line in lines.split(';') {
+            calls.push(self.call_of(line)?.ok_or(Error::Closed)?)?;
+        }
+        let lab = self.lab.as_mut().ok_or(Error::Closed)?;
+        window::begin(self.alloc);
+        let answer = lab.run(&calls);
+        window::end(self.alloc);
+        Ok(Found::Told(Reply::Size(answer?.len() as u64)))
+    }
+
+    fn end_lab(&mut self) -> Result<Found, Error> {
+        window::begin(self.alloc);
+        if let Some(lab) = self.lab.take() {
+            lab.end();
+        }
+        window::end(self.alloc);
+        Ok(done(()))
+    }
+
+    fn raw(&self, partition: &str, name: &str) -> Result<Found, Error> {
+        let partition = tokens::text(self.alloc, partition)?;
+        let name = tokens::bytes(self.alloc, name)?;
+        let lab = self.lab.as_ref().ok_or(Error::Closed)?;
+        let found = lab.wrapper().inner().raw_blob(&partition, &name)?;
+        Ok(bytes_of(found))
+    }
+
+    fn all(&mut self, handle: &str) -> Result<Found, Error> {
+        let handle = tokens::number(handle)? as usize;
+        let lab = self.lab.as_mut().ok_or(Error::Closed)?;
+        Ok(Found::Told(all(lab, handle)))
+    }
+
+    /// Makes the call of a line.
+    pub fn perform(&mut self, line: &str) -> Result<Found, Error> {
+        self.begin()?;
+        if let Some(call) = self.call_of(line)? {
+            return self.apply(&call);
+        }
+        if let Some(lines) = line.strip_prefix("run ") {
+            return self.run(lines);
+        }
+        let words: Vec<&str> = line.split(' ').collect(self.alloc)?;
+        match words.as_slice() {
+            ["made", partition, name, raw] => made(self.alloc, partition, name, raw),
+            ["end"] => self.end_lab(),
+            ["raw", partition, name] => self.raw(partition, name),
+            ["all", handle] => self.all(handle),
+            _ => Err(Error::Closed),
+        }
+    }
+}

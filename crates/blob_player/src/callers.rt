@@ -1,0 +1,61 @@
+//! The callers that know a store by its traits alone, over the memory store. Each is called by a function of its own, so that its
+//! contract is known where it is called and nowhere behind it.
+
+use crate::args::Args;
+use crate::calls::Own;
+use crate::found::{Found, done};
+use blob_base::any_store::{
+    plain_write_within_room, resize_and_start_sync, write_and_remove, write_and_sync,
+    write_within_room,
+};
+use blob_base::{Blob, Durable, Error, WriteOptions};
+use blob_memory::{Blob as Opened, Storage as Memory};
+
+fn synced(store: &mut Memory, blob: &mut Opened, args: &mut Args<'_>) -> Result<(), Error> {
+    let (at, plain) = (args.numbers[1], WriteOptions::default());
+    write_and_sync(store, blob, at, args.take_bufs(), plain)
+}
+
+fn removed(store: &mut Memory, blob: &mut Opened, args: &mut Args<'_>) -> Result<(), Error> {
+    let (at, bufs) = (args.numbers[1], args.take_bufs());
+    let (partition, name) = (&args.partition, &args.name);
+    write_and_remove(store, blob, at, bufs, WriteOptions::SYNC, partition, name)
+}
+
+// Within a room that ends there.
+fn within_room(store: &mut Memory, blob: &mut Opened, args: &mut Args<'_>) -> Result<(), Error> {
+    let ([_, end, at, _], bufs) = (args.numbers, args.take_bufs());
+    if at > end || bufs.remaining() as u64 > end - at || !store.is_current(blob.origin()) {
+        return Err(Error::Closed);
+    }
+    write_within_room(store, blob, end, at, bufs, WriteOptions::SYNC)?
+}
+
+fn plain_within_room(
+    store: &mut Memory,
+    blob: &mut Opened,
+    args: &mut Args<'_>,
+) -> Result<(), Error> {
+    let ([_, end, at, _], bufs) = (args.numbers, args.take_bufs());
+    if at > end || bufs.remaining() as u64 > end - at || bufs.is_empty() {
+        return Err(Error::Closed);
+    }
+    plain_write_within_room(store, blob, end, at, bufs, WriteOptions::default())?
+}
+
+/// Calls one of them.
+pub fn call(
+    store: &mut Memory,
+    blob: &mut Opened,
+    own: Own,
+    args: &mut Args<'_>,
+) -> Result<Found, Error> {
+    match own {
+        Own::WriteAndSync => synced(store, blob, args),
+        Own::ResizeAndStart => resize_and_start_sync(store, blob, args.numbers[1]),
+        Own::WriteAndRemove => removed(store, blob, args),
+        Own::WriteWithin => within_room(store, blob, args),
+        _ => plain_within_room(store, blob, args),
+    }
+    .map(done)
+}

@@ -1,0 +1,260 @@
+//! The words of calls, with what each is given.
+
+use crate::args::{Args, takes_all};
+use blob_base::Error;
+use std::alloc::Global;
+
+/// A call, by what it is made on.
+#[derive(Clone, Copy)]
+pub enum Ask {
+    Value(Value),
+    Kept(Kept),
+    Own(Own),
+    Debt(Debt),
+}
+
+/// What needs no store.
+#[derive(Clone, Copy)]
+pub enum Value {
+    Resolve,
+    Parse,
+    MaybeTorn,
+    Interrupted,
+    Create,
+    Checksum,
+    Magic,
+    Partition,
+    Draw,
+    Cell,
+    FromVec,
+    Buffer,
+    Coalesce,
+    Copied,
+    NewOrigin,
+    ReadLine,
+    Print,
+    Told,
+    Refused,
+    Counted,
+    CountedCopy,
+    Moved,
+    Sector,
+    Validate,
+    Encode,
+    Missing,
+    ResolveLen,
+    ReadBytes,
+    Seeded,
+}
+
+/// Of the list of pieces that is kept, and of the durable bytes.
+#[derive(Clone, Copy)]
+pub enum Kept {
+    Push,
+    Pieces,
+    Raw,
+    Logical,
+}
+
+/// What is made on a store, a wrapper or exclusive opens, or through a handle of theirs.
+#[derive(Clone, Copy)]
+pub enum Own {
+    Open,
+    OpenVersioned,
+    OpenExclusive,
+    Fresh,
+    Remove,
+    RemovePartition,
+    Scan,
+    Finish,
+    Same,
+    Read,
+    ReadInto,
+    Write,
+    WriteSynced,
+    Resize,
+    Sync,
+    StartSync,
+    Reserve,
+    Current,
+    Live,
+    All,
+    SetRaw,
+    Audit,
+    Rebuild,
+    Swap,
+    Origin,
+    Retain,
+    RetainResize,
+    RetainOf,
+    RetainResizeOf,
+    ReserveCrash,
+    Config,
+    Size,
+    RemoveRetired,
+    RemovePartitionRetired,
+    Admit,
+    Crash,
+    Rewrap,
+    Wrap,
+    Unwrap,
+    Close,
+    Replace,
+    ReplacePartition,
+    WriteAndSync,
+    ResizeAndStart,
+    WriteAndRemove,
+    WriteWithin,
+    PlainWithin,
+}
+
+/// Of the registry of durability debt.
+#[derive(Clone, Copy)]
+pub enum Debt {
+    Begin,
+    Admit,
+    Release,
+    Settle,
+    IsSettled,
+    Owes,
+    Clear,
+    Fail,
+    Close,
+    Keeps,
+    Forget,
+    ForgetPartition,
+}
+
+type Row = (&'static str, &'static str, Ask);
+
+// A word, the letters of its arguments, and the call.
+static CALLS: [Row; 94] = [
+    ("resolve", "bvv", Ask::Value(Value::Resolve)),
+    ("parse", "bllvv", Ask::Value(Value::Parse)),
+    ("maybetorn", "bllvv", Ask::Value(Value::MaybeTorn)),
+    ("interrupted", "lb", Ask::Value(Value::Interrupted)),
+    ("create", "lvv", Ask::Value(Value::Create)),
+    ("checksum", "b", Ask::Value(Value::Checksum)),
+    ("layout", "b", Ask::Value(Value::Magic)),
+    ("partition", "p", Ask::Value(Value::Partition)),
+    ("draw", "nnn", Ask::Value(Value::Draw)),
+    ("cell", "n", Ask::Value(Value::Cell)),
+    ("fromvec", "b", Ask::Value(Value::FromVec)),
+    ("buffer", "n", Ask::Value(Value::Buffer)),
+    ("coalesce", "W", Ask::Value(Value::Coalesce)),
+    ("copied", "W", Ask::Value(Value::Copied)),
+    ("neworigin", "pann", Ask::Value(Value::NewOrigin)),
+    ("readline", "T", Ask::Value(Value::ReadLine)),
+    ("print", "b", Ask::Value(Value::Print)),
+    ("told", "E", Ask::Value(Value::Told)),
+    ("refused", "E", Ask::Value(Value::Refused)),
+    ("counted", "W", Ask::Value(Value::Counted)),
+    ("countedcopy", "W", Ask::Value(Value::CountedCopy)),
+    ("moved", "b", Ask::Value(Value::Moved)),
+    ("sector", "n", Ask::Value(Value::Sector)),
+    ("validate", "b", Ask::Value(Value::Validate)),
+    ("encode", "b", Ask::Value(Value::Encode)),
+    ("missing", "n", Ask::Value(Value::Missing)),
+    ("resolvelen", "n", Ask::Value(Value::ResolveLen)),
+    ("readbytes", "b", Ask::Value(Value::ReadBytes)),
+    ("seeded", "nG", Ask::Value(Value::Seeded)),
+    ("push", "b", Ask::Kept(Kept::Push)),
+    ("kept", "", Ask::Kept(Kept::Pieces)),
+    ("raw", "pa", Ask::Kept(Kept::Raw)),
+    ("logical", "pa", Ask::Kept(Kept::Logical)),
+    ("loose", "pa", Ask::Own(Own::Open)),
+    ("loose", "pavv", Ask::Own(Own::OpenVersioned)),
+    ("open", "pa", Ask::Own(Own::OpenExclusive)),
+    ("open", "pavv", Ask::Own(Own::OpenExclusive)),
+    ("fresh", "pa", Ask::Own(Own::Fresh)),
+    ("remove", "p", Ask::Own(Own::RemovePartition)),
+    ("remove", "pa", Ask::Own(Own::Remove)),
+    ("scan", "p", Ask::Own(Own::Scan)),
+    ("finish", "n", Ask::Own(Own::Finish)),
+    ("same", "nn", Ask::Own(Own::Same)),
+    ("read", "nnn", Ask::Own(Own::Read)),
+    ("readinto", "nnu", Ask::Own(Own::ReadInto)),
+    ("write", "nnW", Ask::Own(Own::Write)),
+    ("writes", "nnW", Ask::Own(Own::WriteSynced)),
+    ("resize", "nn", Ask::Own(Own::Resize)),
+    ("sync", "n", Ask::Own(Own::Sync)),
+    ("startsync", "n", Ask::Own(Own::StartSync)),
+    ("reserve", "nn", Ask::Own(Own::Reserve)),
+    ("current", "n", Ask::Own(Own::Current)),
+    ("live", "nn", Ask::Own(Own::Live)),
+    ("all", "n", Ask::Own(Own::All)),
+    ("setraw", "pab", Ask::Own(Own::SetRaw)),
+    ("audit", "", Ask::Own(Own::Audit)),
+    ("rebuild", "", Ask::Own(Own::Rebuild)),
+    ("swap", "", Ask::Own(Own::Swap)),
+    ("origin", "n", Ask::Own(Own::Origin)),
+    ("retain", "nnwc", Ask::Own(Own::Retain)),
+    ("retainresize", "nn", Ask::Own(Own::RetainResize)),
+    ("retainof", "nnwc", Ask::Own(Own::RetainOf)),
+    ("retainresizeof", "nn", Ask::Own(Own::RetainResizeOf)),
+    ("reservecrash", "nn", Ask::Own(Own::ReserveCrash)),
+    ("config", "S", Ask::Own(Own::Config)),
+    ("size", "n", Ask::Own(Own::Size)),
+    ("removeretired", "p", Ask::Own(Own::RemovePartitionRetired)),
+    ("removeretired", "pa", Ask::Own(Own::RemoveRetired)),
+    ("admit", "pa", Ask::Own(Own::Admit)),
+    ("crash", "", Ask::Own(Own::Crash)),
+    ("rewrap", "", Ask::Own(Own::Rewrap)),
+    ("wrap", "G", Ask::Own(Own::Wrap)),
+    ("unwrap", "", Ask::Own(Own::Unwrap)),
+    ("close", "n", Ask::Own(Own::Close)),
+    ("replace", "paE", Ask::Own(Own::Replace)),
+    ("replaceall", "pE", Ask::Own(Own::ReplacePartition)),
+    ("writeandsync", "nnw", Ask::Own(Own::WriteAndSync)),
+    ("resizeandstart", "nn", Ask::Own(Own::ResizeAndStart)),
+    ("writeandremove", "pannw", Ask::Own(Own::WriteAndRemove)),
+    ("writewithin", "nnnw", Ask::Own(Own::WriteWithin)),
+    ("plainwithin", "nnnw", Ask::Own(Own::PlainWithin)),
+    ("registry", "", Ask::Debt(Debt::Begin)),
+    ("registry", "nn", Ask::Debt(Debt::Begin)),
+    ("enter", "pan", Ask::Debt(Debt::Admit)),
+    ("release", "n", Ask::Debt(Debt::Release)),
+    ("settle", "pannE", Ask::Debt(Debt::Settle)),
+    ("settled", "n", Ask::Debt(Debt::IsSettled)),
+    ("owes", "pan", Ask::Debt(Debt::Owes)),
+    ("clear", "panE", Ask::Debt(Debt::Clear)),
+    ("fail", "nE", Ask::Debt(Debt::Fail)),
+    ("leave", "n", Ask::Debt(Debt::Close)),
+    ("keeps", "pa", Ask::Debt(Debt::Keeps)),
+    ("forget", "p", Ask::Debt(Debt::ForgetPartition)),
+    ("forget", "pa", Ask::Debt(Debt::Forget)),
+];
+
+// Whether letters stand for so many tokens.
+fn fits(letters: &str, count: usize) -> bool {
+    match letters.as_bytes() {
+        [fixed @ .., last] if takes_all(*last) => fixed.len() <= count,
+        all => all.len() == count,
+    }
+}
+
+fn look_up(word: &str, count: usize) -> Option<(&'static str, Ask)> {
+    for (text, letters, ask) in CALLS.iter() {
+        if *text == word && fits(letters, count) {
+            return Some((*letters, *ask));
+        }
+    }
+    None
+}
+
+/// The call of a line, and what it is given. What isn't a call here is refused as `Closed`, which no store answers.
+pub fn read<'a>(alloc: Global, line: &'a str) -> Result<(Ask, Args<'a>), Error> {
+    let (word, text) = line.split_once(' ').unwrap_or((line, ""));
+    let tokens: Vec<&str> = line.split(' ').collect(alloc)?;
+    let mut rest = tokens.as_slice();
+    let mut args = Args::new(alloc, text);
+    let count = rest.len().wrapping_sub(1);
+    let (letters, ask) = look_up(word, count).ok_or(Error::Closed)?;
+    for letter in letters.bytes() {
+        if let [_, later @ ..] = rest {
+            rest = later;
+        }
+        args.take(letter, rest)?;
+    }
+    Ok((ask, args))
+}
