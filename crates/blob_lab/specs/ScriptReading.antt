@@ -17,7 +17,7 @@ use Rattle.blob_calls.specs.Acts.{Act, act_of}
 use Rattle.blob_laboratory.specs.LabStands.{LabStandsFor, Performs}
 use Rattle.blob_calls.specs.Lines.{Said, line_of}
 use Rattle.blob_calls.specs.Replies.{reply_line}
-use Rattle.blob_lab.specs.Scripts.{IsPrinted, OfRun, Prints, Script, lines_of, with_line, with_lines}
+use Rattle.blob_lab.specs.Scripts.{IsPrinted, OfRun, Prints, Script, lines_of, no_script, with_line, with_lines}
 use Rattle.blob_lab.specs.Streams.{AppendsPart, OfBytes, reader_of, writer_of}
 use Rattle.blob_calls.specs.Settings.{cleared}
 use Rattle.blob_states.specs.Runs.{LeadsTo}
@@ -163,6 +163,10 @@ PrintsUpTo InputFailed s first lines left old new = PrintsFront s Appends lines 
 PrintsUpTo NoMemory s first lines left old new = PrintsFront s Appends lines left old new
 PrintsUpTo OutputFailed s first lines left old new = PrintsFront s AppendsPart lines left old new
 PrintsUpTo ending s first lines left old new = Unit {0}
+
+-- the same of a script from its first line on, by the bytes that the reader had and those that are left of them
+abbrev pub PrintsScriptUpTo : Ending → List ℕ → List ℕ → Option (List ℕ) → Option (List ℕ) → Type 0
+PrintsScriptUpTo ending bytes left old new = PrintsUpTo ending no_script 1 (lines_of bytes) (lines_of left) old new
 
 -- What answering from a first call on prints, behind the lines that made its laboratory.
 

@@ -3,8 +3,8 @@ ghost use Rattle.std.specs.Prelude.{◌≡◌, ◌≢◌, ◌⊎◌, true, IfErr
 ghost use Rattle.std.specs.Io.KnownBytes.{Appends};
 ghost use Rattle.blob_lab.specs.Endings.{is_cut};
 ghost use Rattle.blob_lab.specs.Reading.{IsReadOut};
-ghost use Rattle.blob_lab.specs.ScriptReading.{PrintsFrom, PrintsFromUpTo, PrintsUpTo, WritesReply};
-ghost use Rattle.blob_lab.specs.Scripts.{OfRun, Prints, lines_of, no_script, script_of};
+ghost use Rattle.blob_lab.specs.ScriptReading.{PrintsFrom, PrintsFromUpTo, PrintsScriptUpTo, WritesReply};
+ghost use Rattle.blob_lab.specs.Scripts.{OfRun, Prints, lines_of, script_of};
 ghost use Rattle.blob_lab.specs.Streams.{reader_of, AppendsPart, OfBytes, ToldEnding, ToldOutput};
 
 use super::Ahead;
@@ -27,8 +27,7 @@ pub(super) fn run_lines<R: Ahead, W: Write>(
     ensures read { OnOk result (IsReadOut (R.remaining (reader_of input.old)) (R.remaining (reader_of input.new))) }
     ensures all { OnOk result (OfBytes R.remaining W.contents input.old output.old output.new (λ bytes. Prints (script_of (lines_of bytes)))) }
     ensures front { IfErr result (λ ending.
-        OfRun R.remaining W.contents input.old input.new output.old output.new
-        (λ bytes left. PrintsUpTo ending no_script 1 (lines_of bytes) (lines_of left))) }
+        OfRun R.remaining W.contents input.old input.new output.old output.new (PrintsScriptUpTo ending)) }
 {
     let mut lines = Lines::new(alloc);
     let mut preamble = Preamble::new(alloc);
