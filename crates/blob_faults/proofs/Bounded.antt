@@ -3,7 +3,6 @@ use Rattle.std.proofs.Common.{◌≡◌, ℕ, suc, ◌+◌, ◌-◌, ◌*◌, �
 use Rattle.std.proofs.lemmas.Bool.{and_parts, cases_Bool, cases_lt, cond-true, cond-false, cond_both, leb-true, le-ltb}
 use Rattle.std.proofs.lemmas.List.{get_or-map, get_or_append_left, get_or-drop, length-append, length-map}
 use Rattle.std.proofs.Math.Seq.{get_or-append_seam}
-use Rattle.std.specs.List.{All, filter}
 use Rattle.std.specs.Prelude.{nat_le, nat_lt}
 use Rattle.blob_model.specs.Holes.{Holes, need_in}
 use Rattle.blob_model.proofs.Holes.{need_dug}
@@ -12,7 +11,7 @@ use Rattle.blob_model.specs.Pending.{Pending, Waiting, Cut, Again, Marker, is_ba
 use Rattle.blob_faults.specs.Blocks.{AreBounded, IsPassed, is_within, is_apart}
 use Rattle.blob_faults.specs.Ranges.{ranges}
 use Rattle.blob_faults.specs.Rooms.{AreWithin, meets, HasRoomFor}
-use Rattle.blob_faults.specs.Views.{view, views, write_of, pared_by, is_left}
+use Rattle.blob_faults.specs.Views.{view, views, write_of, pared_by}
 use Rattle.blob_faults.specs.declared.bounds.Bounds.{Bounds}
 use Rattle.blob_faults.specs.declared.entry.Entry.{Entry}
 use Rattle.blob_faults.specs.declared.entry.Entry.TheVariants as entry
@@ -76,9 +75,8 @@ apart_le b o e start end low high apart =
 pub room_apart : (b : Bounds) (e : Entry) (start end count : ℕ) (hs : Holes) → is_within b (view e) ≡ true → is_apart start end b ≡ true → AreWithin start end count hs → HasRoomFor hs e
 room_apart b (entry.Write w) start end count hs within apart few =
     let a = and_parts (nat_le b.start w.offset) _ within in
-    let c = and_parts (nat_le (w.offset + length w.bytes) b.end) _ a.1 in
     let met = met_few w.offset (w.offset + length w.bytes) start end count hs (omega (arith, w.some)) few in
-    omega (arith, met, apart_le b w.offset (w.offset + length w.bytes) start end a.0 c.0 apart, w.holes.ok)
+    omega (arith, met, apart_le b w.offset (w.offset + length w.bytes) start end a.0 a.1 apart, w.holes.ok)
 room_apart b (entry.Resize n) start end count hs within apart few = tt
 room_apart b (entry.Range r) start end count hs within apart few = tt
 room_apart b (entry.Marker k) start end count hs within apart few = tt
@@ -86,27 +84,17 @@ room_apart b (entry.Marker k) start end count hs within apart few = tt
 pub pared_apart : (b : Bounds) (e : Entry) (o n : ℕ) → is_within b (view e) ≡ true → is_apart o (o + n) b ≡ true → pared_by o n (view e) ≡ view e
 pared_apart b (entry.Write w) o n within apart =
     let a = and_parts (nat_le b.start w.offset) _ within in
-    let c = and_parts (nat_le (w.offset + length w.bytes) b.end) _ a.1 in
-    let le : min (o + n) (w.offset + length w.bytes) ≤ max o w.offset = apart_le b w.offset (w.offset + length w.bytes) o (o + n) a.0 c.0 apart in
+    let le : min (o + n) (w.offset + length w.bytes) ≤ max o w.offset = apart_le b w.offset (w.offset + length w.bytes) o (o + n) a.0 a.1 apart in
     ap Waiting (sym (need_dug o n (write_of w) (ranges w.holes.items)) ∙ ap (λ (hs : Holes). need_in (write_of w) hs) (cond-false (nat_lt (max o w.offset) (min (o + n) (w.offset + length w.bytes))) _ _ (le-ltb _ _ le)))
 pared_apart b (entry.Resize m) o n within apart = refl
 pared_apart b (entry.Range r) o n within apart = refl
 pared_apart b (entry.Marker k) o n within apart = refl
 
-pub left_within : (b : Bounds) (p : Pending) → is_within b p ≡ true → is_left p ≡ true
-left_within b (Waiting m) h = (and_parts (nat_le (m.write.offset + length m.write.bytes) b.end) _ (and_parts (nat_le b.start m.write.offset) _ h).1).1
-left_within b (Cut n) h = refl
-left_within b (Again o x) h = refl
-left_within b (Marker k) h = refl
-
-within_pared : (b : Bounds) (p : Pending) (o n : ℕ) → is_within b p ≡ true → is_left (pared_by o n p) ≡ true → is_within b (pared_by o n p) ≡ true
-within_pared b (Waiting m) o n h left =
-    let a = and_parts (nat_le b.start m.write.offset) _ h in
-    let c = and_parts (nat_le (m.write.offset + length m.write.bytes) b.end) _ a.1 in
-    ap₂ (λ (x y : Bool). x && y) a.0 (ap₂ (λ (x y : Bool). x && y) c.0 left)
-within_pared b (Cut m) o n h left = refl
-within_pared b (Again p x) o n h left = refl
-within_pared b (Marker k) o n h left = refl
+within_pared : (b : Bounds) (p : Pending) (o n : ℕ) → is_within b p ≡ true → is_within b (pared_by o n p) ≡ true
+within_pared b (Waiting m) o n h = h
+within_pared b (Cut m) o n h = refl
+within_pared b (Again p x) o n h = refl
+within_pared b (Marker k) o n h = refl
 
 -- an entry that is passed over
 pub none : Bounds
@@ -132,11 +120,6 @@ passed_pared bs q k o n d bounded passed =
     let e = passed_at bs q k o (o + n) d bounded passed in
     sym (pared_apart (get_or bs (k / 64) none) (get_or q k d) o n e.1 e.2)
 
-pub passed_left : (bs : List Bounds) (q : List Entry) (k start end : ℕ) (d : Entry) → AreBounded bs (views q) → IsPassed bs k start end → is_left (view (get_or q k d)) ≡ true
-passed_left bs q k start end d bounded passed =
-    let e = passed_at bs q k start end d bounded passed in
-    left_within (get_or bs (k / 64) none) (view (get_or q k d)) e.1
-
 -- all entries
 pub views_each : (f : Pending → Pending) (q r : List Entry) → length q ≡ length r → ((k : ℕ) (d : Entry) → k < length r → view (get_or q k d) ≡ f (view (get_or r k d))) → views q ≡ map f (views r)
 views_each f [] [] l h = refl
@@ -144,19 +127,12 @@ views_each f [] (y ∷ r) l h = absurd (omega (arith, l))
 views_each f (x ∷ q) [] l h = absurd (omega (arith, l))
 views_each f (x ∷ q) (y ∷ r) l h = ap₂ (λ (p : Pending) (ps : List Pending). p ∷ ps) (h 0 x (omega arith)) (views_each f q r (omega (arith, l)) (λ k d m. h (suc k) d (omega (arith, m))))
 
-pub all_left : (q : List Entry) → All (λ e. is_left (view e) ≡ true) q → filter is_left (views q) ≡ views q
-all_left [] all = refl
-all_left (x ∷ q) all = cond-true (is_left (view x)) (view x ∷ filter is_left (views q)) (filter is_left (views q)) (all 0 x (omega arith)) ∙ ap (λ (r : List Pending). view x ∷ r) (all_left q (λ k d h. all (suc k) d (omega (arith, h))))
-
-pub bounded_pared : (bs : List Bounds) (q r : List Entry) (o n : ℕ) → AreBounded bs (views q) → views r ≡ map (pared_by o n) (views q) → All (λ e. is_left (view e) ≡ true) r → AreBounded bs (views r)
-bounded_pared bs q r o n old is left k b e l =
-    let d : Entry = entry.Resize 0 in
+pub bounded_pared : (bs : List Bounds) (q r : List Pending) (o n : ℕ) → AreBounded bs q → r ≡ map (pared_by o n) q → AreBounded bs r
+bounded_pared bs q r o n old is k b e l =
     let w = old k b e l in
-    let len : length (views r) ≡ length (views q) = ap length is ∙ length-map (views q) (pared_by o n) in
-    let at : get_or (views r) k e ≡ pared_by o n (get_or (views q) k e) = ap (λ (x : List Pending). get_or x k e) is ∙ get_or-map (pared_by o n) (views q) k e e w.0 in
-    let inside : k < length r = omega (arith, w.0, len, length-map r view) in
-    let here : is_left (pared_by o n (get_or (views q) k e)) ≡ true = ap is_left (sym at ∙ get_or-map view r k d e inside) ∙ left k d inside in
-    (omega (arith, w.0, len), ap (λ (p : Pending). is_within (get_or bs (k / 64) b) p) at ∙ within_pared (get_or bs (k / 64) b) (get_or (views q) k e) o n w.1 here)
+    let len : length r ≡ length q = ap length is ∙ length-map q (pared_by o n) in
+    let at : get_or r k e ≡ pared_by o n (get_or q k e) = ap (λ (x : List Pending). get_or x k e) is ∙ get_or-map (pared_by o n) q k e e w.0 in
+    (omega (arith, w.0, len), ap (λ (p : Pending). is_within (get_or bs (k / 64) b) p) at ∙ within_pared (get_or bs (k / 64) b) (get_or q k e) o n w.1)
 
 -- a loop that writes the entry at i and then passes over those up to j
 pub jump : (P : ℕ → Entry → Entry → Type 0) (q q0 : List Entry) (i j : ℕ) (e : Entry) → i < length q → ((k : ℕ) (d : Entry) → k < i → P k d (get_or q k d)) → ((d : Entry) → P i d e) →

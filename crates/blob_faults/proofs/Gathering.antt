@@ -10,10 +10,6 @@ use Rattle.blob_faults.specs.Drawings.{Drawing, drawing_of, drawings_of}
 use Rattle.blob_faults.specs.Lists.{held, held_by}
 use Rattle.blob_faults.specs.declared.incarnation.Incarnation.{Incarnation}
 
--- a write behind the last marker
-pub draw_more : (m : Need) (q : List Pending) → has_marker q ≡ false → drawings_of (waiting (Waiting m ∷ q)) ≡ drawing_of m ∷ drawings_of (waiting q)
-draw_more m q h = ap drawings_of (cond-false (has_marker q) _ _ h)
-
 drawings_append : (xs ys : List Need) → drawings_of (xs ++ ys) ≡ drawings_of xs ++ drawings_of ys
 drawings_append [] ys = refl
 drawings_append (x ∷ xs) ys = ap (λ (l : List Drawing). drawing_of x ∷ l) (drawings_append xs ys)

@@ -8,6 +8,7 @@ pub mod EqualConfigs
 pub mod Finishing
 pub mod Gathering
 pub mod HoleRoom
+pub mod Left
 pub mod ListSteps
 pub mod Marking
 pub mod Queued

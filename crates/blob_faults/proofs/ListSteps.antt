@@ -10,7 +10,7 @@ use Rattle.blob_model.specs.Durable.{with_at}
 use Rattle.blob_model.specs.Order.{ListAt, held_at, has_list, ArePlacesApart}
 use Rattle.blob_model.specs.Pending.{Pending, finished}
 use Rattle.blob_faults.specs.Rooms.{HasRoomsFor}
-use Rattle.blob_faults.specs.Views.{views}
+use Rattle.blob_faults.specs.Views.{left_in}
 use Rattle.blob_faults.specs.Lists.{is_list_of, IsAt, held_by, held, list_of, HasRoom, HasRoomIn, HasRangesAt, finished_in}
 use Rattle.blob_faults.specs.declared.incarnation.Incarnation.{Incarnation}
 use Rattle.blob_faults.specs.declared.room.Room.{Room}
@@ -171,16 +171,16 @@ at_set hs k h o e i = record {
 
 -- a list that is added, as the code has it
 pub added : {O : Type 0} (place : O → Place) (new old : List (Incarnation O)) (j : Incarnation O) (o : O) → new ≡ old ++ j ∷ [] → j.origin ≡ o → j.entries.items ≡ [] → held place new ≡ held place old ++ (place o, []) ∷ []
-added {O} place new old j o e of none = ap (held place) e ∙ held_push place old j ∙ ap₂ (λ (p : O) (q : List Pending). held place old ++ (place p, q) ∷ []) of (ap views none)
+added {O} place new old j o e of none = ap (held place) e ∙ held_push place old j ∙ ap₂ (λ (p : O) (q : List Pending). held place old ++ (place p, q) ∷ []) of (ap left_in none)
 
 -- a list that is changed in place, as the code has it
 place_at : {O : Type 0} (place : O → Place) (is : List (Incarnation O)) (k : ℕ) (e j : Incarnation O) → k < length is → e ≡ get_or is k e → j.origin ≡ e.origin → place j.origin ≡ (get_or (held place is) k (held_by place j)).0
 place_at {O} place is k e j h at same = ap place (same ∙ ap (λ (x : Incarnation O). x.origin) at) ∙ sym (ap (λ (x : ListAt). x.0) (held_get place is k (held_by place j) e h))
 
-pub found : {O : Type 0} (place : O → Place) (is : List (Incarnation O)) (k : ℕ) (e : Incarnation O) (o : Place) → k < length is → e ≡ get_or is k e → IsAt (held place is) k o → views e.entries.items ≡ list_of place is o
-found {O} place is k e o h at i = ap (λ (x : Incarnation O). views x.entries.items) at ∙ sym (ap (λ (x : ListAt). x.1) (held_get place is k (held_by place e) e h)) ∙ held_here (held place is) k (held_by place e) o i
+pub found : {O : Type 0} (place : O → Place) (is : List (Incarnation O)) (k : ℕ) (e : Incarnation O) (o : Place) → k < length is → e ≡ get_or is k e → IsAt (held place is) k o → left_in e.entries.items ≡ list_of place is o
+found {O} place is k e o h at i = ap (λ (x : Incarnation O). left_in x.entries.items) at ∙ sym (ap (λ (x : ListAt). x.1) (held_get place is k (held_by place e) e h)) ∙ held_here (held place is) k (held_by place e) o i
 
-pub changed_list : {O : Type 0} (place : O → Place) (is : List (Incarnation O)) (k : ℕ) (e j : Incarnation O) (o : Place) (q : List Pending) (a : Place) → k < length is → e ≡ get_or is k e → j.origin ≡ e.origin → IsAt (held place is) k o → views j.entries.items ≡ q →
+pub changed_list : {O : Type 0} (place : O → Place) (is : List (Incarnation O)) (k : ℕ) (e j : Incarnation O) (o : Place) (q : List Pending) (a : Place) → k < length is → e ≡ get_or is k e → j.origin ≡ e.origin → IsAt (held place is) k o → left_in j.entries.items ≡ q →
     list_of place (set is k j) a ≡ with_at (list_of place is) o q a
 changed_list place is k e j o q a h at same i is_q = ap (λ (hs : List ListAt). held_at hs a) (held_set place is k j) ∙ held_at_set (held place is) k (held_by place j) o a i (place_at place is k e j h at same)
     ∙ ap (λ (r : List Pending). with_at (list_of place is) o r a) is_q
@@ -192,7 +192,7 @@ pub changed_at : {O : Type 0} (place : O → Place) (is : List (Incarnation O)) 
 changed_at place is k e j o h at same i = subst (λ (hs : List ListAt). IsAt hs k o) (sym (held_set place is k j)) (at_set (held place is) k (held_by place j) o (place_at place is k e j h at same) i)
 
 -- one that only got room
-pub held_same : {O : Type 0} (place : O → Place) (is : List (Incarnation O)) (k : ℕ) (e j : Incarnation O) → k < length is → e ≡ get_or is k e → j.origin ≡ e.origin → views j.entries.items ≡ views e.entries.items → held place (set is k j) ≡ held place is
+pub held_same : {O : Type 0} (place : O → Place) (is : List (Incarnation O)) (k : ℕ) (e j : Incarnation O) → k < length is → e ≡ get_or is k e → j.origin ≡ e.origin → left_in j.entries.items ≡ left_in e.entries.items → held place (set is k j) ≡ held place is
 held_same {O} place is k e j h at same v = held_set place is k j
     ∙ ap (λ (x : ListAt). set (held place is) k x) (ap₂ (λ (p : Place) (q : List Pending). pair p q) (ap place same) v ∙ ap (held_by place) at ∙ sym (held_get place is k (held_by place e) e h))
     ∙ set-get_or (held place is) k (held_by place e)

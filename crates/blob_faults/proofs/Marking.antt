@@ -6,6 +6,8 @@ use Rattle.std.proofs.lemmas.List.Quantifiers.{position-Some}
 use Rattle.std.proofs.lemmas.Iterator.Adapters.{position_from-zero}
 use Rattle.blob_model.specs.Log.{has_bare}
 use Rattle.blob_model.specs.Pending.{Pending, Waiting, Cut, Again, Marker, is_marker, has_mark, behind, finished, cut_by, pared_one}
+use Rattle.std.specs.List.{filter}
+use Rattle.blob_faults.specs.Views.{is_left}
 use Rattle.blob_faults.specs.Marks.{marks_of}
 
 -- the number at i is the first that is sought
@@ -67,3 +69,11 @@ marks-cut o n (Waiting m ∷ q) = cond_both (has_bare (pared_one o n m)) (Waitin
 marks-cut o n (Cut m ∷ q) = marks-cut o n q
 marks-cut o n (Again p b ∷ q) = marks-cut o n q
 marks-cut o n (Marker k ∷ q) = ap (λ (ms : List ℕ). k ∷ ms) (marks-cut o n q)
+
+-- one of which nothing is left is no marker
+pub marks-left : (q : List Pending) → marks_of (filter is_left q) ≡ marks_of q
+marks-left [] = refl
+marks-left (Waiting m ∷ q) = cond_both (has_bare m) (Waiting m ∷ filter is_left q) (filter is_left q) (λ r. marks_of r ≡ marks_of q) (λ _. marks-left q) (λ _. marks-left q)
+marks-left (Cut n ∷ q) = marks-left q
+marks-left (Again o b ∷ q) = marks-left q
+marks-left (Marker k ∷ q) = ap (λ (ms : List ℕ). k ∷ ms) (marks-left q)

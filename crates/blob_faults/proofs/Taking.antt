@@ -7,7 +7,7 @@ use Rattle.blob_model.specs.Places.{Place, same_place}
 use Rattle.blob_model.specs.SamePlace.{same_place_exact}
 use Rattle.blob_faults.specs.declared.incarnation.Incarnation.{Incarnation}
 use Rattle.blob_faults.specs.Lists.{held, held_by, list_of, IsAt, AreDistinct}
-use Rattle.blob_faults.specs.Views.{views}
+use Rattle.blob_faults.specs.Views.{left_in}
 use Rattle.blob_faults.proofs.Distinct.{of_origin}
 use Rattle.blob_faults.proofs.ListSteps.{held_get, held_here, held_len}
 
@@ -23,7 +23,7 @@ at_of place is k e o one distinct h his = record {
       (cases_Bool (same_place (place (get_or is j e).origin) o));
 }
 
-entries_at : {O : Type 0} (place : O → Place) (is : List (Incarnation O)) (k : ℕ) (e : Incarnation O) (o : Place) → k < length is → IsAt (held place is) k o → views (get_or is k e).entries.items ≡ list_of place is o
+entries_at : {O : Type 0} (place : O → Place) (is : List (Incarnation O)) (k : ℕ) (e : Incarnation O) (o : Place) → k < length is → IsAt (held place is) k o → left_in (get_or is k e).entries.items ≡ list_of place is o
 entries_at place is k e o h at = sym (ap (λ (x : ListAt). x.1) (held_get place is k (held_by place e) e h)) ∙ held_here (held place is) k (held_by place e) o at
 
 none_of : {O : Type 0} (place : O → Place) (is : List (Incarnation O)) (a : Place) → ((k : ℕ) (e : Incarnation O) → k < length is → same_place (place (get_or is k e).origin) a ≡ false) → list_of place is a ≡ []
@@ -141,6 +141,6 @@ taken_list {O} place is js i e o a one distinct at taken = ⊎_elim
         let ne : there.0 ≢ i = λ x. true≢false (sym here ∙ ap (λ (n : ℕ). same_place (place (get_or is n e).origin) a) x ∙ ap (λ (p : Place). same_place p a) (of_o e) ∙ not_it) in
         let to = target is js i taken there.0 e there.1 ne in
         sym (entries_at place js to.0 e a to.1 (at_of place js to.0 e a one (distinct_taken is js i taken distinct) to.1 (ap (λ (x : Incarnation O). same_place (place x.origin) a) to.2 ∙ here)))
-        ∙ ap (λ (x : Incarnation O). views x.entries.items) to.2
+        ∙ ap (λ (x : Incarnation O). left_in x.entries.items) to.2
         ∙ entries_at place is there.0 e a there.1 (at_of place is there.0 e a one distinct there.1 here)
         ∙ sym (cond-false (same_place o a) _ _ not_it)

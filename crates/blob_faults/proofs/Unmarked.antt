@@ -1,7 +1,6 @@
 -- The entries behind the last marker are all that a crash sees of a list.
 use Rattle.std.proofs.Common.{◌≡◌, ⊎_elim, ℕ, zero, suc, ◌+◌, ◌<◌, Bool, true, false, cond, List, [], ◌∷◌, ◌++◌, length, get_or, take, drop, refl, sym, ◌∙◌, ap, arith, true≢false, ◌||◌}
 use Rattle.std.proofs.lemmas.Bool.{cases_Bool, cond-true, cond-false}
-use Rattle.std.proofs.lemmas.List.{at_drop_more}
 use Rattle.blob_model.specs.Log.{Choices}
 use Rattle.blob_model.specs.Pending.{Pending, Waiting, Cut, Again, Marker, is_marker, has_marker, waiting, replay, replayed}
 use Rattle.blob_faults.specs.Replays.{unmarked}
@@ -65,10 +64,6 @@ pub unmarked_at : (q : List Entry) (i j : ℕ) (d : Entry) → j ≡ suc i → i
 unmarked_at q i j d is h m n =
     let at : views (drop j q) ≡ views (drop (suc i) q) = ap (λ (k : ℕ). views (drop k q)) is in
     at ∙ sym (ap unmarked (split_at q i d h) ∙ unmarked_skips (views (take i q)) (views (drop (suc i) q)) (view (get_or q i d)) m (ap has_marker (sym at) ∙ n))
-
--- one entry further
-pub views_at : {X : Type 0} (F : List Pending → X) (q : List Entry) (i : ℕ) (d : Entry) → i < length q → F (views (drop i q)) ≡ F (view (get_or q i d) ∷ views (drop (i + 1) q))
-views_at F q i d h = at_drop_more (λ (l : List Entry). F (views l)) q i d h
 
 pub none_after : (e : Pending) (q : List Pending) → has_marker (e ∷ q) ≡ false → (is_marker e ≡ false) × (has_marker q ≡ false)
 none_after e q h = go (is_marker e) (has_marker q) h

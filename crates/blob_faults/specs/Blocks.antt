@@ -1,13 +1,12 @@
 -- The blocks of 64 entries of a pending list, with bounds of where their writes lie.
 use Rattle.std.specs.Prelude.{◌≡◌, ℕ, ◌+◌, ◌/◌, ◌<◌, Bool, true, ◌&&◌, ◌||◌, List, length, nat_le}
 use Rattle.std.proofs.Common.{get_or}
-use Rattle.blob_model.specs.Log.{has_bare}
 use Rattle.blob_model.specs.Pending.{Pending, Waiting, Cut, Again, Marker}
 use Rattle.blob_faults.specs.declared.bounds.Bounds.{Bounds}
 
--- a write lies within the bounds, and something is left of it
+-- a write lies within the bounds
 abbrev pub is_within : Bounds → Pending → Bool
-is_within b (Waiting m) = nat_le b.start m.write.offset && (nat_le (m.write.offset + length m.write.bytes) b.end && has_bare m)
+is_within b (Waiting m) = nat_le b.start m.write.offset && nat_le (m.write.offset + length m.write.bytes) b.end
 is_within b (Cut n) = true
 is_within b (Again o x) = true
 is_within b (Marker k) = true

@@ -8,13 +8,13 @@ use Rattle.blob_model.specs.Pending.{Pending, finished, has_barrier, laid}
 use Rattle.blob_model.specs.Order.{ListAt, held_at}
 use Rattle.blob_model.specs.Holes.{Holes}
 use Rattle.blob_faults.specs.Rooms.{AreWithin, HasRoomsFor}
-use Rattle.blob_faults.specs.Views.{views}
+use Rattle.blob_faults.specs.Views.{left_in}
 use Rattle.blob_faults.specs.declared.incarnation.Incarnation.{Incarnation}
 use Rattle.blob_faults.specs.declared.room.Room.{Room}
 use Rattle.blob_faults.specs.declared.room.Room.TheVariants as room
 
 abbrev pub held_by : {O : Type 0} → (O → Place) → Incarnation O → ListAt
-held_by place i = (place i.origin, views i.entries.items)
+held_by place i = (place i.origin, left_in i.entries.items)
 
 abbrev pub held : {O : Type 0} → (O → Place) → List (Incarnation O) → List ListAt
 held place is = map (held_by place) is
@@ -50,15 +50,15 @@ HasRoom room.Entry i = vec_len i.entries < vec_capacity i.entries
 HasRoom room.Mark i = (vec_len i.entries < vec_capacity i.entries) × (vec_len i.marks < vec_capacity i.marks)
 HasRoom (room.Ranges start end count) i = (hs : Holes) → AreWithin start end count hs → HasRoomsFor hs i.entries
 
--- it has these entries, and is of the same incarnation
+-- this is left in it, and it is of the same incarnation
 pub record Becomes {O : Type 0} (old new : Incarnation O) (q : List Pending) : Type 0 where
   pub origin : new.origin ≡ old.origin
   pub noted : new.was_current ≡ old.was_current
-  pub entries : views new.entries.items ≡ q
+  pub entries : left_in new.entries.items ≡ q
 
 -- a durable range of n bytes is laid in it; where it is queued, `copy` has its bytes
 abbrev pub LaysInto : {O : Type 0} → ℕ → ℕ → List ℕ → Incarnation O → Incarnation O → Type 0
-LaysInto offset n copy old new = (bytes : List ℕ) → length bytes ≡ n → IsCopyFor copy (views old.entries.items) bytes → Becomes old new (laid offset bytes (views old.entries.items))
+LaysInto offset n copy old new = (bytes : List ℕ) → length bytes ≡ n → IsCopyFor copy (left_in old.entries.items) bytes → Becomes old new (laid offset bytes (left_in old.entries.items))
 
 -- the list at i is there, and can take this
 pub record HasRoomIn {O : Type 0} (is : List (Incarnation O)) (i : ℕ) (what : Room) : Type 0 where

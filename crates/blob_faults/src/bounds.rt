@@ -1,7 +1,7 @@
 //! Where the entries of a pending list lie, block by block: a durable range looks into the blocks alone that it may meet.
-ghost use Rattle.std.specs.Prelude.{◌≡◌, ◌<◌, ◌≤◌, ℕ, length, true, All, IfSome};
+ghost use Rattle.std.specs.Prelude.{◌≡◌, ◌<◌, ◌≤◌, ℕ, length, true, All};
 ghost use Rattle.blob_faults.specs.Blocks.{AreBounded, IsPassed, is_within};
-ghost use Rattle.blob_faults.specs.Views.{view, views, is_left};
+ghost use Rattle.blob_faults.specs.Views.{view, views};
 
 use crate::entry::Entry;
 use std::alloc::AllocError;
@@ -21,7 +21,7 @@ impl Bounds {
     fn with(self, entry: &Entry) -> Bounds
         ensures start { result.start ≤ self.start }
         ensures end { self.end ≤ result.end }
-        ensures entry { is_left (view entry.now) ≡ true → is_within result (view entry.now) ≡ true }
+        ensures entry { is_within result (view entry.now) ≡ true }
     {
         match entry {
             Entry::Write(write) => Bounds {
@@ -32,21 +32,18 @@ impl Bounds {
         }
     }
 
-    /// Those of a block's entries, where something is left of each.
-    fn of(entries: &[Entry]) -> Option<Bounds>
-        ensures { IfSome result (λ bounds. All (λ entry. is_within bounds (view entry) ≡ true) entries.now) }
+    /// Those of a block's entries.
+    fn of(entries: &[Entry]) -> Bounds
+        ensures { All (λ entry. is_within result (view entry) ≡ true) entries.now }
     {
         let mut bounds = Bounds {
             start: u64::MAX,
             end: 0,
         };
         for entry in entries {
-            if !entry.is_left() {
-                return None;
-            }
             bounds = bounds.with(entry);
         }
-        Some(bounds)
+        bounds
     }
 }
 
@@ -57,10 +54,7 @@ pub fn add_bounds(bounds: &mut Vec<Bounds>, entries: &[Entry]) -> Result<(), All
 {
     while bounds.len() < entries.len() / BLOCK {
         let start = bounds.len() * BLOCK;
-        let Some(block) = Bounds::of(&entries[start..start + BLOCK]) else {
-            return Ok(());
-        };
-        bounds.push(block)?;
+        bounds.push(Bounds::of(&entries[start..start + BLOCK]))?;
     }
     Ok(())
 }

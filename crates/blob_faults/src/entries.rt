@@ -1,13 +1,13 @@
 //! What is pending of one incarnation, in issue order.
 ghost use Rattle.std.specs.Prelude.{◌≡◌, ◌<◌, ◌≤◌, ◌+◌, ◌^◌, ℕ, List, ◌++◌, ◌∷◌, [], All, OnOk, map, filter, drop, length, vec_len, vec_capacity, true};
 ghost use Rattle.blob_model.specs.Holes.{Holes};
-ghost use Rattle.blob_model.specs.Pending.{Pending, cut_by, has_barrier, finished, ends};
+ghost use Rattle.blob_model.specs.Pending.{has_barrier, finished, ends};
 ghost use Rattle.blob_faults.specs.Blocks.{AreBounded};
 ghost use Rattle.blob_faults.specs.Lists.{LaysRange};
 ghost use Rattle.blob_faults.specs.Marks.{marks_of};
 ghost use Rattle.blob_faults.specs.Replays.{unmarked, widest};
 ghost use Rattle.blob_faults.specs.Rooms.{AreWithin, HasRoomFor, HasRoomsFor, CanCut, KeepsRest};
-ghost use Rattle.blob_faults.specs.Views.{view, views, pared_by, is_left};
+ghost use Rattle.blob_faults.specs.Views.{view, views, pared_by, is_left, left_in};
 
 use crate::bounds::{Bounds, next_near};
 use crate::entry::{DurableRange, Entry};
@@ -52,33 +52,31 @@ pub(crate) fn reserve_ranges(
     reserve_holes(entries.as_mut_slice(), bounds, start, end, count)
 }
 
-/// Each write gives up what a durable range covers. Whether something is left of each entry: of those that are passed over
-/// something was.
-fn cover_each(entries: &mut [Entry], bounds: &[Bounds], start: u64, len: u64) -> bool
+/// Each write gives up what a durable range covers. Of how many it left nothing.
+fn cover_each(entries: &mut [Entry], bounds: &[Bounds], start: u64, len: u64) -> usize
     requires bounded { AreBounded bounds.now (views entries.old) }
     requires room { CanCut start len (λ hs. All (HasRoomFor hs) entries.old) }
     ensures views { views entries.new ≡ map (pared_by start len) (views entries.old) }
     ensures room { KeepsRest start len (λ hs. All (HasRoomFor hs) entries.old) (λ hs. All (HasRoomFor hs) entries.new) }
-    ensures left { result ≡ true → All (λ entry. is_left (view entry) ≡ true) entries.new }
 {
     let count = entries.len();
-    let mut all_left = true;
+    let mut covered = 0;
     let mut i = next_near(bounds, 0, count, start, start + len);
     while i < count {
-        entries[i].cover(start, len);
-        all_left = all_left && entries[i].is_left();
+        if entries[i].cover(start, len) {
+            covered += 1;
+        }
         i = next_near(bounds, i + 1, count, start, start + len);
     }
-    all_left
+    covered
 }
 
 /// Each write of a vector gives up what a durable range covers.
-fn cover_writes(entries: &mut Vec<Entry>, bounds: &[Bounds], start: u64, len: u64) -> bool
+fn cover_all(entries: &mut Vec<Entry>, bounds: &[Bounds], start: u64, len: u64) -> usize
     requires bounded { AreBounded bounds.now (views entries.old.items) }
     requires room { CanCut start len (λ hs. All (HasRoomFor hs) entries.old.items) }
     ensures views { views entries.new.items ≡ map (pared_by start len) (views entries.old.items) }
     ensures room { KeepsRest start len (λ hs. All (HasRoomFor hs) entries.old.items) (λ hs. All (HasRoomFor hs) entries.new.items) }
-    ensures left { result ≡ true → All (λ entry. is_left (view entry) ≡ true) entries.new.items }
     ensures capacity { vec_capacity entries.new ≡ vec_capacity entries.old }
     ensures len { vec_len entries.new ≡ vec_len entries.old }
 {
@@ -94,21 +92,22 @@ fn drop_covered(entries: &mut Vec<Entry>)
     entries.retain(|entry| entry.is_left());
 }
 
-/// Each write gives up what a durable range covers, and one that is covered wholly goes. Whether none went.
-fn cover_all(entries: &mut Vec<Entry>, bounds: &[Bounds], start: u64, len: u64) -> bool
-    requires bounded { AreBounded bounds.now (views entries.old.items) }
-    requires room { CanCut start len (λ hs. HasRoomsFor hs entries.old) }
-    ensures views { views entries.new.items ≡ cut_by start len (views entries.old.items) }
-    ensures bounded { result ≡ true → AreBounded bounds.now (views entries.new.items) }
-    ensures room { KeepsRest start len (λ hs. HasRoomsFor hs entries.old) (λ hs. HasRoomsFor hs entries.new) }
+/// Those go of which nothing is left, with the bounds of all, once they are more than half of the list: so what one of them
+/// costs doesn't grow with the list. `covered` counts them, and tells no more than when they go.
+fn compact(entries: &mut Vec<Entry>, bounds: &mut Vec<Bounds>, covered: &mut usize)
+    requires { AreBounded bounds.old.items (views entries.old.items) }
+    ensures left { left_in entries.new.items ≡ left_in entries.old.items }
+    ensures bounded { AreBounded bounds.new.items (views entries.new.items) }
+    ensures holes { (later : Holes) → All (HasRoomFor later) entries.old.items → All (HasRoomFor later) entries.new.items }
     ensures capacity { vec_capacity entries.old ≤ vec_capacity entries.new }
     ensures len { vec_len entries.new ≤ vec_len entries.old }
 {
-    if cover_writes(entries, bounds, start, len) {
-        return true;
+    if *covered <= entries.len() / 2 {
+        return;
     }
     drop_covered(entries);
-    false
+    bounds.clear();
+    *covered = 0;
 }
 
 /// Whether a resize or a queued range is pending.
@@ -134,21 +133,12 @@ pub fn push(entries: &mut Vec<Entry>, entry: Entry)
     entries.push(entry).unwrap();
 }
 
-/// The bounds stay where the entries are still at their places, else none is left.
-fn keep_bounds(bounds: &mut Vec<Bounds>, kept: bool)
-    ensures { (q : List Pending) → (kept ≡ true → AreBounded bounds.old.items q) → AreBounded bounds.new.items q }
-{
-    if kept {
-        return;
-    }
-    bounds.clear();
-}
-
 /// A durable range: the writes give up what it covers, and it is queued where a crash would undo it. Only there its bytes
 /// have to be in `copy`.
 pub(crate) fn lay(
     entries: &mut Vec<Entry>,
     bounds: &mut Vec<Bounds>,
+    covered: &mut usize,
     queues: bool,
     offset: u64,
     len: u64,
@@ -158,14 +148,15 @@ pub(crate) fn lay(
     requires bounded { AreBounded bounds.old.items (views entries.old.items) }
     requires room { CanCut offset len (λ hs. HasRoomsFor hs entries.old) }
     requires copied { length copy ≤ len }
-    ensures views { LaysRange offset len copy (views entries.old.items) (views entries.new.items) }
+    ensures left { LaysRange offset len copy (left_in entries.old.items) (left_in entries.new.items) }
     ensures marks { marks_of (views entries.new.items) ≡ marks_of (views entries.old.items) }
     ensures queued { has_barrier (views entries.new.items) ≡ queues }
     ensures bounded { AreBounded bounds.new.items (views entries.new.items) }
     ensures room { KeepsRest offset len (λ hs. HasRoomsFor hs entries.old) (λ hs. HasRoomsFor hs entries.new) }
 {
-    let kept = cover_all(entries, bounds, offset, len);
-    keep_bounds(bounds, kept);
+    let more = cover_all(entries, bounds, offset, len);
+    *covered = covered.saturating_add(more);
+    compact(entries, bounds, covered);
     if queues {
         push(
             entries,
@@ -199,7 +190,7 @@ pub fn finish(entries: &mut Vec<Entry>, marker: u64)
 
 /// The entries behind the last marker.
 pub fn unmarked(entries: &[Entry]) -> &[Entry]
-    ensures { views result.now ≡ unmarked (views entries.now) }
+    ensures { left_in result.now ≡ unmarked (left_in entries.now) }
 {
     let mut start = entries.len();
     while start > 0 {
@@ -213,7 +204,7 @@ pub fn unmarked(entries: &[Entry]) -> &[Entry]
 
 /// The greatest logical length that an entry asks for.
 pub fn end(entries: &[Entry]) -> u64
-    ensures { result ≡ ends (views entries.now) }
+    ensures { result ≡ ends (left_in entries.now) }
 {
     let mut end = 0;
     for entry in entries {
@@ -224,7 +215,7 @@ pub fn end(entries: &[Entry]) -> u64
 
 /// The most bytes that one entry lays.
 pub fn widest(entries: &[Entry]) -> usize
-    ensures { result ≡ widest (views entries.now) }
+    ensures { result ≡ widest (left_in entries.now) }
 {
     let mut most = 0;
     for entry in entries {

@@ -27,20 +27,23 @@ pub enum Entry {
 impl Entry {
     ghost use Rattle.std.specs.Prelude.{◌≡◌, ◌∷◌, [], OnOk};
     ghost use Rattle.blob_model.specs.Holes.{Holes};
-    ghost use Rattle.blob_model.specs.Pending.{is_marker, is_barrier, is_mark, end_of};
-    ghost use Rattle.blob_faults.specs.Replays.{width};
+    ghost use Rattle.blob_model.specs.Pending.{is_marker, is_barrier, is_mark, ends};
+    ghost use Rattle.blob_faults.specs.Replays.{widest};
     ghost use Rattle.blob_faults.specs.Rooms.{AreWithin, HasRoomFor, CanCut, KeepsRest};
-    ghost use Rattle.blob_faults.specs.Views.{view, pared_by, is_left};
+    ghost use Rattle.blob_faults.specs.Views.{view, pared_by, is_left, left_in};
 
-    /// A write gives up what a durable range covers.
-    pub fn cover(&mut self, start: u64, len: u64)
+    /// A write gives up what a durable range covers. Whether that left nothing of it.
+    pub fn cover(&mut self, start: u64, len: u64) -> bool
         requires { CanCut start len (λ hs. HasRoomFor hs self.old) }
         ensures view { view self.new ≡ pared_by start len (view self.old) }
         ensures room { KeepsRest start len (λ hs. HasRoomFor hs self.old) (λ hs. HasRoomFor hs self.new) }
     {
-        if let Entry::Write(write) = self {
-            write.cover(start, len);
-        }
+        let Entry::Write(write) = self else {
+            return false;
+        };
+        let was_covered = write.is_covered();
+        write.cover(start, len);
+        write.is_covered() != was_covered
     }
 
     /// Room in a write for the holes of so many ranges from `start` up to `end`. A refusal leaves the entry as it was.
@@ -93,24 +96,24 @@ impl Entry {
         }
     }
 
-    /// The logical length that it asks for.
+    /// The logical length that it asks for, 0 where nothing is left of it.
     pub fn end(&self) -> u64
-        ensures { result ≡ end_of (view self.now) }
+        ensures { result ≡ ends (left_in (self.now ∷ [])) }
     {
         match self {
-            Entry::Write(write) => write.end(),
+            Entry::Write(write) if !write.is_covered() => write.end(),
             Entry::Resize(len) => *len,
             Entry::Range(range) => range.offset + range.bytes.remaining() as u64,
-            Entry::Marker(_) => 0,
+            _ => 0,
         }
     }
 
-    /// How many bytes it lays.
+    /// How many bytes it lays, none where nothing is left of it.
     pub fn width(&self) -> usize
-        ensures { result ≡ width (view self.now) }
+        ensures { result ≡ widest (left_in (self.now ∷ [])) }
     {
         match self {
-            Entry::Write(write) => write.bytes.remaining(),
+            Entry::Write(write) if !write.is_covered() => write.bytes.remaining(),
             Entry::Range(range) => range.bytes.remaining(),
             _ => 0,
         }

@@ -6,7 +6,7 @@ ghost use Rattle.blob_model.specs.Pending.{has_marker, waiting};
 ghost use Rattle.blob_model.specs.Places.{Place};
 ghost use Rattle.blob_faults.specs.Drawings.{drawings_of, drawings_in};
 ghost use Rattle.blob_faults.specs.Lists.{held};
-ghost use Rattle.blob_faults.specs.Views.{views};
+ghost use Rattle.blob_faults.specs.Views.{left_in};
 
 use crate::draw::Draw;
 use crate::entries::unmarked;
@@ -16,18 +16,19 @@ use std::alloc::{AllocError, Global};
 
 /// Adds what is drawn for of entries among which no marker is.
 fn gather_unmarked(draws: &mut Vec<Draw>, entries: &[Entry]) -> Result<(), AllocError>
-    requires { has_marker (views entries.now) ≡ false }
-    ensures { OnOk result (drawings_in draws.new.items ≡ drawings_in draws.old.items ++ drawings_of (waiting (views entries.now))) }
+    requires { has_marker (left_in entries.now) ≡ false }
+    ensures { OnOk result (drawings_in draws.new.items ≡ drawings_in draws.old.items ++ drawings_of (waiting (left_in entries.now))) }
 {
     for entry in entries {
-        if let Entry::Write(write) = entry {
-            draws.push(Draw {
+        match entry {
+            Entry::Write(write) if !write.is_covered() => draws.push(Draw {
                 number: write.number,
                 offset: write.offset,
                 len: write.bytes.remaining(),
                 mode: write.mode,
                 rate: write.rate,
-            })?;
+            })?,
+            _ => (),
         }
     }
     Ok(())

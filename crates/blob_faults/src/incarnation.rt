@@ -3,7 +3,7 @@ ghost use Rattle.std.specs.Prelude.{◌≡◌, ◌≤◌, ◌==◌, drop, positi
 ghost use Rattle.blob_model.specs.Pending.{has_barrier};
 ghost use Rattle.blob_faults.specs.Blocks.{AreBounded};
 ghost use Rattle.blob_faults.specs.Marks.{marks_of};
-ghost use Rattle.blob_faults.specs.Views.{views};
+ghost use Rattle.blob_faults.specs.Views.{views, left_in};
 
 use crate::bounds::{Bounds, add_bounds};
 use crate::entries;
@@ -18,7 +18,10 @@ pub struct Incarnation<O> {
     pub origin: O,
     /// Whether it was its name's current one when this was last noted.
     pub was_current: bool,
+    /// What is pending, among writes of which nothing is left and that go later, many at once.
     pub entries: Vec<Entry>,
+    /// How many such writes are among the entries, or more.
+    pub covered: usize,
     /// The numbers of the markers among the entries, in their order. A sync that isn't among them is finished with no look
     /// at the entries.
     pub marks: Vec<u64>,
@@ -63,6 +66,7 @@ impl<O> Incarnation<O> {
             origin,
             was_current: false,
             entries: Vec::new(alloc),
+            covered: 0,
             marks: Vec::new(alloc),
             queues: false,
             bounds: Vec::new(alloc),
@@ -80,7 +84,7 @@ impl<O> Incarnation<O> {
 
     /// Room for this. A refusal leaves the list as it was.
     pub fn reserve(&mut self, room: Room) -> Result<(), AllocError>
-        ensures same { Becomes self.old self.new (views self.old.entries.items) }
+        ensures same { Becomes self.old self.new (left_in self.old.entries.items) }
         ensures ok { OnOk result (HasRoom room self.new) }
     {
         match room {
@@ -100,7 +104,7 @@ impl<O> Incarnation<O> {
     pub fn push(&mut self, entry: Entry)
         requires room { HasRoom Room.Entry self.old }
         requires unmarked { is_marker (view entry) ≡ false }
-        ensures { Becomes self.old self.new (views self.old.entries.items ++ view entry ∷ []) }
+        ensures { Becomes self.old self.new (left_in self.old.entries.items ++ left_in (entry ∷ [])) }
     {
         self.queues = self.queues || entry.is_barrier();
         entries::push(&mut self.entries, entry);
@@ -109,7 +113,7 @@ impl<O> Incarnation<O> {
     /// A marker, where there is room for it.
     pub fn mark(&mut self, number: u64)
         requires { HasRoom Room.Mark self.old }
-        ensures { Becomes self.old self.new (views self.old.entries.items ++ Marker number ∷ []) }
+        ensures { Becomes self.old self.new (left_in self.old.entries.items ++ Marker number ∷ []) }
     {
         self.marks.push(number).unwrap();
         entries::push(&mut self.entries, Entry::Marker(number));
@@ -126,6 +130,7 @@ impl<O> Incarnation<O> {
         entries::lay(
             &mut self.entries,
             &mut self.bounds,
+            &mut self.covered,
             self.queues,
             offset,
             len,
@@ -135,7 +140,7 @@ impl<O> Incarnation<O> {
 
     /// A started sync is finished: its marker and what stands before it go, where it is there.
     pub fn finish(&mut self, marker: u64)
-        ensures { Becomes self.old self.new (finished marker (views self.old.entries.items)) }
+        ensures { Becomes self.old self.new (finished marker (left_in self.old.entries.items)) }
     {
         if let Some(i) = place_of(&self.marks, marker) {
             drop_front(&mut self.marks, i + 1);

@@ -8,7 +8,7 @@ ghost use Rattle.blob_model.specs.Order.{has_list};
 ghost use Rattle.blob_model.specs.Pending.{Marker, finished, is_marker};
 ghost use Rattle.blob_header.specs.Refusals.{IsMemory};
 ghost use Rattle.blob_faults.specs.Rooms.{CanCut, KeepsRest};
-ghost use Rattle.blob_faults.specs.Views.{view};
+ghost use Rattle.blob_faults.specs.Views.{view, left_in};
 ghost use Rattle.blob_faults.specs.Lists.{held, list_of, IsAt, HasRoomIn, IsRoomAt, HasRangesAt, SameLists, ChangesAt, IsCopyAt, LaysAt, AreDistinct, finished_in, AreNoted, RetiresEnded};
 
 use crate::entry::Entry;
@@ -163,7 +163,7 @@ impl<S: Durable> Lists<S> {
     pub fn push(&mut self, i: usize, entry: Entry)
         requires room { HasRoomIn self.old.all.lists.items i Room.Entry }
         requires unmarked { is_marker (view entry) ≡ false }
-        ensures { ChangesAt S.place self.old.all.lists.items self.new.all.lists.items i (λ q. q ++ view entry ∷ []) }
+        ensures { ChangesAt S.place self.old.all.lists.items self.new.all.lists.items i (λ q. q ++ left_in (entry ∷ [])) }
     {
         self.all.lists[i].push(entry);
     }

@@ -1,7 +1,7 @@
 -- The replays of a crash, entry by entry and list by list.
 use Rattle.std.proofs.Common.{◌≡◌, ⊎_elim, ℕ, zero, suc, ◌+◌, ◌-◌, ◌<◌, ◌≤◌, max, min, Bool, true, false, not, ◌&&◌, ◌||◌, List, [], ◌∷◌, length, get_or, set, drop, replicate, Option, Some, None, refl, sym, ◌∙◌, ap, ap₂, subst, arith, true≢false, nat_lt, take, ◌++◌}
 use Rattle.std.specs.Prelude.{option_map, is_some, nat_le, Result, Ok, OnOk, IfSome}
-use Rattle.std.proofs.lemmas.Bool.{cases_Bool, cases_eq, cond-true, cond-false, and_parts, leb-true, ltb-true, le-leb, lt-ltb, cases_lt}
+use Rattle.std.proofs.lemmas.Bool.{cases_Bool, cases_eq, cond_both, cond-true, cond-false, and_parts, leb-true, ltb-true, le-leb, lt-ltb, cases_lt}
 use Rattle.std.proofs.lemmas.Bool.Decides.{nat_tests}
 use Rattle.std.proofs.lemmas.List.{get_or-replicate, get_or-set_same, get_or-set_other, get_or_default, at_drop_more, length-take, take_all, get_or_append_left, get_or-take, get_or-append_right, get_or_past}
 use Rattle.blob_model.specs.Bytes.{overlay_by, between, reach}
@@ -24,7 +24,7 @@ use Rattle.blob_faults.specs.declared.incarnation.Incarnation.{Incarnation}
 use Rattle.blob_faults.specs.Lists.{held, held_by}
 use Rattle.blob_faults.specs.Replays.{width, widest, widest_of_all, unmarked}
 use Rattle.blob_faulty.specs.Ready.{IsReady}
-use Rattle.blob_faults.specs.Views.{view, views}
+use Rattle.blob_faults.specs.Views.{view, is_left, left_in}
 
 -- what a call ensures where it answered Ok
 pub ok_is : {T E P : Type 0} (r : Result T E) (x : T) → r ≡ Ok x → OnOk r P → P
@@ -38,16 +38,20 @@ if_some {T} r x P e h = subst (λ (q : Option T). IfSome q P) e h
 pub reach_within : (o n : ℕ) (c : ℕ → Bool) → reach o n c ≤ o + n
 reach_within o n c = reach_below o n c (o + n) (λ i h _. omega arith)
 
--- each entry asks for no more than the list does
-pub end_in : (q : List Entry) (i : ℕ) (d : Entry) → i < length q → end_of (view (get_or q i d)) ≤ ends (views q)
-end_in [] i d h = absurd (omega arith)
-end_in (x ∷ q) zero d h = omega arith
-end_in (x ∷ q) (suc i) d h = omega (arith, end_in q i d (omega arith))
+-- each entry of which something is left asks for no more than the list does
+pub end_in : (q : List Entry) (i : ℕ) (d : Entry) → i < length q → is_left (view (get_or q i d)) ≡ true → end_of (view (get_or q i d)) ≤ ends (left_in q)
+end_in [] i d h y = absurd (omega arith)
+end_in (x ∷ q) zero d h y = let is = ap ends (cond-true (is_left (view x)) (view x ∷ left_in q) (left_in q) y) in omega (arith, is)
+end_in (x ∷ q) (suc i) d h y =
+    let rest = end_in q i d (omega arith) y in
+    cond_both (is_left (view x)) (view x ∷ left_in q) (left_in q) (λ r. end_of (view (get_or q i d)) ≤ ends r) (λ _. omega (arith, rest)) (λ _. rest)
 
-pub width_in : (q : List Entry) (i : ℕ) (d : Entry) → i < length q → width (view (get_or q i d)) ≤ widest (views q)
-width_in [] i d h = absurd (omega arith)
-width_in (x ∷ q) zero d h = omega arith
-width_in (x ∷ q) (suc i) d h = omega (arith, width_in q i d (omega arith))
+pub width_in : (q : List Entry) (i : ℕ) (d : Entry) → i < length q → is_left (view (get_or q i d)) ≡ true → width (view (get_or q i d)) ≤ widest (left_in q)
+width_in [] i d h y = absurd (omega arith)
+width_in (x ∷ q) zero d h y = let is = ap widest (cond-true (is_left (view x)) (view x ∷ left_in q) (left_in q) y) in omega (arith, is)
+width_in (x ∷ q) (suc i) d h y =
+    let rest = width_in q i d (omega arith) y in
+    cond_both (is_left (view x)) (view x ∷ left_in q) (left_in q) (λ r. width (view (get_or q i d)) ≤ widest r) (λ _. omega (arith, rest)) (λ _. rest)
 
 -- a range of positions that is no longer chosen, one further
 pub uncovered_more : (xs ys : List Bool) (s i : ℕ) → s ≤ i → i < length xs → ((k : ℕ) → k < length xs → get_or xs k false ≡ (not (between s i k) && get_or ys k false)) →
@@ -127,9 +131,9 @@ replay_first t h hs f f' a alone told = ap (replayed_at t (held_at hs a)) told �
     go (Some x) = refl
 
 -- the lists lay no more than the widest
-pub widest_in : {O : Type 0} (place : O → Place) (is : List (Incarnation O)) (i : ℕ) (x : Incarnation O) → i < length is → x ≡ get_or is i x → widest (views x.entries.items) ≤ widest_of_all (held place is)
+pub widest_in : {O : Type 0} (place : O → Place) (is : List (Incarnation O)) (i : ℕ) (x : Incarnation O) → i < length is → x ≡ get_or is i x → widest (left_in x.entries.items) ≤ widest_of_all (held place is)
 widest_in place [] i x h e = absurd (omega arith)
-widest_in {O} place (y ∷ is) zero x h e = omega (arith, ap (λ (z : Incarnation O). widest (views z.entries.items)) e)
+widest_in {O} place (y ∷ is) zero x h e = omega (arith, ap (λ (z : Incarnation O). widest (left_in z.entries.items)) e)
 widest_in place (y ∷ is) (suc i) x h e = omega (arith, widest_in place is i x (omega arith) e)
 
 pub widest_unmarked : (q : List Pending) → widest (unmarked q) ≤ widest q

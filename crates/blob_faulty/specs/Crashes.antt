@@ -13,7 +13,7 @@ use Rattle.blob_model.specs.Stands.{replayed_at}
 use Rattle.blob_faults.specs.Lists.{held, list_of}
 use Rattle.blob_faults.specs.Ranges.{ranges}
 use Rattle.blob_faults.specs.Rows.{rows_in, table_of}
-use Rattle.blob_faults.specs.Views.{views}
+use Rattle.blob_faults.specs.Views.{left_in}
 use Rattle.blob_faults.specs.declared.incarnation.Incarnation.{Incarnation}
 use Rattle.blob_faults.specs.declared.selections.Selections.{Selections}
 use Rattle.blob_faults.specs.declared.write.PendingWrite.{PendingWrite}
@@ -39,7 +39,7 @@ ReplaysLists lists rows before after = ArePlacesApart (held (λ o. o) lists) →
 
 -- one list of the code, over its incarnation
 abbrev pub ReplaysList : Incarnation Place → List (ℕ × Vec Bool Global) → Durable → Durable → Type 0
-ReplaysList list rows before after = (o : Place) → after o ≡ with_changed before list.origin (replay (views list.entries.items) (chosen_by (rows_in rows))) o
+ReplaysList list rows before after = (o : Place) → after o ≡ with_changed before list.origin (replay (left_in list.entries.items) (chosen_by (rows_in rows))) o
 
 -- of the bytes of a write at offset those stay chosen that don't lie where this says
 abbrev pub StaysChosen : ℕ → (ℕ → Bool) → List Bool → List Bool → Type 0

@@ -10,7 +10,7 @@ ghost use Rattle.blob_faults.specs.Replays.{width, widest, widest_of_all};
 ghost use Rattle.blob_faulty.specs.Crashes.{ChoosesUncovered, ReplaysList, ReplaysLists, StaysChosen};
 ghost use Rattle.blob_faulty.specs.Ready.{IsReady, CanReplay};
 ghost use Rattle.blob_faults.specs.Rows.{rows_in, AreNumbered};
-ghost use Rattle.blob_faults.specs.Views.{view, views};
+ghost use Rattle.blob_faults.specs.Views.{view, left_in};
 ghost use Rattle.blob_overlay.specs.Overlays.{AreNow};
 ghost use Rattle.blob_memory.specs.Retained.{KeepsRoom};
 ghost use Rattle.blob_memory.specs.Store.{directory, durable};
@@ -93,21 +93,23 @@ fn replay_entry(
     }
 }
 
-/// Entries among which no marker is are replayed in their order.
+/// Entries among which no marker is are replayed in their order, those of which something is left.
 fn replay_entries(
     bytes: &mut Vec<u8>,
     entries: &[Entry],
     rows: &[(u64, Vec<bool>)],
     chosen: &mut Vec<bool>,
 )
-    requires unmarked { has_marker (views entries.now) ≡ false }
+    requires unmarked { has_marker (left_in entries.now) ≡ false }
     requires numbered { AreNumbered rows.now }
-    requires room { CanReplay bytes.old (ends (views entries.now)) (widest (views entries.now)) chosen.old }
-    ensures bytes { AreNow bytes.old bytes.new (replay (views entries.now) (chosen_by (rows_in rows.now)) bytes.old.items) }
+    requires room { CanReplay bytes.old (ends (left_in entries.now)) (widest (left_in entries.now)) chosen.old }
+    ensures bytes { AreNow bytes.old bytes.new (replay (left_in entries.now) (chosen_by (rows_in rows.now)) bytes.old.items) }
     ensures capacity { vec_capacity chosen.old ≤ vec_capacity chosen.new }
 {
     for entry in entries {
-        replay_entry(bytes, entry, rows, chosen);
+        if entry.is_left() {
+            replay_entry(bytes, entry, rows, chosen);
+        }
     }
 }
 
@@ -120,7 +122,7 @@ fn replay_list(
 )
     requires numbered { AreNumbered rows.now }
     requires ready { IsReady inner.old (held_by (λ o. o) list.now) }
-    requires width { widest (views list.now.entries.items) ≤ vec_capacity chosen.old }
+    requires width { widest (left_in list.now.entries.items) ≤ vec_capacity chosen.old }
     ensures durable { ReplaysList list.now rows.now (durable inner.old) (durable inner.new) }
     ensures kept { KeepsRoom inner.old inner.new }
     ensures capacity { vec_capacity chosen.old ≤ vec_capacity chosen.new }

@@ -47,7 +47,7 @@ pub(crate) struct Write {
 pub(crate) fn pending_files(alloc: Global, wrapper: &Wrapper) -> Result<Vec<File>, Error> {
     let mut files: Vec<File> = Vec::new(alloc);
     for list in wrapper.pending() {
-        if !list.entries.is_empty() {
+        if list.entries.iter().any(|entry| entry.is_left()) {
             let file = file_of(alloc, wrapper, list)?;
             let at = files.iter().position(|other| comes_before(&file, other));
             files.insert(at.unwrap_or(files.len()), file)?;
@@ -81,7 +81,7 @@ fn file_of(alloc: Global, wrapper: &Wrapper, list: &Incarnation<Origin>) -> Resu
     let mut entries = Vec::new(alloc);
     for entry in &list.entries {
         match entry {
-            Entry::Write(write) => {
+            Entry::Write(write) if !write.is_covered() => {
                 let mut holes = Vec::new(alloc);
                 for hole in &write.holes {
                     holes.push((hole.start, hole.end))?;
@@ -98,10 +98,13 @@ fn file_of(alloc: Global, wrapper: &Wrapper, list: &Incarnation<Origin>) -> Resu
                 offset: range.offset,
                 bytes: bytes_of(alloc, &range.bytes)?,
             })?,
-            Entry::Marker(_) => {}
+            Entry::Write(_) | Entry::Marker(_) => {}
         }
     }
-    let loose = unmarked(&list.entries).len();
+    let loose = unmarked(&list.entries)
+        .iter()
+        .filter(|entry| entry.is_left())
+        .count();
     Ok(File {
         partition: String::from_str(alloc, origin.partition())?,
         name: Vec::from_slice(alloc, origin.name())?,

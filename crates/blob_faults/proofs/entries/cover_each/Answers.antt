@@ -1,11 +1,10 @@
-use Rattle.std.proofs.Common.{rules, ◌≡◌, ◌<◌, ◌+◌, ◌∙◌, ◌∷◌, ◌&&◌, ℕ, true, refl, sym, ap, subst, length, get_or, arith}
-use Rattle.std.proofs.lemmas.Bool.{and_parts}
+use Rattle.std.proofs.Common.{rules, ◌≡◌, ◌<◌, ◌+◌, ◌∙◌, ◌∷◌, ℕ, refl, sym, ap, subst, length, get_or, arith}
 use Rattle.std.proofs.lemmas.List.{get_or_default}
 use Rattle.blob_faults.specs.Rooms.{HasRoomFor}
-use Rattle.blob_faults.specs.Views.{view, pared_by, is_left}
+use Rattle.blob_faults.specs.Views.{view, pared_by}
 use Rattle.blob_model.specs.Holes.{Holes}
 use Rattle.blob_faults.specs.declared.entry.Entry.{Entry}
-use Rattle.blob_faults.proofs.Bounded.{passed_pared, passed_left, rest_room, views_each, jump}
+use Rattle.blob_faults.proofs.Bounded.{passed_pared, rest_room, views_each, jump}
 use Rattle.blob_faults.proofs.CutSteps.{later_set}
 use Rattle.blob_faults.proofs.entries.cover_each.Goals as goal
 
@@ -16,8 +15,8 @@ loop-i-init c =
     let passed = c.next_near-i.ensures.passed in
     record {
       inside = c.next_near-i.ensures.len;
+      few = omega arith;
       done = λ k d l. passed_pared bs q k c.args.start c.args.len d c.requires.bounded (passed k (omega arith) l);
-      left = λ is k d l. passed_left bs q k c.args.start (c.args.start + c.args.len) d c.requires.bounded (passed k (omega arith) l);
       room = λ k d l later r. rest_room (get_or q k d) (c.args.start, c.args.start + c.args.len) later r;
       later = λ k d l. refl;
     }
@@ -36,15 +35,11 @@ loop-i-preserved c =
     let kept = c.loop-i.invariant in
     let here : (d : Entry) → get_or q0 i d ≡ get_or q i c.index-entries-i.result = λ d. sym (kept.later i d (omega arith)) ∙ get_or_default q i d c.index-entries-i.result h in
     let told : view e ≡ pared_by c.args.start c.args.len (view (get_or q i c.index-entries-i.result)) = search rules in
-    let both : c.if-all_left.all_left ≡ (c.loop-i.all_left && is_left (view e)) = search rules in
     record {
       inside = next.len;
+      few = omega (arith, kept.few, next.from);
       done = jump (λ k d x. view x ≡ pared_by c.args.start c.args.len (view (get_or q0 k d))) q q0 i j e h kept.done (λ d. told ∙ ap (λ (x : Entry). pared_by c.args.start c.args.len (view x)) (sym (here d))) kept.later
           (λ k d a l. passed_pared bs q0 k c.args.start c.args.len d c.requires.bounded (next.passed k a l));
-      left = λ is.
-          let parts = and_parts c.loop-i.all_left (is_left (view e)) (sym both ∙ is) in
-          jump (λ k d x. is_left (view x) ≡ true) q q0 i j e h (kept.left parts.0) (λ d. parts.1) kept.later
-          (λ k d a l. passed_left bs q0 k c.args.start (c.args.start + c.args.len) d c.requires.bounded (next.passed k a l));
       room = jump (λ k d x. (later : Holes) → HasRoomFor (range ∷ later) (get_or q0 k d) → HasRoomFor later x) q q0 i j e h kept.room
           (λ d later r. c.cover.ensures.room later (subst (λ (x : Entry). HasRoomFor (range ∷ later) x) (here d) r)) kept.later
           (λ k d a l later r. rest_room (get_or q0 k d) range later r);

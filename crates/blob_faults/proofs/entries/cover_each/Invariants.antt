@@ -1,5 +1,5 @@
-use Rattle.std.proofs.Common.{◌≡◌, ◌<◌, ◌≤◌, ◌+◌, ◌-◌, ◌∷◌, ℕ, get_or, true}
-use Rattle.blob_faults.specs.Views.{view, pared_by, is_left}
+use Rattle.std.proofs.Common.{◌≡◌, ◌<◌, ◌≤◌, ◌+◌, ◌-◌, ◌∷◌, ℕ, get_or}
+use Rattle.blob_faults.specs.Views.{view, pared_by}
 use Rattle.blob_faults.specs.Rooms.{HasRoomFor}
 use Rattle.blob_model.specs.Holes.{Holes}
 use Rattle.blob_faults.specs.declared.entry.Entry.{Entry}
@@ -8,8 +8,8 @@ use Rattle.blob_faults.proofs.entries.cover_each.Given as goal
 abbrev pub invariant-loop-i : goal.invariant-loop-i
 invariant-loop-i l = record {
   inside : l.i ≤ l.count;
+  few : l.covered ≤ l.i;
   done : (k : ℕ) (d : Entry) → k < l.i → view (get_or l.entries k d) ≡ pared_by l.start l.len (view (get_or l.fn.entries k d));
-  left : l.all_left ≡ true → (k : ℕ) (d : Entry) → k < l.i → is_left (view (get_or l.entries k d)) ≡ true;
   room : (k : ℕ) (d : Entry) → k < l.i → (later : Holes) → HasRoomFor ((l.start, l.start + l.len) ∷ later) (get_or l.fn.entries k d) → HasRoomFor later (get_or l.entries k d);
   later : (k : ℕ) (d : Entry) → l.i ≤ k → get_or l.entries k d ≡ get_or l.fn.entries k d;
 }

@@ -7,13 +7,13 @@ use Rattle.blob_faults.specs.declared.entry.Entry.{Entry}
 use Rattle.blob_faults.specs.declared.incarnation.Incarnation.{Incarnation}
 use Rattle.blob_faults.specs.Drawings.{Drawing, drawings_of, drawings_in}
 use Rattle.blob_faults.specs.Lists.{held}
-use Rattle.blob_faults.specs.Views.{views}
+use Rattle.blob_faults.specs.Views.{left_in}
 use Rattle.blob_faults.proofs.Gathering.{lists_more}
 use Rattle.blob_faults.proofs.Unmarked.{unmarked_waits, unmarked_none}
 use Rattle.blob_faults.proofs.gather.gather_all.Goals as goal
 
 pub gather_unmarked-requires : goal.gather_unmarked-requires
-gather_unmarked-requires g c = ap has_marker c.unmarked.ensures ∙ unmarked_none (views c.deref.result.now)
+gather_unmarked-requires g c = ap has_marker c.unmarked.ensures ∙ unmarked_none (left_in c.deref.result.now)
 
 pub loop-list-preserved : goal.loop-list-preserved
 loop-list-preserved g c place =
@@ -21,9 +21,9 @@ loop-list-preserved g c place =
     let i = c.loop-list.list-index in
     let done : List Drawing = drawings_in c.loop-list.draws.items in
     let later : List Drawing = drawings_of (waiting_of_all (held place (drop (i + 1) c.args.lists.now))) in
-    let here : waiting (views c.unmarked.result.now) ≡ waiting (views x.entries.items) = ap waiting c.unmarked.ensures ∙ unmarked_waits (views c.deref.result.now) ∙ ap (λ (q : List Entry). waiting (views q)) c.deref.ensures.value in
+    let here : waiting (left_in c.unmarked.result.now) ≡ waiting (left_in x.entries.items) = ap waiting c.unmarked.ensures ∙ unmarked_waits (left_in c.deref.result.now) ∙ ap (λ (q : List Entry). waiting (left_in q)) c.deref.ensures.value in
     ap (λ (l : List Drawing). l ++ later) (c.in_ok-gather_unmarked.ensures ∙ ap (λ (ns : List Need). done ++ drawings_of ns) here)
-    ∙ append_assoc done (drawings_of (waiting (views x.entries.items))) later
+    ∙ append_assoc done (drawings_of (waiting (left_in x.entries.items))) later
     ∙ sym (ap (λ (l : List Drawing). done ++ l) (lists_more place c.args.lists.now i x (omega arith) c.list-item.is))
     ∙ c.loop-list.invariant place
 

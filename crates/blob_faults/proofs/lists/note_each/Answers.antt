@@ -1,7 +1,7 @@
 use Rattle.std.proofs.Common.{◌≡◌, ◌∙◌, ◌<◌, arith, length, get_or, ap, sym}
 use Rattle.std.proofs.lemmas.List.{get_or_default}
 use Rattle.blob_model.specs.Directory.{is_current}
-use Rattle.blob_faults.specs.Views.{views}
+use Rattle.blob_faults.specs.Views.{left_in}
 use Rattle.blob_faults.proofs.ListSteps.{held_same, below_set}
 use Rattle.blob_faults.proofs.lists.note_each.Goals as goal
 
@@ -12,7 +12,7 @@ loop-list-preserved g c =
     let h : k < length is = omega arith in
     let e = get_or is k c.list-item.result in
     record {
-      held = held_same g.S.Durable.place is k e c.note.new.self h (get_or_default is k c.list-item.result e h) c.note.ensures.origin (ap views c.note.ensures.entries) ∙ c.loop-list.invariant.held;
+      held = held_same g.S.Durable.place is k e c.note.new.self h (get_or_default is k c.list-item.result e h) c.note.ensures.origin (ap left_in c.note.ensures.entries) ∙ c.loop-list.invariant.held;
       noted = below_set (λ i. i.was_current ≡ is_current (g.S.Durable.directory c.args.store.now) (g.S.Durable.place i.origin)) is k c.note.new.self h c.loop-list.invariant.noted
           (c.note.ensures.noted ∙ c.is_current-is_current.ensures ∙ ap (λ o. is_current (g.S.Durable.directory c.args.store.now) (g.S.Durable.place o)) (sym c.note.ensures.origin));
     }

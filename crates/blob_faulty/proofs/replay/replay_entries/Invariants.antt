@@ -3,13 +3,13 @@ use Rattle.std.specs.Prelude.{vec_capacity}
 use Rattle.blob_model.specs.Draws.{chosen_by}
 use Rattle.blob_model.specs.Pending.{has_marker, replay}
 use Rattle.blob_faults.specs.Rows.{rows_in}
-use Rattle.blob_faults.specs.Views.{views}
+use Rattle.blob_faults.specs.Views.{left_in}
 use Rattle.blob_faulty.proofs.replay.replay_entries.Given as goal
 
 abbrev pub invariant-loop-entry : goal.invariant-loop-entry
 invariant-loop-entry l = record {
-  unmarked : has_marker (views (drop l.entry-index l.entries)) ≡ false;
-  bytes : replay (views (drop l.entry-index l.entries)) (chosen_by (rows_in l.rows)) l.bytes.items ≡ replay (views l.entries) (chosen_by (rows_in l.rows)) l.fn.bytes.items;
+  unmarked : has_marker (left_in (drop l.entry-index l.entries)) ≡ false;
+  bytes : replay (left_in (drop l.entry-index l.entries)) (chosen_by (rows_in l.rows)) l.bytes.items ≡ replay (left_in l.entries) (chosen_by (rows_in l.rows)) l.fn.bytes.items;
   room : vec_capacity l.fn.bytes ≤ vec_capacity l.bytes;
   capacity : vec_capacity l.fn.chosen ≤ vec_capacity l.chosen;
 }

@@ -5,8 +5,8 @@ use Rattle.blob_faults.specs.declared.entry.Entry.{Entry}
 use Rattle.blob_faults.proofs.CutSteps.{pared_write}
 use Rattle.blob_faults.proofs.entry.Entry.cover.Goals as goal
 
-pub returns-in-Write-clause-view : goal.returns-in-Write-clause-view
-returns-in-Write-clause-view c = pared_write c.args.start c.args.len _ _ _ _ c.cover.ensures.write c.cover.ensures.holes ∙ ap (λ (e : Entry). pared_by c.args.start c.args.len (view e)) (sym c.in-Write.is)
+pub returns-clause-view : goal.returns-clause-view
+returns-clause-view c = pared_write c.args.start c.args.len _ _ _ _ c.cover.ensures.write c.cover.ensures.holes ∙ ap (λ (e : Entry). pared_by c.args.start c.args.len (view e)) (sym c.in-Write.is)
 
-pub returns-in-Write-clause-room : goal.returns-in-Write-clause-room
-returns-in-Write-clause-room c later h = c.cover.ensures.room later (subst (λ (e : Entry). HasRoomFor ((c.args.start, c.args.start + c.args.len) ∷ later) e) c.in-Write.is h)
+pub returns-clause-room : goal.returns-clause-room
+returns-clause-room c later h = c.cover.ensures.room later (subst (λ (e : Entry). HasRoomFor ((c.args.start, c.args.start + c.args.len) ∷ later) e) c.in-Write.is h)

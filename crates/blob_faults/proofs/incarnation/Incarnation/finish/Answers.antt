@@ -1,9 +1,11 @@
 use Rattle.std.proofs.Common.{refl, sym, ◌∙◌, ap, ◌+◌, drop, List}
-use Rattle.blob_model.specs.Pending.{has_barrier}
+use Rattle.std.specs.List.{filter}
+use Rattle.blob_model.specs.Pending.{Pending, has_barrier}
 use Rattle.blob_faults.specs.declared.entry.Entry.{Entry}
 use Rattle.blob_faults.specs.Marks.{marks_of}
-use Rattle.blob_faults.specs.Views.{views}
+use Rattle.blob_faults.specs.Views.{views, is_left}
 use Rattle.blob_faults.proofs.Bounded.{bounded_none}
+use Rattle.blob_faults.proofs.Left.{finished_left}
 use Rattle.blob_faults.proofs.Marking.{finished_marks, finished_none}
 use Rattle.blob_faults.proofs.incarnation.Incarnation.finish.Goals as goal
 
@@ -20,5 +22,14 @@ pub returns-in_default : goal.returns-in_default
 returns-in_default g c = record {
   origin = refl;
   noted = refl;
-  entries = finished_none c.args.marker (views c.args.self.now.entries.items) c.deref.result.now (c.deref.ensures.value ∙ c.args.self.now.marked) (sym c.in_default.is ∙ c.place_of.ensures);
+  entries = ap (λ (q : List Pending). filter is_left q)
+      (finished_none c.args.marker (views c.args.self.now.entries.items) c.deref.result.now (c.deref.ensures.value ∙ c.args.self.now.marked) (sym c.in_default.is ∙ c.place_of.ensures))
+      ∙ sym (finished_left c.args.marker (views c.args.self.now.entries.items));
+}
+
+pub returns-in-Some : goal.returns-in-Some
+returns-in-Some g c = record {
+  origin = refl;
+  noted = refl;
+  entries = ap (λ (q : List Pending). filter is_left q) c.finish.ensures ∙ sym (finished_left c.args.marker (views c.args.self.now.entries.items));
 }

@@ -1,6 +1,6 @@
 use Rattle.std.proofs.Common.{rules, ◌≡◌, ◌∙◌, ◌++◌, ◌∷◌, [], ap, List, get_or}
 use Rattle.blob_model.specs.Pending.{Pending}
-use Rattle.blob_faults.specs.Views.{view}
+use Rattle.blob_faults.specs.Views.{left_in}
 use Rattle.blob_faults.proofs.ListSteps.{changed_list, found}
 use Rattle.blob_faults.proofs.lists.Lists.push.Goals as goal
 
@@ -9,4 +9,4 @@ returns g c o i a =
     let is = c.args.self.now.all.lists.items in
     let at : c.index_mut.result.now ≡ get_or is c.args.i c.index_mut.result.now = search rules in
     changed_list g.S.Durable.place is c.args.i c.index_mut.result.now c.push.new.self o _ a (search rules) at c.push.ensures.origin i
-    (c.push.ensures.entries ∙ ap (λ (q : List Pending). q ++ view c.args.entry ∷ []) (found g.S.Durable.place is c.args.i c.index_mut.result.now o (search rules) at i))
+    (c.push.ensures.entries ∙ ap (λ (q : List Pending). q ++ left_in (c.args.entry ∷ [])) (found g.S.Durable.place is c.args.i c.index_mut.result.now o (search rules) at i))
