@@ -1,10 +1,9 @@
 -- What a crash draws for, from the lists as the code has them.
-use Rattle.std.proofs.Common.{◌≡◌, ℕ, ◌+◌, ◌<◌, false, List, [], ◌∷◌, ◌++◌, length, get_or, drop, refl, sym, ◌∙◌, ap}
-use Rattle.std.proofs.lemmas.Bool.{cond-false}
+use Rattle.std.proofs.Common.{◌≡◌, ℕ, ◌+◌, ◌<◌, List, [], ◌∷◌, ◌++◌, length, get_or, drop, refl, sym, ◌∙◌, ap}
 use Rattle.std.proofs.lemmas.List.{at_drop_more}
 use Rattle.blob_model.specs.Log.{Need}
 use Rattle.blob_model.specs.Order.{waiting_of_all}
-use Rattle.blob_model.specs.Pending.{Pending, Waiting, has_marker, waiting}
+use Rattle.blob_model.specs.Pending.{waiting}
 use Rattle.blob_model.specs.Places.{Place}
 use Rattle.blob_faults.specs.Drawings.{Drawing, drawing_of, drawings_of}
 use Rattle.blob_faults.specs.Lists.{held, held_by}

@@ -1,5 +1,5 @@
 -- Lists without the entries of which nothing is left.
-use Rattle.std.proofs.Common.{◌≡◌, ⊎_elim, ℕ, eqb, max, Bool, true, false, cond, not, ◌||◌, List, [], ◌∷◌, ◌++◌, map, length, get_or, drop, refl, sym, ◌∙◌, ap, ap₂, ◌+◌, ◌<◌, arith}
+use Rattle.std.proofs.Common.{◌≡◌, ⊎_elim, ℕ, eqb, max, Bool, cond, not, ◌||◌, List, [], ◌∷◌, map, length, get_or, drop, refl, sym, ◌∙◌, ap, ap₂, ◌+◌, ◌<◌, arith}
 use Rattle.std.specs.List.{filter}
 use Rattle.std.proofs.lemmas.Bool.{cases_Bool, cond_both, cond-true, cond-false}
 use Rattle.std.proofs.lemmas.List.{at_drop_more}

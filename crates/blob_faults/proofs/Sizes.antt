@@ -1,9 +1,8 @@
 -- The tracked size of a handle that doesn't find its blob missing stays the length of its live bytes.
-use Rattle.std.proofs.Common.{◌≡◌, ℕ, ◌+◌, max, Bool, true, false, List, [], ◌∷◌, length, Option, Some, None, refl, sym, ◌∙◌, ap, arith, if◌then◌else◌}
-use Rattle.std.proofs.lemmas.Bool.{false≢true}
+use Rattle.std.proofs.Common.{◌≡◌, ℕ, ◌+◌, max, Bool, true, false, List, [], ◌∷◌, length, Option, Some, None, refl, sym, ◌∙◌, ap, arith}
 use Rattle.rand_core.specs.Stream.{Stream}
 use Rattle.blob_model.specs.Bytes.{resized, written}
-use Rattle.blob_model.specs.Live.{live_written, all_written, is_idle}
+use Rattle.blob_model.specs.Live.{all_written}
 use Rattle.blob_header.specs.Refusals.{Refusal, BlobMissing, Injected}
 use Rattle.blob_model.specs.Runs.{Run, runs}
 use Rattle.blob_model.proofs.Bytes.{length-overlay_by, length-resized, reach_all}

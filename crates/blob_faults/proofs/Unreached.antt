@@ -12,7 +12,7 @@ use Rattle.blob_model.specs.Runs.{Run, runs, kept_runs}
 use Rattle.blob_model.proofs.Persistence.{runs_untouched, has_written, has_runs, has_resized}
 use Rattle.blob_faults.specs.declared.config.Config.{Config}
 use Rattle.blob_faults.specs.declared.config.ResizeConfig.{ResizeConfig}
-use Rattle.blob_faults.specs.Faults.{WriteFate, Idle, Uncounted, Done, Unsynced, Failed, ResizeFate, Resizes, Stays, Reaches, write_fate, retention, resize_fate, partly}
+use Rattle.blob_faults.specs.Faults.{WriteFate, Done, Unsynced, Failed, ResizeFate, Resizes, Stays, Reaches, write_fate, retention, resize_fate, partly}
 use Rattle.blob_faults.specs.Changes.{loose, size_of_runs, write_changes, resize_changes}
 use Rattle.blob_faults.specs.Recorded.{recorded_write, live_of_write, live_of_resize, size_of_write, size_of_resize}
 

@@ -1,5 +1,5 @@
 -- What a wrapper's calls may answer, from what their draws come to and what the inner store's calls may answer.
-use Rattle.std.specs.Prelude.{◌≡◌, ◌≢◌, ◌⊎◌, ℕ, ◌+◌, ◌-◌, ◌^◌, Bool, true, false, ◌&&◌, List, [], ◌∷◌, length, Option, Some, None, is_some, IsSome, MatchBool, ◌==◌}
+use Rattle.std.specs.Prelude.{◌≡◌, ◌≢◌, ◌⊎◌, ℕ, ◌+◌, ◌-◌, ◌^◌, Bool, true, false, List, [], ◌∷◌, length, Option, Some, None, is_some, IsSome, MatchBool, ◌==◌}
 use Rattle.rand_core.specs.Stream.{Stream}
 use Rattle.blob_model.specs.Live.{is_idle}
 use Rattle.blob_header.specs.Refusals.{Refusal, Memory, Injected, OffsetOverflow, WriteFailed, GenerationsExhausted}

@@ -1,4 +1,4 @@
-use Rattle.std.proofs.Common.{◌≡◌, ◌∙◌, sym, ap, List, subst}
+use Rattle.std.proofs.Common.{◌∙◌, sym, ap, List, subst}
 use Rattle.std.specs.List.{All, filter}
 use Rattle.std.proofs.lemmas.List.Elements.{All-filter}
 use Rattle.blob_model.specs.Pending.{Pending}
