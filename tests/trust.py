@@ -26,6 +26,8 @@ BEGINS = re.compile(r"^(?:abbrev |unfoldable |reducible )*(?:pub )?(?:record |da
 PART = re.compile(r"^\s+(?:pub )?((?:[A-Z][\w'-]* )+):")
 MARKED = re.compile(r"^(?:abbrev|unfoldable|reducible|pub|record|data) ")
 SIGNED = re.compile(r"^\S+ :")
+# A definition within a module of parameters.
+WITHIN = re.compile(r"^\s+(?:pub )?(?:abbrev|unfoldable|reducible|record|data) (?:pub )?(?:record |data )?([^\s:({]+)", re.M)
 
 
 def read(path):
@@ -138,6 +140,9 @@ def defined_twice(specs):
     paths = collections.defaultdict(set)
     for module, name in specs.lines:
         paths[name].add(specs.files[module])
+    for path in specs.files.values():
+        for name in WITHIN.findall(read(path)):
+            paths[name].add(path)
     return [(name, sorted(found)) for name, found in sorted(paths.items()) if len(found) > 1]
 
 

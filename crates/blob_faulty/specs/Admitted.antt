@@ -65,13 +65,13 @@ module _ {R : Type 0} (before after : OverMemory R) (p n : List ℕ) (first last
   MayOpen stream answer = injected_or (draw (config_of before).open_rate (stream (rng_of before))).0 (OrMemory (open_refusal (directory (inner_of before)) p n first last)) answer
 
   -- what is drawn, retired and numbered; the inner store says itself what an open leaves of it
-  abbrev pub Leaves : (R → Stream) → Option Refusal → Type 0
-  Leaves stream answer = AdmittedOpenLeaves (λ o. o) directory stream (λ _. Unit {0}) p n answer before after
+  abbrev pub LeavesAdmitted : (R → Stream) → Option Refusal → Type 0
+  LeavesAdmitted stream answer = AdmittedOpenLeaves (λ o. o) directory stream (λ _. Unit {0}) p n answer before after
 
 -- an open that is admitted where it is accepted
 pub record AdmitsOpen {R : Type 0} (before after : OverMemory R) (p n : List ℕ) (first last : ℕ) (stream : R → Stream) (answer : Option Refusal) : Type 0 where
   pub allowed : MayOpen before after p n first last stream answer
-  pub leaves : Leaves before after p n first last stream answer
+  pub leaves : LeavesAdmitted before after p n first last stream answer
   pub err : IsSome answer → RefusesOpen before after
   pub keeps : LosesNothing before after
 

@@ -4,7 +4,7 @@ use Rattle.rand_core.specs.Stream.{Stream}
 use Rattle.blob_header.specs.Refusals.{Refusal}
 use Rattle.blob_opens.specs.OpenNames.{OpenNames, OpenAnswer}
 use Rattle.blob_opens.specs.Opens.{IsMade}
-use Rattle.blob_faulty.specs.Admitted.{OpensAlone, OpensAdmitted, RefusesOpen, MayOpen, Leaves}
+use Rattle.blob_faulty.specs.Admitted.{OpensAlone, OpensAdmitted, RefusesOpen, MayOpen, LeavesAdmitted}
 use Rattle.blob_faulty.specs.Keeps.{OverMemory}
 use Rattle.blob_faulty.specs.Wrapper.{inner_of}
 use Rattle.blob_memory.specs.Store.{directory, durable}
@@ -12,14 +12,14 @@ use Rattle.blob_memory.specs.Store.{directory, durable}
 module _ {R : Type 0} (before after : OverMemory R) (p n : List ℕ) (first last : ℕ) where
   -- the store's own open was answered so; by the answer of the whole call what is pending was retired
   abbrev pub Asked : (R → Stream) → Option Refusal → Option Refusal → Type 0
-  Asked stream answer asked = MayOpen before after p n first last stream asked × Leaves before after p n first last stream answer
+  Asked stream answer asked = MayOpen before after p n first last stream asked × LeavesAdmitted before after p n first last stream answer
 
   -- the store's own open was accepted: the whole call was too, or the name is open
-  abbrev pub Made : Option Refusal → Type 0
-  Made answer =
+  abbrev pub MadeAccepted : Option Refusal → Type 0
+  MadeAccepted answer =
       IsMade (directory (inner_of before)) (durable (inner_of before)) (directory (inner_of after)) (durable (inner_of after)) p n first last
       × elim answer [ None ↦ OpensAdmitted before after p n first last | Some refusal ↦ OpensAlone before after p n first last ]
 
   -- the answer, by the open names
   abbrev pub ExclusiveAnswer : (R → Stream) → OpenNames → Option Refusal → Type 0
-  ExclusiveAnswer stream s answer = OpenAnswer s p n (Asked stream answer) (Made answer) (RefusesOpen before after) (after ≡ before) answer
+  ExclusiveAnswer stream s answer = OpenAnswer s p n (Asked stream answer) (MadeAccepted answer) (RefusesOpen before after) (after ≡ before) answer

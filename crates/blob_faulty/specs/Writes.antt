@@ -251,8 +251,8 @@ Holds old new list = (o : Place) → held_at new.held o ≡ with_at (held_at old
 -- The same of a handle and a wrapper before a call and after it.
 
 module _ {S R O B : Type 0} (store : stores.Ghosts S O) (handle : handles.Ghosts B S O) (b : Blob B) (w : Storage S R O) (b' : Blob B) (w' : Storage S R O) where
-  abbrev pub Keeps : Type 0
-  Keeps = Unchanged (seen store handle b w) (seen store handle b' w')
+  abbrev pub StaysUnchanged : Type 0
+  StaysUnchanged = Unchanged (seen store handle b w) (seen store handle b' w')
 
   abbrev pub Writes : (View R → Effect) → Option Refusal → Type 0
   Writes effect answer = Wrote handle.is_direct (seen store handle b w) (seen store handle b' w') effect answer

@@ -100,7 +100,7 @@ impl<B> Blob<B> {
     ghost use Rattle.blob_faulty.specs.Asked.{Asks, AsksRuns};
     ghost use Rattle.blob_faulty.specs.Pieces.{run_of, runs_in, extents, EndsWithin};
     ghost use Rattle.blob_faults.specs.Faults.{Failed};
-    ghost use Rattle.blob_faulty.specs.Writes.{LaysAll, RecordsRuns, FailsBy, Keeps};
+    ghost use Rattle.blob_faulty.specs.Writes.{LaysAll, RecordsRuns, FailsBy, StaysUnchanged};
 
     /// The runs behind the first, in rising order. A refused one is answered `WriteFailed`, and those before it stay
     /// laid.
@@ -177,7 +177,7 @@ impl<B> Blob<B> {
         ensures write_answers { AllowsAsMuch B.Blob self.old store.old self.new store.new }
         ensures room { IfRoomIsKept S.Durable B.Blob self.old store.old (OnOk result (last_end 0 (runs_in pieces.now) ≤ B.room self.new.inner store.new.inner)) }
         ensures ranges { IfOk result (λ i. HasListRoom S.Durable B.Blob self.new store.new i (extents (runs_in pieces.now))) }
-        ensures unchanged { Keeps S.Durable B.Blob self.old store.old self.new store.new }
+        ensures unchanged { StaysUnchanged S.Durable B.Blob self.old store.old self.new store.new }
     {
         let (start, end) = (Piece::first_start(pieces), Piece::last_end(pieces));
         let list = self.room_for(store, Room::Ranges(start, end, pieces.len()))?;

@@ -20,7 +20,7 @@ use Rattle.blob_calls.specs.Acts.{Ask, Read}
 use Rattle.blob_states.specs.After.{files_after, held_after}
 use Rattle.blob_states.specs.Answers.{IsAnswer, through}
 use Rattle.blob_states.specs.Denials.{refused_if}
-use Rattle.blob_laboratory.specs.LabStands.{Wrapper, Wraps, Asks, stream_of}
+use Rattle.blob_laboratory.specs.LabStands.{Wrapper, Wraps, PerformsAsk, stream_of}
 use Rattle.blob_faulty.specs.Keeps.{IsFor}
 use Rattle.blob_states.specs.States.{State, Held}
 use Rattle.blob_calls.specs.Told as told
@@ -59,7 +59,7 @@ module _ (w w' : Wrapper) (h h' : Held) (ask : Ask) (reply : Reply) where
   pub asks_by : ((v : State) → Wraps w (as_of w v) → IsAnswer true (through (as_of w v) (Some h) ask) reply (stream_of w'))
       → ((v : State) → Wraps w (as_of w v) → h.place.number < v.files.directory.next → IsFor w' (files_after (as_of w v) h ask (refused_by reply)))
       → ((v : State) → h' ≡ held_after (as_of w v) h ask (refused_by reply))
-      → config_of w' ≡ config_of w → Asks w h ask reply w' h'
+      → config_of w' ≡ config_of w → PerformsAsk w h ask reply w' h'
   asks_by a s held config = record {
     answers = λ v u. subst (λ (x : State). IsAnswer true (through x (Some h) ask) reply (stream_of w')) (as_seen w v u) (a v (subst (Wraps w) (sym (as_seen w v u)) u));
     stands = λ v u below. record {
@@ -84,13 +84,13 @@ module _ (w w' : Wrapper) (h : Held) (offset len : ℕ)
   denied : (answer : Option Refusal) → allowed answer → OrMemory denial answer
   denied answer a = drawn_denial (draw (config_of w).read_rate (stream_of w)).0 (OrMemory (read_refusal h.place h.live offset len)) (read_refusal h.place h.live offset len) (λ answer' m. m) answer a
 
-  pub read_done : (reply : Reply) → refused_by reply ≡ None → Tells reply (told.Bytes (take len (drop offset h.live))) → allowed None → Asks w h (Read offset len) reply w' h
+  pub read_done : (reply : Reply) → refused_by reply ≡ None → Tells reply (told.Bytes (take len (drop offset h.live))) → allowed None → PerformsAsk w h (Read offset len) reply w' h
   read_done reply done tells a = asks_by w w' h h (Read offset len) reply
       (λ v u. done_answers reply denial (told.Bytes (take len (drop offset h.live))) (stream_of w') ((draw (config_of w).read_rate (stream_of w)).1) tells (not_memory denial (denied None a)) stream)
       (λ v u below. stands_kept w w' v.files names bytes kept u.files)
       (λ v. refl) kept.numbers.config
 
-  pub read_failed : (e : Error) → allowed (Some (refusal_of e)) → Asks w h (Read offset len) (Failed e) w' h
+  pub read_failed : (e : Error) → allowed (Some (refusal_of e)) → PerformsAsk w h (Read offset len) (Failed e) w' h
   read_failed e a = asks_by w w' h h (Read offset len) (Failed e)
       (λ v u. failed_answers e denial (told.Bytes (take len (drop offset h.live))) (stream_of w') ((draw (config_of w).read_rate (stream_of w)).1) (denied (Some (refusal_of e)) a) (λ no. stream))
       (λ v u below. stands_kept w w' v.files names bytes kept u.files)

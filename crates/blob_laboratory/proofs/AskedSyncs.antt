@@ -16,7 +16,7 @@ use Rattle.blob_calls.specs.declared.reply.Reply.TheVariants.{Done, Failed, Star
 use Rattle.blob_calls.specs.Acts.{Sync}
 use Rattle.blob_states.specs.Steps.{begun, sync_denial}
 use Rattle.blob_states.specs.Denials.{refused_if, start_denial}
-use Rattle.blob_laboratory.specs.LabStands.{Wrapper, Wraps, Asks, StartsSync, stream_of}
+use Rattle.blob_laboratory.specs.LabStands.{Wrapper, Wraps, PerformsAsk, StartsSync, stream_of}
 use Rattle.blob_faulty.specs.Keeps.{IsFor}
 use Rattle.blob_states.specs.States as states
 use Rattle.blob_states.specs.States.{State, Held}
@@ -42,13 +42,13 @@ module _ (w w' : Wrapper) (h : Held) (names : directory (store_of w') ≡ direct
   seen : (v : State) → Wraps w (as_of w v) → denial (directory (store_of w)) ≡ sync_denial (as_of w v) h
   seen v u i = denial (u.files.directory i)
 
-  pub sync_done : allowed None → ((f : Files) → IsFor w f → Stands (λ o. o) (directory (store_of w)) (durable (store_of w')) w' (published f h.place h.live)) → Asks w h Sync Done w' h
+  pub sync_done : allowed None → ((f : Files) → IsFor w f → Stands (λ o. o) (directory (store_of w)) (durable (store_of w')) w' (published f h.place h.live)) → PerformsAsk w h Sync Done w' h
   sync_done a publishes = asks_by w w' h h Sync Done
       (λ v u. done_answers Done (sync_denial (as_of w v) h) told.Done (stream_of w') ((draw (config_of w).sync_rate (stream_of w)).1) tt (not_memory (denial (directory (store_of w))) (denied None a) ∙ seen v u) stream)
       (λ v u below. subst (λ (d : Directory). Stands (λ o. o) d (durable (store_of w')) w' (published v.files h.place h.live)) (sym names) (publishes v.files u.files))
       (λ v. refl) config
 
-  pub sync_failed : (e : Error) → allowed (Some (refusal_of e)) → durable (store_of w') ≡ durable (store_of w) → KeepsRecords (λ o. o) w w' → Asks w h Sync (Failed e) w' h
+  pub sync_failed : (e : Error) → allowed (Some (refusal_of e)) → durable (store_of w') ≡ durable (store_of w) → KeepsRecords (λ o. o) w w' → PerformsAsk w h Sync (Failed e) w' h
   sync_failed e a bytes kept = asks_by w w' h h Sync (Failed e)
       (λ v u. failed_answers e (sync_denial (as_of w v) h) told.Done (stream_of w') ((draw (config_of w).sync_rate (stream_of w)).1) (subst (λ (x : Option Refusal). OrMemory x (Some (refusal_of e))) (seen v u) (denied (Some (refusal_of e)) a)) (λ no. stream))
       (λ v u below. stands_kept w w' v.files names bytes kept u.files)

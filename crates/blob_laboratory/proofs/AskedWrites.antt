@@ -22,7 +22,7 @@ use Rattle.blob_calls.specs.declared.reply.Reply.TheVariants as reply
 use Rattle.blob_calls.specs.Acts.{Write, Resize}
 use Rattle.blob_states.specs.Denials.{reaching_denial}
 use Rattle.blob_states.specs.Steps.{write_denial_by, write_denial, or_injected}
-use Rattle.blob_laboratory.specs.LabStands.{Wrapper, Wraps, Asks, stream_of}
+use Rattle.blob_laboratory.specs.LabStands.{Wrapper, Wraps, PerformsAsk, stream_of}
 use Rattle.blob_faulty.specs.Keeps.{IsFor}
 use Rattle.blob_states.specs.States.{State, Held}
 use Rattle.blob_calls.specs.Told as told
@@ -72,7 +72,7 @@ module _ (w w' : Wrapper) (h h' : Held) (room : Bool → ℕ) (offset : ℕ) (by
   seen : (v : State) → Wraps w (as_of w v) → denial (directory (store_of w)) (next_write_of w) ≡ write_denial (as_of w v) h offset bytes sync
   seen v u i = denial (u.files.directory i) (u.files.next_write i)
 
-  pub write_done : allowed None → stream_of w' ≡ after_write (config_of w) sync offset bytes (stream_of w) → IsRecorded None → IsLive None → IsSize None → Asks w h (Write offset bytes sync) reply.Done w' h'
+  pub write_done : allowed None → stream_of w' ≡ after_write (config_of w) sync offset bytes (stream_of w) → IsRecorded None → IsLive None → IsSize None → PerformsAsk w h (Write offset bytes sync) reply.Done w' h'
   write_done a stream adds live size = asks_by w w' h h' (Write offset bytes sync) reply.Done
       (λ v u. done_answers reply.Done (write_denial (as_of w v) h offset bytes sync) told.Done (stream_of w') (after_write (config_of w) sync offset bytes (stream_of w)) tt (not_memory (denial (directory (store_of w)) (next_write_of w)) (denied None a) ∙ seen v u) stream)
       (λ v u below. added w w' v.files h.place (λ n. recorded_write (config_of w) n (stream_of w) sync offset bytes None) names adds below u.files)
@@ -80,7 +80,7 @@ module _ (w w' : Wrapper) (h h' : Held) (room : Bool → ℕ) (offset : ℕ) (by
       config
 
   pub write_failed : (e : Error) → allowed (Some (refusal_of e)) → (Some (refusal_of e) ≢ Some Memory → stream_of w' ≡ after_write (config_of w) sync offset bytes (stream_of w))
-      → IsRecorded (Some (refusal_of e)) → IsLive (Some (refusal_of e)) → IsSize (Some (refusal_of e)) → Asks w h (Write offset bytes sync) (reply.Failed e) w' h'
+      → IsRecorded (Some (refusal_of e)) → IsLive (Some (refusal_of e)) → IsSize (Some (refusal_of e)) → PerformsAsk w h (Write offset bytes sync) (reply.Failed e) w' h'
   write_failed e a stream adds live size = asks_by w w' h h' (Write offset bytes sync) (reply.Failed e)
       (λ v u. failed_answers e (write_denial (as_of w v) h offset bytes sync) told.Done (stream_of w') (after_write (config_of w) sync offset bytes (stream_of w)) (subst (λ (x : Option Refusal). OrMemory x (Some (refusal_of e))) (seen v u) (denied (Some (refusal_of e)) a)) stream)
       (λ v u below. added w w' v.files h.place (λ n. recorded_write (config_of w) n (stream_of w) sync offset bytes (Some (refusal_of e))) names adds below u.files)
@@ -117,14 +117,14 @@ module _ (w w' : Wrapper) (h h' : Held) (len : ℕ) (names : directory (store_of
   by_any_number : (answer : Option Refusal) → IsResizeRecorded answer → Adds (λ a. a) (directory (store_of w)) (durable (store_of w)) (durable (store_of w')) w w' h.place ((resize_changes fate len answer).entries (next_write_of w))
   by_any_number answer adds = subst (λ (es : List Entry). Adds (λ a. a) (directory (store_of w)) (durable (store_of w)) (durable (store_of w')) w w' h.place es) (unnumbered fate len answer 0 (next_write_of w)) adds
 
-  pub resize_done : stream_of w' ≡ (resize_fate (config_of w).resize_rate h.size len (stream_of w)).1 → IsResizeAllowed None → IsResizeRecorded None → h'.live ≡ live_of_resize fate h.live len None → h'.size ≡ size_of_resize fate h.size len None → Asks w h (Resize len) reply.Done w' h'
+  pub resize_done : stream_of w' ≡ (resize_fate (config_of w).resize_rate h.size len (stream_of w)).1 → IsResizeAllowed None → IsResizeRecorded None → h'.live ≡ live_of_resize fate h.live len None → h'.size ≡ size_of_resize fate h.size len None → PerformsAsk w h (Resize len) reply.Done w' h'
   resize_done stream a adds live size = asks_by w w' h h' (Resize len) reply.Done
       (λ v u. done_answers reply.Done (reaching_denial fate h.place len) told.Done (stream_of w') ((resize_fate (config_of w).resize_rate h.size len (stream_of w)).1) tt (not_memory (reaching_denial fate h.place len) (resize_denied fate h.place len None a)) stream)
       (λ v u below. added w w' v.files h.place (λ n. (resize_changes fate len None).entries n) names (by_any_number None adds) below u.files)
       (λ v. same_held h h' (live_of_resize fate h.live len None) (size_of_resize fate h.size len None) place live size registration)
       config
 
-  pub resize_failed : (e : Error) → stream_of w' ≡ (resize_fate (config_of w).resize_rate h.size len (stream_of w)).1 → IsResizeAllowed (Some (refusal_of e)) → IsResizeRecorded (Some (refusal_of e)) → h'.live ≡ live_of_resize fate h.live len (Some (refusal_of e)) → h'.size ≡ size_of_resize fate h.size len (Some (refusal_of e)) → Asks w h (Resize len) (reply.Failed e) w' h'
+  pub resize_failed : (e : Error) → stream_of w' ≡ (resize_fate (config_of w).resize_rate h.size len (stream_of w)).1 → IsResizeAllowed (Some (refusal_of e)) → IsResizeRecorded (Some (refusal_of e)) → h'.live ≡ live_of_resize fate h.live len (Some (refusal_of e)) → h'.size ≡ size_of_resize fate h.size len (Some (refusal_of e)) → PerformsAsk w h (Resize len) (reply.Failed e) w' h'
   resize_failed e stream a adds live size = asks_by w w' h h' (Resize len) (reply.Failed e)
       (λ v u. failed_answers e (reaching_denial fate h.place len) told.Done (stream_of w') ((resize_fate (config_of w).resize_rate h.size len (stream_of w)).1) (resize_denied fate h.place len (Some (refusal_of e)) a) (λ no. stream))
       (λ v u below. added w w' v.files h.place (λ n. (resize_changes fate len (Some (refusal_of e))).entries n) names (by_any_number (Some (refusal_of e)) adds) below u.files)
@@ -133,7 +133,7 @@ module _ (w w' : Wrapper) (h h' : Held) (len : ℕ) (names : directory (store_of
 
 -- A write for whose copy there is no memory: the wrapper wasn't asked.
 
-pub write_unasked : (w : Wrapper) (h : Held) (offset : ℕ) (bytes : List ℕ) (sync : Bool) (e : Error) → Some (refusal_of e) ≡ Some Memory → Asks w h (Write offset bytes sync) (reply.Failed e) w h
+pub write_unasked : (w : Wrapper) (h : Held) (offset : ℕ) (bytes : List ℕ) (sync : Bool) (e : Error) → Some (refusal_of e) ≡ Some Memory → PerformsAsk w h (Write offset bytes sync) (reply.Failed e) w h
 write_unasked w h offset bytes sync e memory =
     let unchanged : written_by (config_of w) (stream_of w) sync offset bytes (Some (refusal_of e)) ≡ laying [] (λ number. []) =
     ap (written_by (config_of w) (stream_of w) sync offset bytes) memory ∙ memory_changes (write_fate (config_of w) sync offset bytes (stream_of w)).0 (retention (config_of w).write_rate) sync offset bytes in

@@ -11,7 +11,7 @@ use Rattle.blob_calls.specs.Acts.{Ask, Size, StartSync, Through}
 use Rattle.blob_states.specs.After.{asked, files_after, held_after, syncs_after}
 use Rattle.blob_states.specs.Answers.{IsAnswer, through, may_grow, kept_at}
 use Rattle.blob_states.specs.Steps.{asks_memory}
-use Rattle.blob_laboratory.specs.LabStands.{LabStandsFor, Performs, Asks, StartsSync, stream_of}
+use Rattle.blob_laboratory.specs.LabStands.{LabStandsFor, Performs, PerformsAsk, StartsSync, stream_of}
 use Rattle.blob_opens.specs.Opens.{names_of}
 use Rattle.blob_states.specs.States.{State, Held, AreGiven}
 use Rattle.blob_laboratory.specs.Tables.{handles_of, syncs_of}
@@ -39,7 +39,7 @@ module _ (lab lab' : Lab) (number : ℕ) (ask : Ask) (names : names_of lab'.open
 
   module _ (h h' : Held) (reply : Reply) (grows : asks_memory ask (Some h) ≡ true) (plain : (v : State) (r : Option Refusal) → syncs_after v h ask r ≡ v.syncs) where
     -- an open handle, that is put back into its slot
-    pub through_some : kept_at (handles_of lab.handles) number ≡ Some h → Asks lab.wrapper h ask reply lab'.wrapper h' → handles_of lab'.handles ≡ set (handles_of lab.handles) number (Some h') → Performs lab (Through number ask) reply lab'
+    pub through_some : kept_at (handles_of lab.handles) number ≡ Some h → PerformsAsk lab.wrapper h ask reply lab'.wrapper h' → handles_of lab'.handles ≡ set (handles_of lab.handles) number (Some h') → Performs lab (Through number ask) reply lab'
     through_some here asks table = performs lab lab' (Through number ask) reply
         (λ f s.
         let a : IsAnswer true (through (state_of lab f) (Some h) ask) reply (stream_of lab'.wrapper) = asks.answers (state_of lab f) s.wrapper in

@@ -45,7 +45,7 @@ pub record Performs (lab : Lab) (act : Act) (reply : Reply) (lab' : Lab) : Type 
   pub stands : (v : State) → LabStandsFor lab v → LabStandsFor lab' (after v act (refused_by reply) (stream_of lab'.wrapper))
 
 -- the same of what is asked through a handle, of the wrapper and the handle alone; syncs that are started stand apart
-pub record Asks (w : Wrapper) (h : Held) (ask : Ask) (reply : Reply) (w' : Wrapper) (h' : Held) : Type 0 where
+pub record PerformsAsk (w : Wrapper) (h : Held) (ask : Ask) (reply : Reply) (w' : Wrapper) (h' : Held) : Type 0 where
   pub answers : (v : State) → Wraps w v → IsAnswer true (through v (Some h) ask) reply (stream_of w')
   pub stands : (v : State) → Wraps w v → h.place.number < v.files.directory.next → Wraps w' (record v { files = files_after v h ask (refused_by reply); stream = stream_of w' })
   pub held : (v : State) → Wraps w v → h' ≡ held_after v h ask (refused_by reply)

@@ -3,7 +3,7 @@ ghost use Rattle.std.specs.Prelude.{◌≡◌, ◌≢◌, true, false, Some, IfO
 ghost use Rattle.std.specs.Bool.{OnTrue, OnFalse};
 ghost use Rattle.blob_header.specs.Refusals.{IsMemory, Memory, refused};
 ghost use Rattle.blob_calls.specs.Acts.{Read, Write, Resize, Size, Sync, StartSync, Through, Finish};
-ghost use Rattle.blob_laboratory.specs.LabStands.{Asks, StartsSync, Performs};
+ghost use Rattle.blob_laboratory.specs.LabStands.{PerformsAsk, StartsSync, Performs};
 ghost use Rattle.blob_laboratory.specs.Tables.{as_held, syncs_of};
 
 use crate::lab::handles::Handle;
@@ -35,7 +35,7 @@ fn is_memory(outcome: &Result<(), Error>) -> bool
 
 impl Handle {
     fn read(&self, wrapper: &mut Wrapper, offset: u64, len: usize) -> Reply
-        ensures { Asks wrapper.old (as_held self.now) (Read offset len) result wrapper.new (as_held self.now) }
+        ensures { PerformsAsk wrapper.old (as_held self.now) (Read offset len) result wrapper.new (as_held self.now) }
     {
         match self
             .blob
@@ -48,7 +48,7 @@ impl Handle {
 
     /// A plain write lends its bytes: the wrapper copies them where it records the write.
     fn write_plain(&mut self, wrapper: &mut Wrapper, offset: u64, bytes: &[u8]) -> Reply
-        ensures { Asks wrapper.old (as_held self.old) (Write offset bytes.now false) result wrapper.new (as_held self.new) }
+        ensures { PerformsAsk wrapper.old (as_held self.old) (Write offset bytes.now false) result wrapper.new (as_held self.new) }
     {
         runs_are_choices();
         match self.blob.write_from(wrapper, offset, bytes) {
@@ -64,7 +64,7 @@ impl Handle {
         offset: u64,
         bytes: &[u8],
     ) -> Reply
-        ensures { Asks wrapper.old (as_held self.old) (Write offset bytes.now true) result wrapper.new (as_held self.new) }
+        ensures { PerformsAsk wrapper.old (as_held self.old) (Write offset bytes.now true) result wrapper.new (as_held self.new) }
     {
         let copy = match copied(alloc, bytes) {
             Ok(copy) => copy,
@@ -88,7 +88,7 @@ impl Handle {
         bytes: &[u8],
         sync: bool,
     ) -> Reply
-        ensures { Asks wrapper.old (as_held self.old) (Write offset bytes.now sync) result wrapper.new (as_held self.new) }
+        ensures { PerformsAsk wrapper.old (as_held self.old) (Write offset bytes.now sync) result wrapper.new (as_held self.new) }
     {
         if sync {
             self.write_synced(alloc, wrapper, offset, bytes)
@@ -98,7 +98,7 @@ impl Handle {
     }
 
     fn resize(&mut self, wrapper: &mut Wrapper, len: u64) -> Reply
-        ensures { Asks wrapper.old (as_held self.old) (Resize len) result wrapper.new (as_held self.new) }
+        ensures { PerformsAsk wrapper.old (as_held self.old) (Resize len) result wrapper.new (as_held self.new) }
     {
         match self.blob.resize(wrapper, len) {
             Ok(()) => Reply::Done,
@@ -107,7 +107,7 @@ impl Handle {
     }
 
     fn sync(&mut self, wrapper: &mut Wrapper) -> Reply
-        ensures { Asks wrapper.old (as_held self.old) Sync result wrapper.new (as_held self.new) }
+        ensures { PerformsAsk wrapper.old (as_held self.old) Sync result wrapper.new (as_held self.new) }
     {
         match self.blob.sync(wrapper) {
             Ok(()) => Reply::Done,

@@ -3,7 +3,7 @@ use Rattle.blob_header.specs.Refusals.{Memory}
 use Rattle.blob_memory.specs.Store.{room_for}
 use Rattle.blob_faulty.specs.Wrapper.{inside, inner_of as store_of}
 use Rattle.blob_calls.specs.Acts.{Write}
-use Rattle.blob_laboratory.specs.LabStands.{Asks}
+use Rattle.blob_laboratory.specs.LabStands.{PerformsAsk}
 use Rattle.blob_laboratory.specs.Tables.{as_held}
 use Rattle.blob_calls.specs.declared.reply.Reply.TheVariants.{Done, Failed}
 use Rattle.blob_laboratory.proofs.AskedWrites.{write_done, write_failed, write_unasked}
@@ -23,7 +23,7 @@ returns-in-Ok-write_at c =
     let h' = as_held (record c.args.self.now { blob = c.write_at.new.self }) in
     let e = c.in-Ok-write_at.ensures in
     let copied : c.in-Ok.copy ≡ c.args.bytes.now = c.in-Ok.ensures.ok in
-    subst (λ (b : List ℕ). Asks w h (Write c.args.offset b true) Done w' h') copied
+    subst (λ (b : List ℕ). PerformsAsk w h (Write c.args.offset b true) Done w' h') copied
     (write_done w w' h h' (room_for (inside c.args.self.now.blob) (store_of w)) c.args.offset c.in-Ok.copy true (λ chosen. c.runs_are_choices.ensures.apart c.args.offset c.in-Ok.copy chosen) e.directory e.leaves.config e.place refl
     e.allowed (e.leaves.drawn not_refused) (e.leaves.recorded refl) (e.leaves.live_after refl) (e.leaves.size refl))
 
@@ -35,6 +35,6 @@ returns-in-Err-write_at c =
     let h' = as_held (record c.args.self.now { blob = c.write_at.new.self }) in
     let e = c.in-Err-write_at.ensures in
     let copied : c.in-Ok.copy ≡ c.args.bytes.now = c.in-Ok.ensures.ok in
-    subst (λ (b : List ℕ). Asks w h (Write c.args.offset b true) (Failed c.in-Err-write_at.e) w' h') copied
+    subst (λ (b : List ℕ). PerformsAsk w h (Write c.args.offset b true) (Failed c.in-Err-write_at.e) w' h') copied
     (write_failed w w' h h' (room_for (inside c.args.self.now.blob) (store_of w)) c.args.offset c.in-Ok.copy true (λ chosen. c.runs_are_choices.ensures.apart c.args.offset c.in-Ok.copy chosen) e.directory e.leaves.config e.place refl
     c.in-Err-write_at.e e.allowed e.leaves.drawn (e.leaves.recorded refl) (e.leaves.live_after refl) (e.leaves.size refl))
