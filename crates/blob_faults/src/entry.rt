@@ -25,7 +25,7 @@ pub enum Entry {
 }
 
 impl Entry {
-    ghost use Rattle.std.specs.Prelude.{◌≡◌, ◌∷◌, [], OnOk};
+    ghost use Rattle.std.specs.Prelude.{◌≡◌, ◌&&◌, ◌∷◌, [], OnOk, not};
     ghost use Rattle.blob_model.specs.Holes.{Holes};
     ghost use Rattle.blob_model.specs.Pending.{is_marker, is_barrier, is_mark, ends};
     ghost use Rattle.blob_faults.specs.Replays.{widest};
@@ -37,6 +37,7 @@ impl Entry {
         requires { CanCut start len (λ hs. HasRoomFor hs self.old) }
         ensures view { view self.new ≡ pared_by start len (view self.old) }
         ensures room { KeepsRest start len (λ hs. HasRoomFor hs self.old) (λ hs. HasRoomFor hs self.new) }
+        ensures covered { result ≡ (is_left (view self.old) && not (is_left (view self.new))) }
     {
         let Entry::Write(write) = self else {
             return false;

@@ -68,7 +68,7 @@ impl<S: Durable, R> Storage<S, R> {
     }
 
     /// What a crash could lose or keep: a list for each incarnation that has one, in no order. An ended incarnation's list may be
-    /// among them, and so may an empty one.
+    /// among them, and so may an empty one, and among its entries a write of which nothing is left (`Entry::is_left`).
     pub fn pending(&self) -> &[Incarnation<S::Origin>]
         ensures { list_of S.place result.now ≡ pending_of S.place self.now }
     {
