@@ -1,15 +1,16 @@
 -- Lists without the entries of which nothing is left.
-use Rattle.std.proofs.Common.{◌≡◌, ⊎_elim, ℕ, eqb, max, Bool, cond, not, ◌||◌, List, [], ◌∷◌, map, length, get_or, drop, refl, sym, ◌∙◌, ap, ap₂, ◌+◌, ◌<◌, arith}
+use Rattle.std.proofs.Common.{◌≡◌, ⊎_elim, ℕ, zero, suc, eqb, max, Bool, true, false, cond, not, ◌&&◌, ◌||◌, List, [], ◌∷◌, ◌++◌, map, length, get_or, drop, set, refl, sym, ◌∙◌, ap, ap₂, subst, ◌+◌, ◌<◌, ◌≤◌, arith}
 use Rattle.std.specs.List.{filter}
 use Rattle.std.proofs.lemmas.Bool.{cases_Bool, cond_both, cond-true, cond-false}
-use Rattle.std.proofs.lemmas.List.{at_drop_more}
+use Rattle.std.proofs.lemmas.List.{at_drop_more, length-append}
+use Rattle.std.proofs.lemmas.List.Elements.{filter-append}
 use Rattle.blob_model.specs.Bytes.{lies}
 use Rattle.blob_model.specs.Log.{has_bare}
-use Rattle.blob_model.specs.Pending.{Pending, Waiting, Cut, Again, Marker, is_marker, has_marker, has_barrier, has_mark, behind, finished, cut_by, pared_one, ends}
+use Rattle.blob_model.specs.Pending.{Pending, Waiting, Cut, Again, Marker, is_marker, has_marker, has_barrier, has_mark, is_mark, behind, finished, cut_by, pared_one, ends}
 use Rattle.blob_model.proofs.Needs.{fewer_at}
 use Rattle.blob_faults.specs.Marks.{marks_of}
 use Rattle.blob_faults.specs.Replays.{unmarked, widest}
-use Rattle.blob_faults.specs.Views.{view, pared_by, is_left, left_in}
+use Rattle.blob_faults.specs.Views.{view, pared_by, is_left, left_in, CountsCovered}
 use Rattle.blob_faults.specs.declared.entry.Entry.{Entry}
 use Rattle.blob_faults.proofs.Bounded.{barrier_cut}
 use Rattle.blob_faults.proofs.Marking.{marks-cut, marks-left}
@@ -114,3 +115,51 @@ compacted_barrier old cut new o n is same =
 pub compacted_marks : (old cut new : List Pending) (o n : ℕ) → cut ≡ map (pared_by o n) old → filter is_left new ≡ filter is_left cut → marks_of new ≡ marks_of old
 compacted_marks old cut new o n is same =
     sym (marks-left new) ∙ ap marks_of (compacted_is old cut new o n is same) ∙ marks-cut o n (filter is_left old) ∙ marks-left old
+
+-- how many are left, an entry before others
+abbrev bit : Bool → ℕ
+bit b = cond b 1 0
+
+left_size : (e : Pending) (r : List Pending) → length (cond (is_left e) (e ∷ r) r) ≡ bit (is_left e) + length r
+left_size e r = cond_both (is_left e) (e ∷ r) r (λ l. length l ≡ bit (is_left e) + length r)
+    (λ y. let one = cond-true {A = ℕ} (is_left e) 1 0 y in omega (arith, one)) (λ n. let none = cond-false {A = ℕ} (is_left e) 1 0 n in omega (arith, none))
+
+bit_le : (b : Bool) → bit b ≤ 1
+bit_le true = omega arith
+bit_le false = omega arith
+
+-- where an entry is written, and it is told whether nothing is left of it now
+bits : (a b r : Bool) (n : ℕ) → r ≡ (a && not b) → bit a + n ≤ bit b + n + bit r
+bits a b r n is = subst (λ (x : Bool). bit a + n ≤ bit b + n + bit x) (sym is) (go a b)
+  where
+    go : (a b : Bool) → bit a + n ≤ bit b + n + bit (a && not b)
+    go true true = omega arith
+    go true false = omega arith
+    go false true = omega arith
+    go false false = omega arith
+
+pub set_left : (q : List Entry) (i : ℕ) (d e : Entry) (r : Bool) → i < length q → r ≡ (is_left (view (get_or q i d)) && not (is_left (view e))) → length (left_in q) ≤ length (left_in (set q i e)) + cond r 1 0
+set_left [] i d e r h is = absurd (omega arith)
+set_left (x ∷ q) zero d e r h is = omega (arith, left_size (view x) (left_in q), left_size (view e) (left_in q), bits (is_left (view x)) (is_left (view e)) r (length (left_in q)) is)
+set_left (x ∷ q) (suc i) d e r h is = omega (arith, left_size (view x) (left_in q), left_size (view x) (left_in (set q i e)), set_left q i d e r (omega arith) is)
+
+-- where the first goes
+counts_rest : (n : ℕ) (e : Pending) (q : List Pending) → CountsCovered n (e ∷ q) → CountsCovered n q
+counts_rest n e q h = omega (arith, h, left_size e (filter is_left q), bit_le (is_left e))
+
+counts_behind : (n k : ℕ) (q : List Pending) → CountsCovered n q → CountsCovered n (behind k q)
+counts_behind n k [] h = h
+counts_behind n k (e ∷ q) h = cond_both (is_mark k e) q (behind k q) (λ r. CountsCovered n r) (λ _. counts_rest n e q h) (λ _. counts_behind n k q (counts_rest n e q h))
+
+pub counts_finished : (n k : ℕ) (q : List Pending) → CountsCovered n q → CountsCovered n (finished k q)
+counts_finished n k q h = cond_both (has_mark k q) (behind k q) q (λ r. CountsCovered n r) (λ _. counts_behind n k q h) (λ _. h)
+
+-- one more
+pub counts_push : (n m : ℕ) (q : List Pending) (e : Pending) → CountsCovered n q → (is_left e ≡ false → suc n ≤ m) → n ≤ m → CountsCovered m (q ++ e ∷ [])
+counts_push n m q e h covered more =
+    let left : length (filter is_left (q ++ e ∷ [])) ≡ length (filter is_left q) + length (cond (is_left e) (e ∷ []) []) =
+    ap length (filter-append is_left q (e ∷ [])) ∙ length-append (filter is_left q) (cond (is_left e) (e ∷ []) []) in
+    ⊎_elim
+    (λ y. omega (arith, h, more, left, ap length (cond-true (is_left e) (e ∷ []) [] y), length-append q (e ∷ [])))
+    (λ n. omega (arith, h, covered n, left, length-append q (e ∷ [])))
+    (cases_Bool (is_left e))

@@ -1,5 +1,5 @@
 -- What the code's entries stand for.
-use Rattle.std.specs.Prelude.{ℕ, Bool, true, List, filter, map}
+use Rattle.std.specs.Prelude.{ℕ, ◌+◌, ◌≤◌, Bool, true, List, filter, length, map}
 use Rattle.blob_model.specs.Log.{Write, has_bare}
 use Rattle.blob_model.specs.Pending as model
 use Rattle.blob_model.specs.Pending.{Pending, pared_one}
@@ -38,3 +38,7 @@ is_left (model.Marker k) = true
 -- the list without those of which nothing is left
 abbrev pub left_in : List Entry → List Pending
 left_in q = filter is_left (views q)
+
+-- of at most n entries nothing is left
+abbrev pub CountsCovered : ℕ → List Pending → Type 0
+CountsCovered n q = length q ≤ length (filter is_left q) + n

@@ -1,5 +1,5 @@
 //! What is pending of one incarnation, in issue order.
-ghost use Rattle.std.specs.Prelude.{◌≡◌, ◌<◌, ◌≤◌, ◌+◌, ◌^◌, ℕ, List, ◌++◌, ◌∷◌, [], All, OnOk, map, filter, drop, length, vec_len, vec_capacity, true};
+ghost use Rattle.std.specs.Prelude.{◌≡◌, ◌<◌, ◌≤◌, ◌+◌, ◌*◌, ◌^◌, ℕ, List, ◌++◌, ◌∷◌, [], All, OnOk, map, filter, drop, length, vec_len, vec_capacity, true};
 ghost use Rattle.blob_model.specs.Holes.{Holes};
 ghost use Rattle.blob_model.specs.Pending.{has_barrier, finished, ends};
 ghost use Rattle.blob_faults.specs.Blocks.{AreBounded};
@@ -7,7 +7,7 @@ ghost use Rattle.blob_faults.specs.Lists.{LaysRange};
 ghost use Rattle.blob_faults.specs.Marks.{marks_of};
 ghost use Rattle.blob_faults.specs.Replays.{unmarked, widest};
 ghost use Rattle.blob_faults.specs.Rooms.{AreWithin, HasRoomFor, HasRoomsFor, CanCut, KeepsRest};
-ghost use Rattle.blob_faults.specs.Views.{view, views, pared_by, is_left, left_in};
+ghost use Rattle.blob_faults.specs.Views.{view, views, pared_by, is_left, left_in, CountsCovered};
 
 use crate::bounds::{Bounds, next_near};
 use crate::entry::{DurableRange, Entry};
@@ -58,6 +58,7 @@ fn cover_each(entries: &mut [Entry], bounds: &[Bounds], start: u64, len: u64) ->
     requires room { CanCut start len (λ hs. All (HasRoomFor hs) entries.old) }
     ensures views { views entries.new ≡ map (pared_by start len) (views entries.old) }
     ensures room { KeepsRest start len (λ hs. All (HasRoomFor hs) entries.old) (λ hs. All (HasRoomFor hs) entries.new) }
+    ensures left { length (left_in entries.old) ≤ length (left_in entries.new) + result }
 {
     let count = entries.len();
     let mut covered = 0;
@@ -77,6 +78,7 @@ fn cover_all(entries: &mut Vec<Entry>, bounds: &[Bounds], start: u64, len: u64) 
     requires room { CanCut start len (λ hs. All (HasRoomFor hs) entries.old.items) }
     ensures views { views entries.new.items ≡ map (pared_by start len) (views entries.old.items) }
     ensures room { KeepsRest start len (λ hs. All (HasRoomFor hs) entries.old.items) (λ hs. All (HasRoomFor hs) entries.new.items) }
+    ensures left { length (left_in entries.old.items) ≤ length (left_in entries.new.items) + result }
     ensures capacity { vec_capacity entries.new ≡ vec_capacity entries.old }
     ensures len { vec_len entries.new ≡ vec_len entries.old }
 {
@@ -93,14 +95,17 @@ fn drop_covered(entries: &mut Vec<Entry>)
 }
 
 /// Those go of which nothing is left, with the bounds of all, once they are more than half of the list: so what one of them
-/// costs doesn't grow with the list. `covered` counts them, and tells no more than when they go.
+/// costs doesn't grow with the list. There are at most `covered` of them.
 fn compact(entries: &mut Vec<Entry>, bounds: &mut Vec<Bounds>, covered: &mut usize)
-    requires { AreBounded bounds.old.items (views entries.old.items) }
+    requires bounded { AreBounded bounds.old.items (views entries.old.items) }
+    requires counted { CountsCovered covered.old (views entries.old.items) }
     ensures left { left_in entries.new.items ≡ left_in entries.old.items }
     ensures bounded { AreBounded bounds.new.items (views entries.new.items) }
     ensures holes { (later : Holes) → All (HasRoomFor later) entries.old.items → All (HasRoomFor later) entries.new.items }
     ensures capacity { vec_capacity entries.old ≤ vec_capacity entries.new }
     ensures len { vec_len entries.new ≤ vec_len entries.old }
+    ensures counted { CountsCovered covered.new (views entries.new.items) }
+    ensures half { vec_len entries.new ≤ 2 * length (left_in entries.new.items) }
 {
     if *covered <= entries.len() / 2 {
         return;
@@ -146,12 +151,15 @@ pub(crate) fn lay(
 )
     requires queued { queues ≡ has_barrier (views entries.old.items) }
     requires bounded { AreBounded bounds.old.items (views entries.old.items) }
+    requires counted { CountsCovered covered.old (views entries.old.items) }
     requires room { CanCut offset len (λ hs. HasRoomsFor hs entries.old) }
     requires copied { length copy ≤ len }
     ensures left { LaysRange offset len copy (left_in entries.old.items) (left_in entries.new.items) }
     ensures marks { marks_of (views entries.new.items) ≡ marks_of (views entries.old.items) }
     ensures queued { has_barrier (views entries.new.items) ≡ queues }
     ensures bounded { AreBounded bounds.new.items (views entries.new.items) }
+    ensures counted { CountsCovered covered.new (views entries.new.items) }
+    ensures half { vec_len entries.new ≤ 2 * length (left_in entries.new.items) }
     ensures room { KeepsRest offset len (λ hs. HasRoomsFor hs entries.old) (λ hs. HasRoomsFor hs entries.new) }
 {
     let more = cover_all(entries, bounds, offset, len);

@@ -3,7 +3,7 @@ ghost use Rattle.std.specs.Prelude.{◌≡◌, ◌≤◌, ◌==◌, drop, positi
 ghost use Rattle.blob_model.specs.Pending.{has_barrier};
 ghost use Rattle.blob_faults.specs.Blocks.{AreBounded};
 ghost use Rattle.blob_faults.specs.Marks.{marks_of};
-ghost use Rattle.blob_faults.specs.Views.{views, left_in};
+ghost use Rattle.blob_faults.specs.Views.{views, left_in, CountsCovered};
 
 use crate::bounds::{Bounds, add_bounds};
 use crate::entries;
@@ -20,7 +20,7 @@ pub struct Incarnation<O> {
     pub was_current: bool,
     /// What is pending, among writes of which nothing is left and that go later, many at once.
     pub entries: Vec<Entry>,
-    /// How many such writes are among the entries, or more.
+    /// No fewer than there are such writes.
     pub covered: usize,
     /// The numbers of the markers among the entries, in their order. A sync that isn't among them is finished with no look
     /// at the entries.
@@ -32,6 +32,7 @@ pub struct Incarnation<O> {
     ghost marked: { marks.items ≡ marks_of (views entries.items) },
     ghost queued: { queues ≡ has_barrier (views entries.items) },
     ghost bounded: { AreBounded bounds.items (views entries.items) },
+    ghost counted: { CountsCovered covered (views entries.items) },
 }
 
 /// Where a marker's number stands among others.
@@ -50,7 +51,7 @@ fn drop_front(marks: &mut Vec<u64>, count: usize)
 }
 
 impl<O> Incarnation<O> {
-    ghost use Rattle.std.specs.Prelude.{◌<◌, ◌+◌, ◌^◌, ◌++◌, ◌∷◌, ℕ, List, [], OnOk, false, true, length};
+    ghost use Rattle.std.specs.Prelude.{◌<◌, ◌+◌, ◌*◌, ◌^◌, ◌++◌, ◌∷◌, ℕ, List, [], OnOk, false, true, length};
     ghost use Rattle.blob_model.specs.Holes.{Holes};
     ghost use Rattle.blob_model.specs.Pending.{Marker, finished, is_marker};
     ghost use Rattle.blob_faults.specs.Lists.{Becomes, HasRoom, LaysInto};
@@ -100,12 +101,15 @@ impl<O> Incarnation<O> {
         }
     }
 
-    /// One more entry that is no marker, where there is room for it.
+    /// One more entry that is no marker, where there is room for it. One of which nothing is left isn't taken.
     pub fn push(&mut self, entry: Entry)
         requires room { HasRoom Room.Entry self.old }
         requires unmarked { is_marker (view entry) ≡ false }
         ensures { Becomes self.old self.new (left_in self.old.entries.items ++ left_in (entry ∷ [])) }
     {
+        if !entry.is_left() {
+            return;
+        }
         self.queues = self.queues || entry.is_barrier();
         entries::push(&mut self.entries, entry);
     }
@@ -126,6 +130,7 @@ impl<O> Incarnation<O> {
         ensures laid { LaysInto offset len copy self.old self.new }
         ensures origin { self.new.origin ≡ self.old.origin }
         ensures room { KeepsRest offset len (λ hs. HasRoomsFor hs self.old.entries) (λ hs. HasRoomsFor hs self.new.entries) }
+        ensures half { vec_len self.new.entries ≤ 2 * length (left_in self.new.entries.items) }
     {
         entries::lay(
             &mut self.entries,

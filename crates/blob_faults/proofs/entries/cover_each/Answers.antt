@@ -1,4 +1,4 @@
-use Rattle.std.proofs.Common.{rules, ◌≡◌, ◌<◌, ◌+◌, ◌∙◌, ◌∷◌, ℕ, refl, sym, ap, subst, length, get_or, arith}
+use Rattle.std.proofs.Common.{rules, ◌≡◌, ◌<◌, ◌+◌, ◌∙◌, ◌∷◌, ℕ, cond, refl, sym, ap, subst, length, get_or, arith}
 use Rattle.std.proofs.lemmas.List.{get_or_default}
 use Rattle.blob_faults.specs.Rooms.{HasRoomFor}
 use Rattle.blob_faults.specs.Views.{view, pared_by}
@@ -6,6 +6,7 @@ use Rattle.blob_model.specs.Holes.{Holes}
 use Rattle.blob_faults.specs.declared.entry.Entry.{Entry}
 use Rattle.blob_faults.proofs.Bounded.{passed_pared, rest_room, views_each, jump}
 use Rattle.blob_faults.proofs.CutSteps.{later_set}
+use Rattle.blob_faults.proofs.Left.{set_left}
 use Rattle.blob_faults.proofs.entries.cover_each.Goals as goal
 
 pub loop-i-init : goal.loop-i-init
@@ -16,6 +17,7 @@ loop-i-init c =
     record {
       inside = c.next_near-i.ensures.len;
       few = omega arith;
+      left = omega arith;
       done = λ k d l. passed_pared bs q k c.args.start c.args.len d c.requires.bounded (passed k (omega arith) l);
       room = λ k d l later r. rest_room (get_or q k d) (c.args.start, c.args.start + c.args.len) later r;
       later = λ k d l. refl;
@@ -35,9 +37,12 @@ loop-i-preserved c =
     let kept = c.loop-i.invariant in
     let here : (d : Entry) → get_or q0 i d ≡ get_or q i c.index-entries-i.result = λ d. sym (kept.later i d (omega arith)) ∙ get_or_default q i d c.index-entries-i.result h in
     let told : view e ≡ pared_by c.args.start c.args.len (view (get_or q i c.index-entries-i.result)) = search rules in
+    let told_left = set_left q i c.index-entries-i.result e c.cover.result h c.cover.ensures.covered in
+    let told_covered : c.if-cover.covered ≡ c.loop-i.covered + cond c.cover.result 1 0 = search rules in
     record {
       inside = next.len;
       few = omega (arith, kept.few, next.from);
+      left = omega (arith, kept.left, told_left, told_covered);
       done = jump (λ k d x. view x ≡ pared_by c.args.start c.args.len (view (get_or q0 k d))) q q0 i j e h kept.done (λ d. told ∙ ap (λ (x : Entry). pared_by c.args.start c.args.len (view x)) (sym (here d))) kept.later
           (λ k d a l. passed_pared bs q0 k c.args.start c.args.len d c.requires.bounded (next.passed k a l));
       room = jump (λ k d x. (later : Holes) → HasRoomFor (range ∷ later) (get_or q0 k d) → HasRoomFor later x) q q0 i j e h kept.room
@@ -53,3 +58,6 @@ returns-clause-views c =
 pub returns-clause-room : goal.returns-clause-room
 returns-clause-room c later all k d l =
     c.loop-i.invariant.room k d (omega (arith, l, c.loop-i.auto.entries, c.loop-i-test.false)) later (all k d (omega (arith, l, c.loop-i.auto.entries)))
+
+pub returns-clause-left : goal.returns-clause-left
+returns-clause-left c = c.loop-i.invariant.left

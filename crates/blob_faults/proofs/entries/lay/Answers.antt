@@ -1,13 +1,14 @@
-use Rattle.std.proofs.Common.{rules, ◌≡◌, ◌++◌, ◌∷◌, [], List, true, false, refl, sym, subst, ◌∙◌, ap, arith}
+use Rattle.std.proofs.lemmas.List.{length-append, length-map}
+use Rattle.std.proofs.Common.{rules, ◌≡◌, ◌++◌, ◌∷◌, [], List, length, vec_len, true, false, true≢false, refl, sym, subst, ◌∙◌, ap, arith}
 use Rattle.std.specs.List.{filter}
 use Rattle.std.proofs.lemmas.List.Elements.{filter-append}
 use Rattle.blob_model.specs.Pending.{Pending, Again, has_barrier, cut_by}
 use Rattle.blob_faults.specs.Blocks.{AreBounded}
 use Rattle.blob_faults.specs.Marks.{marks_of}
-use Rattle.blob_faults.specs.Views.{views, is_left, left_in}
+use Rattle.blob_faults.specs.Views.{view, views, is_left, left_in, CountsCovered}
 use Rattle.blob_faults.specs.declared.bounds.Bounds.{Bounds}
 use Rattle.blob_faults.proofs.Bounded.{barrier_again, bounded_pared, bounded_push}
-use Rattle.blob_faults.proofs.Left.{barrier_left, cut_left, compacted_barrier, compacted_marks}
+use Rattle.blob_faults.proofs.Left.{barrier_left, counts_push, cut_left, compacted_barrier, compacted_marks}
 use Rattle.blob_faults.proofs.Marking.{marks-push}
 use Rattle.blob_faults.proofs.Queued.{queued_is, cut_is}
 use Rattle.blob_faults.proofs.entries.lay.Goals as goal
@@ -17,8 +18,8 @@ cover_all-more-requires-clause-bounded c =
     let value : c.deref.result.now ≡ c.args.bounds.now.items = search rules in
     subst (λ (bs : List Bounds). AreBounded bs (views c.args.entries.now.items)) (sym value) c.requires.bounded
 
-pub compact-requires : goal.compact-requires
-compact-requires c =
+pub compact-requires-clause-bounded : goal.compact-requires-clause-bounded
+compact-requires-clause-bounded c =
     bounded_pared c.args.bounds.now.items (views c.args.entries.now.items) (views c.cover_all-more.new.entries.items) c.args.offset c.args.len c.requires.bounded c.cover_all-more.ensures.views
 
 pub push-requires : goal.push-requires
@@ -76,3 +77,22 @@ returns-else-queues-clause-room c later h = record {
   entries = omega (arith, h.entries, c.cover_all-more.ensures.len, c.cover_all-more.ensures.capacity, c.compact.ensures.len, c.compact.ensures.capacity);
   holes = c.compact.ensures.holes later (c.cover_all-more.ensures.room later h.holes);
 }
+
+pub compact-requires-clause-counted : goal.compact-requires-clause-counted
+compact-requires-clause-counted c =
+    let old = c.args.entries.now in
+    let cut = c.cover_all-more.new.entries in
+    let old_len : length old.items ≡ vec_len old = search rules in
+    let cut_len : length cut.items ≡ vec_len cut = search rules in
+    omega (arith, c.requires.counted, c.cover_all-more.ensures.left, c.cover_all-more.ensures.len, c.saturating_add.ensures, old_len, cut_len, length-map old.items view, length-map cut.items view)
+
+pub returns-then-queues-clause-counted : goal.returns-then-queues-clause-counted
+returns-then-queues-clause-counted c =
+    subst (λ (q : List Pending). CountsCovered c.compact.new.covered q) (sym c.push.ensures.views)
+    (counts_push c.compact.new.covered c.compact.new.covered (views c.compact.new.entries.items) (Again c.args.offset c.args.copy) c.compact.ensures.counted (λ never. absurd (true≢false never)) (omega arith))
+
+pub returns-then-queues-clause-half : goal.returns-then-queues-clause-half
+returns-then-queues-clause-half c =
+    let left : left_in c.push.new.entries.items ≡ left_in c.compact.new.entries.items ++ Again c.args.offset c.args.copy ∷ [] =
+    ap (λ (r : List Pending). filter is_left r) c.push.ensures.views ∙ filter-append is_left (views c.compact.new.entries.items) (Again c.args.offset c.args.copy ∷ []) in
+    omega (arith, c.compact.ensures.half, c.push.ensures.len, ap length left, length-append (left_in c.compact.new.entries.items) (Again c.args.offset c.args.copy ∷ []))

@@ -2,7 +2,7 @@ use Rattle.std.proofs.Common.{rules, ◌≡◌, ◌∙◌, List, sym, ap, subst}
 use Rattle.blob_model.specs.Pending.{Pending, has_barrier}
 use Rattle.blob_faults.specs.Blocks.{AreBounded}
 use Rattle.blob_faults.specs.Marks.{marks_of}
-use Rattle.blob_faults.specs.Views.{views}
+use Rattle.blob_faults.specs.Views.{views, CountsCovered}
 use Rattle.blob_faults.specs.declared.bounds.Bounds.{Bounds}
 use Rattle.blob_faults.specs.declared.entry.Entry.{Entry}
 use Rattle.blob_faults.proofs.incarnation.Incarnation.reserve.Goals as goal
@@ -14,6 +14,7 @@ invariant_of-self g c =
       marked = c.args.self.now.marked ∙ ap (λ (q : List Entry). marks_of (views q)) (sym same);
       queued = c.args.self.now.queued ∙ ap (λ (q : List Entry). has_barrier (views q)) (sym same);
       bounded = subst (λ (q : List Entry). AreBounded c.args.self.now.bounds.items (views q)) (sym same) c.args.self.now.bounded;
+      counted = subst (λ (q : List Entry). CountsCovered c.args.self.now.covered (views q)) (sym same) c.args.self.now.counted;
     }
 
 pub invariant_of-self-in-Mark : goal.invariant_of-self-in-Mark
@@ -23,6 +24,7 @@ invariant_of-self-in-Mark g c =
       marked = c.in_ok-reserve-in-Mark.ensures.items ∙ c.args.self.now.marked ∙ ap (λ (q : List Entry). marks_of (views q)) (sym same);
       queued = c.args.self.now.queued ∙ ap (λ (q : List Entry). has_barrier (views q)) (sym same);
       bounded = subst (λ (q : List Entry). AreBounded c.args.self.now.bounds.items (views q)) (sym same) c.args.self.now.bounded;
+      counted = subst (λ (q : List Entry). CountsCovered c.args.self.now.covered (views q)) (sym same) c.args.self.now.counted;
     }
 
 pub add_bounds-requires : goal.add_bounds-requires
@@ -35,6 +37,7 @@ invariant_of-self-in-Break-branch-2 g c = record {
   marked = c.args.self.now.marked;
   queued = c.args.self.now.queued;
   bounded = subst (λ (q : List Entry). AreBounded c.add_bounds.new.bounds.items (views q)) c.deref.ensures.value c.add_bounds.ensures;
+  counted = c.args.self.now.counted;
 }
 
 pub reserve_ranges-requires : goal.reserve_ranges-requires
@@ -47,4 +50,5 @@ invariant_of-self-in-Ranges g c = record {
   marked = c.args.self.now.marked ∙ ap marks_of (sym c.reserve_ranges.ensures.views);
   queued = c.args.self.now.queued ∙ ap has_barrier (sym c.reserve_ranges.ensures.views);
   bounded = subst (λ (q : List Pending). AreBounded c.add_bounds.new.bounds.items q) (sym c.reserve_ranges.ensures.views) (subst (λ (q : List Entry). AreBounded c.add_bounds.new.bounds.items (views q)) c.deref.ensures.value c.add_bounds.ensures);
+  counted = subst (λ (q : List Pending). CountsCovered c.args.self.now.covered q) (sym c.reserve_ranges.ensures.views) c.args.self.now.counted;
 }
