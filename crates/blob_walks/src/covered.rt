@@ -1,4 +1,4 @@
-// Writes over which later bytes are durable leave their pending list, which no clause says of its memory.
+// Writes over which later bytes are durable leave their pending list, by the wrapper's own calls.
 use blob_base::{Blob, Error, IoBufs, Probability, Storage, WriteOptions};
 use blob_faulty::{Config, PartialWriteMode, WriteConfig};
 use rand_core::SeedableRng;
