@@ -6,10 +6,10 @@ use Rattle.std.proofs.lemmas.List.{at_drop_more, length-append}
 use Rattle.std.proofs.lemmas.List.Elements.{filter-append}
 use Rattle.blob_model.specs.Bytes.{lies}
 use Rattle.blob_model.specs.Log.{has_bare}
-use Rattle.blob_model.specs.Pending.{Pending, Waiting, Cut, Again, Marker, is_marker, has_marker, has_barrier, has_mark, is_mark, behind, finished, cut_by, pared_one, ends}
+use Rattle.blob_model.specs.Pending.{Pending, Waiting, Cut, Again, Marker, is_marker, has_marker, has_barrier, has_mark, is_mark, behind, finished, cut_by, pared_one}
 use Rattle.blob_model.proofs.Needs.{fewer_at}
 use Rattle.blob_faults.specs.Marks.{marks_of}
-use Rattle.blob_faults.specs.Replays.{unmarked, widest}
+use Rattle.blob_faults.specs.Replays.{unmarked}
 use Rattle.blob_faults.specs.Views.{view, pared_by, is_left, left_in, CountsCovered}
 use Rattle.blob_faults.specs.declared.entry.Entry.{Entry}
 use Rattle.blob_faults.proofs.Bounded.{barrier_cut}
@@ -85,20 +85,14 @@ left_again (e ∷ q) = cond_both (is_left e) (e ∷ filter is_left q) (filter is
 left_more : {X : Type 0} (F : List Pending → X) (q : List Entry) (i : ℕ) (d : Entry) → i < length q → F (left_in (drop i q)) ≡ F (left_in (get_or q i d ∷ drop (i + 1) q))
 left_more F q i d h = at_drop_more (λ (l : List Entry). F (left_in l)) q i d h
 
--- the greatest of an entry and of those behind it
-ends_two : (e : Pending) (r : List Pending) → ends (cond (is_left e) (e ∷ r) r) ≡ max (ends (cond (is_left e) (e ∷ []) [])) (ends r)
-ends_two e r = cond_both (is_left e) (e ∷ []) [] (λ l. ends (cond (is_left e) (e ∷ r) r) ≡ max (ends l) (ends r))
-    (λ y. ap ends (cond-true (is_left e) (e ∷ r) r y) ∙ omega arith) (λ n. ap ends (cond-false (is_left e) (e ∷ r) r n) ∙ omega arith)
+-- a greatest number over entries: that of an entry and of those behind it
+module _ (of : Pending → ℕ) (most : List Pending → ℕ) (of_none : most [] ≡ 0) (of_more : (e : Pending) (r : List Pending) → most (e ∷ r) ≡ max (of e) (most r)) where
+  of_two : (e : Pending) (r : List Pending) → most (cond (is_left e) (e ∷ r) r) ≡ max (most (cond (is_left e) (e ∷ []) [])) (most r)
+  of_two e r = cond_both (is_left e) (e ∷ []) [] (λ l. most (cond (is_left e) (e ∷ r) r) ≡ max (most l) (most r))
+      (λ y. ap most (cond-true (is_left e) (e ∷ r) r y) ∙ omega (arith, of_none, of_more e r, of_more e [])) (λ n. ap most (cond-false (is_left e) (e ∷ r) r n) ∙ omega (arith, of_none))
 
-pub ends_more : (q : List Entry) (i : ℕ) (d : Entry) → i < length q → ends (left_in (drop i q)) ≡ max (ends (left_in (get_or q i d ∷ []))) (ends (left_in (drop (i + 1) q)))
-ends_more q i d h = left_more ends q i d h ∙ ends_two (view (get_or q i d)) (left_in (drop (i + 1) q))
-
-widest_two : (e : Pending) (r : List Pending) → widest (cond (is_left e) (e ∷ r) r) ≡ max (widest (cond (is_left e) (e ∷ []) [])) (widest r)
-widest_two e r = cond_both (is_left e) (e ∷ []) [] (λ l. widest (cond (is_left e) (e ∷ r) r) ≡ max (widest l) (widest r))
-    (λ y. ap widest (cond-true (is_left e) (e ∷ r) r y) ∙ omega arith) (λ n. ap widest (cond-false (is_left e) (e ∷ r) r n) ∙ omega arith)
-
-pub widest_more : (q : List Entry) (i : ℕ) (d : Entry) → i < length q → widest (left_in (drop i q)) ≡ max (widest (left_in (get_or q i d ∷ []))) (widest (left_in (drop (i + 1) q)))
-widest_more q i d h = left_more widest q i d h ∙ widest_two (view (get_or q i d)) (left_in (drop (i + 1) q))
+  pub greatest_more : (q : List Entry) (i : ℕ) (d : Entry) → i < length q → most (left_in (drop i q)) ≡ max (most (left_in (get_or q i d ∷ []))) (most (left_in (drop (i + 1) q)))
+  greatest_more q i d h = left_more most q i d h ∙ of_two (view (get_or q i d)) (left_in (drop (i + 1) q))
 
 -- the greatest so far, one further
 pub greatest : (before one now rest later all : ℕ) → now ≡ max before one → rest ≡ max one later → max before rest ≡ all → max now later ≡ all

@@ -9,7 +9,7 @@ ghost use Rattle.blob_faults.specs.Replays.{unmarked, widest};
 ghost use Rattle.blob_faults.specs.Rooms.{AreWithin, HasRoomFor, HasRoomsFor, CanCut, KeepsRest};
 ghost use Rattle.blob_faults.specs.Views.{view, views, pared_by, is_left, left_in, CountsCovered};
 
-use crate::bounds::{Bounds, next_near};
+use crate::bounds::BlockBounds;
 use crate::entry::{DurableRange, Entry};
 use blob_base::IoBufs;
 use std::alloc::AllocError;
@@ -17,7 +17,7 @@ use std::alloc::AllocError;
 /// Room in the writes for the holes of so many ranges from `start` up to `end`.
 fn reserve_holes(
     entries: &mut [Entry],
-    bounds: &[Bounds],
+    bounds: &BlockBounds,
     start: u64,
     end: u64,
     count: usize,
@@ -27,10 +27,10 @@ fn reserve_holes(
     ensures ok { OnOk result ((ranges : Holes) → AreWithin start end count ranges → All (HasRoomFor ranges) entries.new) }
 {
     let len = entries.len();
-    let mut i = next_near(bounds, 0, len, start, end);
+    let mut i = bounds.next_near(0, len, start, end);
     while i < len {
         entries[i].reserve(start, end, count)?;
-        i = next_near(bounds, i + 1, len, start, end);
+        i = bounds.next_near(i + 1, len, start, end);
     }
     Ok(())
 }
@@ -39,7 +39,7 @@ fn reserve_holes(
 /// passed over where its bounds say so. A refusal leaves the list as it was.
 pub(crate) fn reserve_ranges(
     entries: &mut Vec<Entry>,
-    bounds: &[Bounds],
+    bounds: &BlockBounds,
     start: u64,
     end: u64,
     count: usize,
@@ -53,7 +53,7 @@ pub(crate) fn reserve_ranges(
 }
 
 /// Each write gives up what a durable range covers. Of how many it left nothing.
-fn cover_each(entries: &mut [Entry], bounds: &[Bounds], start: u64, len: u64) -> usize
+fn cover_each(entries: &mut [Entry], bounds: &BlockBounds, start: u64, len: u64) -> usize
     requires bounded { AreBounded bounds.now (views entries.old) }
     requires room { CanCut start len (λ hs. All (HasRoomFor hs) entries.old) }
     ensures views { views entries.new ≡ map (pared_by start len) (views entries.old) }
@@ -62,18 +62,18 @@ fn cover_each(entries: &mut [Entry], bounds: &[Bounds], start: u64, len: u64) ->
 {
     let count = entries.len();
     let mut covered = 0;
-    let mut i = next_near(bounds, 0, count, start, start + len);
+    let mut i = bounds.next_near(0, count, start, start + len);
     while i < count {
         if entries[i].cover(start, len) {
             covered += 1;
         }
-        i = next_near(bounds, i + 1, count, start, start + len);
+        i = bounds.next_near(i + 1, count, start, start + len);
     }
     covered
 }
 
 /// Each write of a vector gives up what a durable range covers.
-fn cover_all(entries: &mut Vec<Entry>, bounds: &[Bounds], start: u64, len: u64) -> usize
+fn cover_all(entries: &mut Vec<Entry>, bounds: &BlockBounds, start: u64, len: u64) -> usize
     requires bounded { AreBounded bounds.now (views entries.old.items) }
     requires room { CanCut start len (λ hs. All (HasRoomFor hs) entries.old.items) }
     ensures views { views entries.new.items ≡ map (pared_by start len) (views entries.old.items) }
@@ -96,11 +96,11 @@ fn drop_covered(entries: &mut Vec<Entry>)
 
 /// Those go of which nothing is left, with the bounds of all, once they are more than half of the list: so what one of them
 /// costs doesn't grow with the list. There are at most `covered` of them.
-fn compact(entries: &mut Vec<Entry>, bounds: &mut Vec<Bounds>, covered: &mut usize)
-    requires bounded { AreBounded bounds.old.items (views entries.old.items) }
+fn compact(entries: &mut Vec<Entry>, bounds: &mut BlockBounds, covered: &mut usize)
+    requires bounded { AreBounded bounds.old (views entries.old.items) }
     requires counted { CountsCovered covered.old (views entries.old.items) }
     ensures left { left_in entries.new.items ≡ left_in entries.old.items }
-    ensures bounded { AreBounded bounds.new.items (views entries.new.items) }
+    ensures bounded { AreBounded bounds.new (views entries.new.items) }
     ensures holes { (later : Holes) → All (HasRoomFor later) entries.old.items → All (HasRoomFor later) entries.new.items }
     ensures capacity { vec_capacity entries.old ≤ vec_capacity entries.new }
     ensures len { vec_len entries.new ≤ vec_len entries.old }
@@ -142,7 +142,7 @@ pub fn push(entries: &mut Vec<Entry>, entry: Entry)
 /// have to be in `copy`.
 pub(crate) fn lay(
     entries: &mut Vec<Entry>,
-    bounds: &mut Vec<Bounds>,
+    bounds: &mut BlockBounds,
     covered: &mut usize,
     queues: bool,
     offset: u64,
@@ -150,14 +150,14 @@ pub(crate) fn lay(
     copy: IoBufs,
 )
     requires queued { queues ≡ has_barrier (views entries.old.items) }
-    requires bounded { AreBounded bounds.old.items (views entries.old.items) }
+    requires bounded { AreBounded bounds.old (views entries.old.items) }
     requires counted { CountsCovered covered.old (views entries.old.items) }
     requires room { CanCut offset len (λ hs. HasRoomsFor hs entries.old) }
     requires copied { length copy ≤ len }
     ensures left { LaysRange offset len copy (left_in entries.old.items) (left_in entries.new.items) }
     ensures marks { marks_of (views entries.new.items) ≡ marks_of (views entries.old.items) }
     ensures queued { has_barrier (views entries.new.items) ≡ queues }
-    ensures bounded { AreBounded bounds.new.items (views entries.new.items) }
+    ensures bounded { AreBounded bounds.new (views entries.new.items) }
     ensures counted { CountsCovered covered.new (views entries.new.items) }
     ensures half { vec_len entries.new ≤ 2 * length (left_in entries.new.items) }
     ensures room { KeepsRest offset len (λ hs. HasRoomsFor hs entries.old) (λ hs. HasRoomsFor hs entries.new) }

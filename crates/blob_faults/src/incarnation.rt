@@ -5,7 +5,7 @@ ghost use Rattle.blob_faults.specs.Blocks.{AreBounded};
 ghost use Rattle.blob_faults.specs.Marks.{marks_of};
 ghost use Rattle.blob_faults.specs.Views.{views, left_in, CountsCovered};
 
-use crate::bounds::{Bounds, add_bounds};
+use crate::bounds::BlockBounds;
 use crate::entries;
 use crate::entry::Entry;
 use crate::room::Room;
@@ -28,10 +28,10 @@ pub struct Incarnation<O> {
     /// Whether a resize or a queued range is among the entries.
     pub queues: bool,
     /// Where the writes of the first blocks of entries lie.
-    pub bounds: Vec<Bounds>,
+    pub bounds: BlockBounds,
     ghost marked: { marks.items ≡ marks_of (views entries.items) },
     ghost queued: { queues ≡ has_barrier (views entries.items) },
-    ghost bounded: { AreBounded bounds.items (views entries.items) },
+    ghost bounded: { AreBounded bounds (views entries.items) },
     ghost counted: { CountsCovered covered (views entries.items) },
 }
 
@@ -70,7 +70,7 @@ impl<O> Incarnation<O> {
             covered: 0,
             marks: Vec::new(alloc),
             queues: false,
-            bounds: Vec::new(alloc),
+            bounds: BlockBounds::new(alloc),
         }
     }
 
@@ -95,7 +95,7 @@ impl<O> Incarnation<O> {
                 self.entries.reserve(1)
             }
             Room::Ranges(start, end, count) => {
-                add_bounds(&mut self.bounds, &self.entries)?;
+                self.bounds.add(&self.entries)?;
                 entries::reserve_ranges(&mut self.entries, &self.bounds, start, end, count)
             }
         }

@@ -1,10 +1,10 @@
 use Rattle.std.proofs.Common.{◌-◌, length, vec_len}
-use Rattle.blob_faults.specs.Blocks.{AreBounded}
+use Rattle.blob_faults.specs.Blocks.{AreBoundedBy}
 use Rattle.blob_faults.specs.Views.{views}
 use Rattle.blob_faults.proofs.bounds.add_bounds.Given as goal
 
 abbrev pub invariant-loop-bounds : goal.invariant-loop-bounds
-invariant-loop-bounds l = AreBounded l.bounds.items (views l.entries)
+invariant-loop-bounds l = AreBoundedBy l.size l.bounds.items (views l.entries)
 
 abbrev pub decreases-loop-bounds : goal.decreases-loop-bounds
 decreases-loop-bounds l = length l.entries - vec_len l.bounds

@@ -15,6 +15,9 @@ returns-clause-left c =
     let q = c.args.entries.now.items in
     ap (λ (r : List Pending). filter is_left r) (ap views c.drop_covered.ensures.items ∙ views_filter is_left q) ∙ left_again (views q)
 
+pub returns-clause-bounded : goal.returns-clause-bounded
+returns-clause-bounded c = c.clear.ensures (views c.drop_covered.new.entries.items)
+
 pub returns-clause-holes : goal.returns-clause-holes
 returns-clause-holes c later all =
     subst (λ (q : List Entry). All (HasRoomFor later) q) (sym c.drop_covered.ensures.items) (All-filter (λ e. is_left (view e)) (HasRoomFor later) c.args.entries.now.items all)

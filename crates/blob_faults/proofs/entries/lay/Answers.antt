@@ -6,21 +6,15 @@ use Rattle.blob_model.specs.Pending.{Pending, Again, has_barrier, cut_by}
 use Rattle.blob_faults.specs.Blocks.{AreBounded}
 use Rattle.blob_faults.specs.Marks.{marks_of}
 use Rattle.blob_faults.specs.Views.{view, views, is_left, left_in, CountsCovered}
-use Rattle.blob_faults.specs.declared.bounds.Bounds.{Bounds}
 use Rattle.blob_faults.proofs.Bounded.{barrier_again, bounded_pared, bounded_push}
 use Rattle.blob_faults.proofs.Left.{barrier_left, counts_push, cut_left, compacted_barrier, compacted_marks}
 use Rattle.blob_faults.proofs.Marking.{marks-push}
 use Rattle.blob_faults.proofs.Queued.{queued_is, cut_is}
 use Rattle.blob_faults.proofs.entries.lay.Goals as goal
 
-pub cover_all-more-requires-clause-bounded : goal.cover_all-more-requires-clause-bounded
-cover_all-more-requires-clause-bounded c =
-    let value : c.deref.result.now ≡ c.args.bounds.now.items = search rules in
-    subst (λ (bs : List Bounds). AreBounded bs (views c.args.entries.now.items)) (sym value) c.requires.bounded
-
 pub compact-requires-clause-bounded : goal.compact-requires-clause-bounded
 compact-requires-clause-bounded c =
-    bounded_pared c.args.bounds.now.items (views c.args.entries.now.items) (views c.cover_all-more.new.entries.items) c.args.offset c.args.len c.requires.bounded c.cover_all-more.ensures.views
+    bounded_pared c.args.bounds.now (views c.args.entries.now.items) (views c.cover_all-more.new.entries.items) c.args.offset c.args.len c.requires.bounded c.cover_all-more.ensures.views
 
 pub push-requires : goal.push-requires
 push-requires c = omega (arith, c.requires.room.room_for.entries, c.cover_all-more.ensures.len, c.cover_all-more.ensures.capacity, c.compact.ensures.len, c.compact.ensures.capacity)
@@ -63,8 +57,8 @@ returns-else-queues-clause-queued c =
 
 pub returns-then-queues-clause-bounded : goal.returns-then-queues-clause-bounded
 returns-then-queues-clause-bounded c =
-    subst (λ (q : List Pending). AreBounded c.compact.new.bounds.items q) (sym c.push.ensures.views)
-    (bounded_push c.compact.new.bounds.items (views c.compact.new.entries.items) (Again c.args.offset c.args.copy) c.compact.ensures.bounded)
+    subst (λ (q : List Pending). AreBounded c.compact.new.bounds q) (sym c.push.ensures.views)
+    (bounded_push c.compact.new.bounds (views c.compact.new.entries.items) (Again c.args.offset c.args.copy) c.compact.ensures.bounded)
 
 pub returns-then-queues-clause-room : goal.returns-then-queues-clause-room
 returns-then-queues-clause-room c later h = record {

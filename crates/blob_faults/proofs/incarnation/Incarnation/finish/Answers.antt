@@ -4,7 +4,6 @@ use Rattle.blob_model.specs.Pending.{Pending, has_barrier}
 use Rattle.blob_faults.specs.declared.entry.Entry.{Entry}
 use Rattle.blob_faults.specs.Marks.{marks_of}
 use Rattle.blob_faults.specs.Views.{views, is_left, CountsCovered}
-use Rattle.blob_faults.proofs.Bounded.{bounded_none}
 use Rattle.blob_faults.proofs.Left.{counts_finished, finished_left}
 use Rattle.blob_faults.proofs.Marking.{finished_marks, finished_none}
 use Rattle.blob_faults.proofs.incarnation.Incarnation.finish.Goals as goal
@@ -15,7 +14,7 @@ invariant_of-self g c = record {
       ∙ finished_marks c.args.marker (views c.args.self.now.entries.items) c.deref.result.now c.in-Some.i (c.deref.ensures.value ∙ c.args.self.now.marked) (sym c.in-Some.is ∙ c.place_of.ensures)
       ∙ ap marks_of (sym c.finish.ensures);
   queued = c.has_barrier-self.ensures ∙ ap (λ (q : List Entry). has_barrier (views q)) c.deref-in-Some.ensures.value;
-  bounded = bounded_none c.clear.new.self.items (views c.finish.new.entries.items) c.clear.ensures.items;
+  bounded = c.clear.ensures (views c.finish.new.entries.items);
   counted = subst (λ (q : List Pending). CountsCovered c.args.self.now.covered q) (sym c.finish.ensures) (counts_finished c.args.self.now.covered c.args.marker (views c.args.self.now.entries.items) c.args.self.now.counted);
 }
 

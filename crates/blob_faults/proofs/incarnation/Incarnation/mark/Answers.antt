@@ -15,7 +15,7 @@ invariant_of-self g c =
     record {
       marked = told ∙ ap (λ (ms : List ℕ). ms ++ c.args.number ∷ []) c.args.self.now.marked ∙ sym (ap marks_of c.push-2.ensures.views ∙ marks-mark q c.args.number);
       queued = c.args.self.now.queued ∙ sym (ap has_barrier c.push-2.ensures.views ∙ barrier_mark q c.args.number);
-      bounded = subst (λ (r : List Pending). AreBounded c.args.self.now.bounds.items r) (sym c.push-2.ensures.views) (bounded_push c.args.self.now.bounds.items q (Marker c.args.number) c.args.self.now.bounded);
+      bounded = subst (λ (r : List Pending). AreBounded c.args.self.now.bounds r) (sym c.push-2.ensures.views) (bounded_push c.args.self.now.bounds q (Marker c.args.number) c.args.self.now.bounded);
       counted = subst (λ (r : List Pending). CountsCovered c.args.self.now.covered r) (sym c.push-2.ensures.views)
           (counts_push c.args.self.now.covered c.args.self.now.covered q (Marker c.args.number) c.args.self.now.counted (λ never. absurd (true≢false never)) (omega arith));
     }

@@ -16,7 +16,7 @@ invariant_of-self g c =
     record {
       marked = c.args.self.now.marked ∙ sym (ap marks_of c.push.ensures.views ∙ marks-push q (view c.args.entry) c.requires.unmarked);
       queued = told ∙ ap (λ (b : Bool). b || is_barrier (view c.args.entry)) c.args.self.now.queued ∙ sym (ap has_barrier c.push.ensures.views ∙ barrier_push q (view c.args.entry));
-      bounded = subst (λ (r : List Pending). AreBounded c.args.self.now.bounds.items r) (sym c.push.ensures.views) (bounded_push c.args.self.now.bounds.items q (view c.args.entry) c.args.self.now.bounded);
+      bounded = subst (λ (r : List Pending). AreBounded c.args.self.now.bounds r) (sym c.push.ensures.views) (bounded_push c.args.self.now.bounds q (view c.args.entry) c.args.self.now.bounded);
       counted = subst (λ (r : List Pending). CountsCovered c.args.self.now.covered r) (sym c.push.ensures.views)
           (counts_push c.args.self.now.covered c.args.self.now.covered q (view c.args.entry) c.args.self.now.counted (λ none. absurd (true≢false (sym left ∙ none))) (omega arith));
     }

@@ -1,12 +1,12 @@
 use Rattle.std.proofs.Common.{◌<◌, ◌≤◌, ◌-◌, ℕ}
 use Rattle.blob_faults.specs.Blocks.{IsPassed}
-use Rattle.blob_faults.proofs.bounds.next_near.Given as goal
+use Rattle.blob_faults.proofs.bounds.BlockBounds.next_near.Given as goal
 
 abbrev pub invariant-loop-i : goal.invariant-loop-i
 invariant-loop-i l = record {
   from : l.from ≤ l.i;
   len : l.i ≤ l.len;
-  passed : (k : ℕ) → l.from ≤ k → k < l.i → IsPassed l.bounds k l.start l.end;
+  passed : (k : ℕ) → l.from ≤ k → k < l.i → IsPassed l.self k l.start l.end;
 }
 
 abbrev pub decreases-loop-i : goal.decreases-loop-i
