@@ -10,7 +10,7 @@ use std::io::{self, BufReader, BufWriter, ErrorKind};
 use std::process::ExitCode;
 
 /// The release, and the toolchain that it is proved and built with.
-const VERSION: &str = "blobcrash 0.2.0, proved with rattle-kit-13b";
+const VERSION: &str = "blobcrash 0.2.0, proved with rattle-kit-13f";
 
 const HELP: &str = "usage: blobcrash [explain|resolve|help|version]
 
