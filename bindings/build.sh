@@ -29,12 +29,13 @@ kit=$(CDPATH='' cd -- "$(dirname -- "$(readlink -f "$rt")")/.." && pwd -P)
 # What the library allocates with: a part of the toolchain that is linked in.
 heap=$kit/c/liblibc_c.a
 
-# Whether each library of crates/ is one that the gate has just proved: that of an earlier run may be of other sources.
+# Whether each library of crates/ is one that the gate has just proved, or has kept of the same sources: these have no stamp, and
+# `./test` drops those of an earlier gate before it begins. One with a stamp is of another command, and may be of other sources.
 gate_left_all() {
     [ -f "$out/gate.began" ] || return 1
     for rlib in "$top"/crates/*/out/rlib; do
         name=$(basename "$(dirname "$(dirname "$rlib")")")
-        [ -n "$(find "$rlib/$name.rlib/format" -newer "$out/gate.began" 2>/dev/null)" ] || return 1
+        [ -f "$rlib/$name.rlib/format" ] && [ ! -f "$rlib/stamp" ] || return 1
     done
 }
 
