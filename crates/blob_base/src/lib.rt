@@ -12,9 +12,9 @@ pub mod storage;
 pub mod value_laws;
 
 pub use blob_header::{
-    BlobVersion, Crc32, DEFAULT_BLOB_VERSION, Error, Header, HeaderError, Layout, RefusalLine,
-    checksum, error, header, header_error, header_laws, layout, partition_name, refusal_line,
-    resolution, resolve, validate_partition_name, version,
+    BlobVersion, Crc32, DEFAULT_BLOB_LAYOUT, DEFAULT_BLOB_VERSION, Error, Header, HeaderError,
+    Layout, RefusalLine, checksum, error, header, header_error, header_laws, layout,
+    partition_name, refusal_line, resolution, resolve, validate_partition_name, version,
 };
 pub use blob_model::{SectorSize, sector_size};
 pub use buffers::IoBufs;

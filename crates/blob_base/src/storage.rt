@@ -21,7 +21,7 @@ use std::ops::RangeInclusive;
 /// removal or the store's rebuilding.
 pub trait Durable {
     /// Names the incarnation that a handle was opened on.
-    type Origin: Clone + Eq;
+    type Origin: Eq + Drop;
 
     // which incarnation that is
     ghost place: { Self.Origin → Place };
@@ -36,12 +36,10 @@ pub trait Durable {
     fn is_current(&self, origin: &Self::Origin) -> bool
         ensures { result ≡ is_current (directory self.now) (place origin.now) };
 
-    // equal origins name one incarnation, an incarnation has one origin, and a copy of one names the same
+    // equal origins name one incarnation, and an incarnation has one origin
     ghost same_origins: { (a b : Self.Origin) → Self.Origin.eq a b ≡ same_place (place a) (place b) };
 
     ghost one_origin: { (a b : Self.Origin) → place a ≡ place b → a ≡ b };
-
-    ghost cloned_origins: { (a b : Self.Origin) → Self.Origin.is_clone a b → place b ≡ place a };
 
     // the incarnations with durable bytes are the current ones
     ghost currents: { (s : Self) (o : Place) → is_some (durable s o) ≡ is_current (directory s) o };
@@ -251,8 +249,17 @@ pub trait Blob<S: Durable> {
         ensures directory { S.directory store.new ≡ S.directory store.old }
         ensures place { place self.new ≡ place self.old };
 
-    /// The incarnation that the handle was opened on, current or not, lent. Who keeps it takes a `clone`, which wants memory.
-    fn origin(&self) -> &S::Origin
+    /// Returns the incarnation that the handle was opened on, current or not, as a value of the caller's own.
+    ///
+    /// # Errors
+    ///
+    /// `Memory` if there is none for the copy. Nothing changes.
+    fn origin(&self) -> Result<S::Origin, Error>
+        ensures place { IfOk result (λ origin. S.place origin ≡ place self.now) }
+        ensures memory { OnErr result (IsMemory result) };
+
+    /// Lends the incarnation that the handle was opened on, current or not. Takes no memory.
+    fn origin_ref(&self) -> &S::Origin
         ensures { S.place result.now ≡ place self.now };
 
     // a read into a buffer is answered what one into a new buffer may be

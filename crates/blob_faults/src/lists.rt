@@ -14,7 +14,7 @@ ghost use Rattle.blob_faults.specs.Lists.{held, list_of, IsAt, HasRoomIn, IsRoom
 use crate::entry::Entry;
 use crate::incarnation::Incarnation;
 use crate::room::Room;
-use blob_base::{Durable, Error, IoBufs};
+use blob_base::{Blob, Durable, Error, IoBufs};
 use std::alloc::{AllocError, Global};
 
 /// Pending lists, no two of one origin. It is a type of its own for this fact alone, which the check keeps through each call.
@@ -120,17 +120,18 @@ impl<S: Durable> Lists<S> {
         Ok(())
     }
 
-    /// Where the list of an incarnation is, which is added where there is none. A refusal leaves the lists as they were.
-    fn place_for(&mut self, origin: &S::Origin, hint: usize) -> Result<usize, AllocError>
+    /// Where the list of a handle's incarnation is, which is added if there is none. After a refusal the lists are as before.
+    fn place_for<B: Blob<S>>(&mut self, blob: &B, hint: usize) -> Result<usize, Error>
         ensures same { SameLists S.place self.old.all.lists.items self.new.all.lists.items }
-        ensures at { IfOk result (λ i. IsAt (held S.place self.new.all.lists.items) i (S.place origin.now)) }
+        ensures at { IfOk result (λ i. IsAt (held S.place self.new.all.lists.items) i (B.place blob.now)) }
         ensures inside { IfOk result (λ i. i < vec_len self.new.all.lists) }
+        ensures memory { OnErr result (IsMemory result) }
     {
-        if let Some(i) = self.find(origin, hint) {
+        if let Some(i) = self.find(blob.origin_ref(), hint) {
             return Ok(i);
         }
         let i = self.all.lists.len();
-        self.add(origin.clone()?)?;
+        self.add(blob.origin()?)?;
         Ok(i)
     }
 
@@ -143,18 +144,19 @@ impl<S: Durable> Lists<S> {
         self.all.lists[i].reserve(room)
     }
 
-    /// The list of an incarnation, with room for this. It is looked for at `hint` first. A refusal leaves the lists as they
-    /// were.
-    pub fn room_for(
+    /// The list of a handle's incarnation, with room for this. It is looked for at `hint` first. The only error is `Memory`, and
+    /// leaves the lists as they were.
+    pub fn room_for<B: Blob<S>>(
         &mut self,
-        origin: &S::Origin,
+        blob: &B,
         hint: usize,
         room: Room,
-    ) -> Result<usize, AllocError>
+    ) -> Result<usize, Error>
         ensures same { SameLists S.place self.old.all.lists.items self.new.all.lists.items }
-        ensures ok { IfOk result (λ i. IsRoomAt S.place self.new.all.lists.items i (S.place origin.now) room) }
+        ensures ok { IfOk result (λ i. IsRoomAt S.place self.new.all.lists.items i (B.place blob.now) room) }
+        ensures memory { OnErr result (IsMemory result) }
     {
-        let i = self.place_for(origin, hint)?;
+        let i = self.place_for(blob, hint)?;
         self.reserve(i, room)?;
         Ok(i)
     }

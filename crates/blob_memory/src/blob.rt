@@ -262,8 +262,17 @@ impl blob_base::Blob<Storage> for Blob {
         Ok(())
     }
 
-    /// The incarnation that the handle was opened on, lent. Takes no memory.
-    fn origin(&self) -> &Origin {
+    /// Returns a copy of the incarnation that the handle was opened on.
+    ///
+    /// # Errors
+    ///
+    /// `Memory`. Nothing changes.
+    fn origin(&self) -> Result<Origin, Error> {
+        Ok(self.origin.clone()?)
+    }
+
+    /// Lends the incarnation that the handle was opened on. Takes no memory.
+    fn origin_ref(&self) -> &Origin {
         &self.origin
     }
 }

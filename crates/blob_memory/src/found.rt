@@ -9,7 +9,7 @@ ghost use Rattle.blob_header.specs.Versions.{is_in_range};
 
 use crate::item::Held;
 use blob_base::header_laws::resolved_has_header;
-use blob_base::{BlobVersion, Error, Layout, resolve};
+use blob_base::{BlobVersion, DEFAULT_BLOB_LAYOUT, Error, Layout, resolve};
 use std::alloc::Global;
 use std::ops::RangeInclusive;
 
@@ -36,7 +36,7 @@ pub fn nothing(alloc: Global, versions: &RangeInclusive<BlobVersion>) -> Found
     Found {
         number: None,
         is_file: false,
-        layout: Layout::V1,
+        layout: DEFAULT_BLOB_LAYOUT,
         version: *versions.end(),
         live: Vec::new(alloc),
     }

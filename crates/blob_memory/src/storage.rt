@@ -40,8 +40,6 @@ impl Durable for Storage {
 
     ghost one_origin = { λ a b same. same };
 
-    ghost cloned_origins = { λ a b same. same };
-
     ghost currents = { λ s. currents s.contents };
 
     ghost given = { λ s. given s.contents };

@@ -11,7 +11,9 @@ ghost use Rattle.blob_header.specs.Refusals.{Refusal, refused, IsMemory};
 use blob_base::{Durable, Error, Handle, IoBufs, IoBufsMut, ReadOptions, WriteOptions};
 use std::marker::Model;
 
-/// An accepted open, by which its handle is told from all others.
+/// An accepted open, which tells its handle from all others. It is ended by `Opens::release`, or with its handle by `Opens::close`.
+///
+/// If it is dropped instead, its name stays open until `Opens::end_all`.
 #[derive(Drop)]
 pub struct Registration {
     pub(crate) partition: String,
@@ -30,16 +32,26 @@ impl Model for Registration {
 
 /// A handle of a store whose name is open by it alone. It must be spent, by `Opens::close`.
 ///
-/// It passes each call on to the store's own handle, and answers what that answers: nothing of a call is its own.
+/// It passes each call on to the store's own handle, and answers what that answers: nothing of a call is its own. Its two parts
+/// stay together: they can't be taken out or exchanged.
 pub struct Blob<B> {
-    /// The store's own handle.
-    pub inner: B,
-    /// By which `Opens::close` knows the open that this is the handle of.
-    pub registration: Registration,
+    pub(crate) inner: B,
+    pub(crate) registration: Registration,
 }
 
 impl<B> Blob<B> {
-    ghost use Rattle.blob_opens.specs.Opens.{store_handle};
+    ghost use Rattle.blob_opens.specs.Opens.{registration_of, store_handle};
+
+    /// Joins what `Opens::open_registered` answered: the store's own handle and the registration of its open.
+    pub fn new(inner: B, registration: Registration) -> Blob<B>
+        ensures inner { store_handle result ≡ inner }
+        ensures registration { registration_of result ≡ registration }
+    {
+        Blob {
+            inner,
+            registration,
+        }
+    }
 
     /// The store's own handle, for what isn't a call of the traits, as a wrapper's tracked size.
     pub fn inner(&self) -> &B
@@ -149,8 +161,13 @@ impl<S: Durable, B: blob_base::Blob<S>> blob_base::Blob<S> for Blob<B> {
         self.inner.reserve(store, end)
     }
 
-    /// The incarnation that the store's own handle was opened on, lent. Takes no memory.
-    fn origin(&self) -> &S::Origin {
+    /// Returns a copy of the incarnation that the store's own handle was opened on, with its errors.
+    fn origin(&self) -> Result<S::Origin, Error> {
         self.inner.origin()
+    }
+
+    /// Lends the incarnation that the store's own handle was opened on. Takes no memory.
+    fn origin_ref(&self) -> &S::Origin {
+        self.inner.origin_ref()
     }
 }
