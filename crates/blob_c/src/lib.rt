@@ -8,6 +8,7 @@ ghost use Rattle.blob_lab.specs.Scripts.{Prints, PrintsBeforeLine, lines_of, scr
 ghost use Rattle.blob_sessions.specs.Preambles.{BreaksAt, IsMadeOf};
 ghost use Rattle.blob_sessions.specs.Sessions.{RunsLine, ReadsInto, AnswersWrite, IsClosed, OnHeld, TellsAgain, kept_of};
 ghost use Rattle.blob_sessions.specs.WholeScripts.{WantsRoom};
+ghost use Rattle.blob_sessions.specs.Words.{TakesWords, TellsWordsLeft};
 
 use blob_sessions::ran::{BAD_LINE, CLOSED, DONE, ENDLESS, NO_MEMORY, NO_ROOM};
 use blob_sessions::{Ran, RefusedPreamble, ScriptRan, Session, preamble, script};
@@ -139,6 +140,36 @@ pub extern "C" fn blobcrash_read(
         return CLOSED;
     };
     let status = kept.read(handle, offset, into);
+    *session = Session::of(kept);
+    status
+}
+
+/// Returns in `len` how many words of the session's generator are left, up to the last one that isn't zero. Changes nothing.
+///
+/// `ENDLESS` if a seed gives the words after the given ones. `ENDLESS` and `CLOSED` have the length 0.
+#[unsafe(no_mangle)]
+pub extern "C" fn blobcrash_words_left(alloc: Global, session: &mut Session) -> Ran
+    ensures { OnHeld (kept_of session.old) (kept_of session.new) (λ k k'. (k' ≡ k) × TellsWordsLeft k result) (result ≡ record { status = CLOSED; len = 0 }) }
+{
+    let Some(kept) = session.take(alloc) else {
+        return Ran::stopped(CLOSED);
+    };
+    let ran = kept.words_left();
+    *session = Session::of(kept);
+    ran
+}
+
+/// Inserts words before those that the session's generator gives next.
+///
+/// `NO_MEMORY` changes nothing.
+#[unsafe(no_mangle)]
+pub extern "C" fn blobcrash_push_words(alloc: Global, session: &mut Session, words: &[u64]) -> u32
+    ensures { OnHeld (kept_of session.old) (kept_of session.new) (λ k k'. TakesWords k k' words.now result) (result ≡ CLOSED) }
+{
+    let Some(mut kept) = session.take(alloc) else {
+        return CLOSED;
+    };
+    let status = kept.push_words(words);
     *session = Session::of(kept);
     status
 }

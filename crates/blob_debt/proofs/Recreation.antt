@@ -6,7 +6,7 @@ use Rattle.std.proofs.lemmas.Bool.{and_parts, cond-true, false≢true}
 use Rattle.std.proofs.lemmas.Bool.Decides.{nat_tests}
 use Rattle.blob_header.specs.Refusals.{Refusal}
 use Rattle.blob_names.specs.Names.{with_name}
-use Rattle.blob_debt.specs.History.{History, Call, Event, Operation, To, Forget, Admit, Release, Settle, Clear, Fail, Close, Admitted, Released, Settled, Failed, Closed, is_over, clear_event, with_operation, events, latest, settling, is_this_number, generations, tokens_given}
+use Rattle.blob_debt.specs.History.{History, Call, Event, Operation, To, Forget, Skip, Admit, Release, Settle, Clear, Fail, Close, Admitted, Released, Settled, Failed, Closed, is_over, clear_event, with_operation, events, latest, settling, is_this_number, generations, tokens_given}
 use Rattle.blob_debt.specs.Debts.{IsNumbered}
 use Rattle.blob_debt.specs.Recreated.{forgets, IsForgottenAfter}
 use Rattle.blob_names.proofs.NameMaps.{with_at_same}
@@ -74,6 +74,7 @@ module _ (g t : ℕ) where
       new
   call_newer (Forget q (Some m)) h p n num gs ts new = choice (bytes_eq q p) (bytes_eq m n) [] (events h p n) (λ y z. nothing_newer) new
   call_newer (Forget q None) h p n num gs ts new = choice_all (bytes_eq q p) (events h p n) new
+  call_newer (Skip gens toks) h p n num gs ts new = new
 
 -- the call that forgets
 forgotten_newer : (c : Call) (h : History) (p n : List ℕ) → IsNumbered (c ∷ h) → forgets c p n ≡ true → IsNewer (generations h) (tokens_given h) (events (c ∷ h) p n)
@@ -94,6 +95,7 @@ forgotten_newer (Forget q (Some m)) h p n num f =
 forgotten_newer (Forget q None) h p n num f =
     let here : events (Forget q None ∷ h) p n ≡ [] = cond-true (bytes_eq q p) [] (events h p n) f in
     subst (IsNewer (generations h) (tokens_given h)) (sym here) (nothing_newer (generations h) (tokens_given h))
+forgotten_newer (Skip gs ts) h p n num f = absurd (false≢true f)
 
 -- counts never fall
 counts_grow : (c : Call) (h : History) → (generations h ≤ generations (c ∷ h)) × (tokens_given h ≤ tokens_given (c ∷ h))
@@ -104,6 +106,7 @@ counts_grow (To p n (Clear g o)) h = (omega arith, omega arith)
 counts_grow (To p n (Fail g e)) h = (omega arith, omega arith)
 counts_grow (To p n (Close g)) h = (omega arith, omega arith)
 counts_grow (Forget p n) h = (omega arith, omega arith)
+counts_grow (Skip gs ts) h = (omega arith, omega arith)
 
 all_grow : (later h : History) → (generations h ≤ generations (later ++ h)) × (tokens_given h ≤ tokens_given (later ++ h))
 all_grow [] h = (omega arith, omega arith)
@@ -122,6 +125,7 @@ numbered_rest (To p n (Clear g o)) h n' = n'
 numbered_rest (To p n (Fail g e)) h n' = n'
 numbered_rest (To p n (Close g)) h n' = n'
 numbered_rest (Forget p n) h n' = n'
+numbered_rest (Skip gs ts) h n' = n'
 
 newer_since : (later : History) (c : Call) (earlier : History) (p n : List ℕ) → IsNumbered (later ++ c ∷ earlier) → forgets c p n ≡ true
     → IsNewer (generations earlier) (tokens_given earlier) (events (later ++ c ∷ earlier) p n)

@@ -22,6 +22,8 @@ pub data Call : Type 0 where
   To : List ℕ → List ℕ → Operation → Call
   -- a name, or a whole partition
   Forget : List ℕ → Option (List ℕ) → Call
+  -- how many generations and how many tokens are never given
+  Skip : ℕ → ℕ → Call
 
 -- the accepted calls, without those that were refused, gave nothing or only asked
 abbrev pub History : Type 0
@@ -104,17 +106,20 @@ events [] p n = []
 events (To q m operation ∷ h) p n = with_name (events h) q m (with_operation operation (events h q m)) p n
 events (Forget q (Some m) ∷ h) p n = with_name (events h) q m [] p n
 events (Forget q None ∷ h) p n = with_all_names (events h) [] q p n
+events (Skip gs ts ∷ h) p n = events h p n
 
--- the generations that were given, from 0 on
+-- the next generation: those that were given or skipped, from 0 on
 abbrev pub generations : History → ℕ
 generations [] = 0
 generations (To p n (Admit existing g) ∷ h) = generations h + 1
+generations (Skip gs ts ∷ h) = generations h + gs
 generations (c ∷ h) = generations h
 
--- the tokens that were given, from 0 on
+-- the next token: those that were given or skipped, from 0 on
 abbrev pub tokens_given : History → ℕ
 tokens_given [] = 0
 tokens_given (To p n (Release g token) ∷ h) = tokens_given h + 1
+tokens_given (Skip gs ts ∷ h) = tokens_given h + ts
 tokens_given (c ∷ h) = tokens_given h
 
 -- whether a token was given and not settled since, under whichever name

@@ -1,7 +1,7 @@
 -- Names that were forgotten, and numbers from before.
 use Rattle.std.specs.Prelude.{◌≡◌, ◌<◌, ℕ, List, ◌∷◌, ◌++◌, Bool, true, false, ◌&&◌, Some, None}
 use Rattle.std.specs.Str.{bytes_eq}
-use Rattle.blob_debt.specs.History.{Call, History, To, Forget, Admit}
+use Rattle.blob_debt.specs.History.{Call, History, To, Forget, Skip, Admit}
 use Rattle.blob_debt.specs.Debts.{IsNumbered}
 
 -- whether a call forgets a name
@@ -10,6 +10,7 @@ forgets (To q m (Admit false g)) p n = bytes_eq q p && bytes_eq m n
 forgets (To q m operation) p n = false
 forgets (Forget q (Some m)) p n = bytes_eq q p && bytes_eq m n
 forgets (Forget q None) p n = bytes_eq q p
+forgets (Skip gs ts) p n = false
 
 -- a history in which a name was forgotten after the earlier calls
 pub record IsForgottenAfter (h earlier : History) (p n : List ℕ) : Type 0 where

@@ -6,7 +6,7 @@
 ghost use Rattle.std.specs.Prelude.{◌≡◌, ◌≢◌, IsErr, is_some, Ok, ◌∷◌, [], OnErr, OnOk, IfOk, not, option_map, option_copied, Some, None, false, ◌⊎◌, ◌<◌, ◌^◌, ◌-◌};
 ghost use Rattle.std.specs.String.{string_bytes};
 ghost use Rattle.blob_header.specs.Refusals.{refusal_of, refused, Memory};
-ghost use Rattle.blob_debt.specs.History.{History, To, Admit, Release, Settle, Clear, Fail, Close, Forget, latest, released, owed, events, is_outstanding};
+ghost use Rattle.blob_debt.specs.History.{History, To, Admit, Release, Settle, Clear, Fail, Close, Forget, Skip, latest, released, owed, events, is_outstanding};
 ghost use Rattle.blob_debt.specs.Debts.{Represents, IsUnchanged, IsOpenedEntry, HoldsNames, AnswersOpen, AnswersOrMemory, after_admit, after_release, entry_denial, operation_of, told, to_key, by_open};
 
 pub(crate) mod entry;
@@ -51,19 +51,14 @@ impl Pending {
         }
     }
 
-    /// A registry in which nothing happened, whose first generation and token have these numbers.
+    /// Returns an empty registry whose first generation and token have these numbers. Those below were never given.
     pub fn starting_at(alloc: Global, next_generation: u64, next_token: u64) -> Pending
-        ensures names { HoldsNames result.names [] }
-        ensures generations { result.next_generation ≡ next_generation }
-        ensures tokens { result.next_token ≡ next_token }
+        ensures { Represents result (Skip next_generation next_token ∷ []) }
     {
-        Pending {
-            names: Names::new(alloc),
-            outstanding: BTreeSet::new(alloc),
-            next_generation,
-            next_token,
-            alloc,
-        }
+        let mut pending = Pending::new(alloc);
+        pending.next_generation = next_generation;
+        pending.next_token = next_token;
+        pending
     }
 
     /// Whether anything is kept of a name: an open that isn't closed or not settled, debt, or a failure.

@@ -9,6 +9,10 @@ use Rattle.blob_faulty.specs.contracts.storage.Storage as wrapper
 abbrev pub with_config : {S R O : Type 0} → Storage S R O → Config → Storage S R O
 with_config w config = record w { config = config }
 
+-- with another generator; all else stays
+abbrev pub with_rng : {S R O : Type 0} → Storage S R O → R → Storage S R O
+with_rng w rng = record w { rng = rng }
+
 -- w ends with the last configuration behind r
 abbrev pub LendsConfig : (S R O : RattleType) → MutBor (Storage S.Denot R.Denot O.Denot) → MutBor Config → Fml
 LendsConfig S R O w r = Lends (wrapper.the_row S R O) config.the_row w r (with_config w.now)

@@ -204,9 +204,14 @@ impl<S: blob_base::Storage, R: Rng, B: blob_base::Blob<S>> blob_base::Blob<Stora
         self.inner.reserve(&mut store.inner, end)
     }
 
-    /// The incarnation that the handle inside was opened on, lent. Takes no memory.
-    fn origin(&self) -> &S::Origin {
+    /// Returns a copy of the incarnation that the handle inside was opened on, with its errors. Makes no draw.
+    fn origin(&self) -> Result<S::Origin, Error> {
         self.inner.origin()
+    }
+
+    /// Lends the incarnation that the handle inside was opened on. Takes no memory.
+    fn origin_ref(&self) -> &S::Origin {
+        self.inner.origin_ref()
     }
 
     ghost reads_alike = { λ b s offset len answer h. injected_alike (draw s.config.read_rate (R.stream s.rng)).0 (B.allows_read_buf b.inner s.inner offset len) (B.allows_read b.inner s.inner offset len) answer (B.reads_alike b.inner s.inner offset len answer) h };

@@ -1,7 +1,7 @@
 //! The wrapper of a store.
 ghost use Rattle.std.specs.Prelude.{◌≡◌};
 ghost use Rattle.std.specs.Borrow.{sem};
-ghost use Rattle.blob_faulty.specs.Lends.{LendsConfig, with_config};
+ghost use Rattle.blob_faulty.specs.Lends.{LendsConfig, with_config, with_rng};
 ghost use Rattle.blob_faulty.specs.Names.{Steps};
 ghost use Rattle.blob_faulty.specs.New.{IsNew};
 ghost use Rattle.blob_faults.specs.Lists.{list_of};
@@ -67,6 +67,13 @@ impl<S: Durable, R> Storage<S, R> {
         &self.inner
     }
 
+    /// Returns the generator that the faults are drawn from.
+    pub fn rng(&self) -> &R
+        ensures { result.now ≡ rng_of self.now }
+    {
+        &self.rng
+    }
+
     /// What a crash could lose or keep: a list for each incarnation that has one, in no order. An ended incarnation's list may be
     /// among them, and so may an empty one, and among its entries a write of which nothing is left (`Entry::is_left`).
     pub fn pending(&self) -> &[Incarnation<S::Origin>]
@@ -92,6 +99,16 @@ impl<S: Durable, R> Storage<S, R> {
         self.config = config;
     }
 
+    /// Replaces the generator. The next draw is the first one from `rng`. The rest stays as it is.
+    pub fn set_rng(&mut self, rng: R)
+    where
+        R: Drop,
+        ensures set { self.new ≡ with_rng self.old rng }
+        ensures files { Steps S.place S.directory S.durable self.old self.new (λ files. files) }
+    {
+        self.rng = rng;
+    }
+
     /// The wrapped store, the generator and the configuration; what is pending is dropped.
     pub fn into_inner(self) -> (S, R, Config)
         ensures inner { result.0 ≡ inner_of self }
@@ -114,8 +131,6 @@ impl<S: blob_base::Storage, R: Rng> Durable for Storage<S, R> {
     ghost same_origins = { S.same_origins };
 
     ghost one_origin = { S.one_origin };
-
-    ghost cloned_origins = { S.cloned_origins };
 
     ghost currents = { λ s o. S.currents s.inner o };
 

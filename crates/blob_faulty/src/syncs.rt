@@ -25,7 +25,7 @@ impl<B> Blob<B> {
         ensures next_marker { store.new.next_marker ≡ store.old.next_marker }
     {
         self.inner.sync(&mut store.inner)?;
-        store.lists.retire(self.inner.origin(), self.list);
+        store.lists.retire(self.inner.origin_ref(), self.list);
         Ok(())
     }
 

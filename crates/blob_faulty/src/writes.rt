@@ -67,8 +67,7 @@ impl<B> Blob<B> {
         ensures memory { OnErr result (IsMemory result) }
         ensures rest { store.new ≡ record store.old { lists = store.new.lists } }
     {
-        let list = store.lists.room_for(self.inner.origin(), self.list, room)?;
-        Ok(list)
+        store.lists.room_for(&self.inner, self.list, room)
     }
 }
 

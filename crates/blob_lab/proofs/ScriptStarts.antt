@@ -8,7 +8,7 @@ use Rattle.blob_faults.specs.declared.config.Config.{Config}
 use Rattle.blob_lab.specs.declared.ending.Ending.{Ending}
 use Rattle.blob_lab.specs.declared.ending.Ending.TheVariants.{Done, InputFailed, OutputFailed, BadCall, BadImage, Usage, NoMemory}
 use Rattle.blob_laboratory.specs.declared.lab.Lab.{Lab}
-use Rattle.blob_lab.specs.declared.run_script.lines.Preamble.{Preamble}
+use Rattle.blob_lab.specs.declared.scripts.lines.Preamble.{Preamble}
 use Rattle.blob_calls.specs.Acts.{Act}
 use Rattle.blob_laboratory.specs.LabStands.{LabStandsFor}
 use Rattle.blob_lab.specs.ScriptReading.{OfLines, TakesCall, TakesBadCall, TakesOne, TakesPart, Begins, PrintsFront, PrintsBefore, PrintsUpTo, preamble_of}

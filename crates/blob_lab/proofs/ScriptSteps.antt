@@ -7,7 +7,7 @@ use Rattle.std.specs.Io.Iter.{u64_saturate}
 use Rattle.blob_faults.specs.declared.config.Config.{Config}
 use Rattle.blob_calls.specs.declared.call.Call.{Call as LabCall}
 use Rattle.blob_calls.specs.declared.call.Call.TheVariants as call
-use Rattle.blob_lab.specs.declared.run_script.lines.Preamble.{Preamble}
+use Rattle.blob_lab.specs.declared.scripts.lines.Preamble.{Preamble}
 use Rattle.blob_calls.specs.declared.script.line.Line.TheVariants as line
 use Rattle.blob_calls.specs.declared.script.setting.Setting.{Setting}
 use Rattle.blob_calls.specs.Acts as acts

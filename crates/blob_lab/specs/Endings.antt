@@ -21,7 +21,7 @@ ending_line InputFailed = codes "input failed"
 ending_line OutputFailed = codes "output failed"
 ending_line (BadCall line) = codes "line " ++ decimal line ++ codes ": bad call"
 ending_line BadImage = codes "bad image"
-ending_line Usage = codes "usage: blobcrash [explain|resolve|help|version]"
+ending_line Usage = codes "usage: blobcrash [resolve]"
 ending_line NoMemory = codes "no memory"
 
 -- whether a script may end so: it isn't called in a wrong way, and has no image

@@ -5,8 +5,8 @@ use Rattle.std.specs.Io.Iter.{u64_saturate}
 use Rattle.std.specs.Io.KnownBytes.{Appends}
 use Rattle.blob_faults.specs.declared.config.Config.{Config}
 use Rattle.blob_laboratory.specs.declared.lab.Lab.{Lab}
-use Rattle.blob_lab.specs.declared.run_script.lines.Lines.{Lines}
-use Rattle.blob_lab.specs.declared.run_script.lines.Preamble.{Preamble}
+use Rattle.blob_lab.specs.declared.scripts.lines.Lines.{Lines}
+use Rattle.blob_lab.specs.declared.scripts.lines.Preamble.{Preamble}
 use Rattle.blob_lab.specs.declared.ending.Ending.{Ending}
 use Rattle.blob_lab.specs.declared.ending.Ending.TheVariants.{BadCall, InputFailed, OutputFailed, NoMemory}
 use Rattle.blob_lab.specs.declared.streams.Input.{Input}

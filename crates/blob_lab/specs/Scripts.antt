@@ -8,7 +8,7 @@ use Rattle.blob_faults.specs.declared.config.Config.{Config}
 use Rattle.blob_calls.specs.declared.call.Call.{Call as LabCall}
 use Rattle.blob_lab.specs.declared.streams.Input.{Input}
 use Rattle.blob_lab.specs.declared.streams.Output.{Output}
-use Rattle.blob_lab.specs.Streams.{reader_of, OfBytes}
+use Rattle.blob_lab.specs.Streams.{reader_of, writer_of, OfKnown}
 use Rattle.blob_calls.specs.declared.reply.Reply.{Reply}
 use Rattle.blob_calls.specs.Acts as acts
 use Rattle.blob_calls.specs.Acts.{Act, act_of}
@@ -89,6 +89,10 @@ pub record PrintsTaken (Adds : Option (List ℕ) → Option (List ℕ) → List 
   pub added : Adds old new printed
 
 -- where the bytes that a reader had left are known, so are those that it has left, and this holds of both, and of what a writer had and has then
+abbrev pub OfKnownRun : {R W : Type 0} → (R → Option (List ℕ)) → (W → Option (List ℕ)) → R → R → W → W → (List ℕ → List ℕ → Option (List ℕ) → Option (List ℕ) → Type 0) → Type 0
+OfKnownRun remaining contents r r' w w' P = OfKnown remaining contents r w w' (λ bytes old new. IsSomeAnd (remaining r') (λ left. P bytes left old new))
+
+-- the same of the reader and the writer of a run
 abbrev pub OfRun : {R W : Type 0} → (R → Option (List ℕ)) → (W → Option (List ℕ)) → Input R → Input R → Output W → Output W
     → (List ℕ → List ℕ → Option (List ℕ) → Option (List ℕ) → Type 0) → Type 0
-OfRun remaining contents i i' o o' P = OfBytes remaining contents i o o' (λ bytes old new. IsSomeAnd (remaining (reader_of i')) (λ left. P bytes left old new))
+OfRun remaining contents i i' o o' P = OfKnownRun remaining contents (reader_of i) (reader_of i') (writer_of o) (writer_of o') P

@@ -60,9 +60,13 @@ ToldEnding result i i' o o' = MatchResult result (λ _. StaySound i i' o o') (λ
 abbrev pub AppendsPart : Option (List ℕ) → Option (List ℕ) → List ℕ → Type 0
 AppendsPart old new bytes = (front : List ℕ) × (rest : List ℕ) × (bytes ≡ front ++ rest) × Appends old new front
 
--- where the bytes that the reader has left are known: what holds of them, and of what the writer had and has then
+-- where the bytes that a reader has left are known: what holds of them, and of what a writer had and has then
+abbrev pub OfKnown : {R W : Type 0} → (R → Option (List ℕ)) → (W → Option (List ℕ)) → R → W → W → (List ℕ → Option (List ℕ) → Option (List ℕ) → Type 0) → Type 0
+OfKnown remaining contents r w w' P = IfSome (remaining r) (λ bytes. P bytes (contents w) (contents w'))
+
+-- the same of the reader and the writer of a run
 abbrev pub OfBytes : {R W : Type 0} → (R → Option (List ℕ)) → (W → Option (List ℕ)) → Input R → Output W → Output W → (List ℕ → Option (List ℕ) → Option (List ℕ) → Type 0) → Type 0
-OfBytes remaining contents i o o' P = IfSome (remaining (reader_of i)) (λ bytes. P bytes (contents (writer_of o)) (contents (writer_of o')))
+OfBytes remaining contents i o o' P = OfKnown remaining contents (reader_of i) (writer_of o) (writer_of o') P
 
 -- one line was read behind what a buffer had; where reading failed, a part of it at most
 pub record ReadsLine (result : Result ℕ Ending) (old new : Option (List ℕ)) (before after : List ℕ) : Type 0 where

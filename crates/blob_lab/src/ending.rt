@@ -46,7 +46,7 @@ impl fmt::Display for Ending {
             Ending::OutputFailed => f.write_str("output failed"),
             Ending::BadCall(line) => write!(f, "line {line}: bad call"),
             Ending::BadImage => f.write_str("bad image"),
-            Ending::Usage => f.write_str("usage: blobcrash [explain|resolve|help|version]"),
+            Ending::Usage => f.write_str("usage: blobcrash [resolve]"),
             Ending::NoMemory => f.write_str("no memory"),
         }
     }

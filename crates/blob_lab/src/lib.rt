@@ -3,8 +3,8 @@
 
 pub mod ending;
 pub mod resolution_line;
-pub mod run_resolve;
-pub mod run_script;
+pub mod resolutions;
+pub mod scripts;
 pub mod streams;
 
 pub use blob_calls::{Call, Reply, call, reply, script};
@@ -14,4 +14,6 @@ pub use blob_opens::{Opens, open, opens};
 pub use blob_states::laws;
 pub use ending::Ending;
 pub use resolution_line::ResolutionLine;
+pub use resolutions::{run_resolve, serve_resolve};
+pub use scripts::{run_script, serve_script};
 pub use streams::{Input, Output};

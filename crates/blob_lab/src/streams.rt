@@ -7,7 +7,7 @@ ghost use Rattle.blob_lab.specs.Endings.{is_of_stream};
 ghost use Rattle.blob_lab.specs.Streams.{reader_of, lines_left, read_failed, writer_of, write_failed, is_flushed, has_line, AppendsPart, ReadsLine, ToldEnding, ToldOutput};
 
 use crate::Ending;
-use crate::run_script::Ahead;
+use crate::scripts::Ahead;
 use blob_calls::script::read_through;
 use memchr::memchr;
 use std::fmt::Display;

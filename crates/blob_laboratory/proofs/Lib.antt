@@ -11,3 +11,4 @@ pub mod OpenSteps
 pub mod Performing
 pub mod Rebuilding
 pub mod ThroughHandles
+pub mod WordsLeft

@@ -1,3 +1,4 @@
+pub mod Generators
 pub mod LabRuns
 pub mod LabStands
 pub mod Tables

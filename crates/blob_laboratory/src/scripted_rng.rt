@@ -1,5 +1,6 @@
 //! A generator whose first words are given.
-ghost use Rattle.std.specs.Prelude.{◌≡◌};
+ghost use Rattle.std.specs.Prelude.{◌≡◌, ◌++◌, IfOk, IfSome, is_none, is_some};
+ghost use Rattle.blob_tree.specs.WordsLeft.{EndsAfter};
 ghost use Rattle.blob_states.specs.Scripted.{next_of, scripted};
 ghost use Rattle.rand_xoshiro.specs.SplitMix64.{splitmix_seed};
 ghost use Rattle.rand_xoshiro.specs.Xoshiro256.{of_seed};
@@ -7,6 +8,7 @@ ghost use Rattle.rand_xoshiro.specs.Xoshiro256.{of_seed};
 use rand_core::utils::NextWord;
 use rand_core::{Rng, SeedableRng, utils};
 use rand_xoshiro::Xoshiro256PlusPlus;
+use std::alloc::{AllocError, Global};
 use std::marker::Model;
 
 /// The given words in order, and then zeros for good, or the words of a seed.
@@ -51,6 +53,34 @@ impl ScriptedRng {
             at: 0,
             behind: Some(Xoshiro256PlusPlus::seed_from_u64(seed)),
         }
+    }
+
+    /// Returns how many words are left, up to the last given word that isn't zero. `None` if a seed gives the words after them.
+    pub fn left(&self) -> Option<usize>
+        ensures left { IfSome result (λ n. EndsAfter (scripted self.now) n) }
+        ensures none { is_some result ≡ is_none self.now.1 }
+    {
+        if self.behind.is_some() {
+            return None;
+        }
+        let mut end = self.words.len();
+        while self.at < end && self.words[end - 1] == 0 {
+            end -= 1;
+        }
+        Some(end - self.at)
+    }
+
+    /// Returns a generator that gives these words first, and then what this one gives. The only error is failed allocation.
+    pub fn with_words(&self, alloc: Global, words: &[u64]) -> Result<ScriptedRng, AllocError>
+        ensures { IfOk result (λ rng. rng ≡ (words.now ++ self.now.0, self.now.1)) }
+    {
+        let mut all = Vec::from_slice(alloc, words)?;
+        all.extend_from_slice(&self.words[self.at..])?;
+        Ok(ScriptedRng {
+            words: all,
+            at: 0,
+            behind: self.behind.clone()?,
+        })
     }
 }
 

@@ -4,8 +4,9 @@ ghost use Rattle.blob_calls.specs.Acts.{act_of};
 ghost use Rattle.blob_calls.specs.Lines.{Blank, line_of};
 ghost use Rattle.blob_calls.specs.Settings.{configured};
 ghost use Rattle.blob_sessions.specs.Sessions.{RunsLine, AnswersRead, AnswersWrite, SaysCall, IsNoCall, Makes, TellsAgain};
+ghost use Rattle.blob_sessions.specs.Words.{TakesWords, TellsWordsLeft};
 
-use crate::ran::{BAD_LINE, DONE, NO_MEMORY, NO_ROOM, OTHER_REPLY, Ran, UNPRINTED};
+use crate::ran::{BAD_LINE, DONE, ENDLESS, NO_MEMORY, NO_ROOM, OTHER_REPLY, Ran, UNPRINTED};
 use blob_faulty::Config;
 use blob_lab::script::{Line, RefusedLine, Setting, print_reply, read_line};
 use blob_lab::{Call, Lab, Reply};
@@ -125,6 +126,27 @@ impl Kept {
                 DONE
             }
             _ => OTHER_REPLY,
+        }
+    }
+
+    /// Returns how many words of the generator are left, up to the last one that isn't zero. `ENDLESS` if a seed gives the words
+    /// after the given ones.
+    pub fn words_left(&self) -> Ran
+        ensures { TellsWordsLeft self.now result }
+    {
+        match self.lab.words_left() {
+            Some(len) => Ran { status: DONE, len },
+            None => Ran::stopped(ENDLESS),
+        }
+    }
+
+    /// Inserts words before those that the generator gives next.
+    pub fn push_words(&mut self, words: &[u64]) -> u32
+        ensures { TakesWords self.old self.new words.now result }
+    {
+        match self.lab.push_words(words) {
+            Ok(()) => DONE,
+            Err(_) => NO_MEMORY,
         }
     }
 

@@ -3,7 +3,7 @@ ghost use Rattle.std.specs.Prelude.{◌≡◌};
 
 /// The call is done; `len` bytes of its reply stand in the caller's room.
 pub const DONE: u32 = 0;
-/// A script has more lines than can be counted.
+/// A script has more lines than can be counted, or a seed gives words without end.
 pub const ENDLESS: u32 = 1;
 /// A line isn't a call, or may not stand there: no call was made.
 pub const BAD_LINE: u32 = 2;

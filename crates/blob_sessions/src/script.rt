@@ -4,8 +4,7 @@ ghost use Rattle.blob_lab.specs.Scripts.{Prints, PrintsBeforeLine, lines_of, scr
 ghost use Rattle.blob_sessions.specs.WholeScripts.{WantsRoom};
 
 use crate::ran::{BAD_LINE, DONE, ENDLESS, NO_MEMORY, NO_ROOM, ScriptRan};
-use blob_lab::run_script::run_script;
-use blob_lab::{Ending, Input, Output};
+use blob_lab::{Ending, Input, Output, serve_script};
 use std::alloc::Global;
 
 /// Runs a script, and copies what it prints where there is room for it. Where there is none, `len` says how much is wanted.
@@ -48,6 +47,6 @@ fn printed_by(alloc: Global, script: &[u8]) -> (Ending, Vec<u8>)
 {
     let mut input = Input::new(script);
     let mut output = Output::new(Vec::new(alloc));
-    let ending = run_script(alloc, &mut input, &mut output);
+    let ending = serve_script(alloc, &mut input, &mut output);
     (ending, output.into_writer())
 }

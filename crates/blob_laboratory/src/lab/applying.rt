@@ -1,10 +1,14 @@
 // A call as data, and the wrapper for reading.
-ghost use Rattle.std.specs.Prelude.{◌≡◌};
+ghost use Rattle.std.specs.Prelude.{◌≡◌, IfSome, OnErr, OnOk, is_none, is_some};
+ghost use Rattle.blob_header.specs.Refusals.{IsMemory};
 ghost use Rattle.blob_calls.specs.Acts.{Configure, act_of};
+ghost use Rattle.blob_laboratory.specs.Generators.{PushesWords, generator_of};
 ghost use Rattle.blob_laboratory.specs.LabStands.{Performs, Wraps, wrapper_of};
+ghost use Rattle.blob_tree.specs.WordsLeft.{EndsAfter};
 ghost use Rattle.blob_states.specs.States.{State};
 
 use crate::lab::{Lab, Stands, Wrapper};
+use blob_base::Error;
 use blob_calls::script::setting::copy_of;
 use blob_calls::{Call, Reply};
 use blob_faulty::Config;
@@ -62,6 +66,31 @@ impl Lab {
         ensures stands { (v : State) → ⟦<Lab as Stands>⟧.stands_for self.now v → Wraps result.now v }
     {
         &self.wrapper
+    }
+
+    /// Returns how many words of the generator are left, up to the last one that isn't zero. `None` if a seed gives the words
+    /// after the given ones.
+    ///
+    /// If the last given word isn't zero and the result isn't 0, then the number of given words less the result is how many were
+    /// taken.
+    pub fn words_left(&self) -> Option<usize>
+        ensures left { IfSome result (λ n. (v : State) → ⟦<Lab as Stands>⟧.stands_for self.now v → EndsAfter v.stream n) }
+        ensures none { is_some result ≡ is_none (generator_of self.now).1 }
+    {
+        self.wrapper.rng().left()
+    }
+
+    /// Inserts words before those that the generator gives next.
+    ///
+    /// The only error is `Memory`, with nothing changed.
+    pub fn push_words(&mut self, words: &[u64]) -> Result<(), Error>
+        ensures ok { OnOk result (PushesWords self.old words.now self.new) }
+        ensures memory { OnErr result (IsMemory result) }
+        ensures err { OnErr result (self.new ≡ self.old) }
+    {
+        let rng = self.wrapper.rng().with_words(self.alloc, words)?;
+        self.wrapper.set_rng(rng);
+        Ok(())
     }
 
     fn configure(&mut self, config: &Config) -> Reply

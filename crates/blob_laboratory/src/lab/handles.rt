@@ -3,12 +3,12 @@ ghost use Rattle.std.specs.Prelude.{◌≡◌, ◌<◌, ◌++◌, ◌∷◌, [],
 ghost use Rattle.blob_header.specs.Refusals.{IsMemory};
 ghost use Rattle.blob_states.specs.Steps.{unregistered};
 ghost use Rattle.blob_states.specs.Answers.{kept_at};
-ghost use Rattle.blob_opens.specs.Opens.{names_of, store_handle, registration_of};
+ghost use Rattle.blob_opens.specs.Opens.{names_of};
 ghost use Rattle.blob_laboratory.specs.Tables.{as_held, handles_of, HasFreeSlot};
 
 use blob_base::Error;
 use blob_opens::Opens;
-use blob_opens::open::{self, Registration};
+use blob_opens::open::Registration;
 use std::alloc::Global;
 
 /// The wrapper's handles.
@@ -23,16 +23,12 @@ pub(crate) struct Handle {
 
 impl Handle {
     /// The handle of an exclusive open.
-    pub(crate) fn exclusive(blob: open::Blob<WrapperBlob>) -> Handle
-        ensures blob { result.blob ≡ store_handle blob }
-        ensures registration { result.registration ≡ Some (registration_of blob) }
+    pub(crate) fn exclusive(blob: WrapperBlob, registration: Registration) -> Handle
+        ensures blob { result.blob ≡ blob }
+        ensures registration { result.registration ≡ Some registration }
     {
-        let open::Blob {
-            inner,
-            registration,
-        } = blob;
         Handle {
-            blob: inner,
+            blob,
             registration: Some(registration),
         }
     }
@@ -52,12 +48,12 @@ impl Handle {
     pub(crate) fn close(self, opens: &mut Opens)
         ensures { names_of opens.new ≡ unregistered (names_of opens.old) self.registration }
     {
-        let Handle { blob, registration } = self;
+        let Handle {
+            blob: _,
+            registration,
+        } = self;
         if let Some(registration) = registration {
-            opens.close(open::Blob {
-                inner: blob,
-                registration,
-            });
+            opens.release(registration);
         }
     }
 }

@@ -9,8 +9,8 @@ moved P known bytes old old' new new' k o n h = subst (λ (x : Option (List ℕ)
 
 pub returns-clause-done : goal.returns-clause-done
 returns-clause-done c = λ e.
-    moved (λ bs old new. Prints (script_of (lines_of bs)) old new) (Some c.new-input.result.reader.now) c.args.script.now (Some c.new-output.result.writer.items) (Some []) (Some c.run_script-ending.new.output.writer.items) (Some c.into_writer.result.items) (search rules) (search rules) (search rules) (c.run_script-ending.ensures.done e)
+    moved (λ bs old new. Prints (script_of (lines_of bs)) old new) (Some c.new-input.result.reader.now) c.args.script.now (Some c.new-output.result.writer.items) (Some []) (Some c.serve_script-ending.new.output.writer.items) (Some c.into_writer.result.items) (search rules) (search rules) (search rules) (c.serve_script-ending.ensures.done e)
 
 pub returns-clause-bad_call : goal.returns-clause-bad_call
 returns-clause-bad_call c = λ number e.
-    moved (λ bs old new. PrintsBeforeLine number bs old new) (Some c.new-input.result.reader.now) c.args.script.now (Some c.new-output.result.writer.items) (Some []) (Some c.run_script-ending.new.output.writer.items) (Some c.into_writer.result.items) (search rules) (search rules) (search rules) (c.run_script-ending.ensures.bad_call number e)
+    moved (λ bs old new. PrintsBeforeLine number bs old new) (Some c.new-input.result.reader.now) c.args.script.now (Some c.new-output.result.writer.items) (Some []) (Some c.serve_script-ending.new.output.writer.items) (Some c.into_writer.result.items) (search rules) (search rules) (search rules) (c.serve_script-ending.ensures.bad_call number e)

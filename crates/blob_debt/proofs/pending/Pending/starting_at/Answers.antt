@@ -1,6 +1,11 @@
-use Rattle.std.proofs.Common.{ap}
-use Rattle.blob_debt.specs.Debts.{standing_of}
+use Rattle.std.proofs.Common.{sym, zero-add}
 use Rattle.blob_debt.proofs.pending.Pending.starting_at.Goals as goal
 
-pub returns-clause-names : goal.returns-clause-names
-returns-clause-names c = record { standing = λ p n. ap (λ f. standing_of (f p n)) c.new.ensures }
+pub returns : goal.returns
+returns c = record {
+  names = record { standing = c.new-pending.ensures.names.standing };
+  outstanding = c.new-pending.ensures.outstanding;
+  generations = sym (zero-add c.args.next_generation);
+  tokens = sym (zero-add c.args.next_token);
+  numbered = tt;
+}

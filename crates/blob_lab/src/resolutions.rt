@@ -1,0 +1,55 @@
+ghost use Rattle.std.specs.Prelude.{true, ◌≡◌, ◌≢◌, ℕ, IfSome, IsErr};
+ghost use Rattle.std.specs.Io.KnownBytes.{Keeps};
+ghost use Rattle.std.specs.Io.BufRead.{DropsThrough, first_piece};
+ghost use Rattle.hex.specs.Hex.{decode_of};
+ghost use Rattle.blob_lab.specs.ResolveReplies.{AnswersLine};
+ghost use Rattle.blob_lab.specs.Streams.{OfBytes, OfKnown, reader_of, read_failed, writer_of, write_failed, is_flushed};
+
+mod resolving;
+
+use crate::{Ending, Input, Output};
+use resolving::resolve_line;
+use std::alloc::Global;
+use std::io::{BufRead, Write};
+
+/// Reads one line of hex digits, resolves its bytes as a whole blob, and writes what comes of it as one line, which is flushed.
+/// Returns how the run ended, which is the exit status and the line for standard error, with the reader and the writer as they are
+/// then.
+pub fn run_resolve<R: BufRead, W: Write>(alloc: Global, reader: R, writer: W) -> (Ending, R, W)
+    ensures replied { result.0 ≡ Ending.Done
+        → OfKnown R.remaining W.contents reader writer result.2 (λ bytes. AnswersLine (first_piece 10 bytes)) }
+    ensures rest { result.0 ≡ Ending.Done → DropsThrough (R.remaining reader) (R.remaining result.1) 10 }
+    ensures bad_image { result.0 ≡ Ending.BadImage → IfSome (R.remaining reader) (λ bytes. IsErr (decode_of (first_piece 10 bytes))) }
+    ensures nothing_written { result.0 ≢ Ending.Done → result.0 ≢ Ending.OutputFailed → Keeps (W.contents writer) (W.contents result.2) }
+    ensures ending { ((line : ℕ) → result.0 ≢ Ending.BadCall line) × (result.0 ≢ Ending.Usage) }
+{
+    let mut input = Input::new(reader);
+    let mut output = Output::new(writer);
+    let ending = serve_resolve(alloc, &mut input, &mut output);
+    (ending, input.into_reader(), output.into_writer())
+}
+
+/// Runs `resolve` as `run_resolve` does, over streams that remember what came of using them.
+pub fn serve_resolve<R: BufRead, W: Write>(
+    alloc: Global,
+    input: &mut Input<R>,
+    output: &mut Output<W>,
+) -> Ending
+    ensures replied { result ≡ Ending.Done
+        → OfBytes R.remaining W.contents input.old output.old output.new (λ bytes. AnswersLine (first_piece 10 bytes)) }
+    ensures rest { result ≡ Ending.Done → DropsThrough (R.remaining (reader_of input.old)) (R.remaining (reader_of input.new)) 10 }
+    ensures bad_image { result ≡ Ending.BadImage → IfSome (R.remaining (reader_of input.old)) (λ bytes. IsErr (decode_of (first_piece 10 bytes))) }
+    ensures nothing_written { result ≢ Ending.Done → result ≢ Ending.OutputFailed
+        → Keeps (W.contents (writer_of output.old)) (W.contents (writer_of output.new)) }
+    ensures ending { ((line : ℕ) → result ≢ Ending.BadCall line) × (result ≢ Ending.Usage) }
+    ensures handed_on { result ≡ Ending.Done → is_flushed output.new ≡ true }
+    ensures input_failed { result ≡ Ending.InputFailed → read_failed input.new ≡ true }
+    ensures output_failed { result ≡ Ending.OutputFailed → write_failed output.new ≡ true }
+    ensures input_sound { result ≢ Ending.InputFailed → read_failed input.new ≡ read_failed input.old }
+    ensures output_sound { result ≢ Ending.OutputFailed → write_failed output.new ≡ write_failed output.old }
+{
+    match resolve_line(alloc, input, output) {
+        Ok(()) => Ending::Done,
+        Err(ending) => ending,
+    }
+}
