@@ -9,13 +9,13 @@ ghost use Rattle.blob_pictures.specs.Explanations.{ExplainsBefore, IsExplanation
 
 use crate::play::pictures_of;
 use crate::remarks::push_remarks;
-use blob_lab::run_script::run_script;
-use blob_lab::{Ending, Input, Output};
+use blob_lab::{Ending, Input, Output, serve_script};
 use std::alloc::{AllocError, Global};
 use std::io::{BufRead, Write};
 
-/// Runs a script to its end, and writes what `run_script` writes with remarks behind each reply to a crash that was drawn: lines
-/// that begin with `# ` and show what became of each file that had something pending.
+/// Runs a script to its end and writes what `run_script` writes, with remarks between the replies: lines that begin with `# `.
+/// After a crash they show each file that had something pending. After a write, a resize or a started sync they show its outcome,
+/// if the reply doesn't report it.
 ///
 /// All of it is written at the end, and the script is run twice, for its replies and for the pictures. Where it ends as
 /// `InputFailed` nothing was written, nor may it be where it ends as `NoMemory`. The writer is flushed at the end, whatever came
@@ -78,7 +78,7 @@ fn explanation<R: BufRead>(alloc: Global, input: &mut Input<R>) -> Result<(Vec<u
     input.read_all(&mut script)?;
     let mut lines = Input::new(script.as_slice());
     let mut replies = Output::new(Vec::new(alloc));
-    let ending = run_script(alloc, &mut lines, &mut replies);
+    let ending = serve_script(alloc, &mut lines, &mut replies);
     // A list is a reader that doesn't fail, and a writer that fails for want of memory alone.
     if ending == Ending::InputFailed || ending == Ending::OutputFailed {
         return Err(Ending::NoMemory);
@@ -93,7 +93,7 @@ fn explanation<R: BufRead>(alloc: Global, input: &mut Input<R>) -> Result<(Vec<u
     Ok((text, ending))
 }
 
-/// The replies, with the pictures in turn behind those of crashes.
+/// The replies, each followed by its text.
 #[tactic(auto, using(crate::proofs::Explaining::goes_on, crate::proofs::Explaining::explained))]
 fn explained(alloc: Global, replies: &[u8], pictures: &[String]) -> Result<Vec<u8>, AllocError>
     ensures { IfOk result (λ text. IsExplained replies.now text.items) }
@@ -104,24 +104,23 @@ fn explained(alloc: Global, replies: &[u8], pictures: &[String]) -> Result<Vec<u
     'lines: while let Some((line, others)) = first_line(rest) {
         text.extend_from_slice(line)?;
         text.push(b'\n')?;
-        push_picture(line, pictures, &mut shown, &mut text)?;
+        push_picture(pictures, &mut shown, &mut text)?;
         rest = others;
     }
     text.extend_from_slice(rest)?;
     Ok(text)
 }
 
-/// Adds the next picture behind the reply to a crash.
+/// Adds the next text.
 #[tactic(auto, using(crate::proofs::Explaining::none))]
 fn push_picture(
-    line: &[u8],
     pictures: &[String],
     shown: &mut usize,
     text: &mut Vec<u8>,
 ) -> Result<(), AllocError>
     ensures { OnOk result (Remarks text.old.items text.new.items) }
 {
-    if !line.starts_with(b"crashed") || *shown >= pictures.len() {
+    if *shown >= pictures.len() {
         return Ok(());
     }
     let picture = &pictures[*shown];

@@ -1,11 +1,12 @@
 // What a crash finds pending, file by file.
+use crate::bases::{Bases, Range};
 use blob_base::{Durable, Error, IoBufs};
 use blob_faults::entries::unmarked;
 use blob_faults::entry::Entry;
 use blob_faults::incarnation::Incarnation;
 use blob_lab::lab::Wrapper;
 use blob_memory::Origin;
-use std::alloc::Global;
+use std::alloc::{AllocError, Global};
 use std::cmp::Ordering;
 
 /// One incarnation with something pending.
@@ -16,7 +17,7 @@ pub(crate) struct File {
     pub(crate) number: u64,
     /// Whether it is still its name's: nothing is left to change of one that has ended.
     pub(crate) is_current: bool,
-    /// Its durable bytes before the crash.
+    /// Its durable bytes when the first entry was issued that a crash goes through.
     pub(crate) before: Vec<u8>,
     /// How many entries stand before a started sync, which made them durable.
     pub(crate) held: usize,
@@ -29,31 +30,67 @@ pub(crate) enum Item {
     Write(Write),
     /// A resize that survives, to so many bytes.
     Resize(u64),
-    /// Bytes that are durable already, and are laid again behind an earlier resize.
+    /// Bytes that a SYNC write or a failed write made durable.
     Durable { offset: u64, bytes: Vec<u8> },
 }
 
-/// A write that a crash may lose in part.
+/// A write that a crash may lose in part, or that failed.
 #[derive(Drop)]
 pub(crate) struct Write {
-    pub(crate) number: u64,
+    /// None if the write failed.
+    pub(crate) number: Option<u64>,
     pub(crate) offset: u64,
     pub(crate) bytes: Vec<u8>,
-    /// From the first to behind the last byte of each range of it over which later bytes are durable.
+    /// The ranges of it that later durable bytes cover: start and end.
     pub(crate) holes: Vec<(u64, u64)>,
+    /// One choice per byte. Empty if there was no draw.
+    pub(crate) kept: Vec<bool>,
 }
 
 /// Copies of all that is pending, sorted by names. The only error is `Memory`.
-pub(crate) fn pending_files(alloc: Global, wrapper: &Wrapper) -> Result<Vec<File>, Error> {
+pub(crate) fn pending_files(
+    alloc: Global,
+    wrapper: &Wrapper,
+    bases: &Bases,
+) -> Result<Vec<File>, Error> {
     let mut files: Vec<File> = Vec::new(alloc);
     for list in wrapper.pending() {
         if list.entries.iter().any(|entry| entry.is_left()) {
-            let file = file_of(alloc, wrapper, list)?;
-            let at = files.iter().position(|other| comes_before(&file, other));
-            files.insert(at.unwrap_or(files.len()), file)?;
+            let file = file_of(alloc, wrapper, list, bases)?;
+            if !file.entries.is_empty() {
+                let at = files.iter().position(|other| comes_before(&file, other));
+                files.insert(at.unwrap_or(files.len()), file)?;
+            }
         }
     }
     Ok(files)
+}
+
+/// Gives each write the choices of its row. Both are sorted by number. The only error is `Memory`.
+pub(crate) fn choose(
+    alloc: Global,
+    files: &mut [File],
+    rows: &[(u64, Vec<bool>)],
+) -> Result<(), Error> {
+    for file in files.iter_mut() {
+        let mut left = rows;
+        for item in file.entries.iter_mut() {
+            if let Item::Write(write) = item {
+                let Some(number) = write.number else {
+                    continue;
+                };
+                let place = left.iter().position(|row| number <= row.0);
+                left = left.get(place.unwrap_or(left.len())..).unwrap_or(&[]);
+                match left.first() {
+                    Some((drawn, choices)) if *drawn == number => {
+                        write.kept = Vec::from_slice(alloc, choices)?;
+                    }
+                    _ => {}
+                }
+            }
+        }
+    }
+    Ok(())
 }
 
 fn comes_before(file: &File, other: &File) -> bool {
@@ -68,52 +105,168 @@ fn comes_before(file: &File, other: &File) -> bool {
     }
 }
 
-fn file_of(alloc: Global, wrapper: &Wrapper, list: &Incarnation<Origin>) -> Result<File, Error> {
-    let origin = &list.origin;
-    let is_current = wrapper.is_current(origin);
-    let before = if is_current {
-        wrapper
-            .inner()
-            .logical_blob(origin.partition(), origin.name())?
-    } else {
-        None
-    };
-    let mut entries = Vec::new(alloc);
-    for entry in &list.entries {
-        match entry {
-            Entry::Write(write) if !write.is_covered() => {
-                let mut holes = Vec::new(alloc);
-                for hole in &write.holes {
-                    holes.push((hole.start, hole.end))?;
-                }
-                entries.push(Item::Write(Write {
-                    number: write.number,
-                    offset: write.offset,
-                    bytes: bytes_of(alloc, &write.bytes)?,
-                    holes,
-                }))?;
+fn file_of(
+    alloc: Global,
+    wrapper: &Wrapper,
+    list: &Incarnation<Origin>,
+    bases: &Bases,
+) -> Result<File, Error> {
+    let loose = unmarked(&list.entries);
+    let held = list.entries.len().saturating_sub(loose.len());
+    let mut file = File::new(alloc, wrapper, &list.origin)?;
+    file.add_held(alloc, &list.entries, held)?;
+    let ranges = file.begin(alloc, wrapper, bases)?;
+    file.add_loose(alloc, loose, ranges)?;
+    Ok(file)
+}
+
+/// Whether a range became durable before an entry was issued.
+fn stands_before(range: &Range, item: &Item) -> bool {
+    match item {
+        Item::Write(write) => match (range.after, write.number) {
+            (Some(last), Some(number)) => last < number,
+            _ => range.after.is_none(),
+        },
+        Item::Resize(_) | Item::Durable { .. } => true,
+    }
+}
+
+impl File {
+    fn new(alloc: Global, wrapper: &Wrapper, origin: &Origin) -> Result<File, Error> {
+        Ok(File {
+            partition: String::from_str(alloc, origin.partition())?,
+            name: Vec::from_slice(alloc, origin.name())?,
+            number: origin.generation(),
+            is_current: wrapper.is_current(origin),
+            before: Vec::new(alloc),
+            held: 0,
+            entries: Vec::new(alloc),
+        })
+    }
+
+    /// Adds the first entries, which a started sync made durable.
+    fn add_held(&mut self, alloc: Global, entries: &[Entry], count: usize) -> Result<(), Error> {
+        for entry in entries.iter().take(count) {
+            if let Some(item) = item_of(alloc, entry)? {
+                self.entries.push(item)?;
             }
-            Entry::Resize(len) => entries.push(Item::Resize(*len))?,
-            Entry::Range(range) => entries.push(Item::Durable {
-                offset: range.offset,
-                bytes: bytes_of(alloc, &range.bytes)?,
-            })?,
-            Entry::Write(_) | Entry::Marker(_) => {}
+        }
+        self.held = self.entries.len();
+        Ok(())
+    }
+
+    /// Sets the durable bytes before the other entries, and returns the ranges that became durable since.
+    fn begin<'a>(
+        &mut self,
+        alloc: Global,
+        wrapper: &Wrapper,
+        bases: &'a Bases,
+    ) -> Result<&'a [Range], Error> {
+        if !self.is_current {
+            return Ok(&[]);
+        }
+        if let Some(base) = bases.get(&self.partition, &self.name) {
+            self.before = Vec::from_slice(alloc, &base.bytes)?;
+            return Ok(&base.ranges);
+        }
+        let bytes = wrapper.inner().logical_blob(&self.partition, &self.name)?;
+        self.before = bytes.unwrap_or(Vec::new(alloc));
+        Ok(&[])
+    }
+
+    /// Adds the other entries, and the ranges where they belong among them.
+    fn add_loose(&mut self, alloc: Global, loose: &[Entry], ranges: &[Range]) -> Result<(), Error> {
+        let mut placed = 0;
+        for entry in loose {
+            if let Some(item) = item_of(alloc, entry)? {
+                placed = self.add_ranges_before(alloc, ranges, &item, placed)?;
+                self.add(item)?;
+            }
+        }
+        for range in ranges.iter().skip(placed) {
+            self.add_range(alloc, range)?;
+        }
+        Ok(())
+    }
+
+    /// Adds the ranges that became durable before an entry was issued. Returns how many are added by now.
+    fn add_ranges_before(
+        &mut self,
+        alloc: Global,
+        ranges: &[Range],
+        item: &Item,
+        placed: usize,
+    ) -> Result<usize, Error> {
+        let mut count = placed;
+        for range in ranges.iter().skip(placed) {
+            if !stands_before(range, item) {
+                break;
+            }
+            self.add_range(alloc, range)?;
+            count = count.saturating_add(1);
+        }
+        Ok(count)
+    }
+
+    fn add_range(&mut self, alloc: Global, range: &Range) -> Result<(), AllocError> {
+        let bytes = Vec::from_slice(alloc, &range.bytes)?;
+        self.add(Item::Durable {
+            offset: range.offset,
+            bytes,
+        })
+    }
+
+    /// Adds an entry. Bytes that are durable before the first entry that a crash goes through are among those before.
+    fn add(&mut self, item: Item) -> Result<(), AllocError> {
+        match item {
+            Item::Durable { offset, bytes } if self.is_current && self.entries.len() == self.held =>
+                { overlay(&mut self.before, offset, &bytes) }
+            item => {
+                self.entries.push(item)?;
+                Ok(())
+            }
         }
     }
-    let loose = unmarked(&list.entries)
-        .iter()
-        .filter(|entry| entry.is_left())
-        .count();
-    Ok(File {
-        partition: String::from_str(alloc, origin.partition())?,
-        name: Vec::from_slice(alloc, origin.name())?,
-        number: origin.generation(),
-        is_current,
-        before: before.unwrap_or(Vec::new(alloc)),
-        held: entries.len().saturating_sub(loose),
-        entries,
-    })
+}
+
+/// Writes bytes over others, which grow with zeros up to their end.
+fn overlay(to: &mut Vec<u8>, offset: u64, bytes: &[u8]) -> Result<(), AllocError> {
+    let start = offset as usize;
+    let end = start.saturating_add(bytes.len());
+    for i in to.len()..end {
+        let _ = i;
+        to.push(0)?;
+    }
+    for (place, byte) in to.iter_mut().skip(start).zip(bytes) {
+        *place = *byte;
+    }
+    Ok(())
+}
+
+/// What a picture shows of an entry; nothing of a write that is covered whole, and of a marker.
+fn item_of(alloc: Global, entry: &Entry) -> Result<Option<Item>, Error> {
+    let item = match entry {
+        Entry::Write(write) if !write.is_covered() => {
+            let mut holes = Vec::new(alloc);
+            for hole in &write.holes {
+                holes.push((hole.start, hole.end))?;
+            }
+            Item::Write(Write {
+                number: Some(write.number),
+                offset: write.offset,
+                bytes: bytes_of(alloc, &write.bytes)?,
+                holes,
+                kept: Vec::new(alloc),
+            })
+        }
+        Entry::Resize(len) => Item::Resize(*len),
+        Entry::Range(range) => Item::Durable {
+            offset: range.offset,
+            bytes: bytes_of(alloc, &range.bytes)?,
+        },
+        Entry::Write(_) | Entry::Marker(_) => return Ok(None),
+    };
+    Ok(Some(item))
 }
 
 fn bytes_of(alloc: Global, bufs: &IoBufs) -> Result<Vec<u8>, Error> {

@@ -12,13 +12,8 @@ enum Fate {
     Covered,
 }
 
-/// Adds what a crash that kept these rows did to a file: its lengths, each entry, and the bytes that were reached.
-pub(crate) fn draw(
-    file: &File,
-    rows: &[(u64, Vec<bool>)],
-    after: &[u8],
-    text: &mut String,
-) -> Result<(), AllocError> {
+/// Adds what became of a file's entries: its lengths, each entry, and the bytes that were reached.
+pub(crate) fn draw(file: &File, after: &[u8], text: &mut String) -> Result<(), AllocError> {
     let name = hex::encode(*text.allocator(), &file.name)?;
     let (partition, before) = (&file.partition, file.before.len());
     write!(text, "{partition} {name}: ")?;
@@ -29,28 +24,26 @@ pub(crate) fn draw(
         writeln!(text, "has ended, and nothing of it is left to change")?;
     }
     for (i, item) in file.entries.iter().enumerate() {
-        push_item(item, i < file.held, rows, text)?;
+        push_item(item, i < file.held, text)?;
     }
     if file.is_current {
-        push_stripes(file, rows, after, text)?;
+        push_stripes(file, after, text)?;
     }
     Ok(())
 }
 
 /// Adds the line of an entry.
-fn push_item(
-    item: &Item,
-    is_held: bool,
-    rows: &[(u64, Vec<bool>)],
-    text: &mut String,
-) -> Result<(), AllocError> {
+pub(crate) fn push_item(item: &Item, is_held: bool, text: &mut String) -> Result<(), AllocError> {
     text.push_str("  ")?;
+    if is_failed(item) {
+        text.push_str("failed ")?;
+    }
     push_label(item, text)?;
     match item {
         Item::Write(write) => {
             push_range(write.offset, write.bytes.len(), text)?;
             if !is_held {
-                push_counts(write, row_of(rows, write.number), text)?;
+                push_counts(write, text)?;
             }
         }
         Item::Resize(len) => write!(text, " to {len}")?,
@@ -62,24 +55,34 @@ fn push_item(
     text.push('\n')
 }
 
+fn is_failed(item: &Item) -> bool {
+    match item {
+        Item::Write(write) => write.number.is_none(),
+        Item::Resize(_) | Item::Durable { .. } => false,
+    }
+}
+
 fn push_label(item: &Item, text: &mut String) -> Result<(), AllocError> {
     match item {
         Item::Write(write) => {
-            let number = write.number;
-            write!(text, "write {number}")
+            text.push_str("write")?;
+            match write.number {
+                None => Ok(()),
+                Some(number) => write!(text, " {number}"),
+            }
         }
         Item::Resize(_) => text.push_str("resize"),
         Item::Durable { .. } => text.push_str("durable"),
     }
 }
 
-fn push_range(offset: u64, len: usize, text: &mut String) -> Result<(), AllocError> {
+pub(crate) fn push_range(offset: u64, len: usize, text: &mut String) -> Result<(), AllocError> {
     let end = offset.saturating_add(len as u64);
     write!(text, " {offset}..{end}")
 }
 
 /// Adds how many bytes of a write had each fate.
-fn push_counts(write: &Write, row: &[bool], text: &mut String) -> Result<(), AllocError> {
+fn push_counts(write: &Write, text: &mut String) -> Result<(), AllocError> {
     let mut separator = ": ";
     for (fate, word) in [
         (Fate::Kept, "kept"),
@@ -87,7 +90,7 @@ fn push_counts(write: &Write, row: &[bool], text: &mut String) -> Result<(), All
         (Fate::Covered, "covered"),
     ] {
         let count = (0..write.bytes.len())
-            .filter(|i| fate_of(write, row, *i) == fate)
+            .filter(|i| fate_of(write, *i) == fate)
             .count();
         if count > 0 {
             write!(text, "{separator}{count} {word}")?;
@@ -97,34 +100,19 @@ fn push_counts(write: &Write, row: &[bool], text: &mut String) -> Result<(), All
     Ok(())
 }
 
-fn fate_of(write: &Write, row: &[bool], i: usize) -> Fate {
+fn fate_of(write: &Write, i: usize) -> Fate {
     let at = write.offset.saturating_add(i as u64);
     if write.holes.iter().any(|hole| hole.0 <= at && at < hole.1) {
         Fate::Covered
-    } else if row.get(i) == Some(&true) {
+    } else if write.kept.get(i) == Some(&true) {
         Fate::Kept
     } else {
         Fate::Lost
     }
 }
 
-/// The choices for a write, none where it wasn't drawn for.
-fn row_of(rows: &[(u64, Vec<bool>)], number: u64) -> &[bool] {
-    for (drawn, choices) in rows {
-        if *drawn == number {
-            return choices;
-        }
-    }
-    &[]
-}
-
 /// Adds the bytes before and after, and those of each entry, where any were reached. Stripes that look alike are folded.
-fn push_stripes(
-    file: &File,
-    rows: &[(u64, Vec<bool>)],
-    after: &[u8],
-    text: &mut String,
-) -> Result<(), AllocError> {
+fn push_stripes(file: &File, after: &[u8], text: &mut String) -> Result<(), AllocError> {
     let alloc = *text.allocator();
     let loose = file.entries.get(file.held..).unwrap_or(&[]);
     let mut end = file.before.len().max(after.len()) as u64;
@@ -143,7 +131,7 @@ fn push_stripes(
         let at = k.saturating_mul(STRIPE);
         let mut stripe = String::new(alloc);
         if is_reached(file, loose, after, at) {
-            push_stripe(file, loose, rows, after, at, width, &mut stripe)?;
+            push_stripe(file, loose, after, at, width, &mut stripe)?;
         }
         if !stripe.is_empty() && stripe == last && next == at {
             is_folded = true;
@@ -198,7 +186,6 @@ fn cut(bytes: &[u8], at: u64) -> &[u8] {
 fn push_stripe(
     file: &File,
     loose: &[Item],
-    rows: &[(u64, Vec<bool>)],
     after: &[u8],
     at: u64,
     width: usize,
@@ -212,7 +199,7 @@ fn push_stripe(
         if is_laid_in(item, at) {
             cells.clear();
             for i in 0..STRIPE {
-                cells.push(cell_of(item, rows, at.saturating_add(i)))?;
+                cells.push(cell_of(item, at.saturating_add(i)))?;
             }
             label.clear();
             push_label(item, &mut label)?;
@@ -232,14 +219,14 @@ fn push_bytes(bytes: &[u8], cells: &mut Vec<Cell>) -> Result<(), AllocError> {
 }
 
 /// What an entry shows at an offset.
-fn cell_of(item: &Item, rows: &[(u64, Vec<bool>)], at: u64) -> Cell {
+fn cell_of(item: &Item, at: u64) -> Cell {
     let (start, end) = range_of(item);
     if at < start || at >= end {
         return Cell::Blank;
     }
     let i = (at - start) as usize;
     match item {
-        Item::Write(write) => match fate_of(write, row_of(rows, write.number), i) {
+        Item::Write(write) => match fate_of(write, i) {
             Fate::Kept => byte_at(&write.bytes, i),
             Fate::Lost => Cell::Mark('-'),
             Fate::Covered => Cell::Mark('='),

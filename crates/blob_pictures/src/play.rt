@@ -1,11 +1,10 @@
-// A script that is run for its crashes.
-use crate::files::{File, pending_files};
-use crate::picture::draw;
+// A script that is run for what its replies don't report.
+use crate::watch::Watch;
 use blob_base::Error;
 use blob_faulty::Config;
 use blob_lab::script::setting::copy_of;
 use blob_lab::script::{Line, RefusedLine, read_line};
-use blob_lab::{Call, Lab, Reply};
+use blob_lab::{Call, Lab, ScriptedRng};
 use std::alloc::{AllocError, Global};
 
 /// What a laboratory begins with, and the calls to make.
@@ -18,8 +17,7 @@ struct Script {
     calls: Vec<Call>,
 }
 
-/// The text of a picture for each crash that was drawn. Where a line is bad, of those before it at least. The only error is
-/// `Memory`.
+/// A text for each reply, most of them empty. Where a line is bad, for those before it at least. The only error is `Memory`.
 pub(crate) fn pictures_of(alloc: Global, script: &[u8]) -> Result<Vec<String>, Error> {
     let Script {
         images,
@@ -28,11 +26,19 @@ pub(crate) fn pictures_of(alloc: Global, script: &[u8]) -> Result<Vec<String>, E
         config: _,
         calls,
     } = read(alloc, script)?;
-    let mut lab = match seed {
-        None => Lab::new(images, words, Config::default())?,
-        Some(seed) => Lab::seeded(images, words, seed, Config::default())?,
+    let copy = Vec::from_slice(alloc, &words)?;
+    let (mut lab, rng) = match seed {
+        None => (
+            Lab::new(images, words, Config::default())?,
+            ScriptedRng::new(copy),
+        ),
+        Some(seed) => (
+            Lab::seeded(images, words, seed, Config::default())?,
+            ScriptedRng::seeded(copy, seed),
+        ),
     };
-    let pictures = play(alloc, &mut lab, &calls);
+    let mut watch = Watch::new(alloc, rng);
+    let pictures = play(alloc, &mut lab, &mut watch, &calls);
     lab.end();
     pictures
 }
@@ -76,36 +82,15 @@ impl Script {
     }
 }
 
-fn play(alloc: Global, lab: &mut Lab, calls: &[Call]) -> Result<Vec<String>, Error> {
+fn play(
+    alloc: Global,
+    lab: &mut Lab,
+    watch: &mut Watch,
+    calls: &[Call],
+) -> Result<Vec<String>, Error> {
     let mut pictures = Vec::new(alloc);
     for call in calls {
-        let files = match call {
-            Call::Crash => pending_files(alloc, lab.wrapper())?,
-            _ => Vec::new(alloc),
-        };
-        if let Reply::Crashed(kept) = lab.apply(call) {
-            pictures.push(picture(alloc, lab, &files, kept.rows())?)?;
-        }
+        pictures.push(watch.step(lab, call)?)?;
     }
     Ok(pictures)
-}
-
-fn picture(
-    alloc: Global,
-    lab: &Lab,
-    files: &[File],
-    rows: &[(u64, Vec<bool>)],
-) -> Result<String, Error> {
-    let mut text = String::new(alloc);
-    for file in files {
-        let after = lab
-            .wrapper()
-            .inner()
-            .logical_blob(&file.partition, &file.name)?;
-        match after {
-            Some(after) if file.is_current => draw(file, rows, &after, &mut text)?,
-            _ => draw(file, rows, &file.before, &mut text)?,
-        }
-    }
-    Ok(text)
 }

@@ -1,0 +1,193 @@
+-- How many words are left tells how many were taken.
+use Rattle.std.proofs.Common.{◌≡◌, ◌≢◌, ◌<◌, ◌≤◌, ℕ, zero, suc, ◌+◌, ◌-◌, ◌^◌, Bool, true, false, List, [], ◌∷◌, ◌++◌, length, get_or, take, drop, replicate, None, refl, sym, ap, ◌∙◌, subst, arith, ⊎_elim, append_assoc, append-nil}
+use Rattle.std.proofs.lemmas.Bool.{cases_lt}
+use Rattle.std.proofs.lemmas.List.{map-append, length-map, length-append, length-drop, length-replicate, drop-append-le, drop_all, take_all, take-append-drop}
+use Rattle.std.proofs.Math.ListN.{get_or-eq_default}
+use Rattle.std.proofs.Math.Seq.{get_or-append_seam}
+use Rattle.rand_core.specs.Stream.{Stream}
+use Rattle.rand_core.specs.Steps.{stream_of}
+use Rattle.blob_calls.specs.declared.call.Call.{Call}
+use Rattle.blob_calls.specs.declared.reply.Reply.{Reply}
+use Rattle.blob_calls.specs.Told.{Told}
+use Rattle.blob_tree.specs.WordsLeft.{EndsAfter, word_at}
+use Rattle.blob_states.specs.Runs.{LeadsTo}
+use Rattle.blob_states.specs.Scripted.{Left, scripted}
+use Rattle.blob_states.specs.States.{State}
+use Rattle.blob_tree.specs.Trees.{DecisionTree, Leaf, Choice, IsLeaf, depth, extended, outcome_word, words_of}
+use Rattle.blob_tree.proofs.Visits.{extended-resized}
+use Rattle.blob_choices.specs.Decided.{Decides, path_stream, zeros}
+use Rattle.blob_choices.specs.Explored.{RunsAlong, TellAll, sentinel_words}
+use Rattle.blob_choices.specs.Outcomes.{NoneOutOfMemory, acts_of, run_outcome, with_stream}
+use Rattle.blob_choices.proofs.Told.{any_stream, complete, next_stream, sound}
+use Rattle.blob_choices.proofs.ZeroTails.{zero_tails}
+
+-- Words.
+
+words_at : (words : List ℕ) (i : ℕ) → word_at (scripted (words, None)) i ≡ get_or words i 0
+unfolding stream_of
+words_at [] zero = refl
+words_at (w ∷ ws) zero = refl
+words_at [] (suc i) = words_at [] i
+words_at (w ∷ ws) (suc i) = words_at ws i
+
+-- words that end in one that isn't zero
+ends_at : (words : List ℕ) (w left : ℕ) → w ≢ 0 → EndsAfter (scripted (words ++ w ∷ [], None)) left → left ≡ length words + 1
+ends_at words w left some e =
+    let all : List ℕ = words ++ w ∷ [] in
+    let len : length all ≡ length words + 1 = length-append words (w ∷ []) in
+    let last : word_at (scripted (all, None)) (length words) ≡ w = words_at all (length words) ∙ get_or-append_seam words w [] 0 in
+    ⊎_elim
+    (λ (short : left < length words + 1). absurd (some (sym last ∙ e.zeros (length words) (omega (arith, short)))))
+    (λ (long : length words + 1 ≤ left). ⊎_elim
+    (λ (more : length words + 1 < left).
+    let at : left ≡ (left - 1) + 1 = omega (arith, more) in
+    absurd (e.last (left - 1) at (words_at all (left - 1) ∙ get_or-eq_default all 0 (omega (arith, more, len)))))
+    (λ (same : left ≤ length words + 1). omega (arith, long, same))
+    (cases_lt (length words + 1) left))
+    (cases_lt left (length words + 1))
+
+-- no word is left
+none_left : (left : ℕ) → EndsAfter (scripted ([], None)) left → 0 < left → ⊥
+none_left left e some =
+    let at : left ≡ (left - 1) + 1 = omega (arith, some) in
+    e.last (left - 1) at (words_at [] (left - 1))
+
+-- Paths.
+
+leaf_extended : (t : DecisionTree) (p : List Bool) → IsLeaf t (extended (depth t p) p)
+leaf_extended Leaf p = tt
+leaf_extended (Choice if_true if_false) [] = leaf_extended if_true []
+leaf_extended (Choice if_true if_false) (true ∷ p) = leaf_extended if_true p
+leaf_extended (Choice if_true if_false) (false ∷ p) = leaf_extended if_false p
+
+words_true : (n : ℕ) → words_of (replicate n true) ≡ replicate n 0
+words_true zero = refl
+words_true (suc n) = ap (λ (ws : List ℕ). 0 ∷ ws) (words_true n)
+
+-- the path that such given words are of
+abbrev roomy : List Bool → ℕ → List Bool
+roomy path room = path ++ replicate room true
+
+given_words : (path : List Bool) (room : ℕ) → words_of (roomy path room ++ false ∷ []) ≡ sentinel_words path room
+given_words path room =
+    ap words_of (append_assoc path (replicate room true) (false ∷ []))
+    ∙ map-append outcome_word path (replicate room true ++ false ∷ [])
+    ∙ ap (λ (ws : List ℕ). words_of path ++ ws) (map-append outcome_word (replicate room true) (false ∷ []) ∙ ap (λ (ws : List ℕ). ws ++ (2 ^ 64 - 1) ∷ []) (words_true room))
+
+length-roomy : (path : List Bool) (room : ℕ) → length (roomy path room) ≡ length path + room
+length-roomy path room = length-append path (replicate room true) ∙ ap (λ (n : ℕ). length path + n) (length-replicate {A = Bool} room true)
+
+-- true outcomes behind a path change nothing
+depth_roomy : (t : DecisionTree) (path : List Bool) (room : ℕ) → depth t (path ++ (replicate room true ++ false ∷ [])) ≤ length path + room → depth t path ≡ depth t (path ++ (replicate room true ++ false ∷ []))
+depth_roomy Leaf path room h = refl
+depth_roomy (Choice if_true if_false) [] zero h = absurd (omega arith)
+depth_roomy (Choice if_true if_false) [] (suc room) h = ap suc (depth_roomy if_true [] room (omega arith))
+depth_roomy (Choice if_true if_false) (true ∷ path) room h = ap suc (depth_roomy if_true path room (omega arith))
+depth_roomy (Choice if_true if_false) (false ∷ path) room h = ap suc (depth_roomy if_false path room (omega arith))
+
+-- and they are none of the first outcomes
+extended_roomy : (d : ℕ) (path : List Bool) (room : ℕ) → d ≤ length path + room → extended d (path ++ (replicate room true ++ false ∷ [])) ≡ extended d path
+extended_roomy zero [] room h = refl
+extended_roomy zero (o ∷ path) room h = refl
+extended_roomy (suc d) [] zero h = absurd (omega arith)
+extended_roomy (suc d) [] (suc room) h = ap (λ (p : List Bool). true ∷ p) (extended_roomy d [] room (omega arith))
+extended_roomy (suc d) (o ∷ path) room h = ap (λ (p : List Bool). o ∷ p) (extended_roomy d path room (omega arith))
+
+-- the words of a path in two parts, with zeros between them where the second has none
+joined : (d : ℕ) (p : List Bool) → scripted ((words_of (take d p) ++ replicate (d - length p) 0) ++ words_of (drop d p), None) ≡ scripted (words_of p, None)
+joined d p = ⊎_elim
+    (λ (past : length p < d).
+    let end : drop d p ≡ [] = drop_all d p (omega (arith, past)) in
+    let all : take d p ≡ p = take_all d p (omega (arith, past)) in
+    ap (λ (q : List Bool). scripted ((words_of (take d p) ++ replicate (d - length p) 0) ++ words_of q, None)) end
+    ∙ ap (λ (ws : List ℕ). scripted (ws, None)) (append-nil (words_of (take d p) ++ replicate (d - length p) 0))
+    ∙ ap (λ (q : List Bool). scripted (words_of q ++ replicate (d - length p) 0, None)) all
+    ∙ zero_tails (d - length p) (words_of p))
+    (λ (within : d ≤ length p).
+    let none : d - length p ≡ 0 = omega (arith, within) in
+    ap (λ (n : ℕ). scripted ((words_of (take d p) ++ replicate n 0) ++ words_of (drop d p), None)) none
+    ∙ ap (λ (ws : List ℕ). scripted (ws ++ words_of (drop d p), None)) (append-nil (words_of (take d p)))
+    ∙ ap (λ (ws : List ℕ). scripted (ws, None)) (sym (map-append outcome_word (take d p) (drop d p)))
+    ∙ ap (λ (q : List Bool). scripted (words_of q, None)) (take-append-drop d p))
+    (cases_lt (length p) d)
+
+-- Runs.
+
+module _ (v w : State) (calls : List Call) (replies : List Reply) (t : DecisionTree) (D : Decides (run_outcome v (acts_of calls)) t) (there : NoneOutOfMemory replies) where
+  abbrev f : Stream → (List Told × (Stream → State)) × Stream
+  f = run_outcome v (acts_of calls)
+
+  -- what is left of the stream
+  rest_is : (s : Stream) → LeadsTo (with_stream v s) calls replies w → w.stream ≡ (f s).1
+  rest_is s run =
+      let ends = sound calls replies (with_stream v s) w there run in
+      ap (λ (u : State). u.stream) ends.state
+      ∙ ap (λ (o : (List Told × (Stream → State)) × Stream). (o.0.1 o.1).stream) (any_stream (acts_of calls) v s s)
+      ∙ ap (λ (u : State). u.stream) (next_stream (acts_of calls) v s (f s).1 (f s).1)
+
+  -- of the words of these outcomes
+  whole_of : (p : List Bool) → f (scripted (words_of p, None)) ≡ ((f (path_stream (extended (depth t p) p) zeros)).0, scripted (words_of (drop (depth t p) p), None))
+  whole_of p =
+      let d : ℕ = depth t p in
+      let behind : Left = (words_of (drop d p), None) in
+      let whole : extended d p ≡ take d p ++ replicate (d - length p) true = sym (extended-resized d p) in
+      let ws : words_of (extended d p) ≡ words_of (take d p) ++ replicate (d - length p) 0 =
+      ap words_of whole ∙ map-append outcome_word (take d p) (replicate (d - length p) true) ∙ ap (λ (xs : List ℕ). words_of (take d p) ++ xs) (words_true (d - length p)) in
+      let same : path_stream (extended d p) behind ≡ scripted (words_of p, None) = ap (λ (xs : List ℕ). scripted (xs ++ words_of (drop d p), None)) ws ∙ joined d p in
+      ap f (sym same) ∙ D.takes (extended d p) behind (leaf_extended t p)
+
+  rest_of : (p : List Bool) → (f (scripted (words_of p, None))).1 ≡ scripted (words_of (drop (depth t p) p), None)
+  rest_of p = ap (λ (o : (List Told × (Stream → State)) × Stream). o.1) (whole_of p)
+
+  -- a run of these words is one along the path to their leaf
+  runs_along : (p : List Bool) → LeadsTo (with_stream v (scripted (words_of p, None))) calls replies w → RunsAlong v calls (extended (depth t p) p) replies
+  runs_along p run =
+      let q : List Bool = extended (depth t p) p in
+      let x : List Told × (Stream → State) = (f (path_stream q zeros)).0 in
+      let s : Stream = scripted (words_of p, None) in
+      let ends = sound calls replies (with_stream v s) w there run in
+      let T : (List Told × (Stream → State)) × Stream → Type 0 = λ o. TellAll replies o.0.0 in
+      let told : TellAll replies x.0 = subst T (any_stream (acts_of calls) v s s ∙ whole_of p) ends.tells in (
+        x.1 v.stream,
+        λ behind.
+            let u : State = with_stream v (path_stream q behind) in
+            let same : run_outcome u (acts_of calls) u.stream ≡ (x, scripted behind) = any_stream (acts_of calls) v (path_stream q behind) (path_stream q behind) ∙ D.takes q behind (leaf_extended t p) in
+            let L : State → Type 0 = λ b. LeadsTo u calls replies b in
+            let to : (run_outcome u (acts_of calls) u.stream).0.1 (run_outcome u (acts_of calls) u.stream).1 ≡ with_stream (x.1 v.stream) (scripted behind) =
+            ap (λ (o : (List Told × (Stream → State)) × Stream). o.0.1 o.1) same ∙ next_stream (acts_of calls) v (path_stream q zeros) (scripted behind) v.stream in
+            subst L to (complete calls replies u (subst T (sym same) told)),
+      )
+
+  pub left_tells : (path : List Bool) (room left : ℕ) → LeadsTo (with_stream v (scripted (sentinel_words path room, None))) calls replies w → EndsAfter w.stream left → 0 < left
+      → (depth t path + left ≡ length path + room + 1) × (depth t path ≤ length path + room) × RunsAlong v calls (extended (depth t path) path) replies
+  left_tells path room left run e some =
+      let q : List Bool = roomy path room in
+      let p : List Bool = q ++ false ∷ [] in
+      let d : ℕ = depth t p in
+      let len : length q ≡ length path + room = length-roomy path room in
+      let rest : w.stream ≡ scripted (words_of (drop d p), None) =
+      rest_is (scripted (sentinel_words path room, None)) run ∙ ap (λ (ws : List ℕ). (f (scripted (ws, None))).1) (sym (given_words path room)) ∙ rest_of p in
+      let E : Stream → Type 0 = λ s. EndsAfter s left in
+      let ends : EndsAfter (scripted (words_of (drop d p), None)) left = subst E rest e in
+      let size : length p ≡ length q + 1 = length-append q (false ∷ []) in
+      ⊎_elim
+      (λ (past : length q < d).
+      let end : drop d p ≡ [] = drop_all d p (omega (arith, past, size)) in
+      let F : List Bool → Type 0 = λ r. EndsAfter (scripted (words_of r, None)) left in
+      absurd (none_left left (subst F end ends) some))
+      (λ (within : d ≤ length q).
+      let end : drop d p ≡ drop d q ++ false ∷ [] = drop-append-le d q (false ∷ []) within in
+      let ws : words_of (drop d p) ≡ words_of (drop d q) ++ (2 ^ 64 - 1) ∷ [] = ap words_of end ∙ map-append outcome_word (drop d q) (false ∷ []) in
+      let F : List ℕ → Type 0 = λ xs. EndsAfter (scripted (xs, None)) left in
+      let count : left ≡ length (words_of (drop d q)) + 1 = ends_at (words_of (drop d q)) (2 ^ 64 - 1) left (λ z. omega arith) (subst F ws ends) in
+      let fewer : length (words_of (drop d q)) ≡ length q - d = length-map (drop d q) outcome_word ∙ length-drop d q in
+      let parts : p ≡ path ++ (replicate room true ++ false ∷ []) = append_assoc path (replicate room true) (false ∷ []) in
+      let deep : depth t (path ++ (replicate room true ++ false ∷ [])) ≡ d = ap (depth t) (sym parts) in
+      let same : depth t path ≡ d = depth_roomy t path room (omega (arith, deep, within, len)) ∙ deep in
+      let most : depth t path ≤ length path + room = omega (arith, same, within, len) in
+      let L : List ℕ → Type 0 = λ xs. LeadsTo (with_stream v (scripted (xs, None))) calls replies w in
+      let R : List Bool → Type 0 = λ q. RunsAlong v calls q replies in
+      let to : extended d p ≡ extended (depth t path) path =
+      ap (λ (n : ℕ). extended n p) (sym same) ∙ ap (extended (depth t path)) parts ∙ extended_roomy (depth t path) path room most in
+      (omega (arith, count, fewer, within, same, len), most, subst R to (runs_along p (subst L (sym (given_words path room)) run))))
+      (cases_lt (length q) d)

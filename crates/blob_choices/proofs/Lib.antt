@@ -1,0 +1,10 @@
+pub mod Deciding
+pub mod Draws
+pub mod Fates
+pub mod Calls
+pub mod TwoWords
+pub mod Told
+pub mod ZeroTails
+pub mod Counts
+pub mod EveryRun
+pub mod Seeds

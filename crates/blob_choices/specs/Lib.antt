@@ -1,0 +1,4 @@
+pub mod Decided
+pub mod Outcomes
+pub mod Explored
+pub mod TwoWords

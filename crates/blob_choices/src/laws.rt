@@ -1,0 +1,51 @@
+//! Two words suffice to explore every run. Each law is the contract of a function that does nothing.
+
+ghost use Rattle.std.specs.Prelude.{ℕ, List, Option};
+ghost use Rattle.blob_model.specs.Draws.{drawn, positions};
+ghost use Rattle.blob_model.specs.Log.{Need};
+ghost use Rattle.blob_model.specs.Rates.{Rate, sampled};
+ghost use Rattle.blob_model.specs.declared.mode.PartialWriteMode.{PartialWriteMode};
+ghost use Rattle.blob_choices.specs.Decided.{IsDecided};
+ghost use Rattle.blob_choices.specs.Explored.{LeavesAreAllRuns, LeavesHoldEveryRun, LeftTellsTaken, SeedsHaveU64Words};
+ghost use Rattle.blob_choices.specs.TwoWords.{CallsAreDecided, RunsAreDecided, TwoWordsSuffice};
+
+/// A decision tree describes one draw of a rate, the draws of one write, and those of a crash.
+pub fn draws()
+    ensures one { (rate : Rate) → IsDecided (sampled rate) }
+    ensures write { (mode : PartialWriteMode) (rate : Rate) (o n : ℕ) → IsDecided (positions mode rate o n) }
+    ensures crash { (needs : List Need) → IsDecided (λ s. drawn s needs) }
+{}
+
+/// Without partial resizes, a decision tree describes each call and each run of calls: the replies and the state after them.
+pub fn outcomes()
+    ensures call { CallsAreDecided }
+    ensures run { RunsAreDecided }
+{}
+
+/// Without partial resizes, each run over 64-bit words is one over 0 and the greatest word alone, with the same replies and the
+/// same state, unless a call is refused memory.
+pub fn two_words()
+    ensures { TwoWordsSuffice }
+{}
+
+/// The number of words that are left after a run tells how many it took, if the last given word isn't zero and is still left.
+/// The run is that of a leaf.
+pub fn taken_words()
+    ensures { LeftTellsTaken }
+{}
+
+/// In a tree that decides a run, each run over 64-bit words is that of a leaf, unless a call is refused memory.
+pub fn leaves()
+    ensures { LeavesAreAllRuns }
+{}
+
+/// The leaves of a decision tree miss no run: each run over 64-bit words is that of one of them, unless a call is refused
+/// memory.
+pub fn every_run()
+    ensures { LeavesHoldEveryRun }
+{}
+
+/// The words of a seed fit in 64 bits, so that each run of a seed is among the leaves too.
+pub fn seeds()
+    ensures { SeedsHaveU64Words }
+{}

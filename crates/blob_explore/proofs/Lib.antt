@@ -1,0 +1,4 @@
+pub mod Runs
+pub mod Visiting
+pub mod Tallying
+pub mod Adding

@@ -1,0 +1,16 @@
+use Rattle.std.proofs.Common.{◌≡◌, ◌≤◌, ◌-◌, IsSome}
+use Rattle.std.specs.HashMap.{get_by_text}
+use Rattle.blob_tree.specs.Trees.{DecisionTree, leaves}
+use Rattle.blob_explore.specs.Explorations.{DecidesRun, explored_script, left}
+use Rattle.blob_explore.specs.Outcomes.{Exploring}
+use Rattle.blob_explore.proofs.outcomes.explore.Given as goal
+
+abbrev pub invariant-visits : goal.invariant-visits
+invariant-visits l = record {
+  most : l.leaves ≤ l.limit;
+  visited : (t : DecisionTree) → DecidesRun l.initial.exploration t → left l.initial.exploration t ≡ leaves t
+      → Exploring (explored_script l.initial.exploration) l.last l.exploration l.leaves (λ q. IsSome (get_by_text l.found q)) t;
+}
+
+abbrev pub decreases-visits : goal.decreases-visits
+decreases-visits l = l.limit - l.leaves

@@ -1,0 +1,70 @@
+-- An exploration of a script, and the leaves that it visits.
+use Rattle.std.specs.Prelude.{◌≡◌, ℕ, Bool, List, [], ◌∷◌, if◌then◌else◌, Option, Some, None, IfSome, Vec, String, string_bytes}
+use Rattle.std.specs.Global.{Global}
+use Rattle.blob_calls.specs.declared.call.Call.{Call}
+use Rattle.blob_calls.specs.declared.reply.Reply.{Reply}
+use Rattle.blob_calls.specs.Settings.{cleared}
+use Rattle.blob_laboratory.specs.Tables.{images_of}
+use Rattle.blob_tree.specs.WordsLeft.{EndsAfter}
+use Rattle.blob_states.specs.Runs.{LeadsTo}
+use Rattle.blob_states.specs.Scripted.{only}
+use Rattle.blob_states.specs.States.{Image, State, start}
+use Rattle.blob_tree.specs.Trees.{DecisionTree, depth, extended, left_after, words_of}
+use Rattle.blob_choices.specs.Decided.{Decides}
+use Rattle.blob_choices.specs.Explored.{RunsAlong}
+use Rattle.blob_choices.specs.Outcomes.{SetNoPartialResize, acts_of, run_outcome}
+use Rattle.blob_explore.specs.declared.exploration.Exploration.{Exploration}
+use Rattle.blob_explore.specs.declared.exploration.Leaf.{Leaf}
+use Rattle.blob_explore.specs.declared.script.Script.{Script}
+
+-- images by partition, name and bytes
+abbrev pub Images : Type 0
+Images = List (String Global × Vec ℕ Global × Vec ℕ Global)
+
+abbrev pub image_of : String Global × Vec ℕ Global × Vec ℕ Global → Image
+image_of image = (string_bytes image.0, image.1.items, image.2.items)
+
+-- the state in which each run of a script starts, but for the words
+abbrev pub start_of : Script → State
+start_of script = start (images_of script.images.items) (only []) cleared
+
+-- a run over these words gives these replies, and leaves so many words
+abbrev pub Ran : Images → List Call → List ℕ → List Reply → Option ℕ → Type 0
+Ran images calls words replies left =
+    (w : State) × LeadsTo (start (images_of images) (only words) cleared) calls replies w × IfSome left (λ n. EndsAfter w.stream n)
+
+-- the leaf is that of the path, continued by true outcomes, in each tree that decides the run
+abbrev pub TakesPath : State → List Call → List Bool → Leaf → Type 0
+TakesPath v calls path leaf = (t : DecisionTree) → Decides (run_outcome v (acts_of calls)) t
+    → (leaf.words.items ≡ words_of (extended (depth t path) path)) × RunsAlong v calls (extended (depth t path) path) leaf.replies.items
+
+abbrev pub explored_script : Exploration → Script
+explored_script e = e.script
+
+-- where an exploration stands; none at its end
+abbrev pub path_of : Exploration → Option (List Bool)
+path_of e = if e.is_done then None else Some e.explorer
+
+-- the leaves that it hasn't visited yet
+abbrev pub left : Exploration → DecisionTree → List (List Bool)
+left e t = left_after t (path_of e)
+
+-- the tree decides the draws of its calls
+abbrev pub DecidesRun : Exploration → DecisionTree → Type 0
+DecidesRun e t = Decides (run_outcome (start_of e.script) (acts_of e.script.calls.items)) t
+
+-- This leaf is the first of those that were left, and the others are left now. Its words are those of its path, and its replies are those of the
+-- run along the path.
+pub record Visits (e : Exploration) (leaf : Leaf) (e' : Exploration) (t : DecisionTree) : Type 0 where
+  pub path : List Bool
+  pub first : left e t ≡ path ∷ left e' t
+  pub words : leaf.words.items ≡ words_of path
+  pub replies : RunsAlong (start_of e.script) e.script.calls.items path leaf.replies.items
+
+-- the same in each tree that decides the run
+abbrev pub VisitsNext : Exploration → Leaf → Exploration → Type 0
+VisitsNext e leaf e' = (t : DecisionTree) → DecidesRun e t → Visits e leaf e' t
+
+-- the calls that were added set no rate of partial resizes other than zero
+abbrev pub AddsNoPartialResize : List Call → List Call → Type 0
+AddsNoPartialResize old new = SetNoPartialResize (acts_of old) → SetNoPartialResize (acts_of new)

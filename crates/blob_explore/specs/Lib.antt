@@ -1,0 +1,2 @@
+pub mod Explorations
+pub mod Outcomes

@@ -1,0 +1,139 @@
+// One run of the calls over given words.
+ghost use Rattle.std.specs.Prelude.{◌≡◌, ◌≢◌, ◌-◌, ◌^◌, ◌++◌, ◌∷◌, [], Some, IfOk, IfSome};
+ghost use Rattle.std.specs.Bool.{OnTrue, OnFalse};
+ghost use Rattle.blob_header.specs.Refusals.{Memory};
+ghost use Rattle.blob_calls.specs.Told.{refused_by};
+ghost use Rattle.blob_laboratory.specs.Tables.{images_of};
+ghost use Rattle.blob_choices.specs.Outcomes.{NoneOutOfMemory};
+ghost use Rattle.blob_explore.specs.Explorations.{Ran, TakesPath, image_of, start_of};
+
+use crate::exploration::Leaf;
+use crate::script::Script;
+use blob_base::Error;
+use blob_calls::{Call, Reply};
+use blob_choices::laws::taken_words;
+use blob_faulty::Config;
+use blob_laboratory::Lab;
+use blob_tree::Explorer;
+use std::alloc::{AllocError, Global};
+
+/// Runs the calls along the explorer's path. Doubles `room`, the number of words behind the path, until the run leaves some.
+pub(crate) fn visit(
+    alloc: Global,
+    script: &Script,
+    explorer: &Explorer,
+    room: &mut usize,
+) -> Result<Leaf, Error>
+    ensures { IfOk result (λ leaf. TakesPath (start_of script.now) script.now.calls.items explorer.now leaf) }
+{
+    for _ in 0..64 {
+        match visit_within(alloc, script, explorer, *room)? {
+            Some(leaf) => return Ok(leaf),
+            None => *room = room.saturating_mul(2),
+        }
+    }
+    Err(Error::Memory(AllocError))
+}
+
+/// The same with this room. None if it wasn't enough.
+fn visit_within(
+    alloc: Global,
+    script: &Script,
+    explorer: &Explorer,
+    room: usize,
+) -> Result<Option<Leaf>, Error>
+    ensures { IfOk result (λ found. IfSome found (λ leaf. TakesPath (start_of script.now) script.now.calls.items explorer.now leaf)) }
+{
+    taken_words();
+    let mut words = explorer.words()?;
+    let Some(len) = words.len().checked_add(room) else {
+        return Err(Error::Memory(AllocError));
+    };
+    words.resize(len, 0)?;
+    let given = with_last(alloc, &words)?;
+    let (replies, left) = run(alloc, script, given)?;
+    if is_short(&replies) {
+        return Err(Error::Memory(AllocError));
+    }
+    match left {
+        Some(left) if left > 0 => {
+            words.truncate(len.saturating_sub(left - 1));
+            Ok(Some(Leaf { words, replies }))
+        }
+        _ => Ok(None),
+    }
+}
+
+fn with_last(alloc: Global, words: &[u64]) -> Result<Vec<u64>, Error>
+    ensures { IfOk result (λ given. given.items ≡ words.now ++ (2 ^ 64 - 1) ∷ []) }
+{
+    let mut given = Vec::from_slice(alloc, words)?;
+    given.push(u64::MAX)?;
+    Ok(given)
+}
+
+fn is_memory(reply: &Reply) -> bool
+    ensures is { OnTrue result (refused_by reply.now ≡ Some Memory) }
+    ensures not { OnFalse result (refused_by reply.now ≢ Some Memory) }
+{
+    match reply {
+        Reply::Failed(Error::Memory(_)) => true,
+        _ => false,
+    }
+}
+
+/// Whether a call was refused memory.
+fn is_short(replies: &[Reply]) -> bool
+    ensures { OnFalse result (NoneOutOfMemory replies.now) }
+{
+    for reply in replies {
+        if is_memory(reply) {
+            return true;
+        }
+    }
+    false
+}
+
+/// Runs the calls over these words, and zeros behind them. Returns the replies, and how many words are left.
+fn run(
+    alloc: Global,
+    script: &Script,
+    words: Vec<u64>,
+) -> Result<(Vec<Reply>, Option<usize>), Error>
+    ensures { IfOk result (λ ran. Ran script.now.images.items script.now.calls.items words.items ran.0.items ran.1) }
+{
+    let images = copies(alloc, &script.images)?;
+    let mut lab = Lab::new(images, words, Config::default())?;
+    match lab.run(&script.calls) {
+        Ok(replies) => {
+            let left = lab.words_left();
+            lab.end();
+            Ok((replies, left))
+        }
+        Err(e) => {
+            lab.end();
+            Err(e)
+        }
+    }
+}
+
+fn copies(
+    alloc: Global,
+    images: &[(String, Vec<u8>, Vec<u8>)],
+) -> Result<Vec<(String, Vec<u8>, Vec<u8>)>, Error>
+    ensures { IfOk result (λ all. images_of all.items ≡ images_of images.now) }
+{
+    let mut all = Vec::with_capacity(alloc, images.len())?;
+    for image in images {
+        let copy = copied(image)?;
+        all.push(copy)?;
+    }
+    Ok(all)
+}
+
+fn copied(image: &(String, Vec<u8>, Vec<u8>)) -> Result<(String, Vec<u8>, Vec<u8>), Error>
+    ensures { IfOk result (λ copy. image_of copy ≡ image_of image.now) }
+{
+    let (partition, name, bytes) = image;
+    Ok((partition.clone()?, name.clone()?, bytes.clone()?))
+}
