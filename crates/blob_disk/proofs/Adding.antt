@@ -14,8 +14,8 @@ use Rattle.blob_model.proofs.Opened.{current_is}
 use Rattle.blob_faulty.specs.Keeps.{OverMemory}
 use Rattle.blob_disk.proofs.Crashes.{one_way}
 use Rattle.blob_disk.proofs.Laying.{cut_not, cut_to, mixed_over, mixed_some}
-use Rattle.blob_disk.proofs.Outcomes.{here_so, whole_so}
-use Rattle.blob_disk.specs.Outcomes.{MayLeave, Opened, LeavesDisk, IsStanding, IsTracked, IsCurrent, outcomes}
+use Rattle.blob_disk.proofs.Outcomes.{here_so, openable_so, whole_so}
+use Rattle.blob_disk.specs.Outcomes.{MayLeave, Opened, Leads, LeavesDisk, IsStanding, IsTracked, IsCurrent, outcomes}
 use Rattle.blob_faulty.specs.Outcomes.{LaysSome, WritesSome}
 use Rattle.blob_faulty.specs.Wrapper.{Stands, inner_of, config_of, pending_of, inside}
 use Rattle.blob_memory.specs.Store.{directory, durable, live, place}
@@ -34,6 +34,22 @@ follows P es x x' q q' v v' seen takes step c (inr (t, e)) = here (replayed_at t
     here : (r : Option (List ℕ)) → replayed_at t q v ≡ r → option_map (λ d. crashed d es t) r ≡ Some c → (d : List ℕ) × MayLeave x q v d × P d c
     here None is h = absurd (none-some c h)
     here (Some d) is h = (d, inr (t, is), subst (λ (z : List ℕ). P d z) (same_Some (crashed d es t) c h) (takes d t))
+
+-- and an outcome before it leads to the one after it by the same choices
+pub leads : (P : List ℕ → List ℕ → Type 0) (es : List Entry) (x x' : List ℕ) (q q' : List Pending) (v v' : Option (List ℕ)) → P x x' → ((d : List ℕ) (t : Choices) → P d (crashed d es t)) →
+    ((t : Choices) → replayed_at t q' v' ≡ option_map (λ d. crashed d es t) (replayed_at t q v)) → Leads P (MayLeave x q v) (MayLeave x' q' v')
+leads P es x x' q q' v v' seen takes step c (inl e) = (x', inl refl, subst (λ (z : List ℕ). P z x') (sym e) seen)
+leads P es x x' q q' v v' seen takes step c (inr (t, e)) =
+    (crashed c es t, inr (t, step t ∙ ap (λ (r : Option (List ℕ)). option_map (λ d. crashed d es t) r) e), takes c t)
+
+pub file_leads : {R : Type 0} (P : List ℕ → List ℕ → Type 0) (es : List Entry) (b b' : Opened) (w w' : OverMemory R) → IsStanding w → place (inside b') ≡ place (inside b) →
+    P (live (inside b)) (live (inside b')) → ((d : List ℕ) (t : Choices) → P d (crashed d es t)) →
+    ((f : Files) (t : Choices) → Stands (λ o. o) (directory (inner_of w)) (durable (inner_of w)) w f →
+    replayed_at t (pending_of (λ o. o) w' (place (inside b))) (durable (inner_of w') (place (inside b))) ≡ option_map (λ x. crashed x es t) (replayed_at t (pending_of (λ o. o) w (place (inside b))) (durable (inner_of w) (place (inside b))))) →
+    Leads P (outcomes b w) (outcomes b' w')
+file_leads P es b b' w w' standing at seen takes left =
+    leads P es (live (inside b)) (live (inside b')) (pending_of (λ (o : Place). o) w (place (inside b))) (pending_of (λ (o : Place). o) w' (place (inside b'))) (durable (inner_of w) (place (inside b))) (durable (inner_of w') (place (inside b'))) seen takes
+    (λ t. ap (λ (o : Place). replayed_at t (pending_of (λ (p : Place). p) w' o) (durable (inner_of w') o)) at ∙ ∥∥₁_elim standing (one_way _ _) (λ f. left f.0 t f.1))
 
 -- the same of the file
 pub file_follows : {R : Type 0} (P : List ℕ → List ℕ → Type 0) (es : List Entry) (b b' : Opened) (w w' : OverMemory R) → IsStanding w → place (inside b') ≡ place (inside b) →
@@ -54,6 +70,7 @@ keeps_added es b b' w w' named at config tracked stands = record {
   place = at;
   config = config;
   here = here_so b b' w w' named at;
+  openable = openable_so w w' named;
   whole = whole_so w w' config;
 }
 
@@ -65,6 +82,7 @@ pub record IsWritten {R : Type 0} (b b' : Opened) (w w' : OverMemory R) (offset 
   pub others : Mixed offset bytes (live (inside b)) (live (inside b'))
   pub keeps : LeavesDisk b w b' w'
   pub crash : Follows (Mixed offset bytes) (outcomes b w) (outcomes b' w')
+  pub leads : Leads (Mixed offset bytes) (outcomes b w) (outcomes b' w')
 
 pub wrote : {R : Type 0} (b b' : Opened) (w w' : OverMemory R) (es : List Entry) (offset : ℕ) (bytes : List ℕ) → IsStanding w →
     directory (inner_of w') ≡ directory (inner_of w) → place (inside b') ≡ place (inside b) → config_of w' ≡ config_of w → IsTracked b' →
@@ -78,6 +96,8 @@ wrote b b' w w' es offset bytes standing named at config tracked some laid stand
   keeps = keeps_added es b b' w w' named at config tracked stands;
   crash = file_follows (Mixed offset bytes) es b b' w w' standing at (mixed_some offset bytes (live (inside b)) (live (inside b')) some)
       (λ d t. subst (λ (z : List ℕ). Mixed offset bytes d z) (sym ((laid t).1 d)) (mixed_over offset bytes (laid t).0 d)) left;
+  leads = file_leads (Mixed offset bytes) es b b' w w' standing at (mixed_some offset bytes (live (inside b)) (live (inside b')) some)
+      (λ d t. subst (λ (z : List ℕ). Mixed offset bytes d z) (sym ((laid t).1 d)) (mixed_over offset bytes (laid t).0 d)) left;
 }
 
 -- a resize, by what it records
@@ -85,6 +105,7 @@ pub record IsResized {R : Type 0} (b b' : Opened) (w w' : OverMemory R) (len : �
   pub others : Cut len (live (inside b)) (live (inside b'))
   pub keeps : LeavesDisk b w b' w'
   pub crash : Follows (Cut len) (outcomes b w) (outcomes b' w')
+  pub leads : Leads (Cut len) (outcomes b w) (outcomes b' w')
 
 either_cut : (len : ℕ) (x y : List ℕ) → (y ≡ x) ⊎ (y ≡ resized x len) → Cut len x y
 either_cut len x y (inl e) = subst (λ (z : List ℕ). Cut len x z) (sym e) (cut_not len x)
@@ -101,4 +122,5 @@ cut_so b b' w w' es len standing named at config tracked seen cut stands left = 
   others = either_cut len (live (inside b)) (live (inside b')) seen;
   keeps = keeps_added es b b' w w' named at config tracked stands;
   crash = file_follows (Cut len) es b b' w w' standing at (either_cut len (live (inside b)) (live (inside b')) seen) (λ d t. either_cut len d (crashed d es t) (cut t d)) left;
+  leads = file_leads (Cut len) es b b' w w' standing at (either_cut len (live (inside b)) (live (inside b')) seen) (λ d t. either_cut len d (crashed d es t) (cut t d)) left;
 }

@@ -3,7 +3,7 @@ use Rattle.std.proofs.Common.{◌≡◌, ℕ, List, [], Option, Some, None, sym,
 use Rattle.std.proofs.Math.Logic.{∥∥₁_map}
 use Rattle.std.proofs.lemmas.Bool.{cond-true}
 use Rattle.std.proofs.lemmas.Option.{none-some, same_Some}
-use Rattle.std.specs.Prelude.{option_map, codes}
+use Rattle.std.specs.Prelude.{option_map, is_none, codes}
 use Rattle.blob_model.specs.Directory.{Directory, current}
 use Rattle.blob_model.specs.Durable.{Durable, with_at, with_changed}
 use Rattle.blob_model.specs.Log.{Choices}
@@ -12,13 +12,14 @@ use Rattle.blob_model.specs.Places.{Place, same_place}
 use Rattle.blob_model.specs.Stands.{replayed_at}
 use Rattle.blob_model.specs.SamePlace.{same_self}
 use Rattle.blob_faulty.specs.Keeps.{OverMemory}
-use Rattle.blob_disk.specs.Outcomes.{MayLeave, Opened, LeavesDisk, IsTracked, IsCurrent, IsWhole, outcomes}
+use Rattle.blob_disk.specs.Outcomes.{MayLeave, Opened, KeepsOutcomes, LeavesDisk, IsTracked, IsCurrent, IsOpenable, IsWhole, outcomes}
 use Rattle.blob_faults.specs.declared.config.Config.{Config}
 use Rattle.blob_faulty.specs.Certain.{IsNever, partial_resizes}
-use Rattle.blob_faulty.specs.Wrapper.{Stands, KeepsRecords, inner_of, config_of, inside}
+use Rattle.blob_faulty.specs.Wrapper.{Stands, KeepsRecords, inner_of, config_of, pending_of, inside}
 use Rattle.blob_model.specs.Files.{Files, published}
 use Rattle.blob_faulty.specs.Lends.{with_config}
 use Rattle.blob_faulty.specs.Syncs.{Publishes}
+use Rattle.blob_memory.specs.Answers.{open_refusal}
 use Rattle.blob_memory.specs.Store.{directory, durable, live, place}
 
 pub at_place : {bytes bytes' : Durable} → bytes' ≡ bytes → (o : Place) → bytes' o ≡ bytes o
@@ -28,6 +29,14 @@ at_place e o = ap (λ (g : Durable). g o) e
 pub same_outcomes : (x x' : List ℕ) (q q' : List Pending) (b b' : Option (List ℕ)) → x' ≡ x → q' ≡ q → b' ≡ b → (c : List ℕ) → MayLeave x' q' b' c → MayLeave x q b c
 same_outcomes x x' q q' b b' ex eq eb c (inl e) = inl (e ∙ ex)
 same_outcomes x x' q q' b b' ex eq eb c (inr (t, e)) = inr (t, ap₂ (λ (p : List Pending) (d : Option (List ℕ)). replayed_at t p d) (sym eq) (sym eb) ∙ e)
+
+pub keeps_outcomes : {R : Type 0} (b b' : Opened) (w w' : OverMemory R) → live (inside b') ≡ live (inside b) → pending_of (λ o. o) w' (place (inside b')) ≡ pending_of (λ o. o) w (place (inside b)) →
+    durable (inner_of w') (place (inside b')) ≡ durable (inner_of w) (place (inside b)) → KeepsOutcomes b w b' w'
+keeps_outcomes b b' w w' ex eq eb = record {
+  durable = eb;
+  no_more = same_outcomes _ _ _ _ _ _ ex eq eb;
+  no_fewer = same_outcomes _ _ _ _ _ _ (sym ex) (sym eq) (sym eb);
+}
 
 -- after a sync: nothing is pending, and the live bytes are durable
 all_live : (x : List ℕ) (b : Option (List ℕ)) (c : List ℕ) (t : Choices) → replayed_at t [] (option_map (λ _. x) b) ≡ Some c → c ≡ x
@@ -40,6 +49,9 @@ synced_outcomes x b c (inr (t, e)) = all_live x b c t e
 
 pub here_so : {R : Type 0} (b b' : Opened) (w w' : OverMemory R) → directory (inner_of w') ≡ directory (inner_of w) → place (inside b') ≡ place (inside b) → IsCurrent b w → IsCurrent b' w'
 here_so b b' w w' same at h = ap (λ (d : Directory). current d (codes "disk") (codes "0")) same ∙ h ∙ ap Some (sym at)
+
+pub openable_so : {R : Type 0} (w w' : OverMemory R) → directory (inner_of w') ≡ directory (inner_of w) → IsOpenable w → IsOpenable w'
+openable_so w w' same h = ap (λ (d : Directory). is_none (open_refusal d (codes "disk") (codes "0") 0 0)) same ∙ h
 
 pub whole_so : {R : Type 0} (w w' : OverMemory R) → config_of w' ≡ config_of w → IsWhole w → IsWhole w'
 whole_so w w' config h = subst (λ (c : Config). IsNever (partial_resizes c.resize_rate)) (sym config) h
@@ -59,6 +71,7 @@ keeps_all b b' w w' kept named same k at tracked = record {
   place = at;
   config = k.numbers.config;
   here = here_so b b' w w' named at;
+  openable = openable_so w w' named;
   whole = whole_so w w' k.numbers.config;
 }
 
@@ -80,6 +93,7 @@ keeps_synced b b' w w' named p at config tracked = record {
   place = at;
   config = config;
   here = here_so b b' w w' named at;
+  openable = openable_so w w' named;
   whole = whole_so w w' config;
 }
 
@@ -92,3 +106,9 @@ configured_whole w w' c set h = subst (λ z. IsWhole z) (sym set) h
 
 pub configured_outcomes : {R : Type 0} (b : Opened) (w w' : OverMemory R) (c : Config) (x : List ℕ) → w' ≡ with_config w c → outcomes b w' x → outcomes b w x
 configured_outcomes b w w' c x set h = subst (λ z. outcomes b z x) set h
+
+pub configured_openable : {R : Type 0} (w w' : OverMemory R) (c : Config) → w' ≡ with_config w c → IsOpenable w → IsOpenable w'
+configured_openable w w' c set h = subst (λ z. IsOpenable z) (sym set) h
+
+pub configured_back : {R : Type 0} (b : Opened) (w w' : OverMemory R) (c : Config) (x : List ℕ) → w' ≡ with_config w c → outcomes b w x → outcomes b w' x
+configured_back b w w' c x set h = subst (λ z. outcomes b z x) (sym set) h

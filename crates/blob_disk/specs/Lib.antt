@@ -1,2 +1,5 @@
+pub mod Answers
+pub mod Calls
+pub mod Crashes
 pub mod Drawn
 pub mod Outcomes

@@ -1,5 +1,5 @@
 -- What a crash may leave of a file over the fault wrapper.
-use Rattle.std.specs.Prelude.{◌≡◌, ◌⊎◌, ℕ, List, Option, Some, None, length, codes}
+use Rattle.std.specs.Prelude.{◌≡◌, ◌⊎◌, ℕ, true, List, Option, Some, None, is_none, length, codes}
 use Rattle.std.specs.Coded.{Coded-set, coded_ℕ, Unit-prop}
 use Rattle.blob_model.specs.Directory.{current}
 use Rattle.blob_model.specs.Files.{Files}
@@ -13,6 +13,7 @@ use Rattle.blob_faulty.specs.Keeps.{OverMemory}
 use Rattle.blob_faulty.specs.Wrapper.{Stands, inner_of, config_of, pending_of, inside, size_of}
 use Rattle.blob_faulty.specs.declared.blob.Blob as faulty_blob
 use Rattle.blob_faulty.specs.declared.storage.Storage as faulty
+use Rattle.blob_memory.specs.Answers.{open_refusal}
 use Rattle.blob_memory.specs.Store.{directory, durable, live, place}
 use Rattle.blob_memory.specs.declared.blob.Blob as memory_blob
 use Rattle.blob_memory.specs.declared.storage.Storage as memory
@@ -45,6 +46,10 @@ IsTracked b = size_of b ≡ length (live (inside b))
 abbrev pub IsCurrent : {R : Type 0} → Opened → OverMemory R → Type 0
 IsCurrent b w = current (directory (inner_of w)) (codes "disk") (codes "0") ≡ Some (place (inside b))
 
+-- the memory store opens the disk's name again, unless memory runs out
+abbrev pub IsOpenable : {R : Type 0} → OverMemory R → Type 0
+IsOpenable w = is_none (open_refusal (directory (inner_of w)) (codes "disk") (codes "0") 0 0) ≡ true
+
 -- no resize fails in part
 abbrev pub IsWhole : {R : Type 0} → OverMemory R → Type 0
 IsWhole w = IsNever (partial_resizes (config_of w).resize_rate)
@@ -71,4 +76,15 @@ pub record LeavesDisk {R : Type 0} (b : Opened) (w : OverMemory R) (b' : Opened)
   pub place : place (inside b') ≡ place (inside b)
   pub config : config_of w' ≡ config_of w
   pub here : IsCurrent b w → IsCurrent b' w'
+  pub openable : IsOpenable w → IsOpenable w'
   pub whole : IsWhole w → IsWhole w'
+
+-- each old outcome of a crash leads to a new one by a step: nothing was made durable besides
+abbrev pub Leads : (List ℕ → List ℕ → Type 0) → (List ℕ → Type 0) → (List ℕ → Type 0) → Type 0
+Leads step old new = (c : List ℕ) → old c → (d : List ℕ) × new d × step c d
+
+-- nothing of the blob became durable, and a crash may leave the same as before
+pub record KeepsOutcomes {R : Type 0} (b : Opened) (w : OverMemory R) (b' : Opened) (w' : OverMemory R) : Type 0 where
+  pub durable : durable (inner_of w') (place (inside b')) ≡ durable (inner_of w) (place (inside b))
+  pub no_more : (c : List ℕ) → outcomes b' w' c → outcomes b w c
+  pub no_fewer : (c : List ℕ) → outcomes b w c → outcomes b' w' c

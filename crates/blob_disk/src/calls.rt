@@ -1,10 +1,15 @@
 //! What a disk asks of the wrapper, each by what it makes of the outcomes of a crash.
 ghost use Rattle.std.specs.Prelude.{◌≡◌, ◌⊎◌, ◌≤◌, ◌<◌, ℕ, List, Some, false, length, OnOk, OnErr};
+ghost use Rattle.std.specs.IoError.{error_kind};
+ghost use Rattle.blob_header.specs.Refusals.{refusal_of, refused};
+ghost use Rattle.blob_faulty.specs.OverMemory.{MayReadInto};
 ghost use Rattle.blob_faulty.specs.Wrapper.{inside, inner_of, KeepsRecords};
 ghost use Rattle.blob_memory.specs.Store.{live, place, durable};
 ghost use Rattle.sqlite_disk.specs.Disk.{Holds, Only, Torn, Mixed, Cut, Follows, MoreFaults};
 ghost use Rattle.sqlite_disk.specs.Refusal.{is_no_room};
-ghost use Rattle.blob_disk.specs.Outcomes.{LeavesDisk, IsCurrent, IsFile, IsDrawn, outcomes};
+ghost use Rattle.blob_disk.specs.Answers.{kind_of};
+ghost use Rattle.blob_disk.specs.Crashes.{IsLeft, MayCrash, MayReopen};
+ghost use Rattle.blob_disk.specs.Outcomes.{KeepsOutcomes, LeavesDisk, Leads, IsCurrent, IsFile, IsDrawn, IsOpenable, outcomes};
 
 use crate::{NAME, PARTITION};
 use blob_base::laws::opens::accepted_opens;
@@ -15,13 +20,14 @@ use blob_faulty::laws::outcomes::{entries, recorded};
 use rand_core::Rng;
 use std::io;
 
-type Wrapper<R> = blob_faulty::Storage<blob_memory::Storage, R>;
+pub(crate) type Wrapper<R> = blob_faulty::Storage<blob_memory::Storage, R>;
 
-type Handle = blob_faulty::Blob<blob_memory::Blob>;
+pub(crate) type Handle = blob_faulty::Blob<blob_memory::Blob>;
 
 /// Counts a call that failed, and says why.
 pub(crate) fn count(faults: &mut u64, error: Error) -> io::Error
-    ensures kind { is_no_room result ≡ false }
+    ensures kind { error_kind result ≡ kind_of (refusal_of error) }
+    ensures room { is_no_room result ≡ false }
     ensures more { MoreFaults faults.old faults.new }
     ensures grows { faults.old ≤ faults.new }
 {
@@ -32,7 +38,7 @@ pub(crate) fn count(faults: &mut u64, error: Error) -> io::Error
     }
 }
 
-/// The bytes at an offset.
+/// Reads the bytes at an offset.
 pub(crate) fn read<R: Rng>(
     store: &mut Wrapper<R>,
     blob: &Handle,
@@ -40,8 +46,9 @@ pub(crate) fn read<R: Rng>(
     buf: &mut [u8],
 ) -> Result<(), Error>
     ensures bytes { OnOk result (Holds (live (inside blob.now)) at buf.new) }
+    ensures allowed { MayReadInto R.stream blob.now store.old at (length buf.old) (refused result) }
     ensures keeps { LeavesDisk blob.now store.old blob.now store.new }
-    ensures crash { (c : List ℕ) → outcomes blob.now store.new c → outcomes blob.now store.old c }
+    ensures outcomes { KeepsOutcomes blob.now store.old blob.now store.new }
 {
     kept_records::<blob_memory::Storage, R>();
     blob.read_into(store, at as u64, buf)?;
@@ -59,7 +66,11 @@ pub(crate) fn write<R: Rng>(
     ensures written { OnOk result (0 < length bytes.now → Holds (live (inside blob.new)) at bytes.now) }
     ensures others { Torn at (length bytes.now) (live (inside blob.old)) (live (inside blob.new)) }
     ensures keeps { LeavesDisk blob.old store.old blob.new store.new }
+    ensures allowed { ⟦<Handle as Blob<Wrapper<R>>>⟧.allows_write blob.old store.old at bytes.now false (refused result) }
+    ensures durable { OnOk result (durable (inner_of store.new) (place (inside blob.new)) ≡ durable (inner_of store.old) (place (inside blob.old))) }
+    ensures mixes { Mixed at bytes.now (live (inside blob.old)) (live (inside blob.new)) }
     ensures mixed { Follows (Mixed at bytes.now) (outcomes blob.old store.old) (outcomes blob.new store.new) }
+    ensures leads { Leads (Mixed at bytes.now) (outcomes blob.old store.old) (outcomes blob.new store.new) }
     ensures crash { Follows (Torn at (length bytes.now)) (outcomes blob.old store.old) (outcomes blob.new store.new) }
 {
     recorded::<blob_memory::Storage, R>();
@@ -79,8 +90,11 @@ pub(crate) fn resize<R: Rng>(
     requires { IsFile blob.old store.old }
     ensures len { OnOk result (length (live (inside blob.new)) ≡ len) }
     ensures others { Cut len (live (inside blob.old)) (live (inside blob.new)) }
+    ensures allowed { ⟦<Handle as Blob<Wrapper<R>>>⟧.allows_resize blob.old store.old len (refused result) }
+    ensures durable { durable (inner_of store.new) (place (inside blob.new)) ≡ durable (inner_of store.old) (place (inside blob.old)) }
     ensures keeps { LeavesDisk blob.old store.old blob.new store.new }
     ensures crash { Follows (Cut len) (outcomes blob.old store.old) (outcomes blob.new store.new) }
+    ensures leads { Leads (Cut len) (outcomes blob.old store.old) (outcomes blob.new store.new) }
 {
     recorded::<blob_memory::Storage, R>();
     entries();
@@ -94,6 +108,8 @@ pub(crate) fn sync<R: Rng>(store: &mut Wrapper<R>, blob: &mut Handle) -> Result<
     ensures durable { OnOk result (Only (live (inside blob.old)) (outcomes blob.new store.new)) }
     ensures keeps { LeavesDisk blob.old store.old blob.new store.new }
     ensures live { live (inside blob.new) ≡ live (inside blob.old) }
+    ensures allowed { ⟦<Handle as Blob<Wrapper<R>>>⟧.allows_sync blob.old store.old (refused result) }
+    ensures kept { OnErr result (KeepsOutcomes blob.old store.old blob.new store.new) }
     ensures crash { (c : List ℕ) → outcomes blob.new store.new c → outcomes blob.old store.old c }
 {
     kept_records::<blob_memory::Storage, R>();
@@ -103,7 +119,9 @@ pub(crate) fn sync<R: Rng>(store: &mut Wrapper<R>, blob: &mut Handle) -> Result<
 
 /// Opens what is durable in the handle's place, or keeps the handle where it can't.
 fn reopen<R: Rng>(store: &mut Wrapper<R>, blob: &mut Handle) -> Result<(), Error>
-    requires { IsCurrent blob.old store.old }
+    requires here { IsCurrent blob.old store.old }
+    requires openable { IsOpenable store.old }
+    ensures answer { MayReopen R.stream store.old (refused result) }
     ensures found { OnOk result (durable (inner_of store.old) (place (inside blob.old)) ≡ Some (live (inside blob.new))) }
     ensures kept { OnErr result (live (inside blob.new) ≡ live (inside blob.old)) }
     ensures live { (live (inside blob.new) ≡ live (inside blob.old)) ⊎ (durable (inner_of store.old) (place (inside blob.old)) ≡ Some (live (inside blob.new))) }
@@ -125,7 +143,10 @@ fn reopen<R: Rng>(store: &mut Wrapper<R>, blob: &mut Handle) -> Result<(), Error
 /// Loses what is drawn of what was not synced, and opens what is left. Where memory runs out for either, or the draw of the
 /// open is true, all that was written stays, as where the process alone dies.
 pub(crate) fn lose<R: Rng>(store: &mut Wrapper<R>, blob: &mut Handle) -> Result<(), Error>
-    requires { IsCurrent blob.old store.old }
+    requires here { IsCurrent blob.old store.old }
+    requires openable { IsOpenable store.old }
+    ensures answer { MayCrash R.stream store.old (refused result) }
+    ensures drawn { OnOk result (IsLeft R.stream blob.old store.old (live (inside blob.new))) }
     ensures lost { OnOk result (IsDrawn blob.old store.old (live (inside blob.new))) }
     ensures kept { OnErr result (live (inside blob.new) ≡ live (inside blob.old)) }
     ensures left { outcomes blob.old store.old (live (inside blob.new)) }

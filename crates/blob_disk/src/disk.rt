@@ -1,16 +1,22 @@
 //! The file as a disk of the kit's databases, and its crash.
 use crate::BlobDisk;
-use crate::calls::{count, lose, read, resize, sync, write};
-use blob_base::Error;
+use crate::calls::{Handle, Wrapper, count, lose, read, resize, sync, write};
+use blob_base::{Blob, Error};
 use rand_core::Rng;
 use sqlite_disk::{Crash, Disk, Tally, digest_of};
 use std::io;
 
 impl<R: Rng> Disk for BlobDisk<R> {
-    ghost use Rattle.std.specs.Prelude.{true, refl};
+    ghost use Rattle.std.specs.Prelude.{◌≡◌, ◌<◌, ℕ, List, IsTrue, true, false, refl, is_ok, length, OnOk, OnErr};
     ghost use Rattle.std.proofs.Common.{inl};
+    ghost use Rattle.blob_faulty.specs.OverMemory.{MayReadInto};
     ghost use Rattle.blob_faulty.specs.Wrapper.{inside};
     ghost use Rattle.blob_memory.specs.Store.{live};
+    ghost use Rattle.sqlite_disk.specs.Digest.{digest};
+    ghost use Rattle.sqlite_disk.specs.Disk.{CountsFault, Cut, Follows, Holds, Mixed, Only, Torn};
+    ghost use Rattle.sqlite_disk.specs.Tally.{CountsCatch};
+    ghost use Rattle.blob_disk.specs.Answers.{TellsBy, TellsTested};
+    ghost use Rattle.blob_disk.specs.Calls.{KeepsBytes, KeepsSettings, StepsBytes, blob_of, caught_of, counts_of, durable_of, faults_of, is_usable_of, outcomes_of, seen_of, store_of};
     ghost use Rattle.blob_disk.specs.Outcomes.{outcomes};
 
     ghost seen = { λ d. live (inside d.blob) };
@@ -55,18 +61,42 @@ impl<R: Rng> Disk for BlobDisk<R> {
         self.usable
     }
 
-    fn len(&mut self) -> io::Result<usize> {
+    fn len(&mut self) -> io::Result<usize>
+        ensures len { result ≡ Ok (length (seen_of self.old)) }
+        ensures same { self.new ≡ self.old }
+        ensures crash { (c : List ℕ) → outcomes_of self.new c → outcomes_of self.old c }
+    {
         Ok(self.blob.size() as usize)
     }
 
-    fn read_at(&mut self, at: usize, buf: &mut [u8]) -> io::Result<()> {
+    fn read_at(&mut self, at: usize, buf: &mut [u8]) -> io::Result<()>
+        requires { IsTrue (is_usable_of self.old) }
+        ensures read { OnOk result (Holds (seen_of self.old) at buf.new) }
+        ensures answer { TellsBy (MayReadInto R.stream (blob_of self.old) (store_of self.old) at (length buf.old)) result }
+        ensures faults { CountsFault result (faults_of self.old) (faults_of self.new) }
+        ensures counts { counts_of self.new ≡ counts_of self.old }
+        ensures bytes { KeepsBytes self.old self.new }
+        ensures usable { is_usable_of self.new ≡ is_usable_of self.old }
+        ensures settings { KeepsSettings self.old self.new }
+    {
         match read(&mut self.store, &self.blob, at, buf) {
             Ok(()) => Ok(()),
             Err(error) => Err(count(&mut self.faults, error)),
         }
     }
 
-    fn read_checked(&mut self, key: u64, want: u64, at: usize, buf: &mut [u8]) -> io::Result<()> {
+    /// Counts what fails the test as caught.
+    fn read_checked(&mut self, key: u64, want: u64, at: usize, buf: &mut [u8]) -> io::Result<()>
+        requires { IsTrue (is_usable_of self.old) }
+        ensures read { OnOk result (Holds (seen_of self.old) at buf.new) }
+        ensures tested { OnOk result (digest key buf.new ≡ want) }
+        ensures answer { TellsTested (MayReadInto R.stream (blob_of self.old) (store_of self.old) at (length buf.old)) key want buf.new result (caught_of self.old) (caught_of self.new) }
+        ensures faults { CountsFault result (faults_of self.old) (faults_of self.new) }
+        ensures counts { CountsCatch result (counts_of self.old) (counts_of self.new) }
+        ensures bytes { KeepsBytes self.old self.new }
+        ensures usable { is_usable_of self.new ≡ is_usable_of self.old }
+        ensures settings { KeepsSettings self.old self.new }
+    {
         self.read_at(at, buf)?;
         if digest_of(key, buf) != want {
             self.faults = self.faults.saturating_add(1);
@@ -76,21 +106,54 @@ impl<R: Rng> Disk for BlobDisk<R> {
         Ok(())
     }
 
-    fn write_at(&mut self, at: usize, bytes: &[u8]) -> io::Result<()> {
+    fn write_at(&mut self, at: usize, bytes: &[u8]) -> io::Result<()>
+        requires { IsTrue (is_usable_of self.old) }
+        ensures written { OnOk result (0 < length bytes.now → Holds (seen_of self.new) at bytes.now) }
+        ensures answer { TellsBy (⟦<Handle as Blob<Wrapper<R>>>⟧.allows_write (blob_of self.old) (store_of self.old) at bytes.now false) result }
+        ensures faults { CountsFault result (faults_of self.old) (faults_of self.new) }
+        ensures counts { counts_of self.new ≡ counts_of self.old }
+        ensures durable { OnOk result (durable_of self.new ≡ durable_of self.old) }
+        ensures bytes { StepsBytes (Mixed at bytes.now) self.old self.new }
+        ensures others { Torn at (length bytes.now) (seen_of self.old) (seen_of self.new) }
+        ensures crash { Follows (Torn at (length bytes.now)) (outcomes_of self.old) (outcomes_of self.new) }
+        ensures usable { is_usable_of self.new ≡ is_usable_of self.old }
+        ensures settings { KeepsSettings self.old self.new }
+    {
         match write(&mut self.store, &mut self.blob, at, bytes) {
             Ok(()) => Ok(()),
             Err(error) => Err(count(&mut self.faults, error)),
         }
     }
 
-    fn set_len(&mut self, len: usize) -> io::Result<()> {
+    fn set_len(&mut self, len: usize) -> io::Result<()>
+        requires { IsTrue (is_usable_of self.old) }
+        ensures len { OnOk result (length (seen_of self.new) ≡ len) }
+        ensures answer { TellsBy (⟦<Handle as Blob<Wrapper<R>>>⟧.allows_resize (blob_of self.old) (store_of self.old) len) result }
+        ensures faults { CountsFault result (faults_of self.old) (faults_of self.new) }
+        ensures counts { counts_of self.new ≡ counts_of self.old }
+        ensures durable { durable_of self.new ≡ durable_of self.old }
+        ensures bytes { StepsBytes (Cut len) self.old self.new }
+        ensures usable { is_usable_of self.new ≡ is_usable_of self.old }
+        ensures settings { KeepsSettings self.old self.new }
+    {
         match resize(&mut self.store, &mut self.blob, len) {
             Ok(()) => Ok(()),
             Err(error) => Err(count(&mut self.faults, error)),
         }
     }
 
-    fn sync(&mut self) -> io::Result<()> {
+    fn sync(&mut self) -> io::Result<()>
+        requires { IsTrue (is_usable_of self.old) }
+        ensures durable { OnOk result (Only (seen_of self.old) (outcomes_of self.new)) }
+        ensures answer { TellsBy (⟦<Handle as Blob<Wrapper<R>>>⟧.allows_sync (blob_of self.old) (store_of self.old)) result }
+        ensures faults { CountsFault result (faults_of self.old) (faults_of self.new) }
+        ensures counts { counts_of self.new ≡ counts_of self.old }
+        ensures seen { seen_of self.new ≡ seen_of self.old }
+        ensures kept { OnErr result (KeepsBytes self.old self.new) }
+        ensures crash { (c : List ℕ) → outcomes_of self.new c → outcomes_of self.old c }
+        ensures usable { is_usable_of self.new ≡ is_ok result }
+        ensures settings { KeepsSettings self.old self.new }
+    {
         match sync(&mut self.store, &mut self.blob) {
             Ok(()) => Ok(()),
             Err(error) => {
@@ -103,15 +166,21 @@ impl<R: Rng> Disk for BlobDisk<R> {
 
 impl<R: Rng> BlobDisk<R> {
     ghost use Rattle.std.specs.Prelude.{◌≡◌, ℕ, List, true, OnOk, OnErr};
+    ghost use Rattle.blob_header.specs.Refusals.{refused};
+    ghost use Rattle.blob_disk.specs.Calls.{blob_of, crash_of, store_of, seen_of};
+    ghost use Rattle.blob_disk.specs.Crashes.{IsLeft, MayCrash};
     ghost use Rattle.blob_disk.specs.Drawn.{MayDraw, rates_of};
 
-    /// The machine stops: of what wasn't synced there is what is drawn, and the file is opened again, usable.
+    /// Stops the machine: of what wasn't synced there is what is drawn, and the file is opened again, usable.
     ///
     /// # Errors
     ///
-    /// `Memory` where memory runs out for either, and `Injected` where the draw of the open is true. Then all that was written
-    /// is there, as where the process alone dies.
+    /// After an error all that was written is there, as where the process alone dies.
+    /// - `Memory` if memory runs out for the crash or the open.
+    /// - `Injected` if the draw of the open, which comes after those of the crash, is true.
     pub fn try_crash(&mut self) -> Result<(), Error>
+        ensures answer { MayCrash R.stream (store_of self.old) (refused result) }
+        ensures drawn { OnOk result (IsLeft R.stream (blob_of self.old) (store_of self.old) (seen_of self.new)) }
         ensures lost { OnOk result (MayDraw self.old (⟦<BlobDisk<R> as Disk>⟧.seen self.new)) }
         ensures kept { OnErr result (⟦<BlobDisk<R> as Disk>⟧.seen self.new ≡ ⟦<BlobDisk<R> as Disk>⟧.seen self.old) }
         ensures left { ⟦<BlobDisk<R> as Disk>⟧.may_leave self.old (⟦<BlobDisk<R> as Disk>⟧.seen self.new) }
@@ -121,6 +190,7 @@ impl<R: Rng> BlobDisk<R> {
         ensures faults { ⟦<BlobDisk<R> as Disk>⟧.faults self.new ≡ ⟦<BlobDisk<R> as Disk>⟧.faults self.old }
         ensures tally { ⟦<BlobDisk<R> as Disk>⟧.tally_of self.new ≡ ⟦<BlobDisk<R> as Disk>⟧.tally_of self.old }
         ensures rates { rates_of self.new ≡ rates_of self.old }
+        ensures last { crash_of self.new ≡ crash_of self.old }
     {
         self.usable = true;
         lose(&mut self.store, &mut self.blob)
@@ -128,7 +198,23 @@ impl<R: Rng> BlobDisk<R> {
 }
 
 impl<R: Rng> Crash for BlobDisk<R> {
-    fn crash(&mut self) {
-        let _ = self.try_crash();
+    ghost use Rattle.std.specs.Prelude.{◌≡◌, ℕ, List, true, OnOk, OnErr};
+    ghost use Rattle.blob_header.specs.Refusals.{refused};
+    ghost use Rattle.blob_disk.specs.Calls.{KeepsSettings, blob_of, counts_of, crash_of, faults_of, is_usable_of, outcomes_of, seen_of, store_of};
+    ghost use Rattle.blob_disk.specs.Crashes.{IsLeft, MayCrash};
+
+    /// Crashes as `try_crash`, whose answer `last_crash` returns from then on.
+    fn crash(&mut self)
+        ensures answer { MayCrash R.stream (store_of self.old) (refused (crash_of self.new)) }
+        ensures drawn { OnOk (crash_of self.new) (IsLeft R.stream (blob_of self.old) (store_of self.old) (seen_of self.new)) }
+        ensures kept { OnErr (crash_of self.new) (seen_of self.new ≡ seen_of self.old) }
+        ensures left { outcomes_of self.old (seen_of self.new) }
+        ensures usable { is_usable_of self.new ≡ true }
+        ensures faults { faults_of self.new ≡ faults_of self.old }
+        ensures counts { counts_of self.new ≡ counts_of self.old }
+        ensures settings { KeepsSettings self.old self.new }
+        ensures crash { (c : List ℕ) → outcomes_of self.new c → outcomes_of self.old c }
+    {
+        self.crashed = self.try_crash();
     }
 }

@@ -9,7 +9,7 @@
 ghost use Rattle.std.specs.Prelude.{◌≡◌, ℕ, List, [], true, IfOk, OnErr};
 ghost use Rattle.blob_header.specs.Refusals.{IsMemory};
 ghost use Rattle.blob_faulty.specs.Certain.{IsNever, partial_resizes};
-ghost use Rattle.blob_disk.specs.Outcomes.{IsCurrent, IsStanding, IsTracked, IsWhole, whole_prop};
+ghost use Rattle.blob_disk.specs.Outcomes.{IsCurrent, IsOpenable, IsStanding, IsTracked, IsWhole, whole_prop};
 
 mod calls;
 mod disk;
@@ -41,16 +41,20 @@ pub struct BlobDisk<R: Rng> {
     usable: bool,
     faults: u64,
     caught: u64,
+    /// The answer of the last `Crash::crash`, which has none of its own.
+    crashed: Result<(), Error>,
     ghost standing: { IsStanding store },
     ghost tracked: { IsTracked blob },
     ghost here: { IsCurrent blob store },
+    ghost openable: { IsOpenable store },
     ghost whole: { IsWhole store } by { whole_prop store },
 }
 
 impl<R: Rng + Drop> BlobDisk<R> {
+    ghost use Rattle.blob_disk.specs.Calls.{caught_of, faults_of, stream_of};
     ghost use Rattle.blob_disk.specs.Drawn.{rates_of};
 
-    /// An empty file, whose faults are drawn by these rates from here on. The open itself draws nothing.
+    /// Returns an empty file, whose faults are drawn by these rates from here on. The open itself draws nothing.
     ///
     /// A disk that is mixing says that a crash leaves each byte of a write old or new, and so lets a database commit by one sync.
     /// Each disk keeps that; one that doesn't say so is for databases that commit by two.
@@ -64,6 +68,8 @@ impl<R: Rng + Drop> BlobDisk<R> {
         ensures usable { IfOk result (λ disk. ⟦<BlobDisk<R> as Disk>⟧.is_usable disk ≡ true) }
         ensures mixing { IfOk result (λ disk. ⟦<BlobDisk<R> as Disk>⟧.is_mixing disk ≡ is_mixing) }
         ensures rates { IfOk result (λ disk. rates_of disk ≡ config) }
+        ensures stream { IfOk result (λ disk. stream_of R.stream disk ≡ R.stream rng) }
+        ensures counts { IfOk result (λ disk. (faults_of disk ≡ 0) × (caught_of disk ≡ 0)) }
         ensures memory { OnErr result (IsMemory result) }
     {
         let memory = blob_memory::Storage::new(alloc);
@@ -80,14 +86,16 @@ impl<R: Rng + Drop> BlobDisk<R> {
             usable: true,
             faults: 0,
             caught: 0,
+            crashed: Ok(()),
         })
     }
 }
 
 impl<R: Rng> BlobDisk<R> {
+    ghost use Rattle.blob_disk.specs.Calls.{KeepsBytes, counts_of, crash_of, faults_of, stream_of};
     ghost use Rattle.blob_disk.specs.Drawn.{rates_of};
 
-    /// The rates of the faults from here on. The file stays, and what a crash may leave of it.
+    /// Sets the rates of the faults from here on. The file stays, and what a crash may leave of it. Draws nothing.
     pub fn set_config(&mut self, config: Config)
         requires { IsNever (partial_resizes config.resize_rate) }
         ensures seen { ⟦<BlobDisk<R> as Disk>⟧.seen self.new ≡ ⟦<BlobDisk<R> as Disk>⟧.seen self.old }
@@ -95,7 +103,20 @@ impl<R: Rng> BlobDisk<R> {
         ensures usable { ⟦<BlobDisk<R> as Disk>⟧.is_usable self.new ≡ ⟦<BlobDisk<R> as Disk>⟧.is_usable self.old }
         ensures mixing { ⟦<BlobDisk<R> as Disk>⟧.is_mixing self.new ≡ ⟦<BlobDisk<R> as Disk>⟧.is_mixing self.old }
         ensures set { rates_of self.new ≡ config }
+        ensures bytes { KeepsBytes self.old self.new }
+        ensures stream { stream_of R.stream self.new ≡ stream_of R.stream self.old }
+        ensures faults { faults_of self.new ≡ faults_of self.old }
+        ensures counts { counts_of self.new ≡ counts_of self.old }
+        ensures crash { crash_of self.new ≡ crash_of self.old }
     {
         self.store.set_config(config);
+    }
+
+    /// Returns the answer of the last `Crash::crash`: Ok if what wasn't synced was lost by the draws, and before the first. After
+    /// an error all that was written is still there, as where the process alone dies.
+    pub fn last_crash(&self) -> &Result<(), Error>
+        ensures { result.now ≡ crash_of self.now }
+    {
+        &self.crashed
     }
 }

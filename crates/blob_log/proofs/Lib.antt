@@ -1,3 +1,4 @@
 pub mod Refusing
+pub mod Running
 pub mod Scans
 pub mod Surviving

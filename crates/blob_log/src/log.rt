@@ -1,17 +1,23 @@
 //! A log of records in one blob of a fault wrapper.
-ghost use Rattle.std.specs.Prelude.{◌≡◌, ◌∷◌, [], List, ℕ, OnOk, OnErr, IfOk};
+ghost use Rattle.std.specs.Prelude.{◌≡◌, ◌⊎◌, ◌∷◌, [], List, ℕ, true, OnOk, OnErr, IfOk};
 ghost use Rattle.blob_model.specs.Files.{Files};
 ghost use Rattle.blob_header.specs.Refusals.{refused};
+ghost use Rattle.blob_model.specs.Live.{live_written};
 ghost use Rattle.blob_model.specs.Opened.{IsNamed};
 ghost use Rattle.blob_model.specs.Places.{Place};
+ghost use Rattle.blob_faulty.specs.Admitted.{OpensAdmitted, StaysSame};
 ghost use Rattle.blob_faulty.specs.Keeps.{IsFor, Keeps};
+ghost use Rattle.blob_faulty.specs.Wrapper.{config_of};
+ghost use Rattle.blob_log.specs.Frames.{frame};
 ghost use Rattle.blob_log.specs.Held.{AddsRecords, FindsRecords, HoldsRecords, log_place, log_blob, log_end, record_bytes};
+ghost use Rattle.blob_log.specs.Leaves.{AppendsFrame, TriesFrame, log_live};
 ghost use Rattle.blob_log.specs.Refused.{MayAppend, MayRecover};
 
 use crate::frame::{frame_of, scan, scans_find_frames};
 use blob_base::laws::opens::accepted_opens;
 use blob_base::{Blob, Error, IoBufs, WriteOptions};
 use blob_faulty::laws::keeps::{unrecorded_calls, writes};
+use blob_faulty::laws::outcomes::{entries, recorded};
 use rand_core::Rng;
 use std::alloc::Global;
 
@@ -41,9 +47,15 @@ impl Log {
         ensures acknowledged { OnOk result (AddsRecords self.old store.old self.new store.new (entry.now ∷ [])) }
         ensures refused { OnErr result ((records : List (List ℕ)) → HoldsRecords self.old store.old records → HoldsRecords self.new store.new records) }
         ensures place { log_place self.new ≡ log_place self.old }
+        ensures appended { OnOk result (AppendsFrame self.old entry.now store.old store.new) }
+        ensures failed { OnErr result (TriesFrame self.old entry.now store.old store.new) }
+        ensures live { OnOk result (log_live self.new ≡ live_written true (log_live self.old) (log_end self.old) (frame entry.now)) }
+        ensures config { config_of store.new ≡ config_of store.old }
         ensures answer { MayAppend (log_end self.old) entry.now (⟦<Handle as Blob<Store<R>>>⟧.allows_write (log_blob self.old) store.old) (refused result) }
     {
         writes::<blob_memory::Storage, R, blob_memory::Blob>();
+        recorded::<blob_memory::Storage, R>();
+        entries();
         if entry.len() > u32::MAX as usize {
             return Err(Error::OffsetOverflow);
         }
@@ -73,6 +85,9 @@ impl Log {
         ensures found { IfOk result (λ r. FindsRecords store.old partition.now name.now r.0 (record_bytes r.1.items)) }
         ensures keeps { (o : Place) (bytes : List ℕ) → Keeps store.old o bytes → Keeps store.new o bytes }
         ensures named { IfOk result (λ r. IsNamed (log_place r.0) partition.now name.now) }
+        ensures opened { OnOk result (OpensAdmitted store.old store.new partition.now name.now 0 0) }
+        ensures failed { OnErr result (StaysSame store.old store.new ⊎ OpensAdmitted store.old store.new partition.now name.now 0 0) }
+        ensures config { config_of store.new ≡ config_of store.old }
         ensures answer { MayRecover R.stream store.old partition.now name.now (refused result) }
     {
         accepted_opens();

@@ -1,10 +1,11 @@
 //! A log through crashes: what was acknowledged is found again.
-ghost use Rattle.std.specs.Prelude.{◌≡◌, IfOk, length};
+ghost use Rattle.std.specs.Prelude.{◌≡◌, ◌≢◌, Some, IfOk, is_none, length};
 ghost use Rattle.blob_model.specs.Files.{Files};
-ghost use Rattle.blob_header.specs.Refusals.{refused};
+ghost use Rattle.blob_header.specs.Refusals.{refused, Memory};
 ghost use Rattle.blob_faulty.specs.Keeps.{IsFor};
 ghost use Rattle.blob_log.specs.Held.{AddsRecords, AreAnswered, Survive, log_place, record_bytes, acknowledged};
 ghost use Rattle.blob_log.specs.Refused.{MayStop};
+ghost use Rattle.blob_log.specs.Runs.{AppendsAll, RunAnew, SessionsRun};
 
 use crate::log::{Log, Store};
 use blob_base::Error;
@@ -21,7 +22,18 @@ pub struct Session {
     pub answers: Vec<bool>,
 }
 
-/// Appends the records one after another, whatever is answered, and says which were answered Ok.
+/// Returns whether an append succeeded. Fails if it ran out of memory.
+fn settled(answer: Result<(), Error>) -> Result<bool, AllocError>
+    ensures { IfOk result (λ done. (done ≡ is_none (refused answer)) × (refused answer ≢ Some Memory)) }
+{
+    match answer {
+        Ok(()) => Ok(true),
+        Err(Error::Memory(error)) => Err(error),
+        Err(_) => Ok(false),
+    }
+}
+
+/// Appends the records in order and returns which appends succeeded. Stops if memory runs out.
 fn append_all<R: Rng>(
     alloc: Global,
     log: &mut Log,
@@ -31,10 +43,12 @@ fn append_all<R: Rng>(
     ensures count { IfOk result (λ answers. length answers.items ≡ length entries.now) }
     ensures held { IfOk result (λ answers. AddsRecords log.old store.old log.new store.new (acknowledged answers.items (record_bytes entries.now))) }
     ensures place { log_place log.new ≡ log_place log.old }
+    ensures ran { IfOk result (λ answers. AppendsAll R.stream log.old store.old (record_bytes entries.now) answers.items log.new store.new) }
 {
     let mut answers = Vec::with_capacity(alloc, entries.len())?;
     for entry in entries {
-        answers.push(log.append(store, entry).is_ok())?;
+        let done = settled(log.append(store, entry))?;
+        answers.push(done)?;
     }
     Ok(answers)
 }
@@ -45,7 +59,7 @@ fn append_all<R: Rng>(
 ///
 /// # Errors
 ///
-/// What a recovery is refused for, and `Memory`, as a crash too may be.
+/// The errors of a recovery, and `Memory` if an append or a crash runs out of memory.
 pub fn sessions_survive<R: Rng>(
     alloc: Global,
     store: &mut Store<R>,
@@ -55,6 +69,7 @@ pub fn sessions_survive<R: Rng>(
 ) -> Result<(Vec<Session>, Vec<Vec<u8>>), Error>
     ensures answer { MayStop R.stream partition.now name.now (refused result) }
     ensures answered { IfOk result (λ r. AreAnswered r.0.items sessions.now) }
+    ensures ran { IfOk result (λ r. SessionsRun R.stream partition.now name.now store.old r.0.items sessions.now (record_bytes r.1.items) store.new) }
     ensures survive { IfOk result (λ r. (files : Files) → IsFor store.old files → Survive r.0.items sessions.now (record_bytes r.1.items)) }
 {
     let (mut log, mut before) = Log::recover(alloc, store, partition, name)?;
@@ -75,7 +90,7 @@ pub fn sessions_survive<R: Rng>(
 ///
 /// # Errors
 ///
-/// What a recovery is refused for, and `Memory`, as a crash too may be.
+/// The errors of a recovery, and `Memory` if an append or a crash runs out of memory.
 pub fn sessions_survive_anew<R: Rng + Drop>(
     alloc: Global,
     rng: R,
@@ -86,6 +101,7 @@ pub fn sessions_survive_anew<R: Rng + Drop>(
 ) -> Result<(Vec<Session>, Vec<Vec<u8>>), Error>
     ensures answer { MayStop R.stream partition.now name.now (refused result) }
     ensures answered { IfOk result (λ r. AreAnswered r.0.items sessions.now) }
+    ensures ran { IfOk result (λ r. RunAnew R.stream partition.now name.now rng config r.0.items sessions.now (record_bytes r.1.items)) }
     ensures survive { IfOk result (λ r. Survive r.0.items sessions.now (record_bytes r.1.items)) }
 {
     let memory = blob_memory::Storage::new(alloc);

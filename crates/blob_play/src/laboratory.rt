@@ -17,14 +17,23 @@ pub struct Laboratory {
     config: Config,
 }
 
-// Whether a laboratory is made over one image.
-fn made(alloc: Global, partition: &str, name: &str, raw: &str) -> Result<Found, Error> {
+// Whether a laboratory is made over one image, with zeros or the words of a seed.
+fn made(
+    alloc: Global,
+    partition: &str,
+    name: &str,
+    raw: &str,
+    seed: Option<u64>,
+) -> Result<Found, Error> {
     let partition = tokens::text(alloc, partition)?;
     let (name, raw) = (tokens::bytes(alloc, name)?, tokens::bytes(alloc, raw)?);
     let mut images = Vec::with_capacity(alloc, 1)?;
     images.push((partition, name, raw))?;
     window::begin(alloc);
-    let answer = Lab::new(images, Vec::new(alloc), Config::default());
+    let answer = match seed {
+        Some(seed) => Lab::seeded(images, Vec::new(alloc), seed, Config::default()),
+        None => Lab::new(images, Vec::new(alloc), Config::default()),
+    };
     window::end(alloc);
     match answer {
         Ok(lab) => {
@@ -163,7 +172,8 @@ impl Laboratory {
         }
         let words: Vec<&str> = line.split(' ').collect(self.alloc)?;
         match words.as_slice() {
-            ["made", partition, name, raw] => made(self.alloc, partition, name, raw),
+            ["made", partition, name, raw] => made(self.alloc, partition, name, raw, None),
+            ["seeded", partition, name, raw] => made(self.alloc, partition, name, raw, Some(7)),
             ["end"] => self.end_lab(),
             ["raw", partition, name] => self.raw(partition, name),
             ["all", handle] => self.all(handle),

@@ -25,7 +25,7 @@ fn removed(store: &mut Memory, blob: &mut Opened, args: &mut Args<'_>) -> Result
 // Within a room that ends there.
 fn within_room(store: &mut Memory, blob: &mut Opened, args: &mut Args<'_>) -> Result<(), Error> {
     let ([_, end, at, _], bufs) = (args.numbers, args.take_bufs());
-    if at > end || bufs.remaining() as u64 > end - at || !store.is_current(blob.origin()) {
+    if at > end || bufs.remaining() as u64 > end - at || !store.is_current(blob.origin_ref()) {
         return Err(Error::Closed);
     }
     write_within_room(store, blob, end, at, bufs, WriteOptions::SYNC)?

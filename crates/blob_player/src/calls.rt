@@ -62,6 +62,8 @@ pub enum Own {
     Open,
     OpenVersioned,
     OpenExclusive,
+    OpenAdmitted,
+    OpenVersionedAdmitted,
     Fresh,
     Remove,
     RemovePartition,
@@ -70,7 +72,9 @@ pub enum Own {
     Same,
     Read,
     ReadInto,
+    ReadSlice,
     Write,
+    WriteFrom,
     WriteSynced,
     Resize,
     Sync,
@@ -128,7 +132,7 @@ pub enum Debt {
 type Row = (&'static str, &'static str, Ask);
 
 // A word, the letters of its arguments, and the call.
-static CALLS: [Row; 94] = [
+static CALLS: [Row; 98] = [
     ("resolve", "bvv", Ask::Value(Value::Resolve)),
     ("parse", "bllvv", Ask::Value(Value::Parse)),
     ("maybetorn", "bllvv", Ask::Value(Value::MaybeTorn)),
@@ -166,6 +170,8 @@ static CALLS: [Row; 94] = [
     ("loose", "pavv", Ask::Own(Own::OpenVersioned)),
     ("open", "pa", Ask::Own(Own::OpenExclusive)),
     ("open", "pavv", Ask::Own(Own::OpenExclusive)),
+    ("admitted", "pa", Ask::Own(Own::OpenAdmitted)),
+    ("admitted", "pavv", Ask::Own(Own::OpenVersionedAdmitted)),
     ("fresh", "pa", Ask::Own(Own::Fresh)),
     ("remove", "p", Ask::Own(Own::RemovePartition)),
     ("remove", "pa", Ask::Own(Own::Remove)),
@@ -174,7 +180,9 @@ static CALLS: [Row; 94] = [
     ("same", "nn", Ask::Own(Own::Same)),
     ("read", "nnn", Ask::Own(Own::Read)),
     ("readinto", "nnu", Ask::Own(Own::ReadInto)),
+    ("readslice", "nnb", Ask::Own(Own::ReadSlice)),
     ("write", "nnW", Ask::Own(Own::Write)),
+    ("writefrom", "nnb", Ask::Own(Own::WriteFrom)),
     ("writes", "nnW", Ask::Own(Own::WriteSynced)),
     ("resize", "nn", Ask::Own(Own::Resize)),
     ("sync", "n", Ask::Own(Own::Sync)),

@@ -3,7 +3,7 @@
 use crate::args::Args;
 use crate::callers;
 use crate::calls::Own;
-use crate::found::{Found, done};
+use crate::found::{Found, bytes, done};
 use crate::place::Place;
 use blob_base::{Blob, Error};
 use blob_memory::{Blob as Opened, Storage as Memory};
@@ -26,17 +26,17 @@ fn retain(store: &mut Memory, blob: &Opened, own: Own, args: &Args<'_>) -> Resul
     }
     match own {
         Own::Retain => blob.retain_crash_write(store, at, bufs, choices),
-        Own::RetainOf => store.retain_write(blob.origin(), at, bufs, choices),
+        Own::RetainOf => store.retain_write(blob.origin_ref(), at, bufs, choices),
         Own::RetainResize => blob.retain_crash_resize(store, at),
-        Own::RetainResizeOf => store.retain_resize(blob.origin(), at),
-        _ => store.reserve_crash(blob.origin(), at),
+        Own::RetainResizeOf => store.retain_resize(blob.origin_ref(), at),
+        _ => store.reserve_crash(blob.origin_ref(), at),
     }
     .map(done)
 }
 
 // The partition, the name, the number and the offset of the data.
 fn origin_of(blob: &Opened) -> Result<Found, Error> {
-    Ok(Found::Origin(blob.origin().clone()?))
+    Ok(Found::Origin(blob.origin()?))
 }
 
 impl MemoryPlace {
@@ -61,6 +61,19 @@ impl MemoryPlace {
         Ok(done(()))
     }
 
+    // Reads into a slice, or writes one.
+    fn borrow(&mut self, own: Own, args: &mut Args<'_>) -> Result<Found, Error> {
+        let [_, at, _, _] = args.numbers;
+        let mut slice = args.take_bytes();
+        let number = args.handle();
+        let blob = self.place.blobs.get_mut(number).ok_or(Error::Closed)?;
+        if let Own::WriteFrom = own {
+            return blob.write_from(at, &slice).map(done);
+        }
+        blob.read_into(at, &mut slice)?;
+        Ok(bytes(slice))
+    }
+
     fn through_handle(&mut self, own: Own, args: &Args<'_>) -> Result<Found, Error> {
         let blob = self.place.blobs.get(args.handle()).ok_or(Error::Closed)?;
         match own {
@@ -82,6 +95,7 @@ impl MemoryPlace {
             Own::Audit => Ok(Found::Sum(self.place.store.audit())),
             Own::Rebuild => self.rebuild(),
             Own::Swap => self.swap(),
+            Own::ReadSlice | Own::WriteFrom => self.borrow(own, args),
             Own::Origin
             | Own::Retain
             | Own::RetainResize

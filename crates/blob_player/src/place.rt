@@ -31,7 +31,13 @@ impl<S: Storage + Drop> Place<S> {
         self.started.reserve(1)
     }
 
-    fn opened(&mut self, blob: S::Blob, size: u64, version: BlobVersion) -> Result<Found, Error> {
+    /// Keeps the handle of an open.
+    pub fn opened(
+        &mut self,
+        blob: S::Blob,
+        size: u64,
+        version: BlobVersion,
+    ) -> Result<Found, Error> {
         let handle = self.blobs.len();
         self.blobs.push(blob)?;
         Ok(Found::Told(Reply::Opened {
@@ -70,7 +76,7 @@ impl<S: Storage + Drop> Place<S> {
             .blobs
             .get(args.numbers[1] as usize)
             .ok_or(Error::Closed)?;
-        Ok(Found::Is(blob.origin() == other.origin()))
+        Ok(Found::Is(blob.origin_ref() == other.origin_ref()))
     }
 
     fn finish(&mut self, number: usize) -> Result<Found, Error> {

@@ -2,10 +2,10 @@
 
 use crate::args::Args;
 use crate::calls::Own;
-use crate::found::{Found, done};
+use crate::found::{Found, bytes, done};
 use crate::place::Place;
 use crate::words;
-use blob_base::{Error, Storage};
+use blob_base::{DEFAULT_BLOB_VERSION, Error, Storage};
 use blob_calls::Reply;
 use blob_faulty::Config;
 use blob_laboratory::ScriptedRng;
@@ -124,6 +124,37 @@ impl WrapperPlace<Memory> {
         Ok(done(()))
     }
 
+    // An open that is admitted at once.
+    fn open_admitted(&mut self, args: &Args<'_>) -> Result<Found, Error> {
+        let (blob, size) = self.place.store.open_admitted(&args.partition, &args.name)?;
+        self.place.opened(blob, size, DEFAULT_BLOB_VERSION)
+    }
+
+    fn open_versioned_admitted(&mut self, args: &Args<'_>) -> Result<Found, Error> {
+        let [first, last] = args.versions;
+        if first > last {
+            return Ok(Found::Told(Reply::EmptyRange));
+        }
+        let (blob, size, version) = self
+            .place
+            .store
+            .open_versioned_admitted(&args.partition, &args.name, first..=last)?;
+        self.place.opened(blob, size, version)
+    }
+
+    // Reads into a slice, or writes one.
+    fn borrow(&mut self, own: Own, args: &mut Args<'_>) -> Result<Found, Error> {
+        let [_, at, _, _] = args.numbers;
+        let mut slice = args.take_bytes();
+        let number = args.handle();
+        let blob = self.place.blobs.get_mut(number).ok_or(Error::Closed)?;
+        if let Own::WriteFrom = own {
+            return blob.write_from(&mut self.place.store, at, &slice).map(done);
+        }
+        blob.read_into(&mut self.place.store, at, &mut slice)?;
+        Ok(bytes(slice))
+    }
+
     fn crash(&mut self) -> Result<Found, Error> {
         Ok(Found::Told(Reply::Crashed(self.place.store.crash()?)))
     }
@@ -132,6 +163,9 @@ impl WrapperPlace<Memory> {
     pub fn call(&mut self, own: Own, args: &mut Args<'_>) -> Result<Found, Error> {
         match own {
             Own::Admit => self.admit(args),
+            Own::OpenAdmitted => self.open_admitted(args),
+            Own::OpenVersionedAdmitted => self.open_versioned_admitted(args),
+            Own::ReadSlice | Own::WriteFrom => self.borrow(own, args),
             Own::Crash => self.crash(),
             Own::Rewrap => self.rewrap(false),
             Own::Rebuild => self.rewrap(true),

@@ -1,8 +1,7 @@
 //! `resolve` over streams that fail. What it replies over sound ones is data: tests/resolve at the top of the repository.
 
 use crate::failing::{Full, Halting};
-use blob_lab::run_resolve::run_resolve;
-use blob_lab::{Ending, Input, Output};
+use blob_lab::{Ending, Input, Output, serve_resolve};
 use std::alloc::Global;
 use std::io::{BufReader, ErrorKind};
 use std::process::Abort;
@@ -25,7 +24,7 @@ fn halted(
     };
     let mut reader = Input::new(BufReader::new(alloc, halting)?);
     let mut writer = Output::new(Vec::new(alloc));
-    let found = run_resolve(alloc, &mut reader, &mut writer);
+    let found = serve_resolve(alloc, &mut reader, &mut writer);
     assert!(rt; found == ending, "after {reads} reads");
     assert!(rt; reader.has_failed() == (ending == Ending::InputFailed));
     assert!(rt; writer.into_writer().is_empty() == (ending != Ending::Done));
@@ -56,7 +55,7 @@ fn filled(
         room,
         flushes,
     });
-    let found = run_resolve(alloc, &mut Input::new(LINE), &mut writer);
+    let found = serve_resolve(alloc, &mut Input::new(LINE), &mut writer);
     assert!(rt; found == ending, "with room for {room}");
     assert!(rt; writer.has_failed() == (ending == Ending::OutputFailed));
     assert!(rt; writer.into_writer().bytes.as_slice() == output);

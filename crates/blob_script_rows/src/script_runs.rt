@@ -1,8 +1,7 @@
 //! Scripts over streams that fail. What runs over sound ones is data: tests/scripts at the top of the repository.
 
 use crate::failing::{Full, Halting};
-use blob_lab::run_script::run_script;
-use blob_lab::{Ending, Input, Output};
+use blob_lab::{Ending, Input, Output, serve_script};
 use std::alloc::Global;
 use std::io::{BufReader, ErrorKind};
 use std::process::Abort;
@@ -23,7 +22,7 @@ fn halted(
     };
     let mut reader = Input::new(BufReader::new(alloc, halting)?);
     let mut writer = Output::new(Vec::new(alloc));
-    let found = run_script(alloc, &mut reader, &mut writer);
+    let found = serve_script(alloc, &mut reader, &mut writer);
     assert!(rt; found == ending, "after {reads} reads");
     assert!(rt; reader.has_failed() == (ending == Ending::InputFailed));
     assert!(rt;
@@ -68,7 +67,7 @@ fn filled(
         room,
         flushes,
     });
-    let found = run_script(alloc, &mut Input::new(input), &mut writer);
+    let found = serve_script(alloc, &mut Input::new(input), &mut writer);
     assert!(rt; found == ending, "with room for {room}");
     assert!(rt; writer.has_failed() == (ending == Ending::OutputFailed));
     assert!(rt; writer.is_flushed() == flushes);

@@ -14,6 +14,8 @@ mod files;
 #[cfg(test)]
 mod fixed;
 #[cfg(test)]
+mod live;
+#[cfg(test)]
 mod log_seeds;
 #[cfg(test)]
 mod log_use;

@@ -2,7 +2,9 @@
 // started syncs there are.
 use crate::files::{FILES, file_of, has_file, name_of, partition_of};
 use crate::fixed::Fixed;
+use crate::live::Live;
 use blob_base::Error;
+use blob_faulty::Config;
 use blob_lab::{Call, Lab, Reply};
 use std::alloc::Global;
 
@@ -11,9 +13,11 @@ use std::alloc::Global;
 struct Opened {
     file: usize,
     is_current: bool,
+    live: Live,
 }
 
-/// A started sync of a current handle, and what it fixes: the bytes that no call has reached since.
+/// A started sync of a current handle, and what it fixes where it succeeded: the bytes that no call has reached since. It fixed
+/// them from its start; whether it succeeded is told when it is finished.
 #[derive(Drop)]
 struct Started {
     number: usize,
@@ -28,8 +32,16 @@ pub struct Record {
     /// By their numbers; none where closed.
     handles: Vec<Option<Opened>>,
     syncs: Vec<Started>,
-    /// What the last call read from a current handle's start, and its number.
-    read: Option<(usize, Vec<u8>)>,
+    /// Whether no sync of a current handle fails.
+    syncs_succeed: bool,
+}
+
+// Whether no sync fails by this configuration.
+fn never_fails(config: &Config) -> bool {
+    match &config.sync_rate {
+        Some(rate) => rate.is_zero(),
+        None => true,
+    }
 }
 
 fn is_done(reply: &Reply) -> bool {
@@ -50,7 +62,7 @@ impl Record {
             files,
             handles: Vec::new(alloc),
             syncs: Vec::new(alloc),
-            read: None,
+            syncs_succeed: true,
         })
     }
 
@@ -80,6 +92,21 @@ impl Record {
         }
     }
 
+    fn live_of(&mut self, handle: usize) -> Option<&mut Live> {
+        match self.handles.get_mut(handle) {
+            Some(Some(opened)) => Some(&mut opened.live),
+            _ => None,
+        }
+    }
+
+    // A copy of the live bytes that are known.
+    fn known_of(&self, handle: usize) -> Result<Vec<u8>, Error> {
+        match self.handles.get(handle) {
+            Some(Some(opened)) => Ok(Vec::from_slice(self.alloc, opened.live.front())?),
+            _ => Ok(Vec::new(self.alloc)),
+        }
+    }
+
     fn reach(&mut self, file: usize, from: u64, to: u64) {
         if let Some(fixed) = self.files.get_mut(file) {
             fixed.reach(from, to);
@@ -99,25 +126,23 @@ impl Record {
     }
 
     /// Takes note of a call and its reply. False where they contradict what is known: a stale handle did something durable,
-    /// or a handle or an open doesn't have a fixed byte.
+    /// a handle or an open doesn't have a fixed byte, or a read gives other bytes than those that are known.
     pub fn note(&mut self, lab: &Lab, call: &Call, reply: &Reply) -> Result<bool, Error> {
-        let read = self.read.take();
         match call {
+            Call::Configure(config) => {
+                self.syncs_succeed = never_fails(config);
+                Ok(true)
+            }
             Call::Write {
                 handle,
                 offset,
                 bytes,
                 sync,
-            } => self.note_write(*handle, *offset, bytes, *sync && is_done(reply)),
-            Call::Resize { handle, len } => {
-                if let Some(file) = self.file_behind(*handle) {
-                    self.reach(file, *len, u64::MAX);
-                }
-                Ok(true)
-            }
+            } => self.note_write(*handle, *offset, bytes, (*sync, is_done(reply))),
+            Call::Resize { handle, len } => self.note_resize(*handle, *len, is_done(reply)),
             Call::Read { handle, offset, .. } => self.note_read(*handle, *offset, reply),
-            Call::Sync(handle) => self.note_sync(*handle, read, is_done(reply)),
-            Call::StartSync(handle) => self.note_start(*handle, read, reply),
+            Call::Sync(handle) => self.note_sync(*handle, is_done(reply)),
+            Call::StartSync(handle) => self.note_start(*handle, reply),
             Call::Finish(number) => self.note_finish(*number, is_done(reply)),
             Call::Open {
                 partition,
@@ -136,14 +161,31 @@ impl Record {
         handle: usize,
         offset: u64,
         bytes: &[u8],
-        is_synced: bool,
+        (is_sync, is_done): (bool, bool),
     ) -> Result<bool, Error> {
+        // A SYNC write of no bytes does nothing.
+        if is_sync && bytes.is_empty() {
+            return Ok(true);
+        }
         let Some(file) = self.file_behind(handle) else {
-            return Ok(!is_synced || bytes.is_empty());
+            return Ok(!is_sync || !is_done);
         };
+        if let Some(live) = self.live_of(handle) {
+            live.write(offset, bytes, is_done)?;
+        }
         self.reach(file, offset, offset.saturating_add(bytes.len() as u64));
-        if is_synced {
+        if is_sync && is_done {
             self.fix(file, offset as usize, bytes)?;
+        }
+        Ok(true)
+    }
+
+    fn note_resize(&mut self, handle: usize, len: u64, is_done: bool) -> Result<bool, Error> {
+        if let Some(file) = self.file_behind(handle) {
+            if let Some(live) = self.live_of(handle) {
+                live.resize(len, is_done)?;
+            }
+            self.reach(file, len, u64::MAX);
         }
         Ok(true)
     }
@@ -155,8 +197,11 @@ impl Record {
         let Reply::Bytes(bytes) = reply else {
             return Ok(true);
         };
-        if offset == 0 {
-            self.read = Some((handle, Vec::from_slice(self.alloc, bytes)?));
+        if offset == 0
+            && let Some(live) = self.live_of(handle)
+            && !live.read(bytes)?
+        {
+            return Ok(false);
         }
         match self.files.get(file) {
             Some(fixed) => Ok(fixed.agrees(offset as usize, bytes)),
@@ -164,42 +209,32 @@ impl Record {
         }
     }
 
-    fn note_sync(
-        &mut self,
-        handle: usize,
-        read: Option<(usize, Vec<u8>)>,
-        is_synced: bool,
-    ) -> Result<bool, Error> {
+    fn note_sync(&mut self, handle: usize, is_synced: bool) -> Result<bool, Error> {
         let Some(file) = self.file_behind(handle) else {
             return Ok(!is_synced);
         };
-        if let Some((from, bytes)) = read
-            && is_synced
-            && from == handle
-        {
-            self.fix(file, 0, &bytes)?;
+        if is_synced {
+            let known = self.known_of(handle)?;
+            self.fix(file, 0, &known)?;
         }
-        Ok(true)
+        Ok(is_synced || !self.syncs_succeed)
     }
 
-    fn note_start(
-        &mut self,
-        handle: usize,
-        read: Option<(usize, Vec<u8>)>,
-        reply: &Reply,
-    ) -> Result<bool, Error> {
+    fn note_start(&mut self, handle: usize, reply: &Reply) -> Result<bool, Error> {
         if let Some(file) = self.file_behind(handle)
             && let Reply::Started(number) = reply
-            && let Some((from, bytes)) = read
-            && from == handle
         {
+            let known = self.known_of(handle)?;
             let mut fixed = Fixed::new(self.alloc);
-            fixed.fix(0, &bytes)?;
+            fixed.fix(0, &known)?;
             self.syncs.push(Started {
                 number: *number,
                 file,
                 fixed,
             })?;
+            if self.syncs_succeed {
+                self.fix(file, 0, &known)?;
+            }
         }
         Ok(true)
     }
@@ -237,12 +272,14 @@ impl Record {
             Some(fixed) => fixed.count_in(&bytes).is_some(),
             None => true,
         };
+        self.fix(file, 0, &bytes)?;
+        let has_size = *size == bytes.len() as u64;
         self.handles.push(Some(Opened {
             file,
             is_current: true,
+            live: Live::new(bytes),
         }))?;
-        self.fix(file, 0, &bytes)?;
-        Ok(is_new && has_fixed && *size == bytes.len() as u64)
+        Ok(is_new && has_fixed && has_size)
     }
 
     fn note_end(&mut self, call: &Call, reply: &Reply) {

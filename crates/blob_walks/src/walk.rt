@@ -143,9 +143,12 @@ impl Walk {
         Ok(())
     }
 
+    /// A sync, with or without a read of all bytes before it.
     fn sync(&mut self, rt: &impl Abort, lab: &mut Lab) -> Result<(), Error> {
         let handle = self.handle();
-        self.read_all(rt, lab, handle)?;
+        if self.chance.is_one_of(2) {
+            self.read_all(rt, lab, handle)?;
+        }
         self.call(rt, lab, &Call::Sync(handle))?;
         Ok(())
     }
@@ -153,7 +156,9 @@ impl Walk {
     /// A started sync, which is mostly finished at once.
     fn start_sync(&mut self, rt: &impl Abort, lab: &mut Lab) -> Result<(), Error> {
         let handle = self.handle();
-        self.read_all(rt, lab, handle)?;
+        if self.chance.is_one_of(2) {
+            self.read_all(rt, lab, handle)?;
+        }
         if let Reply::Started(number) = self.call(rt, lab, &Call::StartSync(handle))?
             && !self.chance.is_one_of(3)
         {

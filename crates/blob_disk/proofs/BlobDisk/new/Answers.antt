@@ -9,10 +9,12 @@ use Rattle.blob_model.specs.Places.{Place}
 use Rattle.blob_model.specs.Rates.{Rate}
 use Rattle.blob_header.specs.Refusals.{refused, refusal_of}
 use Rattle.blob_disk.proofs.BlobDisk.new.Goals as goal
-use Rattle.blob_disk.proofs.Opening.{memory_alone, refused_alone}
-use Rattle.blob_disk.proofs.Outcomes.{configured_here, configured_whole}
+use Rattle.blob_disk.proofs.Opening.{memory_alone, opens_again, refused_alone}
+use Rattle.blob_disk.proofs.Outcomes.{configured_here, configured_openable, configured_whole}
 use Rattle.blob_faulty.specs.Certain.{IsNever}
-use Rattle.blob_faulty.specs.Wrapper.{config_of, inner_of, Stands}
+use Rattle.blob_faults.specs.Faults.{draw}
+use Rattle.blob_faulty.specs.Keeps.{OverMemory}
+use Rattle.blob_faulty.specs.Wrapper.{config_of, inner_of, rng_of, Stands}
 use Rattle.blob_memory.specs.Store.{directory, durable}
 
 pub invariant_of-result : goal.invariant_of-result
@@ -29,6 +31,7 @@ invariant_of-result g c =
       standing = merely (after_open w (codes "disk") (codes "0") 0 0, c.set_config.ensures.files (after_open w (codes "disk") (codes "0") 0 0) s);
       tracked = e.kept_size.0 ∙ e.size;
       here = configured_here c.in_ok-blob.blob c.open.new.self c.set_config.new.self c.args.config set here;
+      openable = configured_openable c.open.new.self c.set_config.new.self c.args.config set (opens_again _ _ _ _ _ _ e.opened);
       whole = configured_whole c.open.new.self c.set_config.new.self c.args.config set c.requires;
     }
 
@@ -48,3 +51,11 @@ returns-in_err-blob-clause-memory g c =
     let made : directory (inner_of s) ≡ directory c.new-memory.result = ap directory c.new-store.ensures.inner in
     let asked = (c.without_faults.ensures.opens s (codes "disk") (codes "0") 0 0 (Some answer) never).0 c.in_err-blob.ensures.allowed in
     refused_alone c.from_residual.result (said ∙ memory_alone (directory (inner_of s)) answer (made ∙ c.new-memory.ensures.directory) asked)
+
+pub returns-clause-stream : goal.returns-clause-stream
+returns-clause-stream g c =
+    let unset : (config_of c.new-store.result).open_rate ≡ None = search rules in
+    ap (λ (w : OverMemory _). g.R.Rng.stream (rng_of w)) c.set_config.ensures.set
+    ∙ c.in_ok-blob.ensures.leaves.drawn
+    ∙ ap (λ (rate : Option Rate). (draw rate (g.R.Rng.stream (rng_of c.new-store.result))).1) unset
+    ∙ ap (λ r. g.R.Rng.stream r) c.new-store.ensures.rng

@@ -4,11 +4,12 @@ use Rattle.blob_model.specs.Bytes.{resized}
 use Rattle.blob_model.proofs.Bytes.{length-resized}
 use Rattle.blob_header.specs.Refusals.{refused}
 use Rattle.blob_disk.proofs.Adding.{current_now, cut_so}
+use Rattle.blob_disk.proofs.Outcomes.{at_place}
 use Rattle.blob_disk.proofs.calls.resize.Goals as goal
 use Rattle.blob_faults.specs.Faults.{resize_fate}
 use Rattle.blob_faults.specs.Recorded.{recorded_resize}
-use Rattle.blob_faulty.specs.Wrapper.{config_of, inside, rng_of, size_of}
-use Rattle.blob_memory.specs.Store.{live, place}
+use Rattle.blob_faulty.specs.Wrapper.{config_of, inner_of, inside, rng_of, size_of}
+use Rattle.blob_memory.specs.Store.{durable, live, place}
 
 pub returns : goal.returns
 returns g c =
@@ -27,4 +28,4 @@ returns g c =
     (λ f stands. c.recorded.ensures.stands w c.resize.new.store (place (inside b)) es f now e.directory stands (e.leaves.recorded_after refl))
     (λ f t stands. c.recorded.ensures.left w c.resize.new.store (place (inside b)) es f t now e.directory stands (e.leaves.recorded_after refl))
     in
-    record { len = on_ok_weaker c.resize.result (λ h. ap (λ (x : List ℕ). length x) h ∙ length-resized (live (inside b)) c.args.len) e.live; others = s.others; keeps = s.keeps; crash = s.crash }
+    record { len = on_ok_weaker c.resize.result (λ h. ap (λ (x : List ℕ). length x) h ∙ length-resized (live (inside b)) c.args.len) e.live; others = s.others; allowed = e.allowed; durable = ap (durable (inner_of c.resize.new.store)) e.place ∙ at_place e.durable (place (inside b)); keeps = s.keeps; crash = s.crash; leads = s.leads }

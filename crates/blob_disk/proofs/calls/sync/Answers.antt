@@ -1,6 +1,7 @@
 use Rattle.std.proofs.Common.{inl, refl, sym, ◌∙◌, ap, List, ℕ, length}
+use Rattle.std.specs.Prelude.{Result, Ok, Err, OnErr}
 use Rattle.blob_model.specs.Places.{Place}
-use Rattle.blob_disk.proofs.Outcomes.{at_place, keeps_all, keeps_synced, same_outcomes, synced_at}
+use Rattle.blob_disk.proofs.Outcomes.{at_place, keeps_all, keeps_outcomes, keeps_synced, same_outcomes, synced_at}
 use Rattle.blob_disk.proofs.calls.sync.Goals as goal
 use Rattle.blob_faulty.specs.Wrapper.{inner_of, inside, pending_of}
 use Rattle.blob_memory.specs.Store.{durable, live, place}
@@ -14,6 +15,15 @@ pub returns-in_err-sync-clause-crash : goal.returns-in_err-sync-clause-crash
 returns-in_err-sync-clause-crash g c =
     let e = c.in_err-sync.ensures in
     same_outcomes _ _ _ _ _ _ e.live (ap (pending_of (λ (o : Place). o) c.sync.new.store) e.place ∙ (e.leaves.unrecorded refl).pending _) (ap (durable (inner_of c.sync.new.store)) e.place ∙ at_place e.err _)
+
+at_err : {T E : Type 0} (r : Result T E) (Q : Type 0) → Q → OnErr r Q
+at_err (Ok x) Q q = tt
+at_err (Err e) Q q = q
+
+pub returns-in_err-sync-clause-kept : goal.returns-in_err-sync-clause-kept
+returns-in_err-sync-clause-kept g c =
+    let e = c.in_err-sync.ensures in
+    at_err c.from_residual.result _ (keeps_outcomes c.args.blob.now c.sync.new.self c.args.store.now c.sync.new.store e.live (ap (pending_of (λ (o : Place). o) c.sync.new.store) e.place ∙ (e.leaves.unrecorded refl).pending _) (ap (durable (inner_of c.sync.new.store)) e.place ∙ at_place e.err _))
 
 pub returns-clause-durable : goal.returns-clause-durable
 returns-clause-durable g c =

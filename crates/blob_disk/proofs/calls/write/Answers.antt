@@ -3,11 +3,12 @@ use Rattle.std.proofs.lemmas.Result.{on_ok_weaker}
 use Rattle.blob_header.specs.Refusals.{refused}
 use Rattle.blob_disk.proofs.Adding.{current_now, torn_follows, wrote}
 use Rattle.blob_disk.proofs.Laying.{holds_written}
+use Rattle.blob_disk.proofs.Outcomes.{at_place}
 use Rattle.blob_disk.proofs.calls.write.Goals as goal
 use Rattle.blob_faulty.specs.Outcomes.{WritesSome}
 use Rattle.blob_faults.specs.Recorded.{recorded_write}
-use Rattle.blob_faulty.specs.Wrapper.{config_of, inside, next_write_of, rng_of, size_of}
-use Rattle.blob_memory.specs.Store.{live, place}
+use Rattle.blob_faulty.specs.Wrapper.{config_of, inner_of, inside, next_write_of, rng_of, size_of}
+use Rattle.blob_memory.specs.Store.{durable, live, place}
 use Rattle.sqlite_disk.specs.Disk.{Holds}
 
 pub returns : goal.returns
@@ -32,6 +33,10 @@ returns g c =
       written = on_ok_weaker c.write_from.result (λ h some. subst (λ (x : List ℕ). Holds x c.args.at bytes) (sym h) (holds_written c.args.at bytes (live (inside b)) some)) e.live;
       others = s.others.torn;
       keeps = s.keeps;
+      allowed = e.allowed;
+      durable = on_ok_weaker c.write_from.result (λ h. ap (durable (inner_of c.write_from.new.store)) e.place ∙ at_place h (place (inside b))) e.durable;
+      mixes = s.others;
       mixed = s.crash;
+      leads = s.leads;
       crash = torn_follows c.args.at bytes _ _ s.crash;
     }

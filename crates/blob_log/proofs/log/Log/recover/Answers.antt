@@ -1,4 +1,5 @@
-use Rattle.std.proofs.Common.{rules, ◌≡◌, ℕ, ◌^◌, ◌<◌, Some, None, List, ◌∙◌, length, sym, ap, subst, arith}
+use Rattle.std.proofs.Common.{rules, ◌≡◌, ℕ, ◌^◌, ◌<◌, Some, None, List, ◌∙◌, length, refl, sym, ap, subst, arith, inl, inr}
+use Rattle.std.specs.Prelude.{Result, Ok, Err, OnErr}
 use Rattle.std.proofs.lemmas.Grind.{common_steps}
 use Rattle.std.proofs.lemmas.List.{take_all}
 use Rattle.blob_header.specs.Fronts.{BeginsWith}
@@ -33,6 +34,42 @@ returns-clause-held g c = λ files stands.
       short = s.short;
       end = s.end;
     })
+
+-- What is left of the files.
+
+at_err : {T E : Type 0} (r : Result T E) (Q : Type 0) → Q → OnErr r Q
+at_err (Ok x) Q q = tt
+at_err (Err e) Q q = q
+
+pub returns-clause-opened : goal.returns-clause-opened
+returns-clause-opened g c = λ files stands. c.in_ok-read_into.ensures.files _ (c.in_ok-blob.ensures.accepted.files files stands)
+
+pub returns-in_err-blob-clause-failed : goal.returns-in_err-blob-clause-failed
+returns-in_err-blob-clause-failed g c = at_err c.from_residual.result _ (inl (c.in_err-blob.ensures.answer.err refl).same_files)
+
+pub returns-in_err-resize-clause-failed : goal.returns-in_err-resize-clause-failed
+returns-in_err-resize-clause-failed g c = at_err c.from_residual-in_err-resize.result _ (inr c.in_ok-blob.ensures.accepted.files)
+
+pub returns-in_err-read_into-clause-failed : goal.returns-in_err-read_into-clause-failed
+returns-in_err-read_into-clause-failed g c = at_err c.from_residual-in_err-read_into.result _ (inr (λ files stands. c.in_err-read_into.ensures.files _ (c.in_ok-blob.ensures.accepted.files files stands)))
+
+pub returns-in_err-records-clause-failed : goal.returns-in_err-records-clause-failed
+returns-in_err-records-clause-failed g c = at_err c.from_residual-in_err-records.result _ (inr (λ files stands. c.in_ok-read_into.ensures.files _ (c.in_ok-blob.ensures.accepted.files files stands)))
+
+pub returns-in_err-blob-clause-config : goal.returns-in_err-blob-clause-config
+returns-in_err-blob-clause-config g c = c.in_err-blob.ensures.answer.leaves.numbers.config
+
+pub returns-in_err-resize-clause-config : goal.returns-in_err-resize-clause-config
+returns-in_err-resize-clause-config g c = c.in_ok-blob.ensures.answer.leaves.numbers.config
+
+pub returns-in_err-read_into-clause-config : goal.returns-in_err-read_into-clause-config
+returns-in_err-read_into-clause-config g c = c.in_err-read_into.ensures.leaves.unrecorded.numbers.config ∙ c.in_ok-blob.ensures.answer.leaves.numbers.config
+
+pub returns-in_err-records-clause-config : goal.returns-in_err-records-clause-config
+returns-in_err-records-clause-config g c = c.in_ok-read_into.ensures.leaves.unrecorded.numbers.config ∙ c.in_ok-blob.ensures.answer.leaves.numbers.config
+
+pub returns-clause-config : goal.returns-clause-config
+returns-clause-config g c = c.in_ok-read_into.ensures.leaves.unrecorded.numbers.config ∙ c.in_ok-blob.ensures.answer.leaves.numbers.config
 
 -- Why it is answered so.
 

@@ -1,0 +1,39 @@
+-- How a disk tells what the wrapper answered.
+use Rattle.std.specs.Prelude.{◌≡◌, ◌≢◌, ◌⊎◌, ℕ, List, Option, Some, None, Result, Ok, Err}
+use Rattle.std.specs.IoError.{error_kind}
+use Rattle.std.specs.declared.io.Error.{Error}
+use Rattle.std.specs.declared.io.ErrorKind.{ErrorKind}
+use Rattle.std.specs.declared.io.ErrorKind.TheVariants.{InvalidData, OutOfMemory, Other}
+use Rattle.blob_header.specs.Refusals.{Refusal, Memory}
+use Rattle.sqlite_disk.specs.Digest.{digest}
+use Rattle.sqlite_disk.specs.Disk.{MoreFaults}
+
+-- the kind of the error that a refusal becomes
+abbrev pub kind_of : Refusal → ErrorKind
+kind_of Memory = OutOfMemory
+kind_of refusal = Other
+
+abbrev pub IsOfKind : {T : Type 0} → ErrorKind → Result T Error → Type 0
+IsOfKind kind (Ok x) = ⊥
+IsOfKind kind (Err e) = error_kind e ≡ kind
+
+-- a result that tells this refusal, or Ok where there is none
+abbrev pub Tells : {T : Type 0} → Option Refusal → Result T Error → Type 0
+Tells None (Ok x) = Unit {0}
+Tells (Some refusal) result = IsOfKind (kind_of refusal) result
+Tells None (Err e) = ⊥
+
+-- a result that tells what the wrapper may answer
+abbrev pub TellsBy : {T : Type 0} → (Option Refusal → Type 0) → Result T Error → Type 0
+TellsBy allowed result = (answer : Option Refusal) × allowed answer × Tells answer result
+
+-- a read that was done and whose bytes have another digest, which is counted
+pub record IsCaught {T : Type 0} (allowed : Option Refusal → Type 0) (key want : ℕ) (bytes : List ℕ) (result : Result T Error) (old new : ℕ) : Type 0 where
+  pub done : allowed None
+  pub kind : IsOfKind InvalidData result
+  pub digest : digest key bytes ≢ want
+  pub counted : MoreFaults old new
+
+-- a tested read: told as a read and not counted as caught, or caught
+abbrev pub TellsTested : {T : Type 0} → (Option Refusal → Type 0) → ℕ → ℕ → List ℕ → Result T Error → ℕ → ℕ → Type 0
+TellsTested allowed key want bytes result old new = (TellsBy allowed result × (new ≡ old)) ⊎ IsCaught allowed key want bytes result old new

@@ -1,0 +1,34 @@
+-- What a crash of a file over the fault wrapper draws, leaves and answers.
+use Rattle.std.specs.Prelude.{◌≡◌, ◌⊎◌, ℕ, Bool, List, Option, Some, None}
+use Rattle.rand_core.specs.Stream.{Stream}
+use Rattle.blob_header.specs.Refusals.{Refusal, Memory}
+use Rattle.blob_model.specs.Draws.{Row, drawn, chosen_by}
+use Rattle.blob_model.specs.Files.{Files, all_needs}
+use Rattle.blob_model.specs.Stands.{replayed_at}
+use Rattle.blob_faults.specs.Answers.{injected_or}
+use Rattle.blob_faults.specs.Faults.{draw}
+use Rattle.blob_faulty.specs.Keeps.{OverMemory, IsFor}
+use Rattle.blob_faulty.specs.Wrapper.{inner_of, rng_of, config_of, pending_of, inside}
+use Rattle.blob_memory.specs.Store.{durable, place}
+use Rattle.blob_disk.specs.Outcomes.{Opened}
+
+-- the rows that a crash draws for the writes that it may lose, and what is left of the stream
+abbrev pub crash_draws : {R : Type 0} → (R → Stream) → OverMemory R → Files → List Row × Stream
+crash_draws stream w files = drawn (stream (rng_of w)) (all_needs files.log)
+
+-- what these rows leave of the blob that a handle is on
+abbrev pub IsLeft : {R : Type 0} → (R → Stream) → Opened → OverMemory R → List ℕ → Type 0
+IsLeft stream b w c = (files : Files) → IsFor w files →
+    replayed_at (chosen_by (crash_draws stream w files).0) (pending_of (λ o. o) w (place (inside b))) (durable (inner_of w) (place (inside b))) ≡ Some c
+
+-- whether the open behind a crash fails, by the next draw
+abbrev pub open_fails : {R : Type 0} → (R → Stream) → OverMemory R → Files → Bool
+open_fails stream w files = (draw (config_of w).open_rate (crash_draws stream w files).1).0
+
+-- what a crash may answer: that memory ran out, or what the draw of the open behind it says
+abbrev pub MayCrash : {R : Type 0} → (R → Stream) → OverMemory R → Option Refusal → Type 0
+MayCrash stream w answer = (answer ≡ Some Memory) ⊎ ((files : Files) → IsFor w files → injected_or (open_fails stream w files) (λ a. a ≡ None) answer)
+
+-- what the open of a name that can be opened may answer
+abbrev pub MayReopen : {R : Type 0} → (R → Stream) → OverMemory R → Option Refusal → Type 0
+MayReopen stream w = injected_or (draw (config_of w).open_rate (stream (rng_of w))).0 (λ answer. (answer ≡ Some Memory) ⊎ (answer ≡ None))
