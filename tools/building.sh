@@ -1,35 +1,170 @@
-# Sourced by ./blobcrash, tools/built and bindings/build.sh: when a build is due, and one build of a thing at a time.
-# `top` is the top of the repository.
+# shellcheck shell=sh disable=SC2154
+# Sourced by ./blobcrash, tools/built, tools/prove, test and bindings/build.sh: the crates below a crate, whether a built file is
+# current, and one build of a file at a time. `top` is the top of the repository.
 
-# is_built FILE: whether it is there, and no source has changed, come or gone since its build began.
-is_built() {
-    [ -f "$1" ] || return 1
-    [ -z "$(cd "$top" && find crates.txt crates -name out -prune -o -newer "$1" \
-        \( -name crates.txt -o -name '*.rt' -o -name '*.antt' \
-        -o -type d \( -path 'crates/*/src*' -o -path 'crates/*/specs*' -o -path 'crates/*/proofs*' \) \) -print |
-        head -n 1)" ]
+# How many versions of a file out/kept has at most. They are used after a change of branch and back.
+kept_most=4
+
+# crates_of TOP NAME ..: the lines of TOP/crates.txt of these crates and of all crates below them, in the file's order.
+crates_of() {
+    list=$1/crates.txt
+    shift
+    awk -v names="$*" '
+        { line = $0; sub(/#.*/, ""); colon = index($0, ":") }
+        colon {
+            split(substr($0, 1, colon - 1), words, " ")
+            order[++lines] = words[1]; text[words[1]] = line; below[words[1]] = substr($0, colon + 1)
+        }
+        END {
+            count = split(names, needed, " ")
+            for (i = 1; i <= count; i++) {
+                if (needed[i] in is_needed) continue
+                is_needed[needed[i]]
+                libraries = split(below[needed[i]], library, " ")
+                for (j = 1; j <= libraries; j++) if (library[j] in text) needed[++count] = library[j]
+            }
+            for (i = 1; i <= lines; i++) if (order[i] in is_needed) print text[order[i]]
+        }' "$list"
 }
 
-# lock NAME: waits until nobody else builds it. What is started under the lock is given `9>&-`, so that it doesn't hold it.
+# names_of: the names of the crates whose lines of crates.txt are on standard input.
+names_of() { sed 's/[ :].*//'; }
+
+# proof_seconds: reads lines of crates.txt, and prints the processor seconds that the proofs of these crates take by
+# tests/budget.txt. A crate without a line there counts as 100.
+proof_seconds() {
+    names_of | {
+        [ ! -f "$top/tests/budget.txt" ] || sed 's/#.*//; s/^/budget /' "$top/tests/budget.txt"
+        cat
+    } | awk '$1 == "budget" { budget[$2] = $3; next } { all += ($1 in budget) ? budget[$1] : 100 } END { print all + 0 }'
+}
+
+# about_minutes SECONDS: estimates how long proofs of that many processor seconds take here. Crates wait for those below them,
+# so four processors are only 1.7 times as fast as one.
+about_minutes() {
+    case $(nproc 2>/dev/null || echo 1) in 1) speed=1 ;; 2 | 3) speed=1.5 ;; *) speed=1.7 ;; esac
+    echo "$1 $speed" | awk '{ print int($1 / 60 / $2 + 1) }'
+}
+
+# copy_crates FOLDER NAME ..: makes FOLDER a repository of these crates and all below them, without build results and must-fail
+# edits. Its .git is empty: the toolchain takes the folder that has a .git as the top of a repository.
+copy_crates() {
+    to=$1
+    shift
+    mkdir -p "$to/.git" "$to/crates"
+    crates_of "$top" "$@" >"$to/crates.txt"
+    cp "$top/HANDLES" "$to/HANDLES"
+    names_of <"$to/crates.txt" | while read -r needed; do
+        mkdir "$to/crates/$needed"
+        for part in "$top/crates/$needed"/*; do
+            case ${part##*/} in out | must-fail) ;; *) cp -R "$part" "$to/crates/$needed/" ;; esac
+        done
+    done
+}
+
+# sum_of TOP NAME: prints a checksum of the sources of the crate and of all crates below it, and of their lines of crates.txt.
+sum_of() (
+    cd "$1" || exit
+    lines=$(crates_of . "$2")
+    folders=
+    for needed in $(echo "$lines" | names_of); do
+        for part in src specs proofs; do
+            [ ! -d "crates/$needed/$part" ] || folders="$folders crates/$needed/$part"
+        done
+    done
+    # shellcheck disable=SC2086
+    { echo "$lines"; find HANDLES $folders -type f | LC_ALL=C sort | tr '\n' '\0' | xargs -0 sha256sum; } | sha256sum |
+        sed 's/ .*//'
+)
+
+# is_built FILE NAME: whether FILE exists and was built from the current sources of the crate NAME. FILE.sum has the checksum of
+# the sources that it was built from. Its modification time is that of the last comparison: the checksum is computed again only if
+# a source changed after it. If out/kept has a version that was built from the current sources, that becomes FILE.
+is_built() {
+    [ -f "$1" ] && [ -f "$1.sum" ] || return 1
+    [ -n "$(cd "$top" && find crates.txt HANDLES crates \( -name out -o -name must-fail \) -prune -o \
+        -cnewer "$1.sum" -print | head -n 1)" ] || return 0
+    # Its time is before the sources are read, so that a change during the reading is seen next time.
+    looked=$1.looked.$$
+    cp "$1.sum" "$looked" || return
+    sum=$(sum_of "$top" "$2")
+    if [ "$sum" = "$(cat "$1.sum")" ]; then
+        mv -f "$looked" "$1.sum"
+        return
+    fi
+    kept=$top/out/kept/${1##*/}.$sum
+    back=$1.back.$$
+    is_back=1
+    [ ! -f "$kept" ] || { cp "$kept" "$back" && place "$1" "$back" "$sum" "$looked" && is_back=0; }
+    rm -f "$looked" "$back"
+    return "$is_back"
+}
+
+# place FILE NEW SUM BEGAN: renames NEW to FILE. NEW was built from sources with the checksum SUM, which were read after BEGAN was
+# written.
+place() {
+    echo "$3" >"$2.sum" && touch -r "$4" "$2.sum" && mkdir -p "$top/out/kept" || return
+    mv -f "$2" "$1" && mv -f "$2.sum" "$1.sum" && ln -f "$1" "$top/out/kept/${1##*/}.$3" || return
+    # shellcheck disable=SC2012
+    ls -t "$top/out/kept/${1##*/}".* | sed "1,${kept_most}d" | while read -r old; do rm -f "$old"; done
+}
+
+# What is stopped and removed when the script exits: a process, a folder, a lock.
+runs=
+work=
+held=
+clean_up() {
+    [ -z "$runs" ] || kill "$runs" 2>/dev/null || true
+    [ -z "$work" ] || rm -rf "$work"
+    [ -z "$held" ] || rmdir "$held"
+    work=
+    held=
+}
+trap clean_up EXIT
+trap 'exit 125' HUP INT TERM
+
+# run COMMAND ..: runs it, and stops it if this script is stopped.
+run() {
+    status=0
+    "$@" &
+    runs=$!
+    wait "$runs" || status=$?
+    runs=
+    return "$status"
+}
+
+# prove_copy NAME CRATE ..: proves these crates in the copy $work/copy. The log is out/NAME.log. If something isn't proved, its last
+# lines go to standard error.
+prove_copy() {
+    log=$top/out/$1.log
+    shift
+    work=$(mktemp -d) || return
+    status=0
+    run "$top/tools/prove" "$work/copy" "$@" 9>&- || status=$?
+    cp "$work/copy/log" "$log" 2>/dev/null || : >"$log"
+    [ "$status" -eq 0 ] || grep -v ': proved$' "$log" | tail -n 60 >&2
+    return "$status"
+}
+
+# lock NAME: waits until no other process builds NAME. Start processes with `9>&-` under it, so that they don't hold the lock.
 lock() {
     if command -v flock >/dev/null 2>&1; then
         exec 9>"$top/out/$1.lock"
         flock 9
         return
     fi
-    held=$top/out/$1.lock.d
-    if ! mkdir "$held" 2>/dev/null; then
-        echo "$1: waiting for another build; if there is none, remove $held" >&2
-        until mkdir "$held" 2>/dev/null; do sleep 1; done
+    waits_for=$top/out/$1.lock.d
+    if ! mkdir "$waits_for" 2>/dev/null; then
+        echo "$1: waiting for another build; if there is none, remove $waits_for" >&2
+        until mkdir "$waits_for" 2>/dev/null; do sleep 1; done
     fi
-    trap 'rmdir "$held"' EXIT
-    trap 'exit 125' HUP INT TERM
+    held=$waits_for
 }
 
 unlock() {
-    if [ -n "${held:-}" ]; then
+    if [ -n "$held" ]; then
         rmdir "$held"
-        trap - EXIT HUP INT TERM
+        held=
     else
         exec 9>&-
     fi

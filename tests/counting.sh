@@ -1,0 +1,62 @@
+# shellcheck shell=sh disable=SC2034,SC2154
+# Sourced by the scripts of tests/: counts, and prints the last line. `top` is the top of the repository. Makes the folder $work,
+# which is removed at exit. With BLOBCRASH_PROVED, ./blobcrash runs only the proved program.
+set -u
+
+own_name=${0##*/}
+work=$(mktemp -d)
+trap 'rm -rf "$work"' EXIT
+passed=0
+failed=0
+skipped=0
+BLOBCRASH_PROVED=1
+export BLOBCRASH_PROVED
+
+pass() { passed=$((passed + 1)); }
+
+# fail TEXT: counts a failure.
+fail() {
+    failed=$((failed + 1))
+    echo "$own_name: $1"
+}
+
+# skip WHAT: counts a test that isn't run because a tool is missing. With CI=true it is a failure: `.ci/run` installs the tools.
+skip() {
+    if [ "${CI:-}" = true ]; then
+        failed=$((failed + 1))
+    else
+        skipped=$((skipped + 1))
+    fi
+    echo "$own_name: skipped: $1"
+}
+
+# has TOOL ..: whether these commands exist.
+has() {
+    for needed; do
+        command -v "$needed" >/dev/null 2>&1 || return 1
+    done
+}
+
+# has_python: whether there is a Python 3.8 or later.
+has_python() { python3 -c 'import sys; sys.exit(sys.version_info < (3, 8))' 2>/dev/null; }
+
+# finish: prints the last line, `N passed, M failed` with `, K skipped` after it if K isn't 0, and exits.
+finish() {
+    last="$passed passed, $failed failed"
+    [ "$skipped" -eq 0 ] || last="$last, $skipped skipped"
+    echo "$last"
+    [ "$failed" -eq 0 ]
+    exit
+}
+
+# give_up TEXT: counts a failure and exits, if what all other tests of the script need is missing.
+give_up() {
+    fail "$1"
+    finish
+}
+
+# need_program: builds ./blobcrash if it isn't built, so that no test sees the messages of a build.
+need_program() {
+    "$top/blobcrash" resolve </dev/null >/dev/null || give_up "the program can't be built or started"
+    program=$top/out/blobcrash
+}
