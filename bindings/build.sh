@@ -1,7 +1,7 @@
 #!/bin/sh
-# Builds the library for programs in other languages, which proves it first: out/libblobcrash.a for C and Rust, and where
-# there is a C compiler out/libblobcrash.so for Python. Each is one file that needs the C library alone. It does nothing where
-# they are newer than every source. `./test` calls it with `--over-gate`, behind a gate that passed.
+# Proves and builds the library for other languages: out/libblobcrash.a for C and Rust and, if there is a C compiler,
+# out/libblobcrash.so for Python. Each depends only on the C library. Does nothing if they are current. `./test` calls it with
+# `--over-gate` after a gate that passed.
 set -eu
 
 top=$(CDPATH='' cd -- "$(dirname -- "$0")/.." && pwd -P)
@@ -14,72 +14,80 @@ fi
 compiler=${CC:-cc}
 command -v "$compiler" >/dev/null || compiler=
 
+# shellcheck source=tools/building.sh
 . "$top/tools/building.sh"
 
 are_built() {
-    is_built "$out/libblobcrash.a" && { [ -z "$compiler" ] || is_built "$out/libblobcrash.so"; }
+    is_built "$out/libblobcrash.a" blob_c && { [ -z "$compiler" ] || is_built "$out/libblobcrash.so" blob_c; }
 }
 
 ! are_built || exit 0
 mkdir -p "$out"
 lock libblobcrash
 ! are_built || exit 0
-library=$top/crates/blob_c/out/libblob_c.a
 kit=$(CDPATH='' cd -- "$(dirname -- "$(readlink -f "$rt")")/.." && pwd -P)
-# What the library allocates with: a part of the toolchain that is linked in.
+# The toolchain's allocator, which is linked in.
 heap=$kit/c/liblibc_c.a
 
-# Whether each library of crates/ is one that the gate has just proved, or has kept of the same sources: these have no stamp, and
-# `./test` drops those of an earlier gate before it begins. One with a stamp is of another command, and may be of other sources.
+# The libraries of blob_c in crates.txt.
+below=$(sed -n 's/^blob_c staticlib://p' "$top/crates.txt")
+sum=$(sum_of "$top" blob_c)
+
+# gate_left_all: whether each library below blob_c is that of the last gate, and the sources are still those of that gate. These
+# libraries have no stamp. One with a stamp is from another command. `./test` removes those of an earlier gate when it starts.
 gate_left_all() {
-    [ -f "$out/gate.began" ] || return 1
-    for rlib in "$top"/crates/*/out/rlib; do
-        name=$(basename "$(dirname "$(dirname "$rlib")")")
-        [ -f "$rlib/$name.rlib/format" ] && [ ! -f "$rlib/stamp" ] || return 1
+    grep -qsx "blob_c $sum" "$out/gate.sums" || return 1
+    for name in $(crates_of "$top" blob_c | names_of); do
+        rlib=$top/crates/$name/out/rlib
+        [ "$name" = blob_c ] || { [ -f "$rlib/$name.rlib/format" ] && [ ! -f "$rlib/stamp" ]; } || return 1
     done
 }
 
-# Builds over what the gate left, so that crates/blob_c alone is proved once more: `rt lib` takes no library but its own.
-build_over_gate() {
+# compile PROVED: proves and builds blob_c with the proved libraries in PROVED/crates.
+compile() {
+    proved=$1/crates
     set -- -L "dependency=$kit/rlibs"
-    for rlib in "$top"/crates/*/out/rlib; do
+    for rlib in "$proved"/*/out/rlib; do
         set -- "$@" -L "dependency=$rlib"
     done
-    for dep in std $(sed -n 's/^blob_c staticlib://p' "$top/crates.txt"); do
+    for dep in std $below; do
         rlib=$kit/rlibs/$dep.rlib
-        [ -d "$rlib" ] || rlib=$top/crates/$dep/out/rlib/$dep.rlib
+        [ -d "$rlib" ] || rlib=$proved/$dep/out/rlib/$dep.rlib
         set -- "$@" --extern "$dep=$rlib"
     done
-    (cd "$top/crates/blob_c" && mkdir -p out && exec "$kit/bin/rattle" build --crate-name blob_c src/lib.rt "$@" \
+    cd "$top/crates/blob_c" && exec "$kit/bin/rattle" build --crate-name blob_c src/lib.rt "$@" \
         --antt-project "$kit/rattle/logic/antt-project.json" --logic-built "$kit/logic_built" --links blob_c= \
-        --jobs "$(nproc)" --crate-type staticlib --toolchain "$kit/toolchain" --backend llvm -o "$library")
+        --jobs "$(nproc)" --crate-type staticlib --toolchain "$kit/toolchain" --backend llvm -o "$library" \
+        >"$out/blob_c.log" 2>&1 9>&-
 }
 
+# build [--over-gate]: builds the library $library.
 build() {
-    if [ "${1:-}" = --over-gate ] && gate_left_all && build_over_gate; then
-        touch -r "$out/gate.began" "$out/bindings.began"
-        return
+    if [ "${1:-}" = --over-gate ] && gate_left_all; then
+        proved=$top
+        work=$(mktemp -d)
+    else
+        # shellcheck disable=SC2086
+        prove_copy bindings $below || return
+        proved=$work/copy
     fi
-    : >"$out/bindings.began"
-    cd "$top/crates/blob_c" && "$rt" lib
+    library=$work/libblob_c.a
+    run compile "$proved" </dev/null || { tail -n 60 "$out/blob_c.log" >&2; return 1; }
 }
 
-echo "build.sh: building the library, which proves it first (tens of minutes on first use)" >&2
-if ! (build "$@") </dev/null >"$out/bindings.log" 2>&1 9>&-; then
-    cat "$out/bindings.log" >&2
-    echo "build.sh: the build failed" >&2
+: >"$out/bindings.began"
+if ! build "$@"; then
+    echo "build.sh: the build failed; see out/bindings.log and out/blob_c.log" >&2
     exit 1
 fi
 
 rm -f "$out/libblobcrash.a.new"
 printf 'create %s\naddlib %s\naddlib %s\nsave\nend\n' "$out/libblobcrash.a.new" "$library" "$heap" | ar -M
-touch -r "$out/bindings.began" "$out/libblobcrash.a.new"
-mv -f "$out/libblobcrash.a.new" "$out/libblobcrash.a"
+place "$out/libblobcrash.a" "$out/libblobcrash.a.new" "$sum" "$out/bindings.began"
 
 if [ -n "$compiler" ]; then
     echo '{ global: blobcrash_*; local: *; };' >"$out/libblobcrash.map"
     "$compiler" -shared -o "$out/libblobcrash.so.new" -Wl,--version-script="$out/libblobcrash.map" \
         -Wl,--whole-archive "$library" -Wl,--no-whole-archive "$heap"
-    touch -r "$out/bindings.began" "$out/libblobcrash.so.new"
-    mv -f "$out/libblobcrash.so.new" "$out/libblobcrash.so"
+    place "$out/libblobcrash.so" "$out/libblobcrash.so.new" "$sum" "$out/bindings.began"
 fi

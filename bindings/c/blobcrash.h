@@ -36,7 +36,7 @@ extern "C" {
 enum blobcrash_status {
     /* Done; `len` bytes of the reply were written. */
     BLOBCRASH_DONE = 0,
-    /* A script has more lines than can be counted; nothing is known of its replies. */
+    /* A script has more lines than can be counted; nothing is known of its replies. Or a seed gives words without end. */
     BLOBCRASH_ENDLESS = 1,
     /* A line is no call, or may not stand there. No call was made. */
     BLOBCRASH_BAD_LINE = 2,
@@ -111,6 +111,22 @@ uint32_t blobcrash_write(struct blobcrash_session *session, size_t handle, uint6
  * which changes nothing.
  */
 uint32_t blobcrash_read(struct blobcrash_session *session, size_t handle, uint64_t offset, uint8_t *into, size_t len);
+
+/*
+ * Returns in `len` how many words of the session's generator are left, up to the last one that isn't zero. All words after that
+ * one are zero. A caller that gives words of which the last isn't zero learns how many were taken, as long as `len` isn't 0:
+ * the given number less `len`.
+ *
+ * DONE; ENDLESS if the session has a seed, which gives words without end; CLOSED. None changes anything.
+ */
+struct blobcrash_ran blobcrash_words_left(struct blobcrash_session *session);
+
+/*
+ * Inserts `count` words before those that the session's generator gives next. The library keeps a copy.
+ *
+ * DONE; NO_MEMORY and CLOSED, which change nothing.
+ */
+uint32_t blobcrash_push_words(struct blobcrash_session *session, const uint64_t *words, size_t count);
 
 /* Closes a session, and ends what it held. A closed one stays closed. */
 void blobcrash_close(struct blobcrash_session *session);

@@ -111,10 +111,45 @@ static void a_script_is_run_at_once(void) {
     CHECK(ran.len == 13);
 }
 
+/* Whether this many words of the session's generator are left. */
+static bool has_left(struct blobcrash_session *session, size_t words) {
+    struct blobcrash_ran ran = blobcrash_words_left(session);
+    return ran.status == BLOBCRASH_DONE && ran.len == words;
+}
+
+static void words_are_counted_and_pushed(void) {
+    static const uint64_t pushed[] = {UINT64_MAX, 0};
+    struct blobcrash_session session = {0};
+    CHECK(blobcrash_words_left(&session).status == BLOBCRASH_CLOSED);
+    CHECK(blobcrash_push_words(&session, pushed, 1) == BLOBCRASH_CLOSED);
+    CHECK(blobcrash_open(&session, TEXT("words 0 max 0 0 max\nconfig write 0 1 1 2 subset\n")).status == BLOBCRASH_DONE);
+    CHECK(has_left(&session, 5));
+    CHECK(answers(&session, "open p 62", "opened 0 0 0"));
+    CHECK(answers(&session, "write 0 0 616263", "ok"));
+    CHECK(has_left(&session, 5));
+    CHECK(answers(&session, "crash", "crashed 0:101"));
+    CHECK(has_left(&session, 2));
+    CHECK(answers(&session, "reopen", "ok"));
+    CHECK(answers(&session, "open p 62", "opened 1 3 0"));
+    CHECK(answers(&session, "write 1 0 616263", "ok"));
+    CHECK(blobcrash_push_words(&session, pushed, 2) == BLOBCRASH_DONE);
+    CHECK(blobcrash_push_words(&session, pushed, 0) == BLOBCRASH_DONE);
+    CHECK(has_left(&session, 4));
+    CHECK(answers(&session, "crash", "crashed 0:011"));
+    CHECK(has_left(&session, 1));
+    CHECK(blobcrash_open(&session, TEXT("words 0 0\n")).status == BLOBCRASH_DONE);
+    CHECK(has_left(&session, 0));
+    CHECK(blobcrash_open(&session, TEXT("words 1\nseed 7\n")).status == BLOBCRASH_DONE);
+    CHECK(blobcrash_words_left(&session).status == BLOBCRASH_ENDLESS);
+    CHECK(blobcrash_push_words(&session, pushed, 2) == BLOBCRASH_DONE);
+    blobcrash_close(&session);
+}
+
 int main(void) {
     a_session_is_opened_asked_and_closed();
     a_reply_without_room_is_kept();
     bad_lines_change_nothing();
     a_script_is_run_at_once();
+    words_are_counted_and_pushed();
     return failed;
 }

@@ -16,7 +16,6 @@
 #include <string.h>
 
 enum { HEAD = 12, LONGEST = 40, ROUNDS = 16, APPENDS = 8, MOST_RECORDS = ROUNDS * APPENDS, ROOM = MOST_RECORDS * (HEAD + LONGEST) };
-enum { WORDS = 4096, PREAMBLE = 21 * WORDS + 256 };
 
 struct record {
     size_t len;
@@ -43,6 +42,10 @@ static const char *say(struct blobcrash_session *session, const char *format, ..
     va_start(words, format);
     int len = vsnprintf(line, sizeof line, format, words);
     va_end(words);
+    if (len < 0 || (size_t)len >= sizeof line) {
+        fprintf(stderr, "%s: a line that long has no room\n", format);
+        exit(2);
+    }
     struct blobcrash_ran ran = blobcrash_call(session, (uint8_t *)line, (size_t)len, (uint8_t *)reply, sizeof reply - 1);
     if (ran.status != BLOBCRASH_DONE) {
         fprintf(stderr, "%s: status %" PRIu32 "\n", line, ran.status);
@@ -109,18 +112,6 @@ static bool is_same(const struct record *a, const struct record *b) {
     return a->len == b->len && memcmp(a->payload, b->payload, a->len) == 0;
 }
 
-/* What the store's draws go by, which is more words than a life takes, and what fails. */
-static size_t write_preamble(char *preamble, uint64_t seed) {
-    size_t len = (size_t)sprintf(preamble, "words");
-    for (int i = 0; i < WORDS; i++) {
-        seed += 0x9e3779b97f4a7c15;
-        uint64_t word = (seed ^ seed >> 30) * 0xbf58476d1ce4e5b9;
-        word = (word ^ word >> 27) * 0x94d049bb133111eb;
-        len += (size_t)sprintf(preamble + len, " %" PRIu64, word ^ word >> 31);
-    }
-    return len + (size_t)sprintf(preamble + len, "\nconfig write 1 16 1 2 subset\nconfig sync 1 16\nconfig resize 1 16 1 2\n");
-}
-
 /* One life of a log: sixteen crashes. Answers how many records were acknowledged, or tells what was lost and answers -1. */
 static long live(uint64_t seed, bool forgets_sync) {
     static struct records acknowledged, found;
@@ -128,9 +119,9 @@ static long live(uint64_t seed, bool forgets_sync) {
     struct log log = {.forgets_sync = forgets_sync};
     struct record record = {0};
     bool is_unanswered = false;
-    static char preamble[PREAMBLE];
-    size_t len = write_preamble(preamble, seed);
-    if (blobcrash_open(&session, (uint8_t *)preamble, len).status != BLOBCRASH_DONE) exit(2);
+    char preamble[128];
+    int len = snprintf(preamble, sizeof preamble, "seed %" PRIu64 "\nconfig write 1 16 1 2 subset\nconfig sync 1 16\nconfig resize 1 16 1 2\n", seed);
+    if (blobcrash_open(&session, (uint8_t *)preamble, (size_t)len).status != BLOBCRASH_DONE) exit(2);
     acknowledged.count = 0;
     for (unsigned round = 0; round < ROUNDS; round++) {
         /* A recovery that a fault cuts short is one more crash. */

@@ -92,8 +92,7 @@ def live(seed, forgets_sync):
                         unanswered = payload
                         break
                     acknowledged.append(payload)
-            store.crash()
-            store.reopen()
+            store.restart()
     return len(acknowledged)
 
 

@@ -27,7 +27,7 @@ fn tell(
 fn main() -> Result<(), Error> {
     let seconds = std::env::args().nth(1).and_then(|word| word.parse().ok());
     let seconds = seconds.unwrap_or(0.5);
-    let store = Store::builder().open()?;
+    let store = Store::builder().unrecorded().open()?;
     let (blob, _) = store.open("p", b"b")?;
     tell(seconds, "size", 1.0, |_| blob.size().map(drop))?;
     for len in [8, 512, 4096] {

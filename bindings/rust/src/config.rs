@@ -1,3 +1,5 @@
+use crate::Error;
+
 /// A probability as a fraction of whole numbers, from 0 to 1.
 #[derive(Clone, Copy, Debug, PartialEq, Eq)]
 pub struct Probability {
@@ -17,7 +19,15 @@ impl Probability {
         denominator: 1,
     };
 
-    /// None where the denominator is 0 or the numerator is greater.
+    /// Returns the fraction, or `None` if the denominator is 0 or the numerator is greater than it.
+    ///
+    /// ```
+    /// use blobcrash::Probability;
+    ///
+    /// assert!(Probability::new(1, 8).is_some());
+    /// assert_eq!(Probability::new(3, 2), None);
+    /// ```
+    #[must_use]
     pub const fn new(numerator: u64, denominator: u64) -> Option<Probability> {
         if denominator == 0 || numerator > denominator {
             return None;
@@ -30,6 +40,15 @@ impl Probability {
 
     fn words(self) -> String {
         format!("{} {}", self.numerator, self.denominator)
+    }
+
+    fn is_zero(self) -> bool {
+        self.numerator == 0
+    }
+
+    /// Whether a draw of this rate takes a word of the generator.
+    fn needs_draws(self) -> bool {
+        self.numerator != 0 && self.numerator != self.denominator
     }
 }
 
@@ -65,7 +84,20 @@ pub struct ResizeConfig {
 }
 
 /// Which calls fail, and how often. What isn't set doesn't fail, and keeps nothing.
+///
+/// ```
+/// use blobcrash::{Config, PartialWriteMode, Probability, WriteConfig};
+///
+/// let rarely = Probability::new(1, 8).unwrap();
+/// let faults = Config::default().sync(rarely).write(WriteConfig {
+///     failure_rate: rarely,
+///     retention_rate: Probability::new(1, 2).unwrap(),
+///     mode: PartialWriteMode::Sectors(512),
+/// });
+/// assert_eq!(faults.sync_rate, Some(rarely));
+/// ```
 #[derive(Clone, Copy, Debug, Default, PartialEq, Eq)]
+#[must_use]
 pub struct Config {
     /// That an open fails.
     pub open_rate: Option<Probability>,
@@ -81,6 +113,15 @@ pub struct Config {
     pub remove_rate: Option<Probability>,
     /// That a scan fails.
     pub scan_rate: Option<Probability>,
+}
+
+/// Why a partial resize can't be explored.
+pub(crate) fn drawn_sizes() -> Error {
+    Error::Argument(
+        "a partial resize can't be explored: it stops at a drawn size, and the two outcomes of each word don't reach all sizes. \
+         Set its rate to 0, or test it with seeds"
+            .to_owned(),
+    )
 }
 
 impl Config {
@@ -124,6 +165,47 @@ impl Config {
     pub fn scan(mut self, rate: Probability) -> Config {
         self.scan_rate = Some(rate);
         self
+    }
+
+    /// Checks what no line can say.
+    pub(crate) fn check(&self) -> Result<(), Error> {
+        match self.write_rate {
+            Some(WriteConfig {
+                mode: PartialWriteMode::Sectors(0),
+                ..
+            }) => Err(Error::Argument("a sector has at least one byte".to_owned())),
+            _ => Ok(()),
+        }
+    }
+
+    /// Checks that no size of a failing resize is drawn.
+    pub(crate) fn check_explorable(&self) -> Result<(), Error> {
+        match self.resize_rate {
+            Some(resizes) if !resizes.partial_rate.is_zero() => Err(drawn_sizes()),
+            _ => Ok(()),
+        }
+    }
+
+    /// Whether a rate takes words of the generator.
+    pub(crate) fn needs_draws(&self) -> bool {
+        let writes = self
+            .write_rate
+            .map(|w| [Some(w.failure_rate), Some(w.retention_rate)]);
+        let resizes = self
+            .resize_rate
+            .map(|r| [Some(r.failure_rate), Some(r.partial_rate)]);
+        let others = [
+            self.open_rate,
+            self.read_rate,
+            self.sync_rate,
+            self.remove_rate,
+            self.scan_rate,
+        ];
+        let pairs = writes.into_iter().chain(resizes).flatten();
+        let draws = |rate: Option<Probability>| rate.is_some_and(Probability::needs_draws);
+        // The size of a partial resize is drawn whatever its rates are.
+        let is_partial = |r: ResizeConfig| !r.failure_rate.is_zero() && !r.partial_rate.is_zero();
+        others.into_iter().chain(pairs).any(draws) || self.resize_rate.is_some_and(is_partial)
     }
 
     /// The lines that make this configuration of one that sets nothing.

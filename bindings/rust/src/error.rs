@@ -1,4 +1,5 @@
 use std::fmt;
+use std::io;
 
 /// Why a call was refused. The storage's refusals have the names of their replies (`docs/FORMATS.md`).
 ///
@@ -43,6 +44,12 @@ pub enum Error {
     NoHandle,
     /// The range of versions is empty.
     EmptyRange,
+    /// The handle is from before a crash, a reopen or the removal of its blob, as the text says. No call was made.
+    StaleHandle(&'static str),
+    /// A rate needs random draws, and the store has neither a seed nor words. Nothing has changed.
+    NeedsSeed,
+    /// An argument can't be expressed in a call, as the text says. No call was made.
+    Argument(String),
     /// The library found no memory: no call was made, or its reply can't be told.
     OutOfMemory,
     /// This line isn't one of a script, or may not stand there: no call was made.
@@ -64,14 +71,16 @@ impl Error {
         }
         let name = fields.next()?;
         let mut field = || fields.next().map(str::to_owned);
+        // An empty text is printed as `-`, which is no hex and a partition name that isn't refused.
+        let or_empty = |text: String| if text == "-" { String::new() } else { text };
         Some(match name {
             "OffsetOverflow" => Error::OffsetOverflow,
             "BlobInsufficientLength" => Error::BlobInsufficientLength,
-            "PartitionNameInvalid" => Error::PartitionNameInvalid(field()?),
+            "PartitionNameInvalid" => Error::PartitionNameInvalid(or_empty(field()?)),
             "PartitionMissing" => Error::PartitionMissing(field()?),
-            "BlobMissing" => Error::BlobMissing(field()?, field()?),
-            "BlobAlreadyOpen" => Error::BlobAlreadyOpen(field()?, field()?),
-            "BlobCorrupt" => Error::BlobCorrupt(field()?, field()?, field()?),
+            "BlobMissing" => Error::BlobMissing(field()?, or_empty(field()?)),
+            "BlobAlreadyOpen" => Error::BlobAlreadyOpen(field()?, or_empty(field()?)),
+            "BlobCorrupt" => Error::BlobCorrupt(field()?, or_empty(field()?), field()?),
             "BlobLayoutMismatch" => Error::BlobLayoutMismatch {
                 expected: (field()?, field()?),
                 found: field()?,
@@ -131,6 +140,12 @@ impl fmt::Display for Error {
             Error::GenerationsExhausted => f.write_str("generations exhausted"),
             Error::NoHandle => f.write_str("no handle of this number"),
             Error::EmptyRange => f.write_str("empty range of versions"),
+            Error::StaleHandle(why) => write!(f, "stale handle: {why}"),
+            Error::NeedsSeed => f.write_str(
+                "a rate needs random draws: give the store `.seed(7)`, or the words of its generator, `.words(&[..])`. \
+                 Without them every draw is true, so that nothing would be lost; if you want that, say `.words(&[0])`",
+            ),
+            Error::Argument(text) => f.write_str(text),
             Error::BadLine(line) => write!(f, "bad line: {line}"),
             Error::Unknown(line) => write!(f, "unknown reply: {line}"),
         }
@@ -138,6 +153,40 @@ impl fmt::Display for Error {
 }
 
 impl std::error::Error for Error {}
+
+/// An I/O error of the kind that a file system would report; an injected fault is of the kind `Other`.
+///
+/// ```
+/// fn first_byte(blob: &blobcrash::Blob) -> std::io::Result<u8> {
+///     Ok(blob.read_at(0, 1)?[0])
+/// }
+///
+/// let store = blobcrash::Store::builder().open().unwrap();
+/// let (blob, _) = store.open("p", b"b").unwrap();
+/// let error = first_byte(&blob).unwrap_err();
+/// assert_eq!(error.kind(), std::io::ErrorKind::UnexpectedEof);
+/// ```
+impl From<Error> for io::Error {
+    fn from(error: Error) -> io::Error {
+        let kind = match &error {
+            Error::BlobInsufficientLength => io::ErrorKind::UnexpectedEof,
+            Error::PartitionMissing(_) | Error::BlobMissing(..) => io::ErrorKind::NotFound,
+            Error::OffsetOverflow
+            | Error::PartitionNameInvalid(_)
+            | Error::EmptyRange
+            | Error::NeedsSeed
+            | Error::Argument(_)
+            | Error::BadLine(_) => io::ErrorKind::InvalidInput,
+            Error::BlobCorrupt(..)
+            | Error::BlobLayoutMismatch { .. }
+            | Error::BlobVersionMismatch { .. } => io::ErrorKind::InvalidData,
+            Error::BlobAlreadyOpen(..) => io::ErrorKind::ResourceBusy,
+            Error::Memory | Error::OutOfMemory => io::ErrorKind::OutOfMemory,
+            _ => io::ErrorKind::Other,
+        };
+        io::Error::new(kind, error)
+    }
+}
 
 #[cfg(test)]
 mod tests {
@@ -163,6 +212,18 @@ mod tests {
             (
                 "error BlobCorrupt image 626c6f62 invalid header checksum",
                 corrupt,
+            ),
+            (
+                "error BlobMissing p -",
+                Error::BlobMissing(text("p"), text("")),
+            ),
+            (
+                "error PartitionMissing -",
+                Error::PartitionMissing(text("-")),
+            ),
+            (
+                "error PartitionNameInvalid -",
+                Error::PartitionNameInvalid(text("")),
             ),
             ("error Frob", Error::Unknown(text("error Frob"))),
             ("ok", Error::Unknown(text("ok"))),

@@ -1,7 +1,7 @@
 //! A storage layer for tests of crash recovery.
 //!
-//! A [`Store`] holds blobs by partition and name. Writes are chosen to fail, a crash keeps only some of the bytes that
-//! weren't synced, and [`Store::reopen`] builds the store anew from what is durable.
+//! A [`Store`] holds blobs by partition and name. Calls fail by chosen rates, a crash keeps only some of the bytes that weren't
+//! synced, and [`Store::restart`] is a crash, after which the store has what is durable.
 //!
 //! ```
 //! use blobcrash::{Config, PartialWriteMode, Probability, Store, WriteConfig, WriteOptions};
@@ -18,8 +18,7 @@
 //! let (log, _) = store.open("wal", b"0")?;
 //! log.write_at(0, b"record", WriteOptions::SYNC)?;
 //! log.write_at(6, b"another", WriteOptions::default())?;
-//! store.crash()?;
-//! store.reopen()?;
+//! store.restart()?;
 //! let (log, size) = store.open("wal", b"0")?;
 //! assert!(size >= 6);
 //! assert_eq!(log.read_at(0, 6)?, b"record");
@@ -33,11 +32,14 @@
 mod blob;
 mod config;
 mod error;
+mod explore;
 mod library;
+mod script;
 mod store;
 
 pub use blob::{Blob, StartedSync, WriteOptions};
 pub use config::{Config, PartialWriteMode, Probability, ResizeConfig, WriteConfig};
 pub use error::Error;
+pub use explore::{ExploreError, Explored, Run, explore};
 pub use library::{ScriptError, run_script};
 pub use store::{Builder, Selections, Store};

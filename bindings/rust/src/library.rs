@@ -1,5 +1,6 @@
 //! The functions of the library (`bindings/c/blobcrash.h`) behind safe ones. No other file has `unsafe`.
 use crate::Error;
+use crate::script::{Script, unhex};
 use std::ffi::c_void;
 use std::fmt;
 use std::ptr;
@@ -55,6 +56,7 @@ unsafe extern "C" {
         into: *mut u8,
         len: usize,
     ) -> u32;
+    fn blobcrash_words_left(session: *mut RawSession) -> Ran;
     fn blobcrash_close(session: *mut RawSession);
     fn blobcrash_run(script: *const u8, len: usize, replies: *mut u8, room: usize) -> ScriptRan;
 }
@@ -67,7 +69,12 @@ unsafe extern "C" {
 pub(crate) struct Session {
     raw: RawSession,
     reply: Vec<u8>,
+    /// The calls that were made, if they are recorded.
+    pub(crate) script: Option<Script>,
 }
+
+/// A read of more bytes asks for the size of the blob before it allocates.
+const SMALL: usize = 65536;
 
 impl Session {
     /// Opens a session with the lines before a script's calls.
@@ -78,6 +85,7 @@ impl Session {
                 is_open: false,
             },
             reply: vec![0; 256],
+            script: None,
         };
         // SAFETY: the session is one of zeros, and the text is lent for the call.
         let ran = unsafe { blobcrash_open(&mut session.raw, preamble.as_ptr(), preamble.len()) };
@@ -91,15 +99,28 @@ impl Session {
         }
     }
 
-    /// Makes the call of a line, and answers its reply line.
+    /// Makes the call of a line, and returns its reply line.
     pub(crate) fn call(&mut self, line: &str) -> Result<&str, Error> {
+        let ran = self.ran(line)?;
+        self.record(|script| script.push_line(line));
+        self.told(ran)
+    }
+
+    fn record(&mut self, push: impl FnOnce(&mut Script)) {
+        if let Some(script) = &mut self.script {
+            push(script);
+        }
+    }
+
+    /// Makes the call of a line, and records nothing.
+    fn ran(&mut self, line: &str) -> Result<Ran, Error> {
         let (room, at) = (self.reply.len(), self.reply.as_mut_ptr());
         // SAFETY: the session is open and lent for the call, and so are the line and the room, which are apart.
         let ran = unsafe { blobcrash_call(&mut self.raw, line.as_ptr(), line.len(), at, room) };
         match ran.status {
             BAD_LINE => Err(Error::BadLine(line.to_owned())),
             NO_MEMORY => Err(Error::OutOfMemory),
-            _ => self.told(ran),
+            _ => Ok(ran),
         }
     }
 
@@ -114,7 +135,41 @@ impl Session {
         let (at, len) = (bytes.as_ptr(), bytes.len());
         // SAFETY: as for `call`; the bytes are lent for the call.
         let status = unsafe { blobcrash_write(&mut self.raw, handle, offset, at, len, sync) };
+        if is_made(status) {
+            self.record(|script| script.push_write(handle, offset, bytes, sync));
+        }
         self.done(status)
+    }
+
+    /// Returns `len` bytes that are read through a handle. Doesn't allocate for a length that the blob doesn't have.
+    pub(crate) fn read_vec(
+        &mut self,
+        handle: usize,
+        offset: u64,
+        len: usize,
+    ) -> Result<Vec<u8>, Error> {
+        if len > SMALL && !self.has(handle, offset, len)? {
+            let line = format!("read {handle} {offset} {len}");
+            let reply = self.call(&line)?;
+            let bytes = reply.strip_prefix("bytes ").and_then(unhex);
+            return bytes.ok_or_else(|| Error::of(reply));
+        }
+        let mut bytes = Vec::new();
+        bytes
+            .try_reserve_exact(len)
+            .map_err(|_| Error::OutOfMemory)?;
+        bytes.resize(len, 0);
+        self.read(handle, offset, &mut bytes)?;
+        Ok(bytes)
+    }
+
+    /// Whether a blob has bytes up to the end of a range, by the size that the handle tracks.
+    fn has(&mut self, handle: usize, offset: u64, len: usize) -> Result<bool, Error> {
+        let ran = self.ran(&format!("size {handle}"))?;
+        let size = self.told(ran)?.strip_prefix("size ");
+        let size: Option<u64> = size.and_then(|size| size.parse().ok());
+        let end = offset.checked_add(len as u64);
+        Ok(size.zip(end).is_some_and(|(size, end)| end <= size))
     }
 
     /// Fills `into` with bytes that are read through a handle.
@@ -127,7 +182,21 @@ impl Session {
         let (at, len) = (into.as_mut_ptr(), into.len());
         // SAFETY: as for `call`; the room is lent for the call.
         let status = unsafe { blobcrash_read(&mut self.raw, handle, offset, at, len) };
+        if is_made(status) {
+            self.record(|script| script.push_read(handle, offset, len));
+        }
         self.done(status)
+    }
+
+    /// Returns how many words the generator has left, up to the last one that isn't zero. The session has no seed.
+    pub(crate) fn words_left(&mut self) -> usize {
+        // SAFETY: as for `call`.
+        let ran = unsafe { blobcrash_words_left(&mut self.raw) };
+        assert_eq!(
+            ran.status, DONE,
+            "a session without a seed has an end of its words"
+        );
+        ran.len
     }
 
     /// How a typed call was answered.
@@ -148,7 +217,9 @@ impl Session {
     /// The reply line of a call that was made, in more room where it wants more.
     fn told(&mut self, mut ran: Ran) -> Result<&str, Error> {
         while ran.status == NO_ROOM {
-            if ran.len > self.reply.len() {
+            if let Some(more) = ran.len.checked_sub(self.reply.len()) {
+                let reserved = self.reply.try_reserve_exact(more);
+                reserved.map_err(|_| Error::OutOfMemory)?;
                 self.reply.resize(ran.len, 0);
             }
             let (room, at) = (self.reply.len(), self.reply.as_mut_ptr());
@@ -160,6 +231,11 @@ impl Session {
         }
         Ok(std::str::from_utf8(&self.reply[..ran.len]).expect("replies to UTF-8 lines are UTF-8"))
     }
+}
+
+/// Whether a typed call that ended so was made.
+fn is_made(status: u32) -> bool {
+    status == DONE || status == OTHER_REPLY
 }
 
 impl Drop for Session {
@@ -189,7 +265,15 @@ impl fmt::Display for ScriptError {
 
 impl std::error::Error for ScriptError {}
 
-/// Runs a whole script, and answers what the program prints: a line for each call.
+/// Runs a whole script, and returns what the program prints: a line for each call.
+///
+/// ```
+/// use blobcrash::{ScriptError, run_script};
+///
+/// assert_eq!(run_script(b"open p 62\nsize 0\n").unwrap(), b"opened 0 0 0\nsize 0\n");
+/// let replies = b"crashed\n".to_vec();
+/// assert_eq!(run_script(b"crash\nfrob\n"), Err(ScriptError::BadCall { line: 2, replies }));
+/// ```
 pub fn run_script(script: &[u8]) -> Result<Vec<u8>, ScriptError> {
     let mut replies = vec![0; 4096];
     loop {

@@ -76,18 +76,6 @@ fn checksum(offset: u64, payload: &[u8]) -> u64 {
     })
 }
 
-/// What the store's draws go by: more words than a life takes.
-fn words(seed: u64) -> Vec<u64> {
-    let mut state = seed;
-    let next = || {
-        state = state.wrapping_add(0x9e37_79b9_7f4a_7c15);
-        let word = (state ^ (state >> 30)).wrapping_mul(0xbf58_476d_1ce4_e5b9);
-        let word = (word ^ (word >> 27)).wrapping_mul(0x94d0_49bb_1331_11eb);
-        Some(word ^ (word >> 31))
-    };
-    std::iter::from_fn(next).take(4096).collect()
-}
-
 /// One life of a log: sixteen crashes. Answers how many records were acknowledged, or what was lost.
 fn live(seed: u64, forgets_sync: bool) -> Result<usize, String> {
     let one_in = |n| Probability::new(1, n).unwrap();
@@ -102,7 +90,7 @@ fn live(seed: u64, forgets_sync: bool) -> Result<usize, String> {
             failure_rate: one_in(16),
             partial_rate: one_in(2),
         });
-    let builder = Store::builder().words(&words(seed)).config(faults);
+    let builder = Store::builder().seed(seed).config(faults);
     let store = builder.open().map_err(|error| error.to_string())?;
     let mut acknowledged: Vec<Vec<u8>> = Vec::new();
     let mut unanswered: Option<Vec<u8>> = None;
@@ -134,8 +122,7 @@ fn live(seed: u64, forgets_sync: bool) -> Result<usize, String> {
                 acknowledged.push(payload);
             }
         }
-        store.crash().map_err(|error| error.to_string())?;
-        store.reopen().map_err(|error| error.to_string())?;
+        store.restart().map_err(|error| error.to_string())?;
     }
     Ok(acknowledged.len())
 }

@@ -1,0 +1,111 @@
+"""A storage layer that crashes, for tests of recovery: the program `./blobcrash` through pipes, or the library in this process.
+
+    from blobcrash import Store
+
+    with Store(seed=7) as store:
+        store.configure("write 0 1 1 2 subset")
+        log, size = store.open("wal", b"0")
+        log.write(0, b"record")
+        log.sync()
+        log.write(6, b"another")
+        store.restart()                           # a crash: the store and its handles end, and what is durable is opened again
+        log, size = store.open("wal", b"0")       # 6 bytes at least
+        assert log.read(0, 6) == b"record"
+
+`Store(seed=7, by=Library)` is the same in this process, with the library that `sh bindings/build.sh` builds. A call that the layer
+refuses raises the error that is named like its reply: `error BlobMissing p 62` is `BlobMissing`, and its `fields` are `("p", "62")`. An
+argument that isn't one raises `TypeError` or `ValueError`, and nothing is sent. `store.script` is a script that makes the same calls
+again. Its lines and replies are those of docs/FORMATS.md. A store belongs to one thread.
+
+To use the package without installing it, copy this folder: it needs nothing but Python 3.8 or later.
+"""
+
+from .errors import (
+    BadLine,
+    BlobAlreadyOpen,
+    BlobCorrupt,
+    BlobInsufficientLength,
+    BlobLayoutMismatch,
+    BlobMissing,
+    BlobVersionMismatch,
+    Closed,
+    EmptyRange,
+    GenerationsExhausted,
+    Injected,
+    Interrupted,
+    LibraryMissing,
+    Memory,
+    NeedsSeed,
+    NoHandle,
+    NotMade,
+    OffsetOverflow,
+    PartitionMissing,
+    PartitionNameInvalid,
+    ProgramEnded,
+    ReadFailed,
+    StaleHandle,
+    StorageError,
+    WriteFailed,
+    WrongThread,
+)
+from .exploration import Explored, explore
+from .failures import Failed
+from .files import BlobFile
+from .follow import ExploredStore, NotDeterministic, Unexplorable
+from .layers import TOP, Library, Program, Reply, library, program, run
+from .power import PowerLoss
+from .seeding import Seeded, SeededStore, seeds
+from .spread import LostWork
+from .store import Blob, Store
+
+__version__ = "0.2.0"
+
+__all__ = [
+    "BadLine",
+    "Blob",
+    "BlobAlreadyOpen",
+    "BlobCorrupt",
+    "BlobFile",
+    "BlobInsufficientLength",
+    "BlobLayoutMismatch",
+    "BlobMissing",
+    "BlobVersionMismatch",
+    "Closed",
+    "EmptyRange",
+    "Explored",
+    "ExploredStore",
+    "Failed",
+    "GenerationsExhausted",
+    "Injected",
+    "Interrupted",
+    "Library",
+    "LibraryMissing",
+    "LostWork",
+    "Memory",
+    "NeedsSeed",
+    "NoHandle",
+    "NotDeterministic",
+    "NotMade",
+    "OffsetOverflow",
+    "PartitionMissing",
+    "PartitionNameInvalid",
+    "PowerLoss",
+    "Program",
+    "ProgramEnded",
+    "ReadFailed",
+    "Reply",
+    "Seeded",
+    "SeededStore",
+    "StaleHandle",
+    "StorageError",
+    "Store",
+    "TOP",
+    "Unexplorable",
+    "WriteFailed",
+    "WrongThread",
+    "explore",
+    "library",
+    "program",
+    "run",
+    "seeds",
+]

@@ -1,0 +1,259 @@
+"""Every outcome of a small run: docs/GUIDE.md.
+
+    from blobcrash import explore
+
+    def body(store):
+        blob, _ = store.open("p", b"b")
+        blob.write(0, b"12345678")
+        store.restart()
+        blob, size = store.open("p", b"b")
+        return blob.read(0, size)
+
+    print(explore(body, settings=["write 0 1 1 2 prefix"]).outcomes)    # nine, each once
+
+`body` is called once for each combination of outcomes of the draws, of `store.choose` and, with `power_losses`, of the calls at which
+the power fails.
+"""
+
+from __future__ import annotations
+
+import threading
+import time
+from typing import Any, Callable, Dict, Iterable, List, NamedTuple, Optional, Tuple, Union
+
+from .failures import Failed, reason_of, reporter
+from .follow import ExploredStore, MoreWords, NotDeterministic, Run, refuse_sizes
+from .grammar import MAX, image_line, number, setting_tokens
+from .layers import Library
+from .paths import Choice, next_path, path_of, rest_from, text_of
+from .power import PowerLoss
+
+Body = Callable[[ExploredStore], Any]
+# How many words a run is given at first after those of its path. If it takes more, it is made again.
+_ROOM = 64
+_running = threading.local()
+
+
+class Explored(NamedTuple):
+    """What an exploration visited.
+
+    `runs` is how many runs there were. `outcomes` has each value that the body returned, except `None`, and how many runs returned it.
+    `rest` are the subtrees that a limit left; `explore(body, under=rest)` goes on with them.
+    """
+
+    runs: int
+    outcomes: Dict[Any, int]
+    rest: Tuple[str, ...]
+
+    @property
+    def complete(self) -> bool:
+        """Whether every run was visited."""
+        return not self.rest
+
+    def __str__(self) -> str:
+        runs = f"{self.runs} run{'' if self.runs == 1 else 's'}"
+        return f"{runs}, all of them" if self.complete else f"{runs}, not all of them: a limit was reached"
+
+
+class Tree(NamedTuple):
+    """What is explored: a body, and the arguments of its stores."""
+
+    body: Body
+    settings: Tuple[str, ...]
+    images: Tuple[Tuple[str, bytes, bytes], ...]
+    by: Any
+    seed: Optional[int]
+    power_losses: int
+    allow_stale: bool
+
+
+class Part(NamedTuple):
+    """What a visit of some subtrees came to."""
+
+    runs: int
+    outcomes: Dict[Any, int]
+    rest: List[str]
+
+
+def explore(
+    body: Body,
+    *,
+    settings: Iterable[str] = (),
+    images: Iterable[Tuple[str, bytes, bytes]] = (),
+    power_losses: int = 0,
+    seed: Optional[int] = None,
+    runs: Optional[int] = None,
+    seconds: Optional[float] = None,
+    under: Union[str, Iterable[str]] = "",
+    executor: Any = None,
+    report: Optional[str] = None,
+    by: Any = Library,
+    allow_stale: bool = False,
+) -> Explored:
+    """Calls `body` with a new store for each combination of outcomes, depth first, and returns how many there were.
+
+    These are chosen in every way: whether each draw of a rate between 0 and 1 is true, each `store.choose(n)`, and with `power_losses`
+    at which calls the power fails, at most that many times a run; the body then catches `PowerLoss`, and lets the store crash and reopen.
+    With a `seed` the draws are those of the seed, and only the others are chosen.
+
+    `settings`, `images`, `by` and `allow_stale` are those of `Store`. `runs` and `seconds` are limits; at least one run is made before
+    the time is over. Without a limit all runs are made, however many there are. `under` names subtrees by the paths of `Explored.rest`
+    or `Failed.path`, and only these are explored. With an `executor` of `concurrent.futures` the subtrees are spread over its workers;
+    the body is then a function that they can import.
+
+    Raises `Failed`, with a script, for the first run in which the body raises; `report` is a file for a page that shows it.
+    `NotDeterministic` if the body makes other calls along the same path. `Unexplorable` for a partial resize. `LostWork` if workers
+    are lost. `ValueError` or `TypeError` for an invalid argument, before the body is called.
+    """
+    if not callable(body):
+        raise TypeError(f"the body is a function that takes a store, not {type(body).__name__}")
+    if getattr(_running, "is_on", False):
+        raise RuntimeError("an explored body can't explore: call `explore` outside of it, and use `store.choose` inside")
+    if isinstance(settings, str):
+        raise TypeError("settings are a list of texts")
+    tree = Tree(body, tuple(settings), tuple(images), by, seed, number(power_losses, "a number of power losses"), bool(allow_stale))
+    if seed is not None:
+        number(seed, "a seed")
+    for setting in tree.settings:
+        refuse_sizes(setting_tokens(setting))
+    for image in tree.images:
+        image_line(*image)
+    if seed is None and not hasattr(by, "words_left"):
+        raise ValueError("an exploration counts the draws of its runs, which only `by=Library` can")
+    most = MAX if runs is None else number(runs, "a number of runs")
+    subtrees = [text_of(path_of(path)) for path in ([under] if isinstance(under, str) else under)]
+    until = time.monotonic() + seconds_of(seconds)
+    show = reporter(report)
+    try:
+        if executor is None:
+            part = visit(tree, subtrees, most, until)
+        else:
+            from .spread import visit_with
+
+            part = visit_with(executor, tree, subtrees, most, until)
+    except Failed as failed:
+        show(failed)
+        raise
+    return Explored(part.runs, part.outcomes, tuple(part.rest))
+
+
+def seconds_of(seconds: Optional[float]) -> float:
+    """An argument that is a limit of time."""
+    if seconds is None:
+        return float("inf")
+    if isinstance(seconds, bool) or not isinstance(seconds, (int, float)):
+        raise TypeError(f"a number of seconds is a number, not {type(seconds).__name__}")
+    if not seconds >= 0:
+        raise ValueError("a number of seconds is at least 0")
+    return float(seconds)
+
+
+def visit(tree: Tree, subtrees: List[str], most: int, until: float) -> Part:
+    """Visits the leaves of subtrees until there were `most` runs, or at least one and the time is `until`. Raises `Failed`."""
+    visitor = _Visitor(tree)
+    for at, subtree in enumerate(subtrees):
+        rest = visitor.visit(path_of(subtree), most, until)
+        if rest:
+            return Part(visitor.runs, visitor.outcomes, rest + subtrees[at + 1 :])
+    return Part(visitor.runs, visitor.outcomes, [])
+
+
+class _Visitor:
+    """Makes the runs of a tree."""
+
+    def __init__(self, tree: Tree) -> None:
+        self._tree = tree
+        self._room = _ROOM
+        self.runs = 0
+        self.outcomes: Dict[Any, int] = {}
+
+    def visit(self, path: List[Choice], most: int, until: float) -> List[str]:
+        """Visits the leaves below a path, depth first, and returns the subtrees that the limits left."""
+        root = len(path)
+        before: Optional[Run] = None
+        at: Optional[List[Choice]] = path
+        while at is not None:
+            if self.runs >= most or (self.runs and time.monotonic() >= until):
+                return rest_from(at, root)
+            try:
+                run = self._made(at)
+            except NotDeterministic as error:
+                if before is None and path:
+                    why = "it is the path of another body, or this one isn't deterministic"
+                    raise NotDeterministic(f"no run of the body has the path `{text_of(path)}`: {why}") from error
+                raise
+            if before is not None:
+                _compare(before, run)
+            before = run
+            at = next_path(run.taken, root)
+        return []
+
+    def _made(self, path: List[Choice]) -> Run:
+        """Makes one run, with as many words as it takes."""
+        run, store, outcome, error = self._attempt(path)
+        self.runs += 1
+        if len(run.taken) < len(path):
+            raise NotDeterministic.by(f"it made {len(run.taken)} choices where it had made {len(path)}") from error
+        if error is not None:
+            self._confirm(run, error)
+            raise Failed(text_of(run.taken), store.script, reason_of(error), self.runs) from error
+        if outcome is not None:
+            self._tally(outcome)
+        return run
+
+    def _attempt(self, path: List[Choice]) -> Tuple[Run, ExploredStore, Any, Optional[BaseException]]:
+        """Calls the body, again with more words if it takes all of them. Returns what it returned or raised."""
+        tree = self._tree
+        while True:
+            run = Run(path, self._room, tree.power_losses, tree.seed)
+            store = ExploredStore(run, tree.settings, tree.images, tree.by, tree.allow_stale)
+            outcome: Any = None
+            error: Optional[BaseException] = None
+            _running.is_on = True
+            try:
+                outcome = tree.body(store)
+            except (Exception, PowerLoss) as raised:
+                error = raised
+            except MoreWords:
+                pass
+            finally:
+                _running.is_on = False
+                store.close()
+            if run.error is not None:
+                raise run.error
+            if not run.is_short:
+                return run, store, outcome, error
+            self._room *= 2
+
+    def _confirm(self, run: Run, error: BaseException) -> None:
+        """Makes a run that failed again, which has to fail again."""
+        again, _, _, raised = self._attempt(run.taken)
+        if raised is None or again.calls != run.calls:
+            failed = f"a run raised {reason_of(error)}"
+            raise NotDeterministic.by(f"{failed}, and made again it {'made other calls' if raised else 'did not'}") from error
+
+    def _tally(self, outcome: Any) -> None:
+        try:
+            self.outcomes[outcome] = self.outcomes.get(outcome, 0) + 1
+        except TypeError:
+            raise TypeError(f"the body returned a {type(outcome).__name__}: return a value that can be hashed, or nothing") from None
+
+
+def _compare(before: Run, run: Run) -> None:
+    """Raises `NotDeterministic` if two runs differ before the choice at which their paths part."""
+    at = len(run.path) - 1
+    calls = before.made[at]
+    if before.calls[:calls] != run.calls[:calls] or run.made[at] != calls:
+        pairs = enumerate(zip(before.calls, run.calls))
+        where = next((k for k, (was, now) in pairs if was != now), min(len(before.calls), len(run.calls)))
+        was, now = (_call(calls, where) for calls in (before.calls, run.calls))
+        raise NotDeterministic.by(f"call {where} of a run was {was}, and of the next one, which had made the same choices, {now}")
+
+
+def _call(calls: List[Any], at: int) -> str:
+    if at >= len(calls):
+        return "none"
+    call = calls[at]
+    if isinstance(call, bytes):
+        return f"`{call.decode(errors='backslashreplace')}`"
+    return f"a {'read' if len(call) == 3 else 'write'} of handle {call[0]} at {call[1]}"

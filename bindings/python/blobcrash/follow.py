@@ -1,0 +1,193 @@
+"""A run that follows a path of choices: docs/GUIDE.md."""
+
+from __future__ import annotations
+
+from typing import Any, Iterable, List, Optional, Tuple
+
+from .grammar import MAX, number, setting_tokens
+from .layers import Library
+from .paths import CHOICE, DRAW, POWER, TRUE, WORDS, Choice
+from .power import Supply
+from .store import Store
+
+
+class NotDeterministic(RuntimeError):
+    """The body of an exploration made other calls, or other choices, than before on the same path."""
+
+    @classmethod
+    def by(cls, what: str) -> NotDeterministic:
+        """The error that says how."""
+        return cls(
+            f"the body isn't deterministic: {what}. Along the same choices it must make the same calls: it may use no clock, no random "
+            "numbers of its own (use `store.choose`), and nothing that an earlier run has changed"
+        )
+
+
+class Unexplorable(ValueError):
+    """A setting of which not every outcome can be explored."""
+
+
+class MoreWords(BaseException):
+    """A run took all words that it was given. It has to be made again, with more."""
+
+
+def refuse_sizes(tokens: List[str]) -> None:
+    """Raises `Unexplorable` if a setting lets a failing resize stop at a size that is drawn."""
+    if tokens[:2] == ["config", "resize"] and int(tokens[4]) > 0:
+        raise Unexplorable(
+            f"`{' '.join(tokens[1:])}` can't be explored: a failing resize would stop at a drawn size, and the two outcomes of each word "
+            "don't reach all sizes. Set its partial rate to 0, `resize N D 0 1`, or test it with seeds"
+        )
+
+
+class Run:
+    """The choices of one run. It follows a path, and then takes the first branch of each choice.
+
+    `taken` are all of them, and `made` says of each how many calls there were, with the one that drew it. With a seed the draws are the
+    seed's, and aren't choices.
+    """
+
+    def __init__(self, path: List[Choice], room: int, losses: int, seed: Optional[int] = None) -> None:
+        self.path = path
+        self.words = [WORDS[branch] for kind, branch, _ in path if kind == DRAW] + [0] * room + [MAX]
+        self.taken: List[Choice] = []
+        self.made: List[int] = []
+        self.calls: List[Any] = []
+        self.seed = seed
+        self.losses = losses
+        self.is_short = False
+        self.error: Optional[NotDeterministic] = None
+        self._drawn = 0
+
+    def choose(self, kind: str, of: int) -> int:
+        """The branch of the next choice."""
+        at = len(self.taken)
+        choice = (kind, 0, of)
+        if at < len(self.path):
+            choice = self.path[at]
+            if choice[0] != kind or choice[2] != of:
+                self.error = NotDeterministic.by(f"choice {at} of the path was {_named(choice)}, and is {_named((kind, 0, of))}")
+                raise self.error
+        self.taken.append(choice)
+        self.made.append(len(self.calls))
+        return choice[1]
+
+    def fails(self) -> bool:
+        """Whether the power goes off at a call."""
+        if self.losses == 0 or not self.choose(POWER, 2):
+            return False
+        self.losses -= 1
+        return True
+
+    def count(self, left: int) -> None:
+        """Counts the draws of a call, after which `left` words are left."""
+        if left == 0:
+            self.is_short = True
+            raise MoreWords
+        drawn = len(self.words) - left
+        new = drawn - self._drawn
+        if not new:
+            return
+        self._drawn = drawn
+        if len(self.taken) >= len(self.path):
+            self.taken += [TRUE] * new
+            self.made += [len(self.calls)] * new
+            return
+        for _ in range(new):
+            self.choose(DRAW, 2)
+
+    def draws(self) -> List[int]:
+        """The words of the draws that were made."""
+        return [WORDS[branch] for kind, branch, _ in self.taken if kind == DRAW]
+
+
+def _named(choice: Choice) -> str:
+    return f"`choose({choice[2]})`" if choice[0] == CHOICE else choice[0]
+
+
+class _Followed:
+    """A layer that counts calls and draws."""
+
+    def __init__(self, layer: Any, run: Run) -> None:
+        self._layer = layer
+        self._run = run
+        self._left = layer.words_left if run.seed is None else None
+
+    def call(self, line: bytes) -> bytes:
+        self._run.calls.append(line)
+        reply = self._layer.call(line)
+        self._count()
+        return reply
+
+    def read(self, handle: int, offset: int, length: int) -> Any:
+        self._run.calls.append((handle, offset, length))
+        found = self._layer.read(handle, offset, length)
+        self._count()
+        return found
+
+    def write(self, handle: int, offset: int, data: bytes, sync: bool = False) -> Any:
+        self._run.calls.append((handle, offset, data, sync))
+        found = self._layer.write(handle, offset, data, sync)
+        self._count()
+        return found
+
+    def close(self) -> int:
+        return self._layer.close()
+
+    def _count(self) -> None:
+        if self._left is not None:
+            self._run.count(self._left())
+
+
+class ExploredStore(Store):
+    """The store of one run."""
+
+    def __init__(
+        self, run: Run, settings: Iterable[str], images: Iterable[Tuple[str, bytes, bytes]], by: Any = None, allow_stale: bool = False
+    ) -> None:
+        self._run = run
+
+        def way(preamble: bytes) -> Supply:
+            return Supply(_Followed((by or Library)(preamble), run), run.fails if run.losses else None)
+
+        if run.seed is None:
+            super().__init__(words=run.words, settings=settings, images=images, by=way, allow_stale=allow_stale)
+        else:
+            super().__init__(run.seed, settings=settings, images=images, by=way, allow_stale=allow_stale)
+
+    @property
+    def script(self) -> List[str]:
+        """The lines of all calls, and notes: a script that makes the same calls again. Its words are those of the draws so far."""
+        lines = super().script
+        if self._run.seed is None and hasattr(self, "_layer"):
+            drawn = " ".join("max" if word else "0" for word in self._run.draws())
+            lines[:1] = [f"words {drawn}"] if drawn else []
+        return lines
+
+    def choose(self, branches: int) -> int:
+        """Returns a number below `branches`. Every one is tried, together with the outcomes of the draws."""
+        branches = number(branches, "a number of branches", 10**9 - 1)
+        if branches == 0:
+            raise ValueError("there is nothing to choose from: a number of branches is at least 1")
+        self._check()
+        branch = self._run.choose(CHOICE, branches) if branches > 1 else 0
+        self.note(f"choose({branches}) is {branch}")
+        return branch
+
+    def push_words(self, words: Iterable[int]) -> None:
+        """Raises `ValueError`: the words of a run are those of its path."""
+        raise ValueError("the words of an explored run are given by its path")
+
+    def _setting_line(self, setting: str) -> str:
+        refuse_sizes(setting_tokens(setting))
+        return super()._setting_line(setting)
+
+    def _ask(self, line: str, partition: Optional[str] = None) -> List[str]:
+        if line.lstrip(" ").startswith("config"):
+            refuse_sizes([token for token in line.split(" ") if token])
+        return super()._ask(line, partition)
+
+    def _unusable(self) -> Exception:
+        if self._closed:
+            return ValueError("the store's run has ended: each run of the body is given a store of its own")
+        return super()._unusable()

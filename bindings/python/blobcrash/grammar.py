@@ -1,0 +1,211 @@
+"""The lines of a script (docs/FORMATS.md), and how arguments become parts of one.
+
+No text of a caller is put into a line before it is known to be one token of its kind.
+"""
+
+from __future__ import annotations
+
+import operator
+import re
+from typing import List, Optional, Tuple
+
+from .errors import BadLine
+
+MAX = 2**64 - 1
+LAST_VERSION = 2**16 - 1
+
+_NAME = re.compile(r"[A-Za-z0-9_-]+")
+_DIGITS = re.compile(r"[0-9]+")
+_HEX = re.compile(r"-|([0-9a-fA-F]{2})+")
+# One token that is no partition name, so that a call with it makes the draw and gets the refusal of every such name.
+_NO_NAME = "!"
+
+# The calls by their first words. Capitals are arguments. P is a partition; one that ends in N and the next in D are a rate.
+_SHAPES = {
+    "open": ("P NAME", "P NAME LO HI"),
+    "loose": ("P NAME", "P NAME LO HI"),
+    "admit": ("P NAME",),
+    "close": ("H",),
+    "read": ("H OFFSET LEN",),
+    "write": ("H OFFSET HEX",),
+    "writes": ("H OFFSET HEX",),
+    "resize": ("H LEN",),
+    "size": ("H",),
+    "sync": ("H",),
+    "startsync": ("H",),
+    "finish": ("NUMBER",),
+    "remove": ("P", "P NAME"),
+    "scan": ("P",),
+    "crash": ("",),
+    "reopen": ("",),
+    "config open": ("N D",),
+    "config read": ("N D",),
+    "config sync": ("N D",),
+    "config remove": ("N D",),
+    "config scan": ("N D",),
+    "config write": ("FN FD RN RD prefix", "FN FD RN RD subset", "FN FD RN RD sectors S"),
+    "config resize": ("FN FD PN PD",),
+    "config clear": ("",),
+}
+
+
+def number(value: int, what: str, last: int = MAX) -> int:
+    """An argument that is a whole number from 0 to `last`. Raises `TypeError`, for a `bool` too, or `ValueError`."""
+    if type(value) is not int:
+        if isinstance(value, bool) or not hasattr(value, "__index__"):
+            raise TypeError(f"{what} is a whole number, not {type(value).__name__}")
+        value = int.__add__(operator.index(value), 0)
+    if not 0 <= value <= last:
+        raise ValueError(f"{what} is out of range: it is a number from 0 to {last}")
+    return value
+
+
+def data_of(value: bytes, what: str) -> bytes:
+    """An argument that is bytes, or a buffer of some. Raises `TypeError`."""
+    if type(value) is bytes:
+        return value
+    try:
+        return bytes(memoryview(value))
+    except TypeError:
+        raise TypeError(f"{what} is bytes, not {type(value).__name__}") from None
+
+
+def hex_of(data: bytes) -> str:
+    return data.hex() or "-"
+
+
+def unhex(word: str) -> bytes:
+    return b"" if word == "-" else bytes.fromhex(word)
+
+
+def partition_word(partition: str) -> str:
+    """The token of a partition. For a text that is no partition name it is one that is refused as that name is."""
+    if not isinstance(partition, str):
+        raise TypeError(f"a partition is a str, not {type(partition).__name__}")
+    partition = str.__str__(partition)
+    return partition if _NAME.fullmatch(partition) else _NO_NAME
+
+
+def image_line(partition: str, name: bytes, data: bytes) -> str:
+    """The line of a raw blob. Its partition may be no partition name, but it must be one token."""
+    if not isinstance(partition, str):
+        raise TypeError(f"a partition is a str, not {type(partition).__name__}")
+    partition = str.__str__(partition)
+    if not partition or " " in partition or "\n" in partition or not _is_text(partition):
+        raise ValueError(f"the partition of an image is a text without spaces and line feeds, not {partition!r}")
+    return f"image {partition} {hex_of(data_of(name, 'a name'))} {hex_of(data_of(data, 'an image'))}"
+
+
+def versions_words(versions: Optional[Tuple[int, int]]) -> str:
+    """The tokens of a range of versions, each with a space before it."""
+    if versions is None:
+        return ""
+    if isinstance(versions, (str, bytes)) or len(versions) != 2:
+        raise TypeError("versions are a pair: the first and the last one")
+    first, last = versions
+    return f" {number(first, 'a version', LAST_VERSION)} {number(last, 'a version', LAST_VERSION)}"
+
+
+def comment_lines(text: str) -> List[str]:
+    """The comment lines of a text, one for each of its lines."""
+    if not isinstance(text, str):
+        raise TypeError(f"a note is a str, not {type(text).__name__}")
+    text = text.encode("utf-8", "backslashreplace").decode()
+    return [f"# {line}" for line in text.split("\n")]
+
+
+def setting_tokens(setting: str) -> List[str]:
+    """The tokens of the `config` line of a setting. Raises `BadLine` if it is none."""
+    if not isinstance(setting, str):
+        raise TypeError(f"a setting is a str, not {type(setting).__name__}")
+    return tokens_of("config " + str.__str__(setting))
+
+
+def needs_draws(tokens: List[str]) -> bool:
+    """Whether a `config` line sets a rate that takes words of the generator."""
+    rates = [int(token) for token in tokens[2:] if _DIGITS.fullmatch(token)]
+    pairs = list(zip(rates[0::2], rates[1::2]))
+    is_partial = tokens[1] == "resize" and all(top > 0 for top, _ in pairs)
+    return is_partial or any(0 < top < bottom for top, bottom in pairs)
+
+
+def tokens_of(line: str) -> List[str]:
+    """The tokens of a line that is a call; none of an empty line and of a comment. Raises `BadLine` with the reason."""
+    if not isinstance(line, str):
+        raise TypeError(f"a line is a str, not {type(line).__name__}")
+    if "\n" in line:
+        raise BadLine(f"bad call: {line!r} is more than one line")
+    if not _is_text(line):
+        raise BadLine(f"bad call: {line!r} isn't UTF-8")
+    tokens = [token for token in str.__str__(line).split(" ") if token]
+    if not tokens or tokens[0].startswith("#"):
+        return []
+    words = tokens[:2] if tokens[0] == "config" else tokens[:1]
+    shapes = _SHAPES.get(" ".join(words))
+    if shapes is None:
+        raise BadLine(f"bad call: {line!r}: {words[-1]!r} is no {'setting' if len(words) == 2 else 'call'}")
+    why = _mismatch(tokens[len(words) :], [shape.split() for shape in shapes])
+    if why:
+        raise BadLine(f"bad call: {line!r}: {why}")
+    return tokens
+
+
+def _is_text(text: str) -> bool:
+    """Whether a `str` can be written as UTF-8: it has no half of a surrogate pair."""
+    try:
+        text.encode()
+    except UnicodeEncodeError:
+        return False
+    return True
+
+
+def _mismatch(arguments: List[str], shapes: List[List[str]]) -> Optional[str]:
+    """Why arguments are of none of these shapes."""
+    likely = [shape for shape in shapes if len(shape) == len(arguments)] or shapes[:1]
+    reasons = [_why_not(arguments, shape) for shape in likely]
+    if None in reasons:
+        return None
+    if any(len(shape) == len(arguments) for shape in shapes):
+        return reasons[0]
+    for token, kind in zip(arguments, likely[0]):
+        why = _wrong(token, kind)
+        if why:
+            return why
+    wanted = " or ".join(f"`{' '.join(shape)}`" if shape else "nothing" for shape in shapes)
+    return f"expected {wanted}"
+
+
+def _why_not(arguments: List[str], shape: List[str]) -> Optional[str]:
+    """Why arguments aren't of a shape of the same length."""
+    if len(arguments) != len(shape):
+        return "a token is missing or left over"
+    for token, kind in zip(arguments, shape):
+        why = _wrong(token, kind)
+        if why:
+            return why
+    for at, kind in enumerate(shape[1:], 1):
+        if kind.endswith("D"):
+            top, bottom = arguments[at - 1 : at + 1]
+            if int(bottom) == 0 or int(top) > int(bottom):
+                return f"`{top} {bottom}` is no rate: a fraction from 0 to 1"
+    return None
+
+
+def _wrong(token: str, kind: str) -> Optional[str]:
+    """Why a token isn't of a kind."""
+    if kind == "P":
+        return None
+    if kind in ("NAME", "HEX"):
+        return None if _HEX.fullmatch(token) else f"{token!r} isn't hex: two digits a byte, or `-` for no bytes"
+    if kind.islower():
+        return None if token == kind else f"{token!r} is no mode: `prefix`, `subset` or `sectors SIZE`"
+    if not _DIGITS.fullmatch(token):
+        rate = ": a rate is two numbers" if kind[-1] in "ND" and len(kind) < 3 else ""
+        return f"{token!r} is no number{rate}"
+    digits = token.lstrip("0") or "0"
+    last = LAST_VERSION if kind in ("LO", "HI") else MAX
+    if len(digits) > 20 or int(digits) > last:
+        return f"{token!r} is past {last}"
+    if kind == "S" and digits == "0":
+        return "a sector has at least one byte"
+    return None

@@ -1,0 +1,319 @@
+"""The two ways to the storage layer: the program through pipes, and the library in this process.
+
+Both have the same calls. They take lines as they are: `Store` is what checks arguments.
+"""
+
+from __future__ import annotations
+
+import ctypes
+import os
+import subprocess
+from typing import Any, List, NamedTuple, Optional, Union
+
+from .errors import BadLine, Interrupted, LibraryMissing, NotMade, ProgramEnded
+from .grammar import hex_of, unhex
+
+_HERE = os.path.dirname(os.path.abspath(__file__))
+# The top of the repository that this package lies in, if it lies in one.
+TOP = os.path.dirname(os.path.dirname(os.path.dirname(_HERE)))
+# The shared library of an installed package.
+_INSIDE = os.path.join(_HERE, "libblobcrash.so")
+
+
+def program() -> str:
+    """Returns the path of the program: `$BLOBCRASH`, or `./blobcrash` of the repository, which builds it on first use."""
+    return os.environ.get("BLOBCRASH", os.path.join(TOP, "blobcrash"))
+
+
+def library() -> str:
+    """Returns the path of the shared library: `$BLOBCRASH_LIBRARY`, the one in this package, or the one that the repository built."""
+    here = _INSIDE if os.path.exists(_INSIDE) else os.path.join(TOP, "out", "libblobcrash.so")
+    return os.environ.get("BLOBCRASH_LIBRARY", here)
+
+
+def default_way() -> type:
+    """Returns the way of a store that is given none: the library if it is part of this package, else the program."""
+    return Library if os.path.exists(_INSIDE) else Program
+
+
+class Reply(NamedTuple):
+    """The reply line of a read or a write that failed."""
+
+    line: str
+
+
+def line_of(handle: int, offset: int, what: Union[int, bytes], sync: Optional[bool] = None) -> str:
+    """The line of a read, or of a write if `sync` is given."""
+    if sync is None:
+        return f"read {handle} {offset} {what}"
+    return f"{'writes' if sync else 'write'} {handle} {offset} {hex_of(what)}"
+
+
+def _bad(line: bytes) -> BadLine:
+    return BadLine("bad call: " + line.decode(errors="backslashreplace"))
+
+
+class Program:
+    """The layer as a program of its own, one line and one reply at a time.
+
+    A call that is cut short, as by Ctrl-C, leaves a reply unread. From then on each call raises `Interrupted`. After a bad line the
+    program has ended, and each call raises `BadLine` with the first bad one.
+    """
+
+    def __init__(self, preamble: bytes = b"") -> None:
+        self._run = subprocess.Popen([program()], stdin=subprocess.PIPE, stdout=subprocess.PIPE)
+        # Why no call can be made any more.
+        self._lost: Optional[BaseException] = None
+        lines = preamble.split(b"\n")
+        for line in lines if lines[-1] else lines[:-1]:
+            if line.split()[:1] == [b"config"]:
+                self.call(line)
+            else:
+                self._send(line)
+
+    def call(self, line: bytes) -> bytes:
+        """Makes the call of a line, and returns its reply; nothing for an empty line and a comment."""
+        if b"\n" in line:
+            raise _bad(line)
+        if self._lost is not None:
+            self._refuse()
+        self._lost = Interrupted("a call was cut short, and its reply is lost")
+        try:
+            reply = self._replied(line)
+        except BaseException as error:
+            self._lost = error
+            raise
+        self._lost = None
+        return reply
+
+    def read(self, handle: int, offset: int, length: int) -> Union[bytes, Reply]:
+        """Returns exactly `length` bytes, or the reply that says why not."""
+        reply = self.call(line_of(handle, offset, length).encode()).decode()
+        return unhex(reply[6:]) if reply.startswith("bytes ") else Reply(reply)
+
+    def write(self, handle: int, offset: int, data: bytes, sync: bool = False) -> Optional[Reply]:
+        """Writes bytes. Returns the reply if it isn't `ok`."""
+        reply = self.call(line_of(handle, offset, data, sync).encode()).decode()
+        return None if reply == "ok" else Reply(reply)
+
+    def close(self) -> int:
+        """Ends the program, and returns its exit status."""
+        if self._lost is not None and not isinstance(self._lost, BadLine):
+            self._run.kill()
+        if self._lost is None:
+            self._lost = ValueError("the store is closed")
+        if not self._run.stdin.closed:
+            self._flush()
+            self._run.communicate()
+        return self._run.returncode
+
+    def _refuse(self) -> None:
+        if isinstance(self._lost, (BadLine, ProgramEnded, ValueError)):
+            raise self._lost
+        raise Interrupted("a call was cut short, and its reply is lost") from self._lost
+
+    def _replied(self, line: bytes) -> bytes:
+        self._send(line)
+        if line.strip(b" ")[:1] in (b"", b"#"):
+            return b""
+        self._flush()
+        reply = self._run.stdout.readline()
+        if reply.endswith(b"\n"):
+            return reply[:-1]
+        status = self._run.wait()
+        if status == 2:
+            raise _bad(line)
+        raise ProgramEnded(f"{program()} ended with status {status} before it replied to: {line.decode(errors='backslashreplace')}")
+
+    def _send(self, line: bytes) -> None:
+        try:
+            self._run.stdin.write(line + b"\n")
+        except BrokenPipeError:
+            pass  # It has ended, and gives no reply.
+
+    def _flush(self) -> None:
+        try:
+            self._run.stdin.flush()
+        except (BrokenPipeError, ValueError):
+            pass
+
+
+# What the library returns: bindings/c/blobcrash.h.
+
+_DONE, _ENDLESS, _BAD_LINE, _NO_MEMORY, _NO_ROOM, _CLOSED, _OTHER_REPLY, _UNPRINTED = range(8)
+
+
+class _Session(ctypes.Structure):
+    _fields_ = [("at", ctypes.c_void_p), ("is_open", ctypes.c_bool)]
+
+
+class _Ran(ctypes.Structure):
+    _fields_ = [("status", ctypes.c_uint32), ("len", ctypes.c_size_t)]
+
+
+class _ScriptRan(ctypes.Structure):
+    _fields_ = [("status", ctypes.c_uint32), ("len", ctypes.c_size_t), ("line", ctypes.c_uint64)]
+
+
+_string_at = ctypes.string_at
+_functions: Optional[ctypes.CDLL] = None
+
+
+def _loaded() -> ctypes.CDLL:
+    global _functions
+    if _functions is None:
+        try:
+            functions = ctypes.CDLL(library())
+        except OSError as error:
+            raise LibraryMissing(f"{error}: build it with `sh bindings/build.sh`, or name its file in BLOBCRASH_LIBRARY") from None
+        session, size = ctypes.POINTER(_Session), ctypes.c_size_t
+        for name, result, arguments in (
+            ("open", _ScriptRan, [session, ctypes.c_char_p, size]),
+            ("call", _Ran, [session, ctypes.c_char_p, size, ctypes.c_void_p, size]),
+            ("reply", _Ran, [session, ctypes.c_void_p, size]),
+            ("write", ctypes.c_uint32, [session, size, ctypes.c_uint64, ctypes.c_char_p, size, ctypes.c_bool]),
+            ("read", ctypes.c_uint32, [session, size, ctypes.c_uint64, ctypes.c_void_p, size]),
+            ("close", None, [session]),
+            ("run", _ScriptRan, [ctypes.c_char_p, size, ctypes.c_void_p, size]),
+        ):
+            function = getattr(functions, "blobcrash_" + name)
+            function.restype, function.argtypes = result, arguments
+        _functions = functions
+    return _functions
+
+
+def _check(status: int, line: bytes = b"") -> None:
+    if status == _BAD_LINE:
+        raise _bad(line)
+    if status == _CLOSED:
+        raise ValueError("the store is closed")
+    if status == _NO_MEMORY:
+        raise NotMade
+    if status != _DONE:
+        raise MemoryError
+
+
+class Library:
+    """The layer in this process."""
+
+    def __init__(self, preamble: bytes = b"") -> None:
+        self._functions = _loaded()
+        self._c_read, self._c_write = self._functions.blobcrash_read, self._functions.blobcrash_write
+        self._session = _Session()
+        self._at = ctypes.byref(self._session)
+        self._room = ctypes.create_string_buffer(4096)
+        ran = self._functions.blobcrash_open(self._at, preamble, len(preamble))
+        if ran.status == _BAD_LINE:
+            raise BadLine("bad preamble", ran.line)
+        _check(ran.status)
+
+    def call(self, line: bytes) -> bytes:
+        """Makes the call of a line, and returns its reply; nothing for an empty line and a comment."""
+        if b"\n" in line:
+            raise _bad(line)
+        ran = self._functions.blobcrash_call(self._at, line, len(line), self._room, len(self._room))
+        if ran.status == _DONE:
+            return ctypes.string_at(self._room, ran.len)
+        if ran.status in (_NO_ROOM, _UNPRINTED):
+            return self._reply(ran)
+        _check(ran.status, line)
+        return b""
+
+    def read(self, handle: int, offset: int, length: int) -> Union[bytes, Reply]:
+        """Returns exactly `length` bytes, or the reply that says why not."""
+        if length > len(self._room) and not self._has_grown(handle, offset, length):
+            reply = self.call(line_of(handle, offset, length).encode()).decode()
+            return unhex(reply[6:]) if reply.startswith("bytes ") else Reply(reply)
+        room = self._room
+        status = self._c_read(self._at, handle, offset, room, length)
+        if status == _DONE:
+            return _string_at(room, length)
+        return self._other(status)
+
+    def write(self, handle: int, offset: int, data: bytes, sync: bool = False) -> Optional[Reply]:
+        """Writes bytes. Returns the reply if it isn't `ok`."""
+        status = self._c_write(self._at, handle, offset, data, len(data), sync)
+        return None if status == _DONE else self._other(status)
+
+    def words_left(self) -> int:
+        """Returns how many words the generator has up to the last one that isn't zero. `ValueError` if a seed gives more."""
+        ran = self._added("words_left")(self._at)
+        if ran.status == _ENDLESS:
+            raise ValueError("a seed gives words without end")
+        _check(ran.status)
+        return ran.len
+
+    def push_words(self, words: List[int]) -> None:
+        """Inserts words before those that the generator has."""
+        array = (ctypes.c_uint64 * len(words))(*words)
+        _check(self._added("push_words")(self._at, array, len(words)))
+
+    def close(self) -> int:
+        """Ends the session, and returns 0."""
+        self._functions.blobcrash_close(self._at)
+        return 0
+
+    def __del__(self) -> None:
+        if hasattr(self, "_at"):
+            self.close()
+
+    def _added(self, name: str) -> Any:
+        """A function that libraries of earlier versions don't have."""
+        try:
+            function = getattr(self._functions, "blobcrash_" + name)
+        except AttributeError:
+            raise LibraryMissing(f"{library()} has no blobcrash_{name}: build it with `sh bindings/build.sh`") from None
+        session = ctypes.POINTER(_Session)
+        if name == "words_left":
+            function.restype, function.argtypes = _Ran, [session]
+        else:
+            function.restype, function.argtypes = ctypes.c_uint32, [session, ctypes.POINTER(ctypes.c_uint64), ctypes.c_size_t]
+        return function
+
+    def _has_grown(self, handle: int, offset: int, length: int) -> bool:
+        """Grows the buffer for a read that ends within the blob. For any other length it doesn't allocate."""
+        size = self.call(b"size %d" % handle)
+        if not size.startswith(b"size ") or offset + length > int(size[5:]):
+            return False
+        self._room = ctypes.create_string_buffer(length)
+        return True
+
+    def _other(self, status: int) -> Reply:
+        if status != _OTHER_REPLY:
+            _check(status)
+        return Reply(self._reply(_Ran(_NO_ROOM, 0)).decode())
+
+    def _reply(self, ran: _Ran) -> bytes:
+        """The reply that is kept. Grows the buffer if it is too small."""
+        while ran.status == _NO_ROOM:
+            if ran.len > len(self._room):
+                self._room = ctypes.create_string_buffer(ran.len)
+            ran = self._functions.blobcrash_reply(self._at, self._room, len(self._room))
+        _check(ran.status)
+        return ctypes.string_at(self._room, ran.len)
+
+
+def explain(script: str) -> Optional[str]:
+    """Returns the replies of a script with a picture after each crash, or `None` if the program isn't built."""
+    built = os.environ.get("BLOBCRASH", os.path.join(TOP, "out", "blobcrash"))
+    try:
+        run = subprocess.run([built, "explain"], input=script.encode(), stdout=subprocess.PIPE, stderr=subprocess.DEVNULL)
+    except OSError:
+        return None
+    return run.stdout.decode()
+
+
+def run(script: bytes) -> bytes:
+    """Runs a whole script in this process, and returns what the program prints. `BadLine` has the line's number and, in `replies`,
+    what is printed before it."""
+    functions, room = _loaded(), ctypes.create_string_buffer(65536)
+    ran = functions.blobcrash_run(script, len(script), room, len(room))
+    if ran.status == _NO_ROOM:
+        room = ctypes.create_string_buffer(ran.len)
+        ran = functions.blobcrash_run(script, len(script), room, len(room))
+    if ran.status == _BAD_LINE:
+        error = BadLine("bad call", ran.line)
+        error.replies = ctypes.string_at(room, ran.len)
+        raise error
+    _check(ran.status)
+    return ctypes.string_at(room, ran.len)

@@ -1,0 +1,65 @@
+"""Paths of a decision tree of draws and choices.
+
+A choice is a triple of its kind, the branch that is taken and how many branches there are. A path is a list of choices from the root.
+It names the subtree that begins where it ends. As a text it has a token for each choice:
+
+    0, max   a draw of the store that is true, one that is false: the word that it takes
+    K/N      branch K of a `choose(N)`
+    on, off  whether the power stays on or goes off at a call
+"""
+
+from __future__ import annotations
+
+import re
+from typing import List, Optional, Tuple
+
+from .grammar import MAX
+
+Choice = Tuple[str, int, int]
+
+DRAW, CHOICE, POWER = "a draw", "choose", "a power loss"
+TRUE = (DRAW, 0, 2)
+# The words that make a draw true and false, whatever its rate.
+WORDS = (0, MAX)
+_TOKENS = {"0": TRUE, "max": (DRAW, 1, 2), "on": (POWER, 0, 2), "off": (POWER, 1, 2)}
+_BRANCH = re.compile(r"([0-9]{1,9})/([0-9]{1,9})")
+
+
+def text_of(path: List[Choice]) -> str:
+    """The text of a path."""
+    known = {choice: token for token, choice in _TOKENS.items()}
+    return " ".join(known.get(choice) or f"{choice[1]}/{choice[2]}" for choice in path)
+
+
+def path_of(text: str) -> List[Choice]:
+    """The path of a text. Raises `ValueError` for a token that is no choice."""
+    if not isinstance(text, str):
+        raise TypeError(f"a path is a str, not {type(text).__name__}")
+    path = []
+    for token in text.split():
+        branch = _BRANCH.fullmatch(token)
+        if token in _TOKENS:
+            path.append(_TOKENS[token])
+        elif branch and int(branch[1]) < int(branch[2]):
+            path.append((CHOICE, int(branch[1]), int(branch[2])))
+        else:
+            raise ValueError(f"{token!r} is no choice of a path: `0`, `max`, `on`, `off` or a branch as `2/5`")
+    return path
+
+
+def next_path(taken: List[Choice], root: int) -> Optional[List[Choice]]:
+    """The path to the next leaf after the one at the end of `taken`, depth first, in the subtree that its first `root` choices name."""
+    for at in range(len(taken) - 1, root - 1, -1):
+        kind, branch, of = taken[at]
+        if branch + 1 < of:
+            return [*taken[:at], (kind, branch + 1, of)]
+    return None
+
+
+def rest_from(path: List[Choice], root: int) -> List[str]:
+    """The rest of the subtree that the first `root` choices name, from the subtree of `path` on, as subtrees in order."""
+    rest = [text_of(path)]
+    for at in range(len(path) - 1, root - 1, -1):
+        kind, branch, of = path[at]
+        rest += [text_of([*path[:at], (kind, other, of)]) for other in range(branch + 1, of)]
+    return rest

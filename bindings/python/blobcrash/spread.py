@@ -1,0 +1,167 @@
+"""Runs of a body on many workers: seeds, and the subtrees of an exploration."""
+
+from __future__ import annotations
+
+import os
+import pickle
+import time
+import traceback
+import uuid
+from concurrent.futures import FIRST_COMPLETED, Future, wait
+from typing import Any, Callable, Dict, Iterator, List, NamedTuple, Optional, Tuple
+
+from .exploration import Part, Tree, visit
+from .failures import Failed, Trace
+
+# How long a worker goes on before it returns the subtrees that it has left, in seconds: at first, so that there soon are enough for all
+# workers, and then.
+_FIRST_SLICE, _SLICE = 0.1, 1.0
+# How many subtrees wait for each worker at most; a task is given several if there are more.
+_WAITING = 4
+
+
+class LostWork(RuntimeError):
+    """Workers died, or couldn't be given the body. `rest` are the parts that are left: subtrees, or seeds. `__cause__` is the first error.
+
+    The other parts have been visited, and none of them failed.
+    """
+
+    def __init__(self, text: str, rest: List[Any]) -> None:
+        super().__init__(text)
+        self.rest = rest
+
+    def __reduce__(self) -> Any:
+        return LostWork, (self.args[0], self.rest)
+
+
+class Told(NamedTuple):
+    """What a worker returns: what its task returned or raised, with the traceback of the cause."""
+
+    done: Any
+    error: Optional[Exception] = None
+    trace: str = ""
+
+
+def told(key: str, task: Callable[..., Any], *arguments: Any) -> Told:
+    """Does a task in a worker. An error is a result, so that it isn't taken for a loss of the worker.
+
+    Each task has a key of its own: an executor may give the result of an earlier task for one with the same arguments.
+    """
+    try:
+        return Told(task(*arguments))
+    except Exception as error:
+        cause = error.__cause__ if isinstance(error, Failed) else error
+        trace = "" if cause is None else "".join(traceback.format_exception(type(cause), cause, cause.__traceback__))
+        return Told(None, error, trace)
+
+
+def visit_for(tree: Tree, subtrees: List[str], most: int, seconds: float) -> Part:
+    """The task of a worker: visits subtrees for a time of its own clock."""
+    return visit(tree, subtrees, most, time.monotonic() + seconds)
+
+
+class Spread:
+    """Tasks on the workers of an executor. Each is tried twice, and what is lost then is left."""
+
+    def __init__(self, executor: Any) -> None:
+        if not callable(getattr(executor, "submit", None)):
+            raise TypeError(f"the executor is one of `concurrent.futures`, not {type(executor).__name__}")
+        self._executor = executor
+        self.workers = getattr(executor, "_max_workers", None) or os.cpu_count() or 1
+        self._under_way: Dict[Future, Tuple[Any, bool, tuple]] = {}
+        self.lost: List[Any] = []
+        self._cause: Optional[BaseException] = None
+
+    def __len__(self) -> int:
+        return len(self._under_way)
+
+    def submit(self, part: Any, *task: Any, again: bool = False) -> None:
+        """Gives a task to a worker. `part` is what is lost if that is."""
+        try:
+            self._under_way[self._executor.submit(told, uuid.uuid4().hex, *task)] = (part, again, task)
+        except Exception as error:
+            self._lose(part, error)
+
+    def done(self) -> Iterator[Any]:
+        """Waits until tasks are done, and yields what they returned. Raises what one of them raised."""
+        ready = self._ready()
+        for future in ready:
+            part, again, task = self._under_way.pop(future)
+            try:
+                result = future.result()
+            except Exception as error:
+                if again or _is_unsent(error):
+                    self._lose(part, error)
+                else:
+                    self.submit(part, *task, again=True)
+                continue
+            if result.error is not None:
+                for other in self._under_way:
+                    other.cancel()
+                raise result.error from Trace(result.trace)
+            yield result.done
+
+    def check(self, waiting: List[Any]) -> None:
+        """Raises `LostWork` if anything is lost, with what waits still."""
+        if self._cause is None:
+            return
+        if _is_unsent(self._cause):
+            text = f"the body or its arguments can't be sent to a worker: {self._cause}. Define the body by `def` at the top of a module"
+        else:
+            text = f"workers were lost: {type(self._cause).__name__}: {self._cause}. `rest` has what they were given, to be run again"
+        raise LostWork(text, self.lost + waiting) from self._cause
+
+    def _lose(self, part: Any, error: BaseException) -> None:
+        self.lost += part
+        self._cause = self._cause or error
+
+    def _ready(self) -> List[Future]:
+        """The tasks that are done, of which there is at least one. An executor's futures may be of a class of its own."""
+        futures = list(self._under_way)
+        if all(isinstance(future, Future) for future in futures):
+            return list(wait(futures, return_when=FIRST_COMPLETED).done)
+        while True:
+            ready = [future for future in futures if future.done()]
+            if ready:
+                return ready
+            time.sleep(0.01)
+
+
+def _is_unsent(error: BaseException) -> bool:
+    """Whether a task failed because it couldn't be pickled."""
+    return isinstance(error, pickle.PicklingError) or (isinstance(error, (AttributeError, TypeError)) and "pickle" in str(error))
+
+
+def visit_with(executor: Any, tree: Tree, subtrees: List[str], most: int, until: float) -> Part:
+    """Visits the leaves of subtrees by workers, which return what they have left after a while, to be spread again."""
+    spread = Spread(executor)
+    runs, promised, waiting = 0, 0, list(subtrees)
+    outcomes: Dict[Any, int] = {}
+    length = _FIRST_SLICE
+    while waiting or len(spread):
+        while waiting and len(spread) < 2 * spread.workers:
+            left, now = most - runs - promised, time.monotonic()
+            if left <= 0 or now >= until:
+                break
+            # The shallowest subtrees, which tend to be the largest, are given away first.
+            waiting.sort(key=len, reverse=True)
+            count = max(1, len(waiting) // (_WAITING * spread.workers))
+            part = [waiting.pop() for _ in range(count)]
+            quota = left if left < spread.workers else left // spread.workers
+            promised += quota
+            spread.submit(part, _visited, tree, part, quota, min(length, until - now))
+        if not len(spread):
+            break
+        for quota, part in spread.done():
+            promised -= quota
+            runs += part.runs
+            waiting += part.rest
+            for outcome, count in part.outcomes.items():
+                outcomes[outcome] = outcomes.get(outcome, 0) + count
+            length = _SLICE
+    spread.check(waiting)
+    return Part(runs, outcomes, waiting)
+
+
+def _visited(tree: Tree, subtrees: List[str], quota: int, seconds: float) -> Tuple[int, Part]:
+    return quota, visit_for(tree, subtrees, quota, seconds)

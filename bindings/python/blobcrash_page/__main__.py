@@ -1,0 +1,74 @@
+"""Shows a run in a browser: reads a script from standard input, runs it, and writes its page to standard output.
+
+    crash_page [--title TEXT] [--explored FILE [--fails TEXT]] < SCRIPT > crash.html
+    crash_page --picture < SCRIPT > crash.svg
+    crash_page --chart [--fails TEXT] < EXPLORED
+
+The program is the one that `BLOBCRASH` names, or else `blobcrash` at the top of the checkout. `--explored` adds a chart of what
+`blobcrash explore` printed, and `--chart` prints it for a terminal. A run fails if its last reply begins with the text of `--fails`.
+"""
+
+import os
+import subprocess
+import sys
+
+from .chart import table
+from .explored import exploration
+from .page import page
+from .picture import picture
+from .script import lines_of
+
+TOP = os.path.dirname(os.path.dirname(os.path.dirname(os.path.dirname(os.path.abspath(__file__)))))
+USAGE = "usage: crash_page [--title TEXT] [--explored FILE] [--fails TEXT] [--picture | --chart]\n"
+
+
+def explained(program, script):
+    """What the program prints for a script with pictures, on both of its streams, and its status."""
+    ran = subprocess.run([program, "explain"], input=script, stdout=subprocess.PIPE, stderr=subprocess.PIPE)
+    return ran.stdout.decode(), ran.stderr.decode(), ran.returncode
+
+
+def options_of(arguments):
+    """The options by their names; None if they are no options."""
+    options, left = {"--title": "What a crash left"}, list(arguments)
+    while left:
+        name = left.pop(0)
+        if name in ("--picture", "--chart"):
+            options[name] = True
+        elif name in ("--title", "--explored", "--fails") and left:
+            options[name] = left.pop(0)
+        else:
+            return None
+    return options
+
+
+def main(arguments):
+    options = options_of(arguments)
+    if options is None:
+        sys.stderr.write(USAGE)
+        return 2
+    fails = None
+    if "--fails" in options:
+        fails = lambda replies: bool(replies) and replies[-1].startswith(options["--fails"])
+    given = sys.stdin.buffer.read()
+    if "--chart" in options:
+        print(table(exploration(given.decode(), fails)))
+        return 0
+    chart = None
+    if "--explored" in options:
+        with open(options["--explored"], encoding="utf-8") as file:
+            chart = exploration(file.read(), fails)
+    text, errors, status = explained(os.environ.get("BLOBCRASH", os.path.join(TOP, "blobcrash")), given)
+    sys.stderr.write(errors)
+    script = given.decode(errors="replace")
+    if "--picture" in options:
+        shown = picture(script, text)
+    else:
+        replies = "".join(line + "\n" for line in lines_of(text) if not line.startswith("# "))
+        shown = page(script, replies, text, options["--title"], chart)
+    sys.stdout.buffer.write(shown.encode())
+    return status
+
+
+if __name__ == "__main__":
+    sys.exit(main(sys.argv[1:]))
