@@ -1,0 +1,45 @@
+#!/bin/sh
+# Builds out/sqlite/crash, which crashes SQLite, and out/sqlite/blobcrash.so, the extension, where they are older than a source.
+# They need a C compiler and sqlite3.h (Debian: libsqlite3-dev). BLOBCRASH_ARCHIVE names the library for C; without it
+# bindings/build.sh builds it first. OUT is another folder than out/sqlite, CFLAGS are further flags.
+set -eu
+
+here=$(CDPATH='' cd -- "$(dirname -- "$0")" && pwd -P)
+top=$(CDPATH='' cd -- "$here/../.." && pwd -P)
+out=${OUT:-$top/out/sqlite}
+compiler=${CC:-cc}
+archive=${BLOBCRASH_ARCHIVE:-}
+vfs="$here/layer.c $here/store.c $here/directory.c $here/parameters.c $here/vfs.c"
+flags="-std=c11 -D_XOPEN_SOURCE=700 -O2 -g -Wall -Wextra -Werror -I$top/bindings/c -I$here -I$here/crash ${CFLAGS:-}"
+
+if ! echo '#include <sqlite3ext.h>' | "$compiler" -E - >/dev/null 2>&1; then
+    echo "build.sh: there is no $compiler with sqlite3ext.h (Debian: gcc, libsqlite3-dev)" >&2
+    exit 127
+fi
+if [ -z "$archive" ]; then
+    sh "$top/bindings/build.sh"
+    archive=$top/out/libblobcrash.a
+fi
+
+# is_current FILE: whether it is newer than the library and every source.
+is_current() {
+    [ -f "$1" ] && [ -z "$(find "$archive" "$here" "$top/bindings/c/blobcrash.h" -type f -newer "$1" | head -n 1)" ]
+}
+
+# shellcheck source=tools/building.sh
+. "$top/tools/building.sh"
+mkdir -p "$out" "$top/out"
+lock sqlite
+# shellcheck disable=SC2086
+if ! is_current "$out/crash"; then
+    "$compiler" $flags -DSQLITE_CORE -o "$out/crash.new" "$here"/crash/*.c $vfs "$archive" -lsqlite3
+    mv -f "$out/crash.new" "$out/crash"
+fi
+# shellcheck disable=SC2086
+if ! is_current "$out/blobcrash.so"; then
+    # Only the entry point is visible, so that the names of the library don't meet those of a program that loads it.
+    echo '{ global: sqlite3_blobcrash_init; local: *; };' >"$out/blobcrash.map"
+    "$compiler" $flags -fPIC -shared -o "$out/blobcrash.so.new" -Wl,--version-script="$out/blobcrash.map" \
+        $vfs "$here/extension.c" "$archive"
+    mv -f "$out/blobcrash.so.new" "$out/blobcrash.so"
+fi
