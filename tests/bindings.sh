@@ -1,30 +1,23 @@
 #!/bin/sh
 # Tests of the library and of its clients in C, Rust and Python: each worked script is answered as the program answers it,
-# line by line and at once, and each client's log recovers what it acknowledged and finds the planted bug. The clients whose
-# compiler isn't there are left out, and named. The last line is `N passed, M failed`.
-set -u
-
+# line by line and as a whole, each client's log recovers what it acknowledged and finds the planted bug, no hostile argument of
+# tests/hostile.tsv becomes anything else, and what would hide a bug of the code under test is refused. What needs a missing
+# tool is skipped, which fails under `CI=true`. The last line is `N passed, M failed`.
 top=$(CDPATH='' cd -- "$(dirname -- "$0")/.." && pwd -P)
-work=$(mktemp -d)
-trap 'rm -rf "$work"' EXIT
-passed=0
-failed=0
+# shellcheck source=tests/counting.sh
+. "$top/tests/counting.sh"
 
+# tell STATUS NAME: counts a test, and shows what it printed if it failed.
 tell() {
     if [ "$1" -eq 0 ]; then
-        passed=$((passed + 1))
+        pass
     else
-        failed=$((failed + 1))
-        echo "bindings.sh: $2"
+        fail "$2"
         head -c 400 "$work/out" "$work/err"
     fi
 }
 
-if ! sh "$top/bindings/build.sh"; then
-    echo "bindings.sh: the library can't be built"
-    echo "0 passed, 1 failed"
-    exit 1
-fi
+sh "$top/bindings/build.sh" || give_up "the library can't be built"
 
 # answers NAME COMMAND..: the client's replies, messages and exit statuses are the program's, script by script.
 answers() {
@@ -56,9 +49,9 @@ lives() {
 }
 
 compiler=${CC:-cc}
-if command -v "$compiler" >/dev/null; then
+if has "$compiler"; then
     build="$compiler -std=c11 -Wall -Wextra -Werror -O2 -I$top/bindings/c"
-    for program in first calls lines log; do
+    for program in first calls lines log hostile; do
         $build -o "$work/$program" "$top/bindings/c/$program.c" "$top/out/libblobcrash.a" >"$work/out" 2>"$work/err"
         tell $? "C: $program.c"
     done
@@ -67,57 +60,74 @@ if command -v "$compiler" >/dev/null; then
     tell $? 'C: the example of the page'
     "$work/calls" >"$work/out" 2>"$work/err"
     tell $? 'C: what each function answers'
+    "$work/hostile" "$top/tests/hostile.tsv" >"$work/out" 2>"$work/err"
+    tell $? 'C: hostile arguments'
     answers 'C, line by line' "$work/lines"
     answers 'C, at once' "$work/lines" --whole
     lives C "$work/log"
     # The memory of both sides under the sanitizer, which also tells what isn't given back.
     if $build -g -fsanitize=address,undefined -o "$work/lines.sanitized" "$top/bindings/c/lines.c" \
         "$top/out/libblobcrash.a" 2>"$work/err" && "$work/lines.sanitized" </dev/null 2>"$work/err"; then
-        for program in calls log; do
+        for program in calls log hostile; do
             $build -g -fsanitize=address,undefined -o "$work/$program.sanitized" "$top/bindings/c/$program.c" \
                 "$top/out/libblobcrash.a"
         done
         "$work/calls.sanitized" >"$work/out" 2>"$work/err"
         tell $? 'C, sanitized: what each function answers'
+        "$work/hostile.sanitized" "$top/tests/hostile.tsv" >"$work/out" 2>"$work/err"
+        tell $? 'C, sanitized: hostile arguments'
         answers 'C, sanitized' "$work/lines.sanitized"
         answers 'C, at once, sanitized' "$work/lines.sanitized" --whole
         lives 'C, sanitized' "$work/log.sanitized"
     else
-        echo "bindings.sh: left out: the C client under the address sanitizer, which $compiler can't build or start"
+        skip "the C client under the address sanitizer, which $compiler can't build or start"
     fi
 else
-    echo "bindings.sh: left out: C, for want of $compiler"
+    skip "C: there is no $compiler"
 fi
 
-if command -v cargo >/dev/null && command -v "$compiler" >/dev/null; then
-    run_cargo() { (cd "$top/bindings/rust" && CARGO_TARGET_DIR=$top/out/rust cargo "$@" --offline --quiet); }
+if has cargo "$compiler"; then
+    run_cargo() { (cd "$top/bindings/rust" && CARGO_TARGET_DIR=$top/out/rust CARGO_NET_OFFLINE=true cargo --quiet "$@"); }
     run_cargo test >"$work/out" 2>"$work/err"
     tell $? 'Rust: cargo test'
     run_cargo build --release --examples >"$work/out" 2>"$work/err"
     tell $? 'Rust: cargo build --examples'
     answers 'Rust, line by line' "$top/out/rust/release/examples/lines"
     answers 'Rust, at once' "$top/out/rust/release/examples/lines" --whole
+    if cargo clippy --version >/dev/null 2>&1; then
+        run_cargo clippy --all-targets -- -D warnings >"$work/out" 2>"$work/err"
+        tell $? 'Rust: cargo clippy'
+    else
+        skip 'Rust: there is no cargo clippy'
+    fi
+    RUSTDOCFLAGS='-D warnings' run_cargo doc >"$work/out" 2>"$work/err"
+    tell $? 'Rust: cargo doc'
 else
-    echo "bindings.sh: left out: Rust, for want of cargo or $compiler"
+    skip "Rust: there is no cargo or no $compiler"
 fi
 
-if command -v python3 >/dev/null && [ -f "$top/out/libblobcrash.so" ]; then
-    run_python() { PYTHONDONTWRITEBYTECODE=1 python3 "$@"; }
+if has_python && [ -f "$top/out/libblobcrash.so" ]; then
+    # Itself, where `python3` is a script that looks for it.
+    python=$(python3 -c 'import sys; print(sys.executable)')
+    run_python() { PYTHONDONTWRITEBYTECODE=1 "$python" "$@"; }
     answers 'Python, line by line' run_python "$top/bindings/python/lines.py"
     answers 'Python, at once' run_python "$top/bindings/python/lines.py" --whole
     lives Python run_python "$top/bindings/python/log.py"
-    # By a pipe too, where the program can be had.
-    if "$top/blobcrash" </dev/null >"$work/out" 2>"$work/err"; then
-        export BLOBCRASH="$top/out/blobcrash"
-        answers 'Python, by a pipe' run_python "$top/bindings/python/lines.py" --pipe
-        run_python "$top/tests/two_ways.py" >"$work/out" 2>"$work/err"
-        tell $? 'Python: the two ways'
-    else
-        tell 1 'Python, by a pipe: the program can not be built'
-    fi
+    for test in hostile traps; do
+        run_python "$top/tests/$test.py" library >"$work/out" 2>"$work/err"
+        tell $? "Python: $test.py"
+    done
+    need_program
+    export BLOBCRASH="$program"
+    answers 'Python, by a pipe' run_python "$top/bindings/python/lines.py" --pipe
+    for test in hostile traps; do
+        run_python "$top/tests/$test.py" pipe >"$work/out" 2>"$work/err"
+        tell $? "Python, by a pipe: $test.py"
+    done
+    run_python "$top/tests/two_ways.py" >"$work/out" 2>"$work/err"
+    tell $? 'Python: the two ways'
 else
-    echo "bindings.sh: left out: Python, for want of python3 or of a C compiler, $compiler, which makes its library"
+    skip "Python: there is no Python 3.8 or later, or no $compiler, which makes its library"
 fi
 
-echo "$passed passed, $failed failed"
-[ "$failed" -eq 0 ]
+finish

@@ -1,12 +1,12 @@
 """The commands and examples of pages.
 
-    pages.py PAGE              runs each command of a page, `    $ COMMAND`, and compares what it prints with the lines below it there; each
-                               indented block of Python, which begins with an import, with the module of bindings/python; and each
-                               table of lines with their replies as a script
-    pages.py --listed PAGE ..  that each command which a page names in its text stands in tests/pages.list, that each of the list stands on
-                               a page, and that each block of a page is run, quoted from a source or tried in a scratch repository
+    pages.py PAGE              runs each command of a page, `    $ COMMAND`, and compares its output with the lines below it; each
+                               indented block of Python that begins with an import, with the module of bindings/python; and each table
+                               of lines with their replies, as a script
+    pages.py --listed PAGE ..  that tests/pages.list has each command which a page names in its text, and no other; that each block of a
+                               page is run, quoted from a source or tried in a scratch repository; and that each link leads somewhere
     pages.py --ways            the ways by which tests/pages.sh runs commands of the list itself, a line each
-    pages.py --scratch FOLDER  makes a repository by the steps of the README's "From Rattle", with a test of its blocks
+    pages.py --scratch FOLDER  makes a repository by the steps of "Set up" in docs/LOG.md, with a test of their blocks
 """
 
 import difflib
@@ -17,6 +17,8 @@ import subprocess
 import sys
 
 LIST = "tests/pages.list"
+RATTLE = "docs/LOG.md"
+TESTS = "tests/README.md"
 BEGINNINGS = ("./", "cargo ", "cc ", "python3 ", "rt ", "sh ", "tools/")
 PYTHON = ("    from ", "    import ")
 TRIED = "<!-- tried in a scratch repository -->"
@@ -135,16 +137,32 @@ def listed():
     return found
 
 
+def anchors(page):
+    """The headings of a page, as links name them."""
+    heads = [line.lstrip("#").strip().lower() for line in read(page) if line.startswith("#")]
+    return {re.sub(r"[^\w\- ]", "", head).replace(" ", "-") for head in heads}
+
+
+def dead_links(page):
+    """The links of a page that lead to no file or to no heading."""
+    for target in re.findall(r"\]\(([^)\s]+)\)", "\n".join(read(page))):
+        path, _, anchor = target.partition("#")
+        file = os.path.normpath(os.path.join(os.path.dirname(page), path)) if path else page
+        if "://" not in target and not (os.path.exists(file) and (not anchor or anchor in anchors(file))):
+            yield f"{page}: nothing is at {target}"
+
+
 def is_script(way):
     return os.path.isfile(way)
 
 
 def compare_with_list(pages):
-    """Prints what stands on a page and isn't run, and what the list has in vain."""
+    """Prints what a page has and no test runs, its dead links, and what the list has in vain."""
     wrong, on_pages, ways = [], set(), listed()
-    for page in pages:
+    for page in [*pages, TESTS]:
         lines = read(page)
         on_pages |= named(lines)
+        wrong += dead_links(page)
         wrong += [f"{page}: `{command}` isn't in {LIST}" for command in sorted(named(lines) - set(ways))]
         for above, block in blocks(lines):
             is_run = block[0].startswith(("    $ ", *PYTHON)) or above.startswith(("<!-- quoted: ", TRIED))
@@ -157,9 +175,9 @@ def compare_with_list(pages):
 
 
 def scratch(folder):
-    """A repository of the README's steps: its crates, its lines and a crate whose one test is its blocks."""
-    lines = read("README.md")
-    steps = lines[lines.index("## From Rattle") :]
+    """A repository of the steps of docs/LOG.md: its crates, its lines and a crate whose one test is its blocks."""
+    lines = read(RATTLE)
+    steps = lines[lines.index("## Set up") :]
     text = "\n".join(steps)
     crates = set(re.findall(r"`(blob_\w+)`", next(line for line in steps if line.startswith("1. "))))
     own = re.search(r"`(my_log: [^`]*)`", text)[1]

@@ -1,21 +1,17 @@
 #!/bin/sh
 # Tests of the program as a user meets it: replies, exit statuses, failing streams, and the launcher ./blobcrash.
 # The last line is `N passed, M failed`.
-set -u
-
+# shellcheck disable=SC2016,SC2317,SC2119,SC2120
 top=$(CDPATH='' cd -- "$(dirname -- "$0")/.." && pwd -P)
-work=$(mktemp -d)
-trap 'rm -rf "$work"' EXIT
-passed=0
-failed=0
+# shellcheck source=tests/counting.sh
+. "$top/tests/counting.sh"
 
 # expect NAME STATUS OUTPUT ERRORS: compares what the last `run` left.
 expect() {
     if [ "$status" = "$2" ] && [ "$(cat "$work/out"; echo .)" = "$3." ] && [ "$(cat "$work/err")" = "$4" ]; then
-        passed=$((passed + 1))
+        pass
     else
-        failed=$((failed + 1))
-        echo "program.sh: $1: status $status, wanted $2"
+        fail "$1: status $status, wanted $2"
         echo "  out: $(head -c 400 "$work/out")"
         echo "  err: $(head -c 400 "$work/err")"
     fi
@@ -30,12 +26,7 @@ run() {
 line='
 '
 
-# Builds the program where that is still to be done, so that no test below sees the notice of a build.
-if ! "$top/blobcrash" resolve </dev/null >/dev/null; then
-    echo "program.sh: the program can't be built or started"
-    echo "0 passed, 1 failed"
-    exit 1
-fi
+need_program
 
 # One line, one reply.
 while IFS='|' read -r image reply; do
@@ -80,7 +71,7 @@ run "$top/blobcrash" resolve <"$work/in"
 expect 'a region without its last byte' 0 "create$line" ''
 
 # Arguments.
-usage='usage: blobcrash [explain|resolve|help|version]'
+usage='usage: blobcrash [resolve]'
 for words in 'resolve resolve' 'resolve --' 'Resolve' '--version' 'help help'; do
     # shellcheck disable=SC2086
     run "$top/blobcrash" $words </dev/null
@@ -93,11 +84,15 @@ expect 'an argument with a space' 2 '' "$usage"
 run "$top/blobcrash" "$(printf '\377')" </dev/null
 expect 'an argument that is not UTF-8' 2 '' "$usage"
 
-# Help, and the version with the toolchain that the README names. Another toolchain proves and builds the program as well:
-# it is told, and fails nothing.
+# Help, which names each command, and the version with the toolchain that the README names. Another toolchain proves and
+# builds the program as well: it is told, and fails nothing.
 for word in help --help; do
     run "$top/blobcrash" "$word" </dev/null
-    [ "$(head -n 1 "$work/out")" = "$usage" ] && grep -q '^  blobcrash resolve  ' "$work/out" && : >"$work/out"
+    missing=0
+    for named in '' ' explain' ' explore' ' resolve' ' help' ' version'; do
+        grep -q "^  blobcrash$named \( \|\[\)" "$work/out" || missing=1
+    done
+    [ "$missing" -eq 1 ] || : >"$work/out"
     expect "$word" 0 '' ''
 done
 run "$top/blobcrash" version </dev/null
@@ -188,49 +183,120 @@ in_place() { (cd "$work/a place" && CDPATH=/ "./to the top/blobcrash" resolve); 
 run in_place <"$work/in"
 expect 'from another directory' 0 "valid 0 7 8$line" ''
 
-# The launcher, over a toolchain that only says that it was asked and leaves a program that tells its arguments.
+# The launcher, with a toolchain that logs its arguments and makes a program that prints its own.
 copy=$work/copy
 tools=$work/tools
 mkdir -p "$copy/crates/blobcrash/src" "$copy/tools" "$tools"
-cp "$top/blobcrash" "$copy/blobcrash"
-cp "$top/tools/building.sh" "$copy/tools/building.sh"
-: >"$copy/crates.txt"
-: >"$copy/crates/blobcrash/src/main.rt"
-cat >"$tools/rt" <<'TOOL'
+cp "$top/blobcrash" "$top/HANDLES" "$copy"
+cp "$top/tools/building.sh" "$top/tools/prove" "$copy/tools"
+echo 'blobcrash:' >"$copy/crates.txt"
+main=$copy/crates/blobcrash/src/main.rt
+echo first >"$main"
+cat >"$tools/rt" <<TOOL
 #!/bin/sh
-echo asked >>../../asked
+echo "\$*" >>"$work/asked"
+[ "\$1" = ci ] || exec "$tools/try" "\$@"
 sleep 1
-mkdir -p out
-printf '#!/bin/sh\nfor word in "$@"; do echo "<$word>"; done\nexit 7\n' >out/blobcrash
-chmod +x out/blobcrash
-echo "what a build prints"
+mkdir -p crates/blobcrash/out
+printf '#!/bin/sh\nfor word in "\$@"; do echo "<\$word>"; done\ncat\nexit 7\n' >crates/blobcrash/out/blobcrash
+chmod +x crates/blobcrash/out/blobcrash
+echo "rt: blobcrash proved"
 TOOL
-chmod +x "$tools/rt"
-notice='blobcrash: building, which proves the program first (tens of minutes on first use)'
+cat >"$tools/try" <<'TOOL'
+#!/bin/sh
+shift 2
+for word in "$@"; do echo "[$word]"; done
+[ "${1:-}" = partly ] && exec echo 'run=none proved=no' >&2
+cat
+printf 'line 3: bad call\nchecked: ended status=2\nrun=ended status=2 runners=1 proved=no\n' >&2
+exit 2
+TOOL
+chmod +x "$tools/rt" "$tools/try"
 
-launch() { PATH=$tools:$PATH "$copy/blobcrash" "$@"; }
-launch one 'two words' </dev/null >"$work/first" 2>"$work/first.err" &
+# The minutes that are told depend on the number of processors.
+launch() {
+    PATH=$tools:$PATH "$copy/blobcrash" "$@" 2>"$work/told"
+    status=$?
+    sed 's/about [0-9]* minutes/about N minutes/' "$work/told" >&2
+    return "$status"
+}
+unproved() { (unset BLOBCRASH_PROVED && launch "$@"); }
+# asked NAME WANTED: the arguments of the toolchain since the last time.
+asked() {
+    : >"$work/err"
+    cp "$work/asked" "$work/out" 2>/dev/null || : >"$work/out"
+    rm -f "$work/asked"
+    status=0
+    expect "$1" 0 "$2" ''
+}
+note='not proved yet: ./blobcrash build proves and builds it, about N minutes'
+notice="proving 1 crates to build blobcrash, about N minutes${line}blobcrash is proved"
+
+echo 'open p 62' >"$work/in"
+run unproved <"$work/in"
+expect 'a script from a file is answered without a proof' 2 "open p 62$line" "$note${line}line 3: bad call"
+run unproved one 'two words' <"$work/in"
+expect 'its arguments' 2 "[one]${line}[two words]${line}open p 62$line" "$note${line}line 3: bad call"
+{ run unproved help; cat >>"$work/out"; } <"$work/in"
+expect 'help leaves its input alone' 2 "[help]${line}open p 62$line" "$note${line}line 3: bad call"
+asked 'nothing is built for these' "try --${line}try -- one two words${line}try -- help$line"
+run unproved partly <"$work/in"
+expect 'without a complete answer it is built and run' 7 "<partly>${line}open p 62$line" \
+    "$note${line}blobcrash: no complete answer from the unproved sources$line$notice"
+asked 'it was tried once' "try -- partly${line}ci$line"
+
+echo second >"$main"
+talk() { echo talk | unproved; }
+run talk
+expect 'a run that talks builds first' 7 "talk$line" "$notice"
+
+echo third >"$main"
+PATH=$tools:$PATH "$copy/blobcrash" one 'two words' </dev/null >"$work/first" 2>/dev/null &
 run launch one 'two words' </dev/null
+: >"$work/err"
 wait
-cat "$work/first.err" >>"$work/err"
-expect 'two first uses at once build once' 7 "<one>$line<two words>$line" "$notice"
+expect 'two first uses at once' 7 "<one>$line<two words>$line" ''
 cp "$work/first" "$work/out"
-cp "$copy/asked" "$work/err"
-expect 'the other first use' 7 "<one>$line<two words>$line" asked
+expect 'the other first use' 7 "<one>$line<two words>$line" ''
+asked 'the three builds' "ci${line}ci$line"
 run launch </dev/null
 expect 'a later use builds nothing' 7 '' ''
-: >"$copy/crates/blobcrash/src/main.rt"
+touch "$main"
 run launch </dev/null
-expect 'a newer source is built' 7 '' "$notice"
+expect 'a source with a new date alone' 7 '' ''
+echo second >"$main"
+run launch </dev/null
+expect 'a source as it was before' 7 '' ''
+mkdir "$copy/crates/blobcrash/must-fail" "$copy/crates/other"
+run launch </dev/null
+expect 'files that the program is not built of' 7 '' ''
+run launch build
+expect 'a build where nothing is to be done' 0 '' 'blobcrash: out/blobcrash is proved and built'
+asked 'none of these is built' ''
+echo fourth >"$main"
+run launch build
+expect 'a build' 0 '' "$notice${line}blobcrash: out/blobcrash is proved and built"
 
 printf '#!/bin/sh\necho "no proof of it"\nexit 1\n' >"$tools/rt"
-: >"$copy/crates/blobcrash/src/main.rt"
+echo fifth >"$main"
 run launch </dev/null
-expect 'a failed build' 125 '' "$notice${line}no proof of it${line}blobcrash: the build failed"
+expect 'a failed build' 125 '' "${notice%"$line"*}${line}no proof of it${line}blobcrash: the build failed; see out/build.log"
+
+# A fresh copy, with nothing built: the sources answer as the program does.
+fresh=$work/fresh
+top=$top sh -c '. "$top/tools/building.sh" && copy_crates "$1" blobcrash' sh "$fresh"
+cp "$top/blobcrash" "$fresh"
+cp -R "$top/tools" "$fresh"
+{ cat "$top/examples/FIRST.script"; echo 'no call'; } >"$work/in"
+"$program" <"$work/in" >"$work/right" 2>"$work/wrong"
+unbuilt() { (unset BLOBCRASH_PROVED && "$fresh/blobcrash" "$@"); }
+run unbuilt <"$work/in"
+sed -i 's/about [0-9]* minutes/about N minutes/' "$work/err"
+expect 'a script that the sources answer' 2 "$(cat "$work/right")$line" "$note$line$(cat "$work/wrong")"
 
 sed 's#/opt/rattle/#/opt/no_rattle/#g' "$top/blobcrash" >"$copy/blobcrash"
 no_toolchain() {
-    for tool in sh dirname find head mkdir flock; do
+    for tool in sh dirname find head mkdir flock sed awk sort tr xargs sha256sum cp mv rm ln ls cat; do
         place=$(command -v "$tool") && ln -sf "$place" "$work/a place/$tool"
     done
     PATH="$work/a place" "$copy/blobcrash"
@@ -239,5 +305,4 @@ run no_toolchain </dev/null
 expect 'no toolchain' 127 '' "blobcrash: the program isn't built yet, and the Rattle toolchain is missing:\
  there is no rt on PATH, and no /opt/no_rattle/bin/rt"
 
-echo "$passed passed, $failed failed"
-[ "$failed" -eq 0 ]
+finish

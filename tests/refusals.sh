@@ -3,45 +3,30 @@
 #
 # Each public call that takes memory is tried with each of its requests refused, alone and with all that come after it, and
 # each call that takes none with every request refused; then whole scripts with each request of the program refused.
-# The last line is `N passed, M failed`. Without a C compiler nothing is tried.
-set -u
-
+# The last line is `N passed, M failed`.
 top=$(CDPATH='' cd -- "$(dirname -- "$0")/.." && pwd -P)
-if ! command -v cc >/dev/null 2>&1; then
-    echo "refusals.sh: skipped, since there is no cc to build the library with"
-    echo "0 passed, 0 failed"
-    exit 0
-fi
+# shellcheck source=tests/counting.sh
+. "$top/tests/counting.sh"
 # In memory where that can be had, since thousands of small files are written.
+rmdir "$work"
 work=$(mktemp -d -p /dev/shm 2>/dev/null) || work=$(mktemp -d)
-trap 'rm -rf "$work"' EXIT
-passed=0
-failed=0
+if ! has cc; then
+    skip 'refused memory and failing streams, for want of cc'
+    finish
+fi
 library=$work/refuse.so
-line='
-'
 
-pass() { passed=$((passed + 1)); }
-
-# fail TEXT: counts a failure, and shows what the last run printed.
-fail() {
-    failed=$((failed + 1))
-    echo "refusals.sh: $1"
+# wrong TEXT: counts a failure, and shows what the last run printed.
+wrong() {
+    fail "$1"
     echo "  out: $(head -c 300 "$work/out")"
     echo "  err: $(head -c 300 "$work/err")"
 }
 
-give_up() {
-    echo "refusals.sh: $1"
-    echo "0 passed, 1 failed"
-    exit 1
-}
-
 cc -shared -fPIC -O2 -o "$library" "$top/tests/refusals/refuse.c" || give_up "the library can't be built"
-"$top/blobcrash" resolve </dev/null >/dev/null || give_up "blobcrash can't be built or started"
+need_program
 tried=$top/crates/blob_play/data/refusals.calls
-calls=$("$top/tools/built" blob_play "$tried") || give_up "blob_play can't be built"
-program=$top/out/blobcrash
+calls=$("$top/tools/built" blob_play) || give_up "blob_play can't be built"
 
 # under NAME=VALUE.. COMMAND..: runs it with the library, and leaves its status, what it printed and the library's counts.
 under() {
@@ -68,7 +53,7 @@ sweep() {
         under REFUSE="$n" ${2:-} "$calls" try "$tried" "$name"
         tally
         if [ "$status" -ne 0 ] || [ -z "$refusals" ]; then
-            fail "'$name' with request $n refused${2:+, and all after it}"
+            wrong "'$name' with request $n refused${2:+, and all after it}"
             return
         fi
         [ "$refusals" -ne 0 ] || break
@@ -76,7 +61,7 @@ sweep() {
         all_comparisons=$((all_comparisons + comparisons))
     done
     if [ "$n" -eq 1 ]; then
-        fail "'$name' takes memory, and no request was refused"
+        wrong "'$name' takes memory, and no request was refused"
     else
         pass
     fi
@@ -102,7 +87,7 @@ while IFS= read -r name; do
     if [ "$status" -eq 0 ] && [ "$refusals" = 0 ] && [ "$counted" = 0 ]; then
         pass
     else
-        fail "'$name' takes no memory"
+        wrong "'$name' takes no memory"
     fi
 done <"$work/steady"
 echo "refusals.sh: $growing calls that take memory: $all_refusals refusals, $all_comparisons comparisons;" \
@@ -150,13 +135,13 @@ refuse_script() {
         elif [ "$status" -eq 0 ] && [ ! -s "$work/err" ] && is_one_refused; then
             told=$((told + 1))
         else
-            fail "$script with request $n refused: status $status"
+            wrong "$script with request $n refused: status $status"
         fi
     done
     if [ "$status" -eq 0 ] && [ "$refused" = 0 ] && cmp -s "$work/right" "$work/out" && [ "$told" -gt 0 ]; then
         pass
     else
-        fail "$script with no request refused: status $status"
+        wrong "$script with no request refused: status $status"
     fi
     echo "refusals.sh: $(basename "$script"): $ended refusals ended it, $told were a call's"
 }
@@ -164,6 +149,40 @@ refuse_script() {
 for script in "$top"/tests/refusals/*.script "$top/examples/FIRST.script"; do
     refuse_script "$script"
 done
+
+# `explain`: each request of the program refused in turn. It ends the program after a front of the right replies, or the replies are
+# those of the script, or those of the script without the call that was refused. Pictures aren't compared.
+refuse_explain() {
+    script=$1
+    rm -f "$work"/without.*
+    "$program" <"$script" >"$work/right"
+    "$program" explain <"$script" >"$work/pictures"
+    ended=0
+    told=0
+    n=0
+    while :; do
+        n=$((n + 1))
+        under REFUSE="$n" REFUSE_ALL=1 "$program" explain <"$script"
+        [ "$refused" = 1 ] || break
+        sed '/^# /d' "$work/out" >"$work/replies"
+        mv "$work/replies" "$work/out"
+        if [ "$status" -eq 3 ] && [ "$(cat "$work/err")" = 'no memory' ] && is_front; then
+            ended=$((ended + 1))
+        elif [ "$status" -eq 0 ] && [ ! -s "$work/err" ] && { cmp -s "$work/right" "$work/out" || is_one_refused; }; then
+            told=$((told + 1))
+        else
+            fail "explain of $script with request $n refused: status $status"
+        fi
+    done
+    if [ "$status" -eq 0 ] && [ "$refused" = 0 ] && cmp -s "$work/pictures" "$work/out" && [ "$ended" -gt 0 ]; then
+        pass
+    else
+        fail "explain of $script with no request refused: status $status"
+    fi
+    echo "refusals.sh: explain $(basename "$script"): $ended refusals ended it, $told were a call's"
+}
+
+refuse_explain "$top/tests/refusals/kept.script"
 
 # A read fails at each place: the replies to the lines that were read whole stand.
 fail_reads() {
@@ -178,7 +197,7 @@ fail_reads() {
         under REFUSE_SHORT=1 REFUSE_READ="$n" "$program" <"$script"
         head -n "$whole" "$work/right" >"$work/wanted"
         if [ "$status" -ne 1 ] || [ "$(cat "$work/err")" != 'input failed' ] || ! cmp -s "$work/wanted" "$work/out"; then
-            fail "$script with read $n failing: status $status"
+            wrong "$script with read $n failing: status $status"
             return
         fi
     done <"$work/whole"
@@ -186,7 +205,7 @@ fail_reads() {
     if [ "$status" -eq 0 ] && cmp -s "$work/right" "$work/out"; then
         pass
     else
-        fail "$script in reads of one byte: status $status"
+        wrong "$script in reads of one byte: status $status"
     fi
     echo "refusals.sh: $(basename "$script"): $n failing reads"
 }
@@ -202,14 +221,14 @@ fail_writes() {
         [ "$refused" = 1 ] || break
         if [ "$status" -ne 1 ] || [ "$(cat "$work/err")" != 'output failed' ] ||
             ! head -c "$(wc -c <"$work/out")" "$work/right" | cmp -s - "$work/out"; then
-            fail "$input with write $n failing: status $status"
+            wrong "$input with write $n failing: status $status"
             return
         fi
     done
     if [ "$status" -eq 0 ] && cmp -s "$work/right" "$work/out" && [ "$n" -gt 1 ]; then
         pass
     else
-        fail "$input in writes of $2 bytes: status $status"
+        wrong "$input in writes of $2 bytes: status $status"
     fi
     echo "refusals.sh: $(basename "$input"): $((n - 1)) failing writes"
 }
@@ -233,12 +252,12 @@ fail_resolve_reads() {
         under REFUSE_SHORT=1 REFUSE_READ="$n" "$program" resolve <"$work/image"
         [ "$refused" = 1 ] || break
         if [ "$status" -ne 1 ] || [ -s "$work/out" ] || [ "$(cat "$work/err")" != 'input failed' ]; then
-            fail "resolve with read $n failing: status $status"
+            wrong "resolve with read $n failing: status $status"
             return
         fi
     done
     # the line has 17 bytes
-    if [ "$status" -eq 0 ] && [ "$n" -eq 18 ]; then pass; else fail "resolve in reads of one byte: status $status"; fi
+    if [ "$status" -eq 0 ] && [ "$n" -eq 18 ]; then pass; else wrong "resolve in reads of one byte: status $status"; fi
 }
 
 # refuse_resolve INPUT REPLY LEAST: the program's own requests end it, and one that is the call's is its reply; of these
@@ -253,14 +272,14 @@ refuse_resolve() {
         if [ "$status" -eq 0 ] && [ "$(cat "$work/out")" = 'error Memory' ] && [ ! -s "$work/err" ]; then
             told=$((told + 1))
         elif [ "$status" -ne 3 ] || [ -s "$work/out" ] || [ "$(cat "$work/err")" != 'no memory' ]; then
-            fail "resolve with request $n refused: status $status"
+            wrong "resolve with request $n refused: status $status"
             return
         fi
     done
     if [ "$status" -eq 0 ] && [ "$(cat "$work/out")" = "$2" ] && [ "$told" -ge "$3" ] && [ "$n" -gt 1 ]; then
         pass
     else
-        fail "resolve with no request refused: status $status, $told refusals told"
+        wrong "resolve with no request refused: status $status, $told refusals told"
     fi
 }
 
@@ -269,5 +288,4 @@ fail_writes "$work/image" 1 resolve
 refuse_resolve "$work/image" 'valid 0 7 8' 0
 refuse_resolve "$work/refused image" 'error BlobCorrupt image 626c6f62 truncated header: required length 12, raw length 10' 1
 
-echo "$passed passed, $failed failed"
-[ "$failed" -eq 0 ]
+finish

@@ -1,18 +1,10 @@
 #!/bin/sh
 # The player of rows (crates/blob_play): rows that are wrong are told by file, line, call, what was wanted and what was found, and
 # a file that isn't there is told too; both with status 1. The last line is `N passed, M failed`.
-set -u
-
 top=$(CDPATH='' cd -- "$(dirname -- "$0")/.." && pwd -P)
-work=$(mktemp -d)
-trap 'rm -rf "$work"' EXIT
-passed=0
-failed=0
-program=$("$top/tools/built" blob_play) || {
-    echo "rows.sh: blob_play can't be built"
-    echo "0 passed, 1 failed"
-    exit 1
-}
+# shellcheck source=tests/counting.sh
+. "$top/tests/counting.sh"
+program=$("$top/tools/built" blob_play) || give_up "blob_play can't be built"
 
 # check NAME STATUS OUTPUT FILE..: plays files of tests/rows.
 check() {
@@ -23,10 +15,9 @@ check() {
     (cd "$top/tests/rows" && "$program" "$@") >"$work/out" 2>"$work/err"
     status=$?
     if [ "$status" -eq "$wanted" ] && cmp -s "$work/out" "$output"; then
-        passed=$((passed + 1))
+        pass
     else
-        failed=$((failed + 1))
-        echo "rows.sh: $name: status $status, wanted $wanted"
+        fail "$name: status $status, wanted $wanted"
         diff "$output" "$work/out"
     fi
 }
@@ -35,5 +26,4 @@ check 'wrong rows' 1 "$top/tests/rows/wrong.out" wrong.rows
 check 'no such file' 1 /dev/null none.rows
 check 'right rows' 0 "$top/tests/rows/right.out" right.rows
 
-echo "$passed passed, $failed failed"
-[ "$failed" -eq 0 ]
+finish

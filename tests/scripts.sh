@@ -2,14 +2,10 @@
 # Worked scripts: runs each tests/scripts/NAME.script and compares its standard output with NAME.out, its exit status with
 # NAME.status and its standard error with NAME.err, all to the byte; without these two files, 0 and nothing. Then runs
 # each line of bad_lines.txt alone, which is no call. The last line is `N passed, M failed`.
-set -u
-
 top=$(CDPATH='' cd -- "$(dirname -- "$0")/.." && pwd -P)
 scripts=$top/tests/scripts
-work=$(mktemp -d)
-trap 'rm -rf "$work"' EXIT
-passed=0
-failed=0
+# shellcheck source=tests/counting.sh
+. "$top/tests/counting.sh"
 : >"$work/none"
 
 # expect NAME STATUS OUTPUT ERRORS: runs the script on standard input; OUTPUT and ERRORS are files.
@@ -17,29 +13,23 @@ expect() {
     "$top/blobcrash" >"$work/out" 2>"$work/err"
     status=$?
     if [ "$status" = "$2" ] && cmp -s "$work/out" "$3" && cmp -s "$work/err" "$4"; then
-        passed=$((passed + 1))
+        pass
     else
-        failed=$((failed + 1))
-        echo "scripts.sh: $1: status $status, wanted $2"
+        fail "$1: status $status, wanted $2"
         diff "$3" "$work/out"
         diff "$4" "$work/err"
     fi
 }
 
-# Builds the program where that is still to be done, so that no test below sees the notice of a build.
-if ! "$top/blobcrash" resolve </dev/null >/dev/null; then
-    echo "scripts.sh: the program can't be built or started"
-    echo "0 passed, 1 failed"
-    exit 1
-fi
+need_program
 
-for script in "$scripts"/*.script; do
-    name=${script%.script}
+for worked in "$scripts"/*.script; do
+    name=${worked%.script}
     wanted=0
     [ ! -e "$name.status" ] || wanted=$(cat "$name.status")
     errors=$work/none
     [ ! -e "$name.err" ] || errors=$name.err
-    expect "${name##*/}" "$wanted" "$name.out" "$errors" <"$script"
+    expect "${name##*/}" "$wanted" "$name.out" "$errors" <"$worked"
 done
 
 echo 'line 1: bad call' >"$work/bad"
@@ -48,5 +38,4 @@ while IFS= read -r line; do
     expect "bad line '$line'" 2 "$work/none" "$work/bad" <"$work/in"
 done <"$scripts/bad_lines.txt"
 
-echo "$passed passed, $failed failed"
-[ "$failed" -eq 0 ]
+finish

@@ -1,17 +1,12 @@
 #!/bin/sh
 # Tests of tools/shrink. The last line is `N passed, M failed`.
-set -u
-
 top=$(CDPATH='' cd -- "$(dirname -- "$0")/.." && pwd -P)
-if ! command -v python3 >/dev/null 2>&1; then
-    echo "shrink.sh: there is no python3, so tools/shrink isn't tested"
-    echo "0 passed, 0 failed"
-    exit 0
+# shellcheck source=tests/counting.sh
+. "$top/tests/counting.sh"
+if ! has python3; then
+    skip 'tools/shrink, for want of python3'
+    finish
 fi
-work=$(mktemp -d)
-trap 'rm -rf "$work"' EXIT
-passed=0
-failed=0
 
 # expect NAME STATUS OUTPUT COMMAND..: shrinks $work/script by the command.
 expect() {
@@ -22,10 +17,9 @@ expect() {
     found=$("$top/tools/shrink" "$work/script" "$@" 2>"$work/err"; echo "status $?")
     if [ "$found" = "$output${output:+
 }status $wanted" ]; then
-        passed=$((passed + 1))
+        pass
     else
-        failed=$((failed + 1))
-        echo "shrink.sh: $name: '$found'"
+        fail "$name: '$found'"
         cat "$work/err"
     fi
 }
@@ -47,7 +41,7 @@ printf 'a\nb' >"$work/script"
 expect 'a last line without an end' 0 b sh -c '! grep -qx b'
 
 # A script: something was done before a crash, and the last open behind it finds an empty blob.
-"$top/blobcrash" resolve </dev/null >/dev/null
+need_program
 cat >"$work/script" <<'SCRIPT'
 # a store with two blobs
 words 0 max
@@ -72,5 +66,4 @@ sync 0
 crash
 open p 62' sh "$work/check" "$top" "$work"
 
-echo "$passed passed, $failed failed"
-[ "$failed" -eq 0 ]
+finish

@@ -2,28 +2,19 @@
 # A database of the toolchain on disks that fail (crates/blob_sql): 300 seeds of each mode, of which no row may be wrong, and
 # then with a sync that does nothing, of which rows have to be wrong in every mode.
 # SEEDS gives another number of seeds. The last line is `N passed, M failed`.
-set -u
-
 top=$(CDPATH='' cd -- "$(dirname -- "$0")/.." && pwd -P)
-work=$(mktemp -d)
-trap 'rm -rf "$work"' EXIT
-passed=0
-failed=0
-program=$("$top/tools/built" blob_sql) || {
-    echo "sql.sh: blob_sql can't be built"
-    echo "0 passed, 1 failed"
-    exit 1
-}
+# shellcheck source=tests/counting.sh
+. "$top/tests/counting.sh"
+program=$("$top/tools/built" blob_sql) || give_up "blob_sql can't be built"
 
 # check NAME CONDITION..: one test.
 check() {
     name=$1
     shift
     if "$@"; then
-        passed=$((passed + 1))
+        pass
     else
-        failed=$((failed + 1))
-        echo "sql.sh: $name"
+        fail "$name"
         head -n 40 "$work/out"
     fi
 }
@@ -44,5 +35,4 @@ check 'in every mode' [ "$(awk '/ (one|two) / && NF == 9 && $9 > 0' "$work/out" 
 status=$?
 check 'other arguments are refused' [ "$status" -eq 2 ]
 
-echo "$passed passed, $failed failed"
-[ "$failed" -eq 0 ]
+finish

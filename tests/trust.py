@@ -1,10 +1,16 @@
-"""The trusted text: which files of specs/ the contracts of the program's calls lead to, definition by definition, by what the
-files import. Compares them with the rows of docs/TRUST.md, where each file stands behind those that it leads to; with `list`
-prints them, each with the definitions that count. And no two files of specs/ define one name. The last line is
-`N passed, M failed`."""
+"""The trusted definitions: those of specs/ that the contracts of the program's calls lead to, by the imports of the files.
+
+    trust.py         compares them with the table in docs/PROOFS.md, and checks that no two files of one crate's specs/ define a name.
+                     The last line is `N passed, M failed`
+    trust.py write   writes that table again, into the page or a copy of it
+    trust.py text    prints the definitions with their comments, in reading order
+
+A name decides, so a variable with the name of an imported definition counts as a use of it."""
 
 import collections
+import difflib
 import glob
+import itertools
 import os
 import re
 import sys
@@ -13,10 +19,15 @@ import sys
 CALLS = [
     ("crates/blob_laboratory/src/lab.rt", "new"),
     ("crates/blob_laboratory/src/lab.rt", "run"),
-    ("crates/blob_lab/src/run_script.rt", "run_script"),
-    ("crates/blob_lab/src/run_resolve.rt", "run_resolve"),
+    ("crates/blob_laboratory/src/lab/applying.rt", "apply"),
+    ("crates/blob_laboratory/src/lab/applying.rt", "wrapper"),
+    ("crates/blob_lab/src/scripts.rt", "serve_script"),
+    ("crates/blob_lab/src/resolutions.rt", "serve_resolve"),
 ]
-PAGE = "docs/TRUST.md"
+PAGE = "docs/PROOFS.md"
+# The table of the page: between its head and the heading after it.
+BEGIN = "| crate | files of its `specs/` | definitions |\n|---|---|---|\n"
+END = "\n\n<!-- end of the table -->"
 IMPORT = re.compile(r"^\s*(?:pub )?(?:ghost )?use Rattle\.(\w+)\.specs\.([\w.]+)\.\{([^}]*)\}", re.M)
 ALIAS = re.compile(r"^\s*(?:ghost )?use Rattle\.(\w+)\.specs\.([\w.]+) as (\w+)", re.M)
 PASSED_ON = re.compile(r"^pub use Rattle\.(\w+)\.specs\.([\w.]+)$", re.M)
@@ -33,6 +44,18 @@ WITHIN = re.compile(r"^\s+(?:pub )?(?:abbrev|unfoldable|reducible|record|data) (
 def read(path):
     with open(path, encoding="utf-8") as file:
         return file.read()
+
+
+def depths():
+    """The crates, each after those that it uses."""
+    below = {}
+    for line in read("crates.txt").splitlines():
+        crate, _, uses = line.partition(":")
+        below[crate.split()[0]] = uses.split()
+    done = []
+    while len(done) < len(below):
+        done += sorted(c for c in below if c not in done and not set(below[c]) & below.keys() - set(done))
+    return done
 
 
 class Names:
@@ -63,6 +86,7 @@ class Specs:
 
     def __init__(self):
         self.files, self.names, self.lines, self.part_of, self.passed_on = {}, {}, {}, {}, {}
+        self.comments = {}
         for path in sorted(glob.glob("crates/*/specs/**/*.antt", recursive=True)):
             _, crate, _, inner = path.split("/", 3)
             text = read(path)
@@ -73,13 +97,19 @@ class Specs:
             self.read_definitions(module, text)
 
     def read_definitions(self, module, text):
-        now, own = None, self.names[module].of
+        now, own, comment = None, self.names[module].of, []
         for line in text.split("\n"):
-            if not line.strip() or line.startswith(("--", "use ", "pub use ", "mod ", "pub mod ")):
+            if line.startswith("--"):
+                comment.append(line)
+                continue
+            if not line.strip() or line.startswith(("use ", "pub use ", "mod ", "pub mod ")):
+                comment = []
                 continue
             begins = BEGINS.match(line)
             if begins and (MARKED.match(line) or SIGNED.match(line)):
                 now = own[begins[1]] = (module, begins[1])
+                self.comments[now] = comment
+            comment = []
             if now:
                 self.lines.setdefault(now, []).append(line)
                 parts = PART.match(line)
@@ -136,45 +166,79 @@ def trusted(specs):
 
 
 def defined_twice(specs):
-    """The names that more than one file of specs/ defines, with these files."""
+    """The names that more than one file of a crate's specs/ defines, with these files."""
     paths = collections.defaultdict(set)
     for module, name in specs.lines:
-        paths[name].add(specs.files[module])
-    for path in specs.files.values():
+        paths[module[0], name].add(specs.files[module])
+    for module, path in specs.files.items():
         for name in WITHIN.findall(read(path)):
-            paths[name].add(path)
-    return [(name, sorted(found)) for name, found in sorted(paths.items()) if len(found) > 1]
+            paths[module[0], name].add(path)
+    return [(name, sorted(found)) for (_, name), found in sorted(paths.items()) if len(found) > 1]
 
 
-def main(what):
+def order(specs, found):
+    """The files of these definitions, each after those that it leads to, and by crate where that leaves a choice."""
+    below = collections.defaultdict(set)
+    for key in found:
+        below[key[0]].update(to[0] for to in specs.leads(key) if to[0] != key[0])
+    todo, done, crate = sorted(below), [], None
+    while todo:
+        ready = [module for module in todo if not below[module] - set(done)]
+        if not ready:
+            sys.exit(f"trust: these files lead to one another: {todo}")
+        now = min(ready, key=lambda module: (module[0] != crate, CRATES.index(module[0]), module))
+        crate = now[0]
+        todo.remove(now)
+        done.append(now)
+    return done
+
+
+def table(specs, found):
+    """The rows of the page: neighbours of one crate in a row, and the count."""
+    rows, counts = [], collections.Counter(module for module, _ in found)
+    for crate, modules in itertools.groupby(order(specs, found), key=lambda module: module[0]):
+        modules = list(modules)
+        names = ", ".join(f"`{name}`" for _, name in modules)
+        rows.append(f"| `{crate}` | {names} | {sum(counts[module] for module in modules)} |")
+    return rows + ["", f"{len(found)} definitions, {sum(len(specs.lines[key]) for key in found)} lines."]
+
+
+def show(specs, found):
+    """Prints the definitions with the comments above them, in reading order."""
+    for module in order(specs, found):
+        print(f"==== {specs.files[module]}\n")
+        for key, lines in specs.lines.items():
+            if key in found and key[0] == module:
+                print("\n".join(specs.comments.get(key, []) + lines) + "\n")
+
+
+def main(what, page_path):
     specs = Specs()
     found = trusted(specs)
-    by_file = collections.defaultdict(list)
-    for module, name in found:
-        by_file[specs.files[module]].append(name)
-    if what == "list":
-        for path in sorted(by_file):
-            print(f"{path}: {' '.join(sorted(by_file[path]))}")
-        print(f"{len(found)} definitions, {sum(len(specs.lines[key]) for key in found)} lines")
+    if what == "text":
+        show(specs, found)
         return 0
-    told = re.findall(r"^\| \[?`(crates/[^`]*\.antt)`", read(PAGE), re.M)
-    faults = [f"missing: {path}" for path in sorted(by_file.keys() - set(told))]
-    faults += [f"no contract leads to: {path}" for path in told if path not in by_file]
-    faults += [f"told twice: {path}" for path, count in collections.Counter(told).items() if count > 1]
-    place = {path: at for at, path in enumerate(told)}
-    before = {(specs.files[to[0]], specs.files[key[0]]) for key in found for to in specs.leads(key)}
-    for low, high in sorted(before):
-        if place.get(low, -1) > place.get(high, len(told)):
-            faults.append(f"{high} stands before {low}, to which it leads")
-    for fault in faults:
-        print(f"{PAGE}: {fault}")
+    wanted, page = table(specs, found), read(page_path)
+    before, _, rest = page.partition(BEGIN)
+    told, _, after = rest.partition(END)
+    if what == "write":
+        with open(page_path, "w", encoding="utf-8") as file:
+            file.write(before + BEGIN + "\n".join(wanted) + END + after)
+        return 0
+    failed = 0
+    if told.split("\n") != wanted:
+        failed += 1
+        print(f"{PAGE} differs from what the contracts lead to: sh tests/trust.sh write")
+        print("\n".join(difflib.unified_diff(told.split("\n"), wanted, "page", "found", lineterm="")))
     twice = defined_twice(specs)
     for name, paths in twice:
+        failed += 1
         print(f"{name} is defined in {' and '.join(paths)}")
-    print(f"{len(by_file.keys() & set(told)) + (not twice)} passed, {len(faults) + len(twice)} failed")
-    return int(bool(faults or twice))
+    print(f"{2 - min(failed, 2)} passed, {failed} failed")
+    return int(failed > 0)
 
 
 if __name__ == "__main__":
     os.chdir(os.path.dirname(os.path.dirname(os.path.abspath(__file__))))
-    sys.exit(main(sys.argv[1] if len(sys.argv) > 1 else ""))
+    CRATES = depths()
+    sys.exit(main(sys.argv[1] if len(sys.argv) > 1 else "", sys.argv[2] if len(sys.argv) > 2 else PAGE))

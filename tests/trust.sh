@@ -1,13 +1,11 @@
 #!/bin/sh
-# That docs/TRUST.md names the files of specs/ which the contracts of the program's calls lead to, in reading order, and that no
-# two files of specs/ define one name. `trust.sh list` prints the files with their definitions. The last line is
-# `N passed, M failed`.
-set -u
-
+# That docs/PROOFS.md lists the trusted definitions, and that no two files of one crate's specs/ define a name. `trust.sh text` prints these
+# definitions, `trust.sh write` updates the page. The last line is `N passed, M failed`.
 top=$(CDPATH='' cd -- "$(dirname -- "$0")/.." && pwd -P)
-if ! python3 -c 'import sys; sys.exit(sys.version_info < (3, 8))' 2>/dev/null; then
-    echo "trust.sh: there is no python3, so the trusted files aren't compared"
-    echo "0 passed, 0 failed"
-    exit 0
+# shellcheck source=tests/counting.sh
+. "$top/tests/counting.sh"
+if ! has_python; then
+    skip 'the list of trusted files, for want of a Python from 3.8 on'
+    finish
 fi
-exec python3 "$top/tests/trust.py" "$@"
+python3 "$top/tests/trust.py" "$@"

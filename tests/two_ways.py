@@ -1,4 +1,4 @@
-"""The two ways of the module for Python, by a pipe and in this process: the same calls have the same replies and errors, and the
+"""The two ways of the module for Python, by a pipe and in this process: the same calls have the same replies, errors and script, and the
 log of examples/ goes the same way. In this process, over 200 seeds, it keeps its promise; where it forgets a sync, that is found."""
 
 import os
@@ -8,7 +8,7 @@ TOP = os.path.dirname(os.path.dirname(os.path.abspath(__file__)))
 sys.path.insert(0, os.path.join(TOP, "examples"))
 
 import log  # which finds the module
-from blobcrash import Library, Program, StorageError, Store
+from blobcrash import Library, Program, StaleHandle, StorageError, Store
 
 LINES = [
     "remove p",
@@ -18,6 +18,7 @@ LINES = [
     "open p 63 2 1",
     "open p 62",
     "open p 62",
+    "frob",
     "write 0 18446744073709551615 6162",
     "write 0 0 616263",
     "read 0 1 2",
@@ -25,6 +26,7 @@ LINES = [
     "scan p",
     "config write 0 1 1 2 subset",
     "write 0 0 646566",
+    "# a comment",
     "crash",
     "reopen",
     "open p 62",
@@ -43,6 +45,8 @@ def told(by):
                 answers.append(call(*arguments))
             except StorageError as error:
                 answers.append((type(error).__name__, error.reply, error.fields))
+            except (StaleHandle, ValueError) as error:
+                answers.append((type(error).__name__, str(error)))
 
         for line in LINES:
             ask(store.call, line)
@@ -59,8 +63,12 @@ def told(by):
         ask(blob.resize, 2)
         ask(store.crash)
         store.note("a note")
+        ask(blob.read, 0, 1)
+        ask(blob.close)
         ask(blob.close)
         ask(blob.read, 0, 1)
+        store.open("wal", b"")
+        ask(store.restart)
         answers.append(store.script)
     return answers
 

@@ -1,0 +1,92 @@
+#!/bin/sh
+# Tests the counts of tests/counting.sh and of ./test, with a toolchain that only says that the gate passed, and the table of
+# tests/times.py. The last line is `N passed, M failed`.
+# shellcheck disable=SC2016,SC2317
+top=$(CDPATH='' cd -- "$(dirname -- "$0")/.." && pwd -P)
+# shellcheck source=tests/counting.sh
+. "$top/tests/counting.sh"
+
+# expect NAME STATUS OUTPUT COMMAND..: runs it, and compares its status and the end of what it prints.
+expect() {
+    what=$1
+    wanted=$2
+    output=$3
+    shift 3
+    "$@" >"$work/out" 2>&1 </dev/null
+    status=$?
+    if [ "$status" -eq "$wanted" ] && [ "$(tail -n "$(echo "$output" | wc -l)" "$work/out")" = "$output" ]; then
+        pass
+    else
+        fail "$what: status $status, wanted $wanted"
+        tail -n 20 "$work/out"
+    fi
+}
+
+# A repository with scripts that do what this test says.
+copy=$work/copy
+mkdir -p "$copy/crates/blob_c/src" "$copy/tools" "$copy/tests" "$copy/bindings" "$work/tools"
+cp "$top/test" "$top/HANDLES" "$copy"
+cp "$top/tools/building.sh" "$copy/tools"
+cp "$top/tests/counting.sh" "$top/tests/times.py" "$copy/tests"
+echo 'blob_c staticlib:' >"$copy/crates.txt"
+: >"$copy/crates/blob_c/src/lib.rt"
+echo 'blob_c 1 0 0' >"$copy/tests/budget.txt"
+echo 'exit 1' >"$copy/bindings/build.sh"
+printf '#!/bin/sh\necho "3 passed, 0 failed"\n' >"$work/tools/rt"
+chmod +x "$work/tools/rt"
+
+# script NAME LINE ..: writes a script of the copy, with these lines between its first and its last.
+script() {
+    name=$1
+    shift
+    {
+        printf 'top=%s\n. "$top/tests/counting.sh"\n' "'$copy'"
+        printf '%s\n' "$@"
+        echo finish
+    } >"$copy/tests/$name.sh"
+}
+for name in pages refusals sql bindings; do script "$name" pass; done
+run_test() { (unset RT_JOBS && cd "$copy" && PATH=$work/tools:$PATH ./test); }
+
+script own pass pass
+expect 'a script' 0 '2 passed, 0 failed' sh "$copy/tests/own.sh"
+expect 'all scripts' 0 '9 passed, 0 failed' run_test
+cp "$work/out" "$work/all"
+expect 'each script is timed' 0 '' grep -q '^tests/own.sh: [0-9]* seconds$' "$work/all"
+
+script own pass 'skip "the other half, for want of a tool"'
+expect 'a skipped test' 0 'own.sh: skipped: the other half, for want of a tool
+1 passed, 0 failed, 1 skipped' env CI=false sh "$copy/tests/own.sh"
+expect 'a skipped test where tools have to be there' 1 'own.sh: skipped: the other half, for want of a tool
+1 passed, 1 failed' env CI=true sh "$copy/tests/own.sh"
+CI=false
+export CI
+expect 'skipped tests are counted' 0 '8 passed, 0 failed, 1 skipped' run_test
+
+script own pass 'fail "it is wrong"'
+expect 'a failure' 1 'own.sh: it is wrong
+1 passed, 1 failed' sh "$copy/tests/own.sh"
+expect 'failures are counted' 1 '8 passed, 1 failed' run_test
+script own pass 'give_up "there is no program"' pass
+expect 'what all others need' 1 'own.sh: there is no program
+1 passed, 1 failed' sh "$copy/tests/own.sh"
+script own pass 'exit 0'
+expect 'a script without a last line' 1 '7 passed, 1 failed' run_test
+
+# The table, with a crate more than a fifth above its budget and one without a budget.
+printf 'blob_a 100 20 0\nblob_b 100 21 0\nblob_d 1 2 3\n' >"$work/times"
+printf '# crate proof edits tests\nblob_a 50 50 0 # raised\nblob_b 50 50 0\n' >"$work/budget"
+expect 'the table' 0 "\
+processor seconds    proof   edits   tests     all  budget
+blob_a                 100      20       0     120     100
+blob_b                 100      21       0     121     100
+blob_d                   1       2       3       6    none
+all                    201      43       3     247     200
+warning: blob_b took 121 processor seconds, more than a fifth above the 100 of $work/budget
+warning: blob_d has no line in $work/budget" python3 "$top/tests/times.py" table "$work/times" "$work/budget"
+: >"$work/times"
+expect 'a run that proves nothing' 0 "\
+processor seconds    proof   edits   tests     all  budget
+all                      0       0       0       0     200" python3 "$top/tests/times.py" table "$work/times" "$work/budget"
+
+finish

@@ -1,0 +1,159 @@
+#!/bin/sh
+# The real SQLite on the layer (bindings/sqlite): 50 seeds of each mode at FULL and EXTRA, in which nothing may be lost; modes that
+# may lose something, and a lying sync, which must be found out; the VFS from C, the extension from Python, the examples, and all
+# of the C under the sanitizers. BLOBCRASH_ARCHIVE names a library that is built already; SEEDS is another number of seeds.
+# The last line is `N passed, M failed`, with `, K skipped` if a tool is missing.
+top=$(CDPATH='' cd -- "$(dirname -- "$0")/.." && pwd -P)
+# shellcheck source=tests/counting.sh
+. "$top/tests/counting.sh"
+cd "$top" || exit 1
+export PYTHONDONTWRITEBYTECODE=1
+
+# check NAME CONDITION..: one test.
+check() {
+    name=$1
+    shift
+    if "$@"; then
+        pass
+    else
+        fail "$name"
+        head -n 40 "$work/out" "$work/err"
+    fi
+}
+
+# run STATUS COMMAND..: whether a command ends with this status. What it prints is in $work/out and $work/err.
+run() {
+    wanted=$1
+    shift
+    "$@" >"$work/out" 2>"$work/err"
+    [ $? -eq "$wanted" ]
+}
+
+# all_rows VERDICT COUNT: whether the last table has this many rows, and all end with this verdict.
+all_rows() {
+    rows=$(grep -cE '^\| (delete|truncate|persist|memory|wal)-' "$work/out")
+    [ "$rows" -eq "$2" ] && [ "$(grep -c "| $1 *|\$" "$work/out")" -eq "$2" ]
+}
+
+compiler=${CC:-cc}
+if ! echo '#include <sqlite3ext.h>' | "$compiler" -E - >/dev/null 2>&1; then
+    skip "there is no $compiler with sqlite3ext.h (Debian: gcc, libsqlite3-dev)"
+    finish
+fi
+
+check 'the driver and the extension are built' run 0 sh bindings/sqlite/build.sh
+archive=${BLOBCRASH_ARCHIVE:-$top/out/libblobcrash.a}
+crash=$top/out/sqlite/crash
+seeds=${SEEDS:-50}
+
+# What SQLite promises.
+modes=
+count=0
+for journal in delete truncate persist wal; do
+    for level in full extra; do
+        modes="$modes $journal-$level"
+        count=$((count + 1))
+    done
+done
+# shellcheck disable=SC2086
+check 'nothing is lost at FULL and EXTRA' run 0 "$crash" "$seeds" $modes
+check 'and each mode says so' all_rows held "$count"
+check 'each mode commits' [ "$(awk -F'|' '$12 ~ /held/ && $4 > 0 && $5 > 0' "$work/out" | wc -l)" -eq "$count" ]
+cat "$work/out"
+check 'nothing is lost behind surviving resizes, in two files and with a lagging directory' run 0 "$crash" 10 delete-full-resizes \
+    truncate-full-resizes persist-full-resizes wal-full-resizes delete-full-attach truncate-full-attach persist-full-attach \
+    delete-extra-directory truncate-full-directory persist-full-directory wal-full-directory
+check 'and each of these modes says so' all_rows held 11
+check 'a rollback to a savepoint loses nothing without a write-ahead log' run 0 "$crash" 20 delete-full-savepoints \
+    truncate-full-savepoints persist-full-savepoints
+check 'WAL at NORMAL may lose commits' run 0 "$crash" 20 wal-normal
+check 'and loses some' all_rows 'lost, as allowed' 1
+
+# What must be found out.
+modes='delete-full-sequential truncate-full-sequential persist-full-sequential'
+count=3
+for journal in delete truncate persist wal; do
+    modes="$modes $journal-off $journal-full-lying"
+    count=$((count + 2))
+done
+# shellcheck disable=SC2086
+check 'OFF, a lying sync and a disk that claims an order' run 0 "$crash" 50 $modes
+check 'are found out in every journal mode' all_rows 'damaged, as allowed' "$count"
+check 'the first seed of each is named' [ "$(grep -c '^    crash --seed ' "$work/out")" -eq "$count" ]
+
+# One life is the same alone as among others.
+check 'a life among others' run 0 "$crash" --first 13 --jobs 2 1 delete-off
+grep '^| delete-off ' "$work/out" >"$work/among"
+check 'a life alone' run 0 "$crash" --seed 13 delete-off
+check 'has the same end' [ "$(grep '^| delete-off ' "$work/out")" = "$(cat "$work/among")" ]
+
+check 'every outcome in a small transaction' run 0 "$crash" --explore
+check 'in four modes and their recoveries, without a loss' [ "$(awk -F'|' 'NF == 11 && $6 > 1 && $9 == 0 && $10 == 0' "$work/out" | wc -l)" -eq 8 ]
+check 'a lying sync is found by exploring' run 0 "$crash" --explore wal-full-lying
+check 'with a loss or damage' [ "$(awk -F'|' '$2 ~ /wal-full-lying/ && $9 + $10 > 0' "$work/out" | wc -l)" -eq 2 ]
+
+check 'the list of modes' run 0 "$crash" --list
+for arguments in '' 0 x '1 delete' '1 delete-full-foo' '--seed 1' '--seed x delete-full' '--jobs 0 1' '--jobs 1' '--foo 1 1' \
+    '--explore delete-full-bytes' '--explore foo'; do
+    # shellcheck disable=SC2086
+    check "these arguments are refused: $arguments" run 2 "$crash" $arguments
+done
+
+# What this version of SQLite does wrong: docs/SQLITE.md.
+if [ "$(sed -n 's/^#define SQLITE_VERSION  *"\(.*\)"/\1/p' "$(echo '#include <sqlite3.h>' | "$compiler" -M -E - | tr ' ' '\n' |
+    grep '/sqlite3\.h$')")" = 3.40.1 ]; then
+    grep -v '^#' tests/sqlite.faults >"$work/faults"
+    while read -r seed mode; do
+        check "a fault of SQLite 3.40.1: $mode, seed $seed" run 1 "$crash" --seed "$seed" "$mode"
+    done <"$work/faults"
+else
+    echo 'sqlite.sh: the seeds of docs/SQLITE.md are of SQLite 3.40.1, which this is not'
+fi
+
+# From C.
+flags="-std=c11 -D_XOPEN_SOURCE=700 -Wall -Wextra -Werror -g -DSQLITE_CORE -Ibindings/c -Ibindings/sqlite -Ibindings/sqlite/crash"
+vfs='bindings/sqlite/layer.c bindings/sqlite/store.c bindings/sqlite/directory.c bindings/sqlite/parameters.c bindings/sqlite/vfs.c'
+sanitize='-O1 -fsanitize=address,undefined -fno-sanitize-recover=all'
+# A refused allocation returns NULL, as without the sanitizer.
+export ASAN_OPTIONS=allocator_may_return_null=1
+# shellcheck disable=SC2086
+check 'the tests of the VFS are built' run 0 $compiler $flags -o "$work/test_vfs" bindings/sqlite/test_vfs.c $vfs "$archive" -lsqlite3
+check 'the tests of the VFS' run 0 "$work/test_vfs"
+echo 'int main(void) { return 0; }' >"$work/empty.c"
+# shellcheck disable=SC2086
+if run 0 $compiler $sanitize -o "$work/empty" "$work/empty.c" && run 0 "$work/empty"; then
+    check 'the tests of the VFS are built with sanitizers' run 0 $compiler $flags $sanitize -o "$work/test_vfs.sanitized" \
+        bindings/sqlite/test_vfs.c $vfs "$archive" -lsqlite3
+    check 'the tests of the VFS, sanitized' run 0 "$work/test_vfs.sanitized"
+    check 'the driver is built with sanitizers' run 0 $compiler $flags $sanitize -o "$work/crash.sanitized" \
+        bindings/sqlite/crash/*.c $vfs "$archive" -lsqlite3
+    # shellcheck disable=SC2046
+    "$work/crash.sanitized" 1 $("$crash" --list) >"$work/out" 2>"$work/err"
+    check 'every mode, sanitized' [ $? -le 1 ]
+    check 'no report of a sanitizer' [ ! -s "$work/err" ]
+    check 'exploring, sanitized' run 0 "$work/crash.sanitized" --explore persist-full
+else
+    skip "$compiler can't build or start a program with sanitizers"
+fi
+
+# From Python.
+loads='import sqlite3; sqlite3.connect(":memory:").enable_load_extension(True)'
+python=
+for candidate in python3 /usr/bin/python3; do
+    [ -n "$python" ] || ! "$candidate" -c "$loads" 2>/dev/null || python=$candidate
+done
+if [ -n "$python" ]; then
+    check 'the extension in Python' run 0 "$python" bindings/sqlite/test_extension.py
+    check 'the transfers of an application' run 0 "$python" examples/sqlite_transfers.py
+    check 'in a write-ahead log' run 0 "$python" examples/sqlite_transfers.py locking_mode=EXCLUSIVE journal_mode=WAL synchronous=FULL
+    check 'and without syncs, which is found out' run 1 "$python" examples/sqlite_transfers.py synchronous=OFF
+    check 'the savepoint script' run 0 "$python" examples/sqlite_savepoint.py 60
+    tail -n 1 "$work/out"
+    if grep -q '^SQLite 3\.40\.1: ' "$work/out"; then
+        check 'shows the lost commit' grep -q '^SQLite 3\.40\.1: 6 of 60 lives lose' "$work/out"
+    fi
+else
+    skip 'there is no Python whose sqlite3 loads extensions'
+fi
+
+finish
