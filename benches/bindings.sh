@@ -6,6 +6,8 @@ set -eu
 top=$(CDPATH='' cd -- "$(dirname -- "$0")/.." && pwd -P)
 work=$(mktemp -d)
 trap 'rm -rf "$work"' EXIT
+# The proved program alone.
+export BLOBCRASH_PROVED=1
 seconds=${1:-0.5}
 
 sh "$top/bindings/build.sh"

@@ -6,6 +6,8 @@ set -eu
 top=$(CDPATH='' cd -- "$(dirname -- "$0")/.." && pwd -P)
 work=$(mktemp -d)
 trap 'rm -rf "$work"' EXIT
+# The proved program alone.
+export BLOBCRASH_PROVED=1
 
 # script LINES: the same lines in every run. Eight names are open at once, in blobs of up to 4096 bytes; writes stay
 # pending until a sync, and now and then there is a crash, or a rebuild, after which each name is opened again.

@@ -8,6 +8,8 @@ set -eu
 top=$(CDPATH='' cd -- "$(dirname -- "$0")/.." && pwd -P)
 work=$(mktemp -d)
 trap 'rm -rf "$work"' EXIT
+# The proved program alone.
+export BLOBCRASH_PROVED=1
 
 # script WORKLOAD CALLS: the same lines in every run.
 script() {

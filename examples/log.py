@@ -88,8 +88,7 @@ def run(store, seed, forgets_sync):
         except Injected:
             pass
         store.configure("sync 0 1")
-        store.crash()
-        store.reopen()
+        store.restart()
         found = Log(store, forgets_sync).records
         check(acknowledged, unsure, found)
         acknowledged = found
