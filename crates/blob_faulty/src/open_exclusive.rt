@@ -15,7 +15,6 @@ use crate::laws::names::opens;
 use crate::storage::Storage;
 use blob_base::laws::opens::numbers_are_given;
 use blob_base::{BlobVersion, Error};
-use blob_opens::open::Registration;
 use blob_opens::{Opens, open};
 use rand_core::Rng;
 use std::ops::RangeInclusive;
@@ -44,33 +43,10 @@ impl<R: Rng> Storage<blob_memory::Storage, R> {
         ensures accepted { IfOk result (λ o. FindsKept self.old self.new partition.now name.now (lower versions) (upper versions) (handle_of o.0) o.1 o.2.0) }
         ensures keeps { LosesNothing self.old self.new }
     {
-        let (blob, registration, size, version) = self.open_registered(
-            registry, partition, name, versions,
-        )?;
-        Ok((open::Blob::new(blob, registration), size, version))
-    }
-
-    /// Opens as `open_exclusive` does, with its errors, and answers the handle and the registration of its open apart: for an
-    /// owner that keeps handles of several kinds in one table. The owner gives the registration back to `Opens::release`.
-    pub fn open_registered(
-        &mut self,
-        registry: &mut Opens,
-        partition: &str,
-        name: &[u8],
-        versions: RangeInclusive<BlobVersion>,
-    ) -> Result<(Blob<blob_memory::Blob>, Registration, u64, BlobVersion), Error>
-        requires { AreVersions versions }
-        ensures answer { ExclusiveAnswer self.old self.new partition.now name.now (lower versions) (upper versions) R.stream (names_of registry.old) (refused result) }
-        ensures registered { OnOk result (names_of registry.new ≡ opened (names_of registry.old) partition.now name.now) }
-        ensures err { OnErr result (names_of registry.new ≡ names_of registry.old) }
-        ensures registration { IfOk result (λ o. o.1 ≡ record { partition = partition.now; name = name.now; number = (names_of registry.old).next }) }
-        ensures accepted { IfOk result (λ o. FindsKept self.old self.new partition.now name.now (lower versions) (upper versions) o.0 o.2 o.3.0) }
-        ensures keeps { LosesNothing self.old self.new }
-    {
         opens::<blob_memory::Storage, R>();
         accepted_opens::<blob_memory::Storage, R>();
         numbers_are_given::<blob_memory::Storage>();
-        let opened = registry.open_registered(self, partition, name, versions)?;
+        let opened = registry.open(self, partition, name, versions)?;
         let _ = self.admit(partition, name);
         Ok(opened)
     }

@@ -11,10 +11,8 @@ ghost use Rattle.blob_header.specs.Refusals.{Refusal, refused, IsMemory};
 use blob_base::{Durable, Error, Handle, IoBufs, IoBufsMut, ReadOptions, WriteOptions};
 use std::marker::Model;
 
-/// An accepted open, which tells its handle from all others. It is ended by `Opens::release`, or with its handle by `Opens::close`.
-///
-/// If it is dropped instead, its name stays open until `Opens::end_all`.
-#[derive(Drop)]
+/// An accepted open, by a number that no other open has. It can't be dropped: `Opens::release` ends it, or `Opens::close` with its
+/// handle.
 pub struct Registration {
     pub(crate) partition: String,
     pub(crate) name: Vec<u8>,
@@ -33,7 +31,7 @@ impl Model for Registration {
 /// A handle of a store whose name is open by it alone. It must be spent, by `Opens::close`.
 ///
 /// It passes each call on to the store's own handle, and answers what that answers: nothing of a call is its own. Its two parts
-/// stay together: they can't be taken out or exchanged.
+/// stay together until `into_parts`: they can't be exchanged for those of another handle.
 pub struct Blob<B> {
     pub(crate) inner: B,
     pub(crate) registration: Registration,
@@ -42,15 +40,17 @@ pub struct Blob<B> {
 impl<B> Blob<B> {
     ghost use Rattle.blob_opens.specs.Opens.{registration_of, store_handle};
 
-    /// Joins what `Opens::open_registered` answered: the store's own handle and the registration of its open.
-    pub fn new(inner: B, registration: Registration) -> Blob<B>
-        ensures inner { store_handle result ≡ inner }
-        ensures registration { registration_of result ≡ registration }
+    /// Returns the store's own handle and the registration of its open, for an owner that keeps handles of several kinds in one
+    /// table. The owner ends the open by `Opens::release`. The two can't be joined again.
+    pub fn into_parts(self) -> (B, Registration)
+        ensures inner { result.0 ≡ store_handle self }
+        ensures registration { result.1 ≡ registration_of self }
     {
-        Blob {
+        let Blob {
             inner,
             registration,
-        }
+        } = self;
+        (inner, registration)
     }
 
     /// The store's own handle, for what isn't a call of the traits, as a wrapper's tracked size.

@@ -68,33 +68,6 @@ impl Opens {
         ensures size { IfOk result (λ opened. opened.1 ≡ length (S.Blob.live (store_handle opened.0))) }
         ensures kept_size { IfOk result (λ opened. S.keeps_size (store_handle opened.0) opened.1) }
     {
-        let (inner, registration, size, version) = self.open_registered(
-            store, partition, name, versions,
-        )?;
-        Ok((Blob::new(inner, registration), size, version))
-    }
-
-    /// Opens as `open` does, with its errors, and answers the store's own handle and the registration of its open apart: for an
-    /// owner that keeps handles of several kinds in one table. The owner gives the registration back to `release`, or joins both
-    /// in an `open::Blob`.
-    pub fn open_registered<S: Storage>(
-        &mut self,
-        store: &mut S,
-        partition: &str,
-        name: &[u8],
-        versions: RangeInclusive<BlobVersion>,
-    ) -> Result<(S::Blob, Registration, u64, BlobVersion), Error>
-        requires fresh { range_inclusive_exhausted versions ≡ false }
-        requires some { lower versions ≤ upper versions }
-        ensures answer { RegistryOpens S.Durable S.allows_open S.leaves_open self.old store.old store.new partition.now name.now versions (refused result) }
-        ensures exhausted { IsExhausted (names_of self.old) partition.now name.now → refused result ≡ Some GenerationsExhausted }
-        ensures registered { OnOk result (names_of self.new ≡ opened (names_of self.old) partition.now name.now) }
-        ensures err { OnErr result (names_of self.new ≡ names_of self.old) }
-        ensures registration { IfOk result (λ opened. opened.1 ≡ record { partition = partition.now; name = name.now; number = (names_of self.old).next }) }
-        ensures opened { IfOk result (λ o. OpensBlob S.Durable S.Blob.Blob store.old store.new partition.now name.now (lower versions) (upper versions) o.0 o.3.0) }
-        ensures size { IfOk result (λ opened. opened.2 ≡ length (S.Blob.live opened.0)) }
-        ensures kept_size { IfOk result (λ opened. S.keeps_size opened.0 opened.2) }
-    {
         if self.held_by(partition, name).is_some() {
             let refusal = self.already_open(partition, name)?;
             store.open_versioned(partition, name, versions)?;
@@ -104,10 +77,19 @@ impl Opens {
         match store.open_versioned(partition, name, versions) {
             Ok((inner, size, version)) => {
                 self.next += 1;
-                Ok((inner, registration, size, version))
+                let blob = Blob {
+                    inner,
+                    registration,
+                };
+                Ok((blob, size, version))
             }
             Err(e) => {
-                self.withdraw(&registration);
+                let Registration {
+                    partition,
+                    name,
+                    number: _,
+                } = registration;
+                self.withdraw(&partition, &name);
                 Err(e)
             }
         }
@@ -168,12 +150,17 @@ impl Opens {
         self.release(registration);
     }
 
-    /// Ends one open, whose handle is kept apart, as `close` does.
+    /// Ends the open of a handle that was taken apart, as `close` does.
     pub fn release(&mut self, registration: Registration)
         ensures { names_of self.new ≡ closed (names_of self.old) registration }
     {
-        if self.held_by(&registration.partition, &registration.name) == Some(registration.number) {
-            self.withdraw(&registration);
+        let Registration {
+            partition,
+            name,
+            number,
+        } = registration;
+        if self.held_by(&partition, &name) == Some(number) {
+            self.withdraw(&partition, &name);
         }
     }
 
@@ -214,21 +201,21 @@ impl Opens {
         if self.next == u64::MAX {
             return Err(Error::GenerationsExhausted);
         }
-        let registration = Registration {
-            partition: String::from_str(self.alloc, partition)?,
-            name: Vec::from_slice(self.alloc, name)?,
-            number: self.next,
-        };
+        let partition_copy = String::from_str(self.alloc, partition)?;
+        let name_copy = Vec::from_slice(self.alloc, name)?;
         self.names.insert(partition, name, self.next)?;
-        Ok(registration)
+        Ok(Registration {
+            partition: partition_copy,
+            name: name_copy,
+            number: self.next,
+        })
     }
 
     /// Ends the open of a name.
-    fn withdraw(&mut self, registration: &Registration)
-        ensures { names_of self.new ≡ ended (names_of self.old) registration.now.partition (Some registration.now.name) }
+    fn withdraw(&mut self, partition: &str, name: &[u8])
+        ensures { names_of self.new ≡ ended (names_of self.old) partition.now (Some name.now) }
     {
-        self.names
-            .remove(&registration.partition, &registration.name);
+        self.names.remove(partition, name);
     }
 
     fn end(&mut self, partition: &str, name: Option<&[u8]>)

@@ -3,30 +3,30 @@ ghost use Rattle.std.specs.Prelude.{◌≡◌, ◌<◌, ◌++◌, ◌∷◌, [],
 ghost use Rattle.blob_header.specs.Refusals.{IsMemory};
 ghost use Rattle.blob_states.specs.Steps.{unregistered};
 ghost use Rattle.blob_states.specs.Answers.{kept_at};
-ghost use Rattle.blob_opens.specs.Opens.{names_of};
+ghost use Rattle.blob_opens.specs.Opens.{names_of, registration_of, store_handle};
 ghost use Rattle.blob_laboratory.specs.Tables.{as_held, handles_of, HasFreeSlot};
 
 use blob_base::Error;
 use blob_opens::Opens;
-use blob_opens::open::Registration;
+use blob_opens::open::{self, Registration};
 use std::alloc::Global;
 
 /// The wrapper's handles.
 pub(crate) type WrapperBlob = blob_faulty::Blob<blob_memory::Blob>;
 
-/// An open handle, with the exclusive open that it is of; a loose one has none.
-#[derive(Drop)]
+/// An open handle, with the registration of its open if that is exclusive. `close` ends both.
 pub(crate) struct Handle {
     pub(crate) blob: WrapperBlob,
     pub(crate) registration: Option<Registration>,
 }
 
 impl Handle {
-    /// The handle of an exclusive open.
-    pub(crate) fn exclusive(blob: WrapperBlob, registration: Registration) -> Handle
-        ensures blob { result.blob ≡ blob }
-        ensures registration { result.registration ≡ Some registration }
+    /// Returns the handle of an exclusive open, taken apart.
+    pub(crate) fn exclusive(blob: open::Blob<WrapperBlob>) -> Handle
+        ensures blob { result.blob ≡ store_handle blob }
+        ensures registration { result.registration ≡ Some (registration_of blob) }
     {
+        let (blob, registration) = blob.into_parts();
         Handle {
             blob,
             registration: Some(registration),
@@ -107,6 +107,7 @@ impl Handles {
         ensures handle { option_map as_held result ≡ kept_at (handles_of self.old) number }
         ensures there { IfSome result (λ h. number < length (handles_of self.new)) }
         ensures taken { IfSome result (λ h. handles_of self.new ≡ set (handles_of self.old) number None) }
+        ensures empty { IfSome result (λ h. kept_at (handles_of self.new) number ≡ None) }
         ensures none { IfNone result (handles_of self.new ≡ handles_of self.old) }
     {
         if number >= self.slots.len() {
@@ -115,21 +116,26 @@ impl Handles {
         self.slots[number].take()
     }
 
-    /// Puts a handle into the slot that it was taken from.
+    /// Puts a handle back into the slot that it was taken from, which is empty.
     pub(crate) fn put(&mut self, number: usize, handle: Handle)
-        requires { number < length (handles_of self.old) }
+        requires there { number < length (handles_of self.old) }
+        requires empty { kept_at (handles_of self.old) number ≡ None }
         ensures { handles_of self.new ≡ set (handles_of self.old) number (Some (as_held handle)) }
     {
-        self.slots[number] = Some(handle);
+        match self.slots[number].replace(handle) {
+            None => {}
+            Some(_) => unreachable!(),
+        }
     }
 
     /// Closes all of them.
     pub(crate) fn close_all(self, opens: &mut Opens) {
-        let Handles { slots } = self;
-        for slot in slots {
+        let Handles { mut slots } = self;
+        while let Some(slot) = slots.pop() {
             if let Some(handle) = slot {
                 handle.close(opens);
             }
         }
+        slots.destroy_empty();
     }
 }

@@ -43,10 +43,10 @@ impl Lab {
         }
         match self
             .wrapper
-            .open_registered(&mut self.opens, partition, name, versions)
+            .open_exclusive(&mut self.opens, partition, name, versions)
         {
-            Ok((blob, registration, size, version)) => Reply::Opened {
-                handle: self.handles.add(Handle::exclusive(blob, registration)),
+            Ok((blob, size, version)) => Reply::Opened {
+                handle: self.handles.add(Handle::exclusive(blob)),
                 size,
                 version,
             },
