@@ -7,8 +7,9 @@ ghost use Rattle.blob_lab.specs.Streams.{OfBytes, reader_of, read_failed, writer
 ghost use Rattle.blob_pictures.specs.Explained.{Explains, IsExplained, Remarks};
 ghost use Rattle.blob_pictures.specs.Explanations.{ExplainsBefore, IsExplanation, WritesExplanation};
 
-use crate::play::pictures_of;
+use crate::play::remarks_of;
 use crate::remarks::push_remarks;
+use crate::watch::Remark;
 use blob_lab::{Ending, Input, Output, serve_script};
 use std::alloc::{AllocError, Global};
 use std::io::{BufRead, Write};
@@ -17,9 +18,9 @@ use std::io::{BufRead, Write};
 /// After a crash they show each file that had something pending. After a write, a resize or a started sync they show its outcome,
 /// if the reply doesn't report it.
 ///
-/// All of it is written at the end, and the script is run twice, for its replies and for the pictures. Where it ends as
-/// `InputFailed` nothing was written, nor may it be where it ends as `NoMemory`. The writer is flushed at the end, whatever came
-/// before; where that fails it ends as `OutputFailed`.
+/// All of it is written at the end. The script is run twice, once for its replies and once for the pictures. If memory is refused
+/// to a call in one of the runs alone, it ends as `NoMemory`. If it ends as `InputFailed`, nothing was written, and nothing may have
+/// been written if it ends as `NoMemory`. The writer is flushed at the end in any case; if that fails, it ends as `OutputFailed`.
 pub fn explain_script<R: BufRead, W: Write>(
     alloc: Global,
     input: &mut Input<R>,
@@ -83,19 +84,19 @@ fn explanation<R: BufRead>(alloc: Global, input: &mut Input<R>) -> Result<(Vec<u
     if ending == Ending::InputFailed || ending == Ending::OutputFailed {
         return Err(Ending::NoMemory);
     }
-    let Ok(pictures) = pictures_of(alloc, &script) else {
+    let Ok(remarks) = remarks_of(alloc, &script) else {
         return Err(Ending::NoMemory);
     };
     let printed = replies.into_writer();
-    let Ok(text) = explained(alloc, &printed, &pictures) else {
+    let Ok(text) = explained(alloc, &printed, &remarks) else {
         return Err(Ending::NoMemory);
     };
     Ok((text, ending))
 }
 
-/// The replies, each followed by its text.
+/// Returns the replies, each followed by its text. It is an error if memory was refused to a call in one of the two runs alone.
 #[tactic(auto, using(crate::proofs::Explaining::goes_on, crate::proofs::Explaining::explained))]
-fn explained(alloc: Global, replies: &[u8], pictures: &[String]) -> Result<Vec<u8>, AllocError>
+fn explained(alloc: Global, replies: &[u8], remarks: &[Remark]) -> Result<Vec<u8>, AllocError>
     ensures { IfOk result (λ text. IsExplained replies.now text.items) }
 {
     let mut text = Vec::new(alloc);
@@ -104,28 +105,32 @@ fn explained(alloc: Global, replies: &[u8], pictures: &[String]) -> Result<Vec<u
     'lines: while let Some((line, others)) = first_line(rest) {
         text.extend_from_slice(line)?;
         text.push(b'\n')?;
-        push_picture(pictures, &mut shown, &mut text)?;
+        push_remarks_after(remarks, &mut shown, line, &mut text)?;
         rest = others;
     }
     text.extend_from_slice(rest)?;
     Ok(text)
 }
 
-/// Adds the next text.
+/// Adds what follows the next reply, which is `line`.
 #[tactic(auto, using(crate::proofs::Explaining::none))]
-fn push_picture(
-    pictures: &[String],
+fn push_remarks_after(
+    remarks: &[Remark],
     shown: &mut usize,
+    line: &[u8],
     text: &mut Vec<u8>,
 ) -> Result<(), AllocError>
     ensures { OnOk result (Remarks text.old.items text.new.items) }
 {
-    if *shown >= pictures.len() {
+    if *shown >= remarks.len() {
         return Ok(());
     }
-    let picture = &pictures[*shown];
+    let remark = &remarks[*shown];
     *shown += 1;
-    push_remarks(picture, text)
+    if remark.is_without_memory != (line == b"error Memory".as_slice()) {
+        return Err(AllocError);
+    }
+    push_remarks(&remark.text, text)
 }
 
 /// What stands before the first line feed, and what behind it.

@@ -1,5 +1,5 @@
 // A script that is run for what its replies don't report.
-use crate::watch::Watch;
+use crate::watch::{Remark, Watch};
 use blob_base::Error;
 use blob_faulty::Config;
 use blob_lab::script::setting::copy_of;
@@ -17,8 +17,9 @@ struct Script {
     calls: Vec<Call>,
 }
 
-/// A text for each reply, most of them empty. Where a line is bad, for those before it at least. The only error is `Memory`.
-pub(crate) fn pictures_of(alloc: Global, script: &[u8]) -> Result<Vec<String>, Error> {
+/// Returns what follows each reply, most often no text; if a line is bad, for the replies before it at least. The only error is
+/// `Memory`.
+pub(crate) fn remarks_of(alloc: Global, script: &[u8]) -> Result<Vec<Remark>, Error> {
     let Script {
         images,
         words,
@@ -38,9 +39,9 @@ pub(crate) fn pictures_of(alloc: Global, script: &[u8]) -> Result<Vec<String>, E
         ),
     };
     let mut watch = Watch::new(alloc, rng);
-    let pictures = play(alloc, &mut lab, &mut watch, &calls);
+    let remarks = play(alloc, &mut lab, &mut watch, &calls);
     lab.end();
-    pictures
+    remarks
 }
 
 fn read(alloc: Global, text: &[u8]) -> Result<Script, Error> {
@@ -87,10 +88,10 @@ fn play(
     lab: &mut Lab,
     watch: &mut Watch,
     calls: &[Call],
-) -> Result<Vec<String>, Error> {
-    let mut pictures = Vec::new(alloc);
+) -> Result<Vec<Remark>, Error> {
+    let mut remarks = Vec::new(alloc);
     for call in calls {
-        pictures.push(watch.step(lab, call)?)?;
+        remarks.push(watch.step(lab, call)?)?;
     }
-    Ok(pictures)
+    Ok(remarks)
 }

@@ -24,6 +24,14 @@ pub(crate) struct Watch {
     bases: Bases,
 }
 
+/// What follows a reply.
+#[derive(Drop)]
+pub(crate) struct Remark {
+    pub(crate) text: String,
+    /// Whether the reply is that memory was refused to the call.
+    pub(crate) is_without_memory: bool,
+}
+
 /// A call with its reply and what was drawn for it.
 #[derive(Drop)]
 struct Step<'a> {
@@ -47,8 +55,8 @@ impl Watch {
         }
     }
 
-    /// Makes a call and returns the text that follows its reply. The only error is `Memory`.
-    pub(crate) fn step(&mut self, lab: &mut Lab, call: &Call) -> Result<String, Error> {
+    /// Makes a call and returns what follows its reply. The only error is `Memory`.
+    pub(crate) fn step(&mut self, lab: &mut Lab, call: &Call) -> Result<Remark, Error> {
         let alloc = self.alloc;
         let mut files = Vec::new(alloc);
         if let Call::Crash = call {
@@ -69,7 +77,10 @@ impl Watch {
             files,
         };
         self.note(lab.wrapper(), &step)?;
-        self.text(lab.wrapper(), &step)
+        Ok(Remark {
+            text: self.text(lab.wrapper(), &step)?,
+            is_without_memory: is_without_memory(&step.reply),
+        })
     }
 
     /// Returns the durable bytes before a write that keeps bytes although it fails; no bytes for any other call.
@@ -235,6 +246,13 @@ impl Watch {
             }
         }
         Ok(())
+    }
+}
+
+fn is_without_memory(reply: &Reply) -> bool {
+    match reply {
+        Reply::Failed(Error::Memory(_)) => true,
+        _ => false,
     }
 }
 
