@@ -35,7 +35,7 @@ def show(seed, reason, script):
     print(f"seed {seed}: {reason}; {len(script)} lines, of which it takes {len(left.splitlines())}:")
     print(left)
     sys.stdout.flush()
-    subprocess.run([blobcrash.program(), "explain"], input=left, text=True, check=True)
+    print(blobcrash.explain(left) or "`./blobcrash build explain` builds the program that shows its crashes")
 
 
 def main(arguments):

@@ -55,8 +55,11 @@ give_up() {
     finish
 }
 
-# need_program: builds ./blobcrash if it isn't built, so that no test sees the messages of a build.
+# need_program [explain|explore]..: builds ./blobcrash and the programs of these words if they aren't built, so that no test sees the
+# messages of a build. `program` is the path of the first; with _explain and _explore added it is that of the others.
 need_program() {
-    "$top/blobcrash" resolve </dev/null >/dev/null || give_up "the program can't be built or started"
     program=$top/out/blobcrash
+    for word in resolve "$@"; do
+        "$top/blobcrash" "$word" </dev/null >/dev/null || give_up "the program can't be built or started"
+    done
 }

@@ -18,7 +18,7 @@ ok() {
     fi
 }
 
-need_program
+need_program explain
 BLOBCRASH=$program
 export BLOBCRASH
 

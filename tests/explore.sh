@@ -35,7 +35,7 @@ expect_end() {
     tell $? "$1"
 }
 
-need_program
+need_program explore
 
 # Two bytes over two others, each kept or lost by a draw, or in prefix mode up to the first that is lost.
 torn() {

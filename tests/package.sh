@@ -98,7 +98,7 @@ if [ -n "$python" ]; then
     tell $? 'pytest: the seed is in the name of the test'
     (cd "$work/far" && "$python" -m blobcrash "$script" | grep -q '^crashed') >"$work/out" 2>"$work/err"
     tell $? 'pytest: the script runs'
-    need_program
+    need_program explain
     BLOBCRASH=$program LOG_FORGETS_SYNC=1 run_pytest --blobcrash-seed "$seed" test_log_pytest.py
     grep -q '1 failed' "$work/out" && grep -q '^#     before' "$work/out"
     tell $? 'pytest: a picture of the crash'

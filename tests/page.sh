@@ -37,7 +37,7 @@ if ! has_python; then
     finish
 fi
 if [ -z "${BLOBCRASH:-}" ]; then
-    need_program
+    need_program explain
     BLOBCRASH=$program
 fi
 export BLOBCRASH

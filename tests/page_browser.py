@@ -74,7 +74,7 @@ class Checks:
 
 def run(program, text):
     """The replies of a script, and its explanation."""
-    told = [subprocess.run([program, *words], input=text.encode(), stdout=subprocess.PIPE, stderr=subprocess.DEVNULL).stdout.decode() for words in ([], ["explain"])]
+    told = [subprocess.run([program + word], input=text.encode(), stdout=subprocess.PIPE, stderr=subprocess.DEVNULL).stdout.decode() for word in ("", "_explain")]
     return told
 
 

@@ -26,7 +26,7 @@ ok() {
     fi
 }
 
-need_program
+need_program explain explore
 BLOBCRASH=$program
 export BLOBCRASH
 

@@ -16,7 +16,7 @@ tell() {
     fi
 }
 
-need_program
+need_program explain
 
 for worked in "$top"/tests/pictures/*.script; do
     "$top/blobcrash" explain <"$worked" >"$work/out" && diff "${worked%.script}.out" "$work/out" >"$work/shown"

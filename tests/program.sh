@@ -26,7 +26,7 @@ run() {
 line='
 '
 
-need_program
+need_program explain explore
 
 # One line, one reply.
 while IFS='|' read -r image reply; do

@@ -24,7 +24,7 @@ wrong() {
 }
 
 cc -shared -fPIC -O2 -o "$library" "$top/tests/refusals/refuse.c" || give_up "the library can't be built"
-need_program
+need_program explain
 tried=$top/crates/blob_play/data/refusals.calls
 calls=$("$top/tools/built" blob_play) || give_up "blob_play can't be built"
 
@@ -150,36 +150,32 @@ for script in "$top"/tests/refusals/*.script "$top/examples/FIRST.script"; do
     refuse_script "$script"
 done
 
-# `explain`: each request of the program refused in turn. It ends the program after a front of the right replies, or the replies are
-# those of the script, or those of the script without the call that was refused. Pictures aren't compared.
+# `explain`: each request of the program refused in turn. Either it ends the program, which has written nothing, or the output is
+# that of a run without a refusal, with its pictures.
 refuse_explain() {
     script=$1
-    rm -f "$work"/without.*
-    "$program" <"$script" >"$work/right"
-    "$program" explain <"$script" >"$work/pictures"
+    "${program}_explain" <"$script" >"$work/right"
     ended=0
-    told=0
+    same=0
     n=0
     while :; do
         n=$((n + 1))
-        under REFUSE="$n" REFUSE_ALL=1 "$program" explain <"$script"
+        under REFUSE="$n" REFUSE_ALL=1 "${program}_explain" <"$script"
         [ "$refused" = 1 ] || break
-        sed '/^# /d' "$work/out" >"$work/replies"
-        mv "$work/replies" "$work/out"
-        if [ "$status" -eq 3 ] && [ "$(cat "$work/err")" = 'no memory' ] && is_front; then
+        if [ "$status" -eq 3 ] && [ "$(cat "$work/err")" = 'no memory' ] && [ ! -s "$work/out" ]; then
             ended=$((ended + 1))
-        elif [ "$status" -eq 0 ] && [ ! -s "$work/err" ] && { cmp -s "$work/right" "$work/out" || is_one_refused; }; then
-            told=$((told + 1))
+        elif [ "$status" -eq 0 ] && [ ! -s "$work/err" ] && cmp -s "$work/right" "$work/out"; then
+            same=$((same + 1))
         else
             fail "explain of $script with request $n refused: status $status"
         fi
     done
-    if [ "$status" -eq 0 ] && [ "$refused" = 0 ] && cmp -s "$work/pictures" "$work/out" && [ "$ended" -gt 0 ]; then
+    if [ "$status" -eq 0 ] && [ "$refused" = 0 ] && cmp -s "$work/right" "$work/out" && [ "$ended" -gt 0 ]; then
         pass
     else
         fail "explain of $script with no request refused: status $status"
     fi
-    echo "refusals.sh: explain $(basename "$script"): $ended refusals ended it, $told were a call's"
+    echo "refusals.sh: explain $(basename "$script"): $ended refusals ended it, $same changed nothing"
 }
 
 refuse_explain "$top/tests/refusals/kept.script"

@@ -24,7 +24,9 @@ USAGE = "usage: crash_page [--title TEXT] [--explored FILE] [--fails TEXT] [--pi
 
 def explained(program, script):
     """What the program prints for a script with pictures, on both of its streams, and its status."""
-    ran = subprocess.run([program, "explain"], input=script, stdout=subprocess.PIPE, stderr=subprocess.PIPE)
+    built = program + "_explain"
+    command = [built] if os.path.exists(built) else [program, "explain"]
+    ran = subprocess.run(command, input=script, stdout=subprocess.PIPE, stderr=subprocess.PIPE)
     return ran.stdout.decode(), ran.stderr.decode(), ran.returncode
 
 

@@ -1,10 +1,7 @@
 // The program: arguments, buffered streams and the exit status. All else is the library's.
 #![tactic(auto)]
 
-use blob_explore::{RefusedScript, explore_text};
-use blob_lab::script::token::number;
 use blob_lab::{Ending, serve_resolve, serve_script, streams};
-use blob_pictures::explain_script;
 use std::env;
 use std::io::{self, BufReader, BufWriter, ErrorKind};
 use std::process::ExitCode;
@@ -27,93 +24,36 @@ const HELP: &str = "usage: blobcrash [explain|explore|resolve|help|version]
 
 docs/FORMATS.md has the lines, the replies and the exit statuses.";
 
-/// The most leaves that an exploration visits, unless `--limit` says otherwise.
-const LIMIT: u64 = 1_000_000;
-
-/// How the program ends.
-enum Exit {
-    /// As a run of a script or of `resolve` does.
-    Run(Ending),
-    /// `explore` was given a script that it doesn't explore.
-    Refused(RefusedScript),
-}
-
 fn main(rt: HostRuntime) -> ExitCode {
-    let exit = match env::args(&rt) {
+    let ending = match env::args(&rt) {
         Ok(args) => run(&rt, args),
-        Err(e) if e.kind() == ErrorKind::OutOfMemory => Exit::Run(Ending::NoMemory),
+        Err(e) if e.kind() == ErrorKind::OutOfMemory => Ending::NoMemory,
         // An argument that isn't UTF-8.
-        Err(_) => Exit::Run(Ending::Usage),
+        Err(_) => Ending::Usage,
     };
-    // Where standard error fails too, the exit status is all that is left to tell.
-    let status = match exit {
-        Exit::Run(Ending::Done) => Ending::Done.status(),
-        Exit::Run(ending) => {
-            let _ = eprintln!(rt; "{ending}");
-            ending.status()
-        }
-        Exit::Refused(refused) => {
-            let _ = eprintln!(rt; "{refused}");
-            refused.status()
-        }
-    };
-    ExitCode::from(status)
+    if ending != Ending::Done {
+        // If standard error fails too, only the exit status reports the ending.
+        let _ = eprintln!(rt; "{ending}");
+    }
+    ExitCode::from(ending.status())
 }
 
-fn run<T: AllocGlobal + Input + Print>(rt: &T, mut args: env::Args) -> Exit {
+fn run<T: AllocGlobal + Input + Print>(rt: &T, mut args: env::Args) -> Ending {
     let _program = args.next();
     let word = args.next();
     match word {
-        None => Exit::Run(run_input(rt)),
-        Some(word) if word.as_str() == "explore" => explore_args(rt, args),
-        Some(word) if args.next().is_none() => Exit::Run(run_word(rt, word.as_str())),
-        Some(_) => Exit::Run(Ending::Usage),
+        None => run_input(rt),
+        Some(word) if args.next().is_none() => run_word(rt, word.as_str()),
+        Some(_) => Ending::Usage,
     }
 }
 
 fn run_word<T: AllocGlobal + Input + Print>(rt: &T, word: &str) -> Ending {
     match word {
-        "explain" => explain_input(rt),
         "resolve" => resolve_input(rt),
         "help" | "--help" => print_line(rt, HELP),
         "version" => print_line(rt, VERSION),
         _ => Ending::Usage,
-    }
-}
-
-/// What the arguments behind `explore` ask for.
-#[derive(Clone, Copy)]
-struct ExploreArgs {
-    limit: Option<u64>,
-    last: bool,
-}
-
-/// Reads the arguments behind `explore`, each at most once. None if they are others.
-fn read_explore_args(args: env::Args) -> Option<ExploreArgs> {
-    let mut asked = ExploreArgs {
-        limit: None,
-        last: false,
-    };
-    let mut wants_limit = false;
-    for word in args {
-        if wants_limit {
-            asked.limit = Some(number(word.as_str())?);
-            wants_limit = false;
-        } else if word.as_str() == "--last" && !asked.last {
-            asked.last = true;
-        } else if word.as_str() == "--limit" && asked.limit.is_none() {
-            wants_limit = true;
-        } else {
-            return None;
-        }
-    }
-    if wants_limit { None } else { Some(asked) }
-}
-
-fn explore_args<T: AllocGlobal + Input + Print>(rt: &T, args: env::Args) -> Exit {
-    match read_explore_args(args) {
-        Some(asked) => explore_input(rt, asked.limit.unwrap_or(LIMIT), asked.last),
-        None => Exit::Run(Ending::Usage),
     }
 }
 
@@ -134,46 +74,6 @@ fn run_input<T: AllocGlobal + Input + Print>(rt: &T) -> Ending {
     let mut input = streams::Input::new(reader);
     let mut output = streams::Output::new(writer);
     serve_script(rt.alloc(), &mut input, &mut output)
-}
-
-fn explain_input<T: AllocGlobal + Input + Print>(rt: &T) -> Ending {
-    let Ok(reader) = BufReader::new(rt.alloc(), rt.reader()) else {
-        return Ending::NoMemory;
-    };
-    let Ok(writer) = BufWriter::new(rt.alloc(), io::writer(rt)) else {
-        return Ending::NoMemory;
-    };
-    let mut input = streams::Input::new(reader);
-    let mut output = streams::Output::new(writer);
-    explain_script(rt.alloc(), &mut input, &mut output)
-}
-
-fn explore_input<T: AllocGlobal + Input + Print>(rt: &T, limit: u64, last: bool) -> Exit {
-    let text = match read_input(rt) {
-        Ok(text) => text,
-        Err(ending) => return Exit::Run(ending),
-    };
-    match explore_text(rt.alloc(), text.as_slice(), limit, last) {
-        Ok(printed) => Exit::Run(print_text(rt, printed.as_str())),
-        Err(refused) => Exit::Refused(refused),
-    }
-}
-
-fn read_input<T: AllocGlobal + Input>(rt: &T) -> Result<Vec<u8>, Ending> {
-    let Ok(reader) = BufReader::new(rt.alloc(), rt.reader()) else {
-        return Err(Ending::NoMemory);
-    };
-    let mut input = streams::Input::new(reader);
-    let mut text = Vec::new(rt.alloc());
-    input.read_all(&mut text)?;
-    Ok(text)
-}
-
-fn print_text<T: Print>(rt: &T, text: &str) -> Ending {
-    match print!(rt; "{text}") {
-        Ok(()) => Ending::Done,
-        Err(_) => Ending::OutputFailed,
-    }
 }
 
 // Without a buffer each byte of standard input would be a read of its own.
