@@ -13,11 +13,11 @@ use blob_memory::Storage as Memory;
 use std::alloc::Global;
 use std::test::Fail;
 
-type Faulty = Wrapper<Memory, ScriptedRng>;
+pub(crate) type Faulty = Wrapper<Memory, ScriptedRng>;
 
 type Opened = blob_faulty::Blob<blob_memory::Blob>;
 
-fn bytes(alloc: Global, bytes: &[u8]) -> Result<IoBufs, Error> {
+pub(crate) fn bytes(alloc: Global, bytes: &[u8]) -> Result<IoBufs, Error> {
     IoBufs::from_vec(Vec::from_slice(alloc, bytes)?)
 }
 
@@ -31,7 +31,7 @@ fn halves(mode: PartialWriteMode) -> WriteConfig {
 }
 
 /// A wrapper that draws these words, and then zeros.
-fn wrapper(alloc: Global, words: &[u64], config: Config) -> Result<Faulty, Error> {
+pub(crate) fn wrapper(alloc: Global, words: &[u64], config: Config) -> Result<Faulty, Error> {
     let rng = ScriptedRng::new(Vec::from_slice(alloc, words)?);
     Ok(Wrapper::new(alloc, Memory::new(alloc), rng, config))
 }
@@ -224,5 +224,23 @@ fn handles_sync(rt: HostRuntime) -> Result<(), Fail> {
     store.finish(started)?;
     let durable = store.inner().logical_blob("p", b"b")?;
     assert!(rt; durable.is_some_and(|bytes| bytes.as_slice() == b"a".as_slice()));
+    Ok(())
+}
+
+#[test]
+fn handles_read_into_a_slice(rt: HostRuntime) -> Result<(), Fail> {
+    let (mut store, blob) = with_blob(rt.alloc())?;
+    let mut room = [0; 2];
+    blob.read_into(&mut store, 1, &mut room)?;
+    assert!(rt; room == [b'b', b'c']);
+    Ok(())
+}
+
+#[test]
+fn handles_write_a_slice(rt: HostRuntime) -> Result<(), Fail> {
+    let (mut store, mut blob) = with_blob(rt.alloc())?;
+    blob.write_from(&mut store, 2, b"XY")?;
+    let read = blob.read_at(&mut store, 0, 4, ReadOptions::default())?;
+    assert!(rt; read.coalesce().as_slice() == b"abXY".as_slice());
     Ok(())
 }

@@ -8,6 +8,8 @@ mod base_values;
 #[cfg(test)]
 mod faulty;
 #[cfg(test)]
+mod faulty_opens;
+#[cfg(test)]
 mod lab_calls;
 #[cfg(test)]
 mod lab_opens;
