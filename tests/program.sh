@@ -72,7 +72,7 @@ expect 'a region without its last byte' 0 "create$line" ''
 
 # Arguments.
 usage='usage: blobcrash [resolve]'
-for words in 'resolve resolve' 'resolve --' 'Resolve' '--version' 'help help'; do
+for words in 'resolve resolve' 'resolve --' 'Resolve' '--version' 'help help' 'build resolve' 'explain more' 'explore more'; do
     # shellcheck disable=SC2086
     run "$top/blobcrash" $words </dev/null
     expect "arguments '$words'" 2 '' "$usage"
@@ -186,10 +186,10 @@ expect 'from another directory' 0 "valid 0 7 8$line" ''
 # The launcher, with a toolchain that logs its arguments and makes a program that prints its own.
 copy=$work/copy
 tools=$work/tools
-mkdir -p "$copy/crates/blobcrash/src" "$copy/tools" "$tools"
+mkdir -p "$copy/crates/blobcrash/src" "$copy/crates/blobcrash_explain/src" "$copy/tools" "$tools"
 cp "$top/blobcrash" "$top/HANDLES" "$copy"
 cp "$top/tools/building.sh" "$top/tools/prove" "$copy/tools"
-echo 'blobcrash:' >"$copy/crates.txt"
+printf 'blobcrash:\nblobcrash_explain:\n' >"$copy/crates.txt"
 main=$copy/crates/blobcrash/src/main.rt
 echo first >"$main"
 cat >"$tools/rt" <<TOOL
@@ -197,10 +197,11 @@ cat >"$tools/rt" <<TOOL
 echo "\$*" >>"$work/asked"
 [ "\$1" = ci ] || exec "$tools/try" "\$@"
 sleep 1
-mkdir -p crates/blobcrash/out
-printf '#!/bin/sh\nfor word in "\$@"; do echo "<\$word>"; done\ncat\nexit 7\n' >crates/blobcrash/out/blobcrash
-chmod +x crates/blobcrash/out/blobcrash
-echo "rt: blobcrash proved"
+name=\$(ls crates)
+mkdir -p "crates/\$name/out"
+printf '#!/bin/sh\nfor word in "\$@"; do echo "<\$word>"; done\ncat\nexit 7\n' >"crates/\$name/out/\$name"
+chmod +x "crates/\$name/out/\$name"
+echo "rt: \$name proved"
 TOOL
 cat >"$tools/try" <<'TOOL'
 #!/bin/sh
@@ -276,6 +277,19 @@ asked 'none of these is built' ''
 echo fourth >"$main"
 run launch build
 expect 'a build' 0 '' "$notice${line}blobcrash: out/blobcrash is proved and built"
+rm "$work/asked"
+
+# `explain` is a program of its own.
+run unproved explain 'two words' <"$work/in"
+expect 'explain without a proof' 2 "[two words]${line}open p 62$line" \
+    "not proved yet: ./blobcrash build explain proves and builds it, about N minutes${line}line 3: bad call"
+asked 'its arguments have no word before them' "try -- two words$line"
+run launch build explain
+expect 'a build of explain' 0 '' \
+    "proving 1 crates to build blobcrash_explain, about N minutes${line}blobcrash_explain is proved${line}blobcrash: out/blobcrash_explain is proved and built"
+run launch explain 'two words' </dev/null
+expect 'a run of explain' 7 "<two words>$line" ''
+asked 'one build' "ci$line"
 
 printf '#!/bin/sh\necho "no proof of it"\nexit 1\n' >"$tools/rt"
 echo fifth >"$main"
