@@ -7,3 +7,5 @@ mod failing;
 mod resolutions;
 #[cfg(test)]
 mod script_runs;
+#[cfg(test)]
+mod stream_sizes;
