@@ -2,6 +2,7 @@ pub mod AskedSyncs
 pub mod AskedWrites
 pub mod AskSteps
 pub mod CallSteps
+pub mod EmptySlots
 pub mod ExclusiveEnds
 pub mod ExclusiveOpens
 pub mod LooseOpens

@@ -1,9 +1,8 @@
 -- The words of a scripted stream, one after another.
-use Rattle.std.proofs.Common.{◌≡◌, ◌≢◌, ◌<◌, ◌≤◌, ◌+◌, ◌-◌, ℕ, zero, suc, List, [], ◌∷◌, length, get_or, drop, replicate, None, refl, sym, ap, ◌∙◌, subst, arith}
+use Rattle.std.proofs.Common.{◌≡◌, ◌≢◌, ◌<◌, ◌≤◌, ◌+◌, ◌-◌, ℕ, zero, suc, List, [], ◌∷◌, get_or, drop, None, refl, sym, ap, ◌∙◌, arith}
 use Rattle.std.proofs.lemmas.List.{get_or-drop}
-use Rattle.rand_core.specs.Stream.{Stream, u64_call}
 use Rattle.rand_core.specs.Steps.{stream_of}
-use Rattle.blob_states.specs.Scripted.{Left, scripted, next_of}
+use Rattle.blob_states.specs.Scripted.{scripted}
 use Rattle.blob_tree.specs.WordsLeft.{EndsAfter, word_at}
 
 word_of : (words : List ℕ) (i : ℕ) → word_at (scripted (words, None)) i ≡ get_or words i 0

@@ -1,6 +1,7 @@
 use Rattle.std.proofs.Common.{rules, refl, ap, ◌≡◌, ◌∙◌, ◌++◌, ◌∷◌, [], Some, length}
 use Rattle.std.specs.Range.{range_inclusive_start, range_inclusive_end}
 use Rattle.blob_header.specs.Refusals.{Memory, refusal_of}
+use Rattle.blob_opens.specs.Opens.{store_handle}
 use Rattle.blob_faulty.specs.Wrapper.{inside, size_of}
 use Rattle.blob_memory.specs.Store.{place, live}
 use Rattle.blob_laboratory.specs.Tables.{as_held}
@@ -24,18 +25,18 @@ returns-in-Ok c =
     let v = c.in-Some.versions in
     let first = (range_inclusive_start v).0 in
     let last = (range_inclusive_end v).0 in
-    let inner = c.in-Ok.blob in
+    let inner = store_handle c.in-Ok.blob in
     let q = taken _ _ _ _ _ _ _ _ c.in-Ok.ensures.answer refl in
     let leaves = q.asked.1 in
     let found = c.in-Ok.ensures.accepted in
     open_for c.args.self.now _ c.args.partition.now c.args.name.now _ _ _ _ c.in-Some.ensures.versions
-    (exclusive_done c.args.self.now _ c.args.partition.now c.args.name.now first last c.open_registered.new.self (place (inside inner)) (live (inside inner)) c.in-Ok.version.0 h _ _ _ found.opened
+    (exclusive_done c.args.self.now _ c.args.partition.now c.args.name.now first last c.open_exclusive.new.self (place (inside inner)) (live (inside inner)) c.in-Ok.version.0 h _ _ _ found.opened
     (c.add.ensures.number ∙ ap length c.reserve.ensures.handles) found.size refl (ap (λ b. place (inside b)) made) (ap (λ b. live (inside b)) made) (ap size_of made ∙ found.tracked ∙ found.size)
-    (c.exclusive.ensures.registration ∙ ap Some c.in-Ok.ensures.registration) (c.add.ensures.handles ∙ ap (λ hs. hs ++ Some h ∷ []) c.reserve.ensures.handles)
+    (c.exclusive.ensures.registration ∙ ap Some c.in-Ok.ensures.handle) (c.add.ensures.handles ∙ ap (λ hs. hs ++ Some h ∷ []) c.reserve.ensures.handles)
     refl refl q.free q.left q.asked.0 c.in-Ok.ensures.registered refl leaves.numbers.config leaves.drawn found.files)
 
-pub returns-in-Err-open_registered : goal.returns-in-Err-open_registered
-returns-in-Err-open_registered c =
+pub returns-in-Err-open_exclusive : goal.returns-in-Err-open_exclusive
+returns-in-Err-open_exclusive c =
     let v = c.in-Some.versions in
     open_for c.args.self.now _ c.args.partition.now c.args.name.now _ _ _ _ c.in-Some.ensures.versions
-    (exclusive_failed c.args.self.now _ c.args.partition.now c.args.name.now (range_inclusive_start v).0 (range_inclusive_end v).0 _ refl c.reserve.ensures.handles c.in-Err-open_registered.ensures.err _ c.in-Err-open_registered.ensures.answer refl)
+    (exclusive_failed c.args.self.now _ c.args.partition.now c.args.name.now (range_inclusive_start v).0 (range_inclusive_end v).0 _ refl c.reserve.ensures.handles c.in-Err-open_exclusive.ensures.err _ c.in-Err-open_exclusive.ensures.answer refl)
