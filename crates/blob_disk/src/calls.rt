@@ -13,7 +13,7 @@ ghost use Rattle.blob_disk.specs.Outcomes.{KeepsOutcomes, LeavesDisk, Leads, IsC
 
 use crate::{NAME, PARTITION};
 use blob_base::laws::opens::accepted_opens;
-use blob_base::{Blob, Error, Storage};
+use blob_base::{Blob, Error, Storage, WriteOptions};
 use blob_faulty::laws::current_handles::{found, live_bytes, sizes};
 use blob_faulty::laws::kept_records;
 use blob_faulty::laws::outcomes::{entries, recorded};
@@ -78,7 +78,7 @@ pub(crate) fn write<R: Rng>(
     found::<R>();
     sizes();
     live_bytes();
-    blob.write_from(store, at as u64, bytes)
+    blob.write_from(store, at as u64, bytes, WriteOptions::default())
 }
 
 /// Makes the live bytes as long as `len`, or leaves them.

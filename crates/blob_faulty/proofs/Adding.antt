@@ -1,6 +1,6 @@
 -- What a wrapper's calls add to the logs of the files that it stands for.
 use Rattle.std.proofs.Common.{◌≡◌, ◌≢◌, ℕ, ◌<◌, Bool, true, false, List, [], ◌∷◌, length, Option, Some, None, cond, refl, sym, ap, subst, arith}
-use Rattle.std.specs.Prelude.{Result, Ok, Err, OnOk, option_map}
+use Rattle.std.specs.Prelude.{option_map}
 use Rattle.blob_model.specs.Live.{is_idle}
 use Rattle.blob_model.specs.Places.{Place, same_place}
 use Rattle.blob_model.specs.Directory.{Directory}
@@ -41,11 +41,6 @@ kept_some o (x ∷ b) h = refl
 pub loose_some : (k : PartialWriteMode × Rate) (n o : ℕ) (b : List ℕ) → 0 < length b → loose (Some k) n o b ≡ Loose (record { number = n; offset = o; bytes = b; mode = k.0; rate = k.1 }) ∷ []
 loose_some k n o [] h = absurd (omega arith)
 loose_some k n o (x ∷ b) h = refl
-
--- a consequence of three facts of a call that was answered Ok
-pub ok_three : {T E A B C P : Type 0} (r : Result T E) → OnOk r A → OnOk r B → OnOk r C → (A → B → C → P) → OnOk r P
-ok_three (Ok x) a b c f = f a b c
-ok_three (Err e) a b c f = tt
 
 pub bytes_some : (b : List ℕ) → 0 < length b → b ≢ []
 bytes_some [] h = absurd (omega arith)

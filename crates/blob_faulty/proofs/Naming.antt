@@ -1,5 +1,5 @@
 -- What opens, removals and finished syncs make of the files that a wrapper stands for.
-use Rattle.std.proofs.Common.{◌≡◌, ℕ, List, Option, Some, None, sym, ap, subst, refl}
+use Rattle.std.proofs.Common.{◌≡◌, ℕ, List, Option, Some, None, sym, subst, refl}
 use Rattle.std.specs.Prelude.{is_some}
 use Rattle.blob_model.specs.Places.{Place}
 use Rattle.blob_model.specs.Directory.{Directory, is_current, removed}
@@ -9,10 +9,9 @@ use Rattle.blob_model.specs.Opening.{IsOpened}
 use Rattle.blob_model.specs.Stands.{StandsFor}
 use Rattle.blob_model.proofs.FileSteps.{stands_same, stands_done}
 use Rattle.blob_model.proofs.NameSteps.{stands_opened, stands_removed}
-use Rattle.blob_faults.specs.declared.lists.Lists.{Lists}
 use Rattle.blob_faulty.specs.declared.storage.Storage.{Storage}
 use Rattle.blob_faulty.specs.Names.{Steps, emptied}
-use Rattle.blob_faulty.specs.Wrapper.{inner_of, config_of, pending_of, next_write_of, next_marker_of, KeepsNumbers, KeepsRecords, finished_by}
+use Rattle.blob_faulty.specs.Wrapper.{inner_of, pending_of, next_write_of, next_marker_of, KeepsNumbers, KeepsRecords, finished_by}
 use Rattle.blob_faulty.proofs.Adding.{numbered_so, at_each, keeps_stands}
 
 -- a call that changes nothing of them
@@ -51,17 +50,6 @@ finished_steps {S} {R} {O} place directory durable before after marker same fini
         StandsFor (directory (inner_of before)) (durable (inner_of before)) (pending_of place after) (next_write_of before) (next_marker_of before) files
     by None new = stands_same _ _ _ _ (pending_of place before) (pending_of place after) _ _ files refl (λ _. refl) new s
     by (Some k) new = stands_done _ _ (pending_of place before) (pending_of place after) _ _ k files new s
-
--- the same, where nothing else changes
-pub marker_steps : {S R O : Type 0} (place : O → Place) (directory : S → Directory) (durable : S → Durable) (before after : Storage S R O) (marker : Option ℕ) (lists : Lists S O) →
-    after ≡ record before { lists = lists } → ((o : Place) → pending_of place after o ≡ finished_by marker (pending_of place before o)) →
-    Steps place directory durable before after (λ files. files)
-marker_steps {S} {R} {O} place directory durable before after marker lists rest finished =
-    finished_steps place directory durable before after marker (ap (λ (w : Storage S R O). inner_of w) rest) finished (record {
-      next_write = ap (λ (w : Storage S R O). next_write_of w) rest;
-      next_marker = ap (λ (w : Storage S R O). next_marker_of w) rest;
-      config = ap (λ (w : Storage S R O). config_of w) rest;
-    })
 
 -- a draw, and another inner store, record nothing
 pub records_after : {S R O : Type 0} (place : O → Place) (w : Storage S R O) (inner : S) (rng : R) → KeepsRecords place w (record w { inner = inner; rng = rng })

@@ -1,9 +1,8 @@
 -- The replays of a crash, entry by entry and list by list.
-use Rattle.std.proofs.Common.{◌≡◌, ⊎_elim, ℕ, zero, suc, ◌+◌, ◌-◌, ◌<◌, ◌≤◌, max, min, Bool, true, false, not, ◌&&◌, ◌||◌, List, [], ◌∷◌, length, get_or, set, drop, replicate, Option, Some, None, refl, sym, ◌∙◌, ap, ap₂, subst, arith, true≢false, nat_lt, take, ◌++◌}
+use Rattle.std.proofs.Common.{◌≡◌, ⊎_elim, ℕ, zero, suc, ◌+◌, ◌-◌, ◌<◌, ◌≤◌, max, min, Bool, true, false, not, ◌&&◌, List, [], ◌∷◌, length, get_or, drop, replicate, Option, Some, None, refl, sym, ◌∙◌, ap, ap₂, subst, arith, true≢false, nat_lt, take, ◌++◌}
 use Rattle.std.specs.Prelude.{option_map, is_some, nat_le, Result, Ok, OnOk, IfSome}
 use Rattle.std.proofs.lemmas.Bool.{cases_Bool, cases_eq, cond_both, cond-true, cond-false, and_parts, leb-true, ltb-true, le-leb, lt-ltb, cases_lt}
-use Rattle.std.proofs.lemmas.Bool.Decides.{nat_tests}
-use Rattle.std.proofs.lemmas.List.{get_or-replicate, get_or-set_same, get_or-set_other, get_or_default, at_drop_more, length-take, take_all, get_or_append_left, get_or-take, get_or-append_right, get_or_past}
+use Rattle.std.proofs.lemmas.List.{get_or-replicate, get_or_default, at_drop_more, length-take, take_all, get_or_append_left, get_or-take, get_or-append_right, get_or_past}
 use Rattle.blob_model.specs.Bytes.{overlay_by, between, reach}
 use Rattle.blob_model.specs.Directory.{Directory, is_current}
 use Rattle.blob_model.specs.Durable.{Durable, with_changed}
@@ -53,21 +52,6 @@ width_in (x ∷ q) (suc i) d h y =
     let rest = width_in q i d (omega arith) y in
     cond_both (is_left (view x)) (view x ∷ left_in q) (left_in q) (λ r. width (view (get_or q i d)) ≤ widest r) (λ _. omega (arith, rest)) (λ _. rest)
 
--- a range of positions that is no longer chosen, one further
-pub uncovered_more : (xs ys : List Bool) (s i : ℕ) → s ≤ i → i < length xs → ((k : ℕ) → k < length xs → get_or xs k false ≡ (not (between s i k) && get_or ys k false)) →
-    (k : ℕ) → k < length xs → get_or (set xs i false) k false ≡ (not (between s (i + 1) k) && get_or ys k false)
-uncovered_more xs ys s i l h before k small = ⊎_elim same other (cases_eq k i)
-  where
-    same : k ≡ i → get_or (set xs i false) k false ≡ (not (between s (i + 1) k) && get_or ys k false)
-    same e =
-        let at : between s (i + 1) k ≡ true = grind (arith, nat_tests) in
-        ap (λ (j : ℕ). get_or (set xs i false) j false) e ∙ get_or-set_same xs i false false h ∙ sym (ap (λ (b : Bool). not b && get_or ys k false) at)
-
-    other : (k ≡ i → ⊥) → get_or (set xs i false) k false ≡ (not (between s (i + 1) k) && get_or ys k false)
-    other n =
-        let at : between s (i + 1) k ≡ between s i k = grind (arith, nat_tests) in
-        get_or-set_other xs i k false false n ∙ before k small ∙ sym (ap (λ (b : Bool). not b && get_or ys k false) at)
-
 -- as an index of the write
 same_test : (a b : Bool) → (a ≡ true → b ≡ true) → (b ≡ true → a ≡ true) → a ≡ b
 same_test true b f g = sym (f refl)
@@ -84,16 +68,6 @@ pub covered_at : (start end o len s e i k : ℕ) → s ≡ start - o → e ≡ m
 covered_at start end o len s e i k is_s is_e h a b c = same_test (between s i k) (between start end (o + k))
     (λ y. let r : (s ≤ k) × (k < i) = in_between s i k y in between_in start end (o + k) (omega arith) (omega arith))
     (λ y. let r : (start ≤ o + k) × (o + k < end) = in_between start end (o + k) y in between_in s i k (omega arith) (omega arith))
-
--- one hole further
-holes_one : (a b x : Bool) → (not (a || b) && x) ≡ (not b && (not a && x))
-holes_one true true x = refl
-holes_one true false x = refl
-holes_one false true x = refl
-holes_one false false x = refl
-
-pub holes_more : (h : ℕ × ℕ) (hs : Holes) (p : ℕ) (x : Bool) → (not (in_holes (h ∷ hs) p) && x) ≡ (not (in_holes hs p) && (not (between h.0 h.1 p) && x))
-holes_more h hs p x = holes_one (between h.0 h.1 p) (in_holes hs p) x
 
 -- the choices that are laid are those of the bare bytes
 pub masked : (w : Write) (hs : Holes) (t : Choices) (kept : List Bool) (x : List ℕ) → ((i : ℕ) → i < length w.bytes → get_or kept i false ≡ (not (in_holes hs (w.offset + i)) && t w.number i)) →

@@ -15,7 +15,7 @@ use Rattle.blob_faulty.specs.declared.storage.Storage.{Storage}
 use Rattle.blob_faulty.specs.Asked.{AsksResize}
 use Rattle.blob_faulty.specs.HandleLeaves.{AddsToLog, ResizeLeaves, Untouched}
 use Rattle.blob_faulty.specs.Wrapper.{KeepsDurable, KeepsNumbers}
-use Rattle.blob_faulty.specs.Writes.{View, Logs, Recorded, ResizedBy, SameRecords, Wrote, cut, seen}
+use Rattle.blob_faulty.specs.Writes.{View, Logs, ReachesBy, Recorded, ResizedBy, SameRecords, Wrote, cut, seen}
 use Rattle.blob_faulty.proofs.Plainly.{SameRest}
 use Rattle.blob_faulty.proofs.Writing.{adds_of, same_logs}
 
@@ -82,6 +82,11 @@ done_only direct old new len (Err e) w size durable rest = record {
   where
     same : SameRecords old new
     same = record { size = size; pending = rest.pending; next_write = rest.next_write; next_marker = rest.next_marker }
+
+-- refused, nothing is recorded of it
+pub unrecorded_by : {R T : Type 0} (old new : View R) (result : Result T Error) (refusal : Refusal) → OnErr result (new.size ≡ old.size) → SameRest old new → refused result ≡ Some refusal → SameRecords old new
+unrecorded_by old new (Ok x) refusal size rest is = absurd (cc)
+unrecorded_by old new (Err e) refusal size rest is = record { size = size; pending = rest.pending; next_write = rest.next_write; next_marker = rest.next_marker }
 
 -- it changes nothing
 stays : {R : Type 0} (direct : Bool) (old : View R) (len : ℕ) → ResizedBy Stays direct old old len (Some Injected)
@@ -165,9 +170,9 @@ of_reaches fate direct old new len size is w = of_fate fate direct old new len (
 
 -- What it leaves, by what was drawn.
 pub resize_leaves : {S R O B : Type 0} (store : stores.Ghosts S O) (handle : handles.Ghosts B S O) (stream : R → Stream) (b c : Blob B) (w w' : Storage S R O) (rng : R) (len : ℕ) (answer : Option Refusal) (fate : ResizeFate) (drawn : ResizeFate × Stream) →
-    (fate, stream rng) ≡ drawn → AsksResize handle b w c w' fate len answer → ResizedBy fate handle.is_direct (seen store handle b (record w { rng = rng })) (seen store handle c w') len answer → KeepsDurable store.durable (record w { rng = rng }) w' →
+    (fate, stream rng) ≡ drawn → AsksResize handle b w c w' fate len answer → ResizedBy fate handle.is_direct (seen store handle b (record w { rng = rng })) (seen store handle c w') len answer → ReachesBy store handle b (record w { rng = rng }) c w' fate answer → KeepsDurable store.durable (record w { rng = rng }) w' →
     ResizeLeaves store handle stream len drawn.0 drawn.1 b w answer c w'
-resize_leaves {S} {R} {O} {B} store handle stream b c w w' rng len answer fate drawn is asked resized kept =
+resize_leaves {S} {R} {O} {B} store handle stream b c w w' rng len answer fate drawn is asked resized reached kept =
     subst (λ (d : ResizeFate × Stream). ResizeLeaves store handle stream len d.0 d.1 b w answer c w') is (record {
       drawn = ap stream resized.rng;
       asked = asked;
@@ -179,6 +184,7 @@ resize_leaves {S} {R} {O} {B} store handle stream b c w w' rng len answer fate d
       recorded_after = λ direct. logged answer (resized.logs direct);
       unrecorded = λ some uninjected. untouched (resized.unrecorded some uninjected);
       injected = λ fault. ⊎_elim (λ k. inl (untouched k)) (λ logs. inr (logged (Some Injected) logs)) (resized.injected fault);
+      reached = λ fault. ⊎_elim (λ k. inl (untouched k)) (λ done. inr done) (reached fault);
     })
   where
     numbers : KeepsNumbers w w'

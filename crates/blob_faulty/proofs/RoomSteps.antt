@@ -1,21 +1,13 @@
 -- Room is made in a list, the inner store does the call, and an entry goes into the room.
-use Rattle.std.proofs.Common.{◌≡◌, ◌++◌, ◌∷◌, [], ℕ, refl, sym, ◌∙◌, ap, subst}
+use Rattle.std.proofs.Common.{◌≡◌, ◌++◌, ◌∷◌, [], ℕ, refl, sym, subst}
 use Rattle.blob_model.specs.Durable.{with_at}
 use Rattle.blob_model.specs.Pending.{Pending}
 use Rattle.blob_model.specs.Places.{Place}
 use Rattle.blob_faults.specs.declared.lists.Lists.{Lists}
 use Rattle.blob_faulty.specs.declared.storage.Storage.{Storage}
 use Rattle.blob_faults.specs.Lists.{held, list_of, IsAt}
-use Rattle.blob_faulty.specs.Wrapper.{pending_of, next_write_of, next_marker_of, config_of, KeepsNumbers}
+use Rattle.blob_faulty.specs.Wrapper.{pending_of}
 use Rattle.blob_faulty.proofs.Pushing.{after_room}
-
--- the lists of a wrapper alone are others, or its inner store alone
-pub numbers_after : {S R O : Type 0} (old mid done : Storage S R O) (lists : Lists S O) (inner : S) → mid ≡ record old { lists = lists } → done ≡ record mid { inner = inner } → KeepsNumbers old done
-numbers_after {S} {R} {O} old mid done lists inner room rest = record {
-  next_write = ap (λ (w : Storage S R O). next_write_of w) rest ∙ ap (λ (w : Storage S R O). next_write_of w) room;
-  next_marker = ap (λ (w : Storage S R O). next_marker_of w) rest ∙ ap (λ (w : Storage S R O). next_marker_of w) room;
-  config = ap (λ (w : Storage S R O). config_of w) rest ∙ ap (λ (w : Storage S R O). config_of w) room;
-}
 
 -- an entry that goes into the room
 pub pushed_at : {S R O : Type 0} (place : O → Place) (old mid done : Storage S R O) (inner : S) (new : Lists S O) (i : ℕ) (o : Place) (e : Pending) →

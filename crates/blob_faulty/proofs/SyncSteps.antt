@@ -46,15 +46,6 @@ pub refused_steps : {S R O B : Type 0} (store : stores.Ghosts S O) (handle : han
 refused_steps store handle b c old new rng answer synced some files s =
     keeps_stands store.place _ _ _ _ old new files synced.directory (synced.refused some) (records_of store handle b c old new rng (synced.unrecorded some) synced.config) s
 
--- a consequence of what a call ensures where it is answered Ok
-pub ok_of : {T A P : Type 0} (r : Result T Error) → OnOk r A → (refused r ≡ None → A → P) → OnOk r P
-ok_of (Ok x) a f = f refl a
-ok_of (Err e) a f = tt
-
-pub ok_by : {T P : Type 0} (r : Result T Error) → (refused r ≡ None → P) → OnOk r P
-ok_by (Ok x) h = h refl
-ok_by (Err e) h = tt
-
 pub err_by : {T P : Type 0} (r : Result T Error) → (IsSome (refused r) → P) → OnErr r P
 err_by (Ok x) h = tt
 err_by (Err e) h = h refl

@@ -62,6 +62,11 @@ resize_calls made (Resizes survives) len answer = made (Resize len ∷ []) answe
 resize_calls made Stays len answer = injected_for (made []) answer
 resize_calls made (Reaches size) len answer = injected_for (made (Resize size ∷ [])) answer
 
+-- the resize to the drawn length was made, and succeeded
+abbrev pub reached_by : (List HandleCall → Allowed) → ResizeFate → Type 0
+reached_by made (Reaches size) = made (Resize size ∷ []) None
+reached_by made fate = ⊥
+
 -- Of a handle and its wrapper before a call and after it.
 
 module _ {S R O B : Type 0} (handle : handles.Ghosts B S O) (b : Blob B) (before : Storage S R O) (c : Blob B) (after : Storage S R O) where
@@ -94,6 +99,9 @@ module _ {S R O B : Type 0} (handle : handles.Ghosts B S O) (b : Blob B) (before
 
   abbrev pub AsksResize : ResizeFate → ℕ → Allowed
   AsksResize fate len answer = Unasked answer ⊎ resize_calls InnerMade fate len answer
+
+  abbrev pub InnerReached : ResizeFate → Type 0
+  InnerReached fate = reached_by InnerMade fate
 
   -- by the draws: one that does nothing, and one whose end can't be counted, ask for nothing
   abbrev pub AsksDrawn : Config → Stream → Bool → ℕ → List ℕ → Allowed

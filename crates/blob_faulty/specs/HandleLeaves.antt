@@ -16,7 +16,7 @@ use Rattle.blob_faults.specs.Fates.{after_write}
 use Rattle.blob_faults.specs.Faults.{WriteFate, Done, Failed, draw, ResizeFate, resize_fate, drawn_fate}
 use Rattle.blob_faults.specs.Changes.{size_of_runs}
 use Rattle.blob_faults.specs.Recorded.{recorded_write, recorded_resize, live_of_write, live_of_resize, size_of_write, size_of_resize}
-use Rattle.blob_faulty.specs.Asked.{AsksDrawn, AsksResize, InnerRefusedInRoom}
+use Rattle.blob_faulty.specs.Asked.{AsksDrawn, AsksResize, InnerReached, InnerRefusedInRoom}
 use Rattle.blob_faulty.specs.Names.{Steps}
 use Rattle.blob_faulty.specs.Syncs.{Publishes, Starts}
 use Rattle.blob_faulty.specs.Wrapper.{inner_of, rng_of, config_of, next_write_of, next_marker_of, pending_of, inside, size_of, KeepsNumbers, KeepsRecords, Adds}
@@ -116,6 +116,8 @@ pub record ResizeLeaves {S R O B : Type 0} (store : stores.Ghosts S O) (handle :
   -- refused over any store, as a write
   pub unrecorded : IsSome answer → answer ≢ Some Injected → Untouched store b before c after
   pub injected : answer ≡ Some Injected → Untouched store b before c after ⊎ AddsToLog store handle b before after (recorded_resize fate len (Some Injected))
+  -- and leaves something recorded only if the inner blob resized to the drawn length
+  pub reached : answer ≡ Some Injected → Untouched store b before c after ⊎ InnerReached handle b before c after fate
 
 -- a sync
 pub record SyncLeaves {S R O B : Type 0} (store : stores.Ghosts S O) (handle : handles.Ghosts B S O) (stream : R → Stream) (b : Blob B) (before : Storage S R O) (answer : Option Refusal) (c : Blob B) (after : Storage S R O) : Type 0 where

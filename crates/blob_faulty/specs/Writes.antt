@@ -18,7 +18,7 @@ use Rattle.blob_faulty.specs.declared.blob.Blob.{Blob}
 use Rattle.blob_faults.specs.declared.config.Config.{Config}
 use Rattle.blob_faulty.specs.declared.storage.Storage.{Storage}
 use Rattle.blob_faults.specs.Lists.{held}
-use Rattle.blob_faulty.specs.Asked.{AsksLaid, InnerRefused, InnerRefusedInRoom}
+use Rattle.blob_faulty.specs.Asked.{AsksLaid, InnerReached, InnerRefused, InnerRefusedInRoom}
 use Rattle.blob_faulty.specs.Pieces.{first_after}
 use Rattle.blob_faulty.specs.Wrapper.{pending_of}
 use Rattle.blob_faults.specs.Faults.{WriteFate, Done, Failed, ResizeFate, retention}
@@ -284,6 +284,10 @@ module _ {S R O B : Type 0} (store : stores.Ghosts S O) (handle : handles.Ghosts
 
   abbrev pub ResizesBy : ResizeFate → ℕ → Option Refusal → Type 0
   ResizesBy fate len answer = ResizedBy fate handle.is_direct (seen store handle b w) (seen store handle b' w') len answer
+
+  -- a fault records nothing, unless the inner blob resized to the drawn length
+  abbrev pub ReachesBy : ResizeFate → Option Refusal → Type 0
+  ReachesBy fate answer = answer ≡ Some Injected → SameRecords (seen store handle b w) (seen store handle b' w') ⊎ InnerReached handle b w b' w' fate
 
   abbrev pub Syncs : Option Refusal → Type 0
   Syncs answer = Synced (seen store handle b w) (seen store handle b' w') answer

@@ -1,7 +1,9 @@
-//! Reads into a slice of the caller's, and plain writes of one, over a memory store. No list is made for the call.
-ghost use Rattle.std.specs.Prelude.{◌≡◌, ◌≤◌, ◌<◌, ◌+◌, ◌^◌, false, Some, OnOk, OnErr, length, take, drop};
+//! Reads into a slice of the caller's, and writes of one, over a memory store.
+ghost use Rattle.std.specs.Prelude.{◌≡◌, ◌≢◌, ◌≤◌, ◌<◌, ◌+◌, ◌^◌, [], true, false, Some, OnOk, OnErr, length, take, drop};
 ghost use Rattle.blob_header.specs.Refusals.{refused, IsMemory};
-ghost use Rattle.blob_model.specs.Bytes.{written};
+ghost use Rattle.blob_model.specs.Durable.{with_overlay};
+ghost use Rattle.blob_model.specs.Live.{live_written};
+ghost use Rattle.blob_base.specs.Options.{is_sync};
 ghost use Rattle.blob_model.specs.Directory.{is_current};
 ghost use Rattle.blob_faults.specs.Fates.{write_fate_of, IsSized};
 ghost use Rattle.blob_base.specs.HandleCalls.{Write};
@@ -102,30 +104,34 @@ impl Blob<blob_memory::Blob> {
         Ok(())
     }
 
-    /// A plain write whose fate was drawn. The bytes of one that fails are parted into runs, and so are copied.
+    /// Performs a write by its drawn outcome. Copies the bytes, unless it is a plain write that no draw fails.
     fn write_from_by_fate<R>(
         &mut self,
         store: &mut Storage<Memory, R>,
         fate: WriteFate,
         offset: u64,
         bytes: &[u8],
+        options: WriteOptions,
     ) -> Result<(), Error>
+        requires some { is_sync options ≡ true → bytes.now ≢ [] }
         requires fits { offset + length bytes.now < 2 ^ 64 }
         requires sized { IsSized (length bytes.now) (write_fate_of fate) }
-        ensures allowed { MayWriteBy memory_handle self.old store.old (write_fate_of fate) false offset bytes.now (refused result) }
-        ensures asked { AsksWrite memory_handle self.old store.old self.new store.new (write_fate_of fate) false offset bytes.now (refused result) }
-        ensures wrote { WritesBy memory_store memory_handle self.old store.old self.new store.new (write_fate_of fate) false offset bytes.now (refused result) }
+        ensures allowed { MayWriteBy memory_handle self.old store.old (write_fate_of fate) (is_sync options) offset bytes.now (refused result) }
+        ensures asked { AsksWrite memory_handle self.old store.old self.new store.new (write_fate_of fate) (is_sync options) offset bytes.now (refused result) }
+        ensures wrote { WritesBy memory_store memory_handle self.old store.old self.new store.new (write_fate_of fate) (is_sync options) offset bytes.now (refused result) }
         ensures failed { FailsBy memory_store memory_handle self.old store.old self.new store.new (write_fate_of fate) offset bytes.now (refused result) }
     {
-        if let WriteFate::Done = &fate {
-            return self.write_plain_from(store, offset, bytes);
+        if !options.contains(WriteOptions::SYNC) {
+            if let WriteFate::Done = &fate {
+                return self.write_plain_from(store, offset, bytes);
+            }
         }
         let alloc = *store.lists.all.lists.allocator();
         let bytes = IoBufs::from_vec(Vec::from_slice(alloc, bytes)?)?;
-        self.write_by_fate(store, fate, offset, bytes, WriteOptions::default())
+        self.write_by_fate(store, fate, offset, bytes, options)
     }
 
-    /// A plain write of these bytes: draws, answers, records and leaves what `write_at` without SYNC does.
+    /// Writes these bytes: as `write_at`, in all that it draws, returns, records and leaves.
     ///
     /// # Errors
     ///
@@ -136,22 +142,28 @@ impl Blob<blob_memory::Blob> {
         store: &mut Storage<Memory, R>,
         offset: u64,
         bytes: &[u8],
+        options: WriteOptions,
     ) -> Result<(), Error>
-        ensures allowed { ⟦<Blob<blob_memory::Blob> as blob_base::Blob<Storage<Memory, R>>>⟧.allows_write self.old store.old offset bytes.now false (refused result) }
-        ensures leaves { WriteLeaves memory_store memory_handle R.stream offset bytes.now false self.old store.old (refused result) self.new store.new }
-        ensures live { OnOk result (live (inside self.new) ≡ written (live (inside self.old)) offset bytes.now) }
-        ensures durable { OnOk result (durable (inner_of store.new) ≡ durable (inner_of store.old)) }
+        ensures allowed { ⟦<Blob<blob_memory::Blob> as blob_base::Blob<Storage<Memory, R>>>⟧.allows_write self.old store.old offset bytes.now (is_sync options) (refused result) }
+        ensures leaves { WriteLeaves memory_store memory_handle R.stream offset bytes.now (is_sync options) self.old store.old (refused result) self.new store.new }
+        ensures live { OnOk result (live (inside self.new) ≡ live_written (is_sync options) (live (inside self.old)) offset bytes.now) }
+        ensures synced { OnOk result (is_sync options ≡ true → durable (inner_of store.new) ≡ with_overlay (durable (inner_of store.old)) (place (inside self.old)) offset bytes.now) }
+        ensures plain { OnOk result (is_sync options ≡ false → durable (inner_of store.new) ≡ durable (inner_of store.old)) }
         ensures stale { is_current (directory (inner_of store.old)) (place (inside self.old)) ≡ false → durable (inner_of store.new) ≡ durable (inner_of store.old) }
         ensures memory { IsMemory result → (live (inside self.new) ≡ live (inside self.old)) × (durable (inner_of store.new) ≡ durable (inner_of store.old)) }
         ensures directory { directory (inner_of store.new) ≡ directory (inner_of store.old) }
         ensures place { place (inside self.new) ≡ place (inside self.old) }
     {
+        let sync = options.contains(WriteOptions::SYNC);
         let len = bytes.len();
+        if sync && len == 0 {
+            return Ok(());
+        }
         if offset.checked_add(len as u64).is_none() {
             return Err(Error::OffsetOverflow);
         }
         let alloc = *store.lists.all.lists.allocator();
-        let fate = draw_write(alloc, &store.config, false, offset, len, &mut store.rng)?;
-        self.write_from_by_fate(store, fate, offset, bytes)
+        let fate = draw_write(alloc, &store.config, sync, offset, len, &mut store.rng)?;
+        self.write_from_by_fate(store, fate, offset, bytes, options)
     }
 }

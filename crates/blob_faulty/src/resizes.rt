@@ -7,7 +7,7 @@ ghost use Rattle.blob_faults.specs.Fates.{resize_fate_of};
 ghost use Rattle.blob_base.specs.HandleCalls.{Resize};
 ghost use Rattle.blob_faulty.specs.Asked.{Asks, AsksResize};
 ghost use Rattle.blob_faulty.specs.Wrapper.{KeepsDurable};
-ghost use Rattle.blob_faulty.specs.Writes.{Writes, Records, ResizesBy, cut};
+ghost use Rattle.blob_faulty.specs.Writes.{Writes, Records, ReachesBy, ResizesBy, cut};
 
 use crate::blob::Blob;
 use crate::storage::Storage;
@@ -69,6 +69,7 @@ impl<B> Blob<B> {
         ensures allowed { allows_resize (B.allows_resize self.old.inner store.old.inner) (resize_fate_of fate) len (refused result) }
         ensures asked { AsksResize B.Blob self.old store.old self.new store.new (resize_fate_of fate) len (refused result) }
         ensures resized { ResizesBy S.Durable B.Blob self.old store.old self.new store.new (resize_fate_of fate) len (refused result) }
+        ensures reached { ReachesBy S.Durable B.Blob self.old store.old self.new store.new (resize_fate_of fate) (refused result) }
         ensures kept { KeepsDurable S.durable store.old store.new }
     {
         match fate {

@@ -1,5 +1,5 @@
 -- What is asked of a handle by a write and by a resize, from what the wrapper promises of them.
-use Rattle.std.proofs.Common.{inl, [], refl, ap, ◌≡◌, ◌≢◌, ℕ, ◌<◌, inr, List, Bool, true, Option, Some, None, sym, ◌∙◌, subst, length}
+use Rattle.std.proofs.Common.{refl, ◌≡◌, ◌≢◌, ℕ, ◌<◌, inr, List, Bool, true, Option, Some, None, sym, ◌∙◌, subst, length}
 use Rattle.std.specs.Prelude.{is_some}
 use Rattle.blob_model.specs.Live.{is_idle}
 use Rattle.blob_model.specs.Directory.{Directory}
@@ -12,9 +12,8 @@ use Rattle.blob_header.specs.declared.error.Error.{Error}
 use Rattle.blob_faults.specs.Answers.{allows_write, allows_fate, allows_resize, injected_for}
 use Rattle.blob_faults.specs.Fates.{has_uncounted_end, after_write}
 use Rattle.blob_faults.specs.Faults.{ResizeFate, Resizes, Stays, Reaches, drawn_fate, write_fate, resize_fate, retention}
-use Rattle.blob_faults.specs.Changes.{Changes, laying, resize_changes}
-use Rattle.blob_faults.specs.Recorded.{written_by, recorded_write, recorded_resize, live_of_write, live_of_resize, size_of_write, size_of_resize}
-use Rattle.blob_faults.proofs.Unchanged.{memory_changes}
+use Rattle.blob_faults.specs.Changes.{resize_changes}
+use Rattle.blob_faults.specs.Recorded.{recorded_write, recorded_resize, live_of_write, live_of_resize, size_of_write, size_of_resize}
 use Rattle.blob_faulty.specs.Wrapper.{Stands, Adds, config_of, inner_of as store_of, next_write_of}
 use Rattle.blob_memory.specs.Answers.{OrMemory, AllowsWrite, end_refusal}
 use Rattle.blob_memory.specs.Store.{directory, durable}
@@ -130,16 +129,3 @@ module _ (w w' : Wrapper) (h h' : Held) (len : ℕ) (names : directory (store_of
       (λ v u below. added w w' v.files h.place (λ n. (resize_changes fate len (Some (refusal_of e))).entries n) names (by_any_number (Some (refusal_of e)) adds) below u.files)
       (λ v. same_held h h' (live_of_resize fate h.live len (Some (refusal_of e))) (size_of_resize fate h.size len (Some (refusal_of e))) place live size registration)
       config
-
--- A write for whose copy there is no memory: the wrapper wasn't asked.
-
-pub write_unasked : (w : Wrapper) (h : Held) (offset : ℕ) (bytes : List ℕ) (sync : Bool) (e : Error) → Some (refusal_of e) ≡ Some Memory → PerformsAsk w h (Write offset bytes sync) (reply.Failed e) w h
-write_unasked w h offset bytes sync e memory =
-    let unchanged : written_by (config_of w) (stream_of w) sync offset bytes (Some (refusal_of e)) ≡ laying [] (λ number. []) =
-    ap (written_by (config_of w) (stream_of w) sync offset bytes) memory ∙ memory_changes (write_fate (config_of w) sync offset bytes (stream_of w)).0 (retention (config_of w).write_rate) sync offset bytes in
-    asks_by w w h h (Write offset bytes sync) (reply.Failed e)
-    (λ v u. inl (refl, memory))
-    (λ v u below. subst (λ (c : Changes). IsFor w (all_logged v.files h.place (c.entries v.files.next_write))) (sym unchanged) u.files)
-    (λ v. same_held h h (live_of_write (config_of w) (stream_of w) sync h.live offset bytes (Some (refusal_of e))) (size_of_write (config_of w) (stream_of w) sync h.size offset bytes (Some (refusal_of e))) refl
-    (sym (ap (λ (c : Changes). c.live h.live) unchanged)) (sym (ap (λ (c : Changes). c.size h.size) unchanged)) refl)
-    refl

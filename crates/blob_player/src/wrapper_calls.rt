@@ -5,7 +5,7 @@ use crate::calls::Own;
 use crate::found::{Found, bytes, done};
 use crate::place::Place;
 use crate::words;
-use blob_base::{DEFAULT_BLOB_VERSION, Error, Storage};
+use blob_base::{DEFAULT_BLOB_VERSION, Error, Storage, WriteOptions};
 use blob_calls::Reply;
 use blob_faulty::Config;
 use blob_laboratory::ScriptedRng;
@@ -149,7 +149,9 @@ impl WrapperPlace<Memory> {
         let number = args.handle();
         let blob = self.place.blobs.get_mut(number).ok_or(Error::Closed)?;
         if let Own::WriteFrom = own {
-            return blob.write_from(&mut self.place.store, at, &slice).map(done);
+            let plain = WriteOptions::default();
+            let store = &mut self.place.store;
+            return blob.write_from(store, at, &slice, plain).map(done);
         }
         blob.read_into(&mut self.place.store, at, &mut slice)?;
         Ok(bytes(slice))

@@ -1,7 +1,8 @@
 // Calls through a handle, and the end of a started sync.
-ghost use Rattle.std.specs.Prelude.{◌≡◌, ◌≢◌, true, false, Some, IfOk, OnErr};
+ghost use Rattle.std.specs.Prelude.{◌≡◌, ◌≢◌, Some};
 ghost use Rattle.std.specs.Bool.{OnTrue, OnFalse};
-ghost use Rattle.blob_header.specs.Refusals.{IsMemory, Memory, refused};
+ghost use Rattle.blob_base.specs.Options.{is_sync};
+ghost use Rattle.blob_header.specs.Refusals.{Memory, refused};
 ghost use Rattle.blob_calls.specs.Acts.{Read, Write, Resize, Size, Sync, StartSync, Through, Finish};
 ghost use Rattle.blob_laboratory.specs.LabStands.{PerformsAsk, StartsSync, Performs};
 ghost use Rattle.blob_laboratory.specs.Tables.{as_held, syncs_of};
@@ -10,16 +11,19 @@ use crate::lab::handles::Handle;
 use crate::lab::syncs::Syncs;
 use crate::lab::{Lab, Wrapper};
 use blob_base::laws::overlays::runs_are_choices;
-use blob_base::{Blob, Error, IoBufs, ReadOptions, Storage, WriteOptions};
+use blob_base::{Blob, Error, ReadOptions, Storage, WriteOptions};
 use blob_calls::Reply;
-use std::alloc::{AllocError, Global};
+use std::alloc::AllocError;
 
-/// A copy of a write's bytes. The only error is `Memory`.
-fn copied(alloc: Global, bytes: &[u8]) -> Result<IoBufs, Error>
-    ensures ok { IfOk result (λ copy. copy ≡ bytes.now) }
-    ensures memory { OnErr result (IsMemory result) }
+/// Returns `SYNC` for a durable write, otherwise no option.
+fn write_options(sync: bool) -> WriteOptions
+    ensures { is_sync result ≡ sync }
 {
-    IoBufs::from_vec(Vec::from_slice(alloc, bytes)?)
+    if sync {
+        WriteOptions::SYNC
+    } else {
+        WriteOptions::default()
+    }
 }
 
 /// Whether there was no memory.
@@ -46,54 +50,14 @@ impl Handle {
         }
     }
 
-    /// A plain write lends its bytes: the wrapper copies them where it records the write.
-    fn write_plain(&mut self, wrapper: &mut Wrapper, offset: u64, bytes: &[u8]) -> Reply
-        ensures { PerformsAsk wrapper.old (as_held self.old) (Write offset bytes.now false) result wrapper.new (as_held self.new) }
-    {
-        runs_are_choices();
-        match self.blob.write_from(wrapper, offset, bytes) {
-            Ok(()) => Reply::Done,
-            Err(e) => Reply::Failed(e),
-        }
-    }
-
-    fn write_synced(
-        &mut self,
-        alloc: Global,
-        wrapper: &mut Wrapper,
-        offset: u64,
-        bytes: &[u8],
-    ) -> Reply
-        ensures { PerformsAsk wrapper.old (as_held self.old) (Write offset bytes.now true) result wrapper.new (as_held self.new) }
-    {
-        let copy = match copied(alloc, bytes) {
-            Ok(copy) => copy,
-            Err(e) => return Reply::Failed(e),
-        };
-        runs_are_choices();
-        match self
-            .blob
-            .write_at(wrapper, offset, copy, WriteOptions::SYNC)
-        {
-            Ok(()) => Reply::Done,
-            Err(e) => Reply::Failed(e),
-        }
-    }
-
-    fn write(
-        &mut self,
-        alloc: Global,
-        wrapper: &mut Wrapper,
-        offset: u64,
-        bytes: &[u8],
-        sync: bool,
-    ) -> Reply
+    fn write(&mut self, wrapper: &mut Wrapper, offset: u64, bytes: &[u8], sync: bool) -> Reply
         ensures { PerformsAsk wrapper.old (as_held self.old) (Write offset bytes.now sync) result wrapper.new (as_held self.new) }
     {
-        if sync {
-            self.write_synced(alloc, wrapper, offset, bytes)
-        } else {
-            self.write_plain(wrapper, offset, bytes)
+        let options = write_options(sync);
+        runs_are_choices();
+        match self.blob.write_from(wrapper, offset, bytes, options) {
+            Ok(()) => Reply::Done,
+            Err(e) => Reply::Failed(e),
         }
     }
 
@@ -148,7 +112,7 @@ impl Lab {
         let Some(mut handle) = self.handles.take(number) else {
             return Reply::NoHandle;
         };
-        let reply = handle.write(self.alloc, &mut self.wrapper, offset, bytes, sync);
+        let reply = handle.write(&mut self.wrapper, offset, bytes, sync);
         self.handles.put(number, handle);
         reply
     }

@@ -2,14 +2,15 @@ use Rattle.std.proofs.Common.{rules, ◌≡◌, true, false, [], ◌∷◌, Opti
 use Rattle.std.specs.Prelude.{◌⊎◌, IsSome}
 use Rattle.std.proofs.lemmas.Grind.{common_steps}
 use Rattle.blob_base.specs.HandleCalls.{Resize}
-use Rattle.blob_header.specs.Refusals.{Refusal, refused, refusal_of}
+use Rattle.blob_header.specs.Refusals.{Refusal, Injected, refused, refusal_of}
 use Rattle.blob_faults.specs.Answers.{injected_for}
 use Rattle.blob_faults.specs.Fates.{resize_fate_of}
 use Rattle.blob_faults.specs.Faults.{ResizeFate, Resizes, Stays, Reaches}
-use Rattle.blob_faulty.specs.Asked.{Unasked, InnerMade, AsksResize}
+use Rattle.blob_faulty.specs.Asked.{Unasked, InnerMade, InnerReached, AsksResize}
 use Rattle.blob_faulty.proofs.Asking.{once, asked_once, faulted, refused_too}
-use Rattle.blob_faulty.proofs.Plainly.{same_rest}
-use Rattle.blob_faulty.proofs.Resizing.{done_only, of_fate, of_reaches, of_stays, of_survives, reaches_none}
+use Rattle.blob_faulty.proofs.Fronts.{asked_of, some_refusal}
+use Rattle.blob_faulty.proofs.Plainly.{same_rest, same_view}
+use Rattle.blob_faulty.proofs.Resizing.{done_only, of_fate, of_reaches, of_stays, of_survives, reaches_none, unrecorded_by}
 use Rattle.blob_faulty.proofs.blob.Blob.resize_by_fate.Given.{Over}
 use Rattle.blob_faulty.proofs.blob.Blob.resize_by_fate.Goals as goal
 
@@ -83,3 +84,25 @@ returns-in_err-resize_pending-in-Reaches-clause-resized g c =
     of_fate _ _ _ _ _ _ (Reaches c.in-Reaches.size) (ap resize_fate_of c.in-Reaches.is) (rw (sym same)
     (reaches_none c.in-Reaches.size _ _ _ _ (g.B.Blob.allows_resize c.args.self.now.inner c.args.store.now.inner c.in-Reaches.size) (refused r.result) (refusal_of e) (same ∙ first_of (search rules, cc))
     (λ direct. g.met.B.Blob.resize_uninjected c.args.self.now.inner c.args.store.now.inner c.in-Reaches.size direct) r.ensures.allowed r.ensures.recorded))
+
+-- What is recorded if a draw fails it.
+
+pub returns-in-Resizes-true-clause-reached : goal.returns-in-Resizes-true-clause-reached
+returns-in-Resizes-true-clause-reached g c is = inl (c.resize_pending.ensures.recorded.refused refl (some_refusal _ _ is))
+
+pub returns-in-Resizes-false-clause-reached : goal.returns-in-Resizes-false-clause-reached
+returns-in-Resizes-false-clause-reached g c is =
+    let r = c.resize_unrecorded in
+    inl (unrecorded_by _ _ r.result Injected r.ensures.untracked (same_rest g.S.Durable g.B.Blob c.args.self.now r.new.self c.args.store.now r.new.store r.ensures.rest) is)
+
+pub returns-in-Stays-clause-reached : goal.returns-in-Stays-clause-reached
+returns-in-Stays-clause-reached g c is = inl (same_view _).records
+
+pub returns-in_ok-resize_pending-in-Reaches-clause-reached : goal.returns-in_ok-resize_pending-in-Reaches-clause-reached
+returns-in_ok-resize_pending-in-Reaches-clause-reached g c is =
+    let r = c.resize_pending-in-Reaches in
+    let made = once g.B.Blob.leaves (Resize c.in-Reaches.size) None _ _ _ _ (asked_of g.B.Blob c.args.self.now c.args.store.now r.new.self r.new.store c.in_ok-resize_pending-in-Reaches.ensures.asked) in
+    inr (subst (λ (f : ResizeFate). InnerReached g.B.Blob c.args.self.now c.args.store.now r.new.self r.new.store f) (sym (ap resize_fate_of c.in-Reaches.is)) made)
+
+pub returns-in_err-resize_pending-in-Reaches-clause-reached : goal.returns-in_err-resize_pending-in-Reaches-clause-reached
+returns-in_err-resize_pending-in-Reaches-clause-reached g c is = inl (c.resize_pending-in-Reaches.ensures.recorded.refused refl (refusal g c))
