@@ -239,7 +239,7 @@ fn handles_read_into_a_slice(rt: HostRuntime) -> Result<(), Fail> {
 #[test]
 fn handles_write_a_slice(rt: HostRuntime) -> Result<(), Fail> {
     let (mut store, mut blob) = with_blob(rt.alloc())?;
-    blob.write_from(&mut store, 2, b"XY")?;
+    blob.write_from(&mut store, 2, b"XY", WriteOptions::default())?;
     let read = blob.read_at(&mut store, 0, 4, ReadOptions::default())?;
     assert!(rt; read.coalesce().as_slice() == b"abXY".as_slice());
     Ok(())
