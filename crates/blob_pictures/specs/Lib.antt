@@ -1,2 +1,3 @@
+pub mod Choices
 pub mod Explained
 pub mod Explanations

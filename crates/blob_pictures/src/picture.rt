@@ -1,4 +1,7 @@
 // The text of what a crash did to a file.
+ghost use Rattle.std.specs.Prelude.{◌≡◌, true, false};
+ghost use Rattle.blob_pictures.specs.Choices.{choice_at};
+
 use crate::files::{File, Item, Write};
 use crate::rows::{Cell, STRIPE, push_row};
 use std::alloc::AllocError;
@@ -100,7 +103,11 @@ fn push_counts(write: &Write, text: &mut String) -> Result<(), AllocError> {
     Ok(())
 }
 
-fn fate_of(write: &Write, i: usize) -> Fate {
+/// Returns what became of the byte at an index of a write, by the choices of the crash.
+fn fate_of(write: &Write, i: usize) -> Fate
+    ensures kept { result ≡ Fate.Kept → choice_at write.now.kept.items i ≡ true }
+    ensures lost { result ≡ Fate.Lost → choice_at write.now.kept.items i ≡ false }
+{
     let at = write.offset.saturating_add(i as u64);
     if write.holes.iter().any(|hole| hole.0 <= at && at < hole.1) {
         Fate::Covered
