@@ -90,6 +90,8 @@ if has cargo "$compiler"; then
     run_cargo() { (cd "$top/bindings/rust" && CARGO_TARGET_DIR=$top/out/rust CARGO_NET_OFFLINE=true cargo --quiet "$@"); }
     run_cargo test >"$work/out" 2>"$work/err"
     tell $? 'Rust: cargo test'
+    run_cargo check --no-default-features --all-targets >"$work/out" 2>"$work/err"
+    tell $? 'Rust: cargo check without features'
     run_cargo build --release --examples >"$work/out" 2>"$work/err"
     tell $? 'Rust: cargo build --examples'
     answers 'Rust, line by line' "$top/out/rust/release/examples/lines"

@@ -1,23 +1,73 @@
 use crate::Error;
-use crate::store::{Shared, number};
-use std::cell::Cell;
-use std::rc::Rc;
+use crate::power::Effect;
+use crate::script::number;
+use crate::shared::{Opened, Shared, State};
+use std::ops::BitOr;
+use std::sync::{Arc, MutexGuard};
 
 /// How a write is done.
+///
+/// ```
+/// use blobcrash::WriteOptions;
+///
+/// let options = WriteOptions::default() | WriteOptions::SYNC;
+/// assert!(options.contains(WriteOptions::SYNC));
+/// assert_eq!(options.without(WriteOptions::SYNC), WriteOptions::default());
+/// ```
 #[derive(Clone, Copy, Debug, Default, PartialEq, Eq)]
+#[must_use]
 pub struct WriteOptions {
     sync: bool,
 }
 
 impl WriteOptions {
-    /// The bytes are durable once the write has returned `Ok`.
+    /// The bytes are durable when the write returns `Ok`.
+    ///
+    /// ```
+    /// # use blobcrash::WriteOptions;
+    /// assert_ne!(WriteOptions::SYNC, WriteOptions::default());
+    /// ```
     pub const SYNC: WriteOptions = WriteOptions { sync: true };
+
+    /// Returns whether these options have all of the others.
+    ///
+    /// ```
+    /// # use blobcrash::WriteOptions;
+    /// assert!(!WriteOptions::default().contains(WriteOptions::SYNC));
+    /// ```
+    #[must_use]
+    pub const fn contains(self, others: WriteOptions) -> bool {
+        self.sync || !others.sync
+    }
+
+    /// Returns these options without the others.
+    ///
+    /// ```
+    /// # use blobcrash::WriteOptions;
+    /// assert_eq!(WriteOptions::SYNC.without(WriteOptions::SYNC), WriteOptions::default());
+    /// ```
+    pub const fn without(self, others: WriteOptions) -> WriteOptions {
+        WriteOptions {
+            sync: self.sync && !others.sync,
+        }
+    }
+}
+
+impl BitOr for WriteOptions {
+    type Output = WriteOptions;
+
+    fn bitor(self, others: WriteOptions) -> WriteOptions {
+        WriteOptions {
+            sync: self.sync || others.sync,
+        }
+    }
 }
 
 /// An open handle of a blob, which is closed when it is dropped.
 ///
 /// After a crash, a reopen or the removal of the blob the handle is stale: it still has its live bytes, which no restart would leave.
-/// Each use then returns `StaleHandle`, unless [`Builder::allow_stale`](crate::Builder::allow_stale) or [`Blob::allow_stale`] let it.
+/// Each use then returns `StaleHandle`, unless [`Builder::allow_stale`](crate::Builder::allow_stale) or [`Blob::allow_stale`] allows
+/// it. While the power is off (see [`Store::crash_after`](crate::Store::crash_after)) each call returns `PowerLoss`.
 ///
 /// ```
 /// use blobcrash::{Error, Store, WriteOptions};
@@ -37,25 +87,14 @@ impl WriteOptions {
 /// ```
 #[derive(Debug)]
 pub struct Blob {
-    shared: Rc<Shared>,
-    opened: Rc<Opened>,
+    shared: Arc<Shared>,
+    opened: Arc<Opened>,
     handle: usize,
     version: u16,
 }
 
-/// What the store knows of an open handle.
-#[derive(Debug)]
-pub(crate) struct Opened {
-    partition: String,
-    name: Vec<u8>,
-    /// Why the handle is stale.
-    stale: Cell<Option<&'static str>>,
-    allow_stale: Cell<bool>,
-    pub(crate) is_closed: Cell<bool>,
-}
-
-/// A sync that was started. If it is dropped it is finished, and its outcome is lost. That makes no draw, and a crash leaves the same
-/// whether a sync was finished or not: it only frees the sync's entry in the store's table.
+/// A started sync. If it is dropped it is finished, and its outcome is lost. That makes no draw, and a crash leaves the same
+/// whether a sync was finished or not: finishing only frees the sync's entry in the store's table.
 ///
 /// ```
 /// # fn main() -> Result<(), blobcrash::Error> {
@@ -69,36 +108,20 @@ pub(crate) struct Opened {
 #[derive(Debug)]
 #[must_use = "`finish` returns the outcome"]
 pub struct StartedSync {
-    shared: Rc<Shared>,
+    shared: Arc<Shared>,
     number: usize,
     /// How often the store was reopened before: a reopen forgets every started sync.
     reopens: u64,
     is_finished: bool,
 }
 
-impl Opened {
-    pub(crate) fn new(partition: &str, name: &[u8], allow_stale: bool) -> Opened {
-        Opened {
-            partition: partition.to_owned(),
-            name: name.to_vec(),
-            stale: Cell::new(None),
-            allow_stale: Cell::new(allow_stale),
-            is_closed: Cell::new(false),
-        }
-    }
-
-    /// Whether this is a handle of a blob, or without a name of any blob of the partition.
-    pub(crate) fn is_of(&self, partition: &str, name: Option<&[u8]>) -> bool {
-        self.partition == partition && name.is_none_or(|name| self.name == name)
-    }
-
-    pub(crate) fn end(&self, why: &'static str) {
-        self.stale.set(Some(why));
-    }
-}
-
 impl Blob {
-    pub(crate) fn new(shared: Rc<Shared>, opened: Rc<Opened>, handle: usize, version: u16) -> Blob {
+    pub(crate) fn new(
+        shared: Arc<Shared>,
+        opened: Arc<Opened>,
+        handle: usize,
+        version: u16,
+    ) -> Blob {
         Blob {
             shared,
             opened,
@@ -108,38 +131,105 @@ impl Blob {
     }
 
     /// Returns the handle's number, by which lines of a script name it.
+    ///
+    /// ```
+    /// # fn main() -> Result<(), blobcrash::Error> {
+    /// let store = blobcrash::Store::builder().open()?;
+    /// let (blob, _) = store.open("p", b"b")?;
+    /// assert_eq!(store.call(&format!("size {}", blob.handle()))?, "size 0");
+    /// # Ok(())
+    /// # }
+    /// ```
+    #[must_use]
     pub fn handle(&self) -> usize {
         self.handle
     }
 
     /// Returns the blob's version.
+    ///
+    /// ```
+    /// # fn main() -> Result<(), blobcrash::Error> {
+    /// let store = blobcrash::Store::builder().open()?;
+    /// let (blob, _) = store.open_versioned("p", b"b", 1..=3)?;
+    /// assert_eq!(blob.version(), 3);
+    /// # Ok(())
+    /// # }
+    /// ```
+    #[must_use]
     pub fn version(&self) -> u16 {
         self.version
     }
 
     /// Returns whether the handle is from before a crash, a reopen or the removal of its blob.
+    ///
+    /// ```
+    /// # fn main() -> Result<(), blobcrash::Error> {
+    /// let store = blobcrash::Store::builder().open()?;
+    /// let (blob, _) = store.open("p", b"b")?;
+    /// store.remove("p", Some(b"b"))?;
+    /// assert!(blob.is_stale());
+    /// # Ok(())
+    /// # }
+    /// ```
+    #[must_use]
     pub fn is_stale(&self) -> bool {
-        self.opened.stale.get().is_some()
+        self.opened.is_stale()
     }
 
-    /// Lets the handle be used when it is stale, or not.
+    /// Sets whether the handle may be used when it is stale.
+    ///
+    /// ```
+    /// # fn main() -> Result<(), blobcrash::Error> {
+    /// let store = blobcrash::Store::builder().open()?;
+    /// let (blob, _) = store.open("p", b"b")?;
+    /// store.remove("p", Some(b"b"))?;
+    /// blob.allow_stale(true);
+    /// assert_eq!(blob.size()?, 0);
+    /// # Ok(())
+    /// # }
+    /// ```
     pub fn allow_stale(&self, allow: bool) {
-        self.opened.allow_stale.set(allow);
+        self.opened.allow_stale(allow);
     }
 
     /// Returns exactly `len` bytes at a logical offset. Errors: `Injected`, `OffsetOverflow`, `BlobInsufficientLength`, `Memory`,
     /// `OutOfMemory`, `StaleHandle`.
+    ///
+    /// ```
+    /// # use blobcrash::{Error, Store, WriteOptions};
+    /// # fn main() -> Result<(), Error> {
+    /// let store = Store::builder().open()?;
+    /// let (blob, _) = store.open("p", b"b")?;
+    /// blob.write_at(0, b"abc", WriteOptions::default())?;
+    /// assert_eq!(blob.read_at(1, 2)?, b"bc");
+    /// assert_eq!(blob.read_at(1, 3), Err(Error::BlobInsufficientLength));
+    /// # Ok(())
+    /// # }
+    /// ```
     pub fn read_at(&self, offset: u64, len: usize) -> Result<Vec<u8>, Error> {
-        self.check()?;
-        let mut session = self.shared.session.borrow_mut();
-        session.read_vec(self.handle, offset, len)
+        let mut state = self.usable()?;
+        state.permit(Effect::Reads)?;
+        state.session.read_vec(self.handle, offset, len)
     }
 
     /// Fills a buffer with the bytes at a logical offset. Errors as `read_at`, with the buffer unchanged.
+    ///
+    /// ```
+    /// # use blobcrash::{Store, WriteOptions};
+    /// # fn main() -> Result<(), blobcrash::Error> {
+    /// let store = Store::builder().open()?;
+    /// let (blob, _) = store.open("p", b"b")?;
+    /// blob.write_at(0, b"abc", WriteOptions::default())?;
+    /// let mut buffer = [0; 2];
+    /// blob.read_at_buf(1, &mut buffer)?;
+    /// assert_eq!(&buffer, b"bc");
+    /// # Ok(())
+    /// # }
+    /// ```
     pub fn read_at_buf(&self, offset: u64, into: &mut [u8]) -> Result<(), Error> {
-        self.check()?;
-        let mut session = self.shared.session.borrow_mut();
-        session.read(self.handle, offset, into)
+        let mut state = self.usable()?;
+        state.permit(Effect::Reads)?;
+        state.session.read(self.handle, offset, into)
     }
 
     /// Writes bytes at a logical offset, and zeros in a gap before them. They may be lost until they are synced.
@@ -148,70 +238,129 @@ impl Blob {
     /// - `Injected`. Some of the bytes may be written and durable.
     /// - `OffsetOverflow`, `GenerationsExhausted`, `Memory`, `StaleHandle`, with nothing written.
     /// - `BlobMissing` for a SYNC write through a stale handle that may be used: no durable byte is written.
+    ///
+    /// ```
+    /// # use blobcrash::{Store, WriteOptions};
+    /// # fn main() -> Result<(), blobcrash::Error> {
+    /// let store = Store::builder().seed(7).open()?;
+    /// let (blob, _) = store.open("p", b"b")?;
+    /// blob.write_at(0, b"durable", WriteOptions::SYNC)?;
+    /// blob.write_at(7, b", or not", WriteOptions::default())?;
+    /// # Ok(())
+    /// # }
+    /// ```
     pub fn write_at(&self, offset: u64, bytes: &[u8], options: WriteOptions) -> Result<(), Error> {
-        self.check()?;
-        let mut session = self.shared.session.borrow_mut();
-        session.write(self.handle, offset, bytes, options.sync)
+        let mut state = self.usable()?;
+        state.permit(Effect::Changes)?;
+        let sync = options.contains(WriteOptions::SYNC);
+        state.session.write(self.handle, offset, bytes, sync)
     }
 
-    /// Truncates the blob to a logical length, or extends it with zeros. The length is durable once it is synced. Errors: `Injected`,
+    /// Truncates the blob to a logical length, or extends it with zeros. The length is durable when it is synced. Errors: `Injected`,
     /// with a length between the two, or the earlier one; `OffsetOverflow`, `Memory` and `StaleHandle`, with the length unchanged.
+    ///
+    /// ```
+    /// # fn main() -> Result<(), blobcrash::Error> {
+    /// let store = blobcrash::Store::builder().open()?;
+    /// let (blob, _) = store.open("p", b"b")?;
+    /// blob.resize(2)?;
+    /// assert_eq!(blob.read_at(0, 2)?, [0, 0]);
+    /// # Ok(())
+    /// # }
+    /// ```
     pub fn resize(&self, len: u64) -> Result<(), Error> {
-        self.done(&format!("resize {} {len}", self.handle))
+        self.usable()?
+            .done(&format!("resize {} {len}", self.handle))
     }
 
     /// Returns the size that the handle tracks, in bytes.
+    ///
+    /// ```
+    /// # fn main() -> Result<(), blobcrash::Error> {
+    /// let store = blobcrash::Store::builder().open()?;
+    /// let (blob, _) = store.open("p", b"b")?;
+    /// blob.resize(2)?;
+    /// assert_eq!(blob.size()?, 2);
+    /// # Ok(())
+    /// # }
+    /// ```
     pub fn size(&self) -> Result<u64, Error> {
-        self.check()?;
         let line = format!("size {}", self.handle);
-        self.shared.asked(&line, |mut words| number(words.nth(1)))
+        self.usable()?
+            .asked(&line, |mut words| number(words.nth(1)))
     }
 
     /// Makes the handle's bytes durable. Errors, with no durable byte changed: `Injected`, `BlobMissing`, `Memory`, `StaleHandle`.
+    ///
+    /// ```
+    /// # use blobcrash::{Store, WriteOptions};
+    /// # fn main() -> Result<(), blobcrash::Error> {
+    /// let store = Store::builder().seed(7).open()?;
+    /// let (blob, _) = store.open("p", b"b")?;
+    /// blob.write_at(0, b"abc", WriteOptions::default())?;
+    /// blob.sync()?;
+    /// store.restart()?;
+    /// assert_eq!(store.open("p", b"b")?.1, 3);
+    /// # Ok(())
+    /// # }
+    /// ```
     pub fn sync(&self) -> Result<(), Error> {
-        self.done(&format!("sync {}", self.handle))
+        self.usable()?.done(&format!("sync {}", self.handle))
     }
 
     /// Starts to make the handle's bytes durable; `finish` returns the outcome. Errors: `Memory`, `StaleHandle`.
+    ///
+    /// ```
+    /// # fn main() -> Result<(), blobcrash::Error> {
+    /// let store = blobcrash::Store::builder().seed(7).open()?;
+    /// let (blob, _) = store.open("p", b"b")?;
+    /// blob.start_sync()?.finish()?;
+    /// # Ok(())
+    /// # }
+    /// ```
     pub fn start_sync(&self) -> Result<StartedSync, Error> {
-        self.check()?;
         let line = format!("startsync {}", self.handle);
-        let number = self.shared.asked(&line, |mut words| number(words.nth(1)))?;
+        let mut state = self.usable()?;
+        let number = state.asked(&line, |mut words| number(words.nth(1)))?;
         Ok(StartedSync {
-            shared: Rc::clone(&self.shared),
+            shared: Arc::clone(&self.shared),
             number,
-            reopens: self.shared.reopens.get(),
+            reopens: state.reopens,
             is_finished: false,
         })
     }
 
-    fn check(&self) -> Result<(), Error> {
-        match self.opened.stale.get() {
-            Some(why) if !self.opened.allow_stale.get() => Err(Error::StaleHandle(why)),
-            _ => Ok(()),
-        }
-    }
-
-    fn done(&self, line: &str) -> Result<(), Error> {
-        self.check()?;
-        self.shared.done(line)
+    /// Takes the store's lock, if the handle may be used.
+    fn usable(&self) -> Result<MutexGuard<'_, State>, Error> {
+        let state = self.shared.lock();
+        self.opened.check()?;
+        Ok(state)
     }
 }
 
 impl Drop for Blob {
     fn drop(&mut self) {
-        if !self.opened.is_closed.get() {
-            self.shared.opened.borrow_mut().remove(&self.handle);
-            let _ = self.shared.done(&format!("close {}", self.handle));
-        }
+        self.shared.lock().close(self.handle, &self.opened);
     }
 }
 
 impl StartedSync {
     /// Returns the outcome of the sync: an error of `sync`, or `GenerationsExhausted`. A reopen forgets every sync that was started
     /// before it: `NoHandle`.
+    ///
+    /// ```
+    /// # use blobcrash::{Error, Store};
+    /// # fn main() -> Result<(), Error> {
+    /// let store = Store::builder().seed(7).open()?;
+    /// let (blob, _) = store.open("p", b"b")?;
+    /// let started = blob.start_sync()?;
+    /// store.reopen()?;
+    /// assert_eq!(started.finish(), Err(Error::NoHandle));
+    /// # Ok(())
+    /// # }
+    /// ```
     pub fn finish(mut self) -> Result<(), Error> {
-        let outcome = self.shared.done(&format!("finish {}", self.number));
+        let outcome = self.shared.lock().done(&format!("finish {}", self.number));
         self.is_finished = outcome != Err(Error::OutOfMemory);
         outcome
     }
@@ -219,8 +368,9 @@ impl StartedSync {
 
 impl Drop for StartedSync {
     fn drop(&mut self) {
-        if !self.is_finished && self.reopens == self.shared.reopens.get() {
-            let _ = self.shared.done(&format!("finish {}", self.number));
+        let mut state = self.shared.lock();
+        if !self.is_finished && self.reopens == state.reopens {
+            let _ = state.done(&format!("finish {}", self.number));
         }
     }
 }

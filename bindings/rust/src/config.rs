@@ -1,6 +1,14 @@
 use crate::Error;
+use crate::script::tokens;
 
 /// A probability as a fraction of whole numbers, from 0 to 1.
+///
+/// ```
+/// use blobcrash::Probability;
+///
+/// let one_in_eight = Probability::new(1, 8).unwrap();
+/// assert!(one_in_eight != Probability::ZERO && one_in_eight != Probability::ONE);
+/// ```
 #[derive(Clone, Copy, Debug, PartialEq, Eq)]
 pub struct Probability {
     numerator: u64,
@@ -9,11 +17,21 @@ pub struct Probability {
 
 impl Probability {
     /// Never.
+    ///
+    /// ```
+    /// # use blobcrash::Probability;
+    /// assert_eq!(Probability::new(0, 1), Some(Probability::ZERO));
+    /// ```
     pub const ZERO: Probability = Probability {
         numerator: 0,
         denominator: 1,
     };
     /// Always.
+    ///
+    /// ```
+    /// # use blobcrash::Probability;
+    /// assert_eq!(Probability::new(1, 1), Some(Probability::ONE));
+    /// ```
     pub const ONE: Probability = Probability {
         numerator: 1,
         denominator: 1,
@@ -53,9 +71,16 @@ impl Probability {
 }
 
 /// Which submitted bytes of a write survive together.
+///
+/// ```
+/// use blobcrash::PartialWriteMode;
+///
+/// let device = PartialWriteMode::Sectors(512);
+/// assert_ne!(device, PartialWriteMode::Subset);
+/// ```
 #[derive(Clone, Copy, Debug, PartialEq, Eq)]
 pub enum PartialWriteMode {
-    /// Bytes from the beginning of the write until the first omitted byte.
+    /// A prefix: the bytes before the first one that is lost.
     Prefix,
     /// Each byte by itself.
     Subset,
@@ -64,23 +89,66 @@ pub enum PartialWriteMode {
 }
 
 /// Which writes fail, and which of their bytes survive: of a failed write, and of one that wasn't synced at a crash.
+///
+/// ```
+/// use blobcrash::{PartialWriteMode, Probability, WriteConfig};
+///
+/// let torn_but_never_failing = WriteConfig {
+///     failure_rate: Probability::ZERO,
+///     retention_rate: Probability::new(1, 2).unwrap(),
+///     mode: PartialWriteMode::Prefix,
+/// };
+/// # let _ = torn_but_never_failing;
+/// ```
 #[derive(Clone, Copy, Debug, PartialEq, Eq)]
 pub struct WriteConfig {
-    /// That a write fails.
+    /// How often a write fails.
     pub failure_rate: Probability,
-    /// That a byte, or a sector, of a failed write or of an unsynced one is kept; zero keeps none.
+    /// How often a byte, or a sector, of a failed write or of an unsynced one is kept; zero keeps none.
     pub retention_rate: Probability,
     /// Which of its bytes survive together.
     pub mode: PartialWriteMode,
 }
 
 /// Which resizes fail, and which failed ones leave a size between the two.
+///
+/// ```
+/// use blobcrash::{Probability, ResizeConfig};
+///
+/// let fails_as_a_whole = ResizeConfig {
+///     failure_rate: Probability::new(1, 8).unwrap(),
+///     partial_rate: Probability::ZERO,
+/// };
+/// # let _ = fails_as_a_whole;
+/// ```
 #[derive(Clone, Copy, Debug, PartialEq, Eq)]
 pub struct ResizeConfig {
-    /// That a resize fails; also, drawn once more, that one that wasn't synced survives a crash.
+    /// How often a resize fails. A second draw with the same rate decides whether one that wasn't synced survives a crash.
     pub failure_rate: Probability,
-    /// That a failed resize leaves a size between.
+    /// How often a failed resize leaves a size between.
     pub partial_rate: Probability,
+}
+
+impl ResizeConfig {
+    fn of((failure_rate, partial_rate): (Probability, Probability)) -> ResizeConfig {
+        ResizeConfig {
+            failure_rate,
+            partial_rate,
+        }
+    }
+}
+
+impl WriteConfig {
+    fn of(
+        (failure_rate, retention_rate): (Probability, Probability),
+        mode: PartialWriteMode,
+    ) -> WriteConfig {
+        WriteConfig {
+            failure_rate,
+            retention_rate,
+            mode,
+        }
+    }
 }
 
 /// Which calls fail, and how often. What isn't set doesn't fail, and keeps nothing.
@@ -99,24 +167,24 @@ pub struct ResizeConfig {
 #[derive(Clone, Copy, Debug, Default, PartialEq, Eq)]
 #[must_use]
 pub struct Config {
-    /// That an open fails.
+    /// How often an open fails.
     pub open_rate: Option<Probability>,
-    /// That a read fails.
+    /// How often a read fails.
     pub read_rate: Option<Probability>,
-    /// How writes fail, and what a crash keeps of unsynced ones: nothing, where this isn't set.
+    /// How writes fail, and what a crash keeps of unsynced ones: nothing, if this isn't set.
     pub write_rate: Option<WriteConfig>,
-    /// That a sync fails, a started one and that of a SYNC write too.
+    /// How often a sync fails, also a started one and that of a SYNC write.
     pub sync_rate: Option<Probability>,
-    /// How resizes fail, and how often an unsynced one survives a crash: never, where this isn't set.
+    /// How resizes fail, and how often an unsynced one survives a crash: never, if this isn't set.
     pub resize_rate: Option<ResizeConfig>,
-    /// That a removal fails.
+    /// How often a removal fails.
     pub remove_rate: Option<Probability>,
-    /// That a scan fails.
+    /// How often a scan fails.
     pub scan_rate: Option<Probability>,
 }
 
 /// Why a partial resize can't be explored.
-pub(crate) fn drawn_sizes() -> Error {
+fn drawn_sizes() -> Error {
     Error::Argument(
         "a partial resize can't be explored: it stops at a drawn size, and the two outcomes of each word don't reach all sizes. \
          Set its rate to 0, or test it with seeds"
@@ -125,44 +193,91 @@ pub(crate) fn drawn_sizes() -> Error {
 }
 
 impl Config {
-    /// The configuration with this rate of failing opens.
-    pub fn open(mut self, rate: Probability) -> Config {
+    /// Sets how often opens fail.
+    ///
+    /// ```
+    /// # use blobcrash::{Config, Probability};
+    /// let config = Config::default().open(Probability::ONE);
+    /// assert_eq!(config.open_rate, Some(Probability::ONE));
+    /// ```
+    pub const fn open(mut self, rate: Probability) -> Config {
         self.open_rate = Some(rate);
         self
     }
 
-    /// The configuration with this rate of failing reads.
-    pub fn read(mut self, rate: Probability) -> Config {
+    /// Sets how often reads fail.
+    ///
+    /// ```
+    /// # use blobcrash::{Config, Probability};
+    /// let config = Config::default().read(Probability::ONE);
+    /// assert_eq!(config.read_rate, Some(Probability::ONE));
+    /// ```
+    pub const fn read(mut self, rate: Probability) -> Config {
         self.read_rate = Some(rate);
         self
     }
 
-    /// The configuration with these settings of writes.
-    pub fn write(mut self, writes: WriteConfig) -> Config {
+    /// Sets how writes fail, and what a crash keeps of them.
+    ///
+    /// ```
+    /// # use blobcrash::{Config, PartialWriteMode, Probability, WriteConfig};
+    /// let writes = WriteConfig {
+    ///     failure_rate: Probability::ZERO,
+    ///     retention_rate: Probability::ONE,
+    ///     mode: PartialWriteMode::Subset,
+    /// };
+    /// assert_eq!(Config::default().write(writes).write_rate, Some(writes));
+    /// ```
+    pub const fn write(mut self, writes: WriteConfig) -> Config {
         self.write_rate = Some(writes);
         self
     }
 
-    /// The configuration with this rate of failing syncs.
-    pub fn sync(mut self, rate: Probability) -> Config {
+    /// Sets how often syncs fail.
+    ///
+    /// ```
+    /// # use blobcrash::{Config, Probability};
+    /// let config = Config::default().sync(Probability::ONE);
+    /// assert_eq!(config.sync_rate, Some(Probability::ONE));
+    /// ```
+    pub const fn sync(mut self, rate: Probability) -> Config {
         self.sync_rate = Some(rate);
         self
     }
 
-    /// The configuration with these settings of resizes.
-    pub fn resize(mut self, resizes: ResizeConfig) -> Config {
+    /// Sets how resizes fail.
+    ///
+    /// ```
+    /// # use blobcrash::{Config, Probability, ResizeConfig};
+    /// let (failure_rate, partial_rate) = (Probability::ONE, Probability::ZERO);
+    /// let resizes = ResizeConfig { failure_rate, partial_rate };
+    /// assert_eq!(Config::default().resize(resizes).resize_rate, Some(resizes));
+    /// ```
+    pub const fn resize(mut self, resizes: ResizeConfig) -> Config {
         self.resize_rate = Some(resizes);
         self
     }
 
-    /// The configuration with this rate of failing removals.
-    pub fn remove(mut self, rate: Probability) -> Config {
+    /// Sets how often removals fail.
+    ///
+    /// ```
+    /// # use blobcrash::{Config, Probability};
+    /// let config = Config::default().remove(Probability::ONE);
+    /// assert_eq!(config.remove_rate, Some(Probability::ONE));
+    /// ```
+    pub const fn remove(mut self, rate: Probability) -> Config {
         self.remove_rate = Some(rate);
         self
     }
 
-    /// The configuration with this rate of failing scans.
-    pub fn scan(mut self, rate: Probability) -> Config {
+    /// Sets how often scans fail.
+    ///
+    /// ```
+    /// # use blobcrash::{Config, Probability};
+    /// let config = Config::default().scan(Probability::ONE);
+    /// assert_eq!(config.scan_rate, Some(Probability::ONE));
+    /// ```
+    pub const fn scan(mut self, rate: Probability) -> Config {
         self.scan_rate = Some(rate);
         self
     }
@@ -182,6 +297,16 @@ impl Config {
     pub(crate) fn check_explorable(&self) -> Result<(), Error> {
         match self.resize_rate {
             Some(resizes) if !resizes.partial_rate.is_zero() => Err(drawn_sizes()),
+            _ => Ok(()),
+        }
+    }
+
+    /// Refuses a line that sets a partial rate of resizes.
+    pub(crate) fn check_explorable_line(line: &str) -> Result<(), Error> {
+        match tokens(line)[..] {
+            ["config", "resize", _, _, rate, _] if rate.bytes().any(|digit| digit != b'0') => {
+                Err(drawn_sizes())
+            }
             _ => Ok(()),
         }
     }
@@ -206,6 +331,34 @@ impl Config {
         // The size of a partial resize is drawn whatever its rates are.
         let is_partial = |r: ResizeConfig| !r.failure_rate.is_zero() && !r.partial_rate.is_zero();
         others.into_iter().chain(pairs).any(draws) || self.resize_rate.is_some_and(is_partial)
+    }
+
+    /// Applies the tokens of a setting's line, after `config`, which is known to be one.
+    pub(crate) fn apply(&mut self, setting: &[&str]) {
+        let numbers: Vec<u64> = setting
+            .iter()
+            .filter_map(|token| token.parse().ok())
+            .collect();
+        let rate = |at: usize| Probability::new(*numbers.get(at)?, *numbers.get(at + 1)?);
+        match setting.first() {
+            Some(&"open") => self.open_rate = rate(0),
+            Some(&"read") => self.read_rate = rate(0),
+            Some(&"sync") => self.sync_rate = rate(0),
+            Some(&"remove") => self.remove_rate = rate(0),
+            Some(&"scan") => self.scan_rate = rate(0),
+            Some(&"resize") => self.resize_rate = rate(0).zip(rate(2)).map(ResizeConfig::of),
+            Some(&"write") => {
+                let mode = match setting.get(5) {
+                    Some(&"prefix") => PartialWriteMode::Prefix,
+                    Some(&"subset") => PartialWriteMode::Subset,
+                    _ => PartialWriteMode::Sectors(numbers.get(4).copied().unwrap_or(1)),
+                };
+                self.write_rate = rate(0)
+                    .zip(rate(2))
+                    .map(|rates| WriteConfig::of(rates, mode));
+            }
+            _ => *self = Config::default(),
+        }
     }
 
     /// The lines that make this configuration of one that sets nothing.

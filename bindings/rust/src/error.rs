@@ -4,18 +4,30 @@ use std::io;
 /// Why a call was refused. The storage's refusals have the names of their replies (`docs/FORMATS.md`).
 ///
 /// The first two texts of a `Blob` variant are the partition as it was given and the blob's name in lower-case hex.
+///
+/// ```
+/// # use blobcrash::{Error, Store};
+/// # fn main() -> Result<(), Error> {
+/// let store = Store::builder().open()?;
+/// let (_blob, _) = store.open("p", b"b")?;
+/// let error = store.open("p", b"b").unwrap_err();
+/// assert_eq!(error, Error::BlobAlreadyOpen("p".to_owned(), "62".to_owned()));
+/// assert_eq!(error.to_string(), "blob already open: p/62");
+/// # Ok(())
+/// # }
+/// ```
 #[derive(Clone, Debug, PartialEq, Eq)]
 #[non_exhaustive]
 pub enum Error {
-    /// An offset, with the header and the length, lies past what can be counted.
+    /// The end of a range, with the header, doesn't fit in 64 bits.
     OffsetOverflow,
-    /// A read goes past the bytes that are there.
+    /// A read ends past the end of the blob.
     BlobInsufficientLength,
-    /// The partition's name is empty, or has other than ASCII letters, digits, `-` and `_`.
+    /// The partition's name is empty, or has other characters than ASCII letters, digits, `-` and `_`.
     PartitionNameInvalid(String),
-    /// A removal or a scan of a partition that isn't there.
+    /// A removal or a scan of a partition that doesn't exist.
     PartitionMissing(String),
-    /// A removal of a name that isn't there; a sync or a SYNC write by a stale handle.
+    /// A removal of a name that doesn't exist; a sync or a SYNC write through a stale handle.
     BlobMissing(String, String),
     /// The name is open.
     BlobAlreadyOpen(String, String),
@@ -23,22 +35,29 @@ pub enum Error {
     BlobCorrupt(String, String, String),
     /// The header's layout isn't accepted. The store accepts all.
     BlobLayoutMismatch {
+        /// The first and the last accepted layout.
         expected: (String, String),
+        /// The blob's layout.
         found: String,
     },
-    /// The header's version isn't one that was asked for.
-    BlobVersionMismatch { expected: (u16, u16), found: u16 },
-    /// No call answers it.
+    /// The header's version isn't accepted.
+    BlobVersionMismatch {
+        /// The first and the last accepted version.
+        expected: (u16, u16),
+        /// The blob's version.
+        found: u16,
+    },
+    /// No call returns it.
     Closed,
-    /// No call answers it.
+    /// No call returns it.
     ReadFailed,
-    /// No call answers it over the memory store.
+    /// No call returns it over the memory store.
     WriteFailed,
-    /// A fault that was chosen by a draw, in place of a device's I/O error.
+    /// A fault that a draw chose, in place of a device's I/O error.
     Injected,
-    /// The store found no memory for the call: nothing has changed but the generator.
+    /// The store found no memory for the call. Nothing has changed except the generator.
     Memory,
-    /// No number is left for an incarnation, a write or a started sync.
+    /// No number is left for a blob, a write or a started sync.
     GenerationsExhausted,
     /// No open handle, or no unfinished sync, has this number.
     NoHandle,
@@ -46,13 +65,15 @@ pub enum Error {
     EmptyRange,
     /// The handle is from before a crash, a reopen or the removal of its blob, as the text says. No call was made.
     StaleHandle(&'static str),
+    /// The power is off. No call was made, and none is until the store has crashed and reopened.
+    PowerLoss,
     /// A rate needs random draws, and the store has neither a seed nor words. Nothing has changed.
     NeedsSeed,
     /// An argument can't be expressed in a call, as the text says. No call was made.
     Argument(String),
-    /// The library found no memory: no call was made, or its reply can't be told.
+    /// The library found no memory: no call was made, or its reply can't be returned.
     OutOfMemory,
-    /// This line isn't one of a script, or may not stand there: no call was made.
+    /// This line isn't one of a script, or not allowed at this place. No call was made.
     BadLine(String),
     /// A reply that this crate doesn't know.
     Unknown(String),
@@ -141,6 +162,9 @@ impl fmt::Display for Error {
             Error::NoHandle => f.write_str("no handle of this number"),
             Error::EmptyRange => f.write_str("empty range of versions"),
             Error::StaleHandle(why) => write!(f, "stale handle: {why}"),
+            Error::PowerLoss => f.write_str(
+                "the power is off: let the store crash and reopen, by `restart` or `recover`",
+            ),
             Error::NeedsSeed => f.write_str(
                 "a rate needs random draws: give the store `.seed(7)`, or the words of its generator, `.words(&[..])`. \
                  Without them every draw is true, so that nothing would be lost; if you want that, say `.words(&[0])`",

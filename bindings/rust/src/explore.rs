@@ -1,41 +1,23 @@
 //! Every outcome of a small run.
+use crate::choices::{Choice, Choices, Kind, advance};
+use crate::shared::State;
 use crate::{Builder, Error, Store};
-use std::cell::RefCell;
 use std::collections::BTreeMap;
 use std::fmt;
 use std::ops::Deref;
 
 /// How many words a run is given at first after those of its path.
-const ROOM: usize = 256;
-
-/// A choice of a run: which of how many branches. A draw has two; the first one is true.
-#[derive(Clone, Copy, Debug, PartialEq, Eq)]
-struct Choice {
-    is_draw: bool,
-    branch: usize,
-    of: usize,
-}
-
-impl Choice {
-    /// The first branch of a draw.
-    const DRAW: Choice = Choice {
-        is_draw: true,
-        branch: 0,
-        of: 2,
-    };
-
-    /// The word that makes a draw have this outcome.
-    fn word(self) -> u64 {
-        if self.branch == 0 { 0 } else { u64::MAX }
-    }
-
-    /// Whether a choice has the same branches.
-    fn is_like(self, other: Choice) -> bool {
-        (self.is_draw, self.of) == (other.is_draw, other.of)
-    }
-}
+const WORDS: usize = 256;
 
 /// What an exploration visited.
+///
+/// ```
+/// # use blobcrash::{Error, Explored, Store, explore};
+/// let visited = explore(&Store::builder(), 10, |run| Ok::<_, Error>(run.choose(3))).unwrap();
+/// assert_eq!(visited.runs, 3);
+/// assert!(visited.is_complete);
+/// assert_eq!(visited.outcomes.into_iter().collect::<Vec<_>>(), [(0, 1), (1, 1), (2, 1)]);
+/// ```
 #[derive(Clone, Debug, PartialEq, Eq)]
 pub struct Explored<T> {
     /// How many runs there were.
@@ -47,10 +29,27 @@ pub struct Explored<T> {
 }
 
 /// Why an exploration ended early.
+///
+/// ```
+/// # use blobcrash::{ExploreError, Store, explore};
+/// let failed = explore(&Store::builder(), 10, |run| match run.choose(3) {
+///     2 => Err("two"),
+///     branch => Ok(branch),
+/// });
+/// let script = "# choose(3) is 2\n".to_owned();
+/// assert_eq!(failed, Err(ExploreError::Failed { error: "two", run: 3, script }));
+/// ```
 #[derive(Clone, Debug, PartialEq, Eq)]
 pub enum ExploreError<E> {
-    /// The body returned an error. The script makes the same calls again; `blobcrash explain` shows it.
-    Failed { error: E, run: u64, script: String },
+    /// The body returned an error.
+    Failed {
+        /// What the body returned.
+        error: E,
+        /// The number of the run, from 1.
+        run: u64,
+        /// The calls of the run, which make the same calls again; `blobcrash explain` shows them.
+        script: String,
+    },
     /// The body made other choices than before on the same path.
     NotDeterministic,
     /// A store can't be made, or not be explored: its builder has a seed or words, or a partial resize.
@@ -81,43 +80,20 @@ impl<E: fmt::Display> fmt::Display for ExploreError<E> {
 impl<E: fmt::Debug + fmt::Display> std::error::Error for ExploreError<E> {}
 
 /// The store of one run. It has the methods of [`Store`].
+///
+/// ```
+/// # use blobcrash::{Error, Run, Store, explore};
+/// fn body(run: &Run) -> Result<u64, Error> {
+///     let (blob, _) = run.open("p", b"b")?;
+///     blob.resize(run.choose(2) as u64)?;
+///     blob.size()
+/// }
+/// assert_eq!(explore(&Store::builder(), 10, body).unwrap().runs, 2);
+/// ```
 #[derive(Debug)]
 pub struct Run {
     store: Store,
-    choices: RefCell<Choices>,
     number: u64,
-}
-
-/// The choices of a run, which follows a path and then takes each first branch.
-#[derive(Debug)]
-struct Choices {
-    path: Vec<Choice>,
-    taken: Vec<Choice>,
-    /// How many words were given, and how many of them taken.
-    given: usize,
-    drawn: usize,
-    differs: bool,
-    is_short: bool,
-}
-
-impl Choices {
-    /// Takes the next branch.
-    fn take(&mut self, first: Choice) -> usize {
-        let choice = self.path.get(self.taken.len()).copied().unwrap_or(first);
-        self.differs |= !choice.is_like(first);
-        self.taken.push(choice);
-        choice.branch
-    }
-
-    /// Counts the draws up to here, after which `left` words are left.
-    fn count(&mut self, left: usize) {
-        self.is_short |= left == 0;
-        let drawn = self.given.saturating_sub(left);
-        for _ in self.drawn..drawn {
-            self.take(Choice::DRAW);
-        }
-        self.drawn = drawn;
-    }
 }
 
 impl Deref for Run {
@@ -132,33 +108,47 @@ impl Run {
     /// Returns a number below `branches`. Every one is tried, together with the outcomes of the draws.
     ///
     /// # Panics
-    /// If there are no branches.
+    /// If `branches` is 0.
+    ///
+    /// ```
+    /// # use blobcrash::{Error, Store, explore};
+    /// let visited = explore(&Store::builder(), 10, |run| Ok::<_, Error>((run.choose(2), run.choose(2))));
+    /// assert_eq!(visited.unwrap().runs, 4);
+    /// ```
     #[must_use]
     pub fn choose(&self, branches: usize) -> usize {
         assert!(branches > 0, "there is nothing to choose from");
-        let mut choices = self.choices.borrow_mut();
-        choices.count(self.store.words_left());
-        let branch = choices.take(Choice {
-            is_draw: false,
-            branch: 0,
-            of: branches,
-        });
-        self.store.note(&format!("choose({branches}) is {branch}"));
-        // A run that is made again, or that isn't on its path, must still get a branch that there is.
-        branch.min(branches - 1)
+        let mut state = self.store.shared.lock();
+        state.count_draws();
+        let choices = state.choices.as_mut();
+        let branch = choices.map_or(0, |choices| choices.take(Kind::Branch, branches));
+        state.note(&format!("choose({branches}) is {branch}"));
+        branch
     }
 
-    /// The lines of all calls, with the words of the draws so far.
+    /// Returns the lines of all calls, with the words of the draws so far.
+    ///
+    /// ```
+    /// # use blobcrash::{Error, Store, explore};
+    /// let visited = explore(&Store::builder(), 10, |run| {
+    ///     run.crash()?;
+    ///     Ok::<_, Error>(run.script())
+    /// });
+    /// assert!(visited.unwrap().outcomes.contains_key("crash\n"));
+    /// ```
     #[must_use]
     pub fn script(&self) -> String {
-        let mut choices = self.choices.borrow_mut();
-        choices.count(self.store.words_left());
         let all = self.store.script();
-        if choices.is_short {
+        let mut state = self.store.shared.lock();
+        state.count_draws();
+        let Some(choices) = state.choices.as_ref().filter(|choices| !choices.is_short()) else {
             return all;
-        }
+        };
         let mut script = String::new();
-        let draws = choices.taken.iter().filter(|choice| choice.is_draw);
+        let draws = choices
+            .taken
+            .iter()
+            .filter(|choice| choice.kind == Kind::Draw);
         let words: Vec<&str> = draws
             .map(|draw| if draw.branch == 0 { "0" } else { "max" })
             .collect();
@@ -167,6 +157,13 @@ impl Run {
         }
         // The first line of the store has the words that were given.
         script + all.split_once('\n').map_or("", |(_, calls)| calls)
+    }
+
+    /// Counts the last draws, and returns what `read` takes from the choices.
+    fn choices<T: Default>(&self, read: impl FnOnce(&mut Choices) -> T) -> T {
+        let mut state = self.store.shared.lock();
+        State::count_draws(&mut state);
+        state.choices.as_mut().map(read).unwrap_or_default()
     }
 }
 
@@ -179,94 +176,158 @@ impl Drop for Run {
     }
 }
 
-/// Calls `body` with a new store for each combination of outcomes of its draws and of [`Run::choose`], depth first, at most `limit`
-/// times. A draw of a rate between 0 and 1 has two outcomes.
+/// An exploration, which calls a body with a new store for each combination of outcomes, depth first. These are chosen in every way:
+/// whether each draw of a rate between 0 and 1 is true, each [`Run::choose`], and at which calls the power fails.
 ///
-/// The body must be deterministic. It may check with `assert!`: the script of a run that panics is printed. A run that takes more words
-/// than it was given is made again, and only then counts: so what is to be known of all runs is what the body returns.
+/// ```
+/// use blobcrash::{Error, Exploration, Store, WriteOptions};
 ///
-/// Errors:
-/// - `Failed` for the first run in which the body returns an error.
-/// - `NotDeterministic`.
-/// - `Store` with `Argument` if the builder has a seed, words or a partial resize (the two outcomes of a word don't reach all of its
-///   sizes), or with what [`Builder::open`] returns.
+/// // Whenever the power fails, the bytes are lost or durable as a whole.
+/// let found = Exploration::of(&Store::builder()).power_losses(1).visit(|run| {
+///     let write = || run.open("p", b"b")?.0.write_at(0, b"abc", WriteOptions::SYNC);
+///     let is_acknowledged = write().is_ok();
+///     let size = run.recover(|store| Ok::<_, Error>(store.open("p", b"b")?.1))?;
+///     assert!(size == 3 || !is_acknowledged);
+///     Ok::<_, Error>(size)
+/// });
+/// assert_eq!(found.unwrap().outcomes.into_iter().collect::<Vec<_>>(), [(0, 2), (3, 2)]);
+/// ```
+#[derive(Clone, Debug)]
+#[must_use = "`visit` explores"]
+pub struct Exploration {
+    builder: Builder,
+    limit: u64,
+    losses: u64,
+}
+
+impl Exploration {
+    /// An exploration of stores that this builder makes, without a limit and without power losses.
+    ///
+    /// ```
+    /// # use blobcrash::{Error, Exploration, Store};
+    /// let visited = Exploration::of(&Store::builder()).visit(|run| run.crash());
+    /// assert_eq!(visited.unwrap().runs, 1);
+    /// ```
+    pub fn of(builder: &Builder) -> Exploration {
+        Exploration {
+            builder: builder.clone(),
+            limit: u64::MAX,
+            losses: 0,
+        }
+    }
+
+    /// Sets how many runs are made at most.
+    ///
+    /// ```
+    /// # use blobcrash::{Error, Exploration, Store};
+    /// let visited = Exploration::of(&Store::builder()).limit(2).visit(|run| Ok::<_, Error>(run.choose(9)));
+    /// assert!(!visited.unwrap().is_complete);
+    /// ```
+    pub fn limit(mut self, runs: u64) -> Exploration {
+        self.limit = runs;
+        self
+    }
+
+    /// Lets the power fail at most this many times in a run, at each call that may change what a crash leaves: opens, writes, resizes,
+    /// syncs, removals and admissions. This call and all later ones then return [`Error::PowerLoss`] until the store has crashed and
+    /// reopened, as by [`Store::restart`] and [`Store::recover`]. [`Store::is_power_off`] reports it.
+    ///
+    /// ```
+    /// # use blobcrash::{Error, Exploration, Store};
+    /// let visited = Exploration::of(&Store::builder()).power_losses(1).visit(|run| {
+    ///     let _ = run.open("p", b"b");
+    ///     Ok::<_, Error>(run.is_power_off())
+    /// });
+    /// assert_eq!(visited.unwrap().outcomes.into_iter().collect::<Vec<_>>(), [(false, 1), (true, 1)]);
+    /// ```
+    pub fn power_losses(mut self, losses: u64) -> Exploration {
+        self.losses = losses;
+        self
+    }
+
+    /// Calls `body` with each run.
+    ///
+    /// The body must be deterministic. It may check with `assert!`: the script of a run that panics is printed. A run that takes more
+    /// words than it was given is made again, and only then counts: so let the body return what you collect about all runs.
+    ///
+    /// Errors:
+    /// - `Failed` for the first run in which the body returns an error.
+    /// - `NotDeterministic`.
+    /// - `Store` with `Argument` if the builder has a seed, words or a partial resize (the two outcomes of a word don't reach all of
+    ///   its sizes), or with what [`Builder::open`] returns.
+    ///
+    /// ```
+    /// # use blobcrash::{ExploreError, Exploration, Store};
+    /// let failed = Exploration::of(&Store::builder()).visit(|_| Err::<(), _>("always"));
+    /// assert!(matches!(failed, Err(ExploreError::Failed { error: "always", .. })));
+    /// ```
+    pub fn visit<T: Ord, E>(
+        &self,
+        mut body: impl FnMut(&Run) -> Result<T, E>,
+    ) -> Result<Explored<T>, ExploreError<E>> {
+        let (mut path, mut words) = (Vec::new(), WORDS);
+        let mut visited = Explored {
+            runs: 0,
+            outcomes: BTreeMap::new(),
+            is_complete: false,
+        };
+        while visited.runs < self.limit {
+            let run = self.begin(path.clone(), words, visited.runs + 1)?;
+            let result = body(&run);
+            if run.choices(|choices| choices.is_short()) {
+                words *= 2;
+                continue;
+            }
+            if run.choices(|choices| choices.leaves_path()) {
+                return Err(ExploreError::NotDeterministic);
+            }
+            visited.runs += 1;
+            match result {
+                Ok(outcome) => *visited.outcomes.entry(outcome).or_insert(0) += 1,
+                Err(error) => {
+                    let (run, script) = (visited.runs, run.script());
+                    return Err(ExploreError::Failed { error, run, script });
+                }
+            }
+            path = run.choices(|choices| std::mem::take(&mut choices.taken));
+            if !advance(&mut path) {
+                visited.is_complete = true;
+                break;
+            }
+        }
+        Ok(visited)
+    }
+
+    fn begin(&self, path: Vec<Choice>, words: usize, number: u64) -> Result<Run, Error> {
+        let choices = Choices::new(path, self.losses);
+        let store = self.builder.explored(choices, words)?;
+        Ok(Run { store, number })
+    }
+}
+
+/// Calls `body` with each run of an [`Exploration`] without power losses, at most `limit` times. Errors as [`Exploration::visit`].
+///
+/// ```
+/// use blobcrash::{Config, Error, PartialWriteMode, Probability, Store, WriteConfig, WriteOptions, explore};
+///
+/// let kept_by_half = Config::default().write(WriteConfig {
+///     failure_rate: Probability::ZERO,
+///     retention_rate: Probability::new(1, 2).unwrap(),
+///     mode: PartialWriteMode::Subset,
+/// });
+/// let visited = explore(&Store::builder().config(kept_by_half), u64::MAX, |run| {
+///     let (blob, _) = run.open("p", b"b")?;
+///     blob.write_at(0, b"abc", WriteOptions::default())?;
+///     run.restart()?;
+///     let (blob, size) = run.open("p", b"b")?;
+///     blob.read_at(0, size as usize)
+/// });
+/// assert_eq!(visited.map(|all| all.runs), Ok(8));
+/// ```
 pub fn explore<T: Ord, E>(
     builder: &Builder,
     limit: u64,
-    mut body: impl FnMut(&Run) -> Result<T, E>,
+    body: impl FnMut(&Run) -> Result<T, E>,
 ) -> Result<Explored<T>, ExploreError<E>> {
-    let (mut path, mut room) = (Vec::new(), ROOM);
-    let mut visited = Explored {
-        runs: 0,
-        outcomes: BTreeMap::new(),
-        is_complete: false,
-    };
-    while visited.runs < limit {
-        let runs = visited.runs;
-        let run = begin(builder, path.clone(), room, runs + 1)?;
-        let result = body(&run);
-        run.choices.borrow_mut().count(run.store.words_left());
-        let choices = run.choices.borrow();
-        if choices.is_short {
-            room *= 2;
-            continue;
-        }
-        if choices.differs || choices.taken.len() < path.len() {
-            return Err(ExploreError::NotDeterministic);
-        }
-        drop(choices);
-        visited.runs += 1;
-        match result {
-            Ok(outcome) => *visited.outcomes.entry(outcome).or_insert(0) += 1,
-            Err(error) => {
-                let (run, script) = (visited.runs, run.script());
-                return Err(ExploreError::Failed { error, run, script });
-            }
-        }
-        path = std::mem::take(&mut run.choices.borrow_mut().taken);
-        if !advance(&mut path) {
-            visited.is_complete = true;
-            break;
-        }
-    }
-    Ok(visited)
-}
-
-fn begin<E>(
-    builder: &Builder,
-    path: Vec<Choice>,
-    room: usize,
-    number: u64,
-) -> Result<Run, ExploreError<E>> {
-    let draws = path.iter().filter(|choice| choice.is_draw);
-    let mut words: Vec<u64> = draws.map(|draw| draw.word()).collect();
-    words.resize(words.len() + room, 0);
-    words.push(u64::MAX);
-    let store = builder.explored(&words)?;
-    let choices = Choices {
-        path,
-        taken: Vec::new(),
-        given: words.len(),
-        drawn: 0,
-        differs: false,
-        is_short: false,
-    };
-    let choices = RefCell::new(choices);
-    Ok(Run {
-        store,
-        choices,
-        number,
-    })
-}
-
-/// Makes the path of a leaf that of the next one. `false` if it is the last.
-fn advance(path: &mut Vec<Choice>) -> bool {
-    while let Some(last) = path.last_mut() {
-        if last.branch + 1 < last.of {
-            last.branch += 1;
-            return true;
-        }
-        path.pop();
-    }
-    false
+    Exploration::of(builder).limit(limit).visit(body)
 }

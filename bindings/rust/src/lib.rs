@@ -26,20 +26,37 @@
 //! # }
 //! ```
 //!
-//! The layer itself is proved; this crate, which only talks to it, is tested. A store belongs to one thread: it is neither
-//! `Send` nor `Sync`.
+//! The layer itself is proved; this crate, which only calls it, is tested. Threads may share a [`Store`]: each call takes its lock.
+//!
+//! - [`storage`] and [`asynchronous`] have the traits of the ported crate, for code that is written for any storage.
+//! - [`explore`] and [`Exploration`] call a test once for each outcome of its draws, choices and power losses.
+//! - [`header`] makes and resolves header regions.
+#![warn(missing_docs)]
 
+#[cfg(feature = "async")]
+pub mod asynchronous;
 mod blob;
+mod buffers;
+mod builder;
+mod choices;
 mod config;
+mod durable;
 mod error;
 mod explore;
+mod handle;
+pub mod header;
 mod library;
+mod power;
 mod script;
+mod shared;
+pub mod storage;
 mod store;
+mod words;
 
 pub use blob::{Blob, StartedSync, WriteOptions};
+pub use builder::Builder;
 pub use config::{Config, PartialWriteMode, Probability, ResizeConfig, WriteConfig};
 pub use error::Error;
-pub use explore::{ExploreError, Explored, Run, explore};
+pub use explore::{Exploration, ExploreError, Explored, Run, explore};
 pub use library::{ScriptError, run_script};
-pub use store::{Builder, Selections, Store};
+pub use store::{Selections, Store};

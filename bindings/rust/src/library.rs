@@ -6,6 +6,7 @@ use std::fmt;
 use std::ptr;
 
 const DONE: u32 = 0;
+const ENDLESS: u32 = 1;
 const BAD_LINE: u32 = 2;
 const NO_MEMORY: u32 = 3;
 const NO_ROOM: u32 = 4;
@@ -57,14 +58,14 @@ unsafe extern "C" {
         len: usize,
     ) -> u32;
     fn blobcrash_words_left(session: *mut RawSession) -> Ran;
+    fn blobcrash_push_words(session: *mut RawSession, words: *const u64, count: usize) -> u32;
     fn blobcrash_close(session: *mut RawSession);
     fn blobcrash_run(script: *const u8, len: usize, replies: *mut u8, room: usize) -> ScriptRan;
 }
 
 /// An open session of the library, which is closed when it is dropped.
 ///
-/// Its pointer keeps it from being sent to another thread, and `&mut self` from two calls at once. It may be moved: the
-/// library keeps no address of it between calls.
+/// `&mut self` prevents two calls at the same time. The session may be moved: the library keeps no address of it between calls.
 #[derive(Debug)]
 pub(crate) struct Session {
     raw: RawSession,
@@ -72,6 +73,10 @@ pub(crate) struct Session {
     /// The calls that were made, if they are recorded.
     pub(crate) script: Option<Script>,
 }
+
+// SAFETY: nothing of a session belongs to a thread. The library has no thread-local data and no global data that changes, and its
+// blocks come from the process's allocator, which any thread may call. Calls of one session are ordered: each takes `&mut self`.
+unsafe impl Send for Session {}
 
 /// A read of more bytes asks for the size of the blob before it allocates.
 const SMALL: usize = 65536;
@@ -188,15 +193,18 @@ impl Session {
         self.done(status)
     }
 
-    /// Returns how many words the generator has left, up to the last one that isn't zero. The session has no seed.
-    pub(crate) fn words_left(&mut self) -> usize {
+    /// Returns how many words the generator has left, up to the last one that isn't zero, or `None` if it has a seed.
+    pub(crate) fn words_left(&mut self) -> Option<usize> {
         // SAFETY: as for `call`.
         let ran = unsafe { blobcrash_words_left(&mut self.raw) };
-        assert_eq!(
-            ran.status, DONE,
-            "a session without a seed has an end of its words"
-        );
-        ran.len
+        (ran.status != ENDLESS).then_some(ran.len)
+    }
+
+    /// Inserts words before those that the generator gives next.
+    pub(crate) fn push_words(&mut self, words: &[u64]) -> Result<(), Error> {
+        // SAFETY: as for `call`; the words are borrowed for the call.
+        let status = unsafe { blobcrash_push_words(&mut self.raw, words.as_ptr(), words.len()) };
+        (status == DONE).then_some(()).ok_or(Error::OutOfMemory)
     }
 
     /// How a typed call was answered.
@@ -246,11 +254,24 @@ impl Drop for Session {
 }
 
 /// Why a script was cut short.
+///
+/// ```
+/// use blobcrash::{ScriptError, run_script};
+///
+/// let error = run_script(b"frob\n").unwrap_err();
+/// assert_eq!(error, ScriptError::BadCall { line: 1, replies: Vec::new() });
+/// assert_eq!(error.to_string(), "line 1: bad call");
+/// ```
 #[derive(Clone, Debug, PartialEq, Eq)]
 pub enum ScriptError {
-    /// This line, counted from 1, is no call. The replies are those of the lines before it.
-    BadCall { line: u64, replies: Vec<u8> },
-    /// No memory could be had, or there are more lines than can be counted.
+    /// A line is no call.
+    BadCall {
+        /// The line's number, from 1.
+        line: u64,
+        /// The replies of the lines before it.
+        replies: Vec<u8>,
+    },
+    /// The library is out of memory, or the number of lines overflows.
     Refused,
 }
 

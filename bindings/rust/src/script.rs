@@ -3,6 +3,7 @@
 //! No text of a caller is put into a line before it is known to be one token of its kind.
 use crate::Error;
 use std::fmt::Write;
+use std::str::FromStr;
 
 /// One token that is no partition name, so that a call with it makes the draw and gets the refusal of every such name.
 const NO_NAME: &str = "!";
@@ -25,6 +26,14 @@ pub(crate) fn image_line(partition: &str, name: &[u8], raw: &[u8]) -> Result<Str
         )));
     }
     Ok(format!("image {partition} {} {}", hex(name), hex(raw)))
+}
+
+/// The line that gives words to the generator.
+pub(crate) fn words_line(words: &[u64]) -> String {
+    words.iter().fold("words".to_owned(), |mut line, word| {
+        let _ = write!(line, " {word}");
+        line
+    })
 }
 
 /// Checks that a text is one line.
@@ -51,6 +60,32 @@ pub(crate) fn unhex(word: &str) -> Option<Vec<u8>> {
         .collect()
 }
 
+/// The tokens of a line.
+pub(crate) fn tokens(line: &str) -> Vec<&str> {
+    line.split(' ').filter(|token| !token.is_empty()).collect()
+}
+
+/// The first token of a line, `#` for a comment, or an empty one.
+pub(crate) fn first_word(line: &str) -> &str {
+    match line.split(' ').find(|token| !token.is_empty()) {
+        Some(comment) if comment.starts_with('#') => "#",
+        Some(word) => word,
+        None => "",
+    }
+}
+
+/// The number that a word of a reply is.
+pub(crate) fn number<N: FromStr>(word: Option<&str>) -> Option<N> {
+    word?.parse().ok()
+}
+
+/// A row of a crash: a number, a colon and the choices, as `3:0110`.
+pub(crate) fn selection(word: &str) -> Option<(u64, Vec<bool>)> {
+    let (write, choices) = word.split_once(':')?;
+    let kept = choices.bytes().map(|choice| choice == b'1').collect();
+    Some((number(Some(write))?, kept))
+}
+
 fn push_hex(text: &mut String, bytes: &[u8]) {
     if bytes.is_empty() {
         text.push('-');
@@ -63,6 +98,8 @@ fn push_hex(text: &mut String, bytes: &[u8]) {
 /// The calls that were made, as lines of a script.
 #[derive(Debug, Default)]
 pub(crate) struct Script {
+    /// The words that were pushed, in the order in which draws take them.
+    words: Vec<u64>,
     calls: Vec<Call>,
     /// The bytes of all writes, one after another.
     written: Vec<u8>,
@@ -85,6 +122,20 @@ enum Call {
 }
 
 impl Script {
+    /// A script that begins with these words.
+    pub(crate) fn with_words(words: &[u64]) -> Script {
+        Script {
+            words: words.to_vec(),
+            ..Script::default()
+        }
+    }
+
+    /// Inserts words before the last `left` ones.
+    pub(crate) fn push_words(&mut self, words: &[u64], left: usize) {
+        let taken = self.words.len() - left;
+        self.words.splice(taken..taken, words.iter().copied());
+    }
+
     pub(crate) fn push_line(&mut self, line: &str) {
         self.calls.push(Call::Line(line.to_owned()));
     }
@@ -111,6 +162,9 @@ impl Script {
     /// The text of all lines.
     pub(crate) fn text(&self) -> String {
         let mut text = String::new();
+        if !self.words.is_empty() {
+            text = words_line(&self.words) + "\n";
+        }
         let mut written = self.written.as_slice();
         for call in &self.calls {
             match call {

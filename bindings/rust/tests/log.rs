@@ -3,8 +3,8 @@
 //! The log acknowledges a record once it is synced. Whatever fails and wherever it crashes, recovery has to find each
 //! acknowledged record, in order, and may find one more: the record that was being appended.
 use blobcrash::{
-    Blob, Config, Error, PartialWriteMode, Probability, ResizeConfig, Store, WriteConfig,
-    WriteOptions,
+    Blob, Config, Error, Exploration, ExploreError, PartialWriteMode, Probability, ResizeConfig,
+    Store, WriteConfig, WriteOptions,
 };
 
 /// Records one after another: the length of the payload, a checksum, and the payload.
@@ -18,7 +18,7 @@ struct Log {
 const HEAD: usize = 12;
 
 impl Log {
-    /// Opens the log, cuts off what no append finished, and answers the records.
+    /// Opens the log, truncates what no append finished, and returns the records.
     fn recover(store: &Store, forgets_sync: bool) -> Result<(Log, Vec<Vec<u8>>), Error> {
         let (blob, size) = store.open("wal", b"log")?;
         let bytes = blob.read_at(0, size as usize)?;
@@ -41,7 +41,7 @@ impl Log {
         Ok((log, records))
     }
 
-    /// Appends a record. Once this is answered `Ok` it must never be lost.
+    /// Appends a record. If this returns `Ok`, the record must never be lost.
     fn append(&mut self, payload: &[u8]) -> Result<(), Error> {
         let mut record = (payload.len() as u32).to_le_bytes().to_vec();
         record.extend(checksum(self.end, payload).to_le_bytes());
@@ -65,7 +65,7 @@ fn record_at(bytes: &[u8], offset: usize) -> Option<&[u8]> {
     (sum == checksum(offset as u64, payload)).then_some(payload)
 }
 
-/// FNV-1a of the offset and the payload, so that no front of zeros and no older record passes for this one.
+/// FNV-1a of the offset and the payload, so that no prefix of zeros and no older record passes for this one.
 fn checksum(offset: u64, payload: &[u8]) -> u64 {
     let bytes = offset
         .to_le_bytes()
@@ -76,7 +76,7 @@ fn checksum(offset: u64, payload: &[u8]) -> u64 {
     })
 }
 
-/// One life of a log: sixteen crashes. Answers how many records were acknowledged, or what was lost.
+/// One life of a log: sixteen crashes. Returns how many records were acknowledged, or what was lost.
 fn live(seed: u64, forgets_sync: bool) -> Result<usize, String> {
     let one_in = |n| Probability::new(1, n).unwrap();
     let faults = Config::default()
@@ -133,7 +133,7 @@ fn what_was_acknowledged_is_recovered() {
     for seed in 0..200 {
         records += live(seed, false).unwrap();
     }
-    // A test of crashes that finds nothing to lose says nothing.
+    // A test of crashes needs records that could be lost.
     assert!(records > 5_000, "{records} records in 200 lives");
 }
 
@@ -141,4 +141,54 @@ fn what_was_acknowledged_is_recovered() {
 fn a_forgotten_sync_is_found() {
     let found = (0..200).find_map(|seed| live(seed, true).err()).unwrap();
     assert!(found.contains("are left of them"), "{found}");
+}
+
+/// Appends two records while there is power, and recovers. Returns how many records are left, or what was lost.
+fn append_two(store: &Store, forgets_sync: bool) -> Result<usize, String> {
+    let mut acknowledged = Vec::new();
+    let append = |acknowledged: &mut Vec<Vec<u8>>| {
+        let (mut log, _) = Log::recover(store, forgets_sync)?;
+        for payload in [b"a", b"b"] {
+            log.append(payload)?;
+            acknowledged.push(payload.to_vec());
+        }
+        Ok::<(), Error>(())
+    };
+    let _ = append(&mut acknowledged);
+    // The power may fail during the recovery as well.
+    let (_, records) = store
+        .recover(|store| Log::recover(store, forgets_sync))
+        .map_err(|error| error.to_string())?;
+    if !records.starts_with(&acknowledged) || records.len() > acknowledged.len() + 1 {
+        return Err(format!(
+            "{acknowledged:?} were acknowledged, and {records:?} are left"
+        ));
+    }
+    Ok(records.len())
+}
+
+/// Every prefix that a crash keeps of each record, and a power loss at each call.
+fn explored(forgets_sync: bool) -> Result<Vec<usize>, ExploreError<String>> {
+    let builder = Store::builder().config(Config::default().write(WriteConfig {
+        failure_rate: Probability::ZERO,
+        retention_rate: Probability::new(1, 2).unwrap(),
+        mode: PartialWriteMode::Prefix,
+    }));
+    let exploration = Exploration::of(&builder).power_losses(2);
+    let visited = exploration.visit(|run| append_two(run, forgets_sync))?;
+    Ok(visited.outcomes.into_keys().collect())
+}
+
+#[test]
+fn no_power_loss_takes_what_was_acknowledged() {
+    assert_eq!(explored(false), Ok(vec![0, 1, 2]));
+}
+
+#[test]
+fn an_exploration_finds_a_forgotten_sync() {
+    let Err(ExploreError::Failed { error, script, .. }) = explored(true) else {
+        panic!("nothing was found");
+    };
+    assert!(error.contains("were acknowledged, and"), "{error}");
+    assert!(script.contains("crash\n"), "{script}");
 }

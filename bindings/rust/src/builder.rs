@@ -1,0 +1,231 @@
+use crate::choices::Choices;
+use crate::library::Session;
+use crate::script::{Script, first_word, image_line, one_line, words_line};
+use crate::shared::{Shared, State};
+use crate::{Config, Error, Store};
+
+/// The last word of a store whose words are pushed. It isn't zero, so that the library reports how many are left.
+const LAST_WORD: u64 = 1;
+
+/// What a store begins with.
+///
+/// ```
+/// use blobcrash::{Config, Error, Probability, Store};
+///
+/// let sometimes = Config::default().sync(Probability::new(1, 8).unwrap());
+/// assert!(matches!(Store::builder().config(sometimes).open(), Err(Error::NeedsSeed)));
+/// assert!(Store::builder().config(sometimes).seed(7).open().is_ok());
+/// ```
+#[derive(Clone, Debug, Default)]
+#[must_use]
+pub struct Builder {
+    lines: Vec<String>,
+    config: Config,
+    has_draws: bool,
+    is_pushed: bool,
+    allow_stale: bool,
+    unrecorded: bool,
+    /// The first argument that can't be expressed.
+    problem: Option<Error>,
+}
+
+impl Builder {
+    /// Adds a raw blob, with its header, that exists from the start. `open` refuses a partition that isn't one token of a line; other
+    /// names aren't checked.
+    ///
+    /// ```
+    /// # fn main() -> Result<(), blobcrash::Error> {
+    /// let raw = b"CWIC\0\0\0\0the bytes after a header of layout V0";
+    /// let store = blobcrash::Store::builder().image("p", b"b", raw).open()?;
+    /// assert_eq!(store.open("p", b"b")?.0.read_at(0, 9)?, b"the bytes");
+    /// # Ok(())
+    /// # }
+    /// ```
+    pub fn image(mut self, partition: &str, name: &[u8], raw: &[u8]) -> Builder {
+        match image_line(partition, name, raw) {
+            Ok(line) => self.lines.push(line),
+            Err(error) => self.problem = self.problem.or(Some(error)),
+        }
+        self
+    }
+
+    /// Adds words to the generator, which decide what fails and what a crash keeps. After the last one it goes on with those of the
+    /// seed, or with zeros if there is none.
+    ///
+    /// ```
+    /// # use blobcrash::{Config, Error, Probability, Store};
+    /// # fn main() -> Result<(), Error> {
+    /// let half = Config::default().scan(Probability::new(1, 2).unwrap());
+    /// let store = Store::builder().config(half).words(&[u64::MAX, 0]).open()?;
+    /// assert!(matches!(store.scan("p"), Err(Error::PartitionMissing(_))));
+    /// assert_eq!(store.scan("p"), Err(Error::Injected));
+    /// # Ok(())
+    /// # }
+    /// ```
+    pub fn words(mut self, words: &[u64]) -> Builder {
+        if !words.is_empty() {
+            self.lines.push(words_line(words));
+            self.has_draws = true;
+        }
+        self
+    }
+
+    /// Sets the seed of the words after the given ones. A second seed is a `BadLine`.
+    ///
+    /// ```
+    /// # fn main() -> Result<(), blobcrash::Error> {
+    /// let store = blobcrash::Store::builder().seed(7).open()?;
+    /// assert_eq!(store.script(), "seed 7\n");
+    /// # Ok(())
+    /// # }
+    /// ```
+    pub fn seed(mut self, seed: u64) -> Builder {
+        self.lines.push(format!("seed {seed}"));
+        self.has_draws = true;
+        self
+    }
+
+    /// Lets the words be pushed, right before the calls that take them: [`Store::push_words`]. Without pushed words every draw is true.
+    /// `open` returns `Argument` if there is a seed or a word as well.
+    ///
+    /// ```
+    /// # use blobcrash::{Config, Error, Probability, Store};
+    /// # fn main() -> Result<(), Error> {
+    /// let half = Config::default().scan(Probability::new(1, 2).unwrap());
+    /// let store = Store::builder().config(half).pushed().open()?;
+    /// store.push_words(&[0])?;
+    /// assert_eq!(store.scan("p"), Err(Error::Injected));
+    /// # Ok(())
+    /// # }
+    /// ```
+    pub fn pushed(mut self) -> Builder {
+        self.is_pushed = true;
+        self
+    }
+
+    /// Adds lines of a script's preamble, as they are.
+    ///
+    /// ```
+    /// # fn main() -> Result<(), blobcrash::Error> {
+    /// let store = blobcrash::Store::builder().lines(&["seed 7", "image p 62 -"]).open()?;
+    /// assert_eq!(store.scan("p")?, [b"b"]);
+    /// # Ok(())
+    /// # }
+    /// ```
+    pub fn lines(mut self, lines: &[&str]) -> Builder {
+        for line in lines {
+            if let Err(error) = one_line(line) {
+                self.problem = self.problem.or(Some(error));
+            }
+            self.has_draws |= ["seed", "words"].contains(&first_word(line));
+            self.lines.push((*line).to_owned());
+        }
+        self
+    }
+
+    /// Sets which calls fail from the start.
+    ///
+    /// ```
+    /// # use blobcrash::{Config, Error, Probability, Store};
+    /// # fn main() -> Result<(), Error> {
+    /// let store = Store::builder().config(Config::default().open(Probability::ONE)).open()?;
+    /// assert_eq!(store.open("p", b"b").err(), Some(Error::Injected));
+    /// # Ok(())
+    /// # }
+    /// ```
+    pub fn config(mut self, config: Config) -> Builder {
+        self.config = config;
+        self
+    }
+
+    /// Lets stale handles be used. Without this each use of one returns `StaleHandle`.
+    ///
+    /// ```
+    /// # fn main() -> Result<(), blobcrash::Error> {
+    /// let store = blobcrash::Store::builder().allow_stale().open()?;
+    /// let (blob, _) = store.open("p", b"b")?;
+    /// store.remove("p", None)?;
+    /// assert!(blob.size().is_ok());
+    /// # Ok(())
+    /// # }
+    /// ```
+    pub fn allow_stale(mut self) -> Builder {
+        self.allow_stale = true;
+        self
+    }
+
+    /// Keeps no record of the calls, which then need no memory, and [`Store::script`] is empty.
+    ///
+    /// ```
+    /// # fn main() -> Result<(), blobcrash::Error> {
+    /// let store = blobcrash::Store::builder().unrecorded().seed(7).open()?;
+    /// assert_eq!(store.script(), "");
+    /// # Ok(())
+    /// # }
+    /// ```
+    pub fn unrecorded(mut self) -> Builder {
+        self.unrecorded = true;
+        self
+    }
+
+    /// Makes the store.
+    ///
+    /// Errors, with nothing made:
+    /// - `Argument` if the partition of an image isn't one token, a sector has no bytes, or a store with pushed words has other words.
+    /// - `NeedsSeed` if a rate needs random draws and there is neither a seed nor a word.
+    /// - `BadLine` if a line isn't one of a preamble, or a seed is given twice.
+    /// - `OutOfMemory`.
+    ///
+    /// ```
+    /// # use blobcrash::{Error, Store};
+    /// let refused = Store::builder().lines(&["crash"]).open();
+    /// assert_eq!(refused.err(), Some(Error::BadLine("crash".to_owned())));
+    /// assert!(Store::builder().open().is_ok());
+    /// ```
+    pub fn open(self) -> Result<Store, Error> {
+        self.made(None)
+    }
+
+    /// Makes the store of an explored run, with as many words after those of its path.
+    pub(crate) fn explored(&self, mut choices: Choices, words: usize) -> Result<Store, Error> {
+        if self.has_draws || self.is_pushed {
+            let text = "an explored store has neither a seed nor words: its draws are chosen";
+            return Err(Error::Argument(text.to_owned()));
+        }
+        self.config.check_explorable()?;
+        let mut builder = self.clone().words(&choices.words(words));
+        // Before the images and the lines of the caller.
+        builder.lines.rotate_right(1);
+        builder.made(Some(choices))
+    }
+
+    fn made(mut self, choices: Option<Choices>) -> Result<Store, Error> {
+        if let Some(problem) = self.problem {
+            return Err(problem);
+        }
+        self.config.check()?;
+        if self.is_pushed && self.has_draws {
+            let text = "a store with pushed words has neither a seed nor other words";
+            return Err(Error::Argument(text.to_owned()));
+        }
+        let has_draws = self.has_draws || self.is_pushed;
+        if !has_draws && self.config.needs_draws() {
+            return Err(Error::NeedsSeed);
+        }
+        self.lines.extend(self.config.lines());
+        let pushed: &[u64] = if self.is_pushed { &[LAST_WORD] } else { &[] };
+        let mut preamble = self.lines.join("\n");
+        if self.is_pushed {
+            preamble = words_line(pushed) + "\n" + &preamble;
+        }
+        let mut session = Session::open(&preamble)?;
+        if !self.unrecorded {
+            let mut script = Script::with_words(pushed);
+            self.lines.iter().for_each(|line| script.push_line(line));
+            session.script = Some(script);
+        }
+        let state = State::new(session, self.config, choices);
+        let shared = Shared::new(state, has_draws, self.allow_stale, self.is_pushed);
+        Ok(Store::of(shared))
+    }
+}

@@ -1,0 +1,277 @@
+//! What a store shares with its clones, its blobs and its started syncs: one session, which a lock protects.
+use crate::choices::Choices;
+use crate::library::Session;
+use crate::power::{Effect, Power};
+use crate::script::{tokens, unhex};
+use crate::{Config, Error};
+use std::collections::BTreeMap;
+use std::str::Split;
+use std::sync::atomic::{AtomicBool, Ordering};
+use std::sync::{Arc, Mutex, MutexGuard, OnceLock, PoisonError};
+
+/// A store's state, with what doesn't change.
+#[derive(Debug)]
+pub(crate) struct Shared {
+    state: Mutex<State>,
+    pub(crate) has_draws: bool,
+    pub(crate) allow_stale: bool,
+    pub(crate) is_pushed: bool,
+}
+
+/// What calls change.
+#[derive(Debug)]
+pub(crate) struct State {
+    pub(crate) session: Session,
+    /// The handles that are open, by their numbers.
+    opened: BTreeMap<usize, Arc<Opened>>,
+    /// How often the store was reopened.
+    pub(crate) reopens: u64,
+    config: Config,
+    /// Whether the session's settings aren't `config`: setting them was cut short.
+    is_unset: bool,
+    pub(crate) power: Power,
+    /// The choices of an explored run.
+    pub(crate) choices: Option<Choices>,
+}
+
+/// What the store knows of an open handle. The fields change under the store's lock.
+#[derive(Debug)]
+pub(crate) struct Opened {
+    partition: String,
+    name: Vec<u8>,
+    /// Why the handle is stale.
+    stale: OnceLock<&'static str>,
+    allow_stale: AtomicBool,
+    is_closed: AtomicBool,
+}
+
+impl Opened {
+    pub(crate) fn new(partition: &str, name: &[u8], allow_stale: bool) -> Opened {
+        Opened {
+            partition: partition.to_owned(),
+            name: name.to_vec(),
+            stale: OnceLock::new(),
+            allow_stale: AtomicBool::new(allow_stale),
+            is_closed: AtomicBool::new(false),
+        }
+    }
+
+    pub(crate) fn is_stale(&self) -> bool {
+        self.stale.get().is_some()
+    }
+
+    pub(crate) fn allow_stale(&self, allow: bool) {
+        self.allow_stale.store(allow, Ordering::Relaxed);
+    }
+
+    /// Returns `StaleHandle` if the handle may not be used.
+    pub(crate) fn check(&self) -> Result<(), Error> {
+        match self.stale.get() {
+            Some(why) if !self.allow_stale.load(Ordering::Relaxed) => Err(Error::StaleHandle(why)),
+            _ => Ok(()),
+        }
+    }
+
+    /// Whether this is a handle of a blob, or without a name of any blob of the partition.
+    fn is_of(&self, partition: &str, name: Option<&[u8]>) -> bool {
+        self.partition == partition && name.is_none_or(|name| self.name == name)
+    }
+
+    fn end(&self, why: &'static str) {
+        // The first reason stays.
+        let _ = self.stale.set(why);
+    }
+}
+
+impl Shared {
+    pub(crate) fn new(state: State, has_draws: bool, allow_stale: bool, is_pushed: bool) -> Shared {
+        Shared {
+            state: Mutex::new(state),
+            has_draws,
+            allow_stale,
+            is_pushed,
+        }
+    }
+
+    /// Takes the lock. A panic of another thread leaves a state that can be used: a session has made a call or not.
+    pub(crate) fn lock(&self) -> MutexGuard<'_, State> {
+        self.state.lock().unwrap_or_else(PoisonError::into_inner)
+    }
+}
+
+impl State {
+    pub(crate) fn new(session: Session, config: Config, choices: Option<Choices>) -> State {
+        State {
+            session,
+            opened: BTreeMap::new(),
+            reopens: 0,
+            config,
+            is_unset: false,
+            power: Power::default(),
+            choices,
+        }
+    }
+
+    /// Makes the call of a line, and returns its reply line, of a refused call too.
+    pub(crate) fn call(&mut self, line: &str) -> Result<&str, Error> {
+        let effect = Effect::of(line);
+        self.permit(effect)?;
+        let reply = self.session.call(line)?;
+        if !reply.starts_with("error ") {
+            self.power.follow(effect);
+        }
+        Ok(reply)
+    }
+
+    /// Makes the call of a line, and takes what it returns from the words of its reply.
+    pub(crate) fn asked<T>(
+        &mut self,
+        line: &str,
+        read: impl FnOnce(Split<'_, char>) -> Option<T>,
+    ) -> Result<T, Error> {
+        let reply = self.call(line)?;
+        if reply.starts_with("error ") {
+            return Err(Error::of(reply));
+        }
+        read(reply.split(' ')).ok_or_else(|| Error::Unknown(reply.to_owned()))
+    }
+
+    pub(crate) fn done(&mut self, line: &str) -> Result<(), Error> {
+        self.asked(line, |_| Some(()))
+    }
+
+    /// Returns `PowerLoss` if a call may not be made, and `OutOfMemory` if the settings aren't complete.
+    pub(crate) fn permit(&mut self, effect: Effect) -> Result<(), Error> {
+        if self.is_unset && effect != Effect::Nothing {
+            self.set(self.config)?;
+        }
+        if self.power.permits(effect) {
+            return Ok(());
+        }
+        if self.power.is_off() {
+            return Err(Error::PowerLoss);
+        }
+        if self.power.is_used_up() || (effect == Effect::Changes && self.power_fails()) {
+            self.power.turn_off();
+            self.note("power loss");
+            return Err(Error::PowerLoss);
+        }
+        self.power.count(effect);
+        Ok(())
+    }
+
+    /// Whether the path of an explored run turns the power off now.
+    fn power_fails(&mut self) -> bool {
+        if !self.choices.as_ref().is_some_and(Choices::has_losses) {
+            return false;
+        }
+        self.count_draws();
+        self.choices.as_mut().is_some_and(Choices::power_fails)
+    }
+
+    /// Counts the draws that an explored run has made.
+    pub(crate) fn count_draws(&mut self) {
+        if let (Some(choices), Some(left)) = (&mut self.choices, self.session.words_left()) {
+            choices.count(left);
+        }
+    }
+
+    /// Replaces the settings, or leaves the earlier ones. If these can't be set again, the next call that the store makes sets them
+    /// first, or returns `OutOfMemory`.
+    pub(crate) fn configure(&mut self, config: Config) -> Result<(), Error> {
+        let earlier = self.config;
+        let outcome = self.set(config);
+        if outcome.is_err() {
+            self.config = earlier;
+            let _ = self.set(earlier);
+        }
+        outcome
+    }
+
+    fn set(&mut self, config: Config) -> Result<(), Error> {
+        self.is_unset = true;
+        self.done("config clear")?;
+        for line in config.lines() {
+            self.done(&line)?;
+        }
+        self.config = config;
+        self.is_unset = false;
+        Ok(())
+    }
+
+    /// Adds a comment to the script, a line for each of the text's.
+    pub(crate) fn note(&mut self, text: &str) {
+        if let Some(script) = &mut self.session.script {
+            for line in text.split('\n') {
+                script.push_line(&format!("# {line}"));
+            }
+        }
+    }
+
+    pub(crate) fn insert(&mut self, handle: usize, opened: &Arc<Opened>) {
+        self.opened.insert(handle, Arc::clone(opened));
+    }
+
+    /// Closes a handle. If the power is off, the restart closes it.
+    pub(crate) fn close(&mut self, handle: usize, opened: &Opened) {
+        if opened.is_closed.load(Ordering::Relaxed) {
+            return;
+        }
+        if self.done(&format!("close {handle}")) != Err(Error::PowerLoss) {
+            self.opened.remove(&handle);
+        }
+    }
+
+    /// Closes every handle.
+    pub(crate) fn close_all(&mut self) -> Result<(), Error> {
+        while let Some((handle, opened)) = self.opened.pop_first() {
+            opened.is_closed.store(true, Ordering::Relaxed);
+            self.done(&format!("close {handle}"))?;
+        }
+        Ok(())
+    }
+
+    pub(crate) fn end_handles(&self, why: &'static str) {
+        self.opened.values().for_each(|opened| opened.end(why));
+    }
+
+    pub(crate) fn end_blobs(&self, partition: &str, name: Option<&[u8]>) {
+        for opened in self.opened.values() {
+            if opened.is_of(partition, name) {
+                opened.end("its blob was removed since");
+            }
+        }
+    }
+
+    /// Follows the call of a caller's line, which wasn't refused: the handles that it made stale, the setting that it made.
+    pub(crate) fn follow(&mut self, line: &str) {
+        match tokens(line)[..] {
+            ["crash"] => self.end_handles("the store has crashed since"),
+            ["reopen"] => self.was_reopened(),
+            ["remove", partition] => self.end_blobs(partition, None),
+            ["remove", partition, name] => self.end_blobs(partition, unhex(name).as_deref()),
+            ["config", ref setting @ ..] => self.config.apply(setting),
+            _ => {}
+        }
+    }
+
+    pub(crate) fn was_reopened(&mut self) {
+        self.reopens += 1;
+        self.end_handles("the store was reopened since");
+    }
+}
+
+#[cfg(test)]
+mod tests {
+    use crate::{Config, Error, Probability, Store};
+
+    #[test]
+    fn incomplete_settings_are_set_before_the_next_call() {
+        let store = Store::builder().open().unwrap();
+        let mut state = store.shared.lock();
+        state.config = Config::default().scan(Probability::ONE);
+        state.is_unset = true;
+        assert_eq!(state.done("scan p"), Err(Error::Injected));
+        assert!(!state.is_unset);
+    }
+}
