@@ -50,30 +50,67 @@ lives() {
 
 compiler=${CC:-cc}
 if has "$compiler"; then
-    build="$compiler -std=c11 -Wall -Wextra -Werror -O2 -I$top/bindings/c"
-    for program in first calls lines log hostile; do
+    build="$compiler -std=c11 -Wall -Wextra -Werror -pedantic -O2 -I$top/bindings/c"
+    for program in first calls typed lines log hostile; do
         $build -o "$work/$program" "$top/bindings/c/$program.c" "$top/out/libblobcrash.a" >"$work/out" 2>"$work/err"
         tell $? "C: $program.c"
     done
     "$work/first" >"$work/out" 2>"$work/err"
-    [ "$(cat "$work/out")" = 'crashed 0:111111' ]
+    [ "$(cat "$work/out")" = '6 of 6 bytes' ]
     tell $? 'C: the example of the page'
     "$work/calls" >"$work/out" 2>"$work/err"
     tell $? 'C: what each function answers'
+    "$work/typed" >"$work/out" 2>"$work/err"
+    tell $? 'C: what each typed call returns'
     "$work/hostile" "$top/tests/hostile.tsv" >"$work/out" 2>"$work/err"
     tell $? 'C: hostile arguments'
     answers 'C, line by line' "$work/lines"
     answers 'C, at once' "$work/lines" --whole
     lives C "$work/log"
+    "$work/log" forget-sync "$work/lost.script" >"$work/out" 2>"$work/err"
+    "$work/lines" <"$work/lost.script" >"$work/out" 2>"$work/err"
+    # Each call has a reply, and the last recovery read the whole log.
+    [ $? -eq 0 ] && [ "$(wc -l <"$work/out")" -eq "$(grep -cv '^seed ' "$work/lost.script")" ] &&
+        awk '/^opened/ { size = $3 } /^bytes/ { read = $2 == "-" ? 0 : length($2) / 2 } END { exit size != read }' "$work/out"
+    tell $? 'C: the script of the log that forgets a sync'
+    if has c++; then
+        cat >"$work/headers.cc" <<'END'
+#include "blobcrash.h"
+static void on_line(blobcrash_session *, const char *, size_t) {}
+#define BLOBCRASH_ON_LINE on_line
+#include "blobcrash_calls.h"
+END
+        c++ -std=c++11 -Wall -Wextra -Werror -pedantic -fsyntax-only "-I$top/bindings/c" "$work/headers.cc" >"$work/out" 2>"$work/err"
+        tell $? 'C++: the headers'
+    else
+        skip 'C++: there is no c++'
+    fi
+    # What a session that is handed to another thread rests on: no state per thread, and no other function of the C library.
+    if has nm readelf && [ -f "$top/out/libblobcrash.so" ]; then
+        nm -D --undefined-only "$top/out/libblobcrash.so" | awk '$1 == "U" { print $2 }' | sed 's/@.*//' | sort -u >"$work/out"
+        [ -s "$work/out" ] && ! grep -qvxE 'malloc|realloc|free|memcpy|memmove|memset|memcmp' "$work/out" &&
+            ! readelf -SW "$top/out/libblobcrash.so" | grep -qE '\.(tdata|tbss)'
+        tell $? 'C: what the library calls, and that it has no state'
+    else
+        skip 'C: what the library calls: there is no nm, or no shared library'
+    fi
+    if has valgrind && $build -pthread -o "$work/threads" "$top/bindings/c/threads.c" "$top/out/libblobcrash.a" 2>"$work/err"; then
+        valgrind --tool=helgrind --quiet --error-exitcode=3 "$work/threads" >"$work/out" 2>"$work/err"
+        tell $? 'C: a session that is handed from thread to thread'
+    else
+        skip 'C: a session that is handed from thread to thread: there is no valgrind, or no threads'
+    fi
     # The memory of both sides under the sanitizer, which also tells what isn't given back.
     if $build -g -fsanitize=address,undefined -o "$work/lines.sanitized" "$top/bindings/c/lines.c" \
         "$top/out/libblobcrash.a" 2>"$work/err" && "$work/lines.sanitized" </dev/null 2>"$work/err"; then
-        for program in calls log hostile; do
+        for program in calls typed log hostile; do
             $build -g -fsanitize=address,undefined -o "$work/$program.sanitized" "$top/bindings/c/$program.c" \
                 "$top/out/libblobcrash.a"
         done
         "$work/calls.sanitized" >"$work/out" 2>"$work/err"
         tell $? 'C, sanitized: what each function answers'
+        "$work/typed.sanitized" >"$work/out" 2>"$work/err"
+        tell $? 'C, sanitized: what each typed call returns'
         "$work/hostile.sanitized" "$top/tests/hostile.tsv" >"$work/out" 2>"$work/err"
         tell $? 'C, sanitized: hostile arguments'
         answers 'C, sanitized' "$work/lines.sanitized"

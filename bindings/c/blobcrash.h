@@ -13,13 +13,15 @@
  * - Sessions. A session of all zeros is closed: `struct blobcrash_session s = {0};`. Its fields belong to the library: a
  *   caller reads and writes neither. An open session may be moved, but then only the new place is used; it is never copied to
  *   be used twice. Each is closed before it is forgotten, or its memory is lost.
- * - One at a time. A session is given to one call at a time, and stays on the thread that opened it. Different sessions, also
- *   on different threads, share nothing. No function is called from a signal handler, nor in the child of a `fork` of a
- *   process that has threads.
+ * - One at a time. A session is given to one call at a time. It may be handed from one thread to another if the calls are
+ *   ordered, as by a lock or a join: the library has no state of its own, per thread or otherwise, and calls only `malloc`,
+ *   `realloc`, `free` and the `mem` functions. Different sessions share nothing. No function is called from a signal handler,
+ *   nor in the child of a `fork` of a process that has threads.
  * - Memory. The program's `malloc`, `realloc` and `free` come from one allocator, which aligns a block to each power of two up
  *   to 16 that divides its size.
  *
- * Lines, replies and statuses of scripts: docs/FORMATS.md. Building and linking: docs/BINDINGS.md.
+ * Typed calls, a function for each: blobcrash_calls.h. Lines, replies and statuses of scripts: docs/FORMATS.md. Building and
+ * linking: docs/BINDINGS.md.
  */
 #ifndef BLOBCRASH_H
 #define BLOBCRASH_H
@@ -49,7 +51,48 @@ enum blobcrash_status {
     /* The call was made, with another reply than the one that it is for. The reply is kept. */
     BLOBCRASH_OTHER_REPLY = 6,
     /* The call was made. There was no memory to print its reply, which is kept. */
-    BLOBCRASH_UNPRINTED = 7
+    BLOBCRASH_UNPRINTED = 7,
+    /* A typed call has an unknown kind, a version above 65535 or a partition that isn't UTF-8. No call was made. */
+    BLOBCRASH_BAD_CALL = 8
+};
+
+/* The status of a typed call that was made and refused. */
+enum blobcrash_refusal {
+    BLOBCRASH_E_OFFSET_OVERFLOW = 16,
+    BLOBCRASH_E_BLOB_INSUFFICIENT_LENGTH = 17,
+    BLOBCRASH_E_PARTITION_NAME_INVALID = 18,
+    BLOBCRASH_E_PARTITION_MISSING = 19,
+    BLOBCRASH_E_BLOB_MISSING = 20,
+    BLOBCRASH_E_BLOB_ALREADY_OPEN = 21,
+    BLOBCRASH_E_BLOB_CORRUPT = 22,
+    BLOBCRASH_E_BLOB_LAYOUT_MISMATCH = 23,
+    BLOBCRASH_E_BLOB_VERSION_MISMATCH = 24,
+    BLOBCRASH_E_CLOSED = 25,
+    BLOBCRASH_E_READ_FAILED = 26,
+    BLOBCRASH_E_WRITE_FAILED = 27,
+    BLOBCRASH_E_INJECTED = 28,
+    BLOBCRASH_E_MEMORY = 29,
+    BLOBCRASH_E_GENERATIONS_EXHAUSTED = 30,
+    BLOBCRASH_E_NO_HANDLE = 31,
+    BLOBCRASH_E_EMPTY_RANGE = 32
+};
+
+/* The kinds of typed calls, each with the fields and the bytes that it uses. It ignores the others. */
+enum blobcrash_kind {
+    BLOBCRASH_OPEN = 0,              /* partition, name, first and last accepted version */
+    BLOBCRASH_OPEN_LOOSE = 1,        /* partition, name, first and last accepted version */
+    BLOBCRASH_ADMIT = 2,             /* partition, name */
+    BLOBCRASH_CLOSE = 3,             /* number */
+    BLOBCRASH_RESIZE = 4,            /* number, first: the length */
+    BLOBCRASH_SIZE = 5,              /* number */
+    BLOBCRASH_SYNC = 6,              /* number */
+    BLOBCRASH_START_SYNC = 7,        /* number */
+    BLOBCRASH_FINISH = 8,            /* number: the started sync's */
+    BLOBCRASH_REMOVE_BLOB = 9,       /* partition, name */
+    BLOBCRASH_REMOVE_PARTITION = 10, /* partition */
+    BLOBCRASH_SCAN = 11,             /* partition */
+    BLOBCRASH_CRASH = 12,
+    BLOBCRASH_REOPEN = 13
 };
 
 /* A laboratory, or none: a store with its open handles and started syncs. */
@@ -69,6 +112,37 @@ struct blobcrash_script_ran {
     uint32_t status;
     size_t len;
     uint64_t line;
+};
+
+/* A typed call without its bytes. */
+struct blobcrash_asked {
+    uint32_t kind;
+    size_t number;
+    uint64_t first;
+    uint64_t last;
+};
+
+/* The numbers of a reply. Those that a reply doesn't have are 0. */
+struct blobcrash_typed_reply {
+    /* DONE, a refusal, or another status if no call was made. */
+    uint32_t status;
+    /* The version of an opened blob. */
+    uint32_t version;
+    /* The handle of an opened blob, or the number of a started sync. */
+    size_t number;
+    /* The size of a blob in bytes, how many names a scan returned, or for how many writes a crash drew. */
+    uint64_t size;
+};
+
+/* A run of bytes of one write that a crash kept. */
+struct blobcrash_kept_run {
+    uint32_t status;
+    /* The write's number, and how many bytes it submitted. */
+    uint64_t write;
+    size_t bytes;
+    /* The run is the bytes from `start` to before `start + len`; without one `start` is `bytes`, and `len` 0. */
+    size_t start;
+    size_t len;
 };
 
 /*
@@ -95,6 +169,64 @@ struct blobcrash_ran blobcrash_call(struct blobcrash_session *session, const uin
  * DONE; NO_ROOM with the room that is wanted; UNPRINTED; CLOSED. None changes anything.
  */
 struct blobcrash_ran blobcrash_reply(struct blobcrash_session *session, uint8_t *reply, size_t reply_room);
+
+/*
+ * Makes a typed call. Its partition and its name are bytes, which never become part of a line: a partition that isn't a valid
+ * name is refused as PARTITION_NAME_INVALID, with the caller's text in the reply.
+ *
+ * DONE; a refusal, which blobcrash_reply prints with its texts; BAD_CALL, NO_MEMORY and CLOSED, which change nothing.
+ */
+struct blobcrash_typed_reply blobcrash_apply(struct blobcrash_session *session, const struct blobcrash_asked *asked,
+                                             const uint8_t *partition, size_t partition_len, const uint8_t *name,
+                                             size_t name_len);
+
+/*
+ * Returns the numbers of the reply to the last call, also of a line, a read or a write. DONE if no call was made yet.
+ *
+ * DONE; a refusal; CLOSED. None changes anything.
+ */
+struct blobcrash_typed_reply blobcrash_last(struct blobcrash_session *session);
+
+/*
+ * Copies the name with an index, from 0 on, to the start of `name`. The last reply is that of a scan, which sorts names by
+ * their bytes.
+ *
+ * DONE; NO_ROOM with the capacity that is needed; OTHER_REPLY if the last reply has no such name; CLOSED. None changes anything.
+ */
+struct blobcrash_ran blobcrash_name(struct blobcrash_session *session, size_t index, uint8_t *name, size_t capacity);
+
+/*
+ * Returns in `len` the index of a name in the last reply, that of a scan.
+ *
+ * DONE; OTHER_REPLY if the last reply doesn't have this name; CLOSED. None changes anything.
+ */
+struct blobcrash_ran blobcrash_find_name(struct blobcrash_session *session, const uint8_t *name, size_t name_len);
+
+/*
+ * Returns the first run of kept bytes at or after the index `from` of one write. The last reply is that of a crash, and `row`
+ * counts the writes for which it drew, from 0 on.
+ *
+ * DONE, also if no further byte was kept; OTHER_REPLY if the last reply has no such row; CLOSED. None changes anything.
+ */
+struct blobcrash_kept_run blobcrash_kept_run(struct blobcrash_session *session, size_t row, size_t from);
+
+/*
+ * Copies the durable bytes of a blob to the start of `into`: `with_header` all of them, otherwise those after the header. Draws
+ * nothing.
+ *
+ * DONE; NO_ROOM with the capacity that is needed; BLOBCRASH_E_BLOB_MISSING if there is no such blob, or no header to leave out;
+ * BAD_CALL, NO_MEMORY and CLOSED. None changes anything.
+ */
+struct blobcrash_ran blobcrash_durable_blob(struct blobcrash_session *session, const uint8_t *partition, size_t partition_len,
+                                            const uint8_t *name, size_t name_len, bool with_header, uint8_t *into,
+                                            size_t capacity);
+
+/*
+ * Copies the digest of all durable blobs (docs/FORMATS.md), which has four bytes, to the start of `into`. Draws nothing.
+ *
+ * DONE; NO_ROOM; CLOSED. None changes anything.
+ */
+struct blobcrash_ran blobcrash_audit(struct blobcrash_session *session, uint8_t *into, size_t capacity);
 
 /*
  * The call `write HANDLE OFFSET HEX`, or with `sync` `writes HANDLE OFFSET HEX`, without text.

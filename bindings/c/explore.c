@@ -1,5 +1,6 @@
 /* Every outcome of a torn write, by explore.h: the nine of a write of eight bytes in prefix mode, each once, and those of runs with a
  * failing sync. The last line is `N passed, M failed`. */
+#include "blobcrash_calls.h"
 #include "explore.h"
 
 #include <stdio.h>
@@ -15,25 +16,18 @@ static void tell(bool holds, const char *what) {
     }
 }
 
-static size_t call(struct blobcrash_session *session, const char *line, char *reply, size_t room) {
-    struct blobcrash_ran ran = blobcrash_call(session, (const uint8_t *)line, strlen(line), (uint8_t *)reply, room - 1);
-    reply[ran.status == BLOBCRASH_DONE ? ran.len : 0] = 0;
-    return ran.len;
-}
-
 /* Overwrites `len` synced bytes without a sync, crashes, and returns how many of them were kept. */
 static size_t torn(struct blobcrash_session *session, size_t len) {
     static uint8_t old[256], new[256];
-    static char reply[1024];
+    size_t handle = 0;
     memset(old, 'a', sizeof old);
     memset(new, 'b', sizeof new);
-    call(session, "open p 62", reply, sizeof reply);
-    blobcrash_write(session, 0, 0, old, len, true);
-    blobcrash_write(session, 0, 0, new, len, false);
-    call(session, "crash", reply, sizeof reply);
-    size_t kept = 0;
-    for (const char *at = strchr(reply, ':'); at != NULL && *++at == '1';) kept++;
-    return kept;
+    blobcrash_open_blob(session, "p", 1, "b", 1, &handle, NULL);
+    blobcrash_write_at_sync(session, handle, 0, old, len);
+    blobcrash_write_at(session, handle, 0, new, len);
+    blobcrash_crash(session, NULL);
+    struct blobcrash_kept_run run = blobcrash_kept_run(session, 0, 0);
+    return run.start == 0 ? run.len : 0;
 }
 
 static void outcomes(size_t len) {

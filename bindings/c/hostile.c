@@ -1,12 +1,12 @@
 /*
- * The rows of tests/hostile.tsv in C; its head says what they are. hostile TABLE: the rows that don't hold, and how many do.
+ * The rows of tests/hostile.tsv in C, by typed calls; its head says what they are. hostile TABLE: the rows that don't hold, and how
+ * many do.
  *
- * A C program writes its own lines. `put_partition`, `put_image` and `is_one_line` are how it keeps a text that isn't its own from
- * becoming anything but the argument that it is: to be copied with a program that takes names from elsewhere.
+ * The lines of a preamble are the caller's own. `put_image` keeps a text from becoming anything but the argument that it is: to be
+ * copied with a program that takes names from elsewhere.
  */
-#include "blobcrash.h"
+#include "blobcrash_calls.h"
 
-#include <ctype.h>
 #include <inttypes.h>
 #include <stdio.h>
 #include <stdlib.h>
@@ -44,18 +44,6 @@ static void put_hex(struct text *text, const struct text *bytes) {
     }
 }
 
-/* A space, and the token of a partition: or `!` if the text isn't a name. `!` makes the same draw and gets the same refusal. */
-static void put_partition(struct text *line, const struct text *partition) {
-    bool is_name = partition->len > 0;
-    for (size_t i = 0; i < partition->len; i++) {
-        unsigned char byte = (unsigned char)partition->bytes[i];
-        is_name = is_name && byte < 128 && (isalnum(byte) || byte == '-' || byte == '_');
-    }
-    put_string(line, " ");
-    if (is_name) put(line, partition->bytes, partition->len);
-    else put_string(line, "!");
-}
-
 /* The line of an image with its line feed; false for a partition that no line can have. */
 static bool put_image(struct text *preamble, const struct text *partition, const struct text *name, const struct text *data) {
     if (partition->len == 0 || memchr(partition->bytes, ' ', partition->len) || memchr(partition->bytes, '\n', partition->len)) {
@@ -68,8 +56,6 @@ static bool put_image(struct text *preamble, const struct text *partition, const
     put_string(preamble, "\n");
     return true;
 }
-
-static bool is_one_line(const struct text *line) { return !memchr(line->bytes, '\n', line->len); }
 
 /* A text of the table: percent-encoding is undone. */
 static struct text decoded(const char *from) {
@@ -99,84 +85,83 @@ static bool is_text(const struct text *text, const char *string) {
     return text->len == strlen(string) && memcmp(text->bytes, string, text->len) == 0;
 }
 
-static bool begins(const struct text *text, const char *prefix) {
-    return text->len >= strlen(prefix) && memcmp(text->bytes, prefix, strlen(prefix)) == 0;
-}
-
-/* The reply to a line. False if it is a bad one. What the library itself can't do ends the program. */
-static bool ask(struct blobcrash_session *session, const struct text *line, struct text *reply) {
-    struct blobcrash_ran ran = blobcrash_call(session, (const uint8_t *)line->bytes, line->len, (uint8_t *)reply->bytes, LONGEST);
-    if (ran.status == BLOBCRASH_BAD_LINE) return false;
+/* The outcome of the call that had this status: `ok`, `refused`, or an error with its texts, which are those of the reply. */
+static struct text outcome_of(struct blobcrash_session *session, uint32_t status) {
+    struct text text = {0}, reply = {0};
+    if (status < BLOBCRASH_E_OFFSET_OVERFLOW) {
+        if (status != BLOBCRASH_DONE && status != BLOBCRASH_BAD_CALL && status != BLOBCRASH_BAD_LINE) abort();
+        put_string(&text, status == BLOBCRASH_DONE ? "ok" : "refused");
+        return text;
+    }
+    struct blobcrash_ran ran = blobcrash_reply(session, (uint8_t *)reply.bytes, LONGEST);
     if (ran.status != BLOBCRASH_DONE) abort();
-    reply->len = ran.len;
-    return true;
-}
-
-static struct text say(struct blobcrash_session *session, const char *string) {
-    struct text line = {0}, reply = {0};
-    put_string(&line, string);
-    if (!ask(session, &line, &reply)) abort();
-    return reply;
-}
-
-/* The outcome that a reply means: `ok`, or an error with its texts. `partition` is the caller's. */
-static struct text outcome_of(const struct text *reply, const struct text *partition) {
-    struct text text = {0};
-    if (!begins(reply, "error ")) {
-        put_string(&text, "ok");
-        return text;
-    }
-    if (partition && begins(reply, "error PartitionNameInvalid ")) {
-        put_string(&text, "PartitionNameInvalid:");
-        put(&text, partition->bytes, partition->len);
-        return text;
-    }
-    bool names_blob = begins(reply, "error BlobMissing ") || begins(reply, "error BlobAlreadyOpen ");
-    int spaces = 0;
-    for (size_t i = strlen("error "); i < reply->len; i++) {
-        char byte = reply->bytes[i];
-        spaces += byte == ' ';
-        /* The empty name of a blob, which is printed as `-`. */
-        if (names_blob && spaces == 2 && byte == '-') continue;
-        put(&text, byte == ' ' ? ":" : &byte, 1);
+    reply.len = ran.len;
+    /* An empty text is printed as `-`. The text of a partition is the caller's, and may have spaces. */
+    bool is_partition = status == BLOBCRASH_E_PARTITION_NAME_INVALID, in_text = false;
+    bool has_name = status == BLOBCRASH_E_BLOB_MISSING || status == BLOBCRASH_E_BLOB_ALREADY_OPEN;
+    bool is_empty = is_partition ? is_text(&reply, "error PartitionNameInvalid -")
+                                 : has_name && memcmp(reply.bytes + reply.len - 2, " -", 2) == 0;
+    for (size_t i = strlen("error "); i < reply.len - is_empty; i++) {
+        bool parts = reply.bytes[i] == ' ' && !(is_partition && in_text);
+        put(&text, parts ? ":" : &reply.bytes[i], 1);
+        in_text = in_text || parts;
     }
     return text;
 }
 
-/* The outcome of a row's call, which is made by a line, or typed. */
-static struct text perform(struct blobcrash_session *session, const char *call, char **arguments, int count) {
-    struct text line = {0}, reply = {0}, refused = {0}, first = value(arguments[0]);
-    bool is_write = strncmp(call, "write", 5) == 0;
-    put_string(&refused, "refused");
-    if (is_write) {
-        struct text bytes = value(arguments[1]);
-        uint32_t status = blobcrash_write(session, 0, number(arguments[0]), (uint8_t *)bytes.bytes, bytes.len, call[5] == 's');
-        if (status == BLOBCRASH_OTHER_REPLY) {
-            reply.len = blobcrash_reply(session, (uint8_t *)reply.bytes, LONGEST).len;
-        } else if (status != BLOBCRASH_DONE) {
-            abort();
-        }
-        return outcome_of(&reply, NULL);
+/* The versions of an open; a row without them has version 0. */
+static uint64_t version(char **arguments, int count, int at) { return at < count ? number(arguments[at]) : 0; }
+
+/* The status of a row's call with a partition. */
+static uint32_t named(struct blobcrash_session *session, const char *call, char **arguments, int count) {
+    struct text partition = value(arguments[0]), name = {0};
+    bool has_name = count > 1 && strncmp(arguments[1], "bytes:", 6) == 0;
+    const char *at = partition.bytes;
+    if (has_name) name = value(arguments[1]);
+    if (strcmp(call, "open") == 0 || strcmp(call, "loose") == 0) {
+        struct blobcrash_asked asked = {*call == 'o' ? BLOBCRASH_OPEN : BLOBCRASH_OPEN_LOOSE, 0, version(arguments, count, 2),
+                                        version(arguments, count, 3)};
+        return blobcrash_apply(session, &asked, (const uint8_t *)at, partition.len, (const uint8_t *)name.bytes, name.len).status;
     }
-    if (strcmp(call, "image") == 0 || strcmp(call, "seed") == 0) return outcome_of(&reply, NULL);
-    bool has_partition = strstr("open loose remove scan admit", call) != NULL;
-    if (strcmp(call, "call") == 0) {
-        put(&line, first.bytes, first.len);
-    } else if (strcmp(call, "configure") == 0) {
-        put_string(&line, "config ");
-        put(&line, first.bytes, first.len);
-    } else {
-        put_string(&line, call);
-        if (strcmp(call, "read") == 0 || strcmp(call, "resize") == 0) put_number(&line, 0);
-        for (int i = 0; i < count; i++) {
-            struct text bytes = value(arguments[i]);
-            if (strncmp(arguments[i], "text:", 5) == 0) put_partition(&line, &bytes);
-            else if (strncmp(arguments[i], "bytes:", 6) == 0) put_hex(&line, &bytes);
-            else if (strncmp(arguments[i], "int:", 4) == 0) put_number(&line, number(arguments[i]));
-        }
+    if (strcmp(call, "admit") == 0) return blobcrash_admit(session, at, partition.len, name.bytes, name.len);
+    if (strcmp(call, "scan") == 0) return blobcrash_scan(session, at, partition.len, NULL);
+    if (strcmp(call, "remove") != 0) abort();
+    if (has_name) return blobcrash_remove_blob(session, at, partition.len, name.bytes, name.len);
+    return blobcrash_remove_partition(session, at, partition.len);
+}
+
+/* The status of a row's call of the handle 0. */
+static uint32_t numbered(struct blobcrash_session *session, const char *call, char **arguments) {
+    uint64_t first = number(arguments[0]);
+    if (strcmp(call, "resize") == 0) return blobcrash_resize(session, 0, first);
+    if (strcmp(call, "finish") == 0) return blobcrash_finish(session, first);
+    if (strcmp(call, "read") == 0) {
+        static uint8_t into[LONGEST];
+        uint64_t len = number(arguments[1]);
+        if (len <= sizeof into) return blobcrash_read_at(session, 0, first, into, len);
+        /* No buffer has that many bytes. */
+        char line[64];
+        snprintf(line, sizeof line, "read 0 %" PRIu64 " %" PRIu64, first, len);
+        return blobcrash_line(session, line);
     }
-    if (!is_one_line(&line) || !ask(session, &line, &reply)) return refused;
-    return outcome_of(&reply, has_partition ? &first : NULL);
+    struct text bytes = value(arguments[1]);
+    if (strcmp(call, "write") == 0) return blobcrash_write_at(session, 0, first, bytes.bytes, bytes.len);
+    if (strcmp(call, "writes") != 0) abort();
+    return blobcrash_write_at_sync(session, 0, first, bytes.bytes, bytes.len);
+}
+
+/* The status of a row's call. */
+static uint32_t perform(struct blobcrash_session *session, const char *call, char **arguments, int count) {
+    struct text line = {0}, first = value(arguments[0]);
+    /* `begin` made the preamble of these. */
+    if (strcmp(call, "image") == 0 || strcmp(call, "seed") == 0) return BLOBCRASH_DONE;
+    if (strcmp(call, "call") == 0 || strcmp(call, "configure") == 0) {
+        if (*call == 'c' && call[1] == 'o') put_string(&line, "config ");
+        put(&line, first.bytes, first.len);
+        put(&line, "", 1);
+        return strlen(line.bytes) + 1 == line.len ? blobcrash_line(session, line.bytes) : (uint32_t)BLOBCRASH_BAD_LINE;
+    }
+    return strncmp(arguments[0], "text:", 5) == 0 ? named(session, call, arguments, count) : numbered(session, call, arguments);
 }
 
 struct blob {
@@ -187,24 +172,20 @@ static const struct blob BLOBS[] = {{"p", "a", "abcdef"}, {"p", "b", "second"}, 
 
 /* Whether a blob has these durable bytes. */
 static bool has_bytes(struct blobcrash_session *session, const struct text *partition, const struct text *name, const struct text *data) {
-    struct text line = {0}, reply = {0}, found = {0};
-    size_t handle, size;
-    put_string(&line, "loose");
-    put_partition(&line, partition);
-    put_hex(&line, name);
-    put_string(&line, " 0 65535");
-    if (!ask(session, &line, &reply)) return false;
-    put(&reply, "", 1);
-    if (sscanf(reply.bytes, "opened %zu %zu", &handle, &size) != 2 || size != data->len) return false;
-    return blobcrash_read(session, handle, 0, (uint8_t *)found.bytes, size) == BLOBCRASH_DONE && memcmp(found.bytes, data->bytes, size) == 0;
+    struct text found = {0};
+    size_t handle;
+    uint64_t size;
+    uint32_t status = blobcrash_open_loose(session, partition->bytes, partition->len, name->bytes, name->len, 0, 65535, &handle, &size, NULL);
+    if (status != BLOBCRASH_DONE || size != data->len) return false;
+    return blobcrash_read_at(session, handle, 0, found.bytes, size) == BLOBCRASH_DONE && memcmp(found.bytes, data->bytes, size) == 0;
 }
 
 /* Whether the durable blobs are those of the start, except the change of `leaves`. */
 static bool leaves_blobs(struct blobcrash_session *session, const char *leaves) {
     static const char *const partitions[] = {"p", "62", "q", "-", "clear"};
     size_t names = 0, wanted = sizeof BLOBS / sizeof *BLOBS;
-    struct text partition = {0}, line = {0};
-    say(session, "config clear");
+    struct text partition = {0};
+    if (blobcrash_line(session, "config clear") != BLOBCRASH_DONE) return false;
     if (strcmp(leaves, "-") != 0) {
         const char *slash = strchr(leaves, '/'), *equals = strchr(leaves, '=');
         struct text name = {0}, data = decoded(equals + 1);
@@ -216,14 +197,12 @@ static bool leaves_blobs(struct blobcrash_session *session, const char *leaves) 
         wanted++;
     }
     for (size_t i = 0; i < sizeof partitions / sizeof *partitions + 1; i++) {
-        struct text reply = {0};
-        line.len = partition.len = 0;
+        size_t found = 0;
+        partition.len = 0;
         if (i < sizeof partitions / sizeof *partitions) put_string(&partition, partitions[i]);
         else while (partition.len < 300) put_string(&partition, "n");
-        put_string(&line, "scan");
-        put_partition(&line, &partition);
-        if (!ask(session, &line, &reply)) return false;
-        for (size_t at = 0; begins(&reply, "names") && at < reply.len; at++) names += reply.bytes[at] == ' ';
+        blobcrash_scan(session, partition.bytes, partition.len, &found);
+        names += found;
     }
     for (size_t i = 0; i < sizeof BLOBS / sizeof *BLOBS; i++) {
         struct text of = decoded(BLOBS[i].partition), name = decoded(BLOBS[i].name), data = decoded(BLOBS[i].data);
@@ -234,7 +213,9 @@ static bool leaves_blobs(struct blobcrash_session *session, const char *leaves) 
 
 /* Opens the store of a row. False if an argument is refused. */
 static bool begin(struct blobcrash_session *session, bool is_false, const char *call, char **arguments) {
-    static const char *const rates[] = {"open 1 2", "read 1 2", "sync 1 2", "remove 1 2", "scan 1 2", "write 1 2 0 1 subset", "resize 1 2 0 1"};
+    static const char *const rates[] = {"config open 1 2",   "config read 1 2", "config sync 1 2",
+                                        "config remove 1 2", "config scan 1 2", "config write 1 2 0 1 subset",
+                                        "config resize 1 2 0 1"};
     struct text preamble = {0};
     put_string(&preamble, is_false ? "words max" : "words 0");
     put_string(&preamble, " 0 max max 0 max 0 0 max 0 max max\n");
@@ -252,12 +233,9 @@ static bool begin(struct blobcrash_session *session, bool is_false, const char *
         put_number(&preamble, number(arguments[0]));
     }
     if (blobcrash_open(session, (uint8_t *)preamble.bytes, preamble.len).status != BLOBCRASH_DONE) abort();
-    say(session, "open p 61");
+    if (blobcrash_open_blob(session, "p", 1, "a", 1, NULL, NULL) != BLOBCRASH_DONE) abort();
     for (size_t i = 0; i < sizeof rates / sizeof *rates; i++) {
-        struct text line = {0}, reply;
-        put_string(&line, "config ");
-        put_string(&line, rates[i]);
-        if (!ask(session, &line, &reply)) abort();
+        if (blobcrash_line(session, rates[i]) != BLOBCRASH_DONE) abort();
     }
     return true;
 }
@@ -277,16 +255,16 @@ static const char *wrong(bool is_false, char **row, int draws) {
         outcome = decoded("Injected");
         leaves = "-";
     }
-    struct text found = perform(&session, row[1], words, count);
+    uint32_t status = perform(&session, row[1], words, count);
+    struct text found = outcome_of(&session, status);
     if (found.len != outcome.len || memcmp(found.bytes, outcome.bytes, found.len) != 0) {
         printf("%.*s\n", (int)found.len, found.bytes);
         reason = "that is another outcome";
     }
-    say(&session, "config scan 1 2");
+    if (blobcrash_line(&session, "config scan 1 2") != BLOBCRASH_DONE) abort();
     for (int i = draws; reason == NULL && i < draws + PROBES; i++) {
-        struct text reply = say(&session, "scan p");
         bool is_injected = i == 0 ? !is_false : fails[i];
-        if (is_text(&reply, "error Injected") != is_injected) reason = "it takes another number of words";
+        if ((blobcrash_scan(&session, "p", 1, NULL) == BLOBCRASH_E_INJECTED) != is_injected) reason = "it takes another number of words";
     }
     if (reason == NULL && !leaves_blobs(&session, leaves)) reason = "it leaves other blobs";
     blobcrash_close(&session);

@@ -4,13 +4,16 @@
  * The log acknowledges a record once it is synced. Whatever fails and wherever it crashes, recovery has to find each
  * acknowledged record, in order, and may find one more: the record that was being appended.
  *
- * log [forget-sync]: 200 lives of the log, one a seed. With `forget-sync` a record is acknowledged before it is durable, which
- * has to be found: the first life that loses a record is told, with status 1.
+ * log [forget-sync [SCRIPT]]: 200 lives of the log, one per seed. With `forget-sync` a record is acknowledged before it is durable,
+ * which has to be found: the first life that loses a record is reported, with status 1, and written to the file SCRIPT as a script.
  */
 #include "blobcrash.h"
 
+static void on_line(struct blobcrash_session *session, const char *line, size_t len);
+#define BLOBCRASH_ON_LINE on_line
+#include "blobcrash_calls.h"
+
 #include <inttypes.h>
-#include <stdarg.h>
 #include <stdio.h>
 #include <stdlib.h>
 #include <string.h>
@@ -34,28 +37,20 @@ struct log {
     bool forgets_sync;
 };
 
-/* The reply to a line, as a text that the next one replaces. What the layer itself can't do ends the test. */
-static const char *say(struct blobcrash_session *session, const char *format, ...) {
-    /* A crash tells a digit for each byte that it drew for. */
-    static char line[128], reply[16384];
-    va_list words;
-    va_start(words, format);
-    int len = vsnprintf(line, sizeof line, format, words);
-    va_end(words);
-    if (len < 0 || (size_t)len >= sizeof line) {
-        fprintf(stderr, "%s: a line that long has no room\n", format);
-        exit(2);
-    }
-    struct blobcrash_ran ran = blobcrash_call(session, (uint8_t *)line, (size_t)len, (uint8_t *)reply, sizeof reply - 1);
-    if (ran.status != BLOBCRASH_DONE) {
-        fprintf(stderr, "%s: status %" PRIu32 "\n", line, ran.status);
-        exit(2);
-    }
-    reply[ran.len] = 0;
-    return reply;
+/* The preamble and the calls of a life, as a script. */
+static FILE *script;
+
+static void on_line(struct blobcrash_session *session, const char *line, size_t len) {
+    (void)session;
+    if (script != NULL && line != NULL) fprintf(script, "%.*s\n", (int)len, line);
 }
 
-static bool is_done(const char *reply) { return strcmp(reply, "ok") == 0; }
+/* Ends the test if the layer itself failed; a fault that it injected is one of the others. */
+static bool is_done(uint32_t status) {
+    if (status == BLOBCRASH_DONE || status == BLOBCRASH_E_INJECTED) return status == BLOBCRASH_DONE;
+    fprintf(stderr, "status %" PRIu32 "\n", status);
+    exit(2);
+}
 
 /* FNV-1a of the offset and the payload, so that no front of zeros and no older record passes for this one. */
 static uint64_t checksum(uint64_t offset, const uint8_t *payload, size_t len) {
@@ -80,19 +75,20 @@ static bool record_at(const uint8_t *bytes, size_t len, size_t offset, struct re
     return little_endian(bytes + offset + 4, 8) == checksum(offset, record->payload, record->len);
 }
 
-/* Opens the log, cuts off what no append finished, and tells the records. False where a fault cut it short. */
+/* Opens the log, truncates what no append finished, and returns the records. False if a fault cut it short. */
 static bool recover(struct log *log, struct blobcrash_session *session, struct records *records) {
     static uint8_t bytes[ROOM];
-    size_t size, end = 0;
-    if (sscanf(say(session, "open wal 6c6f67"), "opened %zu %zu", &log->handle, &size) != 2) return false;
+    uint64_t size;
+    size_t end = 0;
+    if (!is_done(blobcrash_open_blob(session, "wal", 3, "log", 3, &log->handle, &size))) return false;
     log->session = session;
-    if (size > sizeof bytes || blobcrash_read(session, log->handle, 0, bytes, size) != BLOBCRASH_DONE) return false;
+    if (size > sizeof bytes || !is_done(blobcrash_read_at(session, log->handle, 0, bytes, size))) return false;
     records->count = 0;
     while (records->count <= MOST_RECORDS && record_at(bytes, size, end, &records->at[records->count])) {
         end += HEAD + records->at[records->count++].len;
     }
     log->end = end;
-    return end == size || (is_done(say(session, "resize %zu %zu", log->handle, end)) && is_done(say(session, "sync %zu", log->handle)));
+    return end == size || (is_done(blobcrash_resize(session, log->handle, end)) && is_done(blobcrash_sync(session, log->handle)));
 }
 
 /* Appends a record. Once this is true it must never be lost. */
@@ -102,8 +98,8 @@ static bool append(struct log *log, const struct record *record) {
     for (int i = 0; i < 4; i++) bytes[i] = (uint8_t)(record->len >> 8 * i);
     for (int i = 0; i < 8; i++) bytes[4 + i] = (uint8_t)(sum >> 8 * i);
     memcpy(bytes + HEAD, record->payload, record->len);
-    if (blobcrash_write(log->session, log->handle, log->end, bytes, HEAD + record->len, false) != BLOBCRASH_DONE) return false;
-    if (!log->forgets_sync && !is_done(say(log->session, "sync %zu", log->handle))) return false;
+    if (!is_done(blobcrash_write_at(log->session, log->handle, log->end, bytes, HEAD + record->len))) return false;
+    if (!log->forgets_sync && !is_done(blobcrash_sync(log->session, log->handle))) return false;
     log->end += HEAD + record->len;
     return true;
 }
@@ -112,7 +108,7 @@ static bool is_same(const struct record *a, const struct record *b) {
     return a->len == b->len && memcmp(a->payload, b->payload, a->len) == 0;
 }
 
-/* One life of a log: sixteen crashes. Answers how many records were acknowledged, or tells what was lost and answers -1. */
+/* One life of a log: sixteen crashes. Returns how many records were acknowledged, or prints what was lost and returns -1. */
 static long live(uint64_t seed, bool forgets_sync) {
     static struct records acknowledged, found;
     struct blobcrash_session session = {0};
@@ -121,6 +117,7 @@ static long live(uint64_t seed, bool forgets_sync) {
     bool is_unanswered = false;
     char preamble[128];
     int len = snprintf(preamble, sizeof preamble, "seed %" PRIu64 "\nconfig write 1 16 1 2 subset\nconfig sync 1 16\nconfig resize 1 16 1 2\n", seed);
+    if (script != NULL) fputs(preamble, script);
     if (blobcrash_open(&session, (uint8_t *)preamble, (size_t)len).status != BLOBCRASH_DONE) exit(2);
     acknowledged.count = 0;
     for (unsigned round = 0; round < ROUNDS; round++) {
@@ -148,8 +145,7 @@ static long live(uint64_t seed, bool forgets_sync) {
                 else is_unanswered = true;
             }
         }
-        say(&session, "crash");
-        say(&session, "reopen");
+        if (!is_done(blobcrash_crash(&session, NULL)) || !is_done(blobcrash_reopen(&session))) exit(2);
     }
     blobcrash_close(&session);
     return (long)acknowledged.count;
@@ -159,7 +155,9 @@ int main(int argc, char **argv) {
     bool forgets_sync = argc > 1 && strcmp(argv[1], "forget-sync") == 0;
     long records = 0;
     for (uint64_t seed = 0; seed < 200; seed++) {
+        if (argc > 2 && (script = fopen(argv[2], "w")) == NULL) return 2;
         long kept = live(seed, forgets_sync);
+        if (script != NULL && fclose(script) != 0) return 2;
         if (kept < 0) return 1;
         records += kept;
     }

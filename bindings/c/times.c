@@ -1,11 +1,10 @@
 /* Times calls from C, on standard error: `way, size: calls a second`. Each figure takes about `argv[1]` seconds. */
 #define _POSIX_C_SOURCE 199309L
-#include "blobcrash.h"
+#include "blobcrash_calls.h"
 
 #include <inttypes.h>
 #include <stdio.h>
 #include <stdlib.h>
-#include <string.h>
 #include <time.h>
 
 enum { LONGEST = 4096, BLOCKS = 64 };
@@ -34,6 +33,12 @@ static void say(const char *text) {
 static void size_call(size_t len, uint64_t n) {
     (void)len, (void)n;
     call((size_t)sprintf(line, "size 0"));
+}
+
+static void typed_size(size_t len, uint64_t n) {
+    uint64_t size;
+    (void)len, (void)n;
+    if (blobcrash_size(&session, 0, &size) != BLOBCRASH_DONE) exit(1);
 }
 
 static void typed(size_t len, uint64_t n) {
@@ -79,7 +84,8 @@ int main(int argc, char **argv) {
     for (size_t i = 0; i < LONGEST; i++) block[i] = (uint8_t)(i * 7);
     if (blobcrash_open(&session, (const uint8_t *)"", 0).status != BLOBCRASH_DONE) return 1;
     say("open p 62");
-    tell("size", size_call, 0, 1);
+    tell("size, as text", size_call, 0, 1);
+    tell("size, typed", typed_size, 0, 1);
     tell("write and read of 8 bytes, typed", typed, 8, 2);
     tell("write and read of 512 bytes, typed", typed, 512, 2);
     tell("write and read of 4096 bytes, typed", typed, 4096, 2);

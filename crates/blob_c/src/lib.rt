@@ -5,13 +5,19 @@
 
 ghost use Rattle.std.specs.Prelude.{◌≡◌, ◌⊎◌, ◌<◌, ◌≤◌, Some, None, IsSome, IfSome, [], take, drop, length};
 ghost use Rattle.blob_lab.specs.Scripts.{Prints, PrintsBeforeLine, lines_of, script_of};
+ghost use Rattle.blob_sessions.specs.Applying.{AppliesTo};
+ghost use Rattle.blob_sessions.specs.DurableBlobs.{CopiesDigestFrom, CopiesFrom};
+ghost use Rattle.blob_sessions.specs.Parts.{CopiesNameFrom, FindsName, FindsRun, no_run};
 ghost use Rattle.blob_sessions.specs.Preambles.{BreaksAt, IsMadeOf};
-ghost use Rattle.blob_sessions.specs.Sessions.{RunsLine, ReadsInto, AnswersWrite, IsClosed, OnHeld, TellsAgain, kept_of};
+ghost use Rattle.blob_sessions.specs.Sessions.{RunsLine, ReadsInto, AnswersWrite, IsClosed, Inspects, OnHeld, TellsAgain, kept_of, stopped};
+ghost use Rattle.blob_sessions.specs.Typed.{last_reply, without_reply};
 ghost use Rattle.blob_sessions.specs.WholeScripts.{WantsRoom};
 ghost use Rattle.blob_sessions.specs.Words.{TakesWords, TellsWordsLeft};
 
 use blob_sessions::ran::{BAD_LINE, CLOSED, DONE, ENDLESS, NO_MEMORY, NO_ROOM};
-use blob_sessions::{Ran, RefusedPreamble, ScriptRan, Session, preamble, script};
+use blob_sessions::{
+    KeptRun, Ran, RefusedPreamble, ScriptRan, Session, TypedCall, TypedReply, preamble, script,
+};
 use std::alloc::Global;
 
 /// Runs a script, and writes its replies to the front of `replies`, a line each. What is behind them stays as it was.
@@ -142,6 +148,143 @@ pub extern "C" fn blobcrash_read(
     let status = kept.read(handle, offset, into);
     *session = Session::of(kept);
     status
+}
+
+/// Makes a call without text: its numbers in `asked`, its partition and its name as bytes. Returns the numbers of its reply.
+///
+/// Errors, with nothing changed:
+/// - `BAD_CALL` if the kind is unknown, a version doesn't fit in 16 bits or the partition isn't UTF-8.
+/// - `NO_MEMORY` if the partition and the name can't be copied.
+/// - `CLOSED`.
+///
+/// Any other status but `DONE` is a refusal of the call that was made.
+#[unsafe(no_mangle)]
+pub extern "C" fn blobcrash_apply(
+    alloc: Global,
+    session: &mut Session,
+    asked: &TypedCall,
+    partition: &[u8],
+    name: &[u8],
+) -> TypedReply
+    ensures { AppliesTo session.old session.new asked.now partition.now name.now result }
+{
+    let Some(mut kept) = session.take(alloc) else {
+        return TypedReply::stopped(CLOSED);
+    };
+    let reply = kept.apply(alloc, asked, partition, name);
+    *session = Session::of(kept);
+    reply
+}
+
+/// Returns the numbers of the reply to the last call, also of one by a line. Before the first call it is `DONE`. Changes
+/// nothing.
+///
+/// `CLOSED` if the session is closed.
+#[unsafe(no_mangle)]
+pub extern "C" fn blobcrash_last(alloc: Global, session: &mut Session) -> TypedReply
+    ensures { Inspects session.old session.new (λ k. result ≡ last_reply k.last) (result ≡ without_reply CLOSED) }
+{
+    let Some(kept) = session.take(alloc) else {
+        return TypedReply::stopped(CLOSED);
+    };
+    let reply = kept.last();
+    *session = Session::of(kept);
+    reply
+}
+
+/// Copies a name of the last reply, which a scan returned, to the start of `into`. Changes no more.
+///
+/// `NO_ROOM` with the capacity that is needed; `OTHER_REPLY` if the last reply has no name with this index; `CLOSED`.
+#[unsafe(no_mangle)]
+pub extern "C" fn blobcrash_name(
+    alloc: Global,
+    session: &mut Session,
+    index: usize,
+    into: &mut [u8],
+) -> Ran
+    ensures { CopiesNameFrom session.old session.new index result into.old into.new }
+{
+    let Some(kept) = session.take(alloc) else {
+        return Ran::stopped(CLOSED);
+    };
+    let ran = kept.name(index, into);
+    *session = Session::of(kept);
+    ran
+}
+
+/// Returns in `len` the index of a name in the last reply, which a scan returned. Changes nothing.
+///
+/// `OTHER_REPLY` if the last reply doesn't have this name; `CLOSED`.
+#[unsafe(no_mangle)]
+pub extern "C" fn blobcrash_find_name(alloc: Global, session: &mut Session, name: &[u8]) -> Ran
+    ensures { Inspects session.old session.new (λ k. FindsName k.last name.now result) (result ≡ stopped CLOSED) }
+{
+    let Some(kept) = session.take(alloc) else {
+        return Ran::stopped(CLOSED);
+    };
+    let ran = kept.find_name(name);
+    *session = Session::of(kept);
+    ran
+}
+
+/// Finds the first run of kept bytes at or after the index `from`, in a row of the last reply, which a crash returned. Changes
+/// nothing.
+///
+/// `OTHER_REPLY` if the last reply doesn't have this row; `CLOSED`.
+#[unsafe(no_mangle)]
+pub extern "C" fn blobcrash_kept_run(
+    alloc: Global,
+    session: &mut Session,
+    row: usize,
+    from: usize,
+) -> KeptRun
+    ensures { Inspects session.old session.new (λ k. FindsRun k.last row from result) (result ≡ no_run CLOSED) }
+{
+    let Some(kept) = session.take(alloc) else {
+        return KeptRun::stopped(CLOSED);
+    };
+    let run = kept.kept_run(row, from);
+    *session = Session::of(kept);
+    run
+}
+
+/// Copies the durable bytes of a blob, `with_header` or those after it, to the start of `into`. Draws nothing, and changes no
+/// more.
+///
+/// `NO_ROOM` with the capacity that is needed; `BLOB_MISSING` if there is no such blob, or no header to leave out; `BAD_CALL` if
+/// the partition isn't UTF-8; `NO_MEMORY`; `CLOSED`.
+#[unsafe(no_mangle)]
+pub extern "C" fn blobcrash_durable_blob(
+    alloc: Global,
+    session: &mut Session,
+    partition: &[u8],
+    name: &[u8],
+    with_header: bool,
+    into: &mut [u8],
+) -> Ran
+    ensures { CopiesFrom session.old session.new with_header partition.now name.now result into.old into.new }
+{
+    let Some(kept) = session.take(alloc) else {
+        return Ran::stopped(CLOSED);
+    };
+    let ran = kept.durable_blob(partition, name, with_header, into);
+    *session = Session::of(kept);
+    ran
+}
+
+/// Copies the digest of all durable blobs, which has four bytes, to the start of `into`. Draws nothing, and changes no more.
+///
+/// `NO_ROOM` with the capacity that is needed; `CLOSED`.
+#[unsafe(no_mangle)]
+pub extern "C" fn blobcrash_audit(alloc: Global, session: &mut Session, into: &mut [u8]) -> Ran
+    ensures { CopiesDigestFrom session.old session.new result into.old into.new }
+{
+    let Some(kept) = session.take(alloc) else {
+        return Ran::stopped(CLOSED);
+    };
+    let ran = kept.audit(into);
+    *session = Session::of(kept);
+    ran
 }
 
 /// Returns in `len` how many words of the session's generator are left, up to the last one that isn't zero. Changes nothing.

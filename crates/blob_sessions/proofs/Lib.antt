@@ -1,4 +1,5 @@
 pub mod Adding
 pub mod Answering
 pub mod TextLines
+pub mod TypedCalls
 pub mod Values

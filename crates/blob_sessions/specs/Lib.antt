@@ -1,5 +1,10 @@
+pub mod Applying
+pub mod DurableBlobs
 pub mod Owned
+pub mod Parts
 pub mod Preambles
 pub mod Sessions
+pub mod Statuses
+pub mod Typed
 pub mod WholeScripts
 pub mod Words

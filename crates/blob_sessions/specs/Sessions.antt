@@ -96,6 +96,10 @@ pub record AnswersRead (k k' : Kept) (handle offset : ℕ) (status : ℕ) (old n
   pub config : k'.config ≡ k.config
   pub known : (status ≡ DONE) ⊎ (status ≡ OTHER_REPLY)
 
+-- without a reply
+abbrev pub stopped : ℕ → Ran
+stopped status = record { status = status; len = 0 }
+
 -- a session that isn't open was asked
 pub record IsClosed (ran : Ran) (old new : List ℕ) : Type 0 where
   pub status : ran.status ≡ CLOSED
@@ -117,3 +121,7 @@ OnHeld old new Open Closed = ⊥
 abbrev pub ReadsInto : Session → Session → ℕ → ℕ → ℕ → List ℕ → List ℕ → Type 0
 ReadsInto before after handle offset status old new =
     OnHeld (kept_of before) (kept_of after) (λ k k'. AnswersRead k k' handle offset status old new) ((status ≡ CLOSED) × (new ≡ old))
+
+-- a session that is only read: what holds of what it holds, and of a closed one
+abbrev pub Inspects : Session → Session → (Kept → Type 0) → Type 0 → Type 0
+Inspects before after Open Closed = OnHeld (kept_of before) (kept_of after) (λ k k'. (k' ≡ k) × Open k) Closed

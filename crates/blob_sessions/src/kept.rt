@@ -3,10 +3,14 @@ ghost use Rattle.std.specs.Prelude.{◌≡◌, Some, None, IfSome, IfNone, IfOk,
 ghost use Rattle.blob_calls.specs.Acts.{act_of};
 ghost use Rattle.blob_calls.specs.Lines.{Blank, line_of};
 ghost use Rattle.blob_calls.specs.Settings.{configured};
+ghost use Rattle.blob_sessions.specs.Applying.{Applies};
 ghost use Rattle.blob_sessions.specs.Sessions.{RunsLine, AnswersRead, AnswersWrite, SaysCall, IsNoCall, Makes, TellsAgain};
+ghost use Rattle.blob_sessions.specs.Typed.{last_reply};
 ghost use Rattle.blob_sessions.specs.Words.{TakesWords, TellsWordsLeft};
 
-use crate::ran::{BAD_LINE, DONE, ENDLESS, NO_MEMORY, NO_ROOM, OTHER_REPLY, Ran, UNPRINTED};
+use crate::parts::copied;
+use crate::ran::{BAD_CALL, BAD_LINE, DONE, ENDLESS, NO_MEMORY, OTHER_REPLY, Ran, UNPRINTED};
+use crate::typed::{TypedCall, TypedReply, typed_call};
 use blob_faulty::Config;
 use blob_lab::script::{Line, RefusedLine, Setting, print_reply, read_line};
 use blob_lab::{Call, Lab, Reply};
@@ -14,9 +18,9 @@ use std::alloc::Global;
 
 /// A laboratory, its settings, and the reply to its last call.
 pub struct Kept {
-    lab: Lab,
+    pub(crate) lab: Lab,
     config: Config,
-    last: Option<Reply>,
+    pub(crate) last: Option<Reply>,
     /// Used again for each reply that is printed.
     text: String,
 }
@@ -73,16 +77,39 @@ impl Kept {
         if print_reply(made, &mut self.text).is_err() {
             return Ran::stopped(UNPRINTED);
         }
-        let bytes = self.text.as_bytes();
-        let len = bytes.len();
-        if len > reply.len() {
-            return Ran {
-                status: NO_ROOM,
-                len,
-            };
+        copied(self.text.as_bytes(), reply)
+    }
+
+    /// Makes a typed call, and returns the numbers of its reply.
+    ///
+    /// `BAD_CALL` and `NO_MEMORY` change nothing: no call was made.
+    pub fn apply(
+        &mut self,
+        alloc: Global,
+        asked: &TypedCall,
+        partition: &[u8],
+        name: &[u8],
+    ) -> TypedReply
+        ensures { Applies self.old self.new asked.now partition.now name.now result }
+    {
+        match typed_call(alloc, asked, partition, name) {
+            Ok(call) => {
+                self.make(&call);
+                self.last()
+            }
+            Err(RefusedLine::BadCall) => TypedReply::stopped(BAD_CALL),
+            Err(RefusedLine::NoMemory) => TypedReply::stopped(NO_MEMORY),
         }
-        reply[..len].copy_from_slice(bytes);
-        Ran { status: DONE, len }
+    }
+
+    /// Returns the numbers of the reply to the last call. Before the first call it is `DONE`.
+    pub fn last(&self) -> TypedReply
+        ensures { result ≡ last_reply self.now.last }
+    {
+        match &self.last {
+            Some(reply) => TypedReply::of(reply),
+            None => TypedReply::stopped(DONE),
+        }
     }
 
     /// Writes bytes through a handle.

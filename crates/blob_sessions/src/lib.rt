@@ -2,14 +2,21 @@
 //! whole scripts. `blob_c` exports these to C.
 #![tactic(auto)]
 
+mod durable;
 mod kept;
+pub mod kinds;
 mod loose;
+pub mod parts;
 pub mod preamble;
 pub mod ran;
+pub mod refusals;
 pub mod script;
 pub mod session;
+pub mod typed;
 
 pub use kept::Kept;
+pub use parts::KeptRun;
 pub use preamble::RefusedPreamble;
 pub use ran::{Ran, ScriptRan};
 pub use session::Session;
+pub use typed::{TypedCall, TypedReply};

@@ -17,6 +17,8 @@ pub const CLOSED: u32 = 5;
 pub const OTHER_REPLY: u32 = 6;
 /// The call was made, but no memory could be had to print its reply. It is kept.
 pub const UNPRINTED: u32 = 7;
+/// A typed call has an unknown kind, a version that doesn't fit in 16 bits or a partition that isn't UTF-8. No call was made.
+pub const BAD_CALL: u32 = 8;
 
 /// How a call ended, and how many bytes its reply has.
 #[repr(C)]

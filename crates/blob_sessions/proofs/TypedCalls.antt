@@ -1,0 +1,74 @@
+-- How a typed call ends, by how its call is built and made.
+use Rattle.std.proofs.Common.{◌≡◌, ◌<◌, ℕ, List, Option, Some, refl, ap, ◌∙◌, subst, sym, arith}
+use Rattle.blob_calls.specs.Acts.{Act}
+use Rattle.blob_calls.specs.declared.reply.Reply.{Reply}
+use Rattle.blob_calls.specs.declared.reply.Reply.TheVariants.{Done, Opened, Bytes, Size, Names, Started, Crashed, Failed, NoHandle, EmptyRange}
+use Rattle.blob_header.specs.Refusals as refusals
+use Rattle.blob_header.specs.Refusals.{Refusal, refusal_of}
+use Rattle.blob_sessions.specs.Applying.{Applies}
+use Rattle.blob_sessions.specs.Sessions.{Makes}
+use Rattle.blob_sessions.specs.Statuses.{refusal_status}
+use Rattle.blob_sessions.specs.Typed.{IsNoTypedCall, last_reply, typed_act, typed_reply, without_reply}
+use Rattle.blob_sessions.specs.declared.kept.Kept.{Kept}
+use Rattle.blob_sessions.specs.declared.ran.TheConstants.{BAD_CALL, NO_MEMORY}
+use Rattle.blob_sessions.specs.declared.typed.TypedCall.{TypedCall}
+use Rattle.blob_sessions.specs.declared.typed.TypedReply.{TypedReply}
+
+-- a refusal's status is none of those below 16
+refusal_above : (r : Refusal) (s : ℕ) → s < 16 → refusal_status r ≡ s → ⊥
+refusal_above refusals.OffsetOverflow s lt e = omega (arith, lt, e)
+refusal_above refusals.BlobInsufficientLength s lt e = omega (arith, lt, e)
+refusal_above (refusals.PartitionNameInvalid partition) s lt e = omega (arith, lt, e)
+refusal_above (refusals.PartitionMissing partition) s lt e = omega (arith, lt, e)
+refusal_above (refusals.BlobMissing partition name) s lt e = omega (arith, lt, e)
+refusal_above (refusals.BlobAlreadyOpen partition name) s lt e = omega (arith, lt, e)
+refusal_above (refusals.BlobCorrupt partition name reason) s lt e = omega (arith, lt, e)
+refusal_above (refusals.BlobLayoutMismatch first last found) s lt e = omega (arith, lt, e)
+refusal_above (refusals.BlobVersionMismatch first last found) s lt e = omega (arith, lt, e)
+refusal_above refusals.Closed s lt e = omega (arith, lt, e)
+refusal_above refusals.ReadFailed s lt e = omega (arith, lt, e)
+refusal_above refusals.WriteFailed s lt e = omega (arith, lt, e)
+refusal_above refusals.Injected s lt e = omega (arith, lt, e)
+refusal_above refusals.Memory s lt e = omega (arith, lt, e)
+refusal_above refusals.GenerationsExhausted s lt e = omega (arith, lt, e)
+
+-- a call that was made has none of the statuses from 1 to 15
+reply_above : (reply : Reply) (s : ℕ) → 0 < s → s < 16 → (typed_reply reply).status ≡ s → ⊥
+reply_above Done s some lt e = omega (arith, some, e)
+reply_above (Opened handle size version) s some lt e = omega (arith, some, e)
+reply_above (Bytes bytes) s some lt e = omega (arith, some, e)
+reply_above (Size size) s some lt e = omega (arith, some, e)
+reply_above (Names names) s some lt e = omega (arith, some, e)
+reply_above (Started number) s some lt e = omega (arith, some, e)
+reply_above (Crashed selections) s some lt e = omega (arith, some, e)
+reply_above (Failed error) s some lt e = refusal_above (refusal_of error) s lt e
+reply_above NoHandle s some lt e = omega (arith, lt, e)
+reply_above EmptyRange s some lt e = omega (arith, lt, e)
+
+pub applied : (k k' : Kept) (asked : TypedCall) (partition name : List ℕ) (act : Act) (last : Reply) (reply : TypedReply) → typed_act asked partition name ≡ Some act → Makes k act last k' → k'.config ≡ k.config
+    → reply ≡ last_reply k'.last → Applies k k' asked partition name reply
+applied k k' asked partition name act last reply built makes config is =
+    let same : reply ≡ typed_reply last = is ∙ ap last_reply makes.last in let status : reply.status ≡ (typed_reply last).status = ap (λ r. r.status) same in record {
+      made = λ made. (act, last, built, makes, same);
+      bad = λ h. absurd (reply_above last BAD_CALL (omega arith) (omega arith) (sym status ∙ h));
+      no_memory = λ h. absurd (reply_above last NO_MEMORY (omega arith) (omega arith) (sym status ∙ h));
+      config = config;
+    }
+
+pub not_applied : (k k' : Kept) (asked : TypedCall) (partition name : List ℕ) (reply : TypedReply) → IsNoTypedCall asked partition name → k' ≡ k → reply ≡ without_reply BAD_CALL → Applies k k' asked partition name reply
+not_applied k k' asked partition name reply none same is =
+    let status : reply.status ≡ BAD_CALL = ap (λ r. r.status) is in record {
+      made = λ made. absurd (made.0 status);
+      bad = λ h. (none, same, is);
+      no_memory = λ h. absurd (omega (arith, status, h));
+      config = ap (λ k. k.config) same;
+    }
+
+pub out_of_memory : (k k' : Kept) (asked : TypedCall) (partition name : List ℕ) (reply : TypedReply) → k' ≡ k → reply ≡ without_reply NO_MEMORY → Applies k k' asked partition name reply
+out_of_memory k k' asked partition name reply same is =
+    let status : reply.status ≡ NO_MEMORY = ap (λ r. r.status) is in record {
+      made = λ made. absurd (made.1 status);
+      bad = λ h. absurd (omega (arith, status, h));
+      no_memory = λ h. (same, is);
+      config = ap (λ k. k.config) same;
+    }
