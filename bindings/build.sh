@@ -6,22 +6,26 @@ set -eu
 
 top=$(CDPATH='' cd -- "$(dirname -- "$0")/.." && pwd -P)
 out=$top/out
-rt=$(command -v rt) || rt=/opt/rattle/bin/rt
-if [ ! -x "$rt" ]; then
-    echo "build.sh: the Rattle toolchain is missing: there is no rt on PATH, and no /opt/rattle/bin/rt" >&2
-    exit 127
-fi
 compiler=${CC:-cc}
 command -v "$compiler" >/dev/null || compiler=
 
 # shellcheck source=tools/building.sh
 . "$top/tools/building.sh"
 
+has_shared() {
+    is_built "$out/libblobcrash.so" blob_c && grep -qF "$(soname)" "$out/libblobcrash.so"
+}
+
 are_built() {
-    is_built "$out/libblobcrash.a" blob_c && { [ -z "$compiler" ] || is_built "$out/libblobcrash.so" blob_c; }
+    is_built "$out/libblobcrash.a" blob_c && { [ -z "$compiler" ] || has_shared; }
 }
 
 ! are_built || exit 0
+rt=$(command -v rt) || rt=/opt/rattle/bin/rt
+if [ ! -x "$rt" ]; then
+    echo "build.sh: the Rattle toolchain is missing: there is no rt on PATH, and no /opt/rattle/bin/rt" >&2
+    exit 127
+fi
 mkdir -p "$out"
 lock libblobcrash
 ! are_built || exit 0
@@ -87,7 +91,7 @@ place "$out/libblobcrash.a" "$out/libblobcrash.a.new" "$sum" "$out/bindings.bega
 
 if [ -n "$compiler" ]; then
     echo '{ global: blobcrash_*; local: *; };' >"$out/libblobcrash.map"
-    "$compiler" -shared -o "$out/libblobcrash.so.new" -Wl,--version-script="$out/libblobcrash.map" \
+    "$compiler" -shared -o "$out/libblobcrash.so.new" -Wl,-soname,"$(soname)" -Wl,--version-script="$out/libblobcrash.map" \
         -Wl,--whole-archive "$library" -Wl,--no-whole-archive "$heap"
     place "$out/libblobcrash.so" "$out/libblobcrash.so.new" "$sum" "$out/bindings.began"
 fi

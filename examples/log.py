@@ -1,22 +1,20 @@
 #!/usr/bin/env python3
 """A log of records over a store that crashes, and what must hold of its recovery: docs/GUIDE.md.
 
-A record lies in a frame: four bytes of length, four of checksum, then the record. `append` writes a frame behind the others and
-syncs it; where it returns, the record is acknowledged. Recovery reads frames until one isn't whole, and cuts the blob there.
+A record is stored in a frame: four bytes of length, four of checksum, then the record. `append` writes a frame after the others and
+syncs it. Once it has returned, the record is acknowledged. Recovery reads frames up to one that isn't whole, and truncates the blob there.
 
-    log.py SEED [--forget-sync]    one run; where it breaks the promise status 1, with the script that does so
-    log.py --judge                 runs a script from standard input; status 1 where an acknowledged record is gone
+    log.py SEED [--forget-sync]    one run; if it breaks the promise, prints its script, with status 1
 """
 
 import os
 import random
 import struct
-import subprocess
 import sys
 import zlib
 
 sys.path.append(os.path.join(os.path.dirname(os.path.abspath(__file__)), "..", "bindings", "python"))
-from blobcrash import Injected, Store, program
+from blobcrash import Injected, Store, acknowledgement
 
 HEAD = struct.Struct(">II")
 
@@ -26,7 +24,7 @@ def framed(record):
 
 
 def records_in(data):
-    """The records of the whole frames at the front of some bytes, and where they end."""
+    """The records of the whole frames that some bytes start with, and where they end."""
     records, end = [], 0
     while end + HEAD.size <= len(data):
         length, checksum = HEAD.unpack_from(data, end)
@@ -39,7 +37,7 @@ def records_in(data):
 
 
 class Log:
-    """Records that are there after a crash once `append` has returned."""
+    """Records that survive a crash once `append` has returned."""
 
     def __init__(self, store, forgets_sync):
         self._store, self._forgets_sync = store, forgets_sync
@@ -50,29 +48,29 @@ class Log:
             self._blob.sync()
 
     def append(self, record):
-        """Where this raises `Injected`, the record may be there after a crash, or not."""
+        """Appends a record. If this raises `Injected`, the record may survive a crash, or not."""
         frame = framed(record)
         self._blob.write(self._end, frame)
         if not self._forgets_sync:
             self._blob.sync()
+        self._store.note(acknowledgement("wal", b"0", self._end, frame))
         self._end += len(frame)
-        self._store.note(f"acknowledged {record.hex()}")
 
 
 class Broken(Exception):
-    """The log lost an acknowledged record, or has one that nobody appended."""
+    """The log lost an acknowledged record, or has one that was never appended."""
 
 
 def check(acknowledged, unsure, found):
-    """The acknowledged records are there in order, and behind them at most the one whose append failed."""
+    """Checks that the acknowledged records are found in order, and after them at most the one for which `append` raised."""
     if found[: len(acknowledged)] != acknowledged:
         raise Broken(f"of {len(acknowledged)} acknowledged records {len(found)} are found")
     if found[len(acknowledged) :] not in ([], [unsure]):
-        raise Broken("a record is found that nobody appended")
+        raise Broken("a record is found that was never appended")
 
 
 def run(store, seed, forgets_sync):
-    """Three rounds over one store: records are appended until an append fails or enough are there, and then it crashes."""
+    """Makes three rounds over one store. Each appends records until an append fails or there are enough, and then crashes."""
     chance = random.Random(seed)
     store.configure("write 1 8 1 2 " + chance.choice(["prefix", "subset", "sectors 16"]))
     acknowledged = []
@@ -96,7 +94,7 @@ def run(store, seed, forgets_sync):
 
 
 def broken_script(seed, forgets_sync, by=None):
-    """How a run breaks the promise, and the script of it; None where it keeps it."""
+    """Returns how a run breaks the promise, and its script; `None` if it keeps it."""
     with Store(seed, by=by) as store:
         try:
             run(store, seed, forgets_sync)
@@ -105,37 +103,7 @@ def broken_script(seed, forgets_sync, by=None):
     return None
 
 
-def judge(script):
-    """Whether a script shows that the log broke its promise: behind a crash that lost some bytes a record is gone that had
-    been written behind the records before it, answered `ok` and acknowledged. Only reads of a whole blob are a recovery's."""
-    printed = subprocess.run([program()], input=script, stdout=subprocess.PIPE, stderr=subprocess.DEVNULL, text=True).stdout
-    replies, written, sizes, at_crash, gone = iter(printed.splitlines()), {}, {}, None, False
-    records, end = [], 0
-    for line in script.splitlines():
-        words = line.split() or ["#"]
-        if words[:2] == ["#", "acknowledged"]:
-            frame = framed(bytes.fromhex(words[2]))
-            if written.get(end) == frame:
-                records, end = records + [bytes.fromhex(words[2])], end + len(frame)
-        if words[0] in ("#", "seed", "words", "image"):
-            continue
-        reply = next(replies, "").split() or [""]
-        if reply[0] == "opened":
-            sizes[reply[1]] = int(reply[2])
-        if words[0] == "write" and reply == ["ok"]:
-            written[int(words[2])] = bytes.fromhex(words[3])
-        if reply[0] == "crashed":
-            at_crash = records if any("0" in row.split(":")[1] for row in reply[1:]) else None
-        if reply[0] == "bytes" and words[2] == "0" and int(words[3]) >= sizes.get(words[1], 0):
-            found, end = records_in(bytes.fromhex(reply[1].replace("-", "")))
-            gone = gone or (at_crash is not None and found[: len(at_crash)] != at_crash)
-            records, at_crash = found, None
-    return gone
-
-
 def main(arguments):
-    if arguments == ["--judge"]:
-        return int(judge(sys.stdin.read()))
     broken = broken_script(int(arguments[0]), "--forget-sync" in arguments)
     if broken is not None:
         print(f"# seed {arguments[0]}: {broken[0]}")

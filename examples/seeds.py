@@ -3,7 +3,8 @@
 
     seeds.py COUNT [--forget-sync]
 
-Where one fails: how many, the first of them, its script cut down to the lines that it takes, and what that prints. Status 1 then.
+If some fail: how many, the first of them, its script cut to the lines that it takes, and what that prints, with status 1. That takes the
+library (`sh bindings/build.sh`).
 """
 
 import functools
@@ -11,31 +12,25 @@ import multiprocessing
 import os
 import subprocess
 import sys
-import tempfile
 
 import log
 import blobcrash
 
 
 def build():
-    """Builds the program once, and lets all runs start it without asking whether it is built."""
+    """Builds the program once. All runs then start it directly."""
     if "BLOBCRASH" not in os.environ:
         subprocess.run([blobcrash.program()], stdin=subprocess.DEVNULL, check=True)
         os.environ["BLOBCRASH"] = os.path.join(blobcrash.TOP, "out", "blobcrash")
 
 
 def show(seed, reason, script):
-    """Prints a failure, cut down, and its replies, with a picture behind each crash."""
-    with tempfile.NamedTemporaryFile("w+", suffix=".script") as file:
-        file.write("\n".join(script) + "\n")
-        file.flush()
-        shrink = os.path.join(blobcrash.TOP, "tools", "shrink")
-        judge = [sys.executable, os.path.abspath(log.__file__), "--judge"]
-        left = subprocess.run([sys.executable, shrink, file.name, *judge], stdout=subprocess.PIPE, text=True, check=True).stdout
-    print(f"seed {seed}: {reason}; {len(script)} lines, of which it takes {len(left.splitlines())}:")
-    print(left)
+    """Prints a failure, cut to the lines that it takes, and its replies with a picture after each crash."""
+    short = blobcrash.cut("\n".join(script) + "\n")
+    print(f"seed {seed}: {reason}; {len(script)} lines, of which it takes {len(short.splitlines())}:")
+    print(short)
     sys.stdout.flush()
-    print(blobcrash.explain(left) or "`./blobcrash build explain` builds the program that shows its crashes")
+    print(blobcrash.explain(short) or "`./blobcrash build explain` builds the program that shows its crashes")
 
 
 def main(arguments):

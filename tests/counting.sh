@@ -20,13 +20,31 @@ fail() {
     echo "$own_name: $1"
 }
 
+# ok NAME COMMAND..: counts whether the command succeeds. If it doesn't, shows what it printed.
+ok() {
+    what=$1
+    shift
+    if "$@" >"$work/shown" 2>&1 </dev/null; then
+        pass
+    else
+        fail "$what"
+        tail -n 40 "$work/shown"
+    fi
+}
+
 # skip WHAT: counts a test that isn't run because a tool is missing. With CI=true it is a failure: `.ci/run` installs the tools.
 skip() {
     if [ "${CI:-}" = true ]; then
         failed=$((failed + 1))
+        echo "$own_name: skipped: $1"
     else
-        skipped=$((skipped + 1))
+        leave_out "$1"
     fi
+}
+
+# leave_out WHAT: counts a test that isn't run because a tool is missing that isn't one of .ci/packages, also with CI=true.
+leave_out() {
+    skipped=$((skipped + 1))
     echo "$own_name: skipped: $1"
 }
 
@@ -39,6 +57,16 @@ has() {
 
 # has_python: whether there is a Python 3.8 or later.
 has_python() { python3 -c 'import sys; sys.exit(sys.version_info < (3, 8))' 2>/dev/null; }
+
+# add COMMAND ..: runs a test that prints `N passed, M failed` last, and adds its counts. Shows its other lines.
+add() {
+    "$@" >"$work/added" 2>&1
+    sed '/^[0-9]* passed, [0-9]* failed$/d' "$work/added"
+    # shellcheck disable=SC2046
+    set -- $(sed -n 's/^\([0-9]*\) passed, \([0-9]*\) failed$/\1 \2/p' "$work/added" | tail -n 1)
+    passed=$((passed + ${1:-0}))
+    failed=$((failed + ${2:-1}))
+}
 
 # finish: prints the last line, `N passed, M failed` with `, K skipped` after it if K isn't 0, and exits.
 finish() {

@@ -1,22 +1,10 @@
 #!/bin/sh
-# The examples: each examples/NAME.script prints NAME.out to the byte; the log in Python keeps its promise over 1,000 seeds, and
-# breaks it where it forgets its sync, which is shown by a short script and what it prints. The last line is
+# The examples: each examples/NAME.script prints NAME.out to the byte; clients in Go, Java and Node; the log in Python keeps its promise
+# over 1,000 seeds, and breaks it if it forgets its sync, which a short script and its replies show. The last line is
 # `N passed, M failed`.
 top=$(CDPATH='' cd -- "$(dirname -- "$0")/.." && pwd -P)
 # shellcheck source=tests/counting.sh
 . "$top/tests/counting.sh"
-
-# ok NAME COMMAND..: counts whether the command succeeds; where it doesn't, shows what it printed.
-ok() {
-    what=$1
-    shift
-    if "$@" >"$work/shown" 2>&1; then
-        pass
-    else
-        fail "$what"
-        head -n 40 "$work/shown"
-    fi
-}
 
 need_program explain
 BLOBCRASH=$program
@@ -27,6 +15,31 @@ for example in "$top"/examples/*.script; do
     ok "${example##*/}" diff "${example%.script}.out" "$work/out"
 done
 
+# The first two bytes are kept: a draw with word 0 is true, one with `max` is false.
+cat >"$work/piped" <<'REPLIES'
+config write 0 1 1 2 prefix => ok
+open p 62 => opened 0 0 0
+write 0 0 616263 => ok
+crash => crashed 0:110
+reopen => ok
+open p 62 => opened 1 2 0
+read 1 0 2 => bytes 6162
+REPLIES
+# piped TOOL COMMAND..: runs a client, if its language is installed. These languages aren't in .ci/packages, since they are large.
+piped() {
+    if ! has "$1"; then
+        leave_out "the client for $1"
+        return
+    fi
+    what="the client for $1"
+    shift
+    "$@" >"$work/out" 2>"$work/err" </dev/null
+    ok "$what" diff "$work/piped" "$work/out"
+}
+piped node node "$top/examples/pipe.mjs"
+piped java java "$top/examples/Pipe.java"
+piped go env GOCACHE="$work/go" GOFLAGS=-mod=mod go run "$top/examples/pipe.go"
+
 if ! has_python; then
     skip 'the log in Python, for want of a Python from 3.8 on'
     finish
@@ -35,12 +48,19 @@ fi
 python3 "$top/examples/seeds.py" 1000 >"$work/kept"
 ok 'the log keeps its promise over 1,000 seeds' grep -qx '1000 seeds, none fails' "$work/kept"
 
+sh "$top/bindings/build.sh" || give_up "the library can't be built"
+if [ ! -f "$top/out/libblobcrash.so" ]; then
+    skip 'shrinking: the shared library is made by a C compiler'
+    finish
+fi
 python3 "$top/examples/seeds.py" 1000 --forget-sync >"$work/broken"
-ok 'a log that forgets its sync is caught' [ $? -eq 1 ]
-ok 'its seed is told' grep -q '^seed [0-9]*: ' "$work/broken"
+ok 'a log that forgets its sync is found out' [ $? -eq 1 ]
+ok 'its seed is shown' grep -q '^seed [0-9]*: ' "$work/broken"
 sed -n '2,/^$/p' "$work/broken" | sed 1d >"$work/short"
-python3 "$top/examples/log.py" --judge <"$work/short"
+"$top/tools/judge" <"$work/short" >"$work/lost"
 ok 'its short script shows the fault' [ $? -eq 1 ]
-ok 'what it prints is shown' grep -q '^crashed .*0' "$work/broken"
-
+# By hand: an open, a write, its acknowledgement, a crash and a reopen.
+ok 'the script is as short as by hand' [ "$(grep -c . "$work/short")" -eq 5 ]
+ok 'its choices are fixed' sh -c '! grep -q "^seed" "$1"' sh "$work/short"
+ok 'its replies are shown' grep -q '^crashed' "$work/broken"
 finish

@@ -14,18 +14,6 @@ export work
 PATH=$PATH:/opt/rattle/bin
 export PATH PYTHONDONTWRITEBYTECODE=1
 
-# ok NAME COMMAND..: counts whether the command succeeds; where it doesn't, shows what it printed.
-ok() {
-    what=$1
-    shift
-    if "$@" >"$work/shown" 2>&1 </dev/null; then
-        pass
-    else
-        fail "$what"
-        tail -n 40 "$work/shown"
-    fi
-}
-
 need_program explain explore
 BLOBCRASH=$program
 export BLOBCRASH
@@ -34,13 +22,14 @@ ok 'every command and block of the pages is run' python3 tests/pages.py --listed
 try_page() { ok "the commands and examples of $1" python3 tests/pages.py "$1"; }
 
 for page in README.md CONTRIBUTING.md docs/*.md bindings/python/blobcrash/__init__.py; do
-    [ "$page" = docs/BINDINGS.md ] || try_page "$page"
+    case $page in docs/BINDINGS.md | docs/GUIDE.md) ;; *) try_page "$page" ;; esac
 done
 ok "the steps in Rattle of docs/LOG.md" python3 tests/pages.py --scratch "$work/scratch"
 
 # What comes now takes the library as built, which may still be under way.
 sh bindings/build.sh || give_up "the library can't be built"
 try_page docs/BINDINGS.md
+try_page docs/GUIDE.md
 python3 tests/pages.py --ways >"$work/ways"
 while read -r way; do
     lacking=

@@ -177,9 +177,11 @@ def test_the_script_has_what_was_called():
 
 def test_bad_lines_tell_why():
     with Store(by=BY) as store:
-        rows = [("open p wal", "'wal' isn't hex"), ("config write 1/8 1 2 subset", "a rate is two numbers"), ("crash\r", "is no call")]
-        for line, why in [*rows, ("seed 1", "'seed' is no call"), ("open p 62 0 65536", "past 65535"), ("crash 1", "expected")]:
-            assert why in str(raises(BadLine, store.call, line)), line
+        rows = [("open p wal", "`wal`: a name is hex"), ("config write 1/8 1 2 subset", "`1/8`: a rate is two numbers")]
+        rows += [("crash\r", "a carriage return"), ("seed 1", "`seed`: a preamble line precedes all calls"), ("crash 1", "a token too many")]
+        for line, why in [*rows, ("open p 62 0 65536", "`65536`: the greatest version is 65535")]:
+            error = raises(BadLine, store.call, line)
+            assert why in error.why and why in str(error), (line, error)
         assert store.call("open p 62") == ["opened", "0", "0", "0"]
 
 

@@ -5,6 +5,11 @@
 # How many versions of a file out/kept has at most. They are used after a change of branch and back.
 kept_most=4
 
+# soname: the name by which programs load the shared library. Until 1.0 a minor version may change its functions.
+soname() {
+    sed -n 's/^const VERSION: &str = "blobcrash \([0-9]*\.[0-9]*\)\..*/libblobcrash.so.\1/p' "$top/crates/blobcrash/src/main.rt"
+}
+
 # crates_of TOP NAME ..: the lines of TOP/crates.txt of these crates and of all crates below them, in the file's order.
 crates_of() {
     list=$1/crates.txt

@@ -20,6 +20,8 @@ again. Its lines and replies are those of docs/FORMATS.md. A store belongs to on
 To use the package without installing it, copy this folder: it needs nothing but Python 3.8 or later.
 """
 
+from .checking import Fault, check
+from .cutting import cut, cut_lines
 from .errors import (
     BadLine,
     BlobAlreadyOpen,
@@ -52,9 +54,11 @@ from .exploration import Explored, explore
 from .failures import Failed
 from .files import BlobFile
 from .follow import ExploredStore, NotDeterministic, Unexplorable
-from .layers import TOP, Library, Program, Reply, library, program, run
+from .judging import acknowledgement, judge
+from .layers import TOP, Library, Program, Reply, explain, library, program, run
 from .power import PowerLoss
 from .seeding import Seeded, SeededStore, seeds
+from .shrinking import shrink
 from .spread import LostWork
 from .store import Blob, Store
 
@@ -75,6 +79,7 @@ __all__ = [
     "Explored",
     "ExploredStore",
     "Failed",
+    "Fault",
     "GenerationsExhausted",
     "Injected",
     "Interrupted",
@@ -103,9 +108,16 @@ __all__ = [
     "Unexplorable",
     "WriteFailed",
     "WrongThread",
+    "acknowledgement",
+    "check",
+    "cut",
+    "cut_lines",
+    "explain",
     "explore",
+    "judge",
     "library",
     "program",
     "run",
     "seeds",
+    "shrink",
 ]

@@ -1,34 +1,47 @@
-"""Runs a script, from a file or from standard input: `python -m blobcrash [FILE]`. Replies and exit status are the program's."""
+"""Runs a script, from a file or from standard input: `python -m blobcrash [FILE]`. Replies and exit status are the program's.
+
+`python -m blobcrash check [FILE]` says which lines aren't calls, and why; `judge [FILE]` whether acknowledged content is lost;
+`shrink SCRIPT [COMMAND ..]` makes a failing script short.
+"""
 
 import sys
 
+from .commands import check_command, judge_command, shrink_command
 from .errors import BadLine
 from .layers import run
 
+_COMMANDS = {"check": check_command, "judge": judge_command, "shrink": shrink_command}
+
 
 def main(arguments: list) -> int:
-    if len(arguments) > 1:
-        print("usage: python -m blobcrash [FILE]", file=sys.stderr)
+    command = _COMMANDS.get(arguments[0]) if arguments else None
+    if command is not shrink_command and len(arguments) > (1 if command is None else 2):
+        print("usage: python -m blobcrash [check|judge] [FILE], or shrink SCRIPT [COMMAND ..]", file=sys.stderr)
         return 2
     try:
-        if arguments:
-            with open(arguments[0], "rb") as file:
-                script = file.read()
-        else:
-            script = sys.stdin.buffer.read()
+        return command(arguments[1:]) if command is not None else run_command(arguments)
     except OSError as error:
         print(f"input failed: {error}", file=sys.stderr)
         return 1
+    except MemoryError:
+        print("no memory", file=sys.stderr)
+        return 3
+
+
+def run_command(arguments: list) -> int:
+    """Runs a script, and prints the replies."""
+    if arguments:
+        with open(arguments[0], "rb") as file:
+            script = file.read()
+    else:
+        script = sys.stdin.buffer.read()
     try:
         sys.stdout.buffer.write(run(script))
     except BadLine as bad:
         sys.stdout.buffer.write(bad.replies)
         sys.stdout.buffer.flush()
-        print(bad, file=sys.stderr)
+        print(f"line {bad.line}: bad call", file=sys.stderr)
         return 2
-    except MemoryError:
-        print("no memory", file=sys.stderr)
-        return 3
     return 0
 
 

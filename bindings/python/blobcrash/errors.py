@@ -111,11 +111,13 @@ class EmptyRange(StorageError):
 
 
 class BadLine(ValueError):
-    """A line is no call of a script, or isn't allowed there. No call was made. `line` is its number if it is one of a text."""
+    """A line is no call of a script, or isn't allowed there. No call was made. `line` is its number if it is one of a text. `why` names
+    the token and what was expected, if that is known."""
 
-    def __init__(self, text: str, line: Optional[int] = None) -> None:
+    def __init__(self, text: str, line: Optional[int] = None, why: Optional[str] = None) -> None:
         super().__init__(text if line is None else f"line {line}: {text}")
         self.line = line
+        self.why = why
         self.replies = b""
 
 

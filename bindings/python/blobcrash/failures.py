@@ -24,7 +24,7 @@ class Failed(AssertionError):
         if len(script) > _MOST_LINES:
             left = len(script) - _MOST_LINES
             shown = [*script[: _MOST_LINES // 2], f"# .. {left} more lines, all in `script`", *script[-_MOST_LINES // 2 :]]
-        name = path if path.startswith("seed") else f"path: {path or 'no choices'}"
+        name = path if path.startswith(("seed", "words")) else f"path: {path or 'no choices'}"
         lines = [f"run {run} failed: {reason}", f"its {name}", "its script, to explain with `blobcrash explain`:"]
         super().__init__("\n".join([*lines, *("    " + line for line in shown)]))
 

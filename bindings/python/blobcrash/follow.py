@@ -160,7 +160,7 @@ class ExploredStore(Store):
         """The lines of all calls, and notes: a script that makes the same calls again. Its words are those of the draws so far."""
         lines = super().script
         if self._run.seed is None and hasattr(self, "_layer"):
-            drawn = " ".join("max" if word else "0" for word in self._run.draws())
+            drawn = " ".join("max" if word == MAX else str(word) for word in self._run.draws())
             lines[:1] = [f"words {drawn}"] if drawn else []
         return lines
 

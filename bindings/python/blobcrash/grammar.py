@@ -10,43 +10,12 @@ import re
 from typing import List, Optional, Tuple
 
 from .errors import BadLine
-
-MAX = 2**64 - 1
-LAST_VERSION = 2**16 - 1
+from .shapes import LAST_VERSION, MAX, misplaced, reason_of, shown
 
 _NAME = re.compile(r"[A-Za-z0-9_-]+")
 _DIGITS = re.compile(r"[0-9]+")
-_HEX = re.compile(r"-|([0-9a-fA-F]{2})+")
 # One token that is no partition name, so that a call with it makes the draw and gets the refusal of every such name.
 _NO_NAME = "!"
-
-# The calls by their first words. Capitals are arguments. P is a partition; one that ends in N and the next in D are a rate.
-_SHAPES = {
-    "open": ("P NAME", "P NAME LO HI"),
-    "loose": ("P NAME", "P NAME LO HI"),
-    "admit": ("P NAME",),
-    "close": ("H",),
-    "read": ("H OFFSET LEN",),
-    "write": ("H OFFSET HEX",),
-    "writes": ("H OFFSET HEX",),
-    "resize": ("H LEN",),
-    "size": ("H",),
-    "sync": ("H",),
-    "startsync": ("H",),
-    "finish": ("NUMBER",),
-    "remove": ("P", "P NAME"),
-    "scan": ("P",),
-    "crash": ("",),
-    "reopen": ("",),
-    "config open": ("N D",),
-    "config read": ("N D",),
-    "config sync": ("N D",),
-    "config remove": ("N D",),
-    "config scan": ("N D",),
-    "config write": ("FN FD RN RD prefix", "FN FD RN RD subset", "FN FD RN RD sectors S"),
-    "config resize": ("FN FD PN PD",),
-    "config clear": ("",),
-}
 
 
 def number(value: int, what: str, last: int = MAX) -> int:
@@ -140,13 +109,9 @@ def tokens_of(line: str) -> List[str]:
     tokens = [token for token in str.__str__(line).split(" ") if token]
     if not tokens or tokens[0].startswith("#"):
         return []
-    words = tokens[:2] if tokens[0] == "config" else tokens[:1]
-    shapes = _SHAPES.get(" ".join(words))
-    if shapes is None:
-        raise BadLine(f"bad call: {line!r}: {words[-1]!r} is no {'setting' if len(words) == 2 else 'call'}")
-    why = _mismatch(tokens[len(words) :], [shape.split() for shape in shapes])
+    why = misplaced(tokens[0]) if tokens[0] in ("image", "words", "seed") else reason_of(tokens)
     if why:
-        raise BadLine(f"bad call: {line!r}: {why}")
+        raise BadLine(f"bad call: {why}; in {shown(line)}", why=why)
     return tokens
 
 
@@ -157,55 +122,3 @@ def _is_text(text: str) -> bool:
     except UnicodeEncodeError:
         return False
     return True
-
-
-def _mismatch(arguments: List[str], shapes: List[List[str]]) -> Optional[str]:
-    """Why arguments are of none of these shapes."""
-    likely = [shape for shape in shapes if len(shape) == len(arguments)] or shapes[:1]
-    reasons = [_why_not(arguments, shape) for shape in likely]
-    if None in reasons:
-        return None
-    if any(len(shape) == len(arguments) for shape in shapes):
-        return reasons[0]
-    for token, kind in zip(arguments, likely[0]):
-        why = _wrong(token, kind)
-        if why:
-            return why
-    wanted = " or ".join(f"`{' '.join(shape)}`" if shape else "nothing" for shape in shapes)
-    return f"expected {wanted}"
-
-
-def _why_not(arguments: List[str], shape: List[str]) -> Optional[str]:
-    """Why arguments aren't of a shape of the same length."""
-    if len(arguments) != len(shape):
-        return "a token is missing or left over"
-    for token, kind in zip(arguments, shape):
-        why = _wrong(token, kind)
-        if why:
-            return why
-    for at, kind in enumerate(shape[1:], 1):
-        if kind.endswith("D"):
-            top, bottom = arguments[at - 1 : at + 1]
-            if int(bottom) == 0 or int(top) > int(bottom):
-                return f"`{top} {bottom}` is no rate: a fraction from 0 to 1"
-    return None
-
-
-def _wrong(token: str, kind: str) -> Optional[str]:
-    """Why a token isn't of a kind."""
-    if kind == "P":
-        return None
-    if kind in ("NAME", "HEX"):
-        return None if _HEX.fullmatch(token) else f"{token!r} isn't hex: two digits a byte, or `-` for no bytes"
-    if kind.islower():
-        return None if token == kind else f"{token!r} is no mode: `prefix`, `subset` or `sectors SIZE`"
-    if not _DIGITS.fullmatch(token):
-        rate = ": a rate is two numbers" if kind[-1] in "ND" and len(kind) < 3 else ""
-        return f"{token!r} is no number{rate}"
-    digits = token.lstrip("0") or "0"
-    last = LAST_VERSION if kind in ("LO", "HI") else MAX
-    if len(digits) > 20 or int(digits) > last:
-        return f"{token!r} is past {last}"
-    if kind == "S" and digits == "0":
-        return "a sector has at least one byte"
-    return None

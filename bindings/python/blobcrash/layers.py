@@ -10,6 +10,7 @@ import os
 import subprocess
 from typing import Any, List, NamedTuple, Optional, Union
 
+from .checking import check
 from .errors import BadLine, Interrupted, LibraryMissing, NotMade, ProgramEnded
 from .grammar import hex_of, unhex
 
@@ -50,7 +51,15 @@ def line_of(handle: int, offset: int, what: Union[int, bytes], sync: Optional[bo
 
 
 def _bad(line: bytes) -> BadLine:
-    return BadLine("bad call: " + line.decode(errors="backslashreplace"))
+    faults = check(line)
+    why = faults[0].why if faults else None
+    return BadLine("bad call: " + line.decode(errors="backslashreplace") + (f": {why}" if why else ""), why=why)
+
+
+def _bad_at(script: bytes, line: int, what: str) -> BadLine:
+    """The error of a line of a text, with the reason for it if that is known."""
+    why = next((fault.why for fault in check(script) if fault.line == line), None)
+    return BadLine(f"{what}: {why}" if why else what, line, why)
 
 
 class Program:
@@ -204,7 +213,7 @@ class Library:
         self._room = ctypes.create_string_buffer(4096)
         ran = self._functions.blobcrash_open(self._at, preamble, len(preamble))
         if ran.status == _BAD_LINE:
-            raise BadLine("bad preamble", ran.line)
+            raise _bad_at(preamble, ran.line, "bad preamble")
         _check(ran.status)
 
     def call(self, line: bytes) -> bytes:
@@ -315,7 +324,7 @@ def run(script: bytes) -> bytes:
         room = ctypes.create_string_buffer(ran.len)
         ran = functions.blobcrash_run(script, len(script), room, len(room))
     if ran.status == _BAD_LINE:
-        error = BadLine("bad call", ran.line)
+        error = _bad_at(script, ran.line, "bad call")
         error.replies = ctypes.string_at(room, ran.len)
         raise error
     _check(ran.status)

@@ -1,0 +1,94 @@
+"""The commands `check`, `judge` and `shrink` of `python -m blobcrash`."""
+
+from __future__ import annotations
+
+import os
+import subprocess
+import sys
+import tempfile
+from typing import Callable, List
+
+from .checking import check
+from .cutting import cut, cut_lines, loses
+from .errors import BadLine, LibraryMissing
+from .judging import judge
+
+
+def check_command(arguments: List[str]) -> int:
+    """Prints each line of a script that isn't a call, and why. Status 2 if there is one."""
+    faults = check(_input(arguments))
+    for fault in faults:
+        print(f"line {fault.line}: bad call: {fault.why}")
+    if faults:
+        sys.stdout.flush()
+        print(f"line {faults[0].line}: bad call", file=sys.stderr)
+    return 2 if faults else 0
+
+
+def judge_command(arguments: List[str]) -> int:
+    """Prints what a script loses of acknowledged content. Status 1 if it loses some."""
+    try:
+        lost = judge(_input(arguments))
+    except BadLine as bad:
+        print(bad, file=sys.stderr)
+        return 2
+    if lost is not None:
+        print(lost)
+    return int(lost is not None)
+
+
+def _input(arguments: List[str]) -> bytes:
+    if not arguments:
+        return sys.stdin.buffer.read()
+    with open(arguments[0], "rb") as file:
+        return file.read()
+
+
+def shrink_command(arguments: List[str]) -> int:
+    """Prints a short script that still fails. Status 1 if the whole one doesn't, 2 if it can't be read or judged."""
+    if not arguments:
+        print("usage: shrink SCRIPT [COMMAND [ARGUMENT ..]]", file=sys.stderr)
+        return 2
+    with tempfile.TemporaryDirectory() as folder:
+        try:
+            with open(arguments[0], "rb") as file:
+                script = file.read().decode("utf-8", "surrogateescape")
+            fails = _command(arguments[1:], os.path.join(folder, "script")) if arguments[1:] else loses
+            if not fails(script):
+                print("shrink: the whole script doesn't fail", file=sys.stderr)
+                return 1
+            short = _shortened(script, fails)
+        except (OSError, MemoryError) as error:
+            print(f"shrink: {error}", file=sys.stderr)
+            return 2
+    sys.stdout.buffer.write(short.encode("utf-8", "surrogateescape"))
+    sys.stdout.buffer.flush()
+    return 0
+
+
+def _command(command: List[str], path: str) -> Callable[[str], bool]:
+    """Whether a command ends with a status other than 0. It gets the script on standard input, and in a file in place of `{}`."""
+    words = [path if word == "{}" else word for word in command]
+
+    def fails(script: str) -> bool:
+        with open(path, "wb") as file:
+            file.write(script.encode("utf-8", "surrogateescape"))
+        with open(path, "rb") as file:
+            run = subprocess.run(words, stdin=file, stdout=subprocess.DEVNULL, stderr=subprocess.DEVNULL)
+        return run.returncode != 0
+
+    return fails
+
+
+def _shortened(script: str, fails: Callable[[str], bool]) -> str:
+    """The script cut, or if that can't be done with its lines left out alone."""
+    try:
+        return cut(script, fails)
+    except LibraryMissing:
+        why = "the library isn't built: `sh bindings/build.sh`"
+    except BadLine:
+        why = "it isn't a script"
+    except (ValueError, UnicodeError) as error:
+        why = str(error)
+    print(f"shrink: only lines are left out: {why}", file=sys.stderr)
+    return cut_lines(script, fails)

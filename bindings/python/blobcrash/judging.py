@@ -1,0 +1,170 @@
+"""A judge for any script: what was acknowledged before a crash must be readable after it (docs/GUIDE.md).
+
+A comment says what the code under test has promised to its caller:
+
+    # acknowledged PARTITION NAME OFFSET HEX     these bytes at this offset survive every crash from here on
+    # released PARTITION NAME                    nothing that was acknowledged of this blob counts any more
+
+An acknowledgement counts if calls of the same script wrote or read these bytes there before it, and if a crash and a reopen follow it. The
+content must be readable at each reopen that follows a crash. A later acknowledgement of an overlapping range replaces it.
+"""
+
+from __future__ import annotations
+
+import os
+from typing import Any, Dict, List, NamedTuple, Optional, Tuple, Union
+
+from .errors import BadLine
+from .grammar import LAST_VERSION, hex_of, unhex
+from .layers import Library, Program, library
+
+Name = Tuple[str, str]
+
+
+class Acknowledged(NamedTuple):
+    """Content that must survive: the blob's partition and its name in hex, an offset and bytes."""
+
+    blob: Name
+    offset: int
+    data: bytes
+
+    def __str__(self) -> str:
+        return f"{self.blob[0]} {self.blob[1]} {self.offset} {hex_of(self.data)}"
+
+    @property
+    def end(self) -> int:
+        return self.offset + len(self.data)
+
+
+def acknowledgement(partition: str, name: bytes, offset: int, data: bytes) -> str:
+    """Returns the text of an acknowledgement, for `Store.note`."""
+    return f"acknowledged {Acknowledged((partition, hex_of(name)), offset, data)}"
+
+
+def acknowledgement_of(line: str) -> Optional[Acknowledged]:
+    """Returns what a comment acknowledges, or `None` for any other line."""
+    tokens = line.split()
+    if len(tokens) != 6 or tokens[:2] != ["#", "acknowledged"]:
+        return None
+    try:
+        return Acknowledged((tokens[2], tokens[3].lower()), int(tokens[4]), unhex(tokens[5]))
+    except ValueError:
+        return None
+
+
+def judge(script: Union[str, bytes], by: Any = None) -> Optional[str]:
+    """Runs a script. Returns the first acknowledged content that isn't readable at a reopen after a crash, or `None` if all is.
+
+    The script is run once, and again up to each such reopen. `by` is `Library` or `Program`; by default the library if it is built.
+    Raises `BadLine` if a line isn't a call.
+    """
+    text = script.decode() if isinstance(script, bytes) else script
+    preamble, calls = _parts(text.split("\n"))
+    way = by or (Library if os.path.exists(library()) else Program)
+    watch = _Watch()
+    _run(way, preamble, calls, watch).close()
+    for at, due in watch.reopens:
+        layer = _run(way, preamble, calls[: at + 1], None)
+        lost = _lost(layer, due)
+        layer.close()
+        if lost is not None:
+            return f"line {len(preamble) + at + 1}: {lost}"
+    return None
+
+
+def _run(way: Any, preamble: List[str], calls: List[str], watch: Optional[_Watch]) -> Any:
+    """Makes calls, and returns the layer as they leave it."""
+    layer = way("".join(line + "\n" for line in preamble).encode())
+    for at, line in enumerate(calls):
+        try:
+            reply = layer.call(line.encode()).decode()
+        except BadLine as bad:
+            layer.close()
+            raise BadLine(f"bad call: {bad.why}" if bad.why else "bad call", len(preamble) + at + 1, bad.why) from None
+        if watch is not None:
+            watch.see(at, line, reply.split())
+    return layer
+
+
+def _parts(lines: List[str]) -> Tuple[List[str], List[str]]:
+    """The lines up to the first call, and those from there on."""
+    for at, line in enumerate(lines):
+        word = (line.split(" ") + [""])[0] if not line.startswith(" ") else (line.split() or [""])[0]
+        if word and not word.startswith("#") and word not in ("image", "words", "seed"):
+            return lines[:at], lines[at:]
+    return lines, []
+
+
+class _Watch:
+    """What the calls so far have written, and what is acknowledged of it."""
+
+    def __init__(self) -> None:
+        self._names: Dict[str, Name] = {}
+        self._content: Dict[Name, Dict[int, int]] = {}
+        self._acknowledged: List[Acknowledged] = []
+        self._at_crash: List[Acknowledged] = []
+        # The reopens after a crash by the places of their lines, and what must be readable there.
+        self.reopens: List[Tuple[int, List[Acknowledged]]] = []
+
+    def see(self, at: int, line: str, reply: List[str]) -> None:
+        tokens = line.split() or ["#"]
+        word = tokens[0]
+        if word.startswith("#"):
+            self._note(line, tokens)
+        elif word in ("open", "loose") and reply[0] == "opened":
+            self._names[reply[1]] = (tokens[1], tokens[2].lower())
+        elif word in ("write", "writes") and reply == ["ok"]:
+            self._put(tokens[1], int(tokens[2]), unhex(tokens[3]))
+        elif word == "read" and reply[0] == "bytes":
+            self._put(tokens[1], int(tokens[2]), unhex(reply[1]))
+        elif word == "resize" and reply == ["ok"]:
+            self._cut(tokens[1], int(tokens[2]))
+        elif word == "crash":
+            self._at_crash = list(self._acknowledged)
+        elif word == "reopen" and self._at_crash:
+            self.reopens.append((at, self._at_crash))
+            self._at_crash = []
+
+    def _note(self, line: str, tokens: List[str]) -> None:
+        found = acknowledgement_of(line)
+        if found is not None:
+            content = self._content.get(found.blob, {})
+            if all(content.get(found.offset + at) == byte for at, byte in enumerate(found.data)):
+                self._replace(found)
+        elif tokens[:2] == ["#", "released"] and len(tokens) == 4:
+            blob = (tokens[2], tokens[3].lower())
+            self._acknowledged = [one for one in self._acknowledged if one.blob != blob]
+
+    def _replace(self, new: Acknowledged) -> None:
+        others = [one for one in self._acknowledged if one.blob != new.blob or one.end <= new.offset or new.end <= one.offset]
+        self._acknowledged = [*others, new]
+
+    def _put(self, handle: str, offset: int, data: bytes) -> None:
+        if handle in self._names:
+            content = self._content.setdefault(self._names[handle], {})
+            content.update(enumerate(data, offset))
+
+    def _cut(self, handle: str, length: int) -> None:
+        if handle in self._names:
+            content = self._content.get(self._names[handle], {})
+            for at in [at for at in content if at >= length]:
+                del content[at]
+
+
+def _lost(layer: Any, due: List[Acknowledged]) -> Optional[str]:
+    """Returns the first content that isn't found in a store that was just reopened."""
+    layer.call(b"config clear")
+    handles: Dict[Name, Optional[List[str]]] = {}
+    for one in due:
+        partition, name = one.blob
+        if one.blob not in handles:
+            reply = layer.call(f"open {partition} {name} 0 {LAST_VERSION}".encode()).decode().split()
+            handles[one.blob] = reply[1:3] if reply[0] == "opened" else None
+        opened = handles[one.blob]
+        if opened is None:
+            return f"acknowledged {one}, and the blob can't be opened"
+        length = max(0, min(one.end, int(opened[1])) - one.offset)
+        reply = layer.call(f"read {opened[0]} {one.offset} {length}".encode()).decode().split() if length else ["bytes", "-"]
+        if unhex(reply[1]) != one.data:
+            return f"acknowledged {one}, found {reply[1]}"
+    return None

@@ -1,0 +1,210 @@
+"""A script as lines that can be left out: each with the words that its call took, and with the line that made its handle."""
+
+from __future__ import annotations
+
+from dataclasses import dataclass, field
+from itertools import chain, islice
+from typing import Dict, Iterator, List, NamedTuple, Optional, Tuple
+
+from .errors import BadLine
+from .generator import words_of
+from .grammar import MAX
+from .judging import Acknowledged, acknowledgement_of
+from .layers import Library
+from .rates import Rates, Recorded
+
+# The calls whose first argument is a handle.
+ON_HANDLE = frozenset(("close", "read", "write", "writes", "resize", "size", "sync", "startsync"))
+
+
+@dataclass(frozen=True)
+class Line:
+    """A line of a script, with the reply to its call, and `words` that it took.
+
+    `made_by` is the line of the call that made the handle or the started sync that it names. `rows` are of a crash: for the line of each write
+    that it drew for, what it kept.
+    """
+
+    tokens: Tuple[str, ...]
+    reply: Tuple[str, ...] = ()
+    words: Tuple[int, ...] = ()
+    made_by: Optional[int] = None
+    rows: Dict[int, str] = field(default_factory=dict)
+
+    @property
+    def is_call(self) -> bool:
+        return not self.tokens[0].startswith("#") and self.tokens[0] != "image"
+
+    @property
+    def acknowledges(self) -> Optional[Acknowledged]:
+        return acknowledgement_of(" ".join(self.tokens))
+
+
+Lines = Dict[int, Line]
+
+
+class Writes:
+    """The writes that a crash may draw for, by their numbers, since the last reopen."""
+
+    def __init__(self) -> None:
+        self.rates = Rates()
+        self.numbers: List[int] = []
+        self.recorded: Dict[int, Recorded] = {}
+
+    def see(self, at: int, tokens: List[str], reply: List[str], words: List[int]) -> None:
+        """Takes the call of the line `at`."""
+        if tokens[0] == "config":
+            self.rates.set(tokens)
+        elif tokens[0] == "reopen":
+            self.numbers = []
+        elif tokens[0] in ("write", "writes"):
+            recorded = self.rates.recorded(tokens, reply, words)
+            if recorded is not None:
+                self.numbers.append(at)
+                self.recorded[at] = recorded
+
+    def rows(self, reply: List[str]) -> Dict[int, str]:
+        """The rows of a crash, by the lines of their writes."""
+        pairs = [row.split(":") for row in reply[1:]]
+        return {self.numbers[int(number)]: kept for number, kept in pairs}
+
+
+class _Parts(NamedTuple):
+    images: List[str]
+    words: List[int]
+    seed: Optional[int]
+    rest: List[str]
+
+
+def record(script: str) -> Lines:
+    """Runs a script, and returns its lines by their places. Empty lines are left out.
+
+    Raises `BadLine` if a line isn't a call, and `LibraryMissing` if the library isn't built.
+    """
+    parts = _split(script)
+    room = 256
+    while True:
+        lines = _recorded(parts, room)
+        if lines is not None:
+            return lines
+        room *= 4
+
+
+def _split(script: str) -> _Parts:
+    parts = _Parts([], [], None, [])
+    for number, line in enumerate(script.split("\n"), 1):
+        tokens = line.split(" ")
+        tokens = [token for token in tokens if token]
+        if not tokens:
+            continue
+        if tokens[0] == "words" and tokens[1:]:
+            parts.words.extend(MAX if token == "max" else _number(token, number) for token in tokens[1:])
+        elif tokens[0] == "seed" and len(tokens) == 2 and parts.seed is None:
+            parts = parts._replace(seed=_number(tokens[1], number))
+        elif tokens[0] == "image":
+            parts.images.append(" ".join(tokens))
+        else:
+            parts.rest.append(line.strip(" ") if tokens[0].startswith("#") else " ".join(tokens))
+    return parts
+
+
+def _number(token: str, line: int) -> int:
+    if not token.isascii() or not token.isdigit() or int(token) > MAX:
+        raise BadLine("bad call", line)
+    return int(token)
+
+
+def _recorded(parts: _Parts, room: int) -> Optional[Lines]:
+    """The lines of a script, if its calls take at most `room` words. The session has the words, and a last one that no call may take."""
+    stream: Iterator[int] = chain(parts.words, words_of(parts.seed) if parts.seed is not None else iter([0] * room))
+    words = list(islice(stream, max(room, len(parts.words))))
+    preamble = [*parts.images, "words " + " ".join(map(str, [*words, MAX]))]
+    session = Library("".join(line + "\n" for line in preamble).encode())
+    recorder = _Recorder(session, words)
+    for at, image in enumerate(parts.images):
+        recorder.lines[at] = Line(tuple(image.split(" ")))
+    try:
+        for at, line in enumerate(parts.rest, len(parts.images)):
+            if not recorder.add(at, line):
+                return None
+    finally:
+        session.close()
+    return recorder.lines
+
+
+class _Recorder:
+    def __init__(self, session: Library, words: List[int]) -> None:
+        self._session = session
+        self._words = words
+        self._taken = 0
+        self._made: Dict[Tuple[str, str], int] = {}
+        self._writes = Writes()
+        self.lines: Lines = {}
+
+    def add(self, at: int, line: str) -> bool:
+        """Makes the call of a line. Returns whether the words were enough for it."""
+        if line.startswith("#"):
+            self.lines[at] = Line(tuple(line.split(" ")))
+            return True
+        tokens = line.split(" ")
+        reply = self._session.call(line.encode()).decode().split(" ")
+        left = self._session.words_left()
+        if left == 0:
+            return False
+        taken = len(self._words) + 1 - left
+        words, self._taken = self._words[self._taken : taken], taken
+        rates = self._writes.rates
+        plain = () if tokens[0] == "crash" else tuple(rates.plain(tokens, words))
+        self._writes.see(at, tokens, reply, words)
+        rows = self._writes.rows(reply) if tokens[0] == "crash" else {}
+        self.lines[at] = Line(tuple(tokens), tuple(reply), plain, self._maker(tokens), rows)
+        if reply[0] in ("opened", "started"):
+            self._made[reply[0], reply[1]] = at
+        return True
+
+    def _maker(self, tokens: List[str]) -> Optional[int]:
+        if tokens[0] in ON_HANDLE:
+            return self._made.get(("opened", str(int(tokens[1]))))
+        if tokens[0] == "finish":
+            return self._made.get(("started", str(int(tokens[1]))))
+        return None
+
+
+class Needs:
+    """What the acknowledgements of a script need."""
+
+    def __init__(self, whole: Lines) -> None:
+        self._whole = whole
+        self._places = sorted(whole, reverse=True)
+        self._known: Dict[Tuple[int, Acknowledged], List[int]] = {}
+
+    def of(self, at: int, line: Line) -> List[int]:
+        """The lines without which the acknowledgement in the line `at` would promise something else: the last writes of its bytes, and each
+        sync of that blob between them and the acknowledgement."""
+        found = line.acknowledges
+        if found is None:
+            return []
+        if (at, found) not in self._known:
+            self._known[at, found] = self._needed(at, found)
+        return self._known[at, found]
+
+    def _needed(self, at: int, found: Acknowledged) -> List[int]:
+        unwritten, needed, syncs = set(range(found.offset, found.end)), [], []
+        for before in self._places:
+            if before >= at or not unwritten:
+                continue
+            line = self._whole[before]
+            if line.made_by is None or _blob(self._whole[line.made_by]) != found.blob:
+                continue
+            if line.tokens[0] in ("sync", "startsync"):
+                syncs.append(before)
+            if line.tokens[0] in ("write", "writes") and line.reply == ("ok",):
+                written = set(range(int(line.tokens[2]), int(line.tokens[2]) + len(line.tokens[3]) // 2))
+                if written & unwritten:
+                    needed += [before, *syncs]
+                    unwritten, syncs = unwritten - written, []
+        return needed
+
+
+def _blob(line: Line) -> Tuple[str, ...]:
+    return (line.tokens[1], line.tokens[2].lower()) if len(line.tokens) > 2 else ()

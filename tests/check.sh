@@ -1,0 +1,26 @@
+#!/bin/sh
+# Tests of `python3 -m blobcrash check`, which says why lines of a script are bad. The last line is `N passed, M failed`.
+top=$(CDPATH='' cd -- "$(dirname -- "$0")/.." && pwd -P)
+# shellcheck source=tests/counting.sh
+. "$top/tests/counting.sh"
+
+if ! has_python; then
+    skip 'all of it: there is no Python 3.8 or later'
+    finish
+fi
+need_program
+BLOBCRASH=$program
+PYTHONPATH=$top/bindings/python
+export BLOBCRASH PYTHONPATH
+
+for script in "$top"/examples/*.script; do
+    python3 -m blobcrash check "$script" >"$work/out" 2>&1
+    ok "${script##*/} has no bad line" [ "$? $(cat "$work/out")" = '0 ' ]
+done
+echo frob >"$work/bad"
+python3 -m blobcrash check "$work/bad" >"$work/out" 2>"$work/err"
+ok 'a bad line' [ "$? $(cat "$work/out") $(cat "$work/err")" = '2 line 1: bad call: `frob`: no such call line 1: bad call' ]
+python3 -m blobcrash check "$work/none" >"$work/out" 2>&1
+ok 'a script that is missing' [ $? -eq 1 ]
+add python3 "$top/tests/check.py"
+finish

@@ -1,0 +1,131 @@
+#!/bin/sh
+# Tests of bindings/install.sh: what it installs, with and without DESTDIR, and programs in C, Python and Rust in folders far from the
+# repository that use what it has installed. The last line is `N passed, M failed`.
+top=$(CDPATH='' cd -- "$(dirname -- "$0")/.." && pwd -P)
+# shellcheck source=tests/counting.sh
+. "$top/tests/counting.sh"
+
+need_program explain explore
+sh "$top/bindings/build.sh" || give_up "the library can't be built"
+if [ ! -f "$top/out/libblobcrash.so" ]; then
+    skip 'all of it: the shared library is made by a C compiler'
+    finish
+fi
+prefix=$work/prefix
+ok 'it installs' sh "$top/bindings/install.sh" "$prefix"
+ok 'it installs again, over itself' sh "$top/bindings/install.sh" "$prefix/"
+# expect_status N COMMAND..: whether the command ends with this status.
+expect_status() {
+    wanted=$1
+    shift
+    "$@" >"$work/shown" 2>&1
+    [ $? -eq "$wanted" ]
+}
+ok 'without a prefix it installs nothing' expect_status 2 sh "$top/bindings/install.sh"
+ok 'a relative prefix is refused' expect_status 2 sh "$top/bindings/install.sh" prefix
+
+cat >"$work/files" <<'FILES'
+bin/blobcrash
+include/blobcrash/blobcrash.h
+include/blobcrash/explore.h
+lib/libblobcrash.a
+lib/libblobcrash.so
+lib/libblobcrash.so.0.2
+lib/libblobcrash.so.0.2.0
+lib/pkgconfig/blobcrash.pc
+libexec/blobcrash/blobcrash
+libexec/blobcrash/blobcrash_explain
+libexec/blobcrash/blobcrash_explore
+share/man/man1/blobcrash.1
+FILES
+list() { (cd "$1" && find . ! -type d | sed 's|^\./||' | LC_ALL=C sort); }
+list "$prefix" >"$work/found"
+ok 'its files' diff "$work/files" "$work/found"
+DESTDIR=$work/package sh "$top/bindings/install.sh" /usr >"$work/shown" 2>&1
+list "$work/package/usr" >"$work/found"
+ok 'its files below DESTDIR' diff "$work/files" "$work/found"
+ok 'DESTDIR is not in blobcrash.pc' grep -qx 'prefix=/usr' "$work/package/usr/lib/pkgconfig/blobcrash.pc"
+
+mkdir "$work/far"
+cd "$work/far" || exit 1
+unset BLOBCRASH BLOBCRASH_LIBRARY BLOBCRASH_LIB_DIR
+"$prefix/bin/blobcrash" <"$top/examples/FIRST.script" >"$work/out"
+ok 'the program' cmp "$work/out" "$top/examples/FIRST.out"
+"$prefix/bin/blobcrash" explain <"$top/examples/torn_write_subset.script" >"$work/out"
+ok 'explain' grep -q '^# ' "$work/out"
+printf 'config write 0 1 1 2 prefix\nopen p 62\nwrite 0 0 61\ncrash\n' | "$prefix/bin/blobcrash" explore --limit 9 >"$work/out"
+ok 'explore, with its arguments' grep -qx '# 2 leaves, all of them; 2 outcomes' "$work/out"
+if has man; then
+    ok 'the manual page' sh -c 'MANROFFSEQ="" man --warnings -l "$1" 2>"$2" >/dev/null && [ ! -s "$2" ]' sh \
+        "$prefix/share/man/man1/blobcrash.1" "$work/err"
+else
+    leave_out 'the manual page: there is no man'
+fi
+if has readelf; then
+    readelf -d "$prefix/lib/libblobcrash.so" >"$work/dynamic"
+    ok 'its SONAME' grep -q 'SONAME.*\[libblobcrash.so.0.2\]' "$work/dynamic"
+else
+    skip 'its SONAME: there is no readelf'
+fi
+
+# A program in C, with the flags of pkg-config. The loader finds the shared library in LD_LIBRARY_PATH alone.
+expected='crashed 0:111111'
+if has pkg-config; then
+    cp "$top/bindings/c/first.c" .
+    export PKG_CONFIG_PATH="$prefix/lib/pkgconfig"
+    # shellcheck disable=SC2046
+    ok 'cc with pkg-config' "${CC:-cc}" -o first first.c $(pkg-config --cflags --libs blobcrash)
+    LD_LIBRARY_PATH=$prefix/lib ./first >"$work/out"
+    ok 'what it prints' grep -qx "$expected" "$work/out"
+    ok 'the version of pkg-config' [ "$(pkg-config --modversion blobcrash)" = 0.2.0 ]
+else
+    skip 'pkg-config: it is missing'
+fi
+ok 'cc with the static library' "${CC:-cc}" -I"$prefix/include/blobcrash" -o static "$top/bindings/c/first.c" "$prefix/lib/libblobcrash.a"
+./static >"$work/out"
+ok 'what that prints' grep -qx "$expected" "$work/out"
+
+if has_python; then
+    cp -R "$top/bindings/python/blobcrash" .
+    BLOBCRASH_LIBRARY=$prefix/lib/libblobcrash.so BLOBCRASH=$prefix/bin/blobcrash python3 -c '
+from blobcrash import Library, Program, Store
+for way in (Library, Program):
+    with Store(seed=7, by=way) as store:
+        store.open("p", b"b")[0].write(0, b"record", sync=True)
+        store.restart()
+        assert store.open("p", b"b")[1] == 6' >"$work/out" 2>&1
+    ok 'the Python package over it' [ $? -eq 0 ]
+else
+    skip 'the Python package: there is no Python 3.8 or later'
+fi
+
+if has cargo; then
+    mkdir -p rust/src
+    cat >rust/Cargo.toml <<TOML
+[package]
+name = "far"
+version = "0.1.0"
+edition = "2024"
+
+[dependencies]
+blobcrash = { path = "$top/bindings/rust" }
+TOML
+    cat >rust/src/main.rs <<'RUST'
+use blobcrash::{Store, WriteOptions};
+
+fn main() -> Result<(), blobcrash::Error> {
+    let store = Store::builder().seed(7).open()?;
+    let (blob, _) = store.open("p", b"b")?;
+    blob.write_at(0, b"record", WriteOptions::SYNC)?;
+    store.restart()?;
+    println!("{}", store.open("p", b"b")?.1);
+    Ok(())
+}
+RUST
+    (cd rust && BLOBCRASH_LIB_DIR=$prefix/lib CARGO_TARGET_DIR=$work/target cargo run --quiet --offline) >"$work/out" 2>"$work/err"
+    ok 'a path dependency of cargo' [ "$(cat "$work/out")" = 6 ]
+    [ "$(cat "$work/out")" = 6 ] || tail -n 20 "$work/err"
+else
+    skip 'a path dependency of cargo: cargo is missing'
+fi
+finish
