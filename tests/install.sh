@@ -27,7 +27,10 @@ ok 'a relative prefix is refused' expect_status 2 sh "$top/bindings/install.sh" 
 cat >"$work/files" <<'FILES'
 bin/blobcrash
 include/blobcrash/blobcrash.h
+include/blobcrash/blobcrash_calls.h
+include/blobcrash/blobcrash_lines.h
 include/blobcrash/explore.h
+include/blobcrash/power.h
 lib/libblobcrash.a
 lib/libblobcrash.so
 lib/libblobcrash.so.0.2
