@@ -1,13 +1,13 @@
 -- The leaves that were visited, and their outcomes.
-use Rattle.std.proofs.Common.{◌≡◌, ◌<◌, ◌≤◌, ℕ, zero, suc, ◌+◌, ◌-◌, ◌^◌, Bool, true, List, [], ◌∷◌, ◌++◌, length, map, take, refl, sym, ap, ◌∙◌, subst, arith, append_assoc, append-nil}
+use Rattle.std.proofs.Common.{◌≡◌, ◌<◌, ℕ, ◌+◌, ◌-◌, ◌^◌, Bool, true, List, [], ◌∷◌, ◌++◌, length, map, take, refl, sym, ap, ◌∙◌, subst, arith, append_assoc}
 use Rattle.std.specs.List.{AllByRecursion}
 use Rattle.std.proofs.lemmas.List.{length-append, length-map, map-append}
-use Rattle.blob_tree.specs.Trees.{DecisionTree, leaves, words_of}
+use Rattle.blob_tree.specs.Trees.{DecisionTree, leaves}
 use Rattle.blob_choices.specs.Decided.{Decides}
 use Rattle.blob_choices.specs.Explored.{LeavesHoldEveryRun, RunsAlong}
 use Rattle.blob_choices.specs.Outcomes.{SetNoPartialResize, acts_of, run_outcome}
 use Rattle.blob_choices.specs.TwoWords.{RunsAreDecided}
-use Rattle.blob_explore.specs.Distinct.{CountsFit, Distinct, LeafText, leaf_text, outcomes_of, with_leaf}
+use Rattle.blob_explore.specs.Distinct.{CountsFit, Distinct, leaf_text, outcomes_of, with_leaf}
 use Rattle.blob_explore.specs.Explorations.{DecidesRun, Visits, VisitsNext, left, explored_script, start_of}
 use Rattle.blob_explore.specs.Outcomes.{Explores, Exploring, RunsAlongPath, Visited, path_to, shown, shown_leaf}
 use Rattle.blob_explore.specs.declared.exploration.Exploration.{Exploration}

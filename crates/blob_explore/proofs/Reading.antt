@@ -1,9 +1,7 @@
 -- The lines of a script, one after another.
-use Rattle.std.proofs.Common.{◌≡◌, ℕ, Bool, true, false, cond, List, [], ◌∷◌, ◌++◌, map, Option, Some, None, refl, sym, ap, ◌∙◌, rules, if◌then◌else◌, subst, inl, inr, arith, ⊎_elim}
-use Rattle.std.specs.Prelude.{Vec, String, ◌==◌, ◌⊎◌, option_and_then, string_bytes}
-use Rattle.std.specs.Global.{Global}
+use Rattle.std.proofs.Common.{◌≡◌, ℕ, Bool, true, false, cond, List, [], ◌∷◌, ◌++◌, Option, Some, None, refl, sym, ap, ◌∙◌, rules, if◌then◌else◌, inl, inr, ⊎_elim}
+use Rattle.std.specs.Prelude.{◌==◌, ◌⊎◌, option_and_then}
 use Rattle.std.specs.List.{onto_first, slice_split}
-use Rattle.std.proofs.lemmas.List.{map-append}
 use Rattle.blob_calls.specs.declared.call.Call.{Call}
 use Rattle.blob_calls.specs.Acts.{Act, act_of}
 use Rattle.std.proofs.lemmas.Str.{is_utf8-from_IsUtf8}

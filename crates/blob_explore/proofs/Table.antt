@@ -1,12 +1,12 @@
 -- One more leaf in a table of outcomes.
-use Rattle.std.proofs.Common.{◌≡◌, ◌<◌, ◌≤◌, ℕ, suc, ◌+◌, Bool, true, false, not, cond, List, [], ◌∷◌, ◌++◌, map, Option, Some, None, refl, sym, ap, ◌∙◌, subst, arith, if◌then◌else◌}
+use Rattle.std.proofs.Common.{◌≡◌, ◌<◌, ℕ, ◌+◌, Bool, true, false, List, [], ◌∷◌, map, Some, None, refl, arith}
 use Rattle.std.specs.Prelude.{String, string_bytes}
 use Rattle.std.specs.Global.{Global}
 use Rattle.std.specs.Str.{bytes_eq}
 use Rattle.std.specs.List.{AllByRecursion}
 use Rattle.std.specs.Map.{lookup, set_value}
 use Rattle.indexmap.specs.IndexMap.{insert_entry}
-use Rattle.blob_explore.specs.Distinct.{Distinct, LeafText, leaf_text, outcome_at, with_leaf}
+use Rattle.blob_explore.specs.Distinct.{leaf_text, outcome_at, with_leaf}
 use Rattle.blob_explore.specs.declared.tally.Outcome.{Outcome}
 
 abbrev pub Entries : Type 0

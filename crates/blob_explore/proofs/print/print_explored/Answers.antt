@@ -1,4 +1,4 @@
-use Rattle.std.proofs.Common.{rules, ◌≡◌, ◌++◌, map, string_bytes, ap, ◌∙◌, sym}
+use Rattle.std.proofs.Common.{rules, ◌≡◌, ◌++◌, map, string_bytes, ap, ◌∙◌}
 use Rattle.std.specs.List.{flat_map}
 use Rattle.std.specs.Map.Iter.{deref_pair}
 use Rattle.std.proofs.lemmas.Map.Iter.{iter_end}

@@ -1,5 +1,4 @@
-use Rattle.std.proofs.Common.{rules, tests, refl, false, ◌≡◌, ◌∷◌, [], List, ℕ, Some, map, ap, sym, ◌∙◌}
-use Rattle.std.specs.List.{slice_split}
+use Rattle.std.proofs.Common.{rules, tests, refl, false, ◌≡◌, ◌∷◌, [], map, ap, sym, ◌∙◌}
 use Rattle.std.specs.Slice.Iter as slice
 use Rattle.std.proofs.lemmas.List.{map-append}
 use Rattle.std.proofs.lemmas.Iterator.Consumers.{YieldsList-end}

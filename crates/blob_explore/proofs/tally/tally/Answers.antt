@@ -1,6 +1,6 @@
-use Rattle.std.proofs.Common.{rules, ◌≡◌, ◌<◌, ◌^◌, ◌-◌, ◌+◌, ℕ, List, Some, None, map, string_bytes, ap, ◌∙◌, sym, arith, refl}
-use Rattle.std.specs.Map.{lookup, set_value}
-use Rattle.blob_explore.specs.Distinct.{CountsFit, leaf_text, outcome_at, outcomes_in, with_leaf}
+use Rattle.std.proofs.Common.{rules, ◌≡◌, ◌<◌, ◌^◌, ◌-◌, ◌+◌, ℕ, List, Some, None, map, string_bytes, ap, ◌∙◌, arith, refl}
+use Rattle.std.specs.Map.{lookup}
+use Rattle.blob_explore.specs.Distinct.{leaf_text, outcome_at, with_leaf}
 use Rattle.std.specs.String.{string_eq}
 use Rattle.indexmap.specs.IndexMap.{insert_entry}
 use Rattle.blob_explore.specs.declared.tally.Outcome.{Outcome}
