@@ -1,4 +1,4 @@
--- What a call is told and leaves is decided by the least and the greatest word.
+-- The reply to a call and the state after it are decided by the least and the greatest word.
 use Rattle.std.proofs.Common.{◌≡◌, ℕ, ◌-◌, ◌^◌, ◌++◌, Bool, List, [], ◌∷◌, length, take, drop, set, Option, Some, None, is_some, is_none, refl, ap}
 use Rattle.std.specs.Prelude.{◌&&◌, ◌==◌}
 use Rattle.std.specs.Option.{option_or}
@@ -34,9 +34,9 @@ asked_outcome v number slot ask s =
     let a = through (with_stream v s) slot ask in
     ((a.0, λ refusal left. record (asked (with_stream v s) number slot ask refusal) { stream = left }), a.1)
 
--- what these changes make of a handle and its incarnation
-abbrev laid : State → ℕ → Held → Changes → Stream → State
-laid v number h changes left =
+-- the state after these changes of a handle and its blob
+abbrev after_changes : State → ℕ → Held → Changes → Stream → State
+after_changes v number h changes left =
     record v {
       files = all_logged v.files h.place (changes.entries v.files.next_write);
       handles = set v.handles number (Some (record h { live = changes.live h.live; size = changes.size h.size }));
@@ -47,11 +47,11 @@ abbrev written : State → ℕ → Held → ℕ → List ℕ → Bool → WriteF
 written v number h offset bytes sync fate =
     let unnumbered = refused_if GenerationsExhausted (lacks_number (is_some (retention v.config.write_rate)) v.files.next_write bytes) in (
       unless_denied (fate_denial fate v.files.directory h.place unnumbered sync offset bytes) told.Done,
-      λ refusal left. laid v number h (write_changes fate (retention v.config.write_rate) sync offset bytes refusal) left,
+      λ refusal left. after_changes v number h (write_changes fate (retention v.config.write_rate) sync offset bytes refusal) left,
     )
 
 abbrev resized : State → ℕ → Held → ℕ → ResizeFate → Outcome
-resized v number h len fate = (unless_denied (reaching_denial fate h.place len) told.Done, λ refusal left. laid v number h (resize_changes fate len refusal) left)
+resized v number h len fate = (unless_denied (reaching_denial fate h.place len) told.Done, λ refusal left. after_changes v number h (resize_changes fate len refusal) left)
 
 abbrev denied_by : State → Held → Bool → Option Refusal
 denied_by v h fails =
@@ -115,7 +115,7 @@ decided_crash v =
 
 -- The other calls.
 
--- what they leave is drawn by nothing
+-- the state after them needs no draw
 decided_still : (v : State) (act : Act) → IsDecided (λ s. answer (with_stream v s) act)
     → ((s : Stream) (refusal : Option Refusal) (left : Stream) → after v act refusal left ≡ after (with_stream v s) act refusal left) → IsDecided (outcome v act)
 decided_still v act answers same =

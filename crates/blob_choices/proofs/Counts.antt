@@ -1,4 +1,4 @@
--- How many words are left tells how many were taken.
+-- The number of words that are left gives the number that were taken.
 use Rattle.std.proofs.Common.{◌≡◌, ◌≢◌, ◌<◌, ◌≤◌, ℕ, zero, suc, ◌+◌, ◌-◌, ◌^◌, Bool, true, false, List, [], ◌∷◌, ◌++◌, length, get_or, take, drop, replicate, None, refl, sym, ap, ◌∙◌, subst, arith, ⊎_elim, append_assoc, append-nil}
 use Rattle.std.proofs.lemmas.Bool.{cases_lt}
 use Rattle.std.proofs.lemmas.List.{map-append, length-map, length-append, length-drop, length-replicate, drop-append-le, drop_all, take_all, take-append-drop}
@@ -16,9 +16,9 @@ use Rattle.blob_states.specs.States.{State}
 use Rattle.blob_tree.specs.Trees.{DecisionTree, Leaf, Choice, IsLeaf, depth, extended, outcome_word, words_of}
 use Rattle.blob_tree.proofs.Visits.{extended-resized}
 use Rattle.blob_choices.specs.Decided.{Decides, path_stream, zeros}
-use Rattle.blob_choices.specs.Explored.{RunsAlong, TellAll, sentinel_words}
+use Rattle.blob_choices.specs.Explored.{RunsAlong, RepliesAre, sentinel_words}
 use Rattle.blob_choices.specs.Outcomes.{NoneOutOfMemory, acts_of, run_outcome, with_stream}
-use Rattle.blob_choices.proofs.Told.{any_stream, complete, next_stream, sound}
+use Rattle.blob_choices.proofs.Runs.{any_stream, complete, next_stream, sound}
 use Rattle.blob_choices.proofs.ZeroTails.{zero_tails}
 
 -- Words.
@@ -64,36 +64,36 @@ words_true : (n : ℕ) → words_of (replicate n true) ≡ replicate n 0
 words_true zero = refl
 words_true (suc n) = ap (λ (ws : List ℕ). 0 ∷ ws) (words_true n)
 
--- the path that such given words are of
-abbrev roomy : List Bool → ℕ → List Bool
-roomy path room = path ++ replicate room true
+-- the path of such given words
+abbrev padded : List Bool → ℕ → List Bool
+padded path spare = path ++ replicate spare true
 
-given_words : (path : List Bool) (room : ℕ) → words_of (roomy path room ++ false ∷ []) ≡ sentinel_words path room
-given_words path room =
-    ap words_of (append_assoc path (replicate room true) (false ∷ []))
-    ∙ map-append outcome_word path (replicate room true ++ false ∷ [])
-    ∙ ap (λ (ws : List ℕ). words_of path ++ ws) (map-append outcome_word (replicate room true) (false ∷ []) ∙ ap (λ (ws : List ℕ). ws ++ (2 ^ 64 - 1) ∷ []) (words_true room))
+given_words : (path : List Bool) (spare : ℕ) → words_of (padded path spare ++ false ∷ []) ≡ sentinel_words path spare
+given_words path spare =
+    ap words_of (append_assoc path (replicate spare true) (false ∷ []))
+    ∙ map-append outcome_word path (replicate spare true ++ false ∷ [])
+    ∙ ap (λ (ws : List ℕ). words_of path ++ ws) (map-append outcome_word (replicate spare true) (false ∷ []) ∙ ap (λ (ws : List ℕ). ws ++ (2 ^ 64 - 1) ∷ []) (words_true spare))
 
-length-roomy : (path : List Bool) (room : ℕ) → length (roomy path room) ≡ length path + room
-length-roomy path room = length-append path (replicate room true) ∙ ap (λ (n : ℕ). length path + n) (length-replicate {A = Bool} room true)
+length-padded : (path : List Bool) (spare : ℕ) → length (padded path spare) ≡ length path + spare
+length-padded path spare = length-append path (replicate spare true) ∙ ap (λ (n : ℕ). length path + n) (length-replicate {A = Bool} spare true)
 
--- true outcomes behind a path change nothing
-depth_roomy : (t : DecisionTree) (path : List Bool) (room : ℕ) → depth t (path ++ (replicate room true ++ false ∷ [])) ≤ length path + room → depth t path ≡ depth t (path ++ (replicate room true ++ false ∷ []))
-depth_roomy Leaf path room h = refl
-depth_roomy (Choice if_true if_false) [] zero h = absurd (omega arith)
-depth_roomy (Choice if_true if_false) [] (suc room) h = ap suc (depth_roomy if_true [] room (omega arith))
-depth_roomy (Choice if_true if_false) (true ∷ path) room h = ap suc (depth_roomy if_true path room (omega arith))
-depth_roomy (Choice if_true if_false) (false ∷ path) room h = ap suc (depth_roomy if_false path room (omega arith))
+-- true outcomes after a path change nothing
+depth_padded : (t : DecisionTree) (path : List Bool) (spare : ℕ) → depth t (path ++ (replicate spare true ++ false ∷ [])) ≤ length path + spare → depth t path ≡ depth t (path ++ (replicate spare true ++ false ∷ []))
+depth_padded Leaf path spare h = refl
+depth_padded (Choice if_true if_false) [] zero h = absurd (omega arith)
+depth_padded (Choice if_true if_false) [] (suc spare) h = ap suc (depth_padded if_true [] spare (omega arith))
+depth_padded (Choice if_true if_false) (true ∷ path) spare h = ap suc (depth_padded if_true path spare (omega arith))
+depth_padded (Choice if_true if_false) (false ∷ path) spare h = ap suc (depth_padded if_false path spare (omega arith))
 
--- and they are none of the first outcomes
-extended_roomy : (d : ℕ) (path : List Bool) (room : ℕ) → d ≤ length path + room → extended d (path ++ (replicate room true ++ false ∷ [])) ≡ extended d path
-extended_roomy zero [] room h = refl
-extended_roomy zero (o ∷ path) room h = refl
-extended_roomy (suc d) [] zero h = absurd (omega arith)
-extended_roomy (suc d) [] (suc room) h = ap (λ (p : List Bool). true ∷ p) (extended_roomy d [] room (omega arith))
-extended_roomy (suc d) (o ∷ path) room h = ap (λ (p : List Bool). o ∷ p) (extended_roomy d path room (omega arith))
+-- nor do they change its first outcomes
+extended_padded : (d : ℕ) (path : List Bool) (spare : ℕ) → d ≤ length path + spare → extended d (path ++ (replicate spare true ++ false ∷ [])) ≡ extended d path
+extended_padded zero [] spare h = refl
+extended_padded zero (o ∷ path) spare h = refl
+extended_padded (suc d) [] zero h = absurd (omega arith)
+extended_padded (suc d) [] (suc spare) h = ap (λ (p : List Bool). true ∷ p) (extended_padded d [] spare (omega arith))
+extended_padded (suc d) (o ∷ path) spare h = ap (λ (p : List Bool). o ∷ p) (extended_padded d path spare (omega arith))
 
--- the words of a path in two parts, with zeros between them where the second has none
+-- the words of a path in two parts, with zeros between them if the second is empty
 joined : (d : ℕ) (p : List Bool) → scripted ((words_of (take d p) ++ replicate (d - length p) 0) ++ words_of (drop d p), None) ≡ scripted (words_of p, None)
 joined d p = ⊎_elim
     (λ (past : length p < d).
@@ -117,7 +117,7 @@ module _ (v w : State) (calls : List Call) (replies : List Reply) (t : DecisionT
   abbrev f : Stream → (List Told × (Stream → State)) × Stream
   f = run_outcome v (acts_of calls)
 
-  -- what is left of the stream
+  -- the rest of the stream
   rest_is : (s : Stream) → LeadsTo (with_stream v s) calls replies w → w.stream ≡ (f s).1
   rest_is s run =
       let ends = sound calls replies (with_stream v s) w there run in
@@ -125,16 +125,16 @@ module _ (v w : State) (calls : List Call) (replies : List Reply) (t : DecisionT
       ∙ ap (λ (o : (List Told × (Stream → State)) × Stream). (o.0.1 o.1).stream) (any_stream (acts_of calls) v s s)
       ∙ ap (λ (u : State). u.stream) (next_stream (acts_of calls) v s (f s).1 (f s).1)
 
-  -- of the words of these outcomes
+  -- the run of a path's words: its result and the rest of the words
   whole_of : (p : List Bool) → f (scripted (words_of p, None)) ≡ ((f (path_stream (extended (depth t p) p) zeros)).0, scripted (words_of (drop (depth t p) p), None))
   whole_of p =
       let d : ℕ = depth t p in
-      let behind : Left = (words_of (drop d p), None) in
+      let tail : Left = (words_of (drop d p), None) in
       let whole : extended d p ≡ take d p ++ replicate (d - length p) true = sym (extended-resized d p) in
       let ws : words_of (extended d p) ≡ words_of (take d p) ++ replicate (d - length p) 0 =
       ap words_of whole ∙ map-append outcome_word (take d p) (replicate (d - length p) true) ∙ ap (λ (xs : List ℕ). words_of (take d p) ++ xs) (words_true (d - length p)) in
-      let same : path_stream (extended d p) behind ≡ scripted (words_of p, None) = ap (λ (xs : List ℕ). scripted (xs ++ words_of (drop d p), None)) ws ∙ joined d p in
-      ap f (sym same) ∙ D.takes (extended d p) behind (leaf_extended t p)
+      let same : path_stream (extended d p) tail ≡ scripted (words_of p, None) = ap (λ (xs : List ℕ). scripted (xs ++ words_of (drop d p), None)) ws ∙ joined d p in
+      ap f (sym same) ∙ D.takes (extended d p) tail (leaf_extended t p)
 
   rest_of : (p : List Bool) → (f (scripted (words_of p, None))).1 ≡ scripted (words_of (drop (depth t p) p), None)
   rest_of p = ap (λ (o : (List Told × (Stream → State)) × Stream). o.1) (whole_of p)
@@ -146,27 +146,27 @@ module _ (v w : State) (calls : List Call) (replies : List Reply) (t : DecisionT
       let x : List Told × (Stream → State) = (f (path_stream q zeros)).0 in
       let s : Stream = scripted (words_of p, None) in
       let ends = sound calls replies (with_stream v s) w there run in
-      let T : (List Told × (Stream → State)) × Stream → Type 0 = λ o. TellAll replies o.0.0 in
-      let told : TellAll replies x.0 = subst T (any_stream (acts_of calls) v s s ∙ whole_of p) ends.tells in (
+      let T : (List Told × (Stream → State)) × Stream → Type 0 = λ o. RepliesAre replies o.0.0 in
+      let replied : RepliesAre replies x.0 = subst T (any_stream (acts_of calls) v s s ∙ whole_of p) ends.replied in (
         x.1 v.stream,
-        λ behind.
-            let u : State = with_stream v (path_stream q behind) in
-            let same : run_outcome u (acts_of calls) u.stream ≡ (x, scripted behind) = any_stream (acts_of calls) v (path_stream q behind) (path_stream q behind) ∙ D.takes q behind (leaf_extended t p) in
+        λ tail.
+            let u : State = with_stream v (path_stream q tail) in
+            let same : run_outcome u (acts_of calls) u.stream ≡ (x, scripted tail) = any_stream (acts_of calls) v (path_stream q tail) (path_stream q tail) ∙ D.takes q tail (leaf_extended t p) in
             let L : State → Type 0 = λ b. LeadsTo u calls replies b in
-            let to : (run_outcome u (acts_of calls) u.stream).0.1 (run_outcome u (acts_of calls) u.stream).1 ≡ with_stream (x.1 v.stream) (scripted behind) =
-            ap (λ (o : (List Told × (Stream → State)) × Stream). o.0.1 o.1) same ∙ next_stream (acts_of calls) v (path_stream q zeros) (scripted behind) v.stream in
-            subst L to (complete calls replies u (subst T (sym same) told)),
+            let to : (run_outcome u (acts_of calls) u.stream).0.1 (run_outcome u (acts_of calls) u.stream).1 ≡ with_stream (x.1 v.stream) (scripted tail) =
+            ap (λ (o : (List Told × (Stream → State)) × Stream). o.0.1 o.1) same ∙ next_stream (acts_of calls) v (path_stream q zeros) (scripted tail) v.stream in
+            subst L to (complete calls replies u (subst T (sym same) replied)),
       )
 
-  pub left_tells : (path : List Bool) (room left : ℕ) → LeadsTo (with_stream v (scripted (sentinel_words path room, None))) calls replies w → EndsAfter w.stream left → 0 < left
-      → (depth t path + left ≡ length path + room + 1) × (depth t path ≤ length path + room) × RunsAlong v calls (extended (depth t path) path) replies
-  left_tells path room left run e some =
-      let q : List Bool = roomy path room in
+  pub left_counts : (path : List Bool) (spare left : ℕ) → LeadsTo (with_stream v (scripted (sentinel_words path spare, None))) calls replies w → EndsAfter w.stream left → 0 < left
+      → (depth t path + left ≡ length path + spare + 1) × (depth t path ≤ length path + spare) × RunsAlong v calls (extended (depth t path) path) replies
+  left_counts path spare left run e some =
+      let q : List Bool = padded path spare in
       let p : List Bool = q ++ false ∷ [] in
       let d : ℕ = depth t p in
-      let len : length q ≡ length path + room = length-roomy path room in
+      let len : length q ≡ length path + spare = length-padded path spare in
       let rest : w.stream ≡ scripted (words_of (drop d p), None) =
-      rest_is (scripted (sentinel_words path room, None)) run ∙ ap (λ (ws : List ℕ). (f (scripted (ws, None))).1) (sym (given_words path room)) ∙ rest_of p in
+      rest_is (scripted (sentinel_words path spare, None)) run ∙ ap (λ (ws : List ℕ). (f (scripted (ws, None))).1) (sym (given_words path spare)) ∙ rest_of p in
       let E : Stream → Type 0 = λ s. EndsAfter s left in
       let ends : EndsAfter (scripted (words_of (drop d p), None)) left = subst E rest e in
       let size : length p ≡ length q + 1 = length-append q (false ∷ []) in
@@ -181,13 +181,13 @@ module _ (v w : State) (calls : List Call) (replies : List Reply) (t : DecisionT
       let F : List ℕ → Type 0 = λ xs. EndsAfter (scripted (xs, None)) left in
       let count : left ≡ length (words_of (drop d q)) + 1 = ends_at (words_of (drop d q)) (2 ^ 64 - 1) left (λ z. omega arith) (subst F ws ends) in
       let fewer : length (words_of (drop d q)) ≡ length q - d = length-map (drop d q) outcome_word ∙ length-drop d q in
-      let parts : p ≡ path ++ (replicate room true ++ false ∷ []) = append_assoc path (replicate room true) (false ∷ []) in
-      let deep : depth t (path ++ (replicate room true ++ false ∷ [])) ≡ d = ap (depth t) (sym parts) in
-      let same : depth t path ≡ d = depth_roomy t path room (omega (arith, deep, within, len)) ∙ deep in
-      let most : depth t path ≤ length path + room = omega (arith, same, within, len) in
+      let parts : p ≡ path ++ (replicate spare true ++ false ∷ []) = append_assoc path (replicate spare true) (false ∷ []) in
+      let deep : depth t (path ++ (replicate spare true ++ false ∷ [])) ≡ d = ap (depth t) (sym parts) in
+      let same : depth t path ≡ d = depth_padded t path spare (omega (arith, deep, within, len)) ∙ deep in
+      let most : depth t path ≤ length path + spare = omega (arith, same, within, len) in
       let L : List ℕ → Type 0 = λ xs. LeadsTo (with_stream v (scripted (xs, None))) calls replies w in
       let R : List Bool → Type 0 = λ q. RunsAlong v calls q replies in
       let to : extended d p ≡ extended (depth t path) path =
-      ap (λ (n : ℕ). extended n p) (sym same) ∙ ap (extended (depth t path)) parts ∙ extended_roomy (depth t path) path room most in
-      (omega (arith, count, fewer, within, same, len), most, subst R to (runs_along p (subst L (sym (given_words path room)) run))))
+      ap (λ (n : ℕ). extended n p) (sym same) ∙ ap (extended (depth t path)) parts ∙ extended_padded (depth t path) path spare most in
+      (omega (arith, count, fewer, within, same, len), most, subst R to (runs_along p (subst L (sym (given_words path spare)) run))))
       (cases_lt (length q) d)

@@ -35,13 +35,13 @@ below_less rate a b le h =
     let more : a * rate.denominator ≤ b * rate.denominator = mul-le-mul_right rate.denominator le in
     le-ltb (b * rate.denominator) (rate.numerator * 2 ^ 64) (omega (arith, was, more))
 
-takes_word : (rate : Rate) (path : List Bool) (behind : Left) → IsLeaf (Choice Leaf Leaf) path → by_word rate (path_stream path behind) ≡ ((by_word rate (path_stream path zeros)).0, scripted behind)
+takes_word : (rate : Rate) (path : List Bool) (tail : Left) → IsLeaf (Choice Leaf Leaf) path → by_word rate (path_stream path tail) ≡ ((by_word rate (path_stream path zeros)).0, scripted tail)
 unfolding next_u64 stream_of
-takes_word rate [] behind a = absurd a
-takes_word rate (true ∷ []) behind a = refl
-takes_word rate (false ∷ []) behind a = refl
-takes_word rate (true ∷ o ∷ path) behind a = absurd a
-takes_word rate (false ∷ o ∷ path) behind a = absurd a
+takes_word rate [] tail a = absurd a
+takes_word rate (true ∷ []) tail a = refl
+takes_word rate (false ∷ []) tail a = refl
+takes_word rate (true ∷ o ∷ path) tail a = absurd a
+takes_word rate (false ∷ o ∷ path) tail a = absurd a
 
 next_words : (s : Stream) → HasU64Words s → HasU64Words (next_u64 s).1
 unfolding next_u64
@@ -51,13 +51,13 @@ next_fits : (s : Stream) → HasU64Words s → (next_u64 s).0 ≤ 2 ^ 64 - 1
 unfolding next_u64
 next_fits s h = h.fit []
 
-least_next : (behind : Left) → (next_u64 (path_stream (true ∷ []) behind)).0 ≡ 0
+least_next : (tail : Left) → (next_u64 (path_stream (true ∷ []) tail)).0 ≡ 0
 unfolding next_u64 stream_of
-least_next behind = refl
+least_next tail = refl
 
-greatest_next : (behind : Left) → (next_u64 (path_stream (false ∷ []) behind)).0 ≡ 2 ^ 64 - 1
+greatest_next : (tail : Left) → (next_u64 (path_stream (false ∷ []) tail)).0 ≡ 2 ^ 64 - 1
 unfolding next_u64 stream_of
-greatest_next behind = refl
+greatest_next tail = refl
 
 covers_word : (rate : Rate) → eqb rate.numerator 0 ≡ false → (s : Stream) → HasU64Words s → (path : List Bool) × IsLeaf (Choice Leaf Leaf) path × ((by_word rate (path_stream path zeros)).0 ≡ (by_word rate s).0)
 covers_word rate some s h = go (is_below rate (next_u64 s).0) refl where

@@ -11,7 +11,7 @@ use Rattle.blob_tree.specs.Trees.{DecisionTree, Leaf, Choice, IsLeaf, extended, 
 use Rattle.blob_choices.specs.Decided.{Decides, path_stream}
 use Rattle.blob_choices.specs.Explored.{HoldEveryRun}
 use Rattle.blob_choices.specs.Outcomes.{acts_of, run_outcome, with_stream}
-use Rattle.blob_choices.proofs.Told.{any_stream, leaf_of}
+use Rattle.blob_choices.proofs.Runs.{any_stream, leaf_of}
 
 -- a place in a list
 abbrev At : {X : Type 0} → X → List X → Type 0
@@ -51,14 +51,5 @@ hold_every_run v calls t D s w replies words there run =
     let P : (Stream → (List Told × (Stream → State)) × Stream) → Type 0 = λ f. Decides f t in
     let (p, leaf, go) = leaf_of u w calls replies t (subst P (sym same) D) words there run in
     let (i, lt, here) = listed t p leaf in
-    let Q : List Bool → Type 0 = λ q. (behind : Left) → LeadsTo (with_stream v (path_stream q behind)) calls replies (with_stream w (scripted behind)) in
+    let Q : List Bool → Type 0 = λ q. (tail : Left) → LeadsTo (with_stream v (path_stream q tail)) calls replies (with_stream w (scripted tail)) in
     (i, lt, subst Q (sym (here [])) go)
-
--- the words of a path and of true outcomes behind it
-pub taken_words : (d room : ℕ) (path : List Bool) → d ≤ length path + room → take d (words_of path ++ replicate room 0) ≡ words_of (extended d path)
-taken_words zero zero [] h = refl
-taken_words zero (suc room) [] h = refl
-taken_words zero room (o ∷ path) h = refl
-taken_words (suc d) zero [] h = absurd (omega arith)
-taken_words (suc d) (suc room) [] h = ap (λ (ws : List ℕ). 0 ∷ ws) (taken_words d room [] (omega arith))
-taken_words (suc d) room (o ∷ path) h = ap (λ (ws : List ℕ). outcome_word o ∷ ws) (taken_words d room path (omega arith))

@@ -1,4 +1,4 @@
--- The fates of writes and resizes are decided by the least and the greatest word, where no size is drawn.
+-- The outcomes of writes and resizes are decided by the least and the greatest word, if no size is drawn.
 use Rattle.std.proofs.Common.{◌≡◌, ℕ, ◌+◌, ◌-◌, ◌^◌, Bool, false, cond, nat_lt, eqb, List, [], length, Option, Some, None, IfSome, sym, ap}
 use Rattle.std.specs.Prelude.{option_map}
 use Rattle.std.proofs.lemmas.Bool.{cond-true, eq-eqb}

@@ -3,7 +3,7 @@ pub mod Draws
 pub mod Fates
 pub mod Calls
 pub mod TwoWords
-pub mod Told
+pub mod Runs
 pub mod ZeroTails
 pub mod Counts
 pub mod EveryRun

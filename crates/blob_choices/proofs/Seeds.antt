@@ -11,7 +11,7 @@ Fit left = All (λ word. word ≤ 2 ^ 64 - 1) left.0
 
 -- a step gives a word that fits, and leaves such words
 step_fits : (left : Left) → Fit left → ((next_of left).0 ≤ 2 ^ 64 - 1) × Fit (next_of left).1
-step_fits (w ∷ ws, behind) fit = (fit 0 0 (omega arith), λ k d lt. fit (suc k) d (omega (arith, lt)))
+step_fits (w ∷ ws, tail) fit = (fit 0 0 (omega arith), λ k d lt. fit (suc k) d (omega (arith, lt)))
 step_fits ([], None) fit = (omega arith, fit)
 step_fits ([], Some state) fit = (omega arith, fit)
 
@@ -29,6 +29,6 @@ calls_fit (u32_call ∷ before) left fit = calls_fit before (next_of left).1 (st
 calls_fit (u64_call ∷ before) left fit = calls_fit before (next_of left).1 (step_fits left fit).1
 calls_fit (bytes_call n ∷ before) left fit = calls_fit before (G.fill_bytes n left).1 (bytes_fit (to_le_bytes w64) ((n + 7) / 8) left fit)
 
-pub seeds_fit : (given : List ℕ) (behind : Option (List ℕ)) → All (λ word. word ≤ 2 ^ 64 - 1) given → HasU64Words (scripted (given, behind))
+pub seeds_fit : (given : List ℕ) (tail : Option (List ℕ)) → All (λ word. word ≤ 2 ^ 64 - 1) given → HasU64Words (scripted (given, tail))
 unfolding stream_of
-seeds_fit given behind fit = record { fit = λ before. (step_fits (state_after G before (given, behind)) (calls_fit before (given, behind) fit)).0 }
+seeds_fit given tail fit = record { fit = λ before. (step_fits (state_after G before (given, tail)) (calls_fit before (given, tail) fit)).0 }

@@ -13,7 +13,7 @@ use Rattle.blob_states.specs.Scripted.{Left, scripted}
 use Rattle.blob_states.specs.States.{State, Held}
 use Rattle.blob_tree.specs.Trees.{DecisionTree, IsLeaf, words_of}
 use Rattle.blob_choices.specs.Decided.{HasU64Words, Decides, IsDecided, path_stream, zeros}
-use Rattle.blob_choices.specs.Outcomes.{HasNoPartialResize, SetsNoPartialResize, SetNoPartialResize, NoneOutOfMemory, Outcome, acts_of, outcome, refused_told, run_outcome, with_stream}
+use Rattle.blob_choices.specs.Outcomes.{HasNoPartialResize, SetsNoPartialResize, SetNoPartialResize, NoneOutOfMemory, Outcome, acts_of, outcome, refusal_in, run_outcome, with_stream}
 use Rattle.blob_choices.proofs.Calls.{decided_call}
 use Rattle.blob_choices.proofs.Deciding.{decided_none, decided_then, decided_map, stream_parts}
 
@@ -44,45 +44,45 @@ still_none v Crash None left none set = none
 still_none v Crash (Some refusal) left none set = none
 still_none v Reopen refusal left none set = none
 
--- What runs are told and leave.
+-- The replies of runs and the states after them.
 
 pub decided_run : (acts : List Act) (v : State) → HasNoPartialResize v.config → SetNoPartialResize acts → IsDecided (run_outcome v acts)
 decided_run [] v none set = decided_none ([], with_stream v)
 decided_run (act ∷ acts) v none set =
     decided_then (outcome v act)
-    (λ x r. let rest = run_outcome (x.1 (refused_told x.0) v.stream) acts r in ((x.0 ∷ rest.0.0, rest.0.1), rest.1))
+    (λ x r. let rest = run_outcome (x.1 (refusal_in x.0) v.stream) acts r in ((x.0 ∷ rest.0.0, rest.0.1), rest.1))
     (decided_call v act none)
     (λ s.
     let x : Outcome = (outcome v act s).0 in
-    let next : State = x.1 (refused_told x.0) v.stream in
-    decided_map (run_outcome next acts) (λ y. (x.0 ∷ y.0, y.1)) (decided_run acts next (still_none (with_stream v s) act (refused_told x.0) v.stream none set.0) set.1))
+    let next : State = x.1 (refusal_in x.0) v.stream in
+    decided_map (run_outcome next acts) (λ y. (x.0 ∷ y.0, y.1)) (decided_run acts next (still_none (with_stream v s) act (refusal_in x.0) v.stream none set.0) set.1))
 
 -- Two words suffice.
 
 -- this run of calls, along some path
 abbrev Along : State → List Call → List Reply → State → Type 0
-Along v calls replies w = (path : List Bool) × ((behind : Left) → LeadsTo (with_stream v (path_stream path behind)) calls replies (with_stream w (scripted behind)))
+Along v calls replies w = (path : List Bool) × ((tail : Left) → LeadsTo (with_stream v (path_stream path tail)) calls replies (with_stream w (scripted tail)))
 
--- one more call in front
+-- one more call before the others
 module _ (v w : State) (call : Call) (reply : Reply) (calls : List Call) (replies : List Reply) (t : DecisionTree) (D : Decides (outcome v (act_of call)) t) (p q : List Bool) (leaf : IsLeaf t p) where
   abbrev act : Act
   act = act_of call
 
   module _ (e : (outcome v act (path_stream p zeros)).0 ≡ (outcome v act v.stream).0) (tells : Tells reply (answer v act).0) (left : Stream)
-      (rest : (behind : Left) → LeadsTo (with_stream (after v act (refused_by reply) left) (path_stream q behind)) calls replies (with_stream w (scripted behind))) where
-    along : (behind : Left) → LeadsTo (with_stream v (path_stream (p ++ q) behind)) (call ∷ calls) (reply ∷ replies) (with_stream w (scripted behind))
-    along behind =
-        let c : Left = (words_of q ++ behind.0, behind.1) in
+      (rest : (tail : Left) → LeadsTo (with_stream (after v act (refused_by reply) left) (path_stream q tail)) calls replies (with_stream w (scripted tail))) where
+    along : (tail : Left) → LeadsTo (with_stream v (path_stream (p ++ q) tail)) (call ∷ calls) (reply ∷ replies) (with_stream w (scripted tail))
+    along tail =
+        let c : Left = (words_of q ++ tail.0, tail.1) in
         let same : outcome v act (path_stream p c) ≡ ((outcome v act v.stream).0, scripted c) = D.takes p c leaf ∙ ap (λ (x : Outcome). (x, scripted c)) e in
         let T : Outcome × Stream → Type 0 = λ o. Tells reply o.0.0 in
-        let N : Outcome × Stream → Type 0 = λ o. LeadsTo (o.0.1 (refused_by reply) (scripted c)) calls replies (with_stream w (scripted behind)) in
-        let P : Stream → Type 0 = λ s. LeadsTo (with_stream v s) (call ∷ calls) (reply ∷ replies) (with_stream w (scripted behind)) in
-        subst P (sym (stream_parts p q behind))
-        (scripted c, inr (subst T (sym same) tells, sym (ap (λ (o : Outcome × Stream). o.1) same)), subst N (sym same) (rest behind))
+        let N : Outcome × Stream → Type 0 = λ o. LeadsTo (o.0.1 (refused_by reply) (scripted c)) calls replies (with_stream w (scripted tail)) in
+        let P : Stream → Type 0 = λ s. LeadsTo (with_stream v s) (call ∷ calls) (reply ∷ replies) (with_stream w (scripted tail)) in
+        subst P (sym (stream_parts p q tail))
+        (scripted c, inr (subst T (sym same) tells, sym (ap (λ (o : Outcome × Stream). o.1) same)), subst N (sym same) (rest tail))
 
 pub two_words : (calls : List Call) (replies : List Reply) (v w : State) → HasU64Words v.stream → HasNoPartialResize v.config → SetNoPartialResize (acts_of calls)
     → NoneOutOfMemory replies → LeadsTo v calls replies w → Along v calls replies w
-two_words [] [] v w words none set there same = ([], λ behind. ap (λ (u : State). with_stream u (scripted behind)) same)
+two_words [] [] v w words none set there same = ([], λ tail. ap (λ (u : State). with_stream u (scripted tail)) same)
 two_words [] (r ∷ replies) v w words none set there run = absurd run
 two_words (c ∷ calls) [] v w words none set there run = absurd run
 two_words (c ∷ calls) (r ∷ replies) v w words none set there (left, inl m, run) = absurd (there.0 m.1)

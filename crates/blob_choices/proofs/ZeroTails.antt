@@ -5,7 +5,7 @@ use Rattle.rand_core.specs.Stream.{Call, u32_call, u64_call, bytes_call}
 use Rattle.rand_core.specs.Steps.{Steps, stream_of, steps_u64_low, state_after, word_bytes}
 use Rattle.blob_states.specs.Scripted.{Left, scripted, next_of}
 
--- the same words, but for one zero at the end
+-- the same words, except one zero at the end
 abbrev Same : Left → Left → Type 0
 Same a b = (a ≡ b) ⊎ ((ws : List ℕ) × (a ≡ (ws ++ 0 ∷ [], None)) × (b ≡ (ws, None)))
 

@@ -10,7 +10,7 @@ pub record HasU64Words (s : Stream) : Type 0 where
 
 -- the words of a path, and then what a generator gives
 abbrev pub path_stream : List Bool → Left → Stream
-path_stream path behind = scripted (words_of path ++ behind.0, behind.1)
+path_stream path tail = scripted (words_of path ++ tail.0, tail.1)
 
 -- zeros without end
 abbrev pub zeros : Left
@@ -19,7 +19,7 @@ zeros = ([], None)
 -- A tree decides the draws of f: a path to a leaf has one result, whatever words follow, and takes exactly its own words. Each stream of 64-bit
 -- words has the result of some path.
 pub record Decides {X : Type 0} (f : Stream → X × Stream) (t : DecisionTree) : Type 0 where
-  pub takes : (path : List Bool) (behind : Left) → IsLeaf t path → f (path_stream path behind) ≡ ((f (path_stream path zeros)).0, scripted behind)
+  pub takes : (path : List Bool) (tail : Left) → IsLeaf t path → f (path_stream path tail) ≡ ((f (path_stream path zeros)).0, scripted tail)
   pub covers : (s : Stream) → HasU64Words s → (path : List Bool) × IsLeaf t path × ((f (path_stream path zeros)).0 ≡ (f s).0)
   pub words : (s : Stream) → HasU64Words s → HasU64Words (f s).1
 

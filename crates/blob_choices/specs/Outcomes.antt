@@ -31,16 +31,16 @@ SetsNoPartialResize (Configure config) = HasNoPartialResize config
 SetsNoPartialResize act = Unit {0}
 
 -- the refusal of a reply
-abbrev pub refused_told : Told → Option Refusal
-refused_told (told.Failed refusal) = Some refusal
-refused_told t = None
+abbrev pub refusal_in : Told → Option Refusal
+refusal_in (told.Failed refusal) = Some refusal
+refusal_in t = None
 
 -- the replies to a list of calls, and the state after them, if no allocation fails
 abbrev pub run_outcome : State → List Act → Stream → (List Told × (Stream → State)) × Stream
 run_outcome v [] s = (([], with_stream v), s)
 run_outcome v (act ∷ acts) s =
     let a = outcome v act s in
-    let rest = run_outcome (a.0.1 (refused_told a.0.0) v.stream) acts a.1 in
+    let rest = run_outcome (a.0.1 (refusal_in a.0.0) v.stream) acts a.1 in
     ((a.0.0 ∷ rest.0.0, rest.0.1), rest.1)
 
 -- no call sets a rate of partial resizes other than zero

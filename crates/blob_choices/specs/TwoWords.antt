@@ -17,9 +17,9 @@ CallsAreDecided = (v : State) (act : Act) → HasNoPartialResize v.config → Is
 abbrev pub RunsAreDecided : Type 0
 RunsAreDecided = (v : State) (acts : List Act) → HasNoPartialResize v.config → SetNoPartialResize acts → IsDecided (run_outcome v acts)
 
--- For each run over 64-bit words there is a path whose words give the same replies and the same state but for the generator. The run takes
--- exactly these words, whatever words follow.
+-- For each run over 64-bit words there is a path, and the words of the path give the same replies and the same state except the generator. The
+-- run takes exactly these words, whatever words follow.
 abbrev pub TwoWordsSuffice : Type 0
 TwoWordsSuffice = (v w : State) (calls : List Call) (replies : List Reply) → HasU64Words v.stream → HasNoPartialResize v.config → SetNoPartialResize (acts_of calls)
     → NoneOutOfMemory replies → LeadsTo v calls replies w
-    → (path : List Bool) × ((behind : Left) → LeadsTo (with_stream v (path_stream path behind)) calls replies (with_stream w (scripted behind)))
+    → (path : List Bool) × ((tail : Left) → LeadsTo (with_stream v (path_stream path tail)) calls replies (with_stream w (scripted tail)))

@@ -6,7 +6,7 @@ ghost use Rattle.blob_model.specs.Log.{Need};
 ghost use Rattle.blob_model.specs.Rates.{Rate, sampled};
 ghost use Rattle.blob_model.specs.declared.mode.PartialWriteMode.{PartialWriteMode};
 ghost use Rattle.blob_choices.specs.Decided.{IsDecided};
-ghost use Rattle.blob_choices.specs.Explored.{LeavesAreAllRuns, LeavesHoldEveryRun, LeftTellsTaken, SeedsHaveU64Words};
+ghost use Rattle.blob_choices.specs.Explored.{LeavesAreAllRuns, LeavesHoldEveryRun, LeftCountsTaken, SeedsHaveU64Words};
 ghost use Rattle.blob_choices.specs.TwoWords.{CallsAreDecided, RunsAreDecided, TwoWordsSuffice};
 
 /// A decision tree describes one draw of a rate, the draws of one write, and those of a crash.
@@ -23,24 +23,23 @@ pub fn outcomes()
 {}
 
 /// Without partial resizes, each run over 64-bit words is one over 0 and the greatest word alone, with the same replies and the
-/// same state, unless a call is refused memory.
+/// same state, unless a call fails to allocate.
 pub fn two_words()
     ensures { TwoWordsSuffice }
 {}
 
-/// The number of words that are left after a run tells how many it took, if the last given word isn't zero and is still left.
+/// The number of words that are left after a run gives the number that it took, if the last given word isn't zero and is still left.
 /// The run is that of a leaf.
 pub fn taken_words()
-    ensures { LeftTellsTaken }
+    ensures { LeftCountsTaken }
 {}
 
-/// In a tree that decides a run, each run over 64-bit words is that of a leaf, unless a call is refused memory.
+/// In a tree that decides a run, each run over 64-bit words takes the words of a leaf, unless a call fails to allocate.
 pub fn leaves()
     ensures { LeavesAreAllRuns }
 {}
 
-/// The leaves of a decision tree miss no run: each run over 64-bit words is that of one of them, unless a call is refused
-/// memory.
+/// Each run over 64-bit words is that of a leaf of a decision tree, unless a call fails to allocate.
 pub fn every_run()
     ensures { LeavesHoldEveryRun }
 {}

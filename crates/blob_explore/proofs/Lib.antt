@@ -1,4 +1,7 @@
 pub mod Runs
 pub mod Visiting
-pub mod Tallying
+pub mod Distinct
+pub mod Table
+pub mod Exploring
 pub mod Adding
+pub mod Reading

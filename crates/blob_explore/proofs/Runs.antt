@@ -10,7 +10,7 @@ use Rattle.blob_laboratory.specs.Tables.{images_of}
 use Rattle.blob_states.specs.States.{Image}
 use Rattle.blob_tree.specs.Trees.{DecisionTree, depth, extended, outcome_word, words_of}
 use Rattle.blob_choices.specs.Decided.{Decides}
-use Rattle.blob_choices.specs.Explored.{LeftTellsTaken, RunsAlong, sentinel_words}
+use Rattle.blob_choices.specs.Explored.{LeftCountsTaken, RunsAlong, sentinel_words}
 use Rattle.blob_choices.specs.Outcomes.{NoneOutOfMemory, acts_of, run_outcome}
 use Rattle.blob_explore.specs.Explorations.{Images, Ran, image_of, start_of}
 use Rattle.blob_explore.specs.declared.script.Script.{Script}
@@ -25,14 +25,14 @@ images_more xs all new x y i before now same more =
     ap images_of now ∙ map-append image_of all (y ∷ []) ∙ ap (λ (is : List Image). is ++ image_of y ∷ []) before ∙ ap (λ (im : Image). images_of (take i xs) ++ im ∷ []) same
     ∙ sym (ap images_of more ∙ map-append image_of (take i xs) (x ∷ []))
 
--- the words of a path and of true outcomes behind it
-taken_words : (d room : ℕ) (path : List Bool) → d ≤ length path + room → take d (words_of path ++ replicate room 0) ≡ words_of (extended d path)
+-- the words of a path and of true outcomes after it
+taken_words : (d spare : ℕ) (path : List Bool) → d ≤ length path + spare → take d (words_of path ++ replicate spare 0) ≡ words_of (extended d path)
 taken_words zero zero [] h = refl
-taken_words zero (suc room) [] h = refl
-taken_words zero room (o ∷ path) h = refl
+taken_words zero (suc spare) [] h = refl
+taken_words zero spare (o ∷ path) h = refl
 taken_words (suc d) zero [] h = absurd (omega arith)
-taken_words (suc d) (suc room) [] h = ap (λ (ws : List ℕ). 0 ∷ ws) (taken_words d room [] (omega arith))
-taken_words (suc d) room (o ∷ path) h = ap (λ (ws : List ℕ). outcome_word o ∷ ws) (taken_words d room path (omega arith))
+taken_words (suc d) (suc spare) [] h = ap (λ (ws : List ℕ). 0 ∷ ws) (taken_words d spare [] (omega arith))
+taken_words (suc d) spare (o ∷ path) h = ap (λ (ws : List ℕ). outcome_word o ∷ ws) (taken_words d spare path (omega arith))
 
 -- the path and the replies of a run of these words
 abbrev pub Took : Script → List Bool → List ℕ → List Reply → Type 0
@@ -40,30 +40,30 @@ Took script path words replies = (t : DecisionTree) → Decides (run_outcome (st
     → (words ≡ words_of (extended (depth t path) path)) × RunsAlong (start_of script) script.calls.items (extended (depth t path) path) replies
 
 -- the words that a run took of those that were given
-takes_words : LeftTellsTaken → (script : Script) (path : List Bool) (room left : ℕ) (replies : List Reply) → NoneOutOfMemory replies
-    → Ran script.images.items script.calls.items (sentinel_words path room) replies (Some left) → 0 < left
-    → Took script path (take ((length path + room) - (left - 1)) (words_of path ++ replicate room 0)) replies
-takes_words law script path room left replies there (w, run, ends) some t D =
-    let (count, most, runs) = law (start_of script) w script.calls.items replies t path room left D there run ends some in
+takes_words : LeftCountsTaken → (script : Script) (path : List Bool) (spare left : ℕ) (replies : List Reply) → NoneOutOfMemory replies
+    → Ran script.images.items script.calls.items (sentinel_words path spare) replies (Some left) → 0 < left
+    → Took script path (take ((length path + spare) - (left - 1)) (words_of path ++ replicate spare 0)) replies
+takes_words law script path spare left replies there (w, run, ends) some t D =
+    let (count, most, runs) = law (start_of script) w script.calls.items replies t path spare left D there run ends some in
     let d : ℕ = depth t path in
-    let same : (length path + room) - (left - 1) ≡ d = omega (arith, count, some) in
-    (ap (λ (n : ℕ). take n (words_of path ++ replicate room 0)) same ∙ taken_words d room path most, runs)
+    let same : (length path + spare) - (left - 1) ≡ d = omega (arith, count, some) in
+    (ap (λ (n : ℕ). take n (words_of path ++ replicate spare 0)) same ∙ taken_words d spare path most, runs)
 
 -- the same as a visit has them: what was made of the explorer's words
-pub takes_given : LeftTellsTaken → (script : Script) (path : List Bool) (room left len cut : ℕ) (replies : List Reply) (words resized all taken : List ℕ) (found : Option ℕ)
-    → words ≡ words_of path → len ≡ length words + room → resized ≡ take len words ++ replicate (len - length words) 0 → all ≡ resized ++ (2 ^ 64 - 1) ∷ []
+pub takes_given : LeftCountsTaken → (script : Script) (path : List Bool) (spare left len cut : ℕ) (replies : List Reply) (words resized all taken : List ℕ) (found : Option ℕ)
+    → words ≡ words_of path → len ≡ length words + spare → resized ≡ take len words ++ replicate (len - length words) 0 → all ≡ resized ++ (2 ^ 64 - 1) ∷ []
     → Ran script.images.items script.calls.items all replies found → found ≡ Some left → NoneOutOfMemory replies → 0 < left → cut ≡ len - (left - 1) → taken ≡ take cut resized
     → Took script path taken replies
-takes_given law script path room left len cut replies words resized all taken found w l r g ran f there some c k =
+takes_given law script path spare left len cut replies words resized all taken found w l r g ran f there some c k =
     let count : length words ≡ length path = ap length w ∙ length-map path outcome_word in
     let whole : take len words ≡ words = take_all len words (omega (arith, l)) in
-    let rest : len - length words ≡ room = omega (arith, l) in
-    let same : resized ≡ words_of path ++ replicate room 0 =
+    let rest : len - length words ≡ spare = omega (arith, l) in
+    let same : resized ≡ words_of path ++ replicate spare 0 =
     r ∙ ap (λ (ws : List ℕ). ws ++ replicate (len - length words) 0) (whole ∙ w) ∙ ap (λ (n : ℕ). words_of path ++ replicate n 0) rest in
-    let same_all : all ≡ sentinel_words path room = g ∙ ap (λ (ws : List ℕ). ws ++ (2 ^ 64 - 1) ∷ []) same ∙ append_assoc (words_of path) (replicate room 0) ((2 ^ 64 - 1) ∷ []) in
+    let same_all : all ≡ sentinel_words path spare = g ∙ ap (λ (ws : List ℕ). ws ++ (2 ^ 64 - 1) ∷ []) same ∙ append_assoc (words_of path) (replicate spare 0) ((2 ^ 64 - 1) ∷ []) in
     let R : List ℕ → Type 0 = λ ws. Ran script.images.items script.calls.items ws replies found in
-    let O : Option ℕ → Type 0 = λ o. Ran script.images.items script.calls.items (sentinel_words path room) replies o in
+    let O : Option ℕ → Type 0 = λ o. Ran script.images.items script.calls.items (sentinel_words path spare) replies o in
     let T : List ℕ → Type 0 = λ ws. Took script path ws replies in
-    let cut_at : cut ≡ (length path + room) - (left - 1) = omega (arith, c, l, count) in
-    subst T (sym (k ∙ ap (λ (n : ℕ). take n resized) cut_at ∙ ap (λ (ws : List ℕ). take ((length path + room) - (left - 1)) ws) same))
-    (takes_words law script path room left replies there (subst O f (subst R same_all ran)) some)
+    let cut_at : cut ≡ (length path + spare) - (left - 1) = omega (arith, c, l, count) in
+    subst T (sym (k ∙ ap (λ (n : ℕ). take n resized) cut_at ∙ ap (λ (ws : List ℕ). take ((length path + spare) - (left - 1)) ws) same))
+    (takes_words law script path spare left replies there (subst O f (subst R same_all ran)) some)

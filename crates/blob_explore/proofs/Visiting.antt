@@ -15,14 +15,14 @@ length-extended zero path = refl
 length-extended (suc n) [] = ap suc (length-extended n [])
 length-extended (suc n) (o ∷ path) = ap suc (length-extended n path)
 
--- the leaf of a path, and the leaves behind it
+-- the leaf of a path, and the leaves after it
 pub record IsNext (script : Script) (path : List Bool) (leaf : Leaf) (next : Option (List Bool)) (t : DecisionTree) : Type 0 where
   pub here : List Bool
   pub first : left_from t path ≡ here ∷ left_after t next
   pub words : leaf.words.items ≡ words_of here
   pub replies : RunsAlong (start_of script) script.calls.items here leaf.replies.items
 
-pub is_next : (script : Script) (path : List Bool) (leaf : Leaf) (taken : ℕ) (next : Option (List Bool)) → TakesPath (start_of script) script.calls.items path leaf
+pub is_next : (script : Script) (path : List Bool) (leaf : Leaf) (taken : ℕ) (next : Option (List Bool)) → TakesPath script path leaf
     → taken ≡ length leaf.words.items → Advances path taken next → (t : DecisionTree) → Decides (run_outcome (start_of script) (acts_of script.calls.items)) t → IsNext script path leaf next t
 is_next script path leaf taken next takes count advances t D =
     let here : List Bool = extended (depth t path) path in
@@ -37,7 +37,7 @@ is_next script path leaf taken next takes count advances t D =
 
 -- The same between two states of an exploration.
 pub visits_next : (e e' : Exploration) (leaf : Leaf) (taken : ℕ) (next : Option (List Bool)) → path_of e ≡ Some e.explorer → path_of e' ≡ next
-    → TakesPath (start_of e.script) e.script.calls.items e.explorer leaf → taken ≡ length leaf.words.items → Advances e.explorer taken next → VisitsNext e leaf e'
+    → TakesPath e.script e.explorer leaf → taken ≡ length leaf.words.items → Advances e.explorer taken next → VisitsNext e leaf e'
 visits_next e e' leaf taken next at at' takes count advances t D =
     let n : IsNext e.script e.explorer leaf next t = is_next e.script e.explorer leaf taken next takes count advances t D in
     record {

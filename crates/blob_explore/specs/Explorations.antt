@@ -24,28 +24,28 @@ Images = List (String Global × Vec ℕ Global × Vec ℕ Global)
 abbrev pub image_of : String Global × Vec ℕ Global × Vec ℕ Global → Image
 image_of image = (string_bytes image.0, image.1.items, image.2.items)
 
--- the state in which each run of a script starts, but for the words
+-- the state in which each run of a script starts, except the words
 abbrev pub start_of : Script → State
 start_of script = start (images_of script.images.items) (only []) cleared
 
--- a run over these words gives these replies, and leaves so many words
+-- a run over these words gives these replies, and leaves this number of words
 abbrev pub Ran : Images → List Call → List ℕ → List Reply → Option ℕ → Type 0
 Ran images calls words replies left =
     (w : State) × LeadsTo (start (images_of images) (only words) cleared) calls replies w × IfSome left (λ n. EndsAfter w.stream n)
 
 -- the leaf is that of the path, continued by true outcomes, in each tree that decides the run
-abbrev pub TakesPath : State → List Call → List Bool → Leaf → Type 0
-TakesPath v calls path leaf = (t : DecisionTree) → Decides (run_outcome v (acts_of calls)) t
-    → (leaf.words.items ≡ words_of (extended (depth t path) path)) × RunsAlong v calls (extended (depth t path) path) leaf.replies.items
+abbrev pub TakesPath : Script → List Bool → Leaf → Type 0
+TakesPath script path leaf = (t : DecisionTree) → Decides (run_outcome (start_of script) (acts_of script.calls.items)) t
+    → (leaf.words.items ≡ words_of (extended (depth t path) path)) × RunsAlong (start_of script) script.calls.items (extended (depth t path) path) leaf.replies.items
 
 abbrev pub explored_script : Exploration → Script
 explored_script e = e.script
 
--- where an exploration stands; none at its end
+-- the path of the next leaf; none at the end
 abbrev pub path_of : Exploration → Option (List Bool)
 path_of e = if e.is_done then None else Some e.explorer
 
--- the leaves that it hasn't visited yet
+-- the leaves that are still to visit
 abbrev pub left : Exploration → DecisionTree → List (List Bool)
 left e t = left_after t (path_of e)
 

@@ -1,14 +1,18 @@
 -- What an exploration has found.
-use Rattle.std.specs.Prelude.{◌≡◌, ◌<◌, ◌≤◌, ◌-◌, ℕ, Bool, true, List, [], ◌∷◌, ◌++◌, length, drop, slice_index_or, if◌then◌else◌}
-use Rattle.std.specs.List.{flat_map}
+use Rattle.std.specs.Prelude.{◌≡◌, ◌≤◌, ◌-◌, ℕ, Bool, true, false, List, ◌∷◌, [], ◌++◌, length, map, take, drop, if◌then◌else◌}
+use Rattle.std.specs.List.{AllByRecursion, flat_map}
 use Rattle.blob_calls.specs.declared.reply.Reply.{Reply}
 use Rattle.blob_calls.specs.Replies.{reply_line}
-use Rattle.blob_tree.specs.Trees.{DecisionTree, leaves}
+use Rattle.blob_tree.specs.Trees.{DecisionTree, leaves, words_of}
 use Rattle.blob_choices.specs.Decided.{Decides}
 use Rattle.blob_choices.specs.Explored.{HoldEveryRun, RunsAlong}
-use Rattle.blob_choices.specs.Outcomes.{acts_of, run_outcome}
+use Rattle.blob_choices.specs.Outcomes.{SetNoPartialResize, acts_of, run_outcome}
+use Rattle.blob_explore.specs.Distinct.{Distinct, LeafText, outcomes_in, outcomes_of}
 use Rattle.blob_explore.specs.Explorations.{left, explored_script, start_of}
+use Rattle.blob_explore.specs.Printed.{exploration_text}
+use Rattle.blob_explore.specs.ScriptTexts.{IsScriptOf}
 use Rattle.blob_explore.specs.declared.exploration.Exploration.{Exploration}
+use Rattle.blob_explore.specs.declared.outcomes.Explored.{Explored}
 use Rattle.blob_explore.specs.declared.script.Script.{Script}
 
 -- the lines of these replies
@@ -19,24 +23,56 @@ printed replies = flat_map (λ reply. reply_line reply ++ 10 ∷ []) replies
 abbrev pub shown : Bool → List Reply → List ℕ
 shown last replies = printed (drop (if last then length replies - 1 else 0) replies)
 
--- a leaf's replies are printed by a text of which this holds
-abbrev pub IsTold : Script → Bool → (List ℕ → Type 0) → List Bool → Type 0
-IsTold script last Has path = (replies : List Reply) × RunsAlong (start_of script) script.calls.items path replies × Has (shown last replies)
+-- a visited leaf: its path, and the replies of the run along it
+pub record Visited : Type 0 where
+  pub path : List Bool
+  pub replies : List Reply
 
--- An exploration has visited the first leaves of the decision tree of the script's runs, all of them if it is complete. Each visited leaf is told
--- among the outcomes.
-pub record Explores (script : Script) (last is_complete : Bool) (count : ℕ) (Has : List ℕ → Type 0) : Type 0 where
+abbrev pub path_to : Visited → List Bool
+path_to leaf = leaf.path
+
+abbrev pub RunsAlongPath : Script → Visited → Type 0
+RunsAlongPath script leaf = RunsAlong (start_of script) script.calls.items leaf.path leaf.replies
+
+-- the words of its path, and the lines of its replies, or of the last one
+abbrev pub shown_leaf : Bool → Visited → LeafText
+shown_leaf last leaf = record { words = words_of leaf.path; text = shown last leaf.replies }
+
+-- An exploration has visited the first leaves of the decision tree of the script's runs, all of them if it is complete. The outcomes are those of
+-- these leaves: each with the number of leaves that have it and the words of the first of them.
+pub record Explores (script : Script) (last is_complete : Bool) (count : ℕ) (found : List Distinct) : Type 0 where
   pub tree : DecisionTree
   pub decides : Decides (run_outcome (start_of script) (acts_of script.calls.items)) tree
-  -- its leaves miss no run
+  -- each run is that of a leaf
   pub runs : HoldEveryRun (start_of script) script.calls.items (leaves tree)
+  pub visited : List Visited
+  pub paths : map path_to visited ≡ take count (leaves tree)
+  pub replies : AllByRecursion (RunsAlongPath script) visited
   pub most : count ≤ length (leaves tree)
   pub complete : is_complete ≡ true → count ≡ length (leaves tree)
-  pub told : (i : ℕ) (d : List Bool) → i < count → IsTold script last Has (slice_index_or (leaves tree) i d)
+  pub outcomes : found ≡ outcomes_of (map (shown_leaf last) visited)
 
--- the same on the way: the leaves behind the first ones are left
-pub record Exploring (script : Script) (last : Bool) (e : Exploration) (count : ℕ) (Has : List ℕ → Type 0) (t : DecisionTree) : Type 0 where
+-- the result of an exploration, if no call sets a rate of partial resizes
+abbrev pub IsExplored : Script → Bool → Explored → Type 0
+IsExplored script last found = SetNoPartialResize (acts_of script.calls.items) → Explores script last found.is_complete found.leaves (outcomes_in found.outcomes)
+
+-- The text is that of an exploration of this script, with at most `limit` leaves: all leaves, or the first `limit` of them.
+pub record PrintsExploration (script : List ℕ) (limit : ℕ) (last : Bool) (text : List ℕ) : Type 0 where
+  pub explored : Script
+  pub is : IsScriptOf script explored
+  pub found : List Distinct
+  pub count : ℕ
+  pub is_complete : Bool
+  pub explores : Explores explored last is_complete count found
+  pub within : count ≤ limit
+  pub ended : is_complete ≡ false → count ≡ limit
+  pub prints : text ≡ exploration_text found count is_complete
+
+-- an exploration after some leaves: the others are left
+pub record Exploring (script : Script) (last : Bool) (e : Exploration) (count : ℕ) (found : List Distinct) (t : DecisionTree) : Type 0 where
   pub explored : explored_script e ≡ script
-  pub most : count ≤ length (leaves t)
-  pub rest : drop count (leaves t) ≡ left e t
-  pub told : (i : ℕ) (d : List Bool) → i < count → IsTold script last Has (slice_index_or (leaves t) i d)
+  pub visited : List Visited
+  pub many : length visited ≡ count
+  pub paths : map path_to visited ++ left e t ≡ leaves t
+  pub replies : AllByRecursion (RunsAlongPath script) visited
+  pub outcomes : found ≡ outcomes_of (map (shown_leaf last) visited)

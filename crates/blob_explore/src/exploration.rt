@@ -25,13 +25,14 @@ pub struct Leaf {
 pub struct Exploration {
     script: Script,
     explorer: Explorer,
-    room: usize,
+    /// The number of zeros that a run is given after the words of its path.
+    spare: usize,
     is_done: bool,
     alloc: Global,
 }
 
 impl Exploration {
-    /// Starts in front of the first leaf. Allocates nothing.
+    /// Starts before the first leaf. Allocates nothing.
     pub fn new(alloc: Global, script: Script) -> Exploration
         ensures script { explored_script result ≡ script }
         ensures all { (t : DecisionTree) → left result t ≡ leaves t }
@@ -39,7 +40,7 @@ impl Exploration {
         Exploration {
             script,
             explorer: Explorer::new(alloc),
-            room: 64,
+            spare: 64,
             is_done: false,
             alloc,
         }
@@ -65,7 +66,7 @@ impl Exploration {
         if self.is_done {
             return Ok(None);
         }
-        let leaf = visit(self.alloc, &self.script, &self.explorer, &mut self.room)?;
+        let leaf = visit(self.alloc, &self.script, &self.explorer, &mut self.spare)?;
         let taken = leaf.words.len();
         let more = self.explorer.advance(taken)?;
         self.is_done = !more;

@@ -6,8 +6,10 @@ pub mod outcomes;
 mod print;
 mod run;
 pub mod script;
+mod tally;
 
 pub use exploration::{Exploration, Leaf};
-pub use outcomes::{Explored, Outcome, explore};
+pub use outcomes::{Explored, explore};
 pub use print::{explore_text, print_explored};
 pub use script::{RefusedScript, Script, read_script};
+pub use tally::Outcome;

@@ -1,6 +1,12 @@
 // What was explored, as lines.
-use crate::outcomes::{Explored, Outcome, explore};
+ghost use Rattle.std.specs.Prelude.{◌≡◌, ◌++◌, ◌==◌, IfOk, OnOk, codes, if◌then◌else◌, string_bytes};
+ghost use Rattle.blob_explore.specs.Distinct.{distinct, outcomes_in};
+ghost use Rattle.blob_explore.specs.Outcomes.{PrintsExploration};
+ghost use Rattle.blob_explore.specs.Printed.{end_text, exploration_text, leaves_text, limit_text, outcome_text, words_text};
+
+use crate::outcomes::{Explored, explore};
 use crate::script::{RefusedScript, read_script};
+use crate::tally::Outcome;
 use std::alloc::{AllocError, Global};
 
 /// Explores a script without words and seed, at most `limit` leaves of it, and prints its distinct outcomes: the replies to all
@@ -10,7 +16,9 @@ pub fn explore_text(
     text: &[u8],
     limit: u64,
     last: bool,
-) -> Result<String, RefusedScript> {
+) -> Result<String, RefusedScript>
+    ensures { IfOk result (λ printed. PrintsExploration text.now limit last (string_bytes printed)) }
+{
     let script = read_script(alloc, text)?;
     let Ok(explored) = explore(alloc, script, limit, last) else {
         return Err(RefusedScript::NoMemory);
@@ -18,46 +26,80 @@ pub fn explore_text(
     Ok(print_explored(alloc, &explored)?)
 }
 
-/// Prints each outcome in the order of its first leaf, in front of it a line with the number of its leaves and the words of the
-/// first, and at the end the number of leaves and whether these are all. The lines that aren't replies begin with `#`.
-pub fn print_explored(alloc: Global, explored: &Explored) -> Result<String, AllocError> {
-    let mut found = Vec::with_capacity(alloc, explored.outcomes.len())?;
-    for (text, outcome) in &explored.outcomes {
-        found.push((outcome.first, text, outcome))?;
-    }
-    found.sort_unstable_by_key(|entry| entry.0);
+/// Prints each outcome in the order of its first leaf, after a line with the number of its leaves and the words of the first. The
+/// last line is the number of leaves and whether these are all. The lines that aren't replies begin with `#`.
+pub fn print_explored(alloc: Global, explored: &Explored) -> Result<String, AllocError>
+    ensures { IfOk result (λ text. string_bytes text
+        ≡ exploration_text (outcomes_in explored.now.outcomes) explored.now.leaves explored.now.is_complete) }
+{
     let mut printed = String::new(alloc);
-    for (_, text, outcome) in &found {
+    for (text, outcome) in &explored.outcomes {
         print_outcome(text.as_str(), outcome, &mut printed)?;
     }
-    let count = found.len();
-    let outcomes = if count == 1 { "outcome" } else { "outcomes" };
-    let all = if explored.is_complete {
-        "all of them"
-    } else {
-        "not all of them: the limit was reached"
-    };
-    print_leaves(explored.leaves, &mut printed)?;
-    write!(printed, ", {all}; {count} {outcomes}\n")?;
+    print_end(explored, &mut printed)?;
     Ok(printed)
 }
 
-fn print_outcome(text: &str, outcome: &Outcome, printed: &mut String) -> Result<(), AllocError> {
-    print_leaves(outcome.leaves, printed)?;
-    if outcome.words.is_empty() {
-        printed.push_str(", which draws no words")?;
+/// Prints the last line.
+fn print_end(explored: &Explored, printed: &mut String) -> Result<(), AllocError>
+    ensures { OnOk result (string_bytes printed.new ≡ string_bytes printed.old
+        ++ end_text (outcomes_in explored.now.outcomes) explored.now.leaves explored.now.is_complete) }
+{
+    print_leaves(explored.leaves, printed)?;
+    let all = limit_text(explored.is_complete);
+    let count = explored.outcomes.len();
+    let outcomes = outcome_noun(count);
+    write!(printed, ", {all}; {count} {outcomes}\n")
+}
+
+fn limit_text(is_complete: bool) -> &'static str
+    ensures { result.now ≡ limit_text is_complete }
+{
+    if is_complete {
+        "all of them"
     } else {
-        printed.push_str(", first: words")?;
+        "not all of them: the limit was reached"
     }
-    for word in &outcome.words {
-        printed.push_str(if *word == 0 { " 0" } else { " max" })?;
-    }
+}
+
+fn outcome_noun(count: usize) -> &'static str
+    ensures { result.now ≡ if count == 1 then codes "outcome" else codes "outcomes" }
+{
+    if count == 1 { "outcome" } else { "outcomes" }
+}
+
+fn print_outcome(text: &str, outcome: &Outcome, printed: &mut String) -> Result<(), AllocError>
+    ensures { OnOk result (string_bytes printed.new
+        ≡ string_bytes printed.old ++ outcome_text (distinct text.now outcome.now)) }
+{
+    print_leaves(outcome.leaves, printed)?;
+    print_words(&outcome.words, printed)?;
     printed.push('\n')?;
     printed.push_str(text)
 }
 
-fn print_leaves(leaves: u64, printed: &mut String) -> Result<(), AllocError> {
-    let noun = if leaves == 1 { "leaf" } else { "leaves" };
-    write!(printed, "# {leaves} {noun}")?;
+fn print_words(words: &[u64], printed: &mut String) -> Result<(), AllocError>
+    ensures { OnOk result (string_bytes printed.new ≡ string_bytes printed.old ++ words_text words.now) }
+{
+    if words.is_empty() {
+        return printed.push_str(", which draws no words");
+    }
+    printed.push_str(", first: words")?;
+    for word in words {
+        printed.push_str(if *word == 0 { " 0" } else { " max" })?;
+    }
     Ok(())
+}
+
+fn leaf_noun(leaves: u64) -> &'static str
+    ensures { result.now ≡ if leaves == 1 then codes "leaf" else codes "leaves" }
+{
+    if leaves == 1 { "leaf" } else { "leaves" }
+}
+
+fn print_leaves(leaves: u64, printed: &mut String) -> Result<(), AllocError>
+    ensures { OnOk result (string_bytes printed.new ≡ string_bytes printed.old ++ leaves_text leaves) }
+{
+    let noun = leaf_noun(leaves);
+    write!(printed, "# {leaves} {noun}")
 }

@@ -5,7 +5,7 @@ ghost use Rattle.blob_header.specs.Refusals.{Memory};
 ghost use Rattle.blob_calls.specs.Told.{refused_by};
 ghost use Rattle.blob_laboratory.specs.Tables.{images_of};
 ghost use Rattle.blob_choices.specs.Outcomes.{NoneOutOfMemory};
-ghost use Rattle.blob_explore.specs.Explorations.{Ran, TakesPath, image_of, start_of};
+ghost use Rattle.blob_explore.specs.Explorations.{Ran, TakesPath, image_of};
 
 use crate::exploration::Leaf;
 use crate::script::Script;
@@ -17,36 +17,36 @@ use blob_laboratory::Lab;
 use blob_tree::Explorer;
 use std::alloc::{AllocError, Global};
 
-/// Runs the calls along the explorer's path. Doubles `room`, the number of words behind the path, until the run leaves some.
+/// Runs the calls along the explorer's path. Doubles `spare`, the number of zeros after the path, until the run leaves some.
 pub(crate) fn visit(
     alloc: Global,
     script: &Script,
     explorer: &Explorer,
-    room: &mut usize,
+    spare: &mut usize,
 ) -> Result<Leaf, Error>
-    ensures { IfOk result (λ leaf. TakesPath (start_of script.now) script.now.calls.items explorer.now leaf) }
+    ensures { IfOk result (TakesPath script.now explorer.now) }
 {
     for _ in 0..64 {
-        match visit_within(alloc, script, explorer, *room)? {
+        match visit_within(alloc, script, explorer, *spare)? {
             Some(leaf) => return Ok(leaf),
-            None => *room = room.saturating_mul(2),
+            None => *spare = spare.saturating_mul(2),
         }
     }
     Err(Error::Memory(AllocError))
 }
 
-/// The same with this room. None if it wasn't enough.
+/// The same with `spare` zeros. Returns `None` if these weren't enough.
 fn visit_within(
     alloc: Global,
     script: &Script,
     explorer: &Explorer,
-    room: usize,
+    spare: usize,
 ) -> Result<Option<Leaf>, Error>
-    ensures { IfOk result (λ found. IfSome found (λ leaf. TakesPath (start_of script.now) script.now.calls.items explorer.now leaf)) }
+    ensures { IfOk result (λ found. IfSome found (TakesPath script.now explorer.now)) }
 {
     taken_words();
     let mut words = explorer.words()?;
-    let Some(len) = words.len().checked_add(room) else {
+    let Some(len) = words.len().checked_add(spare) else {
         return Err(Error::Memory(AllocError));
     };
     words.resize(len, 0)?;
@@ -82,7 +82,7 @@ fn is_memory(reply: &Reply) -> bool
     }
 }
 
-/// Whether a call was refused memory.
+/// Returns whether a call failed to allocate.
 fn is_short(replies: &[Reply]) -> bool
     ensures { OnFalse result (NoneOutOfMemory replies.now) }
 {
@@ -94,7 +94,7 @@ fn is_short(replies: &[Reply]) -> bool
     false
 }
 
-/// Runs the calls over these words, and zeros behind them. Returns the replies, and how many words are left.
+/// Runs the calls over these words, and then zeros. Returns the replies and the number of words left.
 fn run(
     alloc: Global,
     script: &Script,

@@ -1,9 +1,12 @@
 //! A script to be explored: what lies in the store, and the calls.
-ghost use Rattle.std.specs.Prelude.{◌≡◌, [], IfOk, OnOk};
+ghost use Rattle.std.specs.Prelude.{◌≡◌, [], Some, IfOk, OnOk};
 ghost use Rattle.std.specs.Bool.{OnFalse};
 ghost use Rattle.blob_calls.specs.Acts.{act_of};
+ghost use Rattle.blob_calls.specs.Lines.{said_by};
+ghost use Rattle.blob_calls.specs.Settings.{cleared};
 ghost use Rattle.blob_choices.specs.Outcomes.{HasNoPartialResize, SetNoPartialResize, SetsNoPartialResize, acts_of};
 ghost use Rattle.blob_explore.specs.Explorations.{AddsNoPartialResize};
+ghost use Rattle.blob_explore.specs.ScriptTexts.{AddsCall, AddsImage, AddsLine, AddsSaid, AddsSetting, IsScriptOf};
 
 use blob_calls::Call;
 use blob_calls::script::setting::copy_of;
@@ -66,7 +69,8 @@ impl fmt::Display for RefusedScript {
 
 /// Reads a script without words and seed. No call of it makes a partial resize possible.
 pub fn read_script(alloc: Global, text: &[u8]) -> Result<Script, RefusedScript>
-    ensures { IfOk result (λ script. SetNoPartialResize (acts_of script.calls.items)) }
+    ensures script { IfOk result (IsScriptOf text.now) }
+    ensures sizes { IfOk result (λ script. SetNoPartialResize (acts_of script.calls.items)) }
 {
     let mut reading = Reading::new(alloc);
     for line in text.split(|byte| *byte == b'\n') {
@@ -89,7 +93,9 @@ struct Reading {
 
 impl Reading {
     fn new(alloc: Global) -> Reading
-        ensures { result.calls.items ≡ [] }
+        ensures calls { result.calls.items ≡ [] }
+        ensures images { result.images.items ≡ [] }
+        ensures config { result.config ≡ cleared }
     {
         Reading {
             images: Vec::new(alloc),
@@ -100,7 +106,8 @@ impl Reading {
     }
 
     fn add(&mut self, alloc: Global, line: &[u8]) -> Result<(), RefusedScript>
-        ensures { OnOk result (AddsNoPartialResize self.old.calls.items self.new.calls.items) }
+        ensures sizes { OnOk result (AddsNoPartialResize self.old.calls.items self.new.calls.items) }
+        ensures line { OnOk result (AddsLine self.old line.now self.new) }
     {
         self.number = self.number.saturating_add(1);
         match read_line(alloc, line) {
@@ -111,7 +118,8 @@ impl Reading {
     }
 
     fn add_line(&mut self, line: Line) -> Result<(), RefusedScript>
-        ensures { OnOk result (AddsNoPartialResize self.old.calls.items self.new.calls.items) }
+        ensures sizes { OnOk result (AddsNoPartialResize self.old.calls.items self.new.calls.items) }
+        ensures line { OnOk result (AddsSaid self.old (said_by line) self.new) }
     {
         match line {
             Line::Blank => Ok(()),
@@ -135,7 +143,8 @@ impl Reading {
 
     /// Images come before the calls.
     fn add_image(&mut self, image: (String, Vec<u8>, Vec<u8>)) -> Result<(), RefusedScript>
-        ensures { self.new.calls ≡ self.old.calls }
+        ensures calls { self.new.calls ≡ self.old.calls }
+        ensures image { OnOk result (AddsImage self.old image self.new) }
     {
         if !self.calls.is_empty() {
             return Err(RefusedScript::BadCall(self.number));
@@ -148,7 +157,8 @@ impl Reading {
 
     /// A setting is a call with the whole configuration so far.
     fn configure(&mut self, setting: Setting) -> Result<(), RefusedScript>
-        ensures { OnOk result (AddsNoPartialResize self.old.calls.items self.new.calls.items) }
+        ensures sizes { OnOk result (AddsNoPartialResize self.old.calls.items self.new.calls.items) }
+        ensures setting { OnOk result (AddsSetting self.old setting self.new) }
     {
         self.config = setting.apply(copy_of(&self.config));
         let call = Call::Configure(copy_of(&self.config));
@@ -156,7 +166,8 @@ impl Reading {
     }
 
     fn add_call(&mut self, call: Call) -> Result<(), RefusedScript>
-        ensures { OnOk result (AddsNoPartialResize self.old.calls.items self.new.calls.items) }
+        ensures sizes { OnOk result (AddsNoPartialResize self.old.calls.items self.new.calls.items) }
+        ensures call { OnOk result (AddsCall self.old call self.new) }
     {
         if draws_size(&call) {
             return Err(RefusedScript::PartialResize(self.number));

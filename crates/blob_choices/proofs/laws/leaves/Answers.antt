@@ -1,4 +1,4 @@
-use Rattle.blob_choices.proofs.Told.{leaf_of}
+use Rattle.blob_choices.proofs.Runs.{leaf_of}
 use Rattle.blob_choices.proofs.laws.leaves.Goals as goal
 
 pub returns : goal.returns

@@ -1,6 +1,6 @@
-use Rattle.std.proofs.Common.{◌≡◌, ◌≤◌, ◌-◌, IsSome}
-use Rattle.std.specs.HashMap.{get_by_text}
+use Rattle.std.proofs.Common.{◌≡◌, ◌≤◌, ◌-◌}
 use Rattle.blob_tree.specs.Trees.{DecisionTree, leaves}
+use Rattle.blob_explore.specs.Distinct.{outcomes_in}
 use Rattle.blob_explore.specs.Explorations.{DecidesRun, explored_script, left}
 use Rattle.blob_explore.specs.Outcomes.{Exploring}
 use Rattle.blob_explore.proofs.outcomes.explore.Given as goal
@@ -9,7 +9,7 @@ abbrev pub invariant-visits : goal.invariant-visits
 invariant-visits l = record {
   most : l.leaves ≤ l.limit;
   visited : (t : DecisionTree) → DecidesRun l.initial.exploration t → left l.initial.exploration t ≡ leaves t
-      → Exploring (explored_script l.initial.exploration) l.last l.exploration l.leaves (λ q. IsSome (get_by_text l.found q)) t;
+      → Exploring (explored_script l.initial.exploration) l.last l.exploration l.leaves (outcomes_in l.found) t;
 }
 
 abbrev pub decreases-visits : goal.decreases-visits

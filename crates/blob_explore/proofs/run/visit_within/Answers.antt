@@ -7,11 +7,11 @@ pub returns-in-Some-left : goal.returns-in-Some-left
 returns-in-Some-left c =
     let words = c.in_ok-words.words.items in
     let resized = c.resize.new.self.items in
-    let len : c.in-Some.len ≡ length words + c.args.room = search rules in
+    let len : c.in-Some.len ≡ length words + c.args.spare = search rules in
     let grown : resized ≡ take c.in-Some.len words ++ replicate (c.in-Some.len - length words) 0 = search rules in
     let all : c.in_ok-given.given.items ≡ resized ++ (2 ^ 64 - 1) ∷ [] = search rules in
     let replies : c.deref-2.result.now ≡ c.in_ok-replies.replies.items = search rules in
     let there : NoneOutOfMemory c.in_ok-replies.replies.items = subst NoneOutOfMemory replies c.if-is_short.ensures in
-    takes_given c.taken_words.ensures c.args.script.now c.args.explorer.now c.args.room c.in-Some-left.left c.in-Some.len c.saturating_sub.result
+    takes_given c.taken_words.ensures c.args.script.now c.args.explorer.now c.args.spare c.in-Some-left.left c.in-Some.len c.saturating_sub.result
     c.in_ok-replies.replies.items words resized c.in_ok-given.given.items c.truncate.new.self.items c.in_ok-replies.left
     c.in_ok-words.ensures len grown all c.in_ok-replies.ensures c.in-Some-left.is there c.if-left-gt0.true c.saturating_sub.ensures c.truncate.ensures.items

@@ -1,0 +1,17 @@
+use Rattle.blob_explore.specs.Distinct.{outcomes_in}
+use Rattle.blob_explore.proofs.print.explore_text.Goals as goal
+
+pub returns : goal.returns
+returns c =
+    let found = c.in-Ok.explored in
+    record {
+      explored = c.in_ok-script.script;
+      is = c.in_ok-script.ensures.script;
+      found = outcomes_in found.outcomes;
+      count = found.leaves;
+      is_complete = found.is_complete;
+      explores = c.in-Ok.ensures.leaves c.in_ok-script.ensures.sizes;
+      within = c.in-Ok.ensures.within;
+      ended = c.in-Ok.ensures.limit;
+      prints = c.in_ok-print_explored.ensures;
+    }

@@ -1,0 +1,32 @@
+// The distinct outcomes so far.
+ghost use Rattle.std.specs.Prelude.{◌≡◌, OnOk, string_bytes};
+ghost use Rattle.blob_explore.specs.Distinct.{CountsFit, leaf_text, outcomes_in, with_leaf};
+
+use indexmap::IndexMap;
+use std::alloc::AllocError;
+
+/// How many leaves have an outcome, and the words of the first of them.
+#[derive(Drop)]
+pub struct Outcome {
+    /// The number of leaves.
+    pub leaves: u64,
+    /// The words of the first leaf.
+    pub words: Vec<u64>,
+}
+
+/// Counts a leaf with this text and these words.
+pub(crate) fn tally(
+    outcomes: &mut IndexMap<String, Outcome>,
+    text: String,
+    words: Vec<u64>,
+) -> Result<(), AllocError>
+    ensures { OnOk result (CountsFit (outcomes_in outcomes.old)
+        → outcomes_in outcomes.new ≡ with_leaf (outcomes_in outcomes.old) (leaf_text words.items (string_bytes text))) }
+{
+    if let Some(outcome) = outcomes.get_mut(text.as_str()) {
+        outcome.leaves = outcome.leaves.saturating_add(1);
+        return Ok(());
+    }
+    outcomes.insert(text, Outcome { leaves: 1, words })?;
+    Ok(())
+}
