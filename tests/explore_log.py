@@ -113,7 +113,7 @@ BUGS = [
     (ForgetsSync, [PREFIX], 0, "acknowledged records"),
     (AcknowledgesFirst, [PREFIX], 1, "acknowledged records"),
     (AcknowledgesFirst, [PREFIX, "sync 1 2"], 0, "acknowledged records"),
-    (TakesZeros, [SECTORS], 1, "a record is found that nobody appended"),
+    (TakesZeros, [SECTORS], 1, "a record is found that was never appended"),
 ]
 
 
