@@ -1,5 +1,5 @@
 #!/bin/sh
-# Tests of explorations of code: in C (bindings/c/explore.c), in Python (tests/explore_bodies.py), and the log of examples/log.py over
+# Tests of explorations of code: in C (bindings/c/explore.c, and a log with power losses in explore_log.c), in Python (tests/explore_bodies.py), and the log of examples/log.py over
 # every outcome of small runs, with planted bugs (tests/explore_log.py). The last line is `N passed, M failed`.
 set -u
 
@@ -79,6 +79,33 @@ if "$compiler" -std=c11 -Wall -Wextra -Werror -O2 -I"$top/bindings/c" -o "$work/
 else
     tell 1 'bindings/c/explore.c'
 fi
+# The log in C. One run without a power loss; one for a loss at each of the two opens, of the two writes of two appends and of the four
+# opens of two recoveries; four for each of the two syncs, since the crash then keeps 0 to 3 bytes of the record.
+explore_log() {
+    "$@" >"$work/out" 2>&1
+    status=$?
+}
+for sanitize in '' '-g -fsanitize=address,undefined'; do
+    # shellcheck disable=SC2086
+    if ! "$compiler" -std=c11 -Wall -Wextra -Werror -pedantic -O2 $sanitize -I"$top/bindings/c" -o "$work/explore_log" \
+        "$top/bindings/c/explore_log.c" "$top/out/libblobcrash.a" >"$work/out" 2>&1; then
+        if [ -n "$sanitize" ]; then skip 'explore_log.c under the address sanitizer'; else tell 1 'explore_log.c'; fi
+        continue
+    fi
+    explore_log "$work/explore_log"
+    [ "$status" -eq 0 ] && [ "$(cat "$work/out")" = '19 runs, all of them' ]
+    tell $? "explore_log.c $sanitize: the log loses nothing"
+    explore_log "$work/explore_log" forget-sync "$work/script"
+    [ "$status" -eq 1 ] && grep -q 'acknowledged is lost' "$work/out" && grep -qx crash "$work/script" && ! grep -q sync "$work/script"
+    tell $? "explore_log.c $sanitize: a forgotten sync is found"
+    # The head is durable before the record: only a power loss between them loses the record.
+    explore_log "$work/explore_log" seeds head-first
+    [ "$status" -eq 0 ]
+    tell $? "explore_log.c $sanitize: a head that is written first is not found without power losses"
+    explore_log "$work/explore_log" head-first "$work/script"
+    [ "$status" -eq 1 ] && grep -q 'acknowledged is lost' "$work/out" && grep -qx '# power loss' "$work/script"
+    tell $? "explore_log.c $sanitize: it is found with a power loss"
+done
 python=$(with_distributed)
 export PYTHONDONTWRITEBYTECODE=1
 add "$python" "$top/tests/explore_bodies.py"

@@ -81,6 +81,10 @@ run "$python" -m blobcrash "$work/none"
 [ $? -eq 1 ]
 tell $? 'python -m blobcrash, without its file'
 
+run "$python" -m blobcrash_page --title 'by the library' <"$top/examples/forgotten_sync.script" &&
+    grep -q '<title>by the library</title>' "$work/out" && ! grep -q '<p class="problem">' "$work/out"
+tell $? 'python -m blobcrash_page, without the program'
+
 # Tests with the store of the plugin: pytest finds it by itself, names the seed, and shows the script of a failure.
 python=$(python_with pytest)
 if [ -n "$python" ]; then
@@ -102,6 +106,22 @@ if [ -n "$python" ]; then
     BLOBCRASH=$program LOG_FORGETS_SYNC=1 run_pytest --blobcrash-seed "$seed" test_log_pytest.py
     grep -q '1 failed' "$work/out" && grep -q '^#     before' "$work/out"
     tell $? 'pytest: a picture of the crash'
+    LOG_FORGETS_SYNC=1 run_pytest --blobcrash-seed "$seed" --blobcrash-report pages test_log_pytest.py
+    page=$(sed -n 's/^the page of this failure: //p' "$work/out")
+    [ "${page%/*}" = "$work/far/pages" ] && grep -q "<title>.*\[seed=$seed\]: log.Broken" "$page" && grep -q "seed $seed" "$page"
+    tell $? 'pytest: a page of the crash, without the program'
+    BLOBCRASH=$program LOG_FORGETS_SYNC=1 run_pytest --blobcrash-report pages test_log_pytest.py
+    [ "$(ls "$work/far/pages")" = "$(sed -n 's/^the page of this failure: .*\///p' "$work/out" | LC_ALL=C sort)" ] &&
+        ! grep -l '<p class="problem">' "$work/far/pages"/*
+    tell $? 'pytest: a page for each failure'
+    rm -rf "$work/far/pages"
+    run_pytest --blobcrash-report pages test_log_pytest.py && [ ! -e "$work/far/pages" ]
+    tell $? 'pytest: no page without a failure'
+    mkdir "$work/no_page"
+    echo 'raise ImportError("as if it were missing")' >"$work/no_page/blobcrash_page.py"
+    PYTHONPATH=$work/no_page:$PYTHONPATH run_pytest --blobcrash-report pages test_log_pytest.py
+    [ $? -eq 4 ] && grep -q 'needs the package .blobcrash_page.' "$work/err"
+    tell $? 'pytest: pages without their package'
 else
     skip 'the plugin: there is no pytest'
 fi

@@ -1,5 +1,6 @@
 #!/bin/sh
 # The page of a run (tools/crash_page): its model against the program's replies, and the page in a headless Chromium against them.
+# Then the pages of failing seeds in Python, C and Rust.
 # The browser's pictures go to $PAGE_PICTURES, if that is set. The last line is `N passed, M failed`, followed by `, K skipped`
 # if something was skipped.
 top=$(CDPATH='' cd -- "$(dirname -- "$0")/.." && pwd -P)
@@ -65,5 +66,39 @@ if has chromium || has chromium-browser || has google-chrome; then
     add python3 "$top/tests/page_browser.py" "$BLOBCRASH" "${PAGE_PICTURES:-$work/pictures}"
 else
     skip 'the page in a browser, for want of Chromium'
+fi
+
+# page_of LANGUAGE COMMAND..: a command writes the script of a failing seed to $work/failing.script, with status 1, and its page shows
+# the bytes that the crash lost.
+page_of() {
+    language=$1
+    shift
+    rm -f "$work/failing.script"
+    (cd "$top" && "$@") >"$work/told" 2>&1
+    ok "$language: a seed that fails" [ $? -eq 1 ]
+    ok "$language: its script" grep -q '^seed [0-9]*$' "$work/failing.script"
+    "$BLOBCRASH" <"$work/failing.script" >"$work/replies"
+    ok "$language: the crash loses bytes" grep -q '^crashed .*:[01]*0' "$work/replies"
+    ok "$language: its page" "$top/tools/crash_page" --title "by $language" <"$work/failing.script"
+    cp "$work/shown" "$work/page.html"
+    ok "$language: the title of the page" grep -q "<title>by $language</title>" "$work/page.html"
+    ok "$language: the page agrees with the replies" [ "$(grep -c '<p class="problem">' "$work/page.html")" -eq 0 ]
+}
+
+page_of Python sh -c 'python3 examples/log.py 2 --forget-sync >"$0"' "$work/failing.script"
+sh "$top/bindings/build.sh" || give_up "the library can't be built"
+compiler=${CC:-cc}
+if has "$compiler"; then
+    ok 'C: explore_log.c' "$compiler" -Wall -Wextra -Werror -I"$top/bindings/c" -o "$work/explore_log" "$top/bindings/c/explore_log.c" \
+        "$top/out/libblobcrash.a"
+    page_of C "$work/explore_log" seeds forget-sync "$work/failing.script"
+else
+    skip "C: there is no $compiler"
+fi
+if has cargo "$compiler"; then
+    page_of Rust env CARGO_TARGET_DIR=out/rust CARGO_NET_OFFLINE=true cargo run --quiet --manifest-path bindings/rust/Cargo.toml \
+        --example failing_seed "$work/failing.script"
+else
+    skip "Rust: there is no cargo or no $compiler"
 fi
 finish

@@ -17,19 +17,18 @@ export PATH PYTHONDONTWRITEBYTECODE=1
 need_program explain explore
 BLOBCRASH=$program
 export BLOBCRASH
+# Python on the pages and some commands use the library. Its build may be under way: then this waits for it.
+sh bindings/build.sh || give_up "the library can't be built"
 
 ok 'every command and block of the pages is run' python3 tests/pages.py --listed README.md CONTRIBUTING.md docs/*.md
-try_page() { ok "the commands and examples of $1" python3 tests/pages.py "$1"; }
-
 for page in README.md CONTRIBUTING.md docs/*.md bindings/python/blobcrash/__init__.py; do
-    case $page in docs/BINDINGS.md | docs/GUIDE.md) ;; *) try_page "$page" ;; esac
+    if [ "$page" = docs/GUIDE.md ] && [ ! -f out/libblobcrash.so ]; then
+        skip "$page: a C compiler makes the library for its Python"
+    else
+        ok "the commands and examples of $page" python3 tests/pages.py "$page"
+    fi
 done
 ok "the steps in Rattle of docs/LOG.md" python3 tests/pages.py --scratch "$work/scratch"
-
-# What comes now takes the library as built, which may still be under way.
-sh bindings/build.sh || give_up "the library can't be built"
-try_page docs/BINDINGS.md
-try_page docs/GUIDE.md
 python3 tests/pages.py --ways >"$work/ways"
 while read -r way; do
     lacking=

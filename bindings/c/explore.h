@@ -1,5 +1,5 @@
 /*
- * Every outcome of a run's draws, from C: a header of its own, over blobcrash.h and the standard library.
+ * Every outcome of a run, from C: a header of its own, over blobcrash.h and the standard library.
  *
  * Each draw of a rate between 0 and 1 takes one word: 0 makes it true, the greatest one false. So the outcomes of a deterministic run form
  * a binary tree. Its paths are visited depth first, true before false:
@@ -14,6 +14,8 @@
  *     }
  *     blobcrash_free_paths(&paths);
  *
+ * Power losses, and the script of a run: blobcrash_explored_call and blobcrash_repeat_run. explore_log.c has an example of both.
+ *
  * Partial resizes draw sizes, which two words don't reach: leave their rate at 0.
  */
 #ifndef BLOBCRASH_EXPLORE_H
@@ -21,6 +23,8 @@
 
 #include "blobcrash.h"
 
+#include <inttypes.h>
+#include <stdio.h>
 #include <stdlib.h>
 #include <string.h>
 
@@ -30,28 +34,49 @@ enum {
     BLOBCRASH_EXPLORE_AGAIN = 2,         /* the run took more words than it was given, and is made again: discard it */
     BLOBCRASH_EXPLORE_BAD_SETTINGS = 3,  /* a line of the settings isn't one */
     BLOBCRASH_EXPLORE_NO_MEMORY = 4,     /* nothing was begun, or the run doesn't count */
-    BLOBCRASH_EXPLORE_OTHER_DRAWS = 5    /* the run drew less than an earlier one on the same path: it isn't deterministic */
+    BLOBCRASH_EXPLORE_OTHER_DRAWS = 5    /* the run made other choices than an earlier one on the same path: it isn't deterministic */
 };
 
-/* The path of a run, a byte for each draw: 0 is true, 1 is false. Begins as zeros. */
+/* The status of a call that isn't made because the power is off. No other status has this value. */
+enum { BLOBCRASH_POWER_LOSS = 255 };
+
+/* The choices of a path. The lowest bit is set in the second branch of each, so that the power stays on before it fails. */
+enum { BLOBCRASH_TRUE = 0, BLOBCRASH_FALSE = 1, BLOBCRASH_POWER_STAYS = 2, BLOBCRASH_POWER_FAILS = 3 };
+
+/* The path of a run. Begins as zeros. */
 struct blobcrash_paths {
-    uint8_t *path;
+    uint8_t *path;          /* its choices */
     size_t len;
-    size_t room;    /* how many zeros are given after the path */
-    uint64_t runs;  /* how many runs counted */
-    bool has_ended;  /* the run of the path counts, and the next one goes on */
+    size_t room;            /* how many zeros are given after the path */
+    uint64_t runs;          /* how many runs counted */
+    bool has_ended;         /* the run of the path counts, and the next one goes on */
     bool is_over;
+    unsigned power_losses;  /* at most how often the power fails in a run. Set it before the first run */
+    FILE *script;           /* gets the lines of explored calls, or is NULL */
+    /* Of the run that is under way: */
+    size_t capacity;        /* of `path` */
+    size_t taken;           /* how many choices were made */
+    size_t given;           /* how many words were given */
+    size_t drawn;           /* how many of them were taken */
+    unsigned losses;        /* how often the power failed */
+    bool is_off;            /* the power is off */
+    bool has_crashed;       /* and the store has crashed since */
+    bool differs;           /* a choice is of another kind than that of the path */
+    bool has_no_memory;
 };
 
 /* The words of a path as a line of a script, for a failure: `words 0 max`. Returns its length without the final zero, which `text`
  * gets if it has room for both. */
 static inline size_t blobcrash_words_of(const struct blobcrash_paths *paths, char *text, size_t text_room) {
     size_t len = 5;
-    for (size_t i = 0; i < paths->len; i++) len += paths->path[i] ? 4 : 2;
+    for (size_t i = 0; i < paths->len; i++) {
+        if (paths->path[i] <= BLOBCRASH_FALSE) len += paths->path[i] ? 4 : 2;
+    }
     if (len < text_room) {
         char *end = text + 5;
         memcpy(text, "words", 5);
         for (size_t i = 0; i < paths->len; i++) {
+            if (paths->path[i] > BLOBCRASH_FALSE) continue;
             size_t count = paths->path[i] ? 4 : 2;
             memcpy(end, paths->path[i] ? " max" : " 0", count);
             end += count;
@@ -61,13 +86,26 @@ static inline size_t blobcrash_words_of(const struct blobcrash_paths *paths, cha
     return len;
 }
 
+/* Prepares the fields of a run that is under way, and prints the lines before its calls. */
+static inline void blobcrash_begin_run(struct blobcrash_paths *paths, const char *words, size_t words_len, const char *settings) {
+    paths->taken = paths->drawn = 0;
+    paths->losses = 0;
+    paths->is_off = paths->has_crashed = paths->differs = paths->has_no_memory = false;
+    paths->given = paths->room + 1;
+    for (size_t i = 0; i < paths->len; i++) paths->given += paths->path[i] <= BLOBCRASH_FALSE;
+    if (paths->script != NULL) {
+        if (words_len > 5) fprintf(paths->script, "%.*s\n", (int)words_len, words);
+        fputs(settings, paths->script);
+    }
+}
+
 /* Goes on to the path of the next run, or begins with the first one, and opens its session: its words, and then the lines of `settings`,
  * each of which ends with a line feed. RUN, END, BAD_SETTINGS, or NO_MEMORY, after which it may be called again. */
 static inline int blobcrash_next_run(struct blobcrash_paths *paths, struct blobcrash_session *session, const char *settings) {
     if (paths->has_ended) {
-        while (paths->len > 0 && paths->path[paths->len - 1] == 1) paths->len--;
+        while (paths->len > 0 && (paths->path[paths->len - 1] & 1) != 0) paths->len--;
         paths->is_over = paths->len == 0;
-        if (!paths->is_over) paths->path[paths->len - 1] = 1;
+        if (!paths->is_over) paths->path[paths->len - 1] |= 1;
         paths->has_ended = false;
     }
     if (paths->is_over) return BLOBCRASH_EXPLORE_END;
@@ -83,15 +121,44 @@ static inline int blobcrash_next_run(struct blobcrash_paths *paths, struct blobc
     memcpy(end, " max\n", 5);
     memcpy(end + 5, settings, rest);
     struct blobcrash_script_ran ran = blobcrash_open(session, (const uint8_t *)preamble, len);
+    if (ran.status == BLOBCRASH_DONE) blobcrash_begin_run(paths, preamble, words, settings);
     free(preamble);
     if (ran.status == BLOBCRASH_DONE) return BLOBCRASH_EXPLORE_RUN;
     return ran.status == BLOBCRASH_NO_MEMORY ? BLOBCRASH_EXPLORE_NO_MEMORY : BLOBCRASH_EXPLORE_BAD_SETTINGS;
 }
 
-/* Closes the session of a run. RUN if it counts: `paths` then has its path until the next run begins. AGAIN, OTHER_DRAWS, NO_MEMORY, or
- * BAD_SETTINGS if these have a seed: the run doesn't count, and the next run is the same one again. */
-static inline int blobcrash_end_run(struct blobcrash_paths *paths, struct blobcrash_session *session) {
+/* Makes the next choice, of the kind of `first`, and returns it: that of the path, or after its end `first`. */
+static inline uint8_t blobcrash_choose(struct blobcrash_paths *paths, uint8_t first) {
+    if (paths->taken < paths->len) {
+        uint8_t choice = paths->path[paths->taken++];
+        paths->differs |= choice >> 1 != first >> 1;
+        return choice;
+    }
+    if (paths->taken == paths->capacity) {
+        size_t capacity = 2 * paths->capacity + 64;
+        uint8_t *path = realloc(paths->path, capacity);
+        paths->has_no_memory |= path == NULL;
+        if (path == NULL) return first;
+        paths->path = path;
+        paths->capacity = capacity;
+    }
+    paths->path[paths->taken++] = first;
+    return first;
+}
+
+/* Adds the draws of the calls up to here to the path. Returns how many words are left. */
+static inline struct blobcrash_ran blobcrash_count_draws(struct blobcrash_paths *paths, struct blobcrash_session *session) {
     struct blobcrash_ran left = blobcrash_words_left(session);
+    if (left.status == BLOBCRASH_DONE && left.len <= paths->given) {
+        for (; paths->drawn < paths->given - left.len; paths->drawn++) blobcrash_choose(paths, BLOBCRASH_TRUE);
+    }
+    return left;
+}
+
+/* Closes the session of a run. RUN if it counts: `paths` then has its path until the next run begins. AGAIN, OTHER_DRAWS, NO_MEMORY, or
+ * BAD_SETTINGS if these have a seed or words: the run doesn't count, and the next run is the same one again. */
+static inline int blobcrash_end_run(struct blobcrash_paths *paths, struct blobcrash_session *session) {
+    struct blobcrash_ran left = blobcrash_count_draws(paths, session);
     blobcrash_close(session);
     if (left.status != BLOBCRASH_DONE) {
         return left.status == BLOBCRASH_ENDLESS ? BLOBCRASH_EXPLORE_BAD_SETTINGS : BLOBCRASH_EXPLORE_NO_MEMORY;
@@ -100,18 +167,21 @@ static inline int blobcrash_end_run(struct blobcrash_paths *paths, struct blobcr
         paths->room *= 2;
         return BLOBCRASH_EXPLORE_AGAIN;
     }
-    /* The settings have words too. */
-    if (left.len > paths->len + paths->room + 1) return BLOBCRASH_EXPLORE_BAD_SETTINGS;
-    size_t drawn = paths->len + paths->room + 1 - left.len;
-    if (drawn < paths->len) return BLOBCRASH_EXPLORE_OTHER_DRAWS;
-    uint8_t *path = realloc(paths->path, drawn + 1);
-    if (path == NULL) return BLOBCRASH_EXPLORE_NO_MEMORY;
-    memset(path + paths->len, 0, drawn - paths->len);
-    paths->path = path;
-    paths->len = drawn;
+    if (left.len > paths->given) return BLOBCRASH_EXPLORE_BAD_SETTINGS;
+    if (paths->has_no_memory) return BLOBCRASH_EXPLORE_NO_MEMORY;
+    if (paths->differs || paths->taken < paths->len) return BLOBCRASH_EXPLORE_OTHER_DRAWS;
+    paths->len = paths->taken;
     paths->runs++;
     paths->has_ended = true;
     return BLOBCRASH_EXPLORE_RUN;
+}
+
+/* Makes the next run the one again that counted last. Its explored calls are printed to `script`, which may be NULL, as a script that
+ * makes the same calls: `blobcrash explain` and `tools/crash_page` show it. */
+static inline void blobcrash_repeat_run(struct blobcrash_paths *paths, FILE *script) {
+    paths->runs -= paths->has_ended;
+    paths->has_ended = false;
+    paths->script = script;
 }
 
 /* Gives the memory of the path back. */
@@ -119,5 +189,7 @@ static inline void blobcrash_free_paths(struct blobcrash_paths *paths) {
     free(paths->path);
     *paths = (struct blobcrash_paths){0};
 }
+
+#include "power.h"
 
 #endif

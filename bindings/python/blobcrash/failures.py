@@ -47,21 +47,30 @@ def reason_of(error: BaseException) -> str:
     return f"{type(error).__name__}: {text}" if text else type(error).__name__
 
 
-def reporter(path: Optional[str]) -> Callable[[Failed], None]:
-    """Returns a function that writes the page of a failure to a file. Raises `ImportError` if pages can't be made."""
-    if path is None:
-        return lambda failed: None
+def page_writer(wanted_by: str) -> Callable[[str, List[str], str], None]:
+    """Returns a function that writes the page of a script to a file: it takes the file's path, the script's lines and a title.
+
+    Raises `ImportError` if pages can't be made. `wanted_by` names the option that needs them.
+    """
     try:
         from blobcrash_page import page
     except ImportError:
-        raise ImportError("`report` needs the package `blobcrash_page`, which lies beside `blobcrash` in bindings/python") from None
+        raise ImportError(f"`{wanted_by}` needs the package `blobcrash_page`, which lies beside `blobcrash` in bindings/python") from None
 
-    def report(failed: Failed) -> None:
-        script = "".join(line + "\n" for line in failed.script)
+    def write(path: str, lines: List[str], title: str) -> None:
+        script = "".join(line + "\n" for line in lines)
         # Without the program the page has no remarks.
         explained = explain(script) or run(script.encode()).decode()
         replies = "".join(line for line in explained.splitlines(True) if not line.startswith("# "))
         with open(path, "w", encoding="utf-8") as file:
-            file.write(page(script, replies, explained, title=f"{failed.path or 'no choices'}: {failed.reason}"))
+            file.write(page(script, replies, explained, title=title))
 
-    return report
+    return write
+
+
+def reporter(path: Optional[str]) -> Callable[[Failed], None]:
+    """Returns a function that writes the page of a failure to a file. Raises `ImportError` if pages can't be made."""
+    if path is None:
+        return lambda failed: None
+    write = page_writer("report")
+    return lambda failed: write(path, failed.script, f"{failed.path or 'no choices'}: {failed.reason}")

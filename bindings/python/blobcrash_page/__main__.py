@@ -4,8 +4,9 @@
     crash_page --picture < SCRIPT > crash.svg
     crash_page --chart [--fails TEXT] < EXPLORED
 
-The program is the one that `BLOBCRASH` names, or else `blobcrash` at the top of the checkout. `--explored` adds a chart of what
-`blobcrash explore` printed, and `--chart` prints it for a terminal. A run fails if its last reply begins with the text of `--fails`.
+The program is the one that `BLOBCRASH` names, or else `blobcrash` at the top of the checkout. If that doesn't exist, as for an
+installed package, the library runs the script, and the page has no remarks. `--explored` adds a chart of what `blobcrash explore`
+printed, and `--chart` prints it for a terminal. A run fails if its last reply begins with the text of `--fails`.
 """
 
 import os
@@ -26,8 +27,23 @@ def explained(program, script):
     """What the program prints for a script with pictures, on both of its streams, and its status."""
     built = program + "_explain"
     command = [built] if os.path.exists(built) else [program, "explain"]
-    ran = subprocess.run(command, input=script, stdout=subprocess.PIPE, stderr=subprocess.PIPE)
+    try:
+        ran = subprocess.run(command, input=script, stdout=subprocess.PIPE, stderr=subprocess.PIPE)
+    except FileNotFoundError:
+        if "BLOBCRASH" in os.environ:
+            raise
+        return replies_by_library(script)
     return ran.stdout.decode(), ran.stderr.decode(), ran.returncode
+
+
+def replies_by_library(script):
+    """As `explained`, without pictures."""
+    from blobcrash import BadLine, run
+
+    try:
+        return run(script).decode(), "", 0
+    except BadLine as bad:
+        return bad.replies.decode(), f"line {bad.line}: bad call\n", 2
 
 
 def options_of(arguments):

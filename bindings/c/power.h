@@ -1,0 +1,101 @@
+/*
+ * Power losses of an explored run. explore.h includes this header.
+ *
+ * With `paths.power_losses` the power may fail at each call that may change what a crash leaves. This call and all later ones aren't made
+ * and return BLOBCRASH_POWER_LOSS, until the store has crashed and reopened. A run counts the calls that these functions make. Before any
+ * other call of the session ask blobcrash_power_fails.
+ */
+#ifndef BLOBCRASH_POWER_H
+#define BLOBCRASH_POWER_H
+
+#include "explore.h"
+
+/* Returns whether the power is off at a call, which then isn't made. `changes` says that it may change what a crash leaves: it opens,
+ * admits, writes, resizes, syncs or removes. */
+static inline bool blobcrash_power_fails(struct blobcrash_paths *paths, struct blobcrash_session *session, bool changes) {
+    if (paths->is_off || !changes || paths->losses == paths->power_losses) return paths->is_off;
+    blobcrash_count_draws(paths, session);
+    if (blobcrash_choose(paths, BLOBCRASH_POWER_STAYS) == BLOBCRASH_POWER_STAYS) return false;
+    paths->losses++;
+    paths->is_off = true;
+    if (paths->script != NULL) fputs("# power loss\n", paths->script);
+    return true;
+}
+
+static inline bool blobcrash_was_made(uint32_t status) {
+    return status == BLOBCRASH_DONE || status == BLOBCRASH_NO_ROOM || status == BLOBCRASH_OTHER_REPLY || status == BLOBCRASH_UNPRINTED;
+}
+
+/* Whether the first word of a line is one of `words`, each of which ends with a space. */
+static inline bool blobcrash_has_word(const uint8_t *line, size_t len, const char *words) {
+    while (len > 0 && *line == ' ') line++, len--;
+    size_t word = 0;
+    while (word < len && line[word] != ' ') word++;
+    for (const char *end; (end = strchr(words, ' ')) != NULL; words = end + 1) {
+        if ((size_t)(end - words) == word && memcmp(line, words, word) == 0) return true;
+    }
+    return false;
+}
+
+/* As blobcrash_call. POWER_LOSS if the power is off: then only `crash`, settings, comments and, after the crash, `close` and `reopen` are
+ * made. */
+static inline struct blobcrash_ran blobcrash_explored_call(struct blobcrash_paths *paths, struct blobcrash_session *session,
+                                                           const uint8_t *line, size_t len, uint8_t *reply, size_t reply_room) {
+    bool crashes = blobcrash_has_word(line, len, "crash "), reopens = blobcrash_has_word(line, len, "reopen ");
+    bool is_made_anyway = crashes || len == 0 || *line == '#' || blobcrash_has_word(line, len, "config ") ||
+                          (paths->has_crashed && (reopens || blobcrash_has_word(line, len, "close ")));
+    bool changes = blobcrash_has_word(line, len, "open loose admit write writes resize sync startsync finish remove ");
+    if (!is_made_anyway && blobcrash_power_fails(paths, session, changes)) return (struct blobcrash_ran){BLOBCRASH_POWER_LOSS, 0};
+    struct blobcrash_ran ran = blobcrash_call(session, line, len, reply, reply_room);
+    if (!blobcrash_was_made(ran.status)) return ran;
+    if (crashes) paths->has_crashed = paths->is_off;
+    if (reopens) paths->is_off = paths->has_crashed = false;
+    if (paths->script != NULL) {
+        fwrite(line, 1, len, paths->script);
+        fputc('\n', paths->script);
+    }
+    return ran;
+}
+
+/* As blobcrash_read. POWER_LOSS, which leaves `into` as it was. */
+static inline uint32_t blobcrash_explored_read(struct blobcrash_paths *paths, struct blobcrash_session *session, size_t handle,
+                                               uint64_t offset, uint8_t *into, size_t len) {
+    if (blobcrash_power_fails(paths, session, false)) return BLOBCRASH_POWER_LOSS;
+    uint32_t status = blobcrash_read(session, handle, offset, into, len);
+    if (paths->script != NULL && blobcrash_was_made(status)) fprintf(paths->script, "read %zu %" PRIu64 " %zu\n", handle, offset, len);
+    return status;
+}
+
+/* As blobcrash_write, or POWER_LOSS. */
+static inline uint32_t blobcrash_explored_write(struct blobcrash_paths *paths, struct blobcrash_session *session, size_t handle,
+                                                uint64_t offset, const uint8_t *bytes, size_t len, bool sync) {
+    if (blobcrash_power_fails(paths, session, true)) return BLOBCRASH_POWER_LOSS;
+    uint32_t status = blobcrash_write(session, handle, offset, bytes, len, sync);
+    if (paths->script != NULL && blobcrash_was_made(status)) {
+        fprintf(paths->script, "%s %zu %" PRIu64 " %s", sync ? "writes" : "write", handle, offset, len == 0 ? "-" : "");
+        for (size_t i = 0; i < len; i++) fprintf(paths->script, "%02x", bytes[i]);
+        fputc('\n', paths->script);
+    }
+    return status;
+}
+
+/* Crashes and reopens the store. Returns DONE, or the status of the call that wasn't made. */
+static inline uint32_t blobcrash_restart(struct blobcrash_paths *paths, struct blobcrash_session *session) {
+    uint8_t reply[16];
+    struct blobcrash_ran ran = blobcrash_explored_call(paths, session, (const uint8_t *)"crash", 5, reply, sizeof reply);
+    if (blobcrash_was_made(ran.status)) ran = blobcrash_explored_call(paths, session, (const uint8_t *)"reopen", 6, reply, sizeof reply);
+    return blobcrash_was_made(ran.status) ? (uint32_t)BLOBCRASH_DONE : ran.status;
+}
+
+/* Restarts the store and calls `step`, again if the power fails meanwhile. Returns what the last `step` returned, or `false` if the
+ * store couldn't be restarted. */
+static inline bool blobcrash_recover(struct blobcrash_paths *paths, struct blobcrash_session *session, bool (*step)(void *context),
+                                     void *context) {
+    while (blobcrash_restart(paths, session) == BLOBCRASH_DONE) {
+        bool is_recovered = step(context);
+        if (!paths->is_off) return is_recovered;
+    }
+    return false;
+}
+
+#endif
