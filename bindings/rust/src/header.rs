@@ -10,10 +10,10 @@
 //! let resolved = header::resolve(&raw, raw.len() as u64, &Layout::ALL, &versions, "p", b"b");
 //! assert_eq!(resolved, Ok(Some((4, version, 4096))));
 //! ```
+use crate::Error;
 use crate::library::Session;
-use crate::script::{hex, image_line};
+use crate::script::{hex, image_line, number};
 use crate::storage::BlobVersion;
-use crate::{Error, durable};
 use std::fmt;
 use std::ops::RangeInclusive;
 
@@ -218,14 +218,18 @@ fn found(image: &[u8]) -> Result<Option<(u64, BlobVersion)>, Error> {
 
 /// Opens an image for the versions up to the last one. Returns its size and version.
 fn opened(image: &[u8], last: u16) -> Result<(u64, u16), Error> {
-    let (partition, name) = ("image", b"blob");
-    let mut session = Session::open(&image_line(partition, name, image)?)?;
-    let (_, size, version) = durable::opened(&mut session, partition, name, 0..=last)?;
-    Ok((size, version))
+    let mut session = Session::open(&image_line("image", b"blob", image)?)?;
+    let reply = session.call(&format!("loose image {} 0 {last}", hex(b"blob")))?;
+    let mut words = reply.split(' ');
+    let found = match (words.next(), words.nth(1), words.next()) {
+        (Some("opened"), size, version) => number(size).zip(number(version)),
+        _ => None,
+    };
+    found.ok_or_else(|| Error::of(reply))
 }
 
 /// The CRC32C of bytes.
-pub(crate) fn checksum(bytes: &[u8]) -> u32 {
+fn checksum(bytes: &[u8]) -> u32 {
     let all = bytes.iter().fold(u32::MAX, |sum, byte| {
         (0..8).fold(sum ^ u32::from(*byte), |sum, _| {
             if sum & 1 == 1 {

@@ -11,6 +11,7 @@ const BAD_LINE: u32 = 2;
 const NO_MEMORY: u32 = 3;
 const NO_ROOM: u32 = 4;
 const OTHER_REPLY: u32 = 6;
+const BLOB_MISSING: u32 = 20;
 
 #[repr(C)]
 #[derive(Debug)]
@@ -59,6 +60,17 @@ unsafe extern "C" {
     ) -> u32;
     fn blobcrash_words_left(session: *mut RawSession) -> Ran;
     fn blobcrash_push_words(session: *mut RawSession, words: *const u64, count: usize) -> u32;
+    fn blobcrash_durable_blob(
+        session: *mut RawSession,
+        partition: *const u8,
+        partition_len: usize,
+        name: *const u8,
+        name_len: usize,
+        with_header: bool,
+        into: *mut u8,
+        capacity: usize,
+    ) -> Ran;
+    fn blobcrash_audit(session: *mut RawSession, into: *mut u8, capacity: usize) -> Ran;
     fn blobcrash_close(session: *mut RawSession);
     fn blobcrash_run(script: *const u8, len: usize, replies: *mut u8, room: usize) -> ScriptRan;
 }
@@ -205,6 +217,55 @@ impl Session {
         // SAFETY: as for `call`; the words are borrowed for the call.
         let status = unsafe { blobcrash_push_words(&mut self.raw, words.as_ptr(), words.len()) };
         (status == DONE).then_some(()).ok_or(Error::OutOfMemory)
+    }
+
+    /// Returns the durable bytes of a blob, or `None` if it doesn't exist, or has no header to leave out.
+    pub(crate) fn durable_blob(
+        &mut self,
+        partition: &str,
+        name: &[u8],
+        with_header: bool,
+    ) -> Result<Option<Vec<u8>>, Error> {
+        let (of, of_len, named, named_len) = (
+            partition.as_ptr(),
+            partition.len(),
+            name.as_ptr(),
+            name.len(),
+        );
+        let mut bytes = vec![0; SMALL];
+        loop {
+            let (at, capacity) = (bytes.as_mut_ptr(), bytes.len());
+            let raw = &mut self.raw;
+            // SAFETY: as for `call`; the texts and the buffer are borrowed for the call, and are apart.
+            let ran = unsafe {
+                blobcrash_durable_blob(raw, of, of_len, named, named_len, with_header, at, capacity)
+            };
+            match ran.status {
+                NO_ROOM => {
+                    let reserved = bytes.try_reserve_exact(ran.len - capacity);
+                    reserved.map_err(|_| Error::OutOfMemory)?;
+                    bytes.resize(ran.len, 0);
+                }
+                DONE => {
+                    bytes.truncate(ran.len);
+                    return Ok(Some(bytes));
+                }
+                BLOB_MISSING => return Ok(None),
+                _ => return Err(Error::OutOfMemory),
+            }
+        }
+    }
+
+    /// Returns the digest of all durable blobs.
+    pub(crate) fn audit(&mut self) -> [u8; 4] {
+        let mut digest = [0; 4];
+        // SAFETY: as for `call`.
+        let ran = unsafe { blobcrash_audit(&mut self.raw, digest.as_mut_ptr(), digest.len()) };
+        assert_eq!(
+            ran.status, DONE,
+            "an open session has a digest of four bytes"
+        );
+        digest
     }
 
     /// How a typed call was answered.

@@ -218,7 +218,7 @@ fn test_audit_separates_partition_and_blob_names() {
         let (blob, _) = store.open(partition, name).unwrap();
         blob.write_at(0, b"d", PLAIN()).unwrap();
         blob.sync().unwrap();
-        store.audit().unwrap()
+        store.audit()
     };
     assert_eq!(digest("a", b"bc"), [0x4b, 0x34, 0xf6, 0x50]);
     assert_eq!(digest("ab", b"c"), [0xb5, 0xc7, 0xe7, 0xd9]);
