@@ -72,7 +72,7 @@ else
 fi
 
 # A program in C, with the flags of pkg-config. The loader finds the shared library in LD_LIBRARY_PATH alone.
-expected='crashed 0:111111'
+expected='6 of 6 bytes'
 if has pkg-config; then
     cp "$top/bindings/c/first.c" .
     export PKG_CONFIG_PATH="$prefix/lib/pkgconfig"
