@@ -150,8 +150,8 @@ for script in "$top"/tests/refusals/*.script "$top/examples/FIRST.script"; do
     refuse_script "$script"
 done
 
-# `explain`: each request of the program refused in turn. Either it ends the program, which has written nothing, or the output is
-# that of a run without a refusal, with its pictures.
+# `explain`: each request of the program refused in turn. Either it ends the program, which has written whole lines of the right
+# output from its start, or the output is that of a run without a refusal, with its pictures.
 refuse_explain() {
     script=$1
     "${program}_explain" <"$script" >"$work/right"
@@ -162,7 +162,7 @@ refuse_explain() {
         n=$((n + 1))
         under REFUSE="$n" REFUSE_ALL=1 "${program}_explain" <"$script"
         [ "$refused" = 1 ] || break
-        if [ "$status" -eq 3 ] && [ "$(cat "$work/err")" = 'no memory' ] && [ ! -s "$work/out" ]; then
+        if [ "$status" -eq 3 ] && [ "$(cat "$work/err")" = 'no memory' ] && is_front; then
             ended=$((ended + 1))
         elif [ "$status" -eq 0 ] && [ ! -s "$work/err" ] && cmp -s "$work/right" "$work/out"; then
             same=$((same + 1))
