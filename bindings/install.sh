@@ -1,13 +1,19 @@
 #!/bin/sh
 # bindings/install.sh PREFIX: installs the headers, both libraries, `blobcrash.pc`, the program and its manual page below PREFIX, an
-# absolute path. With DESTDIR they are put below $DESTDIR$PREFIX, for a package. Builds first what isn't built; see out/*.log.
+# absolute path of letters, digits and `/._+-`, since it is written into the launcher and `blobcrash.pc`. With DESTDIR they are put
+# below $DESTDIR$PREFIX, for a package. Builds first what isn't built; see out/*.log.
 set -eu
 
 top=$(CDPATH='' cd -- "$(dirname -- "$0")/.." && pwd -P)
 case $#:${1:-} in
+1:*[!A-Za-z0-9/._+-]*) prefix= ;;
 1:/*) prefix=${1%/} ;;
+*) prefix= ;;
+esac
+case $prefix in
+/*) ;;
 *)
-    echo "usage: bindings/install.sh PREFIX, an absolute path" >&2
+    echo "usage: bindings/install.sh PREFIX, an absolute path of letters, digits and /._+-" >&2
     exit 2
     ;;
 esac

@@ -23,6 +23,11 @@ expect_status() {
 }
 ok 'without a prefix it installs nothing' expect_status 2 sh "$top/bindings/install.sh"
 ok 'a relative prefix is refused' expect_status 2 sh "$top/bindings/install.sh" prefix
+# shellcheck disable=SC2016
+for hostile in '$(touch ran)' '`touch ran`' '"; touch ran; "' 'a b' 'a
+b'; do
+    ok "a prefix that a shell would read: $hostile" expect_status 2 sh "$top/bindings/install.sh" "$work/$hostile"
+done
 
 cat >"$work/files" <<'FILES'
 bin/blobcrash
