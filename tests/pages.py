@@ -81,7 +81,7 @@ def programs(lines):
 
 
 def tables(lines):
-    """The tables of a script's lines and their replies, as pairs of both."""
+    """The tables of a script's lines and their replies, as pairs of both. A line of the preamble has no reply."""
     found, inside = [], False
     for line in lines:
         if line.startswith("| line | reply |"):
@@ -91,7 +91,7 @@ def tables(lines):
             found[-1].append([cell.strip().strip("`") for cell in line.split("|")[1:3]])
         elif inside and not line.startswith("|"):
             inside = False
-    return [([row[0] for row in table], [row[1] for row in table]) for table in found]
+    return [([row[0] for row in table], [row[1] for row in table if row[1]]) for table in found]
 
 
 def blocks(lines):
