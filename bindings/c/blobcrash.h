@@ -1,19 +1,19 @@
 /*
- * A storage layer for tests of crash recovery, in-process: faults are injected, only some of the bytes that weren't synced
- * survive a crash, and what is left is opened again.
+ * A storage layer for tests of crash recovery, in-process: it injects faults, and a crash keeps only some of the bytes that
+ * weren't synced.
  *
- * The library is `crates/blob_c`, which is proved: each function does what is said here where its caller keeps to the duties
+ * The library is `crates/blob_c`, which is proved: each function does what is said here if its caller keeps to the duties
  * below. Nothing checks a caller.
  *
  * Duties of a caller
  *
- * - Pointers. A pointer with a length is to so many bytes that stay as they are during the call, or that the call may write;
- *   with the length 0 it isn't read or written, and must still not be NULL. What a call writes overlaps nothing else that it
- *   is given. A session's pointer is to a session of the caller's own.
+ * - Pointers. A pointer with a length `len` is to `len` bytes. No one else changes them during the call, and those that the
+ *   call writes overlap no other argument. With the length 0 the pointer isn't used, and must still not be NULL. A session's
+ *   pointer is to a session of the caller's own.
  * - Sessions. A session of all zeros is closed: `struct blobcrash_session s = {0};`. Its fields belong to the library: a
  *   caller reads and writes neither. An open session may be moved, but then only the new place is used; it is never copied to
- *   be used twice. Each is closed before it is forgotten, or its memory is lost.
- * - One at a time. A session is given to one call at a time. It may be handed from one thread to another if the calls are
+ *   be used twice. Close each session, or its memory leaks.
+ * - One at a time. A session is given to one call at a time. It may move from one thread to another if the calls are
  *   ordered, as by a lock or a join: the library has no state of its own, per thread or otherwise, and calls only `malloc`,
  *   `realloc`, `free` and the `mem` functions. Different sessions share nothing. No function is called from a signal handler,
  *   nor in the child of a `fork` of a process that has threads.
@@ -38,19 +38,19 @@ extern "C" {
 enum blobcrash_status {
     /* Done; `len` bytes of the reply were written. */
     BLOBCRASH_DONE = 0,
-    /* A script has more lines than can be counted; nothing is known of its replies. Or a seed gives words without end. */
+    /* A script has more than 2^64 - 1 lines, and its replies are lost. Or a seed gives an unlimited number of words. */
     BLOBCRASH_ENDLESS = 1,
-    /* A line is no call, or may not stand there. No call was made. */
+    /* A line is no call, or isn't allowed at this point. No call was made. */
     BLOBCRASH_BAD_LINE = 2,
-    /* The library found no memory. No call was made. */
+    /* The library can't allocate. No call was made. */
     BLOBCRASH_NO_MEMORY = 3,
-    /* The call was made. Its reply has `len` bytes, more than there is room for, and is kept. */
+    /* The call was made. Its reply has `len` bytes, more than the buffer, and is kept. */
     BLOBCRASH_NO_ROOM = 4,
     /* The session is closed. No call was made. */
     BLOBCRASH_CLOSED = 5,
-    /* The call was made, with another reply than the one that it is for. The reply is kept. */
+    /* The call was made, and has a reply of another kind, as an error. The reply is kept. */
     BLOBCRASH_OTHER_REPLY = 6,
-    /* The call was made. There was no memory to print its reply, which is kept. */
+    /* The call was made. The library can't allocate the text of its reply, which is kept. */
     BLOBCRASH_UNPRINTED = 7,
     /* A typed call has an unknown kind, a version above 65535 or a partition that isn't UTF-8. No call was made. */
     BLOBCRASH_BAD_CALL = 8
@@ -107,7 +107,7 @@ struct blobcrash_ran {
     size_t len;
 };
 
-/* How a script ended, how many bytes its replies have, and which line is bad, counted from 1; 0 where none is. */
+/* How a script ended, how many bytes its replies have, and which line is bad, counted from 1; 0 if none is. */
 struct blobcrash_script_ran {
     uint32_t status;
     size_t len;
@@ -146,16 +146,16 @@ struct blobcrash_kept_run {
 };
 
 /*
- * Opens a session. The preamble is the lines of a script that stand before its calls, and settings: `image P NAME HEX`,
- * `words W ..`, `seed N`, and then `config ..`; none is a preamble too. What the session held before is ended.
+ * Opens a session. The preamble is the lines of a script before its calls, and settings: `image P NAME HEX`, `words W ..`,
+ * `seed N`, and then `config ..`. It may be empty. If the session was open, its store ends.
  *
- * DONE; BAD_LINE with the number of a line that may not stand there; NO_MEMORY. The last two change nothing.
+ * DONE; BAD_LINE with the number of a line that isn't allowed there; NO_MEMORY. The last two change nothing.
  */
 struct blobcrash_script_ran blobcrash_open(struct blobcrash_session *session, const uint8_t *preamble, size_t preamble_len);
 
 /*
- * Makes the call that a line says (without a line feed), and writes its reply to the front of `reply`, without a line feed
- * and without a zero. An empty line and a comment make no call, and are DONE with no bytes.
+ * Makes the call of a line, which has no line feed, and writes its reply to the start of `reply`, without a line feed and
+ * without a final zero. An empty line and a comment make no call, and are DONE with no bytes.
  *
  * DONE; NO_ROOM; UNPRINTED; BAD_LINE, NO_MEMORY and CLOSED, which change nothing.
  */
@@ -163,10 +163,10 @@ struct blobcrash_ran blobcrash_call(struct blobcrash_session *session, const uin
                                     size_t reply_room);
 
 /*
- * Writes the reply to the last call once more, as often as it is asked for: with enough room it isn't lost. Where no call
- * was made yet it has no bytes.
+ * Writes the reply to the last call to the start of `reply`. It may be called any number of times, so a caller whose buffer
+ * was too short can try a larger one. If no call was made yet the reply has no bytes.
  *
- * DONE; NO_ROOM with the room that is wanted; UNPRINTED; CLOSED. None changes anything.
+ * DONE; NO_ROOM with the capacity that is needed; UNPRINTED; CLOSED. None changes anything.
  */
 struct blobcrash_ran blobcrash_reply(struct blobcrash_session *session, uint8_t *reply, size_t reply_room);
 
@@ -229,27 +229,27 @@ struct blobcrash_ran blobcrash_durable_blob(struct blobcrash_session *session, c
 struct blobcrash_ran blobcrash_audit(struct blobcrash_session *session, uint8_t *into, size_t capacity);
 
 /*
- * The call `write HANDLE OFFSET HEX`, or with `sync` `writes HANDLE OFFSET HEX`, without text.
+ * Writes bytes at an offset: the call `write HANDLE OFFSET HEX`, or with `sync` the call `writes HANDLE OFFSET HEX`.
  *
- * DONE where the reply is `ok`; OTHER_REPLY, which blobcrash_reply tells; NO_MEMORY and CLOSED, which change nothing.
+ * DONE if the reply is `ok`; OTHER_REPLY, which blobcrash_reply prints; NO_MEMORY and CLOSED, which change nothing.
  */
 uint32_t blobcrash_write(struct blobcrash_session *session, size_t handle, uint64_t offset, const uint8_t *bytes, size_t len,
                          bool sync);
 
 /*
- * The call `read HANDLE OFFSET LEN` without text: fills `into` with `len` bytes.
+ * Fills `into` with `len` bytes from an offset: the call `read HANDLE OFFSET LEN`.
  *
- * DONE where the reply is so many bytes; OTHER_REPLY, which blobcrash_reply tells, and which leaves `into` as it was; CLOSED,
- * which changes nothing.
+ * DONE if the reply is `len` bytes; OTHER_REPLY, which blobcrash_reply prints, with `into` unchanged; CLOSED, which changes
+ * nothing.
  */
 uint32_t blobcrash_read(struct blobcrash_session *session, size_t handle, uint64_t offset, uint8_t *into, size_t len);
 
 /*
- * Returns in `len` how many words of the session's generator are left, up to the last one that isn't zero. All words after that
- * one are zero. A caller that gives words of which the last isn't zero learns how many were taken, as long as `len` isn't 0:
- * the given number less `len`.
+ * Returns in `len` how many words of the session's generator remain, up to the last one that isn't zero. All words after that
+ * one are zero. If the last given word isn't zero and `len` isn't 0, the number of given words less `len` is how many were
+ * taken.
  *
- * DONE; ENDLESS if the session has a seed, which gives words without end; CLOSED. None changes anything.
+ * DONE; ENDLESS if the session has a seed; CLOSED. None changes anything.
  */
 struct blobcrash_ran blobcrash_words_left(struct blobcrash_session *session);
 
@@ -260,16 +260,16 @@ struct blobcrash_ran blobcrash_words_left(struct blobcrash_session *session);
  */
 uint32_t blobcrash_push_words(struct blobcrash_session *session, const uint64_t *words, size_t count);
 
-/* Closes a session, and ends what it held. A closed one stays closed. */
+/* Closes a session, and frees its store. A closed one stays closed. */
 void blobcrash_close(struct blobcrash_session *session);
 
 /*
- * Runs a whole script, without a session, and writes its replies to the front of `replies`, each with a line feed: what the
+ * Runs a whole script, without a session, and writes its replies to the start of `replies`, each with a line feed: what the
  * program prints.
  *
- * DONE; BAD_LINE with the number of the line, and the replies before it; NO_ROOM with the room that is wanted, the number of
- * the bad line if there is one, and nothing written (a script's replies are a function of its text: run it again); NO_MEMORY
- * and ENDLESS, with nothing written.
+ * DONE; BAD_LINE with the number of the line, and the replies before it; NO_ROOM with the capacity that is needed, the number
+ * of the bad line if there is one, and nothing written: run it again, since a script's replies are a function of its text;
+ * NO_MEMORY and ENDLESS, with nothing written.
  */
 struct blobcrash_script_ran blobcrash_run(const uint8_t *script, size_t script_len, uint8_t *replies, size_t replies_room);
 
