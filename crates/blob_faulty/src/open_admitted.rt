@@ -1,4 +1,4 @@
-//! Opens that are admitted at once.
+//! Opens with `admit`, in one call.
 ghost use Rattle.std.specs.Prelude.{IfOk};
 ghost use Rattle.blob_header.specs.Refusals.{refused};
 ghost use Rattle.blob_faulty.specs.Admitted.{AdmitsOpen, FindsKept};
@@ -14,12 +14,12 @@ use rand_core::Rng;
 use std::ops::RangeInclusive;
 
 impl<R: Rng> Storage<blob_memory::Storage, R> {
-    /// Opens the blob for any of the versions, and admits it: what is pending of it is retired, so that no crash loses what
-    /// the handle found. This is the open of a caller that keeps one handle of a name at a time by itself.
+    /// Opens the blob for any of the versions and retires its pending list, so that no crash loses what the handle read. For
+    /// callers that keep to one handle per name themselves.
     ///
     /// # Errors
     ///
-    /// As `open_versioned`. Nothing is retired then.
+    /// Those of `open_versioned`. Nothing is retired then.
     pub fn open_versioned_admitted(
         &mut self,
         partition: &str,
@@ -37,12 +37,11 @@ impl<R: Rng> Storage<blob_memory::Storage, R> {
         Ok(opened)
     }
 
-    /// Opens the blob for the default version alone, and admits it: what is pending of it is retired, so that no crash loses what
-    /// the handle found.
+    /// Opens the blob for the default version only and retires its pending list, so that no crash loses what the handle read.
     ///
     /// # Errors
     ///
-    /// As `open`. Nothing is retired then.
+    /// Those of `open`. Nothing is retired then.
     pub fn open_admitted(
         &mut self,
         partition: &str,

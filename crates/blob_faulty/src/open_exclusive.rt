@@ -1,4 +1,4 @@
-//! Exclusive opens that are admitted at once.
+//! Exclusive opens with `admit`, in one call.
 ghost use Rattle.std.specs.Prelude.{◌≡◌, OnOk, OnErr, IfOk};
 ghost use Rattle.blob_header.specs.Refusals.{refused};
 ghost use Rattle.blob_faulty.specs.Admitted.{FindsKept};
@@ -20,14 +20,13 @@ use rand_core::Rng;
 use std::ops::RangeInclusive;
 
 impl<R: Rng> Storage<blob_memory::Storage, R> {
-    /// Opens a blob that isn't open by another handle of this registry, and admits it: what is pending of it is retired, so that
-    /// no crash loses what the handle found. This is the open of a caller that leaves it to a registry that a name has one
-    /// handle at a time; the handle is spent by `Opens::close`.
+    /// Opens a blob that no other handle of this registry has open, and retires its pending list, so that no crash loses what the
+    /// handle read. For callers that let a registry keep each name to one handle. Close the handle with `Opens::close`.
     ///
     /// # Errors
     ///
-    /// As `Opens::open` over this store. Where the name is open, what the store's own open drew and made stays, else the files are
-    /// as before. Nothing is retired.
+    /// Those of `Opens::open` over this store. If the name is open, the draw and the effects of the store's own open stay.
+    /// Otherwise the files are unchanged. Nothing is retired.
     pub fn open_exclusive(
         &mut self,
         registry: &mut Opens,

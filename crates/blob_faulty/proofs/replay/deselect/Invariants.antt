@@ -1,6 +1,6 @@
 use Rattle.std.proofs.Common.{◌≡◌, ◌<◌, ◌≤◌, ℕ, length, get_or, max, not, ◌&&◌, false}
 use Rattle.blob_model.specs.Bytes.{between}
-use Rattle.blob_faulty.proofs.replay.uncover.Given as goal
+use Rattle.blob_faulty.proofs.replay.deselect.Given as goal
 
 abbrev pub invariant-loop-i : goal.invariant-loop-i
 invariant-loop-i l = record {

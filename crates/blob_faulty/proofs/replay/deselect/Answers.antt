@@ -1,6 +1,6 @@
 use Rattle.std.proofs.Common.{◌≡◌, ◌∙◌, ◌-◌, ◌<◌, Bool, min, ap, arith, length, get_or, not, ◌&&◌, false}
 use Rattle.blob_faulty.proofs.Replaying.{covered_at}
-use Rattle.blob_faulty.proofs.replay.uncover.Goals as goal
+use Rattle.blob_faulty.proofs.replay.deselect.Goals as goal
 
 pub returns : goal.returns
 returns c k h =
