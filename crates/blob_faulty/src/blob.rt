@@ -187,7 +187,8 @@ impl<S: blob_base::Storage, R: Rng, B: blob_base::Blob<S>> blob_base::Blob<Stora
 
     /// Draws whether the resize fails. If it doesn't, resizes the inner handle, and a second draw decides whether the resize is
     /// pending and so survives a crash. If it fails, the length stays, or by the partial rate becomes a drawn one strictly
-    /// between the size and `len`, which is then pending. No byte becomes durable. A stale handle behaves the same.
+    /// between the size and `len`, which is then pending. No byte becomes durable. A stale handle behaves the same. After the draws,
+    /// the contract is that of `resize_by_fate`.
     ///
     /// # Errors
     ///
@@ -197,7 +198,8 @@ impl<S: blob_base::Storage, R: Rng, B: blob_base::Blob<S>> blob_base::Blob<Stora
         self.resize_by_fate(store, fate, len)
     }
 
-    /// Draws the sync rate, then makes the live bytes durable and retires the pending list of the handle's incarnation.
+    /// Draws the sync rate, then makes the live bytes durable and retires the pending list of the handle's incarnation. After the
+    /// draw, the contract is that of `sync_inner`.
     ///
     /// # Errors
     ///
@@ -210,7 +212,8 @@ impl<S: blob_base::Storage, R: Rng, B: blob_base::Blob<S>> blob_base::Blob<Stora
     }
 
     /// Draws the sync rate, then makes the live bytes durable and adds a marker to the pending list: a crash replays no entry
-    /// before it. The store's `finish` takes the returned handle and drops these entries.
+    /// before it. The store's `finish` takes the returned handle and drops these entries. After the draw, the contract is that of
+    /// `start_marked`.
     ///
     /// # Errors
     ///

@@ -1,13 +1,10 @@
 //! Opens, removals, scans and finished syncs of the wrapper.
 ghost use Rattle.std.specs.Prelude.{◌≡◌, OnOk, OnErr, option_copied};
-ghost use Rattle.blob_model.specs.Directory.{removed};
-ghost use Rattle.blob_model.specs.Durable.{durable_without};
-ghost use Rattle.blob_model.specs.Files.{after_remove};
 ghost use Rattle.blob_base.specs.Handles.{outcome_of, marker_of};
 ghost use Rattle.blob_header.specs.Refusals.{refused};
 ghost use Rattle.blob_faults.specs.Answers.{injected_or};
 ghost use Rattle.blob_faults.specs.Faults.{draw};
-ghost use Rattle.blob_faulty.specs.Names.{OpenLeaves, MayRemove, Removes, ScanLeaves, FinishLeaves, SameStore, Steps};
+ghost use Rattle.blob_faulty.specs.Names.{OpenLeaves, MayRemove, Removes, RemovesNames, RemovesBytes, RemovesFiles, ScanLeaves, FinishLeaves, SameStore, Steps};
 ghost use Rattle.blob_faulty.specs.Wrapper.{inner_of, rng_of, config_of, inside, size_of};
 
 use crate::blob::Blob;
@@ -30,10 +27,10 @@ impl<S: blob_base::Storage, R: Rng> Storage<S, R> {
     pub fn remove_retired(&mut self, partition: &str, name: Option<&[u8]>) -> Result<Retired, Error>
         ensures allowed { MayRemove R.stream S.allows_remove self.old partition.now (option_copied name.entry) (refused result) }
         ensures leaves { Removes S.Durable R.stream S.leaves_remove self.old partition.now (option_copied name.entry) (refused result) self.new }
-        ensures directory { OnOk result (S.directory (inner_of self.new) ≡ removed (S.directory (inner_of self.old)) partition.now (option_copied name.entry)) }
-        ensures durable { OnOk result (S.durable (inner_of self.new) ≡ durable_without (S.durable (inner_of self.old)) partition.now (option_copied name.entry)) }
+        ensures directory { OnOk result (RemovesNames S.Durable self.old self.new partition.now (option_copied name.entry)) }
+        ensures durable { OnOk result (RemovesBytes S.Durable self.old self.new partition.now (option_copied name.entry)) }
         ensures err { OnErr result (SameStore S.Durable self.old self.new) }
-        ensures files { OnOk result (Steps S.place S.directory S.durable self.old self.new (λ files. after_remove files partition.now (option_copied name.entry))) }
+        ensures files { OnOk result (RemovesFiles S.Durable self.old self.new partition.now (option_copied name.entry)) }
         ensures same_files { OnErr result (Steps S.place S.directory S.durable self.old self.new (λ files. files)) }
     {
         if draws(self.config.remove_rate, &mut self.rng) {

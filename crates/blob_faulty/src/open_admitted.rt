@@ -1,9 +1,8 @@
 //! Opens with `admit`, in one call.
 ghost use Rattle.std.specs.Prelude.{IfOk};
 ghost use Rattle.blob_header.specs.Refusals.{refused};
-ghost use Rattle.blob_faulty.specs.Admitted.{AdmitsOpen, FindsKept};
+ghost use Rattle.blob_faulty.specs.Admitted.{AdmitsOpen, AdmitsVersions, FindsKept, FindsVersions};
 ghost use Rattle.blob_faulty.specs.Names.{AreVersions};
-ghost use Rattle.blob_header.specs.Versions.{lower, upper};
 
 use crate::blob::Blob;
 use crate::laws::names::opens;
@@ -27,8 +26,8 @@ impl<R: Rng> Storage<blob_memory::Storage, R> {
         versions: RangeInclusive<BlobVersion>,
     ) -> Result<(Blob<blob_memory::Blob>, u64, BlobVersion), Error>
         requires { AreVersions versions }
-        ensures answer { AdmitsOpen self.old self.new partition.now name.now (lower versions) (upper versions) R.stream (refused result) }
-        ensures accepted { IfOk result (λ o. FindsKept self.old self.new partition.now name.now (lower versions) (upper versions) o.0 o.1 o.2.0) }
+        ensures answer { AdmitsVersions self.old self.new partition.now name.now versions R.stream (refused result) }
+        ensures accepted { IfOk result (λ o. FindsVersions self.old self.new partition.now name.now versions o.0 o.1 o.2.0) }
     {
         opens::<blob_memory::Storage, R>();
         numbers_are_given::<blob_memory::Storage>();
