@@ -1,4 +1,4 @@
-ghost use Rattle.std.specs.Prelude.{◌≡◌, ◌≤◌, [], length, IsTrue, ◌↔◌, IfOk, OnErr, vec_capacity};
+ghost use Rattle.std.specs.Prelude.{◌≡◌, ◌≤◌, ◌+◌, ◌++◌, [], length, IsTrue, ◌↔◌, IfOk, OnErr, vec_capacity};
 ghost use Rattle.blob_header.specs.Refusals.{IsMemory};
 
 use blob_header::error::Error;
@@ -61,6 +61,15 @@ impl IoBufsMut {
         ensures room { self.old.capacity ≤ self.new.capacity }
     {
         self.bytes.clear();
+        self.bytes.extend_from_slice(bytes).unwrap();
+    }
+
+    /// Appends bytes within the capacity. Doesn't allocate.
+    pub fn put_slice(&mut self, bytes: &[u8])
+        requires { length self.old.bytes + length bytes.now ≤ self.old.capacity }
+        ensures bytes { self.new.bytes ≡ self.old.bytes ++ bytes.now }
+        ensures room { self.old.capacity ≤ self.new.capacity }
+    {
         self.bytes.extend_from_slice(bytes).unwrap();
     }
 

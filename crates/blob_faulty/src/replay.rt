@@ -11,7 +11,7 @@ ghost use Rattle.blob_faulty.specs.Crashes.{ChoosesUncovered, ReplaysList, Repla
 ghost use Rattle.blob_faulty.specs.Ready.{IsReady, CanReplay};
 ghost use Rattle.blob_faults.specs.Rows.{rows_in, AreNumbered};
 ghost use Rattle.blob_faults.specs.Views.{view, left_in};
-ghost use Rattle.blob_overlay.specs.Overlays.{AreNow};
+ghost use Rattle.blob_pages.specs.Stored.{AreNow};
 ghost use Rattle.blob_memory.specs.Retained.{KeepsRoom};
 ghost use Rattle.blob_memory.specs.Store.{directory, durable};
 
@@ -21,7 +21,7 @@ use blob_faults::holes::Hole;
 use blob_faults::incarnation::Incarnation;
 use blob_faults::rows::choices_in;
 use blob_faults::write::PendingWrite;
-use blob_memory::{Origin, overlay};
+use blob_memory::{Bytes, Origin, overlay};
 
 /// Sets `chosen` to a row's choices for `len` bytes. Bytes past the row's end aren't chosen.
 fn put_row(chosen: &mut Vec<bool>, row: &[bool], len: usize)
@@ -69,7 +69,7 @@ fn put_choices(chosen: &mut Vec<bool>, write: &PendingWrite, row: &[bool])
 
 /// Replays one entry over bytes with enough capacity. A write's row is found by the write's number.
 fn replay_entry(
-    bytes: &mut Vec<u8>,
+    bytes: &mut Bytes,
     entry: &Entry,
     rows: &[(u64, Vec<bool>)],
     chosen: &mut Vec<bool>,
@@ -95,7 +95,7 @@ fn replay_entry(
 
 /// Replays entries in their order, except writes that are fully covered. None of them is a marker.
 fn replay_entries(
-    bytes: &mut Vec<u8>,
+    bytes: &mut Bytes,
     entries: &[Entry],
     rows: &[(u64, Vec<bool>)],
     chosen: &mut Vec<bool>,
