@@ -95,6 +95,32 @@ enum blobcrash_kind {
     BLOBCRASH_REOPEN = 13
 };
 
+/* Why a header is refused: the first test that it fails. */
+enum blobcrash_header_refusal {
+    BLOBCRASH_H_INVALID_MAGIC = 48,              /* the first four bytes are no layout's magic */
+    BLOBCRASH_H_UNSUPPORTED_LAYOUT_VERSION = 49, /* the layout version isn't the magic's: `version` has it */
+    BLOBCRASH_H_LAYOUT_MISMATCH = 50,            /* the layout isn't accepted: `version` has its number */
+    BLOBCRASH_H_VERSION_MISMATCH = 51,           /* the version isn't accepted: `version` has it */
+    BLOBCRASH_H_INVALID_CHECKSUM = 52,
+    BLOBCRASH_H_INVALID_PADDING = 53,
+    BLOBCRASH_H_TRUNCATED = 54                   /* the blob is too short: `size` has the length that the header needs */
+};
+
+/* The calls of the registry of durability debt, each with the fields and the bytes that it uses. It ignores the others. */
+enum blobcrash_debt_kind {
+    BLOBCRASH_DEBT_ADMIT = 0,            /* partition, name, flag: whether the blob existed */
+    BLOBCRASH_DEBT_RELEASE = 1,          /* number: an open */
+    BLOBCRASH_DEBT_SETTLE = 2,           /* number: a token; the partition and the name of its open; flag: whether debt is left; failure */
+    BLOBCRASH_DEBT_DEBT = 3,             /* number: an open */
+    BLOBCRASH_DEBT_CLEAR = 4,            /* number: an open; failure, or DONE */
+    BLOBCRASH_DEBT_FAIL = 5,             /* number: an open; failure */
+    BLOBCRASH_DEBT_CLOSE = 6,            /* number: an open */
+    BLOBCRASH_DEBT_FORGET = 7,           /* partition, name */
+    BLOBCRASH_DEBT_FORGET_PARTITION = 8, /* partition */
+    BLOBCRASH_DEBT_IS_SETTLED = 9,       /* number: a predecessor */
+    BLOBCRASH_DEBT_KEEPS = 10            /* partition, name */
+};
+
 /* A laboratory, or none: a store with its open handles and started syncs. */
 struct blobcrash_session {
     void *at;
@@ -143,6 +169,47 @@ struct blobcrash_kept_run {
     /* The run is the bytes from `start` to before `start + len`; without one `start` is `bytes`, and `len` 0. */
     size_t start;
     size_t len;
+};
+
+/* Which headers are accepted: the layouts from `oldest` to `newest`, 0 or 1, and the versions from `least` to `greatest`. */
+struct blobcrash_accepts {
+    uint16_t oldest;
+    uint16_t newest;
+    uint16_t least;
+    uint16_t greatest;
+};
+
+/* What a header says. The numbers that it doesn't say are 0. */
+struct blobcrash_header {
+    /* DONE, why it is refused, or BAD_CALL. */
+    uint32_t status;
+    uint32_t version;
+    /* The size of the blob without its header, in bytes. */
+    uint64_t size;
+    /* The offset of the blob's own bytes. */
+    uint64_t data_offset;
+};
+
+/* A call of the registry of durability debt without its bytes. */
+struct blobcrash_debt_call {
+    uint32_t kind;
+    /* DONE, or one of the refusals without texts. */
+    uint32_t failure;
+    size_t number;
+    bool flag;
+};
+
+/* What the registry returns. The numbers that a call doesn't return are 0. */
+struct blobcrash_debt_reply {
+    /* DONE, a refusal, or another status if no call was made. */
+    uint32_t status;
+    /* Whether a name owes, a release gave a token, a predecessor has settled or anything is kept of a name. */
+    bool flag;
+    /* Whether an admitted open has a predecessor that hasn't settled, which `predecessor` is. */
+    bool has_predecessor;
+    /* The number of an admitted open, or of a release's token. */
+    size_t number;
+    size_t predecessor;
 };
 
 /*
@@ -259,6 +326,34 @@ struct blobcrash_ran blobcrash_words_left(struct blobcrash_session *session);
  * DONE; NO_MEMORY and CLOSED, which change nothing.
  */
 uint32_t blobcrash_push_words(struct blobcrash_session *session, const uint64_t *words, size_t count);
+
+/*
+ * Makes a call of the registry of durability debt, which a session has as well as its store: the store doesn't change. The registry knows
+ * the latest open of each name, and what closed opens left: work that isn't done, debt, and failures. An open is admitted, and at its
+ * end released and closed; its token is settled when its work is done. Opens, tokens and predecessors have numbers from 0 on, and no
+ * number is given twice. What each call returns: `crates/blob_debt/src/pending.rt`.
+ *
+ * DONE; E_BLOB_ALREADY_OPEN if the name's open isn't closed; a failure that was kept; E_NO_HANDLE if nothing has the number;
+ * E_GENERATIONS_EXHAUSTED and E_MEMORY; BAD_CALL if the kind is unknown, the failure has texts or the partition isn't UTF-8;
+ * CLOSED. All but DONE leave the registry as it was.
+ */
+struct blobcrash_debt_reply blobcrash_debt(struct blobcrash_session *session, const struct blobcrash_debt_call *asked,
+                                           const uint8_t *partition, size_t partition_len, const uint8_t *name, size_t name_len);
+
+/*
+ * Parses the header of a blob, without a session. `raw` has the first bytes of the blob, at least `min(raw_len, 4096)`, and `raw_len`
+ * is the length of the whole blob.
+ *
+ * DONE; why the header is refused; BAD_CALL if a layout is unknown, `raw` has too few bytes or more than the blob, or the blob is
+ * shorter than 8 bytes.
+ */
+struct blobcrash_header blobcrash_parse_header(const uint8_t *raw, size_t len, uint64_t raw_len, const struct blobcrash_accepts *accepts);
+
+/*
+ * Returns whether an interrupted creation in this layout, 0 or 1, may have left these bytes of a whole blob. No bytes of layout 0 or
+ * of a layout that doesn't exist are.
+ */
+bool blobcrash_interrupted_creation(uint16_t layout, const uint8_t *raw, size_t len);
 
 /* Closes a session, and frees its store. A closed one stays closed. */
 void blobcrash_close(struct blobcrash_session *session);

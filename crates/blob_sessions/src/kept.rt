@@ -8,6 +8,7 @@ ghost use Rattle.blob_sessions.specs.Sessions.{RunsLine, AnswersRead, AnswersWri
 ghost use Rattle.blob_sessions.specs.Typed.{last_reply};
 ghost use Rattle.blob_sessions.specs.Words.{TakesWords, TellsWordsLeft};
 
+use crate::debts::{DebtCall, DebtReply, Debts};
 use crate::parts::copied;
 use crate::ran::{BAD_CALL, BAD_LINE, DONE, ENDLESS, NO_MEMORY, OTHER_REPLY, Ran, UNPRINTED};
 use crate::typed::{TypedCall, TypedReply, typed_call};
@@ -23,6 +24,8 @@ pub struct Kept {
     pub(crate) last: Option<Reply>,
     /// Used again for each reply that is printed.
     text: String,
+    /// A registry that no call of the laboratory changes.
+    pub(crate) debts: Debts,
 }
 
 impl Drop for Kept {
@@ -32,7 +35,9 @@ impl Drop for Kept {
             config: _,
             last: _,
             text: _,
+            debts,
         } = self;
+        debts.end();
         lab.end();
     }
 }
@@ -48,7 +53,21 @@ impl Kept {
             config,
             last: None,
             text: String::new(alloc),
+            debts: Debts::new(alloc),
         }
+    }
+
+    /// Makes a call of the registry of durability debt. The laboratory doesn't change.
+    pub fn owe(
+        &mut self,
+        alloc: Global,
+        asked: &DebtCall,
+        partition: &[u8],
+        name: &[u8],
+    ) -> DebtReply
+        ensures { self.new ≡ record self.old { debts = self.new.debts } }
+    {
+        self.debts.apply(alloc, asked, partition, name)
     }
 
     /// Makes the call that a line says, and prints its reply. A line that says nothing is answered with nothing.
