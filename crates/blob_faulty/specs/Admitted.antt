@@ -1,4 +1,4 @@
--- Opens over the memory store that are admitted at once: what is retired, what they leave of a wrapper, and what they find.
+-- Opens with `admit` over the memory store: what they retire, what they leave of a wrapper, and what they find.
 use Rattle.std.specs.Prelude.{◌≡◌, ℕ, List, length, Option, None, IsSome, MatchBool}
 use Rattle.std.specs.declared.ops.RangeInclusive.{RangeInclusive}
 use Rattle.rand_core.specs.Stream.{Stream}
@@ -37,15 +37,15 @@ pub record Admits {R : Type 0} (before after : OverMemory R) (p n : List ℕ) : 
 pub record AdmittedOpenLeaves {S R O : Type 0} (place : O → Place) (names : S → Directory) (stream : R → Stream) (asked : S → Type 0) (p n : List ℕ) (answer : Option Refusal) (before after : Storage S R O) : Type 0 where
   -- one draw of the open rate is taken
   pub drawn : stream (rng_of after) ≡ (draw (config_of before).open_rate (stream (rng_of before))).1
-  -- where it is true the inner store isn't asked
+  -- if it is true, the inner store isn't called
   pub inner : MatchBool (draw (config_of before).open_rate (stream (rng_of before))).0 (inner_of after ≡ inner_of before) (asked (inner_of after))
-  -- answered Ok, what is pending of the name's current incarnation is retired, and no more
+  -- after Ok, the pending list of the name's current incarnation is retired, and no other
   pub retired : answer ≡ None → (o : Place) → pending_of place after o ≡ retired (pending_of place before) (current (names (inner_of after)) p n) o
   -- after a refusal the same is pending
   pub kept : IsSome answer → (o : Place) → pending_of place after o ≡ pending_of place before o
   pub numbers : KeepsNumbers before after
 
--- the wrapper stands for the same files
+-- the wrapper represents the same files
 abbrev pub StaysSame : {R : Type 0} → OverMemory R → OverMemory R → Type 0
 StaysSame before after = Steps (λ o. o) directory durable before after (λ files. files)
 
@@ -56,7 +56,7 @@ pub record RefusesOpen {R : Type 0} (before after : OverMemory R) : Type 0 where
   pub same_files : StaysSame before after
 
 module _ {R : Type 0} (before after : OverMemory R) (p n : List ℕ) (first last : ℕ) where
-  -- it stands for what the store's own open makes of the files, and for that admitted
+  -- it represents the files after the store's own open, and these with the name admitted
   abbrev pub OpensAlone : Type 0
   OpensAlone = Steps (λ o. o) directory durable before after (λ files. after_open files p n first last)
 
@@ -71,14 +71,14 @@ module _ {R : Type 0} (before after : OverMemory R) (p n : List ℕ) (first last
   abbrev pub LeavesAdmitted : (R → Stream) → Option Refusal → Type 0
   LeavesAdmitted stream answer = AdmittedOpenLeaves (λ o. o) directory stream (λ _. Unit {0}) p n answer before after
 
--- an open that is admitted where it is accepted
+-- an open that admits the name if it is accepted
 pub record AdmitsOpen {R : Type 0} (before after : OverMemory R) (p n : List ℕ) (first last : ℕ) (stream : R → Stream) (answer : Option Refusal) : Type 0 where
   pub allowed : MayOpen before after p n first last stream answer
   pub leaves : LeavesAdmitted before after p n first last stream answer
   pub err : IsSome answer → RefusesOpen before after
   pub keeps : LosesNothing before after
 
--- what it finds where it is accepted: a handle, the size that is answered and the blob's version
+-- what an accepted one finds: a handle, the returned size and the blob's version
 pub record FindsKept {R : Type 0} (before after : OverMemory R) (p n : List ℕ) (first last : ℕ) (b : Blob memory_blob.Blob) (len version : ℕ) : Type 0 where
   pub opened : IsOpened (directory (inner_of before)) (durable (inner_of before)) (directory (inner_of after)) (durable (inner_of after)) p n first last (place (inside b)) (live (inside b)) version
   pub size : len ≡ length (live (inside b))

@@ -32,18 +32,18 @@ module _ {S R O B : Type 0} (handle : handles.Ghosts B S O) (b : Blob B) (w : St
   abbrev pub MayWritePlain : ℕ → List ℕ → Allowed
   MayWritePlain offset bytes = or_memory (numbered (lacks_number (is_some (retention (config_of w).write_rate)) (next_write_of w) bytes) (InnerWrites offset bytes false))
 
-  -- a write whose fate was drawn
+  -- a write with a drawn outcome
   abbrev pub MayWriteBy : WriteFate → Bool → ℕ → List ℕ → Allowed
   MayWriteBy fate sync offset bytes = or_memory (allows_fate fate InnerWrites InnerReserves handle.is_direct (is_some (retention (config_of w).write_rate)) (next_write_of w) sync offset bytes)
 
-  -- the kept runs of a failed one: with the room for them, and behind it
+  -- the kept runs of a failed one: with the reservation for them, and after it
   abbrev pub MayLayKept : List Run → Allowed
   MayLayKept rs = or_memory (allows_runs InnerWrites InnerReserves handle.is_direct rs)
 
   abbrev pub MayLay : List Run → Allowed
   MayLay rs = allows_laid InnerWrites handle.is_direct rs
 
-  -- a later write may be answered by another handle and store what it may by these
+  -- another handle and store may return from a later write only what these may
   abbrev pub AllowsAsMuch : Blob B → Storage S R O → Type 0
   AllowsAsMuch c after = (offset : ℕ) (bytes : List ℕ) (sync : Bool) (answer : Option Refusal) → handle.allows_write (inside c) (inner_of after) offset bytes sync answer → InnerWrites offset bytes sync answer
 
@@ -59,17 +59,17 @@ module _ {S R O B : Type 0} (store : stores.Ghosts S O) (handle : handles.Ghosts
   abbrev pub WritesDurable : Storage S R O → ℕ → List ℕ → Type 0
   WritesDurable after offset bytes = store.durable (inner_of after) ≡ with_overlay (store.durable (inner_of w)) (handle.place (inside b)) offset bytes
 
-  -- the list at this index is that of the handle's incarnation, and has room for these durable ranges
+  -- the list at this index is that of the handle's incarnation, and has capacity for these durable ranges
   abbrev pub HasListRoom : ℕ → Holes → Type 0
   HasListRoom list ranges = HasRoomAt store.place w.lists.all.lists.items list (handle.place (inside b)) ranges
 
-  -- of a current handle of a store that keeps reserved room, as that it has room for these runs
+  -- a fact about a current handle of a store that keeps reserved capacity
   abbrev pub IfRoomIsKept : Type 0 → Type 0
   IfRoomIsKept P = handle.is_direct ≡ true → is_current (store.directory (inner_of w)) (handle.place (inside b)) ≡ true → P
 
   abbrev pub HasInnerRoom : List Run → Type 0
   HasInnerRoom rs = IfRoomIsKept (All (EndsWithin (handle.room (inside b) (inner_of w))) rs)
 
-  -- room for a range was used, and that for later ranges is left
+  -- capacity for a range was used, and that for later ranges is left
   abbrev pub LeavesListRoom : Blob B → Storage S R O → ℕ → Run → Type 0
   LeavesListRoom c after list run = (later : Holes) → HasListRoom list ((run.0, run.0 + length run.1) ∷ later) → HasRoomAt store.place after.lists.all.lists.items list (handle.place (inside c)) later

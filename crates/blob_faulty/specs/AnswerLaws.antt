@@ -11,12 +11,12 @@ use Rattle.blob_faults.specs.Answers.{Allowed, or_memory, injected_or, injected_
 use Rattle.blob_faults.specs.Fates.{has_uncounted_end}
 use Rattle.blob_faults.specs.Faults.{WriteFate, Done, Unsynced, Failed, drawn_fate, retention}
 
--- where the inner store's answers are among others, so are the wrapper's
+-- if the inner store may return no more, neither may the wrapper
 pub injected_alike : (drawn : Bool) (inner wider : Allowed) (answer : Option Refusal) → (inner answer → wider answer) → injected_or drawn inner answer → injected_or drawn wider answer
 injected_alike true inner wider answer more a = a
 injected_alike false inner wider answer more a = more a
 
--- a write whose sync fails isn't answered Ok
+-- a write with a failed sync doesn't return Ok
 pub injected_none : (inner : Allowed) → injected_for inner None → ⊥
 injected_none inner (inl a) = cc
 injected_none inner (inr a) = false≢true a.0
@@ -51,7 +51,7 @@ write_none writes reserves direct config next stream offset (b ∷ bytes) some n
     (fate_none (drawn_fate config true offset (length (b ∷ bytes)) stream).0 writes reserves direct (is_some (retention config.write_rate)) next offset (b ∷ bytes) never))
     a
 
--- a SYNC write of no bytes is answered Ok
+-- an empty SYNC write returns Ok
 pub write_empty : (writes : ℕ → List ℕ → Bool → Allowed) (reserves : ℕ → Allowed) (direct : Bool) (config : Config) (next : ℕ) (stream : Stream) (offset : ℕ) (bytes : List ℕ) → offset + length bytes ≤ 0 →
     allows_write writes reserves direct config next stream offset bytes true (Some Memory) → ⊥
 unfolding allows_write

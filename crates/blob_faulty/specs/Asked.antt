@@ -1,4 +1,4 @@
--- What a wrapper's write or resize asks of its inner blob, by the fate that was drawn for it.
+-- The calls that a wrapper's write or resize makes of its inner blob, by its drawn outcome.
 use Rattle.std.specs.Prelude.{◌≡◌, ◌⊎◌, ℕ, Bool, true, false, List, [], ◌∷◌, map, length, Option, Some, None, IsSome, MatchBool}
 use Rattle.rand_core.specs.Stream.{Stream}
 use Rattle.blob_base.specs.HandleCalls.{HandleCall, Write, Resize, Reserve}
@@ -21,7 +21,7 @@ pub record Then {B S : Type 0} (first others : B → S → Type 0) : Type 0 wher
   pub done : first blob store
   pub behind : others blob store
 
--- these calls were made one after the other, up to the first that was refused, whose answer this is
+-- these calls were made in order, up to the first error, which is the result
 abbrev pub Made : {B S : Type 0} → (HandleCall → B → S → Option Refusal → B → S → Type 0) → List HandleCall → Option Refusal → B → S → B → S → Type 0
 Made leaves [] answer b s c t = (answer ≡ None) × (c ≡ b) × (t ≡ s)
 Made leaves (call ∷ calls) answer b s c t = (IsSome answer × leaves call b s answer c t) ⊎ Then (leaves call b s None) (λ x y. Made leaves calls answer x y c t)
@@ -30,26 +30,26 @@ Made leaves (call ∷ calls) answer b s c t = (IsSome answer × leaves call b s 
 abbrev pub run_calls : List Run → List HandleCall
 run_calls rs = map (λ r. Write r.0 r.1 true) rs
 
--- before them room up to the last one's end
+-- before them a reservation up to the last one's end
 abbrev pub kept_calls : List Run → List HandleCall
 kept_calls [] = []
 kept_calls (r ∷ rs) = Reserve (last_end 0 (r ∷ rs)) ∷ run_calls (r ∷ rs)
 
--- what any refusal may be answered as
+-- some error is possible
 pub record Refuses (inner : Allowed) : Type 0 where
   pub refusal : Refusal
   pub is : inner (Some refusal)
 
--- a refusal may be answered WriteFailed
+-- an error may be returned as WriteFailed
 abbrev pub or_failed : Allowed → Allowed
 or_failed inner answer = inner answer ⊎ ((answer ≡ Some WriteFailed) × Refuses inner)
 
--- a SYNC write was done for each run of the front, one after the other, and then that of the first run left was refused
+-- a SYNC write was done for each run of `front`, in order, and then the first run left was rejected
 abbrev pub RefusedBehind : {B S : Type 0} → (HandleCall → B → S → Option Refusal → B → S → Type 0) → List Run → List Run → B → S → B → S → Type 0
 RefusedBehind leaves front [] b s c t = ⊥
 RefusedBehind leaves front (r ∷ left) b s c t = Then (Made leaves (run_calls front) None b s) (λ x y. Refuses (λ answer. leaves (Write r.0 r.1 true) x y answer c t))
 
--- which calls a write makes, where `made` says of calls that these were made and answered so
+-- which calls a write makes; `made` says of calls that these were made, with this result
 abbrev pub write_calls : (List HandleCall → Allowed) → WriteFate → Bool → ℕ → List ℕ → Allowed
 write_calls made Done sync offset bytes answer = made (Write offset bytes sync ∷ []) answer
 write_calls made Unsynced sync offset bytes answer = injected_for (made (Write offset bytes false ∷ [])) answer
@@ -74,7 +74,7 @@ module _ {S R O B : Type 0} (handle : handles.Ghosts B S O) (b : Blob B) (before
   abbrev pub InnerMade : List HandleCall → Allowed
   InnerMade calls answer = Made handle.leaves calls answer (inside b) (inner_of before) (inside c) (inner_of after)
 
-  -- the inner blob did the runs of the front and refused the first that is left; `InRoom` where room for all was taken before
+  -- the inner blob did the runs of `front` and rejected the first that is left; `InRoom` if capacity for all was reserved before
   abbrev pub InnerRefused : List Run → List Run → Type 0
   InnerRefused front left = RefusedBehind handle.leaves front left (inside b) (inner_of before) (inside c) (inner_of after)
 
@@ -103,7 +103,7 @@ module _ {S R O B : Type 0} (handle : handles.Ghosts B S O) (b : Blob B) (before
   abbrev pub InnerReached : ResizeFate → Type 0
   InnerReached fate = reached_by InnerMade fate
 
-  -- by the draws: one that does nothing, and one whose end can't be counted, ask for nothing
+  -- by the draws: one that does nothing, and one with an overflowing end, make no call
   abbrev pub AsksDrawn : Config → Stream → Bool → ℕ → List ℕ → Allowed
   AsksDrawn config stream sync offset bytes answer =
       MatchBool (is_idle sync bytes) (InnerMade [] answer) (MatchBool (has_uncounted_end offset bytes) (Unasked answer)

@@ -1,4 +1,4 @@
--- Rates whose draws are certain, and what a wrapper may answer by them.
+-- Rates with certain draws, and what a wrapper may return with them.
 use Rattle.std.specs.Prelude.{◌≡◌, ◌<◌, ◌-◌, ◌^◌, ◌↔◌, ℕ, List, Bool, true, false, Option, Some, None, is_some}
 use Rattle.blob_model.specs.Live.{is_idle}
 use Rattle.blob_model.specs.Rates.{Rate}
@@ -31,10 +31,10 @@ abbrev pub partial_resizes : Option ResizeConfig → Option Rate
 partial_resizes None = None
 partial_resizes (Some c) = Some c.partial_rate
 
--- Which answers a wrapper's handle may have where its draws are certain, against the handle inside.
+-- What a wrapper's handle may return if its draws are certain, compared to the inner handle.
 
 module _ {S R O B : Type 0} (wrapped : handles.Ghosts (Blob B) (Storage S R O) O) (inner : handles.Ghosts B S O) where
-  -- where no rate that a call draws is above zero, what the handle inside may have, or `Memory`
+  -- if no rate that a call draws is above zero, what the inner handle may return, or `Memory`
   abbrev pub QuietReads : Type 0
   QuietReads = (b : Blob B) (s : Storage S R O) (offset len : ℕ) (answer : Option Refusal) → IsNever (config_of s).read_rate →
       wrapped.allows_read b s offset len answer ↔ inner.allows_read (inside b) (inner_of s) offset len answer
@@ -94,7 +94,7 @@ pub record DrawsFaults {S R O B : Type 0} (wrapped : handles.Ghosts (Blob B) (St
   pub syncs : DrawnSyncs wrapped inner
   pub started : DrawnStarts wrapped inner
 
--- where a rate is one, a call that reaches its draw isn't answered Ok
+-- if a rate is one, a call that reaches its draw doesn't return Ok
 module _ {S R O B : Type 0} (wrapped : handles.Ghosts (Blob B) (Storage S R O) O) where
   abbrev pub ReadsFail : Type 0
   ReadsFail = (b : Blob B) (s : Storage S R O) (offset len : ℕ) → IsAlways (config_of s).read_rate → wrapped.allows_read b s offset len None → ⊥

@@ -1,4 +1,4 @@
--- What a crash of a wrapper over the memory store leaves, and what its replay makes of the durable bytes.
+-- What a crash of a wrapper over the memory store leaves, and the durable bytes after its replay.
 use Rattle.std.specs.Prelude.{◌≡◌, ◌<◌, ◌+◌, ℕ, List, Bool, false, not, ◌&&◌, length, slice_index_or, Vec}
 use Rattle.std.specs.Global.{Global}
 use Rattle.rand_core.specs.Stream.{Stream}
@@ -21,11 +21,11 @@ use Rattle.blob_faulty.specs.Keeps.{OverMemory, IsFor}
 use Rattle.blob_faulty.specs.Wrapper.{inner_of, rng_of, pending_of}
 use Rattle.blob_memory.specs.Store.{durable}
 
--- whatever files the wrapper stood for, these rows are drawn for the writes that their log needs
+-- if the wrapper represented files, these rows are drawn for the writes that need a draw in their logs
 abbrev pub CrashDraws : {R : Type 0} → (R → Stream) → OverMemory R → OverMemory R → Selections → Type 0
 CrashDraws stream before after kept = (files : Files) → IsFor before files → (table_of kept, stream (rng_of after)) ≡ drawn (stream (rng_of before)) (all_needs files.log)
 
--- and it stands for what a crash leaves of them that keeps these
+-- and it represents the files after a crash that keeps these
 abbrev pub CrashLeaves : {R : Type 0} → OverMemory R → OverMemory R → Selections → Type 0
 CrashLeaves before after kept = (files : Files) → IsFor before files → IsFor after (after_crash files (chosen_by (table_of kept)))
 
@@ -45,7 +45,7 @@ ReplaysList list rows before after = (o : Place) → after o ≡ with_changed be
 abbrev pub StaysChosen : ℕ → (ℕ → Bool) → List Bool → List Bool → Type 0
 StaysChosen offset covered old new = (i : ℕ) → i < length old → slice_index_or new i false ≡ (not (covered (offset + i)) && slice_index_or old i false)
 
--- of each byte of a write the row's choice, but for those that a later durable range covers
+-- for each byte of a write the row's choice, except those that a later durable range covers
 abbrev pub ChoosesUncovered : List Bool → PendingWrite → List Bool → Type 0
 ChoosesUncovered chosen write row = (i : ℕ) → i < length write.bytes
     → slice_index_or chosen i false ≡ (not (in_holes (ranges write.holes.items) (write.offset + i)) && slice_index_or row i false)

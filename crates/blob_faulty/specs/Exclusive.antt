@@ -1,4 +1,4 @@
--- An exclusive open over the memory store that is admitted at once: what it may answer and what it leaves.
+-- An exclusive open with `admit` over the memory store: what it may return and what it leaves.
 use Rattle.std.specs.Prelude.{◌≡◌, ℕ, List, Option, Some, None}
 use Rattle.std.specs.declared.ops.RangeInclusive.{RangeInclusive}
 use Rattle.rand_core.specs.Stream.{Stream}
@@ -14,7 +14,7 @@ use Rattle.blob_faulty.specs.Wrapper.{inner_of}
 use Rattle.blob_memory.specs.Store.{directory, durable}
 
 module _ {R : Type 0} (before after : OverMemory R) (p n : List ℕ) (first last : ℕ) where
-  -- the store's own open was answered so; by the answer of the whole call what is pending was retired
+  -- the store's own open returned this; the pending list was retired by the result of the whole call
   abbrev pub Asked : (R → Stream) → Option Refusal → Option Refusal → Type 0
   Asked stream answer asked = MayOpen before after p n first last stream asked × LeavesAdmitted before after p n first last stream answer
 

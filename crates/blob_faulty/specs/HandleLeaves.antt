@@ -1,4 +1,4 @@
--- What a call through a handle leaves of it and of its wrapper besides files.
+-- What a call through a handle leaves of it and of its wrapper, apart from files.
 use Rattle.std.specs.Prelude.{◌≡◌, ◌≢◌, ◌⊎◌, ℕ, ◌+◌, max, Bool, true, false, List, [], ◌∷◌, ◌++◌, length, Option, Some, None, IsSome, MatchBool}
 use Rattle.rand_core.specs.Stream.{Stream}
 use Rattle.blob_model.specs.Durable.{with_at}
@@ -21,12 +21,12 @@ use Rattle.blob_faulty.specs.Names.{Steps}
 use Rattle.blob_faulty.specs.Syncs.{Publishes, Starts}
 use Rattle.blob_faulty.specs.Wrapper.{inner_of, rng_of, config_of, next_write_of, next_marker_of, pending_of, inside, size_of, KeepsNumbers, KeepsRecords, Adds}
 
--- whatever files the wrapper stood for, these entries were added to the log of the handle's incarnation
+-- if the wrapper represented files, these entries were added to the log of the handle's incarnation
 abbrev pub AddsToLog : {S R O B : Type 0} → stores.Ghosts S O → handles.Ghosts B S O → Blob B → Storage S R O → Storage S R O → List Entry → Type 0
 AddsToLog store handle b before after entries =
     Adds store.place (store.directory (inner_of before)) (store.durable (inner_of before)) (store.durable (inner_of after)) before after (handle.place (inside b)) entries
 
--- the size that is tracked behind a write that was done
+-- the tracked size after a write that was done
 abbrev pub size_written : Bool → ℕ → ℕ → List ℕ → ℕ
 size_written true size offset [] = size
 size_written true size offset (b ∷ bytes) = max size (offset + length (b ∷ bytes))
@@ -37,7 +37,7 @@ pub record Untouched {S R O B : Type 0} (store : stores.Ghosts S O) (b : Blob B)
   pub records : KeepsRecords store.place before after
   pub size : size_of c ≡ size_of b
 
--- runs were laid up to one that the inner blob refused, each as a durable range in the list of the handle's incarnation and in the size that it tracks.
+-- runs were written up to one that the inner blob rejected, each as a durable range in the list of the handle's incarnation and in the tracked size.
 -- Nothing else was recorded
 pub record LaidSome {S R O B : Type 0} (store : stores.Ghosts S O) (handle : handles.Ghosts B S O) (rs : List Run) (b : Blob B) (before : Storage S R O) (c : Blob B) (after : Storage S R O) : Type 0 where
   pub front : List Run
@@ -48,7 +48,7 @@ pub record LaidSome {S R O B : Type 0} (store : stores.Ghosts S O) (handle : han
   pub size : size_of c ≡ size_of_runs (size_of b) front
   pub numbers : KeepsNumbers before after
 
--- what a write that is answered WriteFailed leaves, by its fate
+-- what a write that returns WriteFailed leaves, by its outcome
 abbrev pub LeavesFailed : {S R O B : Type 0} → stores.Ghosts S O → handles.Ghosts B S O → WriteFate → ℕ → List ℕ → Blob B → Storage S R O → Blob B → Storage S R O → Type 0
 LeavesFailed store handle (Failed chosen) offset bytes b before c after = LaidSome store handle (runs offset bytes chosen) b before c after
 LeavesFailed store handle fate offset bytes b before c after = Untouched store b before c after
@@ -57,7 +57,7 @@ LeavesFailed store handle fate offset bytes b before c after = Untouched store b
 abbrev pub AsksOnce : {S R O : Type 0} → (S → Type 0) → Option Refusal → Storage S R O → Storage S R O → Type 0
 AsksOnce asked answer before after = (IsSome answer × (inner_of after ≡ inner_of before)) ⊎ asked (inner_of after)
 
--- the inner store began a sync, and the handle that it answered was finished there
+-- the inner store started a sync, and finished the handle that this returned
 pub record Finishes {S : Type 0} (starts : Option ℕ → S → Type 0) (finishes : S → Option ℕ → S → Type 0) (after : S) : Type 0 where
   pub marker : Option ℕ
   pub between : S
@@ -72,7 +72,7 @@ module _ {S R O B : Type 0} (handle : handles.Ghosts B S O) (b : Blob B) (before
   abbrev pub AsksStart : (S → Option ℕ → S → Type 0) → Option Refusal → Type 0
   AsksStart finishes answer = AsksOnce (Finishes (λ marker. handle.leaves (StartSync marker) (inside b) (inner_of before) answer (inside c)) finishes) answer before after
 
--- a read: one draw of the read rate is taken, and where it is true the inner store isn't asked
+-- a read: one draw of the read rate, and if it is true, no call of the inner store
 pub record ReadLeaves {S R O : Type 0} (store : stores.Ghosts S O) (stream : R → Stream) (asked : S → Type 0) (before after : Storage S R O) : Type 0 where
   pub drawn : stream (rng_of after) ≡ (draw (config_of before).read_rate (stream (rng_of before))).1
   pub inner : MatchBool (draw (config_of before).read_rate (stream (rng_of before))).0 (inner_of after ≡ inner_of before) (asked (inner_of after))
@@ -89,24 +89,24 @@ pub record WriteLeaves {S R O B : Type 0} (store : stores.Ghosts S O) (handle : 
   pub recorded : handle.is_direct ≡ true → AddsToLog store handle b before after (recorded_write (config_of before) (next_write_of before) (stream (rng_of before)) sync offset bytes answer)
   pub live_after : handle.is_direct ≡ true → handle.live (inside c) ≡ live_of_write (config_of before) (stream (rng_of before)) sync (handle.live (inside b)) offset bytes answer
   pub size : handle.is_direct ≡ true → size_of c ≡ size_of_write (config_of before) (stream (rng_of before)) sync (size_of b) offset bytes answer
-  -- answered Ok, over any store
+  -- after Ok, over any store
   pub done : answer ≡ None → AddsToLog store handle b before after (recorded_write (config_of before) (next_write_of before) (stream (rng_of before)) sync offset bytes None)
   pub done_size : answer ≡ None → size_of c ≡ size_written sync (size_of b) offset bytes
-  -- refused over any store: where no draw fails it, and by all but a fault of the draws or of the inner store
+  -- after an error, over any store: if no draw fails it, and for all errors but a fault of the draws or of the inner store
   pub refused : (drawn_fate (config_of before) sync offset (length bytes) (stream (rng_of before))).0 ≡ Done → IsSome answer → Untouched store b before c after
   pub unrecorded : IsSome answer → answer ≢ Some Injected → answer ≢ Some WriteFailed → Untouched store b before c after
   -- a fault leaves nothing recorded, or all that is kept of the write
   pub injected : answer ≡ Some Injected →
       Untouched store b before c after ⊎ AddsToLog store handle b before after (recorded_write (config_of before) (next_write_of before) (stream (rng_of before)) sync offset bytes (Some Injected))
-  -- where the inner store refused a run, those before it are recorded
+  -- if the inner store rejected a run, those before it are recorded
   pub failed : answer ≡ Some WriteFailed → LeavesFailed store handle (drawn_fate (config_of before) sync offset (length bytes) (stream (rng_of before))).0 offset bytes b before c after
 
--- a resize, by the fate that is drawn for it
+-- a resize, by its drawn outcome
 pub record ResizeLeaves {S R O B : Type 0} (store : stores.Ghosts S O) (handle : handles.Ghosts B S O) (stream : R → Stream) (len : ℕ) (fate : ResizeFate) (left : Stream) (b : Blob B) (before : Storage S R O) (answer : Option Refusal) (c : Blob B) (after : Storage S R O) : Type 0 where
   pub drawn : stream (rng_of after) ≡ left
   pub asked : AsksResize handle b before c after fate len answer
   pub numbers : KeepsNumbers before after
-  -- answered Ok, over any store
+  -- after Ok, over any store
   pub size : answer ≡ None → size_of c ≡ len
   pub recorded : answer ≡ None → AddsToLog store handle b before after (recorded_resize fate len None)
   -- over a store that injects nothing
@@ -130,7 +130,7 @@ pub record SyncLeaves {S R O B : Type 0} (store : stores.Ghosts S O) (handle : h
   pub unrecorded : IsSome answer → KeepsRecords store.place before after
   pub same_files : IsSome answer → Steps store.place store.directory store.durable before after (λ files. files)
 
--- a started sync: answered Ok, its handle carries the next marker, which stands behind what is pending; refused, it carries none
+-- a started sync: after Ok, its handle has the next marker, which is the last entry of the list; after an error, it has none
 pub record StartLeaves {S R O B : Type 0} (store : stores.Ghosts S O) (handle : handles.Ghosts B S O) (finishes : S → Option ℕ → S → Type 0) (stream : R → Stream) (marker : Option ℕ) (b : Blob B) (before : Storage S R O) (answer : Option Refusal) (c : Blob B) (after : Storage S R O) : Type 0 where
   pub drawn : stream (rng_of after) ≡ (draw (config_of before).sync_rate (stream (rng_of before))).1
   pub inner : MatchBool (draw (config_of before).sync_rate (stream (rng_of before))).0 (inner_of after ≡ inner_of before) (AsksStart handle b before c after finishes answer)
@@ -145,7 +145,7 @@ pub record StartLeaves {S R O B : Type 0} (store : stores.Ghosts S O) (handle : 
   pub unrecorded : IsSome answer → KeepsRecords store.place before after
   pub same_files : IsSome answer → Steps store.place store.directory store.durable before after (λ files. files)
 
--- room: nothing is drawn
+-- a reservation: nothing is drawn
 pub record ReserveLeaves {S R O B : Type 0} (store : stores.Ghosts S O) (stream : R → Stream) (asked : S → Type 0) (b : Blob B) (before : Storage S R O) (c : Blob B) (after : Storage S R O) : Type 0 where
   pub drawn : stream (rng_of after) ≡ stream (rng_of before)
   pub inner : asked (inner_of after)

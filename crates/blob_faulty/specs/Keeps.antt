@@ -19,7 +19,7 @@ use Rattle.blob_faulty.specs.Wrapper.{Stands, Adds, KeepsRecords, inner_of, rng_
 use Rattle.blob_memory.specs.Store.{directory, durable}
 use Rattle.blob_memory.specs.declared.storage.Storage as memory
 
--- the bytes at the front of a name's current incarnation, for some files that the wrapper stands for
+-- the first bytes of a name's current incarnation, for some files that the wrapper represents
 pub record KeepsBytes {S R O : Type 0} (place : O → Place) (names : S → Directory) (bytes_of : S → Durable) (w : Storage S R O) (o : Place) (bytes : List ℕ) : Type 0 where
   pub files : Files
   pub stands : Stands place (names (inner_of w)) (bytes_of (inner_of w)) w files
@@ -29,7 +29,7 @@ pub record KeepsBytes {S R O : Type 0} (place : O → Place) (names : S → Dire
   -- each of the bytes is fixed
   pub fixed : AreFixed bytes files o
 
--- the bytes of each incarnation that a store is wrapped with, none where it isn't current
+-- the bytes of each incarnation of a store that is wrapped, none if it isn't current
 abbrev pub bytes_found : Durable → Place → List ℕ
 bytes_found bytes_of o = unwrap_or (bytes_of o) []
 
@@ -54,14 +54,14 @@ module _ (R : Type 0) {S O : Type 0} (store : stores.Ghosts S O) where
       OpenLeaves store.place stream (asked (inner_of old) p n first last None) old new →
       KeepsBytes store.place store.directory store.durable old o bytes → KeepsBytes store.place store.directory store.durable new o bytes
 
-  -- through a write behind it
+  -- through a write after it
   abbrev pub KeptBehind : (R → Stream) → Type 0
   KeptBehind stream = (old new : Storage S R O) (o : Place) (kept bytes : List ℕ) (offset : ℕ) (sync : Bool) (answer : Option Refusal) →
       store.directory (inner_of new) ≡ store.directory (inner_of old) →
       Adds store.place (store.directory (inner_of old)) (store.durable (inner_of old)) (store.durable (inner_of new)) old new o (recorded_write (config_of old) (next_write_of old) (stream (rng_of old)) sync offset bytes answer) →
       length kept ≤ offset → KeepsBytes store.place store.directory store.durable old o kept → KeepsBytes store.place store.directory store.durable new o kept
 
-  -- with a SYNC write right behind it that was done
+  -- with a SYNC write that was done and begins at its end
   abbrev pub KeptAppended : {B : Type 0} → handles.Ghosts (Blob B) (Storage S R O) O → (R → Stream) → Type 0
   KeptAppended {B} wrapped stream = (b : Blob B) (old new : Storage S R O) (o : Place) (kept bytes : List ℕ) (offset : ℕ) →
       wrapped.allows_write b old offset bytes true None →
@@ -74,7 +74,7 @@ module _ (R : Type 0) {S O : Type 0} (store : stores.Ghosts S O) where
 abbrev pub OverMemory : Type 0 → Type 0
 OverMemory R = Storage memory.Storage R Place
 
--- a wrapper stands for these files
+-- a wrapper represents these files
 abbrev pub IsFor : {R : Type 0} → OverMemory R → Files → Type 0
 IsFor w f = Stands (λ o. o) (directory (inner_of w)) (durable (inner_of w)) w f
 

@@ -1,4 +1,4 @@
--- What a wrapper ends as, once its lent configuration was changed.
+-- A wrapper after its lent configuration was changed.
 use Rattle.std.specs.Borrow.{Lends, Fml, RattleType, MutBor}
 use Rattle.blob_faults.specs.declared.config.Config.{Config}
 use Rattle.blob_faulty.specs.declared.storage.Storage.{Storage}
@@ -13,6 +13,6 @@ with_config w config = record w { config = config }
 abbrev pub with_rng : {S R O : Type 0} → Storage S R O → R → Storage S R O
 with_rng w rng = record w { rng = rng }
 
--- w ends with the last configuration behind r
+-- w ends with the last configuration that r has
 abbrev pub LendsConfig : (S R O : RattleType) → MutBor (Storage S.Denot R.Denot O.Denot) → MutBor Config → Fml
 LendsConfig S R O w r = Lends (wrapper.the_row S R O) config.the_row w r (with_config w.now)

@@ -1,4 +1,4 @@
--- What opens and removals leave of a wrapper, and what that makes of the files that it stands for.
+-- What opens and removals leave of a wrapper, and the files that it then represents.
 use Rattle.std.specs.Prelude.{◌≡◌, ℕ, ◌≤◌, Bool, false, List, [], cond, Option, Some, None, IsSome, MatchBool}
 use Rattle.std.specs.Range.{range_inclusive_exhausted}
 use Rattle.std.specs.declared.ops.RangeInclusive.{RangeInclusive}
@@ -31,18 +31,18 @@ emptied gone lists o = cond (gone o) [] (lists o)
 pub record OpenLeaves {S R O : Type 0} (place : O → Place) (stream : R → Stream) (asked : S → Type 0) (before after : Storage S R O) : Type 0 where
   -- one draw of the open rate is taken
   pub drawn : stream (rng_of after) ≡ (draw (config_of before).open_rate (stream (rng_of before))).1
-  -- where it is true the inner store isn't asked
+  -- if it is true, the inner store isn't called
   pub inner : MatchBool (draw (config_of before).open_rate (stream (rng_of before))).0 (inner_of after ≡ inner_of before) (asked (inner_of after))
   -- nothing is recorded and nothing retired
   pub records : KeepsRecords place before after
 
--- a removal, by what it may leave of the inner store, its answer and the incarnations that it ends where that is Ok
+-- a removal, by what it may leave of the inner store, its result and the incarnations that it ends if that is Ok
 pub record RemoveLeaves {S R O : Type 0} (place : O → Place) (stream : R → Stream) (asked : S → Type 0) (answer : Option Refusal) (ends : Place → Bool) (before after : Storage S R O) : Type 0 where
   -- one draw of the removal rate is taken
   pub drawn : stream (rng_of after) ≡ (draw (config_of before).remove_rate (stream (rng_of before))).1
-  -- where it is true the inner store isn't asked
+  -- if it is true, the inner store isn't called
   pub inner : MatchBool (draw (config_of before).remove_rate (stream (rng_of before))).0 (inner_of after ≡ inner_of before) (asked (inner_of after))
-  -- answered Ok, what is pending of the incarnations that end is retired, and no more
+  -- after Ok, the pending lists of the incarnations that end are retired, and no others
   pub retired : answer ≡ None → (o : Place) → pending_of place after o ≡ emptied ends (pending_of place before) o
   -- after a refusal the same is pending
   pub kept : IsSome answer → (o : Place) → pending_of place after o ≡ pending_of place before o
@@ -59,7 +59,7 @@ Removes store stream asked before p n answer after = RemoveLeaves store.place st
 abbrev pub SameStore : {S R O : Type 0} → stores.Ghosts S O → Storage S R O → Storage S R O → Type 0
 SameStore store before after = (store.directory (inner_of after) ≡ store.directory (inner_of before)) × (store.durable (inner_of after) ≡ store.durable (inner_of before))
 
--- whatever files a wrapper stood for, it now stands for what this step makes of them
+-- if a wrapper represented files, it now represents them after this step
 abbrev pub Steps : {S R O : Type 0} → (O → Place) → (S → Directory) → (S → Durable) → Storage S R O → Storage S R O → (Files → Files) → Type 0
 Steps place directory durable before after step = (files : Files) →
     Stands place (directory (inner_of before)) (durable (inner_of before)) before files → Stands place (directory (inner_of after)) (durable (inner_of after)) after (step files)
@@ -78,7 +78,7 @@ RemovesFiles store before after p n = Steps store.place store.directory store.du
 pub record ScanLeaves {S R O : Type 0} (store : stores.Ghosts S O) (stream : R → Stream) (asked : S → Type 0) (before after : Storage S R O) : Type 0 where
   -- one draw of the scan rate is taken
   pub drawn : stream (rng_of after) ≡ (draw (config_of before).scan_rate (stream (rng_of before))).1
-  -- where it is true the inner store isn't asked
+  -- if it is true, the inner store isn't called
   pub inner : MatchBool (draw (config_of before).scan_rate (stream (rng_of before))).0 (inner_of after ≡ inner_of before) (asked (inner_of after))
   -- nothing is recorded and nothing retired
   pub unrecorded : KeepsRecords store.place before after
@@ -93,7 +93,7 @@ pub record FinishLeaves {S R O : Type 0} (place : O → Place) (marker : Option 
   pub rng : rng_of after ≡ rng_of before
   pub inner : inner_of after ≡ inner_of before
 
--- What an open and a removal make of the files, to a caller that knows them by the traits alone; `asked` is what they may leave
+-- The files after an open and after a removal, for a caller that knows them by the traits only; `asked` is what they may leave
 -- of the inner store.
 
 module _ {S R O : Type 0} (store : stores.Ghosts S O) (stream : R → Stream) where

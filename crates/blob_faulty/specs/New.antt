@@ -16,6 +16,6 @@ pub record IsNew {S R O : Type 0} (store : stores.Ghosts S O) (s : S) (r : R) (c
   pub pending : pending_of store.place w ≡ (λ _. [])
   pub next_write : next_write_of w ≡ write
   pub next_marker : next_marker_of w ≡ marker
-  -- it stands for the store's files, of which nothing is recorded, by any bytes that its durable ones are, and so by themselves
+  -- it represents the store's files without any record, with any bytes that agree with its durable ones, and so with those
   pub files : (bytes : Place → List ℕ) → ((o : Place) (x : List ℕ) → store.durable s o ≡ Some x → bytes o ≡ x) → Stands store.place (store.directory s) (store.durable s) w (wrapped (store.directory s) bytes write marker)
   pub represents : Stands store.place (store.directory (inner_of w)) (store.durable (inner_of w)) w (wrapped (store.directory s) (bytes_found (store.durable s)) write marker)

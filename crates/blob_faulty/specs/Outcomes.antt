@@ -24,15 +24,15 @@ use Rattle.blob_faulty.specs.declared.storage.Storage.{Storage}
 use Rattle.blob_faulty.specs.Certain.{IsNever, partial_resizes}
 use Rattle.blob_faulty.specs.Wrapper.{inner_of, rng_of, config_of, next_write_of, pending_of, inside, Adds, Stands}
 
--- with these choices; none where it isn't current
+-- with these choices, none if it isn't current
 abbrev pub left_of : {S R O : Type 0} → (O → Place) → (S → Durable) → Storage S R O → Choices → Place → Option (List ℕ)
 left_of place durable w t o = replayed_at t (pending_of place w o) (durable (inner_of w) o)
 
--- entries of which a crash lays some of these bytes at this offset, and nothing else
+-- entries of which a crash applies some of these bytes at this offset, and nothing else
 abbrev pub LaysSome : ℕ → List ℕ → List Entry → Choices → Type 0
 LaysSome offset bytes entries t = (chosen : ℕ → Bool) × ((x : List ℕ) → crashed x entries t ≡ overlay_by x offset bytes chosen)
 
--- bytes lengthened by zeros, at most to an offset, with some of a write's bytes laid over them there
+-- bytes, extended by zeros at most up to an offset, with some of a write's bytes over them there
 pub record WritesSome (offset : ℕ) (bytes old new : List ℕ) : Type 0 where
   pub grown : ℕ
   pub chosen : ℕ → Bool
@@ -43,7 +43,7 @@ pub record WritesSome (offset : ℕ) (bytes old new : List ℕ) : Type 0 where
 -- What calls are recorded as.
 
 module _ (R : Type 0) {S O : Type 0} (store : stores.Ghosts S O) where
-  -- after a call that was recorded the wrapper stands for the files with its entries
+  -- after a recorded call the wrapper represents the files with its entries
   abbrev pub RecordedStands : Type 0
   RecordedStands = (before after : Storage S R O) (o : Place) (entries : List Entry) (files : Files) →
       is_current (store.directory (inner_of before)) o ≡ true → store.directory (inner_of after) ≡ store.directory (inner_of before) →
@@ -59,7 +59,7 @@ module _ (R : Type 0) {S O : Type 0} (store : stores.Ghosts S O) where
       Adds store.place (store.directory (inner_of before)) (store.durable (inner_of before)) (store.durable (inner_of after)) before after o entries →
       left_of store.place store.durable after t o ≡ option_map (λ x. crashed x entries t) (left_of store.place store.durable before t o)
 
--- of a write a crash lays some of its bytes, of a resize the length that was asked for or nothing
+-- a crash applies some bytes of a write, and of a resize the requested length or nothing
 abbrev pub WritesLay : Type 0
 WritesLay = (config : Config) (number : ℕ) (stream : Stream) (sync : Bool) (offset : ℕ) (bytes : List ℕ) (answer : Option Refusal) (t : Choices) →
     LaysSome offset bytes (recorded_write config number stream sync offset bytes answer) t
@@ -85,7 +85,7 @@ LiveInRange = (config : Config) (stream : Stream) (sync : Bool) (p v offset : �
 
 -- By a handle on a current incarnation over the memory store.
 
--- which no write is answered to be gone
+-- which no write reports as missing
 abbrev pub IsNotMissing : Option Refusal → Type 0
 IsNotMissing answer = (p n : List ℕ) → answer ≡ Some (BlobMissing p n) → ⊥
 
@@ -102,7 +102,7 @@ abbrev pub ResizeSizes : Type 0
 ResizeSizes = (fate : ResizeFate) (size : ℕ) (live : List ℕ) (len : ℕ) (answer : Option Refusal) → size ≡ length live →
     size_of_resize fate size len answer ≡ length (live_of_resize fate live len answer)
 
--- a write lays some of its bytes over the live ones; a resize reaches the length that was asked for, or leaves them
+-- a write leaves some of its bytes over the live ones; a resize reaches the requested length or leaves them
 abbrev pub WriteBytes : Type 0
 WriteBytes = (config : Config) (stream : Stream) (sync : Bool) (live : List ℕ) (offset : ℕ) (bytes : List ℕ) (answer : Option Refusal) → IsNotMissing answer →
     WritesSome offset bytes live (live_of_write config stream sync live offset bytes answer)

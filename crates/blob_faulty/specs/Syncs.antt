@@ -1,4 +1,4 @@
--- What a sync makes of the files that a wrapper stands for.
+-- The files that a wrapper represents after a sync.
 use Rattle.std.specs.Prelude.{ℕ, ◌<◌, List}
 use Rattle.blob_model.specs.Directory.{Directory}
 use Rattle.blob_model.specs.Durable.{Durable}
@@ -7,7 +7,7 @@ use Rattle.blob_model.specs.Places.{Place}
 use Rattle.blob_faulty.specs.declared.storage.Storage.{Storage}
 use Rattle.blob_faulty.specs.Wrapper.{Stands}
 
--- whatever files a wrapper stood for, it now stands for them with an incarnation's base these live bytes, and its log empty
+-- if a wrapper represented files, it now represents them with these live bytes as an incarnation's base, and its log empty
 abbrev pub Publishes : {S R O : Type 0} → (O → Place) → Directory → Durable → Durable → Storage S R O → Storage S R O → Place → List ℕ → Type 0
 Publishes place names bytes bytes' old new o live = (files : Files) → Stands place names bytes old files → Stands place names bytes' new (published files o live)
 

@@ -33,7 +33,7 @@ next_marker_of w = w.next_marker
 abbrev pub pending_of : {S R O : Type 0} → (O → Place) → Storage S R O → Place → List Pending
 pending_of place w = list_of place w.lists.all.lists.items
 
--- what is pending once the started sync with a marker, where there is one, is finished
+-- a pending list after the started sync with a marker, if there is one, is finished
 abbrev pub finished_by : Option ℕ → List Pending → List Pending
 finished_by None list = list
 finished_by (Some marker) list = finished marker list
@@ -54,21 +54,21 @@ pub record KeepsRecords {S R O : Type 0} (place : O → Place) (old new : Storag
   pub pending : (o : Place) → pending_of place new o ≡ pending_of place old o
   pub numbers : KeepsNumbers old new
 
--- a write waits behind what else the list at this index holds
+-- a write is added at the end of the list at this index
 abbrev pub GainsWrite : {S R O : Type 0} → (O → Place) → Storage S R O → Storage S R O → ℕ → ℕ → List ℕ → WriteConfig → Type 0
 GainsWrite place old new list offset bytes config =
     ChangesAt place old.lists.all.lists.items new.lists.all.lists.items list (λ q. q ++ Waiting (need_of (issued (next_write_of old) offset bytes config) []) ∷ [])
 
--- a wrapper, over a store with this directory and these durable bytes, stands for files
+-- a wrapper over a store with this directory and these durable bytes represents files
 abbrev pub Stands : {S R O : Type 0} → (O → Place) → Directory → Durable → Storage S R O → Files → Type 0
 Stands place directory durable w files = StandsFor directory durable (pending_of place w) (next_write_of w) (next_marker_of w) files
 
--- where nothing was recorded, and directory and durable bytes stayed, it stands for the same files
+-- if nothing was recorded, and directory and durable bytes are the same, it represents the same files
 abbrev pub KeepsFiles : (S R O : Type 0) → (O → Place) → Type 0
 KeepsFiles S R O place = (names names_after : Directory) (bytes bytes_after : Durable) (old new : Storage S R O) (files : Files) →
     names_after ≡ names → bytes_after ≡ bytes → KeepsRecords place old new → Stands place names bytes old files → Stands place names_after bytes_after new files
 
--- whatever files a wrapper stood for, it now stands for them with these entries added to an incarnation's log. The directory stays
+-- if a wrapper represented files, it now represents them with these entries added to an incarnation's log. The directory is the same
 abbrev pub Adds : {S R O : Type 0} → (O → Place) → Directory → Durable → Durable → Storage S R O → Storage S R O → Place → List Entry → Type 0
 Adds place names bytes bytes' old new o entries = (files : Files) → o.number < names.next → Stands place names bytes old files → Stands place names bytes' new (all_logged files o entries)
 

@@ -1,4 +1,4 @@
--- What a write makes of a handle and of the wrapper that it is used with.
+-- The effect of a write on a handle and on its wrapper.
 use Rattle.std.specs.Prelude.{◌≡◌, ◌≢◌, ◌⊎◌, ℕ, ◌<◌, ◌+◌, max, Bool, true, false, List, [], ◌∷◌, ◌++◌, length, Option, Some, None, IsSome}
 use Rattle.blob_model.specs.Bytes.{overlay, resized}
 use Rattle.blob_model.specs.Directory.{Directory, is_current}
@@ -53,11 +53,11 @@ seen store handle b w = record {
   rng = w.rng;
 }
 
--- a wrapper stands for files
+-- a wrapper represents files
 abbrev pub ViewFor : {R : Type 0} → View R → Files → Type 0
 ViewFor v files = StandsFor v.directory v.durable (held_at v.held) v.next_write v.next_marker files
 
--- whatever files it stood for, it now stands for them with these entries added to the log of the handle's incarnation
+-- if it represented files, it now represents them with these entries added to the log of the handle's incarnation
 abbrev pub Logs : {R : Type 0} → View R → View R → List Entry → Type 0
 Logs old new entries = (files : Files) → old.place.number < old.directory.next → ViewFor old files → ViewFor new (all_logged files old.place entries)
 
@@ -68,7 +68,7 @@ pub record SameRecords {R : Type 0} (old new : View R) : Type 0 where
   pub next_write : new.next_write ≡ old.next_write
   pub next_marker : new.next_marker ≡ old.next_marker
 
--- these runs were laid, each as a durable range in the list of the handle's incarnation, and nothing else was recorded
+-- these runs were written, each as a durable range in the list of the handle's incarnation, and nothing else was recorded
 pub record Lays {R : Type 0} (old new : View R) (rs : List Run) : Type 0 where
   pub size : new.size ≡ size_of_runs old.size rs
   pub pending : (o : Place) → held_at new.held o ≡ with_at (held_at old.held) old.place (all_behind (held_at old.held old.place) rs) o
@@ -85,7 +85,7 @@ pub record LaysUpTo {R : Type 0} (known : List Run → List Run → Type 0) (old
 abbrev pub LaysFront : {R : Type 0} → (List Run → List Run → Type 0) → View R → View R → List Run → Type 0
 LaysFront known old new all = (left : List Run) × LaysUpTo known old new all left
 
--- what a write comes to where it is done; the live bytes go by its answer
+-- the effect of a write that was done; the live bytes depend on its result
 pub record Effect : Type 0 where
   pub live : Option Refusal → List ℕ
   pub durable : Durable
@@ -113,12 +113,12 @@ pub record Wrote {R : Type 0} (direct : Bool) (old new : View R) (effect : View 
   pub refused : direct ≡ true → IsSome answer → HasBytes new ((effect old).live answer) old.durable old.size
   -- refused for memory
   pub memory : answer ≡ Some Memory → HasBytes new old.live old.durable old.size
-  -- by the handle of an incarnation that is gone
+  -- by the handle of an incarnation that has ended
   pub stale : is_current old.directory old.place ≡ false → new.durable ≡ old.durable
   pub directory : new.directory ≡ old.directory
   pub place : new.place ≡ old.place
 
--- the same, and what it recorded; `whole` where a refused one has recorded nothing, whatever the inner store
+-- the same, and what it recorded; `whole` if a rejected one has recorded nothing over any inner store
 pub record Recorded {R : Type 0} (direct whole : Bool) (old new : View R) (effect : View R → Effect) (answer : Option Refusal) : Type 0 where
   pub wrote : Wrote direct old new effect answer
   pub done : answer ≡ None → Logs old new (effect old).entries
@@ -160,36 +160,36 @@ abbrev pub live_of_runs : List ℕ → List Run → Option Refusal → List ℕ
 live_of_runs live rs None = all_written live rs
 live_of_runs live rs (Some refusal) = first_after live rs (Some refusal)
 
--- runs that are durable at once
+-- runs that become durable
 abbrev pub laid_runs : {R : Type 0} → List Run → View R → Effect
 laid_runs rs v = record { live = live_of_runs v.live rs; durable = all_changed v.durable v.place rs; size = size_of_runs v.size rs; entries = kept_runs rs }
 
--- what a write changes, by the fate that was drawn for it
+-- what a write changes, by its drawn outcome
 abbrev pub changes_by : {R : Type 0} → WriteFate → View R → Bool → ℕ → List ℕ → Option Refusal → Changes
 changes_by fate old sync offset bytes answer = write_changes fate (retention old.config.write_rate) sync offset bytes answer
 
--- a write of some bytes by this fate
+-- a write of some bytes by this outcome
 pub record WroteBy {R : Type 0} (fate : WriteFate) (direct : Bool) (old new : View R) (sync : Bool) (offset : ℕ) (bytes : List ℕ) (answer : Option Refusal) : Type 0 where
   pub done : answer ≡ None → HasBytes new (live_written sync old.live offset bytes) (durable_written sync old.durable old.place offset bytes) (max old.size (offset + length bytes))
-  -- whatever is answered, by a store that injects nothing
+  -- with any result, by a store that injects nothing
   pub live : direct ≡ true → new.live ≡ (changes_by fate old sync offset bytes answer).live old.live
   pub size : direct ≡ true → new.size ≡ (changes_by fate old sync offset bytes answer).size old.size
   pub logs : direct ≡ true → Logs old new ((changes_by fate old sync offset bytes answer).entries old.next_write)
-  -- by any store, what was done is recorded, and of a write that no draw fails nothing else is
+  -- by any store, what was done is recorded, and nothing else for a write that no draw fails
   pub recorded : answer ≡ None → Logs old new ((changes_by fate old sync offset bytes None).entries old.next_write)
   pub undone : fate ≡ Done → IsSome answer → SameRecords old new
   pub unrecorded : IsSome answer → answer ≢ Some Injected → answer ≢ Some WriteFailed → SameRecords old new
   pub injected : answer ≡ Some Injected → SameRecords old new ⊎ Logs old new ((changes_by fate old sync offset bytes (Some Injected)).entries old.next_write)
   -- refused for memory
   pub memory : answer ≡ Some Memory → HasBytes new old.live old.durable old.size
-  -- by the handle of an incarnation that is gone
+  -- by the handle of an incarnation that has ended
   pub stale : is_current old.directory old.place ≡ false → new.durable ≡ old.durable
   pub directory : new.directory ≡ old.directory
   pub place : new.place ≡ old.place
   pub config : new.config ≡ old.config
   pub rng : new.rng ≡ old.rng
 
--- some runs were laid, and what is laid with those that are left is what all of them come to
+-- some runs were written, and these with the rest amount to all of them
 pub record LeavesRuns {R : Type 0} (old new : View R) (all left : List Run) : Type 0 where
   pub live : all_written new.live left ≡ all_written old.live all
   pub durable : all_changed new.durable new.place left ≡ all_changed old.durable old.place all
@@ -210,11 +210,11 @@ live_cut live len (Some refusal) = live
 abbrev pub cut : {R : Type 0} → ℕ → List Entry → View R → Effect
 cut len entries v = record { live = live_cut v.live len; durable = v.durable; size = len; entries = entries }
 
--- by the fate that was drawn for it
+-- by its drawn outcome
 pub record ResizedBy {R : Type 0} (fate : ResizeFate) (direct : Bool) (old new : View R) (len : ℕ) (answer : Option Refusal) : Type 0 where
   pub done : answer ≡ None → HasBytes new (resized old.live len) old.durable len
   pub recorded : answer ≡ None → Logs old new (recorded_resize fate len None)
-  -- whatever is answered, by a store that injects nothing
+  -- with any result, by a store that injects nothing
   pub live : direct ≡ true → new.live ≡ live_of_resize fate old.live len answer
   pub size : direct ≡ true → new.size ≡ size_of_resize fate old.size len answer
   pub logs : direct ≡ true → Logs old new (recorded_resize fate len answer)
@@ -232,7 +232,7 @@ pub record ResizedBy {R : Type 0} (fate : ResizeFate) (direct : Bool) (old new :
 -- by this answer
 pub record Synced {R : Type 0} (old new : View R) (answer : Option Refusal) : Type 0 where
   pub done : answer ≡ None → new.durable ≡ with_changed old.durable old.place (λ _. old.live)
-  -- by the handle of an incarnation that is gone it isn't done
+  -- by the handle of an incarnation that has ended it isn't done
   pub current : answer ≡ None → is_current old.directory old.place ≡ true
   pub refused : IsSome answer → new.durable ≡ old.durable
   pub unrecorded : IsSome answer → SameRecords old new
@@ -260,7 +260,7 @@ module _ {S R O B : Type 0} (store : stores.Ghosts S O) (handle : handles.Ghosts
   abbrev pub Records : (View R → Effect) → Option Refusal → Type 0
   Records effect answer = Recorded handle.is_direct true (seen store handle b w) (seen store handle b' w') effect answer
 
-  -- where a refusal may come behind runs that were laid
+  -- if an error may come after runs that were written
   abbrev pub RecordsRuns : List Run → Option Refusal → Type 0
   RecordsRuns rs answer = Recorded handle.is_direct handle.is_direct (seen store handle b w) (seen store handle b' w') (laid_runs rs) answer
 
@@ -271,7 +271,7 @@ module _ {S R O B : Type 0} (store : stores.Ghosts S O) (handle : handles.Ghosts
   abbrev pub LaidFront : List Run → Type 0
   LaidFront rs = LaysFront (InnerRefused handle b w b' w') (seen store handle b w) (seen store handle b' w') rs
 
-  -- what a write that is answered WriteFailed records, by its fate
+  -- what a write that returns WriteFailed records, by its outcome
   abbrev pub FailedBy : WriteFate → ℕ → List ℕ → Type 0
   FailedBy (Failed chosen) offset bytes = LaysFront (InnerRefusedInRoom handle b w b' w' (runs offset bytes chosen)) (seen store handle b w) (seen store handle b' w') (runs offset bytes chosen)
   FailedBy fate offset bytes = SameRecords (seen store handle b w) (seen store handle b' w')
@@ -295,11 +295,11 @@ module _ {S R O B : Type 0} (store : stores.Ghosts S O) (handle : handles.Ghosts
   abbrev pub Retires : List Pending → Type 0
   Retires list = Holds (seen store handle b w) (seen store handle b' w') list
 
-  -- the next marker stands behind it
+  -- the next marker is the last entry
   abbrev pub Marks : Type 0
   Marks = Retires (pending_of store.place w (handle.place b.inner) ++ Marker w.next_marker ∷ [])
 
--- runs that were to be laid: what was asked of the inner blob, what is recorded, and where it was refused behind the first what is laid
+-- runs to be written: the calls of the inner blob, what is recorded, and what was written if a run after the first was rejected
 pub record LaysAll {S R O B : Type 0} (store : stores.Ghosts S O) (handle : handles.Ghosts B S O) (b : Blob B) (w : Storage S R O) (b' : Blob B) (w' : Storage S R O) (rs : List Run) (answer : Option Refusal) : Type 0 where
   pub asked : AsksLaid handle b w b' w' rs answer
   pub recorded : RecordsRuns store handle b w b' w' rs answer
