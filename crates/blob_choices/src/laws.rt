@@ -50,7 +50,8 @@ pub fn seeds()
     ensures { SeedsHaveU64Words }
 {}
 
-/// Each size that a partial resize may reach has one word that draws it, if there are at most 2^63 of them. No draw returns another.
+/// Each size that a partial resize may reach has words that draw it: one word, if there are at most 2^63 sizes. No draw
+/// returns another size.
 pub fn sizes()
     ensures { SizesHaveWords }
 {}
