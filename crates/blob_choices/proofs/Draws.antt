@@ -43,11 +43,11 @@ takes_word rate (false ∷ []) tail a = refl
 takes_word rate (true ∷ o ∷ path) tail a = absurd a
 takes_word rate (false ∷ o ∷ path) tail a = absurd a
 
-next_words : (s : Stream) → HasU64Words s → HasU64Words (next_u64 s).1
+pub next_words : (s : Stream) → HasU64Words s → HasU64Words (next_u64 s).1
 unfolding next_u64
 next_words s h = record { fit = λ before. h.fit (u64_call ∷ before) }
 
-next_fits : (s : Stream) → HasU64Words s → (next_u64 s).0 ≤ 2 ^ 64 - 1
+pub next_fits : (s : Stream) → HasU64Words s → (next_u64 s).0 ≤ 2 ^ 64 - 1
 unfolding next_u64
 next_fits s h = h.fit []
 

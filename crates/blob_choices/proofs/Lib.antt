@@ -8,3 +8,4 @@ pub mod ZeroTails
 pub mod Counts
 pub mod EveryRun
 pub mod Seeds
+pub mod Sizes

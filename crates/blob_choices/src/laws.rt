@@ -7,6 +7,7 @@ ghost use Rattle.blob_model.specs.Rates.{Rate, sampled};
 ghost use Rattle.blob_model.specs.declared.mode.PartialWriteMode.{PartialWriteMode};
 ghost use Rattle.blob_choices.specs.Decided.{IsDecided};
 ghost use Rattle.blob_choices.specs.Explored.{LeavesAreAllRuns, LeavesHoldEveryRun, LeftCountsTaken, SeedsHaveU64Words};
+ghost use Rattle.blob_choices.specs.Sizes.{SizesHaveWords};
 ghost use Rattle.blob_choices.specs.TwoWords.{CallsAreDecided, RunsAreDecided, TwoWordsSuffice};
 
 /// A decision tree describes one draw of a rate, the draws of one write, and those of a crash.
@@ -47,4 +48,10 @@ pub fn every_run()
 /// The words of a seed fit in 64 bits, so that each run of a seed is among the leaves too.
 pub fn seeds()
     ensures { SeedsHaveU64Words }
+{}
+
+/// Each size that a partial resize may reach has words that draw it: one word, if there are at most 2^63 sizes. No draw
+/// returns another size.
+pub fn sizes()
+    ensures { SizesHaveWords }
 {}

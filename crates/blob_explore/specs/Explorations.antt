@@ -31,12 +31,14 @@ start_of script = start (images_of script.images.items) (only []) cleared
 -- a run over these words gives these replies, and leaves this number of words
 abbrev pub Ran : Images → List Call → List ℕ → List Reply → Option ℕ → Type 0
 Ran images calls words replies left =
-    (w : State) × LeadsTo (start (images_of images) (only words) cleared) calls replies w × IfSome left (λ n. EndsAfter w.stream n)
+    (w : State) × LeadsTo (start (images_of images) (only words) cleared) calls replies w
+    × IfSome left (λ n. EndsAfter w.stream n)
 
 -- the leaf is that of the path, continued by true outcomes, in each tree that decides the run
 abbrev pub TakesPath : Script → List Bool → Leaf → Type 0
 TakesPath script path leaf = (t : DecisionTree) → Decides (run_outcome (start_of script) (acts_of script.calls.items)) t
-    → (leaf.words.items ≡ words_of (extended (depth t path) path)) × RunsAlong (start_of script) script.calls.items (extended (depth t path) path) leaf.replies.items
+    → (leaf.words.items ≡ words_of (extended (depth t path) path))
+    × RunsAlong (start_of script) script.calls.items (extended (depth t path) path) leaf.replies.items
 
 abbrev pub explored_script : Exploration → Script
 explored_script e = e.script
@@ -53,8 +55,8 @@ left e t = left_after t (path_of e)
 abbrev pub DecidesRun : Exploration → DecisionTree → Type 0
 DecidesRun e t = Decides (run_outcome (start_of e.script) (acts_of e.script.calls.items)) t
 
--- This leaf is the first of those that were left, and the others are left now. Its words are those of its path, and its replies are those of the
--- run along the path.
+-- This leaf is the first of those that were left, and the others are left now. Its words are those of its path, and its
+-- replies are those of the run along the path.
 pub record Visits (e : Exploration) (leaf : Leaf) (e' : Exploration) (t : DecisionTree) : Type 0 where
   pub path : List Bool
   pub first : left e t ≡ path ∷ left e' t

@@ -38,8 +38,9 @@ RunsAlongPath script leaf = RunsAlong (start_of script) script.calls.items leaf.
 abbrev pub shown_leaf : Bool → Visited → LeafText
 shown_leaf last leaf = record { words = words_of leaf.path; text = shown last leaf.replies }
 
--- An exploration has visited the first leaves of the decision tree of the script's runs, all of them if it is complete. The outcomes are those of
--- these leaves: each with the number of leaves that have it and the words of the first of them.
+-- An exploration has visited the first leaves of the decision tree of the script's runs, all of them if it is
+-- complete. The outcomes are those of these leaves: each with the number of leaves that have it and the words of the
+-- first of them.
 pub record Explores (script : Script) (last is_complete : Bool) (count : ℕ) (found : List Distinct) : Type 0 where
   pub tree : DecisionTree
   pub decides : Decides (run_outcome (start_of script) (acts_of script.calls.items)) tree
@@ -54,9 +55,11 @@ pub record Explores (script : Script) (last is_complete : Bool) (count : ℕ) (f
 
 -- the result of an exploration, if no call sets a rate of partial resizes
 abbrev pub IsExplored : Script → Bool → Explored → Type 0
-IsExplored script last found = SetNoPartialResize (acts_of script.calls.items) → Explores script last found.is_complete found.leaves (outcomes_in found.outcomes)
+IsExplored script last found = SetNoPartialResize (acts_of script.calls.items)
+    → Explores script last found.is_complete found.leaves (outcomes_in found.outcomes)
 
--- The text is that of an exploration of this script, with at most `limit` leaves: all leaves, or the first `limit` of them.
+-- The text is that of an exploration of this script, with at most `limit` leaves: all leaves, or the first `limit` of
+-- them.
 pub record PrintsExploration (script : List ℕ) (limit : ℕ) (last : Bool) (text : List ℕ) : Type 0 where
   pub explored : Script
   pub is : IsScriptOf script explored

@@ -1,8 +1,10 @@
 -- What is printed of an exploration.
-use Rattle.std.specs.Prelude.{ℕ, Bool, List, [], ◌∷◌, ◌++◌, ◌==◌, length, codes, if◌then◌else◌}
+use Rattle.std.specs.Prelude.{◌≡◌, ℕ, Bool, List, [], ◌∷◌, ◌++◌, ◌==◌, length, codes, if◌then◌else◌, String, string_bytes}
+use Rattle.std.specs.Global.{Global}
 use Rattle.std.specs.List.{flat_map}
 use Rattle.std.specs.Fmt.{decimal}
-use Rattle.blob_explore.specs.Distinct.{Distinct}
+use Rattle.blob_explore.specs.Distinct.{Distinct, outcomes_in}
+use Rattle.blob_explore.specs.declared.outcomes.Explored.{Explored}
 
 -- a number of leaves, and of outcomes
 abbrev pub leaves_text : ℕ → List ℕ
@@ -28,7 +30,19 @@ limit_text is_complete = if is_complete then codes "all of them" else codes "not
 
 -- the last line: the number of leaves, whether these are all, and the number of outcomes
 abbrev pub end_text : List Distinct → ℕ → Bool → List ℕ
-end_text outcomes leaves is_complete = leaves_text leaves ++ codes ", " ++ limit_text is_complete ++ codes "; " ++ count_text (length outcomes) ++ codes "\n"
+end_text outcomes leaves is_complete =
+    leaves_text leaves ++ codes ", " ++ limit_text is_complete ++ codes "; " ++ count_text (length outcomes) ++ codes "\n"
 
 abbrev pub exploration_text : List Distinct → ℕ → Bool → List ℕ
 exploration_text outcomes leaves is_complete = flat_map outcome_text outcomes ++ end_text outcomes leaves is_complete
+
+-- the whole text of what was explored, and its last line
+abbrev pub explored_text : Explored → List ℕ
+explored_text explored = exploration_text (outcomes_in explored.outcomes) explored.leaves explored.is_complete
+
+abbrev pub last_line : Explored → List ℕ
+last_line explored = end_text (outcomes_in explored.outcomes) explored.leaves explored.is_complete
+
+-- a text grew by these bytes
+abbrev pub Appends : String Global → String Global → List ℕ → Type 0
+Appends old new bytes = string_bytes new ≡ string_bytes old ++ bytes

@@ -18,7 +18,8 @@ use Rattle.blob_explore.specs.declared.script.Script.{Script}
 
 -- a script without words and seed
 abbrev pub plain_script : Images → Config → List Call → lab.Script
-plain_script images config calls = record { images = images_of images; words = only []; config = config; calls = acts_of calls }
+plain_script images config calls =
+    record { images = images_of images; words = only []; config = config; calls = acts_of calls }
 
 -- the lines so far
 abbrev pub script_so_far : Reading → lab.Script
@@ -42,4 +43,5 @@ AddsLine old line new = with_line (script_so_far old) line ≡ Some (script_so_f
 
 -- The lines of the text are this script. None of them gives words or a seed.
 abbrev pub IsScriptOf : List ℕ → Script → Type 0
-IsScriptOf text script = (config : Config) × (script_of (lines_of text) ≡ Some (plain_script script.images.items config script.calls.items))
+IsScriptOf text script =
+    (config : Config) × (script_of (lines_of text) ≡ Some (plain_script script.images.items config script.calls.items))

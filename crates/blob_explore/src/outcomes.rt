@@ -12,7 +12,8 @@ use blob_choices::laws::{every_run, outcomes};
 use indexmap::IndexMap;
 use std::alloc::Global;
 
-/// What an exploration found: each distinct outcome by its text, in the order of their first leaves, and the number of leaves.
+/// What an exploration found: each distinct outcome by its text, in the order of their first leaves, and the number of
+/// leaves.
 #[derive(Drop)]
 pub struct Explored {
     pub outcomes: IndexMap<String, Outcome>,
@@ -21,8 +22,8 @@ pub struct Explored {
     pub is_complete: bool,
 }
 
-/// Explores a script, at most `limit` leaves of it. An outcome is the replies to all calls, a line each, or with `last` the reply
-/// to the last call. Memory grows with the number of distinct outcomes, not with that of leaves.
+/// Explores a script, at most `limit` leaves of it. An outcome is the replies to all calls, a line each, or with
+/// `last` the reply to the last call. Memory grows with the number of distinct outcomes, not with that of leaves.
 ///
 /// The only error is `Memory`, also if a call was refused it.
 pub fn explore(alloc: Global, script: Script, limit: u64, last: bool) -> Result<Explored, Error>

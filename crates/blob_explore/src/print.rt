@@ -1,16 +1,17 @@
 // What was explored, as lines.
-ghost use Rattle.std.specs.Prelude.{◌≡◌, ◌++◌, ◌==◌, IfOk, OnOk, codes, if◌then◌else◌, string_bytes};
-ghost use Rattle.blob_explore.specs.Distinct.{distinct, outcomes_in};
+ghost use Rattle.std.specs.Prelude.{◌≡◌, ◌==◌, IfOk, OnOk, codes, if◌then◌else◌, string_bytes};
+ghost use Rattle.blob_explore.specs.Distinct.{distinct};
 ghost use Rattle.blob_explore.specs.Outcomes.{PrintsExploration};
-ghost use Rattle.blob_explore.specs.Printed.{end_text, exploration_text, leaves_text, limit_text, outcome_text, words_text};
+ghost use Rattle.blob_explore.specs.Printed.{Appends, explored_text, last_line};
+ghost use Rattle.blob_explore.specs.Printed.{leaves_text, limit_text, outcome_text, words_text};
 
 use crate::outcomes::{Explored, explore};
 use crate::script::{RefusedScript, read_script};
 use crate::tally::Outcome;
 use std::alloc::{AllocError, Global};
 
-/// Explores a script without words and seed, at most `limit` leaves of it, and prints its distinct outcomes: the replies to all
-/// calls, or with `last` the reply to the last call.
+/// Explores a script without words and seed, at most `limit` leaves of it, and prints its distinct outcomes: the
+/// replies to all calls, or with `last` the reply to the last call.
 pub fn explore_text(
     alloc: Global,
     text: &[u8],
@@ -26,11 +27,11 @@ pub fn explore_text(
     Ok(print_explored(alloc, &explored)?)
 }
 
-/// Prints each outcome in the order of its first leaf, after a line with the number of its leaves and the words of the first. The
-/// last line is the number of leaves and whether these are all. The lines that aren't replies begin with `#`.
+/// Prints each outcome in the order of its first leaf, after a line with the number of its leaves and the words of the
+/// first. The last line is the number of leaves and whether these are all. The lines that aren't replies begin with
+/// `#`.
 pub fn print_explored(alloc: Global, explored: &Explored) -> Result<String, AllocError>
-    ensures { IfOk result (λ text. string_bytes text
-        ≡ exploration_text (outcomes_in explored.now.outcomes) explored.now.leaves explored.now.is_complete) }
+    ensures { IfOk result (λ text. string_bytes text ≡ explored_text explored.now) }
 {
     let mut printed = String::new(alloc);
     for (text, outcome) in &explored.outcomes {
@@ -42,8 +43,7 @@ pub fn print_explored(alloc: Global, explored: &Explored) -> Result<String, Allo
 
 /// Prints the last line.
 fn print_end(explored: &Explored, printed: &mut String) -> Result<(), AllocError>
-    ensures { OnOk result (string_bytes printed.new ≡ string_bytes printed.old
-        ++ end_text (outcomes_in explored.now.outcomes) explored.now.leaves explored.now.is_complete) }
+    ensures { OnOk result (Appends printed.old printed.new (last_line explored.now)) }
 {
     print_leaves(explored.leaves, printed)?;
     let all = limit_text(explored.is_complete);
@@ -69,8 +69,7 @@ fn outcome_noun(count: usize) -> &'static str
 }
 
 fn print_outcome(text: &str, outcome: &Outcome, printed: &mut String) -> Result<(), AllocError>
-    ensures { OnOk result (string_bytes printed.new
-        ≡ string_bytes printed.old ++ outcome_text (distinct text.now outcome.now)) }
+    ensures { OnOk result (Appends printed.old printed.new (outcome_text (distinct text.now outcome.now))) }
 {
     print_leaves(outcome.leaves, printed)?;
     print_words(&outcome.words, printed)?;
@@ -79,7 +78,7 @@ fn print_outcome(text: &str, outcome: &Outcome, printed: &mut String) -> Result<
 }
 
 fn print_words(words: &[u64], printed: &mut String) -> Result<(), AllocError>
-    ensures { OnOk result (string_bytes printed.new ≡ string_bytes printed.old ++ words_text words.now) }
+    ensures { OnOk result (Appends printed.old printed.new (words_text words.now)) }
 {
     if words.is_empty() {
         return printed.push_str(", which draws no words");
@@ -98,7 +97,7 @@ fn leaf_noun(leaves: u64) -> &'static str
 }
 
 fn print_leaves(leaves: u64, printed: &mut String) -> Result<(), AllocError>
-    ensures { OnOk result (string_bytes printed.new ≡ string_bytes printed.old ++ leaves_text leaves) }
+    ensures { OnOk result (Appends printed.old printed.new (leaves_text leaves)) }
 {
     let noun = leaf_noun(leaves);
     write!(printed, "# {leaves} {noun}")

@@ -17,7 +17,8 @@ use blob_laboratory::Lab;
 use blob_tree::Explorer;
 use std::alloc::{AllocError, Global};
 
-/// Runs the calls along the explorer's path. Doubles `spare`, the number of zeros after the path, until the run leaves some.
+/// Runs the calls along the explorer's path. Doubles `spare`, the number of zeros after the path, until the run leaves
+/// some.
 pub(crate) fn visit(
     alloc: Global,
     script: &Script,

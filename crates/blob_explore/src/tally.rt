@@ -1,6 +1,6 @@
 // The distinct outcomes so far.
-ghost use Rattle.std.specs.Prelude.{◌≡◌, OnOk, string_bytes};
-ghost use Rattle.blob_explore.specs.Distinct.{CountsFit, leaf_text, outcomes_in, with_leaf};
+ghost use Rattle.std.specs.Prelude.{OnOk, string_bytes};
+ghost use Rattle.blob_explore.specs.Distinct.{AddsLeaf, leaf_text};
 
 use indexmap::IndexMap;
 use std::alloc::AllocError;
@@ -20,8 +20,7 @@ pub(crate) fn tally(
     text: String,
     words: Vec<u64>,
 ) -> Result<(), AllocError>
-    ensures { OnOk result (CountsFit (outcomes_in outcomes.old)
-        → outcomes_in outcomes.new ≡ with_leaf (outcomes_in outcomes.old) (leaf_text words.items (string_bytes text))) }
+    ensures { OnOk result (AddsLeaf outcomes.old outcomes.new (leaf_text words.items (string_bytes text))) }
 {
     if let Some(outcome) = outcomes.get_mut(text.as_str()) {
         outcome.leaves = outcome.leaves.saturating_add(1);

@@ -1,13 +1,17 @@
 -- What bytes begin with, frame by frame.
-use Rattle.std.proofs.Common.{◌≡◌, ◌<◌, ◌≤◌, ℕ, zero, suc, ◌+◌, ◌-◌, ◌^◌, true, false, List, [], ◌∷◌, ◌++◌, length, take, drop, get_or, nat_le, nat_eq, refl, sym, ap, ap₂, subst, ◌∙◌, arith, append_assoc, append-nil, length-append, length-drop, ⊎_elim}
+use Rattle.std.proofs.Common.{◌≡◌, ◌<◌, ◌≤◌, ℕ, zero, suc, ◌+◌, ◌-◌, ◌^◌, true, false, List, [], ◌∷◌, ◌++◌, length, replicate, take, drop, get_or, nat_le, nat_eq, refl, sym, ap, ap₂, subst, ◌∙◌, arith, append_assoc, append-nil, length-append, length-drop, ⊎_elim}
 use Rattle.std.proofs.lemmas.Bool.{and_from, and_parts, cases_Bool, cases_lt, cond-false, cond-true, false_from_ne_true}
 use Rattle.std.proofs.lemmas.List.{get_or-drop, get_or-take, get_or_past, length-take, take-append-drop, drop-drop, drop_at, flat_map_more, take_at, take_rest}
 use Rattle.std.proofs.lemmas.Bool.Decides.{nat_tests}
 use Rattle.std.proofs.lemmas.Nat.{be_bytes_4, from_be_bytes-to_be_bytes_4}
 use Rattle.std.specs.Int.{w32, to_be_bytes, from_be_bytes}
-use Rattle.blob_header.specs.Checksum.{crc32c}
+use Rattle.blob_header.specs.Checksum.{crc32c, low_bits, with_bit}
 use Rattle.blob_header.specs.Fronts.{BeginsWith}
-use Rattle.blob_log.specs.Frames.{frame, frames, length_told, sum_told, payload, is_frame, scan_to, scan, AreShort}
+use Rattle.blob_log.specs.Frames.{checksum, frame, frames, length_told, sum_told, payload, is_frame, scan_to, scan, AreShort}
+
+pub checksum_fits : ((b : List ℕ) → crc32c b < 2 ^ 32) → (r : List ℕ) → checksum r < 2 ^ 32
+unfolding checksum
+checksum_fits fit r = fit (to_be_bytes w32 (length r) ++ r)
 
 pub length_frame : (r : List ℕ) → length (frame r) ≡ 8 + length r
 unfolding frame
@@ -17,9 +21,9 @@ frame_length : (r rest : List ℕ) → length r < 2 ^ 32 → length_told (frame 
 unfolding length_told frame
 frame_length r rest short = from_be_bytes-to_be_bytes_4 (length r) short
 
-frame_sum : (r rest : List ℕ) → crc32c r < 2 ^ 32 → sum_told (frame r ++ rest) ≡ crc32c r
+frame_sum : (r rest : List ℕ) → checksum r < 2 ^ 32 → sum_told (frame r ++ rest) ≡ checksum r
 unfolding sum_told frame
-frame_sum r rest fits = from_be_bytes-to_be_bytes_4 (crc32c r) fits
+frame_sum r rest fits = from_be_bytes-to_be_bytes_4 (checksum r) fits
 
 frame_payload : (r rest : List ℕ) → length r < 2 ^ 32 → payload (frame r ++ rest) ≡ r
 unfolding frame
@@ -27,23 +31,23 @@ frame_payload r rest short = ap (λ (n : ℕ). take n (r ++ rest)) (frame_length
 
 -- Whether bytes begin with a frame, by parts.
 
-is_frame-whole : (b : List ℕ) → 8 + length_told b ≤ length b → crc32c (payload b) ≡ sum_told b → is_frame b ≡ true
-is_frame-whole b fits sealed = and_from (nat_le (8 + length_told b) (length b)) (nat_eq (crc32c (payload b)) (sum_told b)) (grind (arith, nat_tests)) (grind (arith, nat_tests))
+is_frame-whole : (b : List ℕ) → 8 + length_told b ≤ length b → checksum (payload b) ≡ sum_told b → is_frame b ≡ true
+is_frame-whole b fits sealed = and_from (nat_le (8 + length_told b) (length b)) (nat_eq (checksum (payload b)) (sum_told b)) (grind (arith, nat_tests)) (grind (arith, nat_tests))
 
 frame_fits : (b : List ℕ) → is_frame b ≡ true → 8 + length_told b ≤ length b
-frame_fits b e = let p = (and_parts (nat_le (8 + length_told b) (length b)) (nat_eq (crc32c (payload b)) (sum_told b)) e).0 in grind (arith, nat_tests)
+frame_fits b e = let p = (and_parts (nat_le (8 + length_told b) (length b)) (nat_eq (checksum (payload b)) (sum_told b)) e).0 in grind (arith, nat_tests)
 
-frame_sealed : (b : List ℕ) → is_frame b ≡ true → crc32c (payload b) ≡ sum_told b
-frame_sealed b e = let p = (and_parts (nat_le (8 + length_told b) (length b)) (nat_eq (crc32c (payload b)) (sum_told b)) e).1 in grind (arith, nat_tests)
+frame_sealed : (b : List ℕ) → is_frame b ≡ true → checksum (payload b) ≡ sum_told b
+frame_sealed b e = let p = (and_parts (nat_le (8 + length_told b) (length b)) (nat_eq (checksum (payload b)) (sum_told b)) e).1 in grind (arith, nat_tests)
 
 is_frame-short : (b : List ℕ) → length b < 8 + length_told b → is_frame b ≡ false
 is_frame-short b cut = false_from_ne_true (is_frame b) (λ e. omega (arith, frame_fits b e))
 
-frame_is : (r rest : List ℕ) → crc32c r < 2 ^ 32 → length r < 2 ^ 32 → is_frame (frame r ++ rest) ≡ true
+frame_is : (r rest : List ℕ) → checksum r < 2 ^ 32 → length r < 2 ^ 32 → is_frame (frame r ++ rest) ≡ true
 frame_is r rest fits short =
     let e = frame_length r rest short in
     let long : 8 + length_told (frame r ++ rest) ≤ length (frame r ++ rest) = omega (arith, length-append (frame r) rest, length_frame r) in
-    is_frame-whole (frame r ++ rest) long (ap crc32c (frame_payload r rest short) ∙ sym (frame_sum r rest fits))
+    is_frame-whole (frame r ++ rest) long (ap checksum (frame_payload r rest short) ∙ sym (frame_sum r rest fits))
 
 -- A scan, step by step.
 
@@ -80,13 +84,59 @@ scan-step b e =
     ∙ ap (λ (l : List (List ℕ)). payload b ∷ l) (enough (length b) (length rest) rest (omega (arith, length-drop (8 + length_told b) b)) (omega arith))
 
 -- what is written comes back, whatever stands behind it; checksums fit
-pub scan-frames : ((b : List ℕ) → crc32c b < 2 ^ 32) → (rs : List (List ℕ)) (rest : List ℕ) → AreShort rs → scan (frames rs ++ rest) ≡ rs ++ scan rest
+pub scan-frames : ((b : List ℕ) → checksum b < 2 ^ 32) → (rs : List (List ℕ)) (rest : List ℕ) → AreShort rs → scan (frames rs ++ rest) ≡ rs ++ scan rest
 scan-frames fit [] rest short = refl
 scan-frames fit (r ∷ rs) rest short =
     let more = frames rs ++ rest in
     let behind = drop_at (frame r) more _ (omega (arith, frame_length r more short.0, length_frame r)) in
     ap scan (append_assoc (frame r) (frames rs) rest) ∙ scan-step (frame r ++ more) (frame_is r more (fit r) short.0)
     ∙ ap₂ (λ (x : List ℕ) (l : List (List ℕ)). x ∷ l) (frame_payload r more short.0) (ap scan behind ∙ scan-frames fit rs rest short.1)
+
+-- Zeros are no frame: the checksum of an empty record is that of the four zeros of its length.
+
+sum_of_none : checksum [] ≡ 0x48674BC7
+unfolding checksum crc32c with_bit low_bits
+sum_of_none = refl
+
+abbrev zeros : ℕ → List ℕ
+zeros n = replicate n 0
+
+zeros_at : (n i : ℕ) → get_or (zeros n) i 0 ≡ 0
+zeros_at zero i = refl
+zeros_at (suc n) zero = refl
+zeros_at (suc n) (suc i) = zeros_at n i
+
+length_of_zeros : (n : ℕ) → length_told (zeros n) ≡ 0
+unfolding length_told
+length_of_zeros n = omega (arith, zeros_at n 0, zeros_at n 1, zeros_at n 2, zeros_at n 3)
+
+sum_of_zeros : (n : ℕ) → sum_told (zeros n) ≡ 0
+unfolding sum_told
+sum_of_zeros n =
+    let z : List ℕ = zeros n in
+    omega (
+      arith,
+      get_or-drop 4 z 0 0,
+      get_or-drop 4 z 1 0,
+      get_or-drop 4 z 2 0,
+      get_or-drop 4 z 3 0,
+      zeros_at n 4,
+      zeros_at n 5,
+      zeros_at n 6,
+      zeros_at n 7,
+    )
+
+is_frame-zeros : (n : ℕ) → is_frame (zeros n) ≡ false
+is_frame-zeros n =
+    let z : List ℕ = zeros n in
+    false_from_ne_true (is_frame z)
+    (λ e.
+    let none : payload z ≡ [] = ap (λ (k : ℕ). take k (drop 8 z)) (length_of_zeros n) in
+    let sum : checksum [] ≡ sum_told z = ap checksum (sym none) ∙ frame_sealed z e in
+    omega (arith, sum, sum_of_none, sum_of_zeros n))
+
+pub scan_zeros : (n : ℕ) → scan (zeros n) ≡ []
+scan_zeros n = scan-stop (zeros n) (is_frame-zeros n)
 
 -- What is read is what was written: bytes below 256 begin with the frames of their scan.
 
@@ -119,9 +169,9 @@ sum_bytes : (b : List ℕ) → AreBytes b → 8 ≤ length b → to_be_bytes w32
 unfolding sum_told
 sum_bytes b are long = four (drop 4 b) (bytes_behind b 4 are) (omega (arith, length-drop 4 b))
 
-frame_by : (r one two : List ℕ) → to_be_bytes w32 (length r) ≡ one → to_be_bytes w32 (crc32c r) ≡ two → frame r ≡ one ++ two ++ r
+frame_by : (r one two : List ℕ) → to_be_bytes w32 (length r) ≡ one → to_be_bytes w32 (checksum r) ≡ two → frame r ≡ one ++ two ++ r
 unfolding frame
-frame_by r one two p q = ap (λ (x : List ℕ). x ++ to_be_bytes w32 (crc32c r) ++ r) p ∙ ap (λ (x : List ℕ). one ++ x ++ r) q
+frame_by r one two p q = ap (λ (x : List ℕ). x ++ to_be_bytes w32 (checksum r) ++ r) p ∙ ap (λ (x : List ℕ). one ++ x ++ r) q
 
 cut_up : (i j n : ℕ) (b : List ℕ) → (take i b ++ take j (drop i b) ++ take n (drop (i + j) b)) ++ drop (i + j + n) b ≡ b
 cut_up i j n b = grind (arith, append_assoc, take-append-drop i b, take-append-drop j (drop i b), take-append-drop n (drop (i + j) b), drop-drop j i b, drop-drop n (i + j) b)
@@ -136,7 +186,7 @@ frame_front b are e =
     let n = length_told b in
     let fits : 8 + n ≤ length b = frame_fits b e in
     let one : to_be_bytes w32 (length (payload b)) ≡ take 4 b = ap (to_be_bytes w32) (length_payload b e) ∙ told_bytes b are (omega arith) in
-    let two : to_be_bytes w32 (crc32c (payload b)) ≡ take 4 (drop 4 b) = ap (to_be_bytes w32) (frame_sealed b e) ∙ sum_bytes b are (omega arith) in
+    let two : to_be_bytes w32 (checksum (payload b)) ≡ take 4 (drop 4 b) = ap (to_be_bytes w32) (frame_sealed b e) ∙ sum_bytes b are (omega arith) in
     ap (λ (x : List ℕ). x ++ drop (8 + n) b) (frame_by (payload b) (take 4 b) (take 4 (drop 4 b)) one two) ∙ cut_up 4 4 n b
 
 -- by as many frames as there are bytes

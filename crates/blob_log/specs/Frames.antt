@@ -4,9 +4,13 @@ use Rattle.std.specs.Int.{w32, to_be_bytes, from_be_bytes}
 use Rattle.std.specs.List.{flat_map}
 use Rattle.blob_header.specs.Checksum.{crc32c}
 
+-- The checksum of a record covers the four bytes of its length too, so that zeros are no frame.
+unfoldable pub checksum : List ℕ → ℕ
+checksum entry = crc32c (to_be_bytes w32 (length entry) ++ entry)
+
 -- a record's length and its checksum in four bytes each, the high one first, and the record
 unfoldable pub frame : List ℕ → List ℕ
-frame entry = to_be_bytes w32 (length entry) ++ to_be_bytes w32 (crc32c entry) ++ entry
+frame entry = to_be_bytes w32 (length entry) ++ to_be_bytes w32 (checksum entry) ++ entry
 
 abbrev pub frames : List (List ℕ) → List ℕ
 frames records = flat_map frame records
@@ -23,7 +27,7 @@ payload bytes = take (length_told bytes) (drop 8 bytes)
 
 -- whether bytes begin with a whole frame whose checksum holds
 abbrev pub is_frame : List ℕ → Bool
-is_frame bytes = nat_le (8 + length_told bytes) (length bytes) && nat_eq (crc32c (payload bytes)) (sum_told bytes)
+is_frame bytes = nat_le (8 + length_told bytes) (length bytes) && nat_eq (checksum (payload bytes)) (sum_told bytes)
 
 -- the records of at most n frames
 abbrev pub scan_to : ℕ → List ℕ → List (List ℕ)

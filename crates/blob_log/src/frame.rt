@@ -1,8 +1,8 @@
 //! Frames: the bytes of a record in a log, and the records that bytes begin with.
-ghost use Rattle.std.specs.Prelude.{◌≡◌, ◌<◌, ◌≤◌, ◌+◌, ◌^◌, ℕ, true, false, MatchOption, IfOk, OnOk, OnErr, length, map, List, ◌++◌, slice_index};
+ghost use Rattle.std.specs.Prelude.{◌≡◌, ◌<◌, ◌≤◌, ◌+◌, ◌^◌, ℕ, true, false, MatchOption, IfOk, OnOk, OnErr, length, map, List, ◌++◌, [], slice_index, replicate};
 ghost use Rattle.std.specs.Int.{w32, from_be_bytes};
 ghost use Rattle.blob_header.specs.Fronts.{BeginsWith};
-ghost use Rattle.blob_log.specs.Frames.{AreShort, frame, frames, payload, is_frame, scan};
+ghost use Rattle.blob_log.specs.Frames.{AreShort, checksum, frame, frames, payload, is_frame, scan};
 
 use blob_base::Crc32;
 use blob_base::laws::checksums::checksums_fit;
@@ -16,9 +16,21 @@ pub fn frame_of(alloc: Global, entry: &[u8]) -> Result<Vec<u8>, AllocError>
 {
     let mut bytes = Vec::with_capacity(alloc, 8)?;
     bytes.extend_from_slice(&(entry.len() as u32).to_be_bytes())?;
-    bytes.extend_from_slice(&Crc32::checksum(entry).to_be_bytes())?;
+    bytes.extend_from_slice(&checksum_of(entry).to_be_bytes())?;
     bytes.extend_from_slice(entry)?;
     Ok(bytes)
+}
+
+// The checksum of a record's length and its bytes.
+#[tactic(auto, unfolding(crate::specs::Frames::checksum))]
+fn checksum_of(entry: &[u8]) -> u32
+    requires { length entry.now < 2 ^ 32 }
+    ensures { result ≡ checksum entry.now }
+{
+    let mut sum = Crc32::new();
+    sum.update(&(entry.len() as u32).to_be_bytes());
+    sum.update(entry);
+    sum.finalize()
 }
 
 // The number that the first four bytes are, the high one first.
@@ -38,7 +50,7 @@ pub fn first(bytes: &[u8]) -> Option<&[u8]>
         return None;
     }
     let entry = &bytes[8..8 + number(bytes) as usize];
-    if Crc32::checksum(entry) != number(&bytes[4..]) {
+    if checksum_of(entry) != number(&bytes[4..]) {
         return None;
     }
     Some(entry)
@@ -60,10 +72,11 @@ pub fn scan(alloc: Global, bytes: &[u8]) -> Result<(Vec<Vec<u8>>, usize), AllocE
     Ok((records, end))
 }
 
-/// What was written comes back, whatever stands behind it; and what comes back was written, where all are bytes.
+/// What was written comes back, whatever stands behind it; and what comes back was written, where all are bytes. Zeros hold no record.
 pub fn scans_find_frames()
     ensures again { (rs : List (List ℕ)) (rest : List ℕ) → AreShort rs → scan (frames rs ++ rest) ≡ rs ++ scan rest }
     ensures front { (bytes : List ℕ) → ((i : ℕ) → slice_index bytes i < 256) → BeginsWith (frames (scan bytes)) bytes }
+    ensures zeros { (n : ℕ) → scan (replicate n 0) ≡ [] }
 {
     checksums_fit();
 }
