@@ -50,6 +50,8 @@ def depths():
     """The crates, each after those that it uses."""
     below = {}
     for line in read("crates.txt").splitlines():
+        if line.startswith("#"):
+            continue
         crate, _, uses = line.partition(":")
         below[crate.split()[0]] = uses.split()
     done = []
