@@ -3,6 +3,7 @@ pub mod DurableBlobs
 pub mod Owned
 pub mod Parts
 pub mod Preambles
+pub mod ReplyTexts
 pub mod Sessions
 pub mod Statuses
 pub mod Typed
