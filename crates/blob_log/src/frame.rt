@@ -1,8 +1,8 @@
 //! Frames: the bytes of a record in a log, and the records that bytes begin with.
-ghost use Rattle.std.specs.Prelude.{◌≡◌, ◌<◌, ◌≤◌, ◌+◌, ◌^◌, ℕ, true, false, MatchOption, IfOk, OnOk, OnErr, length, map, List, ◌++◌, slice_index};
+ghost use Rattle.std.specs.Prelude.{◌≡◌, ◌<◌, ◌≤◌, ◌+◌, ◌^◌, ℕ, false, MatchOption, IfOk, OnOk, OnErr, length, map, List, ◌++◌, slice_index};
 ghost use Rattle.std.specs.Int.{w32, from_be_bytes};
 ghost use Rattle.blob_header.specs.Fronts.{BeginsWith};
-ghost use Rattle.blob_log.specs.Frames.{AreShort, frame, frames, payload, is_frame, scan};
+ghost use Rattle.blob_log.specs.Frames.{AreShort, IsFirst, frame, frames, is_frame, scan};
 
 use blob_base::Crc32;
 use blob_base::laws::checksums::checksums_fit;
@@ -32,7 +32,7 @@ fn number(bytes: &[u8]) -> u32
 /// The record that the bytes begin with, where a whole frame is there and its checksum holds.
 #[tactic(auto, using(std::proofs::lemmas::Bool::Decides::nat_tests), unfolding(crate::specs::Frames::length_told, crate::specs::Frames::sum_told))]
 pub fn first(bytes: &[u8]) -> Option<&[u8]>
-    ensures { MatchOption result (is_frame bytes.now ≡ false) (λ entry. (is_frame bytes.now ≡ true) × (entry.now ≡ payload bytes.now)) }
+    ensures { MatchOption result (is_frame bytes.now ≡ false) (λ entry. IsFirst bytes.now entry.now) }
 {
     if bytes.len() < 8 || bytes.len() - 8 < number(bytes) as usize {
         return None;
