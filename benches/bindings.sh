@@ -1,12 +1,12 @@
 #!/bin/sh
-# Times calls in-process from C, Rust and Python, for each language whose compiler is there, and by a pipe from Python. It prints
-# to standard error; a test runs it, but holds no time against it. The seconds that each figure takes may be given in place of 0.5.
+# Times calls in-process from C, Rust and Python, if the language's tools are installed, and by a pipe from Python. Prints to
+# standard error. A test runs it, and compares no time. The argument is the seconds for each figure, 0.5 if none is given.
 set -eu
 
 top=$(CDPATH='' cd -- "$(dirname -- "$0")/.." && pwd -P)
 work=$(mktemp -d)
 trap 'rm -rf "$work"' EXIT
-# The proved program alone.
+# Times only the proved program.
 export BLOBCRASH_PROVED=1
 seconds=${1:-0.5}
 

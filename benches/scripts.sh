@@ -1,19 +1,19 @@
 #!/bin/sh
-# Times scripts of mixed calls from end to end: reading, running, printing. It prints a line for each length to standard
-# error; a test runs it, but holds no time against it. Lengths may be given in place of 10000, 20000 and 40000 lines.
+# Times scripts of mixed calls from end to end: reading, running, printing. Prints a line for each length to standard error. A test
+# runs it, and compares no time. The arguments are the lengths in lines; without them 10000, 20000 and 40000.
 set -eu
 
 top=$(CDPATH='' cd -- "$(dirname -- "$0")/.." && pwd -P)
 work=$(mktemp -d)
 trap 'rm -rf "$work"' EXIT
-# The proved program alone.
+# Times only the proved program.
 export BLOBCRASH_PROVED=1
 
-# script LINES: the same lines in every run. Eight names are open at once, in blobs of up to 4096 bytes; writes stay
-# pending until a sync, and now and then there is a crash, or a rebuild, after which each name is opened again.
+# script LINES: the same lines in every run. Eight blobs of up to 4096 bytes are open. Writes stay pending until a sync. Sometimes
+# the store crashes or is rebuilt; after a rebuild each name is opened again.
 script() {
     awk -v lines="$1" '
-        # A number below n, by a multiplicative generator whose steps are exact in double precision.
+        # A number below n, by a multiplicative generator. Its steps are exact in double precision.
         function below(n) { state = state * 16807 % 2147483647; return state % n }
         function say(line) { if (count < lines) { print line; count++ } }
         function open_all(  i) { for (i = 0; i < 8; i++) { say("open p 0" i); handle[i] = opened++ } }
@@ -44,7 +44,7 @@ script() {
         }'
 }
 
-# Builds the program where that is still to be done, outside the times.
+# Builds the program before anything is timed.
 "$top/blobcrash" resolve </dev/null >/dev/null
 
 [ "$#" -gt 0 ] || set -- 10000 20000 40000

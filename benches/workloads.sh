@@ -1,27 +1,27 @@
 #!/bin/sh
 # Times scripts of one kind of call each from end to end: reading, running, printing. For each workload it prints the
-# fastest of three runs in milliseconds at N, 2N and 4N calls, to standard error. Programs may be given in place of
-# ./blobcrash, as those of earlier versions: each is timed on the same scripts, in turn, and has to print the same. Where
-# CALLS is set, it stands for N: a test runs a small one, and holds no time against it.
+# fastest of three runs in milliseconds at N, 2N and 4N calls, to standard error. N is $CALLS, or 10000. The arguments are
+# programs to time in place of ./blobcrash, as those of earlier versions: each runs the same scripts, in turn, and must print the
+# same. A test runs it, and compares no time.
 set -eu
 
 top=$(CDPATH='' cd -- "$(dirname -- "$0")/.." && pwd -P)
 work=$(mktemp -d)
 trap 'rm -rf "$work"' EXIT
-# The proved program alone.
+# Times only the proved program.
 export BLOBCRASH_PROVED=1
 
 # script WORKLOAD CALLS: the same lines in every run.
 script() {
     awk -v workload="$1" -v calls="$2" '
-        # A number below n, by a multiplicative generator whose steps are exact in double precision.
+        # A number below n, by a multiplicative generator. Its steps are exact in double precision.
         function below(n) { state = state * 16807 % 2147483647; return state % n }
         function bytes(len,  i, text) {
             text = ""
             for (i = 0; i < len; i++) text = text sprintf("%02x", below(256))
             return text
         }
-        # Plain writes, one behind another.
+        # Plain writes, each at the end of the one before.
         function pend(handle, count, len,  i) {
             for (i = 0; i < count; i++) print "write " handle " " i * len " " bytes(len)
         }
@@ -31,13 +31,13 @@ script() {
             # Names that are opened and closed, some again.
             if (workload == "opens")
                 for (i = 0; i < calls / 2; i++) { print "open p " sprintf("%08x", below(calls)); print "close " i }
-            # Pending writes of one file, where a hundred others have some.
+            # Pending writes of one file, while a hundred others have some too.
             if (workload == "others") {
                 print subset
                 for (i = 0; i <= 100; i++) { print "open p " sprintf("%02x", i); pend(i, 20, 4) }
                 pend(0, calls, 4)
             }
-            # SYNC writes behind a resize that survives: each range is queued.
+            # SYNC writes after a resize that survives: each range is queued.
             if (workload == "queued") {
                 print "words 0"
                 print "open p 62"; print "writes 0 0 " bytes(4096); print subset
@@ -85,7 +85,7 @@ fastest() {
 }
 
 if [ "$#" -eq 0 ]; then
-    # Builds the program where that is still to be done, outside the times.
+    # Builds the program before anything is timed.
     "$top/blobcrash" resolve </dev/null >/dev/null
     set -- "$top/out/blobcrash"
 fi

@@ -1,8 +1,8 @@
 #!/bin/sh
-# Tests of the library and of its clients in C, Rust and Python: each worked script is answered as the program answers it,
-# line by line and as a whole, each client's log recovers what it acknowledged and finds the planted bug, no hostile argument of
-# tests/hostile.tsv becomes anything else, and what would hide a bug of the code under test is refused. What needs a missing
-# tool is skipped, which fails under `CI=true`. The last line is `N passed, M failed`.
+# Tests the library and its clients in C, Rust and Python: each worked script has the program's replies, line by line and as a
+# whole; each client's log recovers what it acknowledged, and its planted bug is found; the arguments of tests/hostile.tsv are
+# passed on unchanged or refused; uses that would hide a bug of the code under test are refused. What needs a missing tool is
+# skipped, which fails under `CI=true`. The last line is `N passed, M failed`.
 top=$(CDPATH='' cd -- "$(dirname -- "$0")/.." && pwd -P)
 # shellcheck source=tests/counting.sh
 . "$top/tests/counting.sh"
@@ -35,7 +35,7 @@ answers() {
     done
 }
 
-# lives NAME COMMAND..: the client's log loses nothing, and where it forgets a sync that is found.
+# lives NAME COMMAND..: the client's log loses nothing; without its sync it loses a record, which is found.
 lives() {
     name=$1
     shift
@@ -85,7 +85,7 @@ END
     else
         skip 'C++: there is no c++'
     fi
-    # What a session that is handed to another thread rests on: no state per thread, and no other function of the C library.
+    # A session may move to another thread because the library has no state per thread and calls no other function of the C library.
     if has nm readelf && [ -f "$top/out/libblobcrash.so" ]; then
         nm -D --undefined-only "$top/out/libblobcrash.so" | awk '$1 == "U" { print $2 }' | sed 's/@.*//' | sort -u >"$work/out"
         [ -s "$work/out" ] && ! grep -qvxE 'malloc|realloc|free|memcpy|memmove|memset|memcmp' "$work/out" &&
@@ -100,7 +100,7 @@ END
     else
         skip 'C: a session that is handed from thread to thread: there is no valgrind, or no threads'
     fi
-    # The memory of both sides under the sanitizer, which also tells what isn't given back.
+    # The library and its clients under the address sanitizer, which also reports leaks.
     if $build -g -fsanitize=address,undefined -o "$work/lines.sanitized" "$top/bindings/c/lines.c" \
         "$top/out/libblobcrash.a" 2>"$work/err" && "$work/lines.sanitized" </dev/null 2>"$work/err"; then
         for program in calls typed log hostile; do

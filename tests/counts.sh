@@ -54,10 +54,10 @@ expect 'all scripts' 0 '9 passed, 0 failed' run_test
 cp "$work/out" "$work/all"
 expect 'each script is timed' 0 '' grep -q '^tests/own.sh: [0-9]* seconds$' "$work/all"
 
-script own pass 'skip "the other half, for want of a tool"'
-expect 'a skipped test' 0 'own.sh: skipped: the other half, for want of a tool
+script own pass 'skip "the other half: it needs a tool"'
+expect 'a skipped test' 0 'own.sh: skipped: the other half: it needs a tool
 1 passed, 0 failed, 1 skipped' env CI=false sh "$copy/tests/own.sh"
-expect 'a skipped test where tools have to be there' 1 'own.sh: skipped: the other half, for want of a tool
+expect 'a skipped test that must run' 1 'own.sh: skipped: the other half: it needs a tool
 1 passed, 1 failed' env CI=true sh "$copy/tests/own.sh"
 CI=false
 export CI

@@ -41,7 +41,7 @@ piped java java "$top/examples/Pipe.java"
 piped go env GOCACHE="$work/go" GOFLAGS=-mod=mod go run "$top/examples/pipe.go"
 
 if ! has_python; then
-    skip 'the log in Python, for want of a Python from 3.8 on'
+    skip 'the log in Python: it needs Python 3.8 or later'
     finish
 fi
 

@@ -34,7 +34,7 @@ add() {
 }
 
 if ! has_python; then
-    skip 'the page of a run, for want of a Python from 3.8 on'
+    skip 'the page of a run: it needs Python 3.8 or later'
     finish
 fi
 if [ -z "${BLOBCRASH:-}" ]; then
@@ -65,7 +65,7 @@ add python3 "$top/tests/page_model.py" "$BLOBCRASH" 200
 if has chromium || has chromium-browser || has google-chrome; then
     add python3 "$top/tests/page_browser.py" "$BLOBCRASH" "${PAGE_PICTURES:-$work/pictures}"
 else
-    skip 'the page in a browser, for want of Chromium'
+    skip 'the page in a browser: it needs Chromium'
 fi
 
 # page_of LANGUAGE COMMAND..: a command writes the script of a failing seed to $work/failing.script, with status 1, and its page shows

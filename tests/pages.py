@@ -3,8 +3,8 @@
     pages.py PAGE              runs each command of a page, `    $ COMMAND`, and compares its output with the lines below it; each
                                indented block of Python that begins with an import, with the module of bindings/python; and each table
                                of lines with their replies, as a script
-    pages.py --listed PAGE ..  that tests/pages.list has each command which a page names in its text, and no other; that each block of a
-                               page is run, quoted from a source or tried in a scratch repository; and that each link leads somewhere
+    pages.py --listed PAGE ..  checks that tests/pages.list has exactly the commands that the pages name in their text; that each block
+                               of a page is run, quoted from a source or tried in a scratch repository; and that no link is dead
     pages.py --ways            the ways by which tests/pages.sh runs commands of the list itself, a line each
     pages.py --scratch FOLDER  makes a repository by the steps of "Set up" in docs/LOG.md, with a test of their blocks
 """
@@ -81,7 +81,7 @@ def programs(lines):
 
 
 def tables(lines):
-    """The tables of a script's lines and their replies, as pairs of both."""
+    """The tables of a script's lines and their replies, as pairs of both. A line of the preamble has no reply."""
     found, inside = [], False
     for line in lines:
         if line.startswith("| line | reply |"):
@@ -91,11 +91,11 @@ def tables(lines):
             found[-1].append([cell.strip().strip("`") for cell in line.split("|")[1:3]])
         elif inside and not line.startswith("|"):
             inside = False
-    return [([row[0] for row in table], [row[1] for row in table]) for table in found]
+    return [([row[0] for row in table], [row[1] for row in table if row[1]]) for table in found]
 
 
 def blocks(lines):
-    """The blocks of code of a page, fenced or indented: each with what stands above it, and its lines."""
+    """The blocks of code of a page, fenced or indented: each with the line above it, and its lines."""
     found, above, fence, inside = [], "", False, False
     for line in lines:
         starts = line.startswith("```")
@@ -175,7 +175,7 @@ def compare_with_list(pages):
 
 
 def scratch(folder):
-    """A repository of the steps of docs/LOG.md: its crates, its lines and a crate whose one test is its blocks."""
+    """Makes the repository that the steps of docs/LOG.md describe. The page's blocks become the one test of its own crate."""
     lines = read(RATTLE)
     steps = lines[lines.index("## Set up") :]
     text = "\n".join(steps)

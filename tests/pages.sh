@@ -7,7 +7,7 @@ top=$(CDPATH='' cd -- "$(dirname -- "$0")/.." && pwd -P)
 . "$top/tests/counting.sh"
 cd "$top" || exit 1
 if ! has_python; then
-    skip 'the commands of the pages, for want of a Python from 3.8 on'
+    skip 'the commands of the pages: they need Python 3.8 or later'
     finish
 fi
 export work
@@ -35,7 +35,7 @@ while read -r way; do
     for tool in cc cargo; do
         case $way in "$tool "* | *" $tool "*) has "$tool" || lacking=$tool ;; esac
     done
-    if [ -n "$lacking" ]; then skip "$way, for want of $lacking"; else ok "$way" sh -c "$way"; fi
+    if [ -n "$lacking" ]; then skip "$way: it needs $lacking"; else ok "$way" sh -c "$way"; fi
 done <"$work/ways"
 
 finish

@@ -1,7 +1,7 @@
 #!/bin/sh
-# Pictures of crashes: `./blobcrash explain` prints tests/pictures/NAME.out for each NAME.script, to the byte, and for each worked
-# script of tests/scripts what the plain run prints, with its status, but for lines that begin with `# `, none of them wider
-# than 80. The last line is `N passed, M failed`.
+# Pictures of crashes: `./blobcrash explain` prints tests/pictures/NAME.out for each NAME.script, to the byte. For each worked
+# script of tests/scripts it prints what the plain run prints, with the same status, and lines that begin with `# `, none of them
+# wider than 80. The last line is `N passed, M failed`.
 top=$(CDPATH='' cd -- "$(dirname -- "$0")/.." && pwd -P)
 # shellcheck source=tests/counting.sh
 . "$top/tests/counting.sh"

@@ -84,8 +84,8 @@ expect 'an argument with a space' 2 '' "$usage"
 run "$top/blobcrash" "$(printf '\377')" </dev/null
 expect 'an argument that is not UTF-8' 2 '' "$usage"
 
-# Help, which names each command, and the version with the toolchain that the README names. Another toolchain proves and
-# builds the program as well: it is told, and fails nothing.
+# Help, which names each command, and the version with the toolchain that the README names. With
+# another toolchain, which may prove the program as well, this prints a note and doesn't fail.
 for word in help --help; do
     run "$top/blobcrash" "$word" </dev/null
     missing=0
@@ -147,7 +147,7 @@ exec 3<&-
 cp "$work/asked.err" "$work/err"
 expect 'the end of the talk' 0 '' ''
 
-# Many lines at once.
+# A long script.
 { echo 'open p 62'; yes 'size 0' | head -n 199999; } >"$work/in"
 run "$top/blobcrash" <"$work/in"
 [ "$(sort "$work/out" | uniq -c | tr -s ' ')" = " 1 opened 0 0 0$line 199999 size 0" ] && : >"$work/out"
@@ -214,7 +214,7 @@ exit 2
 TOOL
 chmod +x "$tools/rt" "$tools/try"
 
-# The minutes that are told depend on the number of processors.
+# The number of minutes in the notice depends on the number of processors.
 launch() {
     PATH=$tools:$PATH "$copy/blobcrash" "$@" 2>"$work/told"
     status=$?

@@ -1,17 +1,17 @@
 #!/bin/sh
-# Refuses memory, and lets reads and writes fail, from outside of the programs: by a library that is preloaded.
+# Refuses allocations, and makes reads and writes fail, by a library that is preloaded.
 #
-# Each public call that takes memory is tried with each of its requests refused, alone and with all that come after it, and
-# each call that takes none with every request refused; then whole scripts with each request of the program refused.
+# Each public call that allocates is tried with each of its allocations refused, alone and with all later ones. Each call that
+# doesn't is tried with every allocation refused. Then whole scripts run with each allocation of the program refused.
 # The last line is `N passed, M failed`.
 top=$(CDPATH='' cd -- "$(dirname -- "$0")/.." && pwd -P)
 # shellcheck source=tests/counting.sh
 . "$top/tests/counting.sh"
-# In memory where that can be had, since thousands of small files are written.
+# In a file system in memory if there is one, since thousands of small files are written.
 rmdir "$work"
 work=$(mktemp -d -p /dev/shm 2>/dev/null) || work=$(mktemp -d)
 if ! has cc; then
-    skip 'refused memory and failing streams, for want of cc'
+    skip 'refused memory and failing streams: they need cc'
     finish
 fi
 library=$work/refuse.so
@@ -105,12 +105,12 @@ without() {
     cat "$work/without.$1"
 }
 
-# is_front: whether what the last run printed is a front of the right replies, on whole lines.
+# is_front: whether what the last run printed is the first of the right replies, on whole lines.
 is_front() {
     head -n "$(wc -l <"$work/out")" "$work/right" | cmp -s - "$work/out"
 }
 
-# is_one_refused: whether one call was refused, and the others answered as without it.
+# is_one_refused: whether one call was refused, and the others have the replies that they have without it.
 is_one_refused() {
     k=$(awk 'NR == FNR { right[NR] = $0; next } $0 != right[FNR] { print FNR; exit }' "$work/right" "$work/out")
     [ -n "$k" ] && [ "$(sed -n "${k}p" "$work/out")" = 'error Memory' ] || return 1
@@ -206,7 +206,7 @@ fail_reads() {
     echo "refusals.sh: $(basename "$script"): $n failing reads"
 }
 
-# fail_writes INPUT SHORT [ARGUMENT]: a write fails at each place, and what is printed is a front of the right replies.
+# fail_writes INPUT SHORT [ARGUMENT]: makes each write fail in turn. What is printed before is a prefix of the right replies.
 fail_writes() {
     input=$1
     "$program" ${3:-} <"$input" >"$work/right"
@@ -256,8 +256,8 @@ fail_resolve_reads() {
     if [ "$status" -eq 0 ] && [ "$n" -eq 18 ]; then pass; else wrong "resolve in reads of one byte: status $status"; fi
 }
 
-# refuse_resolve INPUT REPLY LEAST: the program's own requests end it, and one that is the call's is its reply; of these
-# there are so many at least.
+# refuse_resolve INPUT REPLY LEAST: refuses each allocation in turn. One of the program's own ends it; one of the call's is its
+# reply, and there are at least LEAST of these.
 refuse_resolve() {
     n=0
     told=0

@@ -1,6 +1,6 @@
 #!/bin/sh
-# The player of rows (crates/blob_play): rows that are wrong are told by file, line, call, what was wanted and what was found, and
-# a file that isn't there is told too; both with status 1. The last line is `N passed, M failed`.
+# The player of rows (crates/blob_play) reports a wrong row by file, line, call, expected result and result, and a missing file;
+# both with status 1. The last line is `N passed, M failed`.
 top=$(CDPATH='' cd -- "$(dirname -- "$0")/.." && pwd -P)
 # shellcheck source=tests/counting.sh
 . "$top/tests/counting.sh"

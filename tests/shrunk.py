@@ -109,7 +109,7 @@ def test_torn_overwrite():
 
 
 def test_second_handle():
-    """A second handle whose sync makes its own bytes durable in place of acknowledged ones: here none. No draw is left."""
+    """A second handle that overwrites acknowledged bytes when it is synced, here with none. No draw remains."""
     with Store(9, by=Library, settings=["write 0 1 1 2 subset"]) as store:
         noise(store, 0)
         first, _ = store.open("p", b"b")

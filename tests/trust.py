@@ -59,7 +59,7 @@ def depths():
 
 
 class Names:
-    """What the names of a file stand for: those that it imports from specs/, and for a file of specs/ its own."""
+    """What the names of a file refer to: names that it imports from specs/, and the own names of a file of specs/."""
 
     def __init__(self, text):
         self.of = {}
@@ -177,7 +177,7 @@ def defined_twice(specs):
 
 
 def order(specs, found):
-    """The files of these definitions, each after those that it leads to, and by crate where that leaves a choice."""
+    """The files of these definitions, each after those that it uses, and files of one crate together if possible."""
     below = collections.defaultdict(set)
     for key in found:
         below[key[0]].update(to[0] for to in specs.leads(key) if to[0] != key[0])

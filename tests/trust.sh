@@ -5,7 +5,7 @@ top=$(CDPATH='' cd -- "$(dirname -- "$0")/.." && pwd -P)
 # shellcheck source=tests/counting.sh
 . "$top/tests/counting.sh"
 if ! has_python; then
-    skip 'the list of trusted files, for want of a Python from 3.8 on'
+    skip 'the list of trusted files: it needs Python 3.8 or later'
     finish
 fi
 python3 "$top/tests/trust.py" "$@"

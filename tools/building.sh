@@ -32,7 +32,7 @@ crates_of() {
         }' "$list"
 }
 
-# names_of: the names of the crates whose lines of crates.txt are on standard input.
+# names_of: reads lines of crates.txt, and prints the names of their crates.
 names_of() { sed 's/[ :].*//'; }
 
 # proof_seconds: reads lines of crates.txt, and prints the processor seconds that the proofs of these crates take by

@@ -1,19 +1,19 @@
 /*
- * A storage layer for tests of crash recovery, in-process: faults are injected, only some of the bytes that weren't synced
- * survive a crash, and what is left is opened again.
+ * A storage layer for tests of crash recovery, in-process: it injects faults, and a crash keeps only some of the bytes that
+ * weren't synced.
  *
- * The library is `crates/blob_c`, which is proved: each function does what is said here where its caller keeps to the duties
+ * The library is `crates/blob_c`, which is proved: each function does what is said here if its caller keeps to the duties
  * below. Nothing checks a caller.
  *
  * Duties of a caller
  *
- * - Pointers. A pointer with a length is to so many bytes that stay as they are during the call, or that the call may write;
- *   with the length 0 it isn't read or written, and must still not be NULL. What a call writes overlaps nothing else that it
- *   is given. A session's pointer is to a session of the caller's own.
+ * - Pointers. A pointer with a length `len` is to `len` bytes. No one else changes them during the call, and those that the
+ *   call writes overlap no other argument. With the length 0 the pointer isn't used, and must still not be NULL. A session's
+ *   pointer is to a session of the caller's own.
  * - Sessions. A session of all zeros is closed: `struct blobcrash_session s = {0};`. Its fields belong to the library: a
  *   caller reads and writes neither. An open session may be moved, but then only the new place is used; it is never copied to
- *   be used twice. Each is closed before it is forgotten, or its memory is lost.
- * - One at a time. A session is given to one call at a time. It may be handed from one thread to another if the calls are
+ *   be used twice. Close each session, or its memory leaks.
+ * - One at a time. A session is given to one call at a time. It may move from one thread to another if the calls are
  *   ordered, as by a lock or a join: the library has no state of its own, per thread or otherwise, and calls only `malloc`,
  *   `realloc`, `free` and the `mem` functions. Different sessions share nothing. No function is called from a signal handler,
  *   nor in the child of a `fork` of a process that has threads.
@@ -38,17 +38,17 @@ extern "C" {
 enum blobcrash_status {
     /* Done; `len` bytes of the reply were written. */
     BLOBCRASH_DONE = 0,
-    /* A script has more lines than can be counted; nothing is known of its replies. Or a seed gives words without end. */
+    /* A script has more than 2^64 - 1 lines, and its replies are lost. Or a seed gives an unlimited number of words. */
     BLOBCRASH_ENDLESS = 1,
-    /* A line is no call, or may not stand there. No call was made. */
+    /* A line is no call, or isn't allowed at this point. No call was made. */
     BLOBCRASH_BAD_LINE = 2,
-    /* The library found no memory. No call was made. */
+    /* The library can't allocate. No call was made. */
     BLOBCRASH_NO_MEMORY = 3,
-    /* The call was made. Its reply has `len` bytes, more than there is room for, and is kept. */
+    /* The call was made. Its reply has `len` bytes, more than the buffer, and is kept. */
     BLOBCRASH_NO_ROOM = 4,
     /* The session is closed. No call was made. */
     BLOBCRASH_CLOSED = 5,
-    /* The call was made, with another reply than the one that it is for. The reply is kept. */
+    /* The call was made, and has a reply of another kind, as an error. The reply is kept. */
     BLOBCRASH_OTHER_REPLY = 6,
     /* The call was made. The length of its reply doesn't fit in 64 bits. The reply is kept. */
     BLOBCRASH_UNPRINTED = 7,
@@ -95,6 +95,32 @@ enum blobcrash_kind {
     BLOBCRASH_REOPEN = 13
 };
 
+/* Why a header is refused: the first test that it fails. */
+enum blobcrash_header_refusal {
+    BLOBCRASH_H_INVALID_MAGIC = 48,              /* the first four bytes are no layout's magic */
+    BLOBCRASH_H_UNSUPPORTED_LAYOUT_VERSION = 49, /* the layout version isn't the magic's: `version` has it */
+    BLOBCRASH_H_LAYOUT_MISMATCH = 50,            /* the layout isn't accepted: `version` has its number */
+    BLOBCRASH_H_VERSION_MISMATCH = 51,           /* the version isn't accepted: `version` has it */
+    BLOBCRASH_H_INVALID_CHECKSUM = 52,
+    BLOBCRASH_H_INVALID_PADDING = 53,
+    BLOBCRASH_H_TRUNCATED = 54                   /* the blob is too short: `size` has the length that the header needs */
+};
+
+/* The calls of the registry of durability debt, each with the fields and the bytes that it uses. It ignores the others. */
+enum blobcrash_debt_kind {
+    BLOBCRASH_DEBT_ADMIT = 0,            /* partition, name, flag: whether the blob existed */
+    BLOBCRASH_DEBT_RELEASE = 1,          /* number: an open */
+    BLOBCRASH_DEBT_SETTLE = 2,           /* number: a token; the partition and the name of its open; flag: whether debt is left; failure */
+    BLOBCRASH_DEBT_DEBT = 3,             /* number: an open */
+    BLOBCRASH_DEBT_CLEAR = 4,            /* number: an open; failure, or DONE */
+    BLOBCRASH_DEBT_FAIL = 5,             /* number: an open; failure */
+    BLOBCRASH_DEBT_CLOSE = 6,            /* number: an open */
+    BLOBCRASH_DEBT_FORGET = 7,           /* partition, name */
+    BLOBCRASH_DEBT_FORGET_PARTITION = 8, /* partition */
+    BLOBCRASH_DEBT_IS_SETTLED = 9,       /* number: a predecessor */
+    BLOBCRASH_DEBT_KEEPS = 10            /* partition, name */
+};
+
 /* A laboratory, or none: a store with its open handles and started syncs. */
 struct blobcrash_session {
     void *at;
@@ -107,7 +133,7 @@ struct blobcrash_ran {
     size_t len;
 };
 
-/* How a script ended, how many bytes its replies have, and which line is bad, counted from 1; 0 where none is. */
+/* How a script ended, how many bytes its replies have, and which line is bad, counted from 1; 0 if none is. */
 struct blobcrash_script_ran {
     uint32_t status;
     size_t len;
@@ -145,17 +171,58 @@ struct blobcrash_kept_run {
     size_t len;
 };
 
+/* Which headers are accepted: the layouts from `oldest` to `newest`, 0 or 1, and the versions from `least` to `greatest`. */
+struct blobcrash_accepts {
+    uint16_t oldest;
+    uint16_t newest;
+    uint16_t least;
+    uint16_t greatest;
+};
+
+/* What a header says. The numbers that it doesn't say are 0. */
+struct blobcrash_header {
+    /* DONE, why it is refused, or BAD_CALL. */
+    uint32_t status;
+    uint32_t version;
+    /* The size of the blob without its header, in bytes. */
+    uint64_t size;
+    /* The offset of the blob's own bytes. */
+    uint64_t data_offset;
+};
+
+/* A call of the registry of durability debt without its bytes. */
+struct blobcrash_debt_call {
+    uint32_t kind;
+    /* DONE, or one of the refusals without texts. */
+    uint32_t failure;
+    size_t number;
+    bool flag;
+};
+
+/* What the registry returns. The numbers that a call doesn't return are 0. */
+struct blobcrash_debt_reply {
+    /* DONE, a refusal, or another status if no call was made. */
+    uint32_t status;
+    /* Whether a name owes, a release gave a token, a predecessor has settled or anything is kept of a name. */
+    bool flag;
+    /* Whether an admitted open has a predecessor that hasn't settled, which `predecessor` is. */
+    bool has_predecessor;
+    /* The number of an admitted open, or of a release's token. */
+    size_t number;
+    size_t predecessor;
+};
+
 /*
- * Opens a session. The preamble is the lines of a script that stand before its calls, and settings: `image P NAME HEX`,
- * `words W ..`, `seed N`, and then `config ..`; none is a preamble too. What the session held before is ended.
+ * Opens a session. The preamble is the lines of a script before its calls, and settings: `image P NAME HEX`, `words W ..`,
+ * `seed N`, and then `config ..`. It may be empty. If the session was open, its store ends.
  *
- * DONE; BAD_LINE with the number of a line that may not stand there; NO_MEMORY. The last two change nothing.
+ * DONE; BAD_LINE with the number of a line that isn't allowed there; NO_MEMORY. The last two change nothing.
  */
 struct blobcrash_script_ran blobcrash_open(struct blobcrash_session *session, const uint8_t *preamble, size_t preamble_len);
 
 /*
- * Makes the call that a line says (without a line feed), and writes its reply to the front of `reply`, without a line feed
- * and without a zero. An empty line and a comment make no call, and are DONE with no bytes.
+ * Makes the call of a line, which has no line feed, and writes its reply to the start of `reply`, without a line feed and
+ * without a final zero. An empty line and a comment make no call, and are DONE with no bytes.
  *
  * DONE; NO_ROOM; UNPRINTED; BAD_LINE, NO_MEMORY and CLOSED, which change nothing.
  */
@@ -163,10 +230,10 @@ struct blobcrash_ran blobcrash_call(struct blobcrash_session *session, const uin
                                     size_t reply_room);
 
 /*
- * Writes the reply to the last call once more, as often as it is asked for: with enough room it isn't lost. Where no call
- * was made yet it has no bytes.
+ * Writes the reply to the last call to the start of `reply`. It may be called any number of times, so a caller whose buffer
+ * was too short can try a larger one. If no call was made yet the reply has no bytes.
  *
- * DONE; NO_ROOM with the room that is wanted; UNPRINTED; CLOSED. None changes anything.
+ * DONE; NO_ROOM with the capacity that is needed; UNPRINTED; CLOSED. None changes anything.
  */
 struct blobcrash_ran blobcrash_reply(struct blobcrash_session *session, uint8_t *reply, size_t reply_room);
 
@@ -229,27 +296,27 @@ struct blobcrash_ran blobcrash_durable_blob(struct blobcrash_session *session, c
 struct blobcrash_ran blobcrash_audit(struct blobcrash_session *session, uint8_t *into, size_t capacity);
 
 /*
- * The call `write HANDLE OFFSET HEX`, or with `sync` `writes HANDLE OFFSET HEX`, without text.
+ * Writes bytes at an offset: the call `write HANDLE OFFSET HEX`, or with `sync` the call `writes HANDLE OFFSET HEX`.
  *
- * DONE where the reply is `ok`; OTHER_REPLY, which blobcrash_reply tells; NO_MEMORY and CLOSED, which change nothing.
+ * DONE if the reply is `ok`; OTHER_REPLY, which blobcrash_reply prints; NO_MEMORY and CLOSED, which change nothing.
  */
 uint32_t blobcrash_write(struct blobcrash_session *session, size_t handle, uint64_t offset, const uint8_t *bytes, size_t len,
                          bool sync);
 
 /*
- * The call `read HANDLE OFFSET LEN` without text: fills `into` with `len` bytes.
+ * Fills `into` with `len` bytes from an offset: the call `read HANDLE OFFSET LEN`.
  *
- * DONE where the reply is so many bytes; OTHER_REPLY, which blobcrash_reply tells, and which leaves `into` as it was; CLOSED,
- * which changes nothing.
+ * DONE if the reply is `len` bytes; OTHER_REPLY, which blobcrash_reply prints, with `into` unchanged; CLOSED, which changes
+ * nothing.
  */
 uint32_t blobcrash_read(struct blobcrash_session *session, size_t handle, uint64_t offset, uint8_t *into, size_t len);
 
 /*
- * Returns in `len` how many words of the session's generator are left, up to the last one that isn't zero. All words after that
- * one are zero. A caller that gives words of which the last isn't zero learns how many were taken, as long as `len` isn't 0:
- * the given number less `len`.
+ * Returns in `len` how many words of the session's generator remain, up to the last one that isn't zero. All words after that
+ * one are zero. If the last given word isn't zero and `len` isn't 0, the number of given words less `len` is how many were
+ * taken.
  *
- * DONE; ENDLESS if the session has a seed, which gives words without end; CLOSED. None changes anything.
+ * DONE; ENDLESS if the session has a seed; CLOSED. None changes anything.
  */
 struct blobcrash_ran blobcrash_words_left(struct blobcrash_session *session);
 
@@ -260,16 +327,44 @@ struct blobcrash_ran blobcrash_words_left(struct blobcrash_session *session);
  */
 uint32_t blobcrash_push_words(struct blobcrash_session *session, const uint64_t *words, size_t count);
 
-/* Closes a session, and ends what it held. A closed one stays closed. */
+/*
+ * Makes a call of the registry of durability debt, which a session has as well as its store: the store doesn't change. The registry knows
+ * the latest open of each name, and what closed opens left: work that isn't done, debt, and failures. An open is admitted, and at its
+ * end released and closed; its token is settled when its work is done. Opens, tokens and predecessors have numbers from 0 on, and no
+ * number is given twice. What each call returns: `crates/blob_debt/src/pending.rt`.
+ *
+ * DONE; E_BLOB_ALREADY_OPEN if the name's open isn't closed; a failure that was kept; E_NO_HANDLE if nothing has the number;
+ * E_GENERATIONS_EXHAUSTED and E_MEMORY; BAD_CALL if the kind is unknown, the failure has texts or the partition isn't UTF-8;
+ * CLOSED. All but DONE leave the registry as it was.
+ */
+struct blobcrash_debt_reply blobcrash_debt(struct blobcrash_session *session, const struct blobcrash_debt_call *asked,
+                                           const uint8_t *partition, size_t partition_len, const uint8_t *name, size_t name_len);
+
+/*
+ * Parses the header of a blob, without a session. `raw` has the first bytes of the blob, at least `min(raw_len, 4096)`, and `raw_len`
+ * is the length of the whole blob.
+ *
+ * DONE; why the header is refused; BAD_CALL if a layout is unknown, `raw` has too few bytes or more than the blob, or the blob is
+ * shorter than 8 bytes.
+ */
+struct blobcrash_header blobcrash_parse_header(const uint8_t *raw, size_t len, uint64_t raw_len, const struct blobcrash_accepts *accepts);
+
+/*
+ * Returns whether an interrupted creation in this layout, 0 or 1, may have left these bytes of a whole blob. No bytes of layout 0 or
+ * of a layout that doesn't exist are.
+ */
+bool blobcrash_interrupted_creation(uint16_t layout, const uint8_t *raw, size_t len);
+
+/* Closes a session, and frees its store. A closed one stays closed. */
 void blobcrash_close(struct blobcrash_session *session);
 
 /*
- * Runs a whole script, without a session, and writes its replies to the front of `replies`, each with a line feed: what the
+ * Runs a whole script, without a session, and writes its replies to the start of `replies`, each with a line feed: what the
  * program prints.
  *
- * DONE; BAD_LINE with the number of the line, and the replies before it; NO_ROOM with the room that is wanted, the number of
- * the bad line if there is one, and nothing written (a script's replies are a function of its text: run it again); NO_MEMORY
- * and ENDLESS, with nothing written.
+ * DONE; BAD_LINE with the number of the line, and the replies before it; NO_ROOM with the capacity that is needed, the number
+ * of the bad line if there is one, and nothing written: run it again, since a script's replies are a function of its text;
+ * NO_MEMORY and ENDLESS, with nothing written.
  */
 struct blobcrash_script_ran blobcrash_run(const uint8_t *script, size_t script_len, uint8_t *replies, size_t replies_room);
 

@@ -215,7 +215,7 @@ static inline uint32_t blobcrash_line(struct blobcrash_session *session, const c
     uint8_t none;
     size_t len = strlen(line);
     if (memchr(line, '\n', len) != NULL) return BLOBCRASH_BAD_LINE;
-    /* With no room for a reply only a line without one is DONE. */
+    /* With a capacity of 0 only a line without a reply is DONE. */
     uint32_t status = blobcrash_call(session, blobcrash_bytes(line), len, &none, 0).status;
     bool is_call = status == BLOBCRASH_NO_ROOM || status == BLOBCRASH_UNPRINTED;
     if (!is_call && status != BLOBCRASH_DONE) return status;

@@ -1,6 +1,6 @@
 /*
- * What each exported function answers: sessions, replies without room, bad lines, whole scripts. It prints each line that
- * doesn't hold, and ends with the status 1 where there is one.
+ * Tests what each exported function returns: sessions, replies that don't fit, bad lines, whole scripts. Prints the source line
+ * of each check that fails, and exits with status 1 if there is one.
  */
 #include "blobcrash.h"
 
@@ -24,7 +24,7 @@ static bool is_told(const uint8_t *room, size_t len, const char *reply) {
     return len == strlen(reply) && memcmp(room, reply, len) == 0;
 }
 
-/* Whether the call of a line is done, and answered so. */
+/* Whether the call of a line is done, with this reply. */
 static bool answers(struct blobcrash_session *session, const char *line, const char *reply) {
     uint8_t room[64];
     struct blobcrash_ran ran = blobcrash_call(session, TEXT(line), room, sizeof room);

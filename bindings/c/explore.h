@@ -66,7 +66,7 @@ struct blobcrash_paths {
 };
 
 /* The words of a path as a line of a script, for a failure: `words 0 max`. Returns its length without the final zero, which `text`
- * gets if it has room for both. */
+ * gets if both fit. */
 static inline size_t blobcrash_words_of(const struct blobcrash_paths *paths, char *text, size_t text_room) {
     size_t len = 5;
     for (size_t i = 0; i < paths->len; i++) {

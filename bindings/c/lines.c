@@ -1,6 +1,6 @@
 /*
- * Runs a script from standard input through a session, a line at a time, or with `--whole` at once: its replies are the
- * program's (docs/FORMATS.md), and so is its exit status.
+ * Runs a script from standard input through a session, a line at a time, or with `--whole` as a whole. Its replies and its exit
+ * status are the program's (docs/FORMATS.md).
  */
 #include "blobcrash.h"
 
@@ -9,7 +9,7 @@
 #include <stdlib.h>
 #include <string.h>
 
-/* Room that grows. What is in it is in the first `len` bytes. */
+/* A buffer that grows: `len` bytes of text, with capacity `room`. */
 struct text {
     uint8_t *bytes;
     size_t len, room;
@@ -41,7 +41,7 @@ static bool is_preamble(const uint8_t *line, size_t len) {
     return begins(line, len, NULL) || begins(line, len, "image") || begins(line, len, "words") || begins(line, len, "seed");
 }
 
-/* The session's reply to a line, whatever its length: it is kept until there is room for it. */
+/* The session's reply to a line, of any length: if the buffer is too short, it is read again into a larger one. */
 static uint32_t call(struct blobcrash_session *session, const uint8_t *line, size_t len, struct text *reply) {
     struct blobcrash_ran ran = blobcrash_call(session, line, len, reply->bytes, reply->room);
     while (ran.status == BLOBCRASH_NO_ROOM) {

@@ -52,7 +52,7 @@ static bool is_done(uint32_t status) {
     exit(2);
 }
 
-/* FNV-1a of the offset and the payload, so that no front of zeros and no older record passes for this one. */
+/* FNV-1a of the offset and the payload, so that zeros, and a record written at another offset, don't match. */
 static uint64_t checksum(uint64_t offset, const uint8_t *payload, size_t len) {
     uint64_t sum = 0xcbf29ce484222325;
     for (int i = 0; i < 8; i++) sum = (sum ^ (offset >> 8 * i & 0xff)) * 0x100000001b3;

@@ -215,11 +215,80 @@ static void refusals_have_numbers_and_texts(void) {
     CHECK(blobcrash_kept_run(&session, 0, 0).status == BLOBCRASH_CLOSED && were_lines(""));
 }
 
+static bool says(struct blobcrash_header header, uint32_t status, uint32_t version, uint64_t size, uint64_t data_offset) {
+    return header.status == status && header.version == version && header.size == size && header.data_offset == data_offset;
+}
+
+static void headers_are_parsed(void) {
+    const uint8_t v0[12] = "CWIC\0\0\0\5data", torn[6] = "CWIK\0\1";
+    const struct blobcrash_accepts all = {0, 1, 0, 65535}, newest = {1, 1, 0, 65535}, second = {0, 1, 2, 2}, none = {0, 2, 0, 0};
+    CHECK(says(blobcrash_parse_header(v0, 12, 12, &all), BLOBCRASH_DONE, 5, 4, 8));
+    CHECK(says(blobcrash_parse_header(v0, 12, 12, &newest), BLOBCRASH_H_LAYOUT_MISMATCH, 0, 0, 0));
+    CHECK(says(blobcrash_parse_header(v0, 12, 12, &second), BLOBCRASH_H_VERSION_MISMATCH, 5, 0, 0));
+    CHECK(says(blobcrash_parse_header(v0, 12, 12, &none), BLOBCRASH_BAD_CALL, 0, 0, 0));
+    CHECK(says(blobcrash_parse_header(v0, 12, 11, &all), BLOBCRASH_BAD_CALL, 0, 0, 0));
+    CHECK(says(blobcrash_parse_header(v0, 12, 13, &all), BLOBCRASH_BAD_CALL, 0, 0, 0));
+    CHECK(says(blobcrash_parse_header(v0, 7, 7, &all), BLOBCRASH_BAD_CALL, 0, 0, 0));
+    CHECK(says(blobcrash_parse_header((const uint8_t *)"CWIK\0\1\0\0", 8, 8, &all), BLOBCRASH_H_TRUNCATED, 0, 12, 0));
+    CHECK(says(blobcrash_parse_header((const uint8_t *)"CWIK\0\0\0\0", 8, 8, &all), BLOBCRASH_H_UNSUPPORTED_LAYOUT_VERSION, 0, 0, 0));
+    CHECK(says(blobcrash_parse_header((const uint8_t *)"XWIK\0\0\0\0", 8, 8, &all), BLOBCRASH_H_INVALID_MAGIC, 0, 0, 0));
+    CHECK(blobcrash_interrupted_creation(1, torn, 6) && !blobcrash_interrupted_creation(0, torn, 6));
+    CHECK(!blobcrash_interrupted_creation(2, torn, 6) && !blobcrash_interrupted_creation(1, v0, 12));
+}
+
+/* A call of the registry for the one name of this test. */
+static struct blobcrash_debt_reply owe(struct blobcrash_session *session, uint32_t kind, size_t number, bool flag, uint32_t failure) {
+    const struct blobcrash_debt_call asked = {kind, failure, number, flag};
+    return blobcrash_debt(session, &asked, (const uint8_t *)"p", 1, (const uint8_t *)"b", 1);
+}
+
+static void debt_is_kept(void) {
+    struct blobcrash_session session = {0};
+    CHECK(owe(&session, BLOBCRASH_DEBT_KEEPS, 0, false, BLOBCRASH_DONE).status == BLOBCRASH_CLOSED);
+    begin(&session, "");
+    struct blobcrash_debt_reply reply = owe(&session, BLOBCRASH_DEBT_ADMIT, 0, false, BLOBCRASH_DONE);
+    CHECK(reply.status == BLOBCRASH_DONE && reply.number == 0 && !reply.flag && !reply.has_predecessor);
+    CHECK(owe(&session, BLOBCRASH_DEBT_ADMIT, 0, true, BLOBCRASH_DONE).status == BLOBCRASH_E_BLOB_ALREADY_OPEN);
+    reply = owe(&session, BLOBCRASH_DEBT_RELEASE, 0, false, BLOBCRASH_DONE);
+    CHECK(reply.status == BLOBCRASH_DONE && reply.flag && reply.number == 0);
+    reply = owe(&session, BLOBCRASH_DEBT_RELEASE, 0, false, BLOBCRASH_DONE);
+    CHECK(reply.status == BLOBCRASH_DONE && !reply.flag);
+    CHECK(owe(&session, BLOBCRASH_DEBT_CLOSE, 0, false, BLOBCRASH_DONE).status == BLOBCRASH_DONE);
+    CHECK(owe(&session, BLOBCRASH_DEBT_CLOSE, 0, false, BLOBCRASH_DONE).status == BLOBCRASH_E_NO_HANDLE);
+    reply = owe(&session, BLOBCRASH_DEBT_ADMIT, 0, true, BLOBCRASH_DONE);
+    CHECK(reply.status == BLOBCRASH_DONE && reply.number == 1 && reply.flag && reply.has_predecessor && reply.predecessor == 0);
+    CHECK(!owe(&session, BLOBCRASH_DEBT_IS_SETTLED, 0, false, BLOBCRASH_DONE).flag);
+    CHECK(owe(&session, BLOBCRASH_DEBT_IS_SETTLED, 1, false, BLOBCRASH_DONE).status == BLOBCRASH_E_NO_HANDLE);
+    CHECK(owe(&session, BLOBCRASH_DEBT_SETTLE, 0, true, BLOBCRASH_DONE).status == BLOBCRASH_DONE);
+    CHECK(owe(&session, BLOBCRASH_DEBT_SETTLE, 0, true, BLOBCRASH_DONE).status == BLOBCRASH_E_NO_HANDLE);
+    CHECK(owe(&session, BLOBCRASH_DEBT_IS_SETTLED, 0, false, BLOBCRASH_DONE).flag);
+    CHECK(owe(&session, BLOBCRASH_DEBT_DEBT, 1, false, BLOBCRASH_DONE).flag);
+    CHECK(owe(&session, BLOBCRASH_DEBT_CLEAR, 1, false, BLOBCRASH_DONE).status == BLOBCRASH_DONE);
+    CHECK(!owe(&session, BLOBCRASH_DEBT_DEBT, 1, false, BLOBCRASH_DONE).flag);
+    CHECK(owe(&session, BLOBCRASH_DEBT_FAIL, 1, false, BLOBCRASH_DONE).status == BLOBCRASH_BAD_CALL);
+    CHECK(owe(&session, BLOBCRASH_DEBT_FAIL, 1, false, BLOBCRASH_E_BLOB_CORRUPT).status == BLOBCRASH_BAD_CALL);
+    CHECK(owe(&session, BLOBCRASH_DEBT_FAIL, 1, false, BLOBCRASH_E_WRITE_FAILED).status == BLOBCRASH_DONE);
+    CHECK(owe(&session, BLOBCRASH_DEBT_DEBT, 1, false, BLOBCRASH_DONE).status == BLOBCRASH_E_WRITE_FAILED);
+    CHECK(owe(&session, BLOBCRASH_DEBT_CLOSE, 1, false, BLOBCRASH_DONE).status == BLOBCRASH_DONE);
+    CHECK(owe(&session, BLOBCRASH_DEBT_ADMIT, 0, true, BLOBCRASH_DONE).status == BLOBCRASH_E_WRITE_FAILED);
+    CHECK(owe(&session, BLOBCRASH_DEBT_KEEPS, 0, false, BLOBCRASH_DONE).flag);
+    CHECK(owe(&session, BLOBCRASH_DEBT_FORGET, 0, false, BLOBCRASH_DONE).status == BLOBCRASH_DONE);
+    CHECK(!owe(&session, BLOBCRASH_DEBT_KEEPS, 0, false, BLOBCRASH_DONE).flag);
+    CHECK(owe(&session, 11, 0, false, BLOBCRASH_DONE).status == BLOBCRASH_BAD_CALL);
+    /* What is open and what isn't settled is ended with the session. */
+    CHECK(owe(&session, BLOBCRASH_DEBT_ADMIT, 0, false, BLOBCRASH_DONE).number == 2);
+    CHECK(owe(&session, BLOBCRASH_DEBT_RELEASE, 2, false, BLOBCRASH_DONE).flag);
+    CHECK(blobcrash_last(&session).status == BLOBCRASH_DONE);
+    blobcrash_close(&session);
+}
+
 int main(void) {
     blobs_are_written_and_read();
     names_are_listed();
     a_crash_returns_runs();
     durable_bytes_are_read();
     refusals_have_numbers_and_texts();
+    headers_are_parsed();
+    debt_is_kept();
     return failed;
 }

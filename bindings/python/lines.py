@@ -1,5 +1,5 @@
-"""Runs a script from standard input through the library, a line at a time, or with `--whole` at once, or with `--pipe` through
-the program: the replies are those of the program (docs/FORMATS.md), and so is the exit status."""
+"""Runs a script from standard input through the library, a line at a time, or with `--whole` as a whole, or with `--pipe` through
+the program. The replies and the exit status are the program's (docs/FORMATS.md)."""
 
 import sys
 
@@ -29,7 +29,7 @@ def by_lines(script, way):
         try:
             reply = layer.call(line)
         except BadLine:
-            # The program has told it.
+            # The program has printed it.
             return layer.close() or bad_line(number)
         if reply:
             sys.stdout.buffer.write(reply + b"\n")

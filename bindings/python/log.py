@@ -18,7 +18,7 @@ HEAD = struct.Struct("<IQ")
 
 
 def checksum(offset, payload):
-    """FNV-1a of the offset and the payload, so that no front of zeros and no older record passes for this one."""
+    """FNV-1a of the offset and the payload, so that zeros, and a record written at another offset, don't match."""
     total = 0xCBF29CE484222325
     for byte in struct.pack("<Q", offset) + payload:
         total = (total ^ byte) * 0x100000001B3 % 2**64
@@ -67,7 +67,7 @@ SETTINGS = ["write 1 16 1 2 subset", "sync 1 16", "resize 1 16 1 2"]
 
 
 def live(seed, forgets_sync):
-    """One life of a log: sixteen crashes. Answers how many records were acknowledged."""
+    """Runs a log through sixteen crashes. Returns how many records were acknowledged."""
     acknowledged, unanswered = [], None
     with Store(seed, settings=SETTINGS, by=Library) as store:
         for crash in range(16):

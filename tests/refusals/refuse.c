@@ -1,16 +1,15 @@
 /*
- * A library to be preloaded, which refuses requests for memory, and lets reads and writes fail.
+ * A library to be preloaded, which refuses allocations, and makes reads and writes fail.
  *
- * REFUSE=N      counts requests for memory from 1, and refuses the Nth
- * REFUSE_ON=1   and all that come after it
- * REFUSE_ALL=1  counts from the program's start; else only the requests of one marked call count (below)
- * REFUSE_READ=N lets the Nth read of standard input fail; REFUSE_WRITE=N the Nth write of standard output
- * REFUSE_SHORT=N lets each of these move N bytes at most
- * REFUSE_LOG=F  writes how many requests counted and how many were refused, failed reads and writes too, to the file F
+ * REFUSE=N      counts allocations from 1, and refuses the Nth
+ * REFUSE_ON=1   and all later ones
+ * REFUSE_ALL=1  counts from the program's start; otherwise only the allocations of one marked call count (below)
+ * REFUSE_READ=N makes the Nth read of standard input fail; REFUSE_WRITE=N the Nth write of standard output
+ * REFUSE_SHORT=N limits each of these to N bytes
+ * REFUSE_LOG=F  writes to the file F how many allocations were counted and how many were refused, failed reads and writes too
  *
- * A program marks a call by requests of four sizes that nothing else asks for: it arms the library, the next call begins and
- * ends, and the last request asks whether one of the call's own was refused, which a refusal answers. A call that begins
- * unarmed doesn't count. The library is for one thread, and for the GNU C library.
+ * A program marks a call by allocations of four sizes that it doesn't otherwise use. The first arms the library, the next two
+ * begin and end the call, and the last one is refused if one of the call's own was. A call that begins unarmed isn't counted. The library is for one thread, and for the GNU C library.
  */
 #include <errno.h>
 #include <fcntl.h>

@@ -305,7 +305,7 @@ class Library:
 def explain(script: str) -> Optional[str]:
     """Returns the replies of a script with a picture after each crash, or `None` if the program isn't built."""
     built = os.environ.get("BLOBCRASH", os.path.join(TOP, "out", "blobcrash"))
-    # The program of `explain` lies beside a built `blobcrash`.
+    # The program of `explain` is in the same folder as a built `blobcrash`.
     named = f"{built}_explain"
     command = [named] if os.path.exists(named) or "BLOBCRASH" not in os.environ else [built, "explain"]
     try:

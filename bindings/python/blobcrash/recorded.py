@@ -13,7 +13,7 @@ from .judging import Acknowledged, acknowledgement_of
 from .layers import Library
 from .rates import Rates, Recorded
 
-# The calls whose first argument is a handle.
+# The calls that take a handle as their first argument.
 ON_HANDLE = frozenset(("close", "read", "write", "writes", "resize", "size", "sync", "startsync"))
 
 
@@ -115,7 +115,7 @@ def _number(token: str, line: int) -> int:
 
 
 def _recorded(parts: _Parts, room: int) -> Optional[Lines]:
-    """The lines of a script, if its calls take at most `room` words. The session has the words, and a last one that no call may take."""
+    """The lines of a script, if its calls take at most `room` words. The session has these words, and one more that no call may take."""
     stream: Iterator[int] = chain(parts.words, words_of(parts.seed) if parts.seed is not None else iter([0] * room))
     words = list(islice(stream, max(room, len(parts.words))))
     preamble = [*parts.images, "words " + " ".join(map(str, [*words, MAX]))]

@@ -18,7 +18,7 @@
 """
 
 # Kinds of bytes that aren't durable: a crash may keep them; a crash loses them; zeros before such bytes; durable bytes that a
-# resize cut off, and that are there until it is synced.
+# resize cut off, and that stay durable until it is synced.
 PENDING, LIVE, GAP, CUT = 1, 2, 3, 4
 IS_GAP = bytes(kind == GAP for kind in range(256))
 

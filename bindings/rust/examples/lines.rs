@@ -1,4 +1,4 @@
-//! Runs a script from standard input through a session, a line at a time, or with `--whole` at once: its replies are the
+//! Runs a script from standard input through a session, a line at a time, or with `--whole` as a whole: its replies are the
 //! program's (`docs/FORMATS.md`).
 use blobcrash::{Error, ScriptError, Store, run_script};
 use std::io::{Read, Write};

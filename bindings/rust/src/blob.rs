@@ -1,6 +1,6 @@
 use crate::Error;
+use crate::foreign::Kind;
 use crate::power::Effect;
-use crate::script::number;
 use crate::shared::{Opened, Shared, State};
 use std::ops::BitOr;
 use std::sync::{Arc, MutexGuard};
@@ -270,7 +270,8 @@ impl Blob {
     /// ```
     pub fn resize(&self, len: u64) -> Result<(), Error> {
         self.usable()?
-            .done(&format!("resize {} {len}", self.handle))
+            .by_number(Kind::Resize, self.handle, len)
+            .map(drop)
     }
 
     /// Returns the size that the handle tracks, in bytes.
@@ -285,9 +286,8 @@ impl Blob {
     /// # }
     /// ```
     pub fn size(&self) -> Result<u64, Error> {
-        let line = format!("size {}", self.handle);
-        self.usable()?
-            .asked(&line, |mut words| number(words.nth(1)))
+        let reply = self.usable()?.by_number(Kind::Size, self.handle, 0)?;
+        Ok(reply.size)
     }
 
     /// Makes the handle's bytes durable. Errors, with no durable byte changed: `Injected`, `BlobMissing`, `Memory`, `StaleHandle`.
@@ -305,7 +305,9 @@ impl Blob {
     /// # }
     /// ```
     pub fn sync(&self) -> Result<(), Error> {
-        self.usable()?.done(&format!("sync {}", self.handle))
+        self.usable()?
+            .by_number(Kind::Sync, self.handle, 0)
+            .map(drop)
     }
 
     /// Starts to make the handle's bytes durable; `finish` returns the outcome. Errors: `Memory`, `StaleHandle`.
@@ -319,18 +321,18 @@ impl Blob {
     /// # }
     /// ```
     pub fn start_sync(&self) -> Result<StartedSync, Error> {
-        let line = format!("startsync {}", self.handle);
         let mut state = self.usable()?;
-        let number = state.asked(&line, |mut words| number(words.nth(1)))?;
+        let reply = state.by_number(Kind::StartSync, self.handle, 0)?;
         Ok(StartedSync {
             shared: Arc::clone(&self.shared),
-            number,
+            number: reply.number,
             reopens: state.reopens,
             is_finished: false,
         })
     }
 
     /// Takes the store's lock, if the handle may be used.
+    #[inline]
     fn usable(&self) -> Result<MutexGuard<'_, State>, Error> {
         let state = self.shared.lock();
         self.opened.check()?;
@@ -360,7 +362,9 @@ impl StartedSync {
     /// # }
     /// ```
     pub fn finish(mut self) -> Result<(), Error> {
-        let outcome = self.shared.lock().done(&format!("finish {}", self.number));
+        let mut state = self.shared.lock();
+        let outcome = state.by_number(Kind::Finish, self.number, 0).map(drop);
+        drop(state);
         self.is_finished = outcome != Err(Error::OutOfMemory);
         outcome
     }
@@ -370,7 +374,7 @@ impl Drop for StartedSync {
     fn drop(&mut self) {
         let mut state = self.shared.lock();
         if !self.is_finished && self.reopens == state.reopens {
-            let _ = state.done(&format!("finish {}", self.number));
+            let _ = state.by_number(Kind::Finish, self.number, 0);
         }
     }
 }

@@ -1,5 +1,7 @@
 //! The durable bytes of blobs.
-use crate::{Error, Store};
+use crate::header::{self, Layout};
+use crate::storage::BlobVersion;
+use crate::{Config, Error, Store};
 
 impl Store {
     /// Returns the durable bytes of a blob with its header, or `None` if it doesn't exist. Makes no draw and changes nothing.
@@ -40,6 +42,50 @@ impl Store {
     pub fn logical_blob(&self, partition: &str, name: &[u8]) -> Result<Option<Vec<u8>>, Error> {
         let mut state = self.shared.lock();
         state.session.durable_blob(partition, name, false)
+    }
+
+    /// Replaces a blob, or makes it, by durable bytes with their header, as another process would. No call fails by a rate, and nothing
+    /// is drawn. Handles of the earlier blob are stale, and its name isn't open.
+    ///
+    /// The bytes are a whole header of layout V1 and what follows it. A blob with other bytes can exist from the start:
+    /// [`Builder::image`](crate::Builder::image). In the script it is a removal, an open, a SYNC write and a close.
+    ///
+    /// Errors:
+    /// - `Argument` if the header isn't a valid one of layout V1, and `PowerLoss` if the power is off, with nothing changed.
+    /// - `PartitionNameInvalid`, with nothing changed.
+    /// - `GenerationsExhausted`, `Memory`, `OutOfMemory`: the blob may be removed, or empty.
+    ///
+    /// ```
+    /// # use blobcrash::{Error, Store, header::{self, Layout}, storage::BlobVersion};
+    /// # fn main() -> Result<(), Error> {
+    /// let store = Store::builder().seed(7).open()?;
+    /// let version = BlobVersion::new(0);
+    /// let (mut raw, _) = header::create(&Layout::ALL, &(version..=version));
+    /// raw.extend(b"abc");
+    /// store.set_raw_blob("p", b"b", &raw)?;
+    /// assert_eq!(store.raw_blob("p", b"b")?, Some(raw));
+    /// assert_eq!(store.open("p", b"b")?.1, 3);
+    /// # Ok(())
+    /// # }
+    /// ```
+    pub fn set_raw_blob(&self, partition: &str, name: &[u8], raw: &[u8]) -> Result<(), Error> {
+        let any = BlobVersion::new(0)..=BlobVersion::new(u16::MAX);
+        let first = Layout::V1..=Layout::V1;
+        let is_whole = raw.len() as u64 >= Layout::V1.data_offset();
+        let parsed = is_whole.then(|| header::parse(raw, raw.len() as u64, &first, &any));
+        let Some(Ok((_, version, data_offset))) = parsed else {
+            let text = "a raw blob of a running store has a whole header of layout V1";
+            return Err(Error::Argument(text.to_owned()));
+        };
+        let mut state = self.shared.lock();
+        if state.power.is_off() {
+            return Err(Error::PowerLoss);
+        }
+        let config = state.config();
+        state.configure(Config::default())?;
+        let outcome = state.replace_blob(partition, name, version, &raw[data_offset as usize..]);
+        state.configure(config)?;
+        outcome
     }
 
     /// Returns the digest of all durable blobs, as `docs/FORMATS.md` defines it. Makes no draw and changes nothing.

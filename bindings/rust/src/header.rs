@@ -11,7 +11,8 @@
 //! assert_eq!(resolved, Ok(Some((4, version, 4096))));
 //! ```
 use crate::Error;
-use crate::library::Session;
+use crate::foreign::{self, Accepts};
+use crate::library::{self, Session};
 use crate::script::{hex, image_line, number};
 use crate::storage::BlobVersion;
 use std::fmt;
@@ -99,12 +100,166 @@ impl Layout {
             Layout::V1 => REGION as u64,
         }
     }
+
+    /// Returns whether these bytes of a whole blob may be what an interrupted creation in this layout left: the first bytes of a
+    /// region of any version, and then zeros. A V0 header has no checksum, so no bytes of one are. The library tests it.
+    ///
+    /// ```
+    /// # use blobcrash::header::Layout;
+    /// assert!(Layout::V1.interrupted_creation(b"CWIK\0\x01"));
+    /// assert!(!Layout::V0.interrupted_creation(b"CWIC"));
+    /// ```
+    #[must_use]
+    pub fn interrupted_creation(self, raw: &[u8]) -> bool {
+        library::is_interrupted_creation(self.layout_version(), raw)
+    }
 }
 
 impl fmt::Display for Layout {
     fn fmt(&self, f: &mut fmt::Formatter<'_>) -> fmt::Result {
         fmt::Debug::fmt(self, f)
     }
+}
+
+/// Why a header region is refused.
+///
+/// ```
+/// use blobcrash::header::{self, HeaderError, Layout};
+/// use blobcrash::storage::BlobVersion;
+///
+/// let any = BlobVersion::new(0)..=BlobVersion::new(u16::MAX);
+/// let error = header::parse(b"CWIK\0\x01\0\0", 8, &Layout::ALL, &any).unwrap_err();
+/// assert_eq!(error, HeaderError::Truncated { required_len: 12, raw_len: 8 });
+/// ```
+#[derive(Clone, Debug, PartialEq, Eq)]
+pub enum HeaderError {
+    /// The first four bytes are no layout's magic.
+    InvalidMagic {
+        /// These bytes.
+        found: [u8; 4],
+    },
+    /// The layout version isn't the one that goes with the magic.
+    UnsupportedLayoutVersion {
+        /// The layout version of the magic.
+        expected: u16,
+        /// That of the header.
+        found: u16,
+    },
+    /// The layout isn't accepted.
+    LayoutMismatch {
+        /// The accepted layouts.
+        expected: RangeInclusive<Layout>,
+        /// The layout of the header.
+        found: Layout,
+    },
+    /// The version isn't accepted.
+    VersionMismatch {
+        /// The accepted versions.
+        expected: RangeInclusive<BlobVersion>,
+        /// The version of the header.
+        found: BlobVersion,
+    },
+    /// Bytes 8 to 11 aren't the checksum of the eight before them.
+    InvalidChecksum,
+    /// A byte between the checksum and the data offset isn't zero.
+    InvalidPadding,
+    /// The blob ends before its header does.
+    Truncated {
+        /// The length that the header needs, in bytes.
+        required_len: u64,
+        /// The length of the blob, in bytes.
+        raw_len: u64,
+    },
+}
+
+impl fmt::Display for HeaderError {
+    fn fmt(&self, f: &mut fmt::Formatter<'_>) -> fmt::Result {
+        match self {
+            HeaderError::InvalidMagic { found } => write!(f, "invalid magic: found {found:?}"),
+            HeaderError::UnsupportedLayoutVersion { expected, found } => write!(
+                f,
+                "unsupported layout version: expected {expected}, found {found}"
+            ),
+            HeaderError::LayoutMismatch { expected, found } => write!(
+                f,
+                "layout mismatch: expected {}..={}, found {found}",
+                expected.start(),
+                expected.end()
+            ),
+            HeaderError::VersionMismatch { expected, found } => write!(
+                f,
+                "version mismatch: expected {}..={}, found {found}",
+                expected.start(),
+                expected.end()
+            ),
+            HeaderError::InvalidChecksum => f.write_str("invalid header checksum"),
+            HeaderError::InvalidPadding => f.write_str("invalid header padding"),
+            HeaderError::Truncated {
+                required_len,
+                raw_len,
+            } => write!(
+                f,
+                "truncated header: required length {required_len}, raw length {raw_len}"
+            ),
+        }
+    }
+}
+
+impl std::error::Error for HeaderError {}
+
+/// Parses a blob's header. `raw` has the blob's first `min(raw_len, 4096)` bytes at least, and `raw_len` is the length of the whole
+/// blob. The library parses it.
+///
+/// Returns the logical size, the version and the data offset, or the first test that the header fails, in the order of the errors:
+/// the layout and the version come last.
+///
+/// # Panics
+/// If `raw` has fewer bytes or more than the blob, or the blob is shorter than 8 bytes.
+///
+/// ```
+/// # use blobcrash::{header::{self, Layout}, storage::BlobVersion};
+/// let any = BlobVersion::new(0)..=BlobVersion::new(u16::MAX);
+/// let parsed = header::parse(b"CWIC\0\0\0\x05abc", 11, &Layout::ALL, &any);
+/// assert_eq!(parsed, Ok((3, BlobVersion::new(5), 8)));
+/// ```
+pub fn parse(
+    raw: &[u8],
+    raw_len: u64,
+    layouts: &RangeInclusive<Layout>,
+    versions: &RangeInclusive<BlobVersion>,
+) -> Result<(u64, BlobVersion, u64), HeaderError> {
+    let accepts = Accepts {
+        oldest: layouts.start().layout_version(),
+        newest: layouts.end().layout_version(),
+        least: versions.start().get(),
+        greatest: versions.end().get(),
+    };
+    let parsed = library::parse_header(raw, raw_len, &accepts);
+    let parsed = parsed.expect("`raw` has the header region");
+    let number = parsed.version as u16;
+    let found = [raw[0], raw[1], raw[2], raw[3]];
+    Err(match parsed.status {
+        foreign::DONE => return Ok((parsed.size, BlobVersion::new(number), parsed.data_offset)),
+        foreign::INVALID_MAGIC => HeaderError::InvalidMagic { found },
+        foreign::UNSUPPORTED_LAYOUT_VERSION => HeaderError::UnsupportedLayoutVersion {
+            expected: u16::from(found == Layout::V1.magic()),
+            found: number,
+        },
+        foreign::LAYOUT_MISMATCH => HeaderError::LayoutMismatch {
+            expected: layouts.clone(),
+            found: if number == 0 { Layout::V0 } else { Layout::V1 },
+        },
+        foreign::VERSION_MISMATCH => HeaderError::VersionMismatch {
+            expected: versions.clone(),
+            found: BlobVersion::new(number),
+        },
+        foreign::INVALID_CHECKSUM => HeaderError::InvalidChecksum,
+        foreign::INVALID_PADDING => HeaderError::InvalidPadding,
+        _ => HeaderError::Truncated {
+            required_len: parsed.size,
+            raw_len,
+        },
+    })
 }
 
 /// Returns the header region of a new blob with the greatest of these layouts and versions, and the version.

@@ -1,79 +1,9 @@
-//! The functions of the library (`bindings/c/blobcrash.h`) behind safe ones. No other file has `unsafe`.
+//! The functions of the library behind safe ones. No other file calls an `unsafe` function.
 use crate::Error;
+use crate::debt_calls::{DebtCall, DebtReply};
+use crate::foreign::*;
 use crate::script::{Script, unhex};
-use std::ffi::c_void;
-use std::fmt;
 use std::ptr;
-
-const DONE: u32 = 0;
-const ENDLESS: u32 = 1;
-const BAD_LINE: u32 = 2;
-const NO_MEMORY: u32 = 3;
-const NO_ROOM: u32 = 4;
-const OTHER_REPLY: u32 = 6;
-const BLOB_MISSING: u32 = 20;
-
-#[repr(C)]
-#[derive(Debug)]
-struct RawSession {
-    at: *mut c_void,
-    is_open: bool,
-}
-
-#[repr(C)]
-struct Ran {
-    status: u32,
-    len: usize,
-}
-
-#[repr(C)]
-struct ScriptRan {
-    status: u32,
-    len: usize,
-    line: u64,
-}
-
-unsafe extern "C" {
-    fn blobcrash_open(session: *mut RawSession, preamble: *const u8, len: usize) -> ScriptRan;
-    fn blobcrash_call(
-        session: *mut RawSession,
-        line: *const u8,
-        len: usize,
-        reply: *mut u8,
-        room: usize,
-    ) -> Ran;
-    fn blobcrash_reply(session: *mut RawSession, reply: *mut u8, room: usize) -> Ran;
-    fn blobcrash_write(
-        session: *mut RawSession,
-        handle: usize,
-        offset: u64,
-        bytes: *const u8,
-        len: usize,
-        sync: bool,
-    ) -> u32;
-    fn blobcrash_read(
-        session: *mut RawSession,
-        handle: usize,
-        offset: u64,
-        into: *mut u8,
-        len: usize,
-    ) -> u32;
-    fn blobcrash_words_left(session: *mut RawSession) -> Ran;
-    fn blobcrash_push_words(session: *mut RawSession, words: *const u64, count: usize) -> u32;
-    fn blobcrash_durable_blob(
-        session: *mut RawSession,
-        partition: *const u8,
-        partition_len: usize,
-        name: *const u8,
-        name_len: usize,
-        with_header: bool,
-        into: *mut u8,
-        capacity: usize,
-    ) -> Ran;
-    fn blobcrash_audit(session: *mut RawSession, into: *mut u8, capacity: usize) -> Ran;
-    fn blobcrash_close(session: *mut RawSession);
-    fn blobcrash_run(script: *const u8, len: usize, replies: *mut u8, room: usize) -> ScriptRan;
-}
 
 /// An open session of the library, which is closed when it is dropped.
 ///
@@ -123,6 +53,84 @@ impl Session {
         self.told(ran)
     }
 
+    /// Makes a typed call through a handle or a started sync.
+    #[inline(always)]
+    pub(crate) fn by_number(
+        &mut self,
+        kind: Kind,
+        number: usize,
+        len: u64,
+    ) -> Result<TypedReply, Error> {
+        let reply = self.applied(kind, number, [len, 0], "", b"");
+        if self.script.is_some() && is_applied(reply.status) {
+            self.record(|script| script.push_numbered(kind, number, len));
+        }
+        self.taken(reply)
+    }
+
+    /// Makes a typed call of a partition and a name, with the versions that an open accepts.
+    pub(crate) fn by_name(
+        &mut self,
+        kind: Kind,
+        partition: &str,
+        name: &[u8],
+        versions: [u16; 2],
+    ) -> Result<TypedReply, Error> {
+        let reply = self.applied(kind, 0, versions.map(u64::from), partition, name);
+        if self.script.is_some() && is_applied(reply.status) {
+            self.record(|script| script.push_named(kind, partition, name, versions));
+        }
+        self.taken(reply).map_err(|error| match error {
+            Error::PartitionNameInvalid(_) => Error::PartitionNameInvalid(partition.to_owned()),
+            other => other,
+        })
+    }
+
+    #[inline(always)]
+    fn applied(
+        &mut self,
+        kind: Kind,
+        number: usize,
+        [first, last]: [u64; 2],
+        partition: &str,
+        name: &[u8],
+    ) -> TypedReply {
+        let asked = Asked {
+            kind: kind as u32,
+            number,
+            first,
+            last,
+        };
+        let (of, of_len) = (partition.as_ptr(), partition.len());
+        // SAFETY: as for `call`; the numbers and the names are borrowed for the call.
+        unsafe {
+            let raw = &mut self.raw;
+            blobcrash_apply(raw, &asked, of, of_len, name.as_ptr(), name.len())
+        }
+    }
+
+    /// The numbers of a reply, or the refusal.
+    #[inline(always)]
+    fn taken(&mut self, reply: TypedReply) -> Result<TypedReply, Error> {
+        if reply.status == DONE {
+            return Ok(reply);
+        }
+        Err(self.refusal(reply.status))
+    }
+
+    #[cold]
+    fn refusal(&mut self, status: u32) -> Error {
+        if status < FIRST_REFUSAL {
+            return Error::OutOfMemory;
+        }
+        let unread = Ran {
+            status: NO_ROOM,
+            len: 0,
+        };
+        self.told(unread).map_or_else(|e| e, Error::of)
+    }
+
+    #[cold]
     fn record(&mut self, push: impl FnOnce(&mut Script)) {
         if let Some(script) = &mut self.script {
             push(script);
@@ -142,6 +150,7 @@ impl Session {
     }
 
     /// Writes bytes through a handle.
+    #[inline(always)]
     pub(crate) fn write(
         &mut self,
         handle: usize,
@@ -152,7 +161,7 @@ impl Session {
         let (at, len) = (bytes.as_ptr(), bytes.len());
         // SAFETY: as for `call`; the bytes are lent for the call.
         let status = unsafe { blobcrash_write(&mut self.raw, handle, offset, at, len, sync) };
-        if is_made(status) {
+        if self.script.is_some() && is_made(status) {
             self.record(|script| script.push_write(handle, offset, bytes, sync));
         }
         self.done(status)
@@ -165,7 +174,7 @@ impl Session {
         offset: u64,
         len: usize,
     ) -> Result<Vec<u8>, Error> {
-        if len > SMALL && !self.has(handle, offset, len)? {
+        if len > SMALL && !self.has(handle, offset, len) {
             let line = format!("read {handle} {offset} {len}");
             let reply = self.call(&line)?;
             let bytes = reply.strip_prefix("bytes ").and_then(unhex);
@@ -181,15 +190,14 @@ impl Session {
     }
 
     /// Whether a blob has bytes up to the end of a range, by the size that the handle tracks.
-    fn has(&mut self, handle: usize, offset: u64, len: usize) -> Result<bool, Error> {
-        let ran = self.ran(&format!("size {handle}"))?;
-        let size = self.told(ran)?.strip_prefix("size ");
-        let size: Option<u64> = size.and_then(|size| size.parse().ok());
+    fn has(&mut self, handle: usize, offset: u64, len: usize) -> bool {
+        let reply = self.applied(Kind::Size, handle, [0, 0], "", b"");
         let end = offset.checked_add(len as u64);
-        Ok(size.zip(end).is_some_and(|(size, end)| end <= size))
+        reply.status == DONE && end.is_some_and(|end| end <= reply.size)
     }
 
     /// Fills `into` with bytes that are read through a handle.
+    #[inline(always)]
     pub(crate) fn read(
         &mut self,
         handle: usize,
@@ -199,7 +207,7 @@ impl Session {
         let (at, len) = (into.as_mut_ptr(), into.len());
         // SAFETY: as for `call`; the room is lent for the call.
         let status = unsafe { blobcrash_read(&mut self.raw, handle, offset, at, len) };
-        if is_made(status) {
+        if self.script.is_some() && is_made(status) {
             self.record(|script| script.push_read(handle, offset, len));
         }
         self.done(status)
@@ -217,6 +225,22 @@ impl Session {
         // SAFETY: as for `call`; the words are borrowed for the call.
         let status = unsafe { blobcrash_push_words(&mut self.raw, words.as_ptr(), words.len()) };
         (status == DONE).then_some(()).ok_or(Error::OutOfMemory)
+    }
+
+    /// Makes a call of the session's registry of durability debt. `already` is the error of a name that is open.
+    pub(crate) fn owe(
+        &mut self,
+        call: DebtCall,
+        partition: &str,
+        name: &[u8],
+        already: impl FnOnce() -> Error,
+    ) -> Result<DebtReply, Error> {
+        let asked = call.raw();
+        let (of, of_len) = (partition.as_ptr(), partition.len());
+        let raw = &mut self.raw;
+        // SAFETY: as for `call`; the numbers and the names are borrowed for the call.
+        let reply = unsafe { blobcrash_debt(raw, &asked, of, of_len, name.as_ptr(), name.len()) };
+        reply.taken(already)
     }
 
     /// Returns the durable bytes of a blob, or `None` if it doesn't exist, or has no header to leave out.
@@ -268,19 +292,18 @@ impl Session {
         digest
     }
 
-    /// How a typed call was answered.
+    /// How a read or a write was answered.
+    #[inline(always)]
     fn done(&mut self, status: u32) -> Result<(), Error> {
-        match status {
-            DONE => Ok(()),
-            OTHER_REPLY => {
-                let unread = Ran {
-                    status: NO_ROOM,
-                    len: 0,
-                };
-                Err(self.told(unread).map_or_else(|e| e, Error::of))
-            }
-            _ => Err(Error::OutOfMemory),
+        if status == DONE {
+            return Ok(());
         }
+        // Its reply has the refusal.
+        Err(self.refusal(if status == OTHER_REPLY {
+            FIRST_REFUSAL
+        } else {
+            status
+        }))
     }
 
     /// The reply line of a call that was made, in more room where it wants more.
@@ -303,6 +326,11 @@ impl Session {
 }
 
 /// Whether a typed call that ended so was made.
+fn is_applied(status: u32) -> bool {
+    status == DONE || status >= FIRST_REFUSAL
+}
+
+/// Whether a read or a write that ended so was made.
 fn is_made(status: u32) -> bool {
     status == DONE || status == OTHER_REPLY
 }
@@ -314,66 +342,22 @@ impl Drop for Session {
     }
 }
 
-/// Why a script was cut short.
-///
-/// ```
-/// use blobcrash::{ScriptError, run_script};
-///
-/// let error = run_script(b"frob\n").unwrap_err();
-/// assert_eq!(error, ScriptError::BadCall { line: 1, replies: Vec::new() });
-/// assert_eq!(error.to_string(), "line 1: bad call");
-/// ```
-#[derive(Clone, Debug, PartialEq, Eq)]
-pub enum ScriptError {
-    /// A line is no call.
-    BadCall {
-        /// The line's number, from 1.
-        line: u64,
-        /// The replies of the lines before it.
-        replies: Vec<u8>,
-    },
-    /// The library is out of memory, or the number of lines overflows.
-    Refused,
+/// Runs a whole script, and writes its replies to the start of a buffer.
+pub(crate) fn run(script: &[u8], replies: &mut [u8]) -> ScriptRan {
+    let (room, at) = (replies.len(), replies.as_mut_ptr());
+    // SAFETY: the script and the buffer are borrowed for the call, and are apart.
+    unsafe { blobcrash_run(script.as_ptr(), script.len(), at, room) }
 }
 
-impl fmt::Display for ScriptError {
-    fn fmt(&self, f: &mut fmt::Formatter<'_>) -> fmt::Result {
-        match self {
-            ScriptError::BadCall { line, .. } => write!(f, "line {line}: bad call"),
-            ScriptError::Refused => f.write_str("no memory"),
-        }
-    }
+/// Parses a header region. `None` if the arguments aren't those of one.
+pub(crate) fn parse_header(raw: &[u8], raw_len: u64, accepts: &Accepts) -> Option<ParsedHeader> {
+    // SAFETY: the bytes and the numbers are borrowed for the call.
+    let parsed = unsafe { blobcrash_parse_header(raw.as_ptr(), raw.len(), raw_len, accepts) };
+    (parsed.status != BAD_CALL).then_some(parsed)
 }
 
-impl std::error::Error for ScriptError {}
-
-/// Runs a whole script, and returns what the program prints: a line for each call.
-///
-/// ```
-/// use blobcrash::{ScriptError, run_script};
-///
-/// assert_eq!(run_script(b"open p 62\nsize 0\n").unwrap(), b"opened 0 0 0\nsize 0\n");
-/// let replies = b"crashed\n".to_vec();
-/// assert_eq!(run_script(b"crash\nfrob\n"), Err(ScriptError::BadCall { line: 2, replies }));
-/// ```
-pub fn run_script(script: &[u8]) -> Result<Vec<u8>, ScriptError> {
-    let mut replies = vec![0; 4096];
-    loop {
-        let (room, at) = (replies.len(), replies.as_mut_ptr());
-        // SAFETY: the script and the room are lent for the call, and are apart.
-        let ran = unsafe { blobcrash_run(script.as_ptr(), script.len(), at, room) };
-        match ran.status {
-            NO_ROOM => replies.resize(ran.len, 0),
-            DONE => {
-                replies.truncate(ran.len);
-                return Ok(replies);
-            }
-            BAD_LINE => {
-                replies.truncate(ran.len);
-                let line = ran.line;
-                return Err(ScriptError::BadCall { line, replies });
-            }
-            _ => return Err(ScriptError::Refused),
-        }
-    }
+/// Returns whether an interrupted creation in a layout may have left these bytes of a whole blob.
+pub(crate) fn is_interrupted_creation(layout: u16, raw: &[u8]) -> bool {
+    // SAFETY: the bytes are borrowed for the call.
+    unsafe { blobcrash_interrupted_creation(layout, raw.as_ptr(), raw.len()) }
 }

@@ -1,4 +1,5 @@
 //! The power of a store, which can fail at a chosen call.
+use crate::foreign::Kind;
 use crate::script::first_word;
 use crate::{Error, Store};
 
@@ -29,6 +30,15 @@ impl Effect {
             _ => Effect::Reads,
         }
     }
+
+    /// The effect of a typed call.
+    pub(crate) fn of_kind(kind: Kind) -> Effect {
+        match kind {
+            Kind::Size => Effect::Reads,
+            Kind::Close => Effect::Closes,
+            _ => Effect::Changes,
+        }
+    }
 }
 
 /// A power supply. While it is off no call is made, except the crash and what follows it up to the reopening.
@@ -52,6 +62,11 @@ impl Power {
 
     pub(crate) fn is_off(&self) -> bool {
         self.is_off
+    }
+
+    /// Whether the power is off or may fail at a counted call.
+    pub(crate) fn is_limited(&self) -> bool {
+        self.is_off || self.left.is_some()
     }
 
     pub(crate) fn turn_off(&mut self) {
@@ -120,7 +135,7 @@ impl Store {
     /// # }
     /// ```
     pub fn crash_after(&self, calls: u64) -> Result<(), Error> {
-        self.shared.lock().power.cut_after(calls)
+        self.shared.lock().cut_after(calls)
     }
 
     /// Returns whether the power is off.

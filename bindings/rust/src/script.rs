@@ -2,6 +2,7 @@
 //!
 //! No text of a caller is put into a line before it is known to be one token of its kind.
 use crate::Error;
+use crate::foreign::Kind;
 use std::fmt::Write;
 use std::str::FromStr;
 
@@ -95,8 +96,24 @@ fn push_hex(text: &mut String, bytes: &[u8]) {
     }
 }
 
+/// The first word of a typed call's line.
+fn word_of(kind: Kind) -> &'static str {
+    match kind {
+        Kind::Open => "open",
+        Kind::OpenLoose => "loose",
+        Kind::Admit => "admit",
+        Kind::Close => "close",
+        Kind::Resize => "resize",
+        Kind::Size => "size",
+        Kind::Sync => "sync",
+        Kind::StartSync => "startsync",
+        Kind::Finish => "finish",
+        Kind::RemoveBlob | Kind::RemovePartition => "remove",
+    }
+}
+
 /// The calls that were made, as lines of a script.
-#[derive(Debug, Default)]
+#[derive(Clone, Debug, Default)]
 pub(crate) struct Script {
     /// The words that were pushed, in the order in which draws take them.
     words: Vec<u64>,
@@ -105,9 +122,14 @@ pub(crate) struct Script {
     written: Vec<u8>,
 }
 
-#[derive(Debug)]
+#[derive(Clone, Debug)]
 enum Call {
     Line(String),
+    Numbered {
+        kind: Kind,
+        number: usize,
+        len: u64,
+    },
     Read {
         handle: usize,
         offset: u64,
@@ -140,6 +162,30 @@ impl Script {
         self.calls.push(Call::Line(line.to_owned()));
     }
 
+    /// Adds a call through a handle or a started sync.
+    pub(crate) fn push_numbered(&mut self, kind: Kind, number: usize, len: u64) {
+        self.calls.push(Call::Numbered { kind, number, len });
+    }
+
+    /// Adds a call of a partition and a name.
+    pub(crate) fn push_named(
+        &mut self,
+        kind: Kind,
+        partition: &str,
+        name: &[u8],
+        [first, last]: [u16; 2],
+    ) {
+        let mut line = format!("{} {}", word_of(kind), partition_word(partition));
+        if kind != Kind::RemovePartition {
+            line.push(' ');
+            push_hex(&mut line, name);
+        }
+        if kind == Kind::Open || kind == Kind::OpenLoose {
+            let _ = write!(line, " {first} {last}");
+        }
+        self.calls.push(Call::Line(line));
+    }
+
     pub(crate) fn push_read(&mut self, handle: usize, offset: u64, len: usize) {
         self.calls.push(Call::Read {
             handle,
@@ -169,6 +215,12 @@ impl Script {
         for call in &self.calls {
             match call {
                 Call::Line(line) => text.push_str(line),
+                Call::Numbered { kind, number, len } => {
+                    let _ = write!(text, "{} {number}", word_of(*kind));
+                    if *kind == Kind::Resize {
+                        let _ = write!(text, " {len}");
+                    }
+                }
                 Call::Read {
                     handle,
                     offset,

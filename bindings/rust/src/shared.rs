@@ -1,8 +1,10 @@
 //! What a store shares with its clones, its blobs and its started syncs: one session, which a lock protects.
 use crate::choices::Choices;
+use crate::foreign::{Kind, TypedReply};
 use crate::library::Session;
 use crate::power::{Effect, Power};
 use crate::script::{tokens, unhex};
+use crate::storage::BlobVersion;
 use crate::{Config, Error};
 use std::collections::BTreeMap;
 use std::str::Split;
@@ -32,6 +34,8 @@ pub(crate) struct State {
     pub(crate) power: Power,
     /// The choices of an explored run.
     pub(crate) choices: Option<Choices>,
+    /// Whether no call can be refused by the settings, the power or the choices: `permit` then has nothing to do.
+    permits_all: bool,
 }
 
 /// What the store knows of an open handle. The fields change under the store's lock.
@@ -65,6 +69,7 @@ impl Opened {
     }
 
     /// Returns `StaleHandle` if the handle may not be used.
+    #[inline]
     pub(crate) fn check(&self) -> Result<(), Error> {
         match self.stale.get() {
             Some(why) if !self.allow_stale.load(Ordering::Relaxed) => Err(Error::StaleHandle(why)),
@@ -94,6 +99,7 @@ impl Shared {
     }
 
     /// Takes the lock. A panic of another thread leaves a state that can be used: a session has made a call or not.
+    #[inline]
     pub(crate) fn lock(&self) -> MutexGuard<'_, State> {
         self.state.lock().unwrap_or_else(PoisonError::into_inner)
     }
@@ -108,8 +114,20 @@ impl State {
             config,
             is_unset: false,
             power: Power::default(),
+            permits_all: choices.is_none(),
             choices,
         }
+    }
+
+    /// Turns the power off after this number of calls that may change something.
+    pub(crate) fn cut_after(&mut self, calls: u64) -> Result<(), Error> {
+        self.power.cut_after(calls)?;
+        self.follow_limits();
+        Ok(())
+    }
+
+    fn follow_limits(&mut self) {
+        self.permits_all = !self.is_unset && !self.power.is_limited() && self.choices.is_none();
     }
 
     /// Makes the call of a line, and returns its reply line, of a refused call too.
@@ -119,8 +137,33 @@ impl State {
         let reply = self.session.call(line)?;
         if !reply.starts_with("error ") {
             self.power.follow(effect);
+            self.permits_all = !self.is_unset && !self.power.is_limited() && self.choices.is_none();
         }
         Ok(reply)
+    }
+
+    /// Makes a typed call through a handle or a started sync.
+    #[inline(always)]
+    pub(crate) fn by_number(
+        &mut self,
+        kind: Kind,
+        number: usize,
+        len: u64,
+    ) -> Result<TypedReply, Error> {
+        self.permit(Effect::of_kind(kind))?;
+        self.session.by_number(kind, number, len)
+    }
+
+    /// Makes a typed call of a partition and a name, with the versions that an open accepts.
+    pub(crate) fn by_name(
+        &mut self,
+        kind: Kind,
+        partition: &str,
+        name: &[u8],
+        versions: [u16; 2],
+    ) -> Result<TypedReply, Error> {
+        self.permit(Effect::of_kind(kind))?;
+        self.session.by_name(kind, partition, name, versions)
     }
 
     /// Makes the call of a line, and takes what it returns from the words of its reply.
@@ -141,7 +184,16 @@ impl State {
     }
 
     /// Returns `PowerLoss` if a call may not be made, and `OutOfMemory` if the settings aren't complete.
+    #[inline(always)]
     pub(crate) fn permit(&mut self, effect: Effect) -> Result<(), Error> {
+        if self.permits_all {
+            return Ok(());
+        }
+        self.permit_limited(effect)
+    }
+
+    #[cold]
+    fn permit_limited(&mut self, effect: Effect) -> Result<(), Error> {
         if self.is_unset && effect != Effect::Nothing {
             self.set(self.config)?;
         }
@@ -190,13 +242,43 @@ impl State {
 
     fn set(&mut self, config: Config) -> Result<(), Error> {
         self.is_unset = true;
+        self.follow_limits();
         self.done("config clear")?;
         for line in config.lines() {
             self.done(&line)?;
         }
         self.config = config;
         self.is_unset = false;
+        self.follow_limits();
         Ok(())
+    }
+
+    pub(crate) fn config(&self) -> Config {
+        self.config
+    }
+
+    /// Removes a blob, if there is one, and makes it again with this version and these bytes, which are durable. The power isn't asked.
+    pub(crate) fn replace_blob(
+        &mut self,
+        partition: &str,
+        name: &[u8],
+        version: BlobVersion,
+        bytes: &[u8],
+    ) -> Result<(), Error> {
+        let session = &mut self.session;
+        match session.by_name(Kind::RemoveBlob, partition, name, [0, 0]) {
+            Ok(_) => self.end_blobs(partition, Some(name)),
+            Err(Error::PartitionMissing(_) | Error::BlobMissing(..)) => {}
+            Err(other) => return Err(other),
+        }
+        let session = &mut self.session;
+        let versions = [version.get(); 2];
+        let handle = session
+            .by_name(Kind::Open, partition, name, versions)?
+            .number;
+        let written = session.write(handle, 0, bytes, true);
+        session.by_number(Kind::Close, handle, 0)?;
+        written
     }
 
     /// Adds a comment to the script, a line for each of the text's.
@@ -217,7 +299,7 @@ impl State {
         if opened.is_closed.load(Ordering::Relaxed) {
             return;
         }
-        if self.done(&format!("close {handle}")) != Err(Error::PowerLoss) {
+        if self.by_number(Kind::Close, handle, 0).err() != Some(Error::PowerLoss) {
             self.opened.remove(&handle);
         }
     }
@@ -226,7 +308,7 @@ impl State {
     pub(crate) fn close_all(&mut self) -> Result<(), Error> {
         while let Some((handle, opened)) = self.opened.pop_first() {
             opened.is_closed.store(true, Ordering::Relaxed);
-            self.done(&format!("close {handle}"))?;
+            self.by_number(Kind::Close, handle, 0)?;
         }
         Ok(())
     }
@@ -271,6 +353,7 @@ mod tests {
         let mut state = store.shared.lock();
         state.config = Config::default().scan(Probability::ONE);
         state.is_unset = true;
+        state.follow_limits();
         assert_eq!(state.done("scan p"), Err(Error::Injected));
         assert!(!state.is_unset);
     }

@@ -1,4 +1,5 @@
-use crate::script::{hex, number, one_line, partition_word, selection, unhex};
+use crate::foreign::Kind;
+use crate::script::{one_line, partition_word, selection, unhex};
 use crate::shared::{Opened, Shared, State};
 use crate::{Blob, Builder, Config, Error};
 use std::ops::RangeInclusive;
@@ -102,7 +103,7 @@ impl Store {
         name: &[u8],
         versions: RangeInclusive<u16>,
     ) -> Result<(Blob, u64), Error> {
-        self.opened("open", partition, name, versions)
+        self.opened(Kind::Open, partition, name, versions)
     }
 
     /// Opens a blob although another handle may be open. A crash may still apply what is pending. Errors as `open_versioned`, but
@@ -122,7 +123,7 @@ impl Store {
         name: &[u8],
         versions: RangeInclusive<u16>,
     ) -> Result<(Blob, u64), Error> {
-        self.opened("loose", partition, name, versions)
+        self.opened(Kind::OpenLoose, partition, name, versions)
     }
 
     /// Drops what is pending of a blob, so that no crash applies it. A name that doesn't exist has nothing pending.
@@ -135,8 +136,10 @@ impl Store {
     /// # }
     /// ```
     pub fn admit(&self, partition: &str, name: &[u8]) -> Result<(), Error> {
-        let line = format!("admit {} {}", partition_word(partition), hex(name));
-        self.shared.lock().done(&line)
+        let mut state = self.shared.lock();
+        state
+            .by_name(Kind::Admit, partition, name, [0, 0])
+            .map(drop)
     }
 
     /// Removes a blob, or without a name the partition with all its blobs. Their handles are then stale.
@@ -155,12 +158,12 @@ impl Store {
     /// # }
     /// ```
     pub fn remove(&self, partition: &str, name: Option<&[u8]>) -> Result<(), Error> {
-        let mut line = format!("remove {}", partition_word(partition));
-        if let Some(name) = name {
-            line = format!("{line} {}", hex(name));
-        }
+        let kind = match name {
+            Some(_) => Kind::RemoveBlob,
+            None => Kind::RemovePartition,
+        };
         let mut state = self.shared.lock();
-        of_partition(&mut state, partition, &line, |_| Some(()))?;
+        state.by_name(kind, partition, name.unwrap_or_default(), [0, 0])?;
         state.end_blobs(partition, name);
         Ok(())
     }
@@ -333,7 +336,7 @@ impl Store {
 
     fn opened(
         &self,
-        word: &str,
+        kind: Kind,
         partition: &str,
         name: &[u8],
         versions: RangeInclusive<u16>,
@@ -344,14 +347,10 @@ impl Store {
         } else {
             versions.into_inner()
         };
-        let (token, text) = (partition_word(partition), hex(name));
-        let line = format!("{word} {token} {text} {first} {last}");
         let mut state = self.shared.lock();
-        let (handle, size, version) = of_partition(&mut state, partition, &line, |mut words| {
-            let _opened = words.next();
-            let (handle, size, version) = (words.next(), words.next(), words.next());
-            Some((number(handle)?, number(size)?, number(version)?))
-        })?;
+        let reply = state.by_name(kind, partition, name, [first, last])?;
+        let (handle, size) = (reply.number, reply.size);
+        let version = u16::try_from(reply.version).expect("a version has 16 bits");
         let opened = Arc::new(Opened::new(partition, name, self.shared.allow_stale));
         state.insert(handle, &opened);
         drop(state);

@@ -128,3 +128,50 @@ fn the_length_of_a_blob_may_be_more_than_its_prefix() {
     ));
     assert_eq!(found(b"", 0), Ok(None));
 }
+
+#[test]
+fn a_raw_blob_replaces_a_blob_whatever_the_rates_are() {
+    let all_fail = Config::default()
+        .open(Probability::ONE)
+        .remove(Probability::ONE)
+        .sync(Probability::ONE);
+    let store = Store::builder().config(all_fail).open().unwrap();
+    let version = BlobVersion::new(3);
+    let (mut raw, _) = create(&Layout::ALL, &(version..=version));
+    store.set_raw_blob("p", b"b", &raw).unwrap();
+    assert_eq!(store.raw_blob("p", b"b").unwrap().unwrap(), raw);
+    raw.extend(b"abc");
+    store.set_raw_blob("p", b"b", &raw).unwrap();
+    assert_eq!(store.raw_blob("p", b"b").unwrap().unwrap(), raw);
+    store.crash().unwrap();
+    assert_eq!(store.raw_blob("p", b"b").unwrap().unwrap(), raw);
+    assert_eq!(store.open("p", b"b").err(), Some(Error::Injected));
+    let replies = blobcrash::run_script(store.script().as_bytes()).unwrap();
+    assert!(replies.ends_with(b"ok\nok\nok\nok\nok\nok\ncrashed\nerror Injected\n"));
+}
+
+#[test]
+fn a_raw_blob_without_a_whole_header_of_layout_v1_is_refused() {
+    let store = Store::builder().open().unwrap();
+    let version = BlobVersion::new(0);
+    let (region, _) = create(&Layout::ALL, &(version..=version));
+    let mut damaged = region.clone();
+    damaged[9] ^= 1;
+    for raw in [
+        b"".as_slice(),
+        b"CWIC\0\0\0\0abc",
+        &region[..4095],
+        &damaged,
+    ] {
+        let refused = store.set_raw_blob("p", b"b", raw);
+        assert!(matches!(refused, Err(Error::Argument(_))));
+    }
+    let refused = store.set_raw_blob("a b", b"b", &region);
+    assert_eq!(refused, Err(Error::PartitionNameInvalid("a b".to_owned())));
+    store.crash_after(0).unwrap();
+    assert_eq!(store.open("p", b"b").err(), Some(Error::PowerLoss));
+    let refused = store.set_raw_blob("p", b"b", &region);
+    assert_eq!(refused, Err(Error::PowerLoss));
+    store.restart().unwrap();
+    assert_eq!(store.raw_blob("p", b"b"), Ok(None));
+}

@@ -1,7 +1,6 @@
 //! Tests with the names and the expected values of the ported crate's own, over the traits of this crate.
 //!
-//! Each asserts what its counterpart does. Missing are those that need the header's parser without the effect of its errors on an open,
-//! raw bytes that replace a blob of a running store, registries outside of a store, or hooks that pause a thread.
+//! Each asserts what its counterpart does. If a counterpart pauses a thread, two threads race instead.
 #![cfg(feature = "async")]
 
 #[path = "upstream/header.rs"]
@@ -10,6 +9,8 @@ mod header;
 mod memory;
 #[path = "upstream/opens.rs"]
 mod opens;
+#[path = "upstream/pending.rs"]
+mod pending;
 #[path = "upstream/storage.rs"]
 mod storage;
 

@@ -1,8 +1,8 @@
--- What a buffer that a read fills is seen as.
+-- A read buffer, as contracts see it.
 use Rattle.std.specs.Prelude.{ℕ, List}
 
 pub record Buffer : Type 0 where
-  -- the bytes that are there
+  -- its bytes
   pub bytes : List ℕ
-  -- how many fit without memory
+  -- how many bytes fit without allocating
   pub capacity : ℕ

@@ -1,4 +1,4 @@
--- How a write is done: a set of options.
+-- The options of a write, a set of flags.
 use Rattle.std.specs.Prelude.{ℕ, Bool, ◌==◌}
 use Rattle.std.specs.Int.RustNames.{bit_and, bit_or}
 use Rattle.bitflags.specs.Sets.{without as bits_without}
@@ -11,11 +11,11 @@ flags_of options = options.bits
 abbrev pub no_options : WriteOptions
 no_options = record { bits = 0 }
 
--- the written bytes are durable when the write is answered
+-- the written bytes are durable when the write returns
 abbrev pub sync : WriteOptions
 sync = record { bits = 1 }
 
--- whether options have all of some others
+-- whether options include all of some others
 abbrev pub contains : WriteOptions → WriteOptions → Bool
 contains options some = bit_and (flags_of options) (flags_of some) == flags_of some
 
@@ -23,7 +23,7 @@ contains options some = bit_and (flags_of options) (flags_of some) == flags_of s
 abbrev pub union : WriteOptions → WriteOptions → WriteOptions
 union a b = record { bits = bit_or (flags_of a) (flags_of b) }
 
--- options but for some others
+-- options without some others
 abbrev pub without : WriteOptions → WriteOptions → WriteOptions
 without options some = record { bits = bits_without 8 (flags_of options) (flags_of some) }
 

@@ -1,4 +1,4 @@
-// What the laws say of any store: callers that know nothing else of it.
+// Operations over any store. They rely only on the laws of the traits.
 ghost use Rattle.std.specs.Prelude.{◌≡◌, ◌+◌, ◌<◌, ◌≤◌, ℕ, List, [], true, false, Some, None, OnOk, OnErr, IfOk, length, option_copied};
 ghost use Rattle.blob_model.specs.Bytes.{resized, written};
 ghost use Rattle.blob_base.specs.Callers.{BeforeOrBetween, BeforeOrWritten, WrittenAndRemoved, ResizesAndStarts, WritesAndRemoves, WritesAndSyncs};
@@ -11,11 +11,11 @@ ghost use Rattle.blob_header.specs.Refusals.{refused, IsMemory};
 use crate::{Blob, Durable, IoBufs, Storage, WriteOptions};
 use blob_header::Error;
 
-/// A plain write and a sync: the written bytes are durable, and of other incarnations nothing changed.
+/// Writes without SYNC, then syncs. The written bytes are durable. No other incarnation changes.
 ///
 /// # Errors
 ///
-/// What the write or the sync answers. Refused by the sync, the write stays in the live bytes.
+/// Those of the write and of the sync. If the sync fails, the live bytes keep the write.
 pub fn write_and_sync<S: Durable, B: Blob<S>>(
     store: &mut S,
     blob: &mut B,
@@ -33,11 +33,12 @@ pub fn write_and_sync<S: Durable, B: Blob<S>>(
     blob.sync(store)
 }
 
-/// A resize and a started sync, which is finished.
+/// Resizes, then starts a sync and finishes it.
 ///
 /// # Errors
 ///
-/// What the resize answers, or the outcome of the sync. No durable byte changes; refused by the sync, the resize stays live.
+/// Those of the resize, or the outcome of the sync. No durable byte changes. If the sync fails, the live bytes keep the
+/// resize.
 pub fn resize_and_start_sync<S: Storage, B: Blob<S>>(
     store: &mut S,
     blob: &mut B,
@@ -47,7 +48,7 @@ pub fn resize_and_start_sync<S: Storage, B: Blob<S>>(
     ensures live { OnOk result (B.live blob.new ≡ resized (B.live blob.old) len) }
     ensures durable { OnOk result (S.durable store.new ≡ with_changed (S.durable store.old) (B.place blob.old) (λ _. resized (B.live blob.old) len)) }
 
-    // a refusal
+    // after an error
     ensures memory { IsMemory result → BeforeOrBetween (B.live blob.old) (resized (B.live blob.old) len) (B.live blob.new) }
     ensures err { OnErr result (S.durable store.new ≡ S.durable store.old) }
 
@@ -58,11 +59,11 @@ pub fn resize_and_start_sync<S: Storage, B: Blob<S>>(
     store.finish(handle)
 }
 
-/// A SYNC write and the removal of the blob's name.
+/// Writes with SYNC, then removes `name` from `partition`.
 ///
 /// # Errors
 ///
-/// What the write or the removal answers. Refused by the removal, the write stays.
+/// Those of the write and of the removal. If the removal fails, the write stays.
 pub fn write_and_remove<S: Storage, B: Blob<S>>(
     store: &mut S,
     blob: &mut B,
@@ -78,7 +79,7 @@ pub fn write_and_remove<S: Storage, B: Blob<S>>(
     ensures durable { OnOk result (WrittenAndRemoved (S.durable store.old) (B.place blob.old) offset bytes partition.now name.now (S.durable store.new)) }
     ensures directory { OnOk result (S.directory store.new ≡ removed (S.directory store.old) partition.now (Some name.now)) }
 
-    // a refusal, of the write or behind it
+    // after an error of the write or of the removal
     ensures memory_live { IsMemory result → BeforeOrBetween (B.live blob.old) (live_written true (B.live blob.old) offset bytes) (B.live blob.new) }
     ensures memory { IsMemory result → BeforeOrWritten (S.durable store.old) (B.place blob.old) offset bytes (S.durable store.new) }
     ensures direct { B.is_direct ≡ true → OnErr result (BeforeOrWritten (S.durable store.old) (B.place blob.old) offset bytes (S.durable store.new)) }
@@ -88,11 +89,12 @@ pub fn write_and_remove<S: Storage, B: Blob<S>>(
     store.remove(partition, Some(name))
 }
 
-/// A SYNC write within reserved room by a current handle of a store that injects nothing is done.
+/// Reserves capacity up to `end`, then writes with SYNC within it. The handle must be current, and the store must
+/// inject nothing; then the write returns Ok.
 ///
 /// # Errors
 ///
-/// What the reservation answers; no byte changes. The inner result, of the write, is Ok.
+/// Those of the reservation; no byte changes. The inner result is the write's, always Ok.
 pub fn write_within_room<S: Durable, B: Blob<S>>(
     store: &mut S,
     blob: &mut B,
@@ -116,11 +118,12 @@ pub fn write_within_room<S: Durable, B: Blob<S>>(
     Ok(blob.write_at(store, offset, bytes, synced))
 }
 
-/// A plain write within reserved room by a handle, a stale one too, of a store that injects nothing is done.
+/// Reserves capacity up to `end`, then writes without SYNC within it. The store must inject nothing; then the write
+/// returns Ok, on a stale handle too.
 ///
 /// # Errors
 ///
-/// What the reservation answers; no byte changes. The inner result, of the write, is Ok.
+/// Those of the reservation; no byte changes. The inner result is the write's, always Ok.
 pub fn plain_write_within_room<S: Durable, B: Blob<S>>(
     store: &mut S,
     blob: &mut B,

@@ -6,7 +6,7 @@ use blob_header::error::Error;
 use std::alloc::Global;
 use std::marker::Model;
 
-/// The bytes of a write in pieces, seen by contracts as one list. The pieces are kept as they came.
+/// The bytes of a write, in one or more pieces. Contracts see one list. The pieces stay separate.
 #[derive(Debug, Drop)]
 pub struct IoBufs {
     pieces: Vec<Vec<u8>>,
@@ -25,7 +25,7 @@ impl Model for IoBufs {
 }
 
 impl IoBufs {
-    /// No bytes.
+    /// Returns an empty buffer.
     pub fn new(alloc: Global) -> IoBufs
         ensures { result ≡ [] }
     {
@@ -35,7 +35,7 @@ impl IoBufs {
         }
     }
 
-    /// These bytes, as one piece. The only error is `Memory`.
+    /// Returns a buffer with `bytes` as its only piece. The only error is `Memory`.
     pub fn from_vec(bytes: Vec<u8>) -> Result<IoBufs, Error>
         ensures ok { IfOk result (λ bufs. bufs ≡ bytes.items) }
         ensures memory { OnErr result (IsMemory result) }
@@ -47,10 +47,10 @@ impl IoBufs {
         Ok(bufs)
     }
 
-    /// Adds a piece at the end.
+    /// Appends a piece.
     ///
-    /// `OffsetOverflow` where the bytes would be more than `usize::MAX`, else the only error is
-    /// `Memory`. After a refusal the bytes are as before, and the piece is dropped.
+    /// Returns `OffsetOverflow` if the total length would exceed `usize::MAX`; otherwise the only error is `Memory`.
+    /// After an error the bytes are unchanged and the piece is dropped.
     pub fn push(&mut self, piece: Vec<u8>) -> Result<(), Error>
         ensures ok { OnOk result (self.new ≡ self.old ++ piece.items) }
         ensures err { OnErr result (self.new ≡ self.old) }
@@ -65,28 +65,28 @@ impl IoBufs {
         Ok(())
     }
 
-    /// How many bytes there are.
+    /// Returns the number of bytes.
     pub fn remaining(&self) -> usize
         ensures { result ≡ length self.now }
     {
         self.len
     }
 
-    /// Whether there is no byte; a piece may be there that is empty.
+    /// Returns whether there are no bytes. Empty pieces may exist.
     pub fn is_empty(&self) -> bool
         ensures { IsTrue result ↔ (self.now ≡ []) }
     {
         self.len == 0
     }
 
-    /// The pieces, which joined are the bytes.
+    /// Returns the pieces. Concatenated, they are the bytes.
     pub fn pieces(&self) -> &[Vec<u8>]
         ensures { flat_map (λ p. p.items) result.now ≡ self.now }
     {
         &self.pieces
     }
 
-    /// The bytes as one piece. One alone is moved; the only error of others is `Memory`.
+    /// Returns the bytes as one piece. A single piece is moved. Otherwise the only error is `Memory`.
     pub fn coalesce(self) -> Result<Vec<u8>, Error>
         ensures ok { IfOk result (λ bytes. bytes.items ≡ self) }
         ensures memory { OnErr result (IsMemory result) }
@@ -98,7 +98,7 @@ impl IoBufs {
         joined(*pieces.allocator(), &pieces, self.len)
     }
 
-    /// A copy of the bytes, as one piece. The only error is `Memory`.
+    /// Copies the bytes into one piece. The only error is `Memory`.
     pub fn copied(&self) -> Result<IoBufs, Error>
         ensures ok { IfOk result (λ bufs. bufs ≡ self.now) }
         ensures memory { OnErr result (IsMemory result) }
@@ -107,7 +107,7 @@ impl IoBufs {
     }
 }
 
-/// The pieces' bytes one after another, which are `len`.
+/// Concatenates the pieces. `len` is their total length.
 fn joined(alloc: Global, pieces: &[Vec<u8>], len: usize) -> Result<Vec<u8>, Error>
     ensures ok { IfOk result (λ bytes. bytes.items ≡ flat_map (λ p. p.items) pieces.now) }
     ensures memory { OnErr result (IsMemory result) }

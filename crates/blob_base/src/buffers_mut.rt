@@ -1,11 +1,11 @@
-ghost use Rattle.std.specs.Prelude.{◌≡◌, ◌≤◌, [], length, IsTrue, ◌↔◌, IfOk, OnErr, vec_capacity};
+ghost use Rattle.std.specs.Prelude.{◌≡◌, ◌≤◌, ◌+◌, ◌++◌, [], length, IsTrue, ◌↔◌, IfOk, OnErr, vec_capacity};
 ghost use Rattle.blob_header.specs.Refusals.{IsMemory};
 
 use blob_header::error::Error;
 use std::alloc::Global;
 use std::marker::Model;
 
-/// A buffer that a read fills: bytes, and room for more.
+/// A buffer for a read: its bytes and its capacity.
 #[derive(Debug, Drop)]
 pub struct IoBufsMut {
     bytes: Vec<u8>,
@@ -21,7 +21,7 @@ impl Model for IoBufsMut {
 }
 
 impl IoBufsMut {
-    /// No bytes, and room for at least so many. The only error is `Memory`.
+    /// Returns an empty buffer with at least this capacity in bytes. The only error is `Memory`.
     pub fn with_capacity(alloc: Global, capacity: usize) -> Result<IoBufsMut, Error>
         ensures empty { IfOk result (λ buf. buf.bytes ≡ []) }
         ensures room { IfOk result (λ buf. capacity ≤ buf.capacity) }
@@ -32,21 +32,21 @@ impl IoBufsMut {
         })
     }
 
-    /// How many bytes there are.
+    /// Returns the number of bytes.
     pub fn len(&self) -> usize
         ensures { result ≡ length self.now.bytes }
     {
         self.bytes.len()
     }
 
-    /// Whether there is no byte.
+    /// Returns whether there are no bytes.
     pub fn is_empty(&self) -> bool
         ensures { IsTrue result ↔ (self.now.bytes ≡ []) }
     {
         self.bytes.is_empty()
     }
 
-    /// How many bytes fit without memory.
+    /// Returns how many bytes fit without allocating.
     pub fn capacity(&self) -> usize
         ensures capacity { result ≡ self.now.capacity }
         ensures within { length self.now.bytes ≤ self.now.capacity }
@@ -54,7 +54,7 @@ impl IoBufsMut {
         self.bytes.capacity()
     }
 
-    /// Replaces the bytes, and takes no memory.
+    /// Replaces the bytes. Doesn't allocate: `bytes` must fit the capacity.
     pub fn set(&mut self, bytes: &[u8])
         requires { length bytes.now ≤ self.old.capacity }
         ensures bytes { self.new.bytes ≡ bytes.now }
@@ -64,7 +64,16 @@ impl IoBufsMut {
         self.bytes.extend_from_slice(bytes).unwrap();
     }
 
-    /// The bytes, with their room.
+    /// Appends bytes within the capacity. Doesn't allocate.
+    pub fn put_slice(&mut self, bytes: &[u8])
+        requires { length self.old.bytes + length bytes.now ≤ self.old.capacity }
+        ensures bytes { self.new.bytes ≡ self.old.bytes ++ bytes.now }
+        ensures room { self.old.capacity ≤ self.new.capacity }
+    {
+        self.bytes.extend_from_slice(bytes).unwrap();
+    }
+
+    /// Returns the bytes with their capacity.
     pub fn coalesce(self) -> Vec<u8>
         ensures bytes { result.items ≡ self.bytes }
         ensures room { vec_capacity result ≡ self.capacity }

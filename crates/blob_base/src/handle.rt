@@ -3,9 +3,8 @@ ghost use Rattle.blob_base.specs.Handles.{outcome_of, marker_of};
 
 use blob_header::error::Error;
 
-/// A started sync: what it answers, and the number of a wrapper's marker where it carries one.
-///
-/// It may be dropped unfinished.
+/// The handle of a started sync: its outcome and, if it has one, the number of a wrapper's marker. It may be dropped
+/// without being finished.
 #[derive(Debug, Drop)]
 pub struct Handle {
     outcome: Result<(), Error>,
@@ -13,7 +12,7 @@ pub struct Handle {
 }
 
 impl Handle {
-    /// A finished handle with this outcome and no marker.
+    /// Returns a handle with this outcome and no marker.
     pub fn ready(outcome: Result<(), Error>) -> Handle
         ensures outcome { outcome_of result ≡ outcome }
         ensures marker { marker_of result ≡ None }
@@ -24,7 +23,7 @@ impl Handle {
         }
     }
 
-    /// A successful handle with a wrapper's marker.
+    /// Returns a handle with outcome Ok and a wrapper's marker.
     pub fn marked(marker: u64) -> Handle
         ensures outcome { outcome_of result ≡ Ok tt }
         ensures marker { marker_of result ≡ Some marker }
@@ -35,21 +34,21 @@ impl Handle {
         }
     }
 
-    /// What the sync answers: `Ok`, or the error that the store ended it with, such as `Injected`.
+    /// Returns the sync's outcome: Ok, or the store's error, such as `Injected`.
     pub fn outcome(&self) -> &Result<(), Error>
         ensures { result.now ≡ outcome_of self.now }
     {
         &self.outcome
     }
 
-    /// What the sync answers, an error of the store too, and the handle is spent.
+    /// Returns the sync's outcome and consumes the handle.
     pub fn into_outcome(self) -> Result<(), Error>
         ensures { result ≡ outcome_of self }
     {
         self.outcome
     }
 
-    /// The number of the marker, where there is one.
+    /// Returns the number of the marker, if there is one.
     pub fn marker(&self) -> Option<u64>
         ensures { result ≡ marker_of self.now }
     {

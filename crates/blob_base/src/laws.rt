@@ -1,4 +1,4 @@
-//! Laws of the crash model. Each is carried by a function that does nothing: its contract is the law.
+//! Laws of every store. A law is an empty function; its contract is the law.
 
 pub mod opens;
 

@@ -3,11 +3,11 @@ ghost use Rattle.blob_base.specs.Options.{flags_of, no_options, contains, union,
 
 use bitflags::{Flag, Flags};
 
-/// How a read is done. There is one way so far, the default.
+/// The options of a read. There are none so far.
 #[derive(Clone, Copy, Debug, Default, PartialEq, Eq)]
 pub struct ReadOptions {}
 
-/// How a write is done: a set of flags. The default is empty.
+/// The options of a write, a set of flags. The default is empty.
 #[derive(Clone, Copy, Debug, PartialEq, Eq)]
 pub struct WriteOptions {
     bits: u8,
@@ -19,17 +19,17 @@ static FLAGS: [Flag<WriteOptions>; 1] = [Flag {
 }];
 
 impl WriteOptions {
-    /// The written bytes are durable when the write is answered.
+    /// The written bytes are durable when the write returns.
     pub const SYNC: WriteOptions = WriteOptions { bits: 1 };
 
-    /// Whether these options have all of the others.
+    /// Returns whether `self` has all options of `other`.
     pub fn contains(self, other: WriteOptions) -> bool
         ensures { result ≡ contains self other }
     {
         Flags::contains(&self, other)
     }
 
-    /// The options of both.
+    /// Returns the options of both.
     pub fn union(self, other: WriteOptions) -> WriteOptions
         ensures bits { result ≡ union self other }
         ensures sync { is_sync result ≡ (is_sync self || is_sync other) }
@@ -37,7 +37,7 @@ impl WriteOptions {
         Flags::union(self, other)
     }
 
-    /// These options but for the others.
+    /// Returns the options of `self` without those of `other`.
     pub fn without(self, other: WriteOptions) -> WriteOptions
         ensures bits { result ≡ without self other }
         ensures sync { is_sync result ≡ (is_sync self && not (is_sync other)) }

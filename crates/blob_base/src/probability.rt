@@ -6,8 +6,8 @@ ghost use Rattle.blob_model.specs.Rates.{sampled, same_rate};
 use rand_core::Rng;
 use std::marker::Model;
 
-/// A rate: a fraction of whole numbers that is at most one. Rates are equal exactly where both
-/// numbers are, so 1/2 isn't equal to 2/4.
+/// A rate: a fraction of two integers, at most one. Rates are equal if and only if both integers are: 1/2 isn't equal
+/// to 2/4.
 #[derive(Clone, Copy, Debug)]
 pub struct Probability {
     numerator: u64,
@@ -40,7 +40,7 @@ impl Probability {
         denominator: 1,
     };
 
-    /// The fraction; `None` exactly where the denominator is 0 or the numerator is greater.
+    /// Returns the fraction, or `None` if the denominator is 0 or less than the numerator.
     pub fn new(numerator: u64, denominator: u64) -> Option<Probability>
         ensures some { IsSome result ↔ ((0 < denominator) × (numerator ≤ denominator)) }
         ensures value { IfSome result (λ p. p ≡ record { numerator = numerator; denominator = denominator }) }
@@ -54,7 +54,7 @@ impl Probability {
         })
     }
 
-    /// The number above.
+    /// Returns the numerator.
     pub fn numerator(&self) -> u64
         ensures value { result ≡ self.now.numerator }
         ensures proper { self.now.numerator ≤ self.now.denominator }
@@ -62,7 +62,7 @@ impl Probability {
         self.numerator
     }
 
-    /// The number below.
+    /// Returns the denominator.
     pub fn denominator(&self) -> u64
         ensures value { result ≡ self.now.denominator }
         ensures positive { 0 < self.now.denominator }
@@ -70,15 +70,15 @@ impl Probability {
         self.denominator
     }
 
-    /// Whether it is never true.
+    /// Returns whether the rate is zero.
     pub fn is_zero(&self) -> bool
         ensures { IsTrue result ↔ (self.now.numerator ≡ 0) }
     {
         self.numerator == 0
     }
 
-    /// One draw. A rate of zero is never true and a rate of one always, and neither takes a word;
-    /// another takes one word `w` of 64 bits and is true where `w * denominator < numerator * 2^64`.
+    /// Makes one draw. A rate of zero is never true and a rate of one always; neither takes a word. Any other rate
+    /// takes one 64-bit word `w` and is true if `w * denominator < numerator * 2^64`.
     #[tactic(auto, unfolding(blob_model::specs::Rates::sampled))]
     pub fn sample<R: Rng>(&self, rng: &mut R) -> bool
         ensures { (result, R.stream rng.new) ≡ sampled self.now (R.stream rng.old) }

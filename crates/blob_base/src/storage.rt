@@ -1,4 +1,4 @@
-// The storage traits, with what every store keeps.
+// The storage traits and their laws.
 ghost use Rattle.std.specs.Prelude.{◌≡◌, ◌≢◌, ◌⊎◌, ◌+◌, ◌≤◌, ◌<◌, ◌^◌, ◌↔◌, ℕ, List, [], Bool, true, false, Option, Some, None, is_some, IsSome, IsTrue, OnOk, OnErr, IfOk, length, take, drop, map, option_copied};
 ghost use Rattle.std.specs.Range.{range_inclusive_exhausted};
 ghost use Rattle.blob_model.specs.Bytes.{resized};
@@ -17,50 +17,50 @@ use crate::{Handle, IoBufs, IoBufsMut, ReadOptions, WriteOptions};
 use blob_header::{BlobVersion, DEFAULT_BLOB_VERSION, Error};
 use std::ops::RangeInclusive;
 
-/// What keeps bytes through a crash, by incarnation: one life of a name, from the open that created or accepted its blob to its
-/// removal or the store's rebuilding.
+/// Durable bytes by incarnation. An incarnation is one life of a name: from the open that creates or accepts its blob
+/// until its removal or until the store is rebuilt.
 pub trait Durable {
-    /// Names the incarnation that a handle was opened on.
+    /// Identifies the incarnation that a handle was opened on.
     type Origin: Eq + Drop;
 
-    // which incarnation that is
+    // the incarnation of an origin
     ghost place: { Self.Origin → Place };
 
-    // the partitions, the names and what each name's file is
+    // partitions, names, and the state of each name's file
     ghost directory: { Self → Directory };
 
     // the durable logical bytes of each current incarnation
     ghost durable: { Self → Durable };
 
-    /// Whether the incarnation is still its name's current one. A handle on any other is stale. Takes no memory, draws nothing.
+    /// Returns whether the incarnation is its name's current one. A handle on any other is stale. Doesn't allocate.
     fn is_current(&self, origin: &Self::Origin) -> bool
         ensures { result ≡ is_current (directory self.now) (place origin.now) };
 
-    // equal origins name one incarnation, and an incarnation has one origin
+    // equal origins identify one incarnation, and an incarnation has one origin
     ghost same_origins: { (a b : Self.Origin) → Self.Origin.eq a b ≡ same_place (place a) (place b) };
 
     ghost one_origin: { (a b : Self.Origin) → place a ≡ place b → a ≡ b };
 
-    // the incarnations with durable bytes are the current ones
+    // exactly the current incarnations have durable bytes
     ghost currents: { (s : Self) (o : Place) → is_some (durable s o) ≡ is_current (directory s) o };
 
-    // a number that an incarnation has isn't given again
+    // the number of a current incarnation isn't reused
     ghost given: { (s : Self) (o : Place) → is_current (directory s) o ≡ true → o.number < (directory s).next };
 }
 
-/// A handle on a blob of a store, which is lent to each call.
+/// A handle on a blob of a store. Each call borrows the store.
 ///
-/// It has live bytes of its own, a copy of the durable ones from when it was opened, which its reads see. Offsets, lengths and
-/// sizes are logical, in bytes: they count from behind the blob's header. It is stale once its incarnation isn't current any
-/// more, and no call of a stale handle changes a durable byte.
+/// A handle has live bytes of its own, which its reads see: a copy of the durable bytes at the open. Offsets, lengths
+/// and sizes are logical, in bytes: they exclude the blob's header. A handle is stale once its incarnation isn't
+/// current any more. No call of a stale handle changes a durable byte.
 ///
-/// The store that it is lent has to be the one that opened it, or one that was rebuilt from that store. At any other it stands
-/// for whatever incarnation has its name and number there, which the types don't rule out: a SYNC write through it may be
-/// answered Ok and change that store.
+/// Pass the store that opened the handle, or one that was rebuilt from it. In any other store the handle refers to the
+/// incarnation with its name and number, if one exists. The types don't rule this out: a SYNC write may then return Ok
+/// and change that store.
 ///
-/// Each call may be refused with `Memory` in place of any other answer, and then changes nothing but a wrapper's generator. A
-/// wrapper adds `Injected`, and for a failed write or resize may have done a part by then; what else it may answer its own docs
-/// say. What each implementation refuses, in which order and with what it leaves, is in docs/BEHAVIOUR.md.
+/// Any call may return `Memory` instead of another result; it then changes nothing except a wrapper's generator. A
+/// wrapper adds `Injected`, after which a write or a resize may be applied in part, and the errors in its own docs.
+/// docs/BEHAVIOUR.md lists the errors of each implementation in the order of their checks, with what each leaves.
 pub trait Blob<S: Durable> {
     // the bytes that a read sees
     ghost live: { Self → List ℕ };
@@ -68,16 +68,16 @@ pub trait Blob<S: Durable> {
     // the incarnation that it was opened on
     ghost place: { Self → Place };
 
-    // up to which logical end it can be written without memory
+    // up to this logical end it can be written without allocating
     ghost room: { Self → S → ℕ };
 
-    // up to which logical end its live bytes can be written without memory, by a stale handle too
+    // up to this logical end its live bytes can be written without allocating, by a stale handle too
     ghost live_room: { Self → ℕ };
 
-    // whether reserved room is kept, and a refused call changes no durable byte: so of a store that injects nothing
+    // true of a store that injects nothing: it keeps reserved capacity, and a failed call changes no durable byte
     ghost is_direct: { Bool };
 
-    // what a call may answer, by the values at entry: a refusal, or none for Ok
+    // the possible results of a call, by the values at entry: an error, or None for Ok
     ghost allows_read: { Self → S → ℕ → ℕ → Option Refusal → Type 0 };
 
     ghost allows_read_buf: { Self → S → ℕ → ℕ → Option Refusal → Type 0 };
@@ -92,16 +92,16 @@ pub trait Blob<S: Durable> {
 
     ghost allows_reserve: { Self → S → ℕ → Option Refusal → Type 0 };
 
-    // what else a call leaves, by the handle and the store at entry, its answer, and both after it: of what they keep besides files
+    // what a call leaves apart from files, by handle and store at entry, its result, and both afterwards
     ghost leaves: { HandleCall → Self → S → Option Refusal → Self → S → Type 0 };
 
-    /// Reads exactly `len` live bytes at the logical `offset`, by a stale handle too. A read of no bytes is answered Ok up to the
-    /// end of the live bytes, and refused behind it.
+    /// Reads exactly `len` live bytes at the logical `offset`, by a stale handle too. An empty read returns Ok if
+    /// `offset` isn't past the end of the live bytes.
     ///
     /// # Errors
     ///
-    /// `OffsetOverflow` where the range's end, with the header, can't be counted; `BlobInsufficientLength` where the range
-    /// goes past the live bytes; `Memory` where there is none for the buffer. Nothing changes.
+    /// `OffsetOverflow` if the range's end, plus the header, overflows 64 bits; `BlobInsufficientLength` if the range
+    /// ends after the live bytes; `Memory` if the buffer can't be allocated. Nothing changes.
     fn read_at(
         &self,
         store: &mut S,
@@ -116,13 +116,12 @@ pub trait Blob<S: Durable> {
         ensures directory { S.directory store.new ≡ S.directory store.old }
         ensures durable { S.durable store.new ≡ S.durable store.old };
 
-    /// Reads exactly `len` live bytes at the logical `offset` into a buffer of the caller's, in place of what it held.
-    ///
-    /// The caller hands a buffer whose capacity is at least `len`. It comes back with the bytes and no less room.
+    /// Reads exactly `len` live bytes at the logical `offset` into `buf`, and replaces its contents. Its capacity must
+    /// be at least `len`, and doesn't shrink.
     ///
     /// # Errors
     ///
-    /// `OffsetOverflow` and `BlobInsufficientLength` as `read_at`. The buffer is dropped then; nothing else changes.
+    /// `OffsetOverflow` and `BlobInsufficientLength`, as `read_at`. Drops `buf` and changes nothing.
     fn read_at_buf(
         &self,
         store: &mut S,
@@ -140,18 +139,22 @@ pub trait Blob<S: Durable> {
         ensures directory { S.directory store.new ≡ S.directory store.old }
         ensures durable { S.durable store.new ≡ S.durable store.old };
 
-    /// Writes at the logical `offset`: to the live bytes, and with `WriteOptions::SYNC` to the durable ones at once. A gap
-    /// behind the end is filled with zeros.
+    /// Writes at the logical `offset`: to the live bytes, and with `WriteOptions::SYNC` immediately to the durable
+    /// bytes too. A gap after the end is filled with zeros.
     ///
-    /// A plain write changes no durable byte; one of no bytes past the end lengthens the live bytes with zeros up to `offset`;
-    /// a stale handle's is answered Ok too. A SYNC write makes its own range durable and no other byte; one of no bytes is
-    /// answered Ok and changes nothing, by a stale handle too. No write gives back room, whatever it is answered.
+    /// A plain write changes no durable byte. If it is empty and past the end, it extends the live bytes with zeros up
+    /// to `offset`. It returns Ok on a stale handle too. A SYNC write makes its own range durable and no other byte. If
+    /// it is empty, it returns Ok and changes nothing, on a stale handle too. No write releases capacity, regardless of
+    /// its result.
     ///
     /// # Errors
     ///
-    /// `OffsetOverflow` where the range's end, with the header, can't be counted: nothing changes. `BlobMissing` for a SYNC
-    /// write of some bytes by a stale handle: its live bytes are written, no durable byte is. `Memory`: nothing changes.
-    /// A wrapper may also answer `Injected`, `WriteFailed` and `GenerationsExhausted`.
+    /// - `OffsetOverflow` if the range's end, plus the header, overflows 64 bits. Nothing changes.
+    /// - `BlobMissing` if a SYNC write isn't empty and the handle is stale. It changes the live bytes, but no durable
+    ///   byte.
+    /// - `Memory`. Nothing changes.
+    ///
+    /// A wrapper may also return `Injected`, `WriteFailed` and `GenerationsExhausted`.
     fn write_at(
         &mut self,
         store: &mut S,
@@ -168,7 +171,7 @@ pub trait Blob<S: Durable> {
         ensures room { room self.old store.old ≤ room self.new store.new }
         ensures live_room { live_room self.old ≤ live_room self.new }
 
-        // a refusal
+        // after an error
         ensures memory { IsMemory result → (live self.new ≡ live self.old) × (S.durable store.new ≡ S.durable store.old) }
         ensures direct_live { is_direct ≡ true → live self.new ≡ live_after (is_sync options) (live self.old) offset bytes (refused result) }
         ensures direct_durable { is_direct ≡ true → OnErr result (S.durable store.new ≡ S.durable store.old) }
@@ -177,13 +180,13 @@ pub trait Blob<S: Durable> {
         ensures directory { S.directory store.new ≡ S.directory store.old }
         ensures place { place self.new ≡ place self.old };
 
-    /// Cuts the live bytes to the logical length `len`, or lengthens them with zeros, by a stale handle too. Nothing becomes
-    /// durable before a sync.
+    /// Truncates the live bytes to the logical length `len`, or extends them with zeros, by a stale handle too. Nothing
+    /// becomes durable before a sync.
     ///
     /// # Errors
     ///
-    /// `OffsetOverflow` where the length, with the header, can't be counted, or `Memory`: nothing changes. A wrapper may also
-    /// answer `Injected`, and has then perhaps reached a length between the old and the wanted one.
+    /// `OffsetOverflow` if the length, plus the header, overflows 64 bits, or `Memory`. Nothing changes. A wrapper may
+    /// also return `Injected`; the length may then be any from the old to the requested one.
     fn resize(&mut self, store: &mut S, len: u64) -> Result<(), Error>
         ensures allowed { allows_resize self.old store.old len (refused result) }
         ensures leaves { leaves (Resize len) self.old store.old (refused result) self.new store.new }
@@ -194,11 +197,11 @@ pub trait Blob<S: Durable> {
         ensures directory { S.directory store.new ≡ S.directory store.old }
         ensures place { place self.new ≡ place self.old };
 
-    /// Makes the live bytes the durable ones, all of them and their length.
+    /// Makes all live bytes durable, with their length.
     ///
     /// # Errors
     ///
-    /// `BlobMissing` by a stale handle; `Memory`. A wrapper may also answer `Injected`. No durable byte changes.
+    /// `BlobMissing` if the handle is stale; `Memory`. A wrapper may also return `Injected`. No durable byte changes.
     fn sync(&mut self, store: &mut S) -> Result<(), Error>
         ensures allowed { allows_sync self.old store.old (refused result) }
         ensures leaves { leaves Sync self.old store.old (refused result) self.new store.new }
@@ -209,14 +212,13 @@ pub trait Blob<S: Durable> {
         ensures directory { S.directory store.new ≡ S.directory store.old }
         ensures place { place self.new ≡ place self.old };
 
-    /// Begins to make the live bytes the durable ones. The handle that it answers has the outcome, and is given back to the
-    /// store's `finish`; it may also be dropped.
+    /// Starts to make the live bytes durable. The returned handle has the outcome: pass it to `finish`, or drop it.
     ///
-    /// Where the outcome is Ok they are durable already, and a crash can't take them back, finished or not.
+    /// If the outcome is Ok, the bytes are already durable and survive every crash, finished or not.
     ///
     /// # Errors
     ///
-    /// The outcome may be what `sync` may answer, and of a wrapper `GenerationsExhausted`. No durable byte changes then.
+    /// The outcome may be any error of `sync`, and `GenerationsExhausted` of a wrapper. No durable byte changes then.
     fn start_sync(&mut self, store: &mut S) -> Handle
         ensures allowed { allows_start_sync self.old store.old (refused (outcome_of result)) }
         ensures leaves { leaves (StartSync (marker_of result)) self.old store.old (refused (outcome_of result)) self.new store.new }
@@ -229,12 +231,13 @@ pub trait Blob<S: Durable> {
         ensures directory { S.directory store.new ≡ S.directory store.old }
         ensures place { place self.new ≡ place self.old };
 
-    /// Takes room for the live bytes, and by a current handle for the durable ones, up to the logical `end`. Changes no byte and
-    /// draws nothing. A SYNC write by a current handle that ends within its room isn't answered `Memory`.
+    /// Reserves capacity up to the logical `end`, for the live bytes and, if the handle is current, for the durable
+    /// bytes. Changes no byte and doesn't draw. In a store that injects nothing, a SYNC write up to `end` by a current
+    /// handle then doesn't return `Memory`.
     ///
     /// # Errors
     ///
-    /// `OffsetOverflow` where the end, with the header, can't be counted, which is tested first; `Memory`.
+    /// `OffsetOverflow` if the end, plus the header, overflows 64 bits, which is checked first; `Memory`.
     fn reserve(&mut self, store: &mut S, end: u64) -> Result<(), Error>
         ensures allowed { allows_reserve self.old store.old end (refused result) }
         ensures leaves { leaves (Reserve end) self.old store.old (refused result) self.new store.new }
@@ -249,85 +252,82 @@ pub trait Blob<S: Durable> {
         ensures directory { S.directory store.new ≡ S.directory store.old }
         ensures place { place self.new ≡ place self.old };
 
-    /// Returns the incarnation that the handle was opened on, current or not, as a value of the caller's own.
-    ///
-    /// # Errors
-    ///
-    /// `Memory` if there is none for the copy. Nothing changes.
+    /// Returns a copy of the handle's origin, current or not. The only error is `Memory`.
     fn origin(&self) -> Result<S::Origin, Error>
         ensures place { IfOk result (λ origin. S.place origin ≡ place self.now) }
         ensures memory { OnErr result (IsMemory result) };
 
-    /// Lends the incarnation that the handle was opened on, current or not. Takes no memory.
+    /// Borrows the handle's origin, current or not. Doesn't allocate.
     fn origin_ref(&self) -> &S::Origin
         ensures { S.place result.now ≡ place self.now };
 
-    // a read into a buffer is answered what one into a new buffer may be
+    // each result of a read into a buffer is one of a read into a new buffer
     ghost reads_alike: { (b : Self) (s : S) (offset len : ℕ) (answer : Option Refusal) → allows_read_buf b s offset len answer → allows_read b s offset len answer };
 
-    // a SYNC write of some bytes isn't answered Ok by a stale handle
+    // a SYNC write by a stale handle doesn't return Ok unless it is empty
     ghost stale_refused: { (b : Self) (s : S) (offset : ℕ) (bytes : List ℕ) → is_current (S.directory s) (place b) ≡ false → bytes ≢ [] → allows_write b s offset bytes true None → ⊥ };
 
-    // a store that injects nothing answers no injected fault
+    // a store that injects nothing doesn't return `Injected`
     ghost uninjected: { (b : Self) (s : S) (offset : ℕ) (bytes : List ℕ) (sync : Bool) → is_direct ≡ true → allows_write b s offset bytes sync (Some Injected) → ⊥ };
 
     ghost resize_uninjected: { (b : Self) (s : S) (len : ℕ) → is_direct ≡ true → allows_resize b s len (Some Injected) → ⊥ };
 
-    // within its room a SYNC write by a current handle wants no memory
+    // a SYNC write by a current handle within its capacity doesn't return `Memory`
     ghost within_room: { (b : Self) (s : S) (offset : ℕ) (bytes : List ℕ) → is_current (S.directory s) (place b) ≡ true → offset + length bytes ≤ room b s → allows_write b s offset bytes true (Some Memory) → ⊥ };
 
-    // a store that injects nothing does a SYNC write by a current handle within its room
+    // in a store that injects nothing, it doesn't fail
     ghost done_within: { (b : Self) (s : S) (offset : ℕ) (bytes : List ℕ) (r : Refusal) → is_direct ≡ true → is_current (S.directory s) (place b) ≡ true → offset + length bytes ≤ room b s → allows_write b s offset bytes true (Some r) → ⊥ };
 
-    // nor does it refuse a plain write within the room of its handle's live bytes
+    // nor does a plain write within the capacity of the live bytes
     ghost plain_done_within: { (b : Self) (s : S) (offset : ℕ) (bytes : List ℕ) (r : Refusal) → is_direct ≡ true → 0 < offset + length bytes → offset + length bytes ≤ live_room b → allows_write b s offset bytes false (Some r) → ⊥ };
 
-    // room is refused for an end past what can be counted, and for want of memory
+    // a reservation fails only on overflow or out of memory
     ghost reserve_refused: { (b : Self) (s : S) (end : ℕ) (r : Refusal) → allows_reserve b s end (Some r) → (r ≡ OffsetOverflow) ⊎ (r ≡ Memory) };
 }
 
 /// A store of blobs in partitions.
 ///
-/// A call may be refused with `Memory` in place of any other answer, and a wrapper's with `Injected` before it asks the store
-/// inside. After a refusal the files are as before. A partition's name is valid where it isn't empty and has only ASCII letters,
-/// digits, `-` and `_`; a blob's name may be any bytes, none too.
+/// Any call may return `Memory` instead of another result. A wrapper may return `Injected` before it calls the inner
+/// store. After an error the files are unchanged. A partition's name is valid if it isn't empty and has only ASCII
+/// letters, digits, `-` and `_`. A blob's name may be any bytes, also none.
 pub trait Storage: Durable {
     ghost use Rattle.blob_base.specs.Stores.{OpensBlob};
 
-    /// A handle on one of its blobs.
+    /// A handle on a blob of this store.
     type Blob: Blob<Self> + Drop;
 
-    // what a call may answer, by the store at entry
+    // the possible results of a call, by the store at entry
     ghost allows_open: { Self → List ℕ → List ℕ → ℕ → ℕ → Option Refusal → Type 0 };
 
     ghost allows_remove: { Self → List ℕ → Option (List ℕ) → Option Refusal → Type 0 };
 
     ghost allows_scan: { Self → List ℕ → Option Refusal → Type 0 };
 
-    // what else a call leaves, by the store at entry, its answer and the store after it: of what a store keeps besides files
+    // what a call leaves apart from files, by the store at entry, its result, and the store afterwards
     ghost leaves_open: { Self → List ℕ → List ℕ → ℕ → ℕ → Option Refusal → Self → Type 0 };
 
     ghost leaves_remove: { Self → List ℕ → Option (List ℕ) → Option Refusal → Self → Type 0 };
 
     ghost leaves_scan: { Self → List ℕ → Option Refusal → Self → Type 0 };
 
-    // by the marker that the finished handle carries
+    // by the marker of the finished handle
     ghost leaves_finish: { Self → Option ℕ → Self → Type 0 };
 
-    // what a handle that an open answers keeps of the size that is answered with it
+    // what the handle of an open records of the returned size
     ghost keeps_size: { Self.Blob → ℕ → Type 0 };
 
-    /// Opens the blob `name` of `partition` for any of `versions`, and creates it for the greatest of them where it is missing,
-    /// has fewer raw bytes than a header, or is what an interrupted creation left; the partition is made where it is missing.
+    /// Opens the blob `name` of `partition` for any of `versions`. Creates it for the greatest of them if it is
+    /// missing, has fewer raw bytes than a header, or was left by an interrupted creation. Creates the partition if it
+    /// is missing.
     ///
-    /// Answers a handle whose live bytes are the durable ones, their number, and the blob's version. The caller hands a range
-    /// that isn't empty and wasn't iterated to its end.
+    /// Returns a handle with the durable bytes as its live bytes, their number, and the blob's version. The range must
+    /// not be empty or iterated to its end.
     ///
     /// # Errors
     ///
-    /// `PartitionNameInvalid`; then `BlobCorrupt` with the reason, or `BlobVersionMismatch`, by the order of tests in
-    /// docs/FORMATS.md; `GenerationsExhausted` where a new incarnation would have no number; `Memory`. A wrapper answers
-    /// `Injected` before these. The files are as before.
+    /// `PartitionNameInvalid`; then `BlobCorrupt` with the reason, or `BlobVersionMismatch`, in the order of checks in
+    /// docs/FORMATS.md; `GenerationsExhausted` if no number is left for a new incarnation; `Memory`. A wrapper may
+    /// return `Injected` before these. The files are unchanged.
     fn open_versioned(
         &mut self,
         partition: &str,
@@ -343,11 +343,8 @@ pub trait Storage: Durable {
         ensures kept_size { IfOk result (λ opened. keeps_size opened.0 opened.1) }
         ensures err { OnErr result ((Self.directory self.new ≡ Self.directory self.old) × (Self.durable self.new ≡ Self.durable self.old)) };
 
-    /// Opens the blob for `DEFAULT_BLOB_VERSION` alone, and answers a handle and the number of its live bytes.
-    ///
-    /// # Errors
-    ///
-    /// As `open_versioned`.
+    /// Opens the blob for `DEFAULT_BLOB_VERSION` only. Returns a handle and the number of its live bytes. Errors as
+    /// `open_versioned`.
     fn open(&mut self, partition: &str, name: &[u8]) -> Result<(Self::Blob, u64), Error>
         ensures allowed { allows_open self.old partition.now name.now 0 0 (refused result) }
         ensures leaves { leaves_open self.old partition.now name.now 0 0 (refused result) self.new }
@@ -361,13 +358,13 @@ pub trait Storage: Durable {
         Ok((blob, size))
     }
 
-    /// Removes the blob, or with no name the partition with all its blobs. Their handles are stale from then on, and keep their
-    /// live bytes. A partition stays when its last blob is removed.
+    /// Removes the blob, or without a name the partition and all its blobs. Their handles become stale and keep their
+    /// live bytes. A partition remains when its last blob is removed.
     ///
     /// # Errors
     ///
-    /// `PartitionNameInvalid`, `PartitionMissing`, then `BlobMissing` where there is no such name; `Memory` for the texts of
-    /// these. A wrapper answers `Injected` before these. Nothing is removed.
+    /// `PartitionNameInvalid`, `PartitionMissing`, then `BlobMissing` if the name doesn't exist; `Memory` for their
+    /// strings. A wrapper may return `Injected` before these. Nothing is removed.
     fn remove(&mut self, partition: &str, name: Option<&[u8]>) -> Result<(), Error>
         ensures allowed { allows_remove self.old partition.now (option_copied name.entry) (refused result) }
         ensures leaves { leaves_remove self.old partition.now (option_copied name.entry) (refused result) self.new }
@@ -375,11 +372,11 @@ pub trait Storage: Durable {
         ensures durable { OnOk result (Self.durable self.new ≡ durable_without (Self.durable self.old) partition.now (option_copied name.entry)) }
         ensures err { OnErr result ((Self.directory self.new ≡ Self.directory self.old) × (Self.durable self.new ≡ Self.durable self.old)) };
 
-    /// The names of the partition's blobs, each once, sorted by their bytes. Changes nothing.
+    /// Returns the names of the partition's blobs, each once, sorted by bytes. Changes nothing.
     ///
     /// # Errors
     ///
-    /// `PartitionNameInvalid`, then `PartitionMissing`; `Memory`. A wrapper answers `Injected` before these.
+    /// `PartitionNameInvalid`, then `PartitionMissing`; `Memory`. A wrapper may return `Injected` before these.
     fn scan(&mut self, partition: &str) -> Result<Vec<Vec<u8>>, Error>
         ensures allowed { allows_scan self.old partition.now (refused result) }
         ensures leaves { leaves_scan self.old partition.now (refused result) self.new }
@@ -388,15 +385,11 @@ pub trait Storage: Durable {
         ensures directory { Self.directory self.new ≡ Self.directory self.old }
         ensures durable { Self.durable self.new ≡ Self.durable self.old };
 
-    /// Ends a started sync, and answers the outcome that its handle carries. No file changes, and nothing is drawn. A wrapper
-    /// retires what the sync made durable.
+    /// Completes a started sync and returns its outcome, the only error. Changes no file and doesn't draw. A wrapper
+    /// drops the pending entries that the sync made durable.
     ///
-    /// # Errors
-    ///
-    /// The outcome of the sync, and nothing of its own.
-    ///
-    /// The handle has to be one that a sync through this store answered. A marker is a number, so that at another wrapper
-    /// whatever stands up to its own marker of that number would be retired.
+    /// The handle must come from a sync through this store: its marker is a number, so another wrapper would drop the
+    /// entries up to its own marker of this number.
     fn finish(&mut self, handle: Handle) -> Result<(), Error>
         ensures outcome { refused result ≡ refused (outcome_of handle) }
         ensures leaves { leaves_finish self.old (marker_of handle) self.new }

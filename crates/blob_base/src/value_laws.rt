@@ -1,5 +1,4 @@
-//! How the values that calls take are ordered, and when two are equal. A law is a function that does nothing; its contract
-//! is the law.
+//! Equality of write options and rates. A law is an empty function; its contract is the law.
 
 ghost use Rattle.blob_header.specs.Values.{IsSameness};
 
@@ -7,8 +6,8 @@ use crate::options::WriteOptions;
 use crate::probability::Probability;
 pub use blob_header::value_laws::orders;
 
-/// Values are equal exactly where all their parts are; those of layouts, versions and headers are told by
-/// `blob_header::value_laws::equalities`, those of modes by `blob_model::value_laws::equalities`.
+/// Two values are equal if and only if all their parts are. For layouts, versions and headers see
+/// `blob_header::value_laws::equalities`, for modes `blob_model::value_laws::equalities`.
 pub fn equalities()
     ensures options { IsSameness ⟦<WriteOptions as PartialEq>⟧.eq }
     ensures rates { IsSameness ⟦<Probability as PartialEq>⟧.eq }

@@ -3,10 +3,14 @@
 //! What a session is and does is `blob_sessions`. The header `bindings/c/blobcrash.h` says what callers owe: no check reaches them.
 #![tactic(auto)]
 
-ghost use Rattle.std.specs.Prelude.{◌≡◌, ◌⊎◌, ◌<◌, ◌≤◌, Some, None, IsSome, IfSome, [], take, drop, length};
+ghost use Rattle.std.specs.Prelude.{◌≡◌, ◌⊎◌, ◌↔◌, ◌<◌, ◌≤◌, Some, None, IsSome, IfSome, IsTrue, false, [], take, drop, length};
 ghost use Rattle.blob_lab.specs.Scripts.{Prints, PrintsBeforeLine, lines_of, script_of};
 ghost use Rattle.blob_sessions.specs.Applying.{AppliesTo};
+ghost use Rattle.blob_sessions.specs.Debts.{no_debt};
 ghost use Rattle.blob_sessions.specs.DurableBlobs.{CopiesDigestFrom, CopiesFrom};
+ghost use Rattle.blob_header.specs.Header.{IsFrontOfCreation};
+ghost use Rattle.blob_header.specs.Parse.{parsed};
+ghost use Rattle.blob_sessions.specs.Headers.{IsFrontOfBlob, accepted_by, header_reply, layout_numbered, no_header};
 ghost use Rattle.blob_sessions.specs.Parts.{CopiesNameFrom, FindsName, FindsRun, no_run};
 ghost use Rattle.blob_sessions.specs.Preambles.{BreaksAt, IsMadeOf};
 ghost use Rattle.blob_sessions.specs.Sessions.{RunsLine, ReadsInto, AnswersWrite, IsClosed, Inspects, OnHeld, TellsAgain, kept_of, stopped};
@@ -14,9 +18,10 @@ ghost use Rattle.blob_sessions.specs.Typed.{last_reply, without_reply};
 ghost use Rattle.blob_sessions.specs.WholeScripts.{WantsRoom};
 ghost use Rattle.blob_sessions.specs.Words.{TakesWords, TellsWordsLeft};
 
-use blob_sessions::ran::{BAD_LINE, CLOSED, DONE, ENDLESS, NO_MEMORY, NO_ROOM};
+use blob_sessions::ran::{BAD_CALL, BAD_LINE, CLOSED, DONE, ENDLESS, NO_MEMORY, NO_ROOM};
 use blob_sessions::{
-    KeptRun, Ran, RefusedPreamble, ScriptRan, Session, TypedCall, TypedReply, preamble, script,
+    Accepts, DebtCall, DebtReply, KeptRun, ParsedHeader, Ran, RefusedPreamble, ScriptRan, Session,
+    TypedCall, TypedReply, headers, preamble, script,
 };
 use std::alloc::Global;
 
@@ -317,10 +322,63 @@ pub extern "C" fn blobcrash_push_words(alloc: Global, session: &mut Session, wor
     status
 }
 
+/// Makes a call of the registry of durability debt, which a session has as well as its store. The store doesn't change.
+///
+/// Errors, with nothing changed:
+/// - `BAD_CALL` if the kind is unknown, the failure has texts or the partition isn't UTF-8.
+/// - `CLOSED`.
+///
+/// Any other status but `DONE` is a refusal of the call.
+#[unsafe(no_mangle)]
+pub extern "C" fn blobcrash_debt(
+    alloc: Global,
+    session: &mut Session,
+    asked: &DebtCall,
+    partition: &[u8],
+    name: &[u8],
+) -> DebtReply
+    ensures { OnHeld (kept_of session.old) (kept_of session.new) (λ k k'. k' ≡ record k { debts = k'.debts }) (result ≡ no_debt CLOSED) }
+{
+    let Some(mut kept) = session.take(alloc) else {
+        return DebtReply::stopped(CLOSED);
+    };
+    let reply = kept.owe(alloc, asked, partition, name);
+    *session = Session::of(kept);
+    reply
+}
+
 /// Closes a session, and ends what it held. A closed one stays closed.
 #[unsafe(no_mangle)]
 pub extern "C" fn blobcrash_close(alloc: Global, session: &mut Session)
     ensures { kept_of session.new ≡ None }
 {
     session.close(alloc)
+}
+
+/// Parses the header of a blob, without a session. `raw` is a prefix of the blob, of at least `min(raw_len, 4096)` bytes, and
+/// `raw_len` its whole length in bytes.
+///
+/// `BAD_CALL` if a layout is unknown, `raw` has too few bytes or more than the blob, or the blob is shorter than any header. Any
+/// other status but `DONE` is the first test that the header fails.
+#[unsafe(no_mangle)]
+pub extern "C" fn blobcrash_parse_header(
+    raw: &[u8],
+    raw_len: u64,
+    accepts: &Accepts,
+) -> ParsedHeader
+    ensures parsed { IsFrontOfBlob raw.now raw_len → IfSome (accepted_by accepts.now) (λ accepted. result ≡ header_reply (parsed raw.now raw_len accepted)) }
+    ensures unknown { accepted_by accepts.now ≡ None → result ≡ no_header BAD_CALL }
+    ensures no_front { (IsFrontOfBlob raw.now raw_len → ⊥) → result ≡ no_header BAD_CALL }
+{
+    headers::parse(raw, raw_len, accepts)
+}
+
+/// Returns whether these raw bytes of a whole blob may be what an interrupted creation in this layout left. No bytes are if there
+/// is no such layout.
+#[unsafe(no_mangle)]
+pub extern "C" fn blobcrash_interrupted_creation(layout: u16, raw: &[u8]) -> bool
+    ensures known { IfSome (layout_numbered layout) (λ layout. IsTrue result ↔ IsFrontOfCreation layout raw.now) }
+    ensures unknown { layout_numbered layout ≡ None → result ≡ false }
+{
+    headers::is_interrupted_creation(layout, raw)
 }

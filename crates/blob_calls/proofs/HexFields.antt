@@ -1,4 +1,4 @@
--- Bytes as a field, by whether there are any.
+-- Bytes as a field, empty or not.
 use Rattle.std.proofs.Common.{◌≡◌, ℕ, List, [], ◌∷◌, length, refl}
 use Rattle.std.specs.Prelude.{codes}
 use Rattle.hex.specs.Hex.{encode_with, encode_lower}

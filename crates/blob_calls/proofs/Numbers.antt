@@ -31,6 +31,6 @@ chosen false P value (Some v) decides is found = let yes : false ≡ true = deci
 chosen true P value None decides is found = let yes : false ≡ true = found.1 (decides.0 refl) in cc
 chosen false P value None decides is found = refl
 
--- what is found of a token by its two clauses
+-- the two clauses of a parsed token determine the result
 pub number_read : (token : List ℕ) (found : Option ℕ) → IfSome found (λ v. v ≡ digits_value 10 token) → (IsSome found ↔ IsNumber token) → found ≡ number_of token
 number_read token found is some = chosen (is_number token) (IsNumber token) (digits_value 10 token) found (is_number_decides token) is some

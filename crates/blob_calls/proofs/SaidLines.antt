@@ -1,4 +1,4 @@
--- What a line says, step by step.
+-- The meaning of a line, step by step.
 use Rattle.std.proofs.Common.{◌≡◌, ◌==◌, ℕ, List, ◌∷◌, Bool, true, false, Option, Some, None, if◌then◌else◌, slice_index, refl, sym, ap, ◌∙◌, cond, option_and_then, IsUtf8}
 use Rattle.std.specs.Str.{is_utf8, byte}
 use Rattle.std.proofs.lemmas.Str.{is_utf8-from_IsUtf8, IsUtf8-from_is_utf8}
@@ -18,7 +18,7 @@ false_of false h = refl
 pub line_no_text : (line : List ℕ) → (IsUtf8 line → ⊥) → line_of line ≡ None
 line_no_text line h = ap (λ b. cond b (said_of (tokens line)) None) (false_of (is_utf8 line) (λ e. h (IsUtf8-from_is_utf8 line e)))
 
--- a text by its tokens
+-- a text line, by its tokens
 pub line_said : (line text : List ℕ) (read : List (List ℕ)) → IsUtf8 line → text ≡ line → read ≡ tokens text → line_of line ≡ said_of read
 line_said line text read utf8 same all =
     ap (λ b. cond b (said_of (tokens line)) None) (is_utf8-from_IsUtf8 line utf8)

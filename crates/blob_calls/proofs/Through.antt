@@ -1,4 +1,4 @@
--- What a reader has left up to a byte that was found in what it showed.
+-- The reader's bytes up to a byte that was found in its buffer.
 use Rattle.std.proofs.Common.{◌≡◌, ◌≢◌, ◌<◌, ◌≤◌, ◌+◌, ◌==◌, ℕ, zero, suc, ◌-◌, List, [], ◌∷◌, ◌++◌, All, Bool, true, false, Option, Some, None, IfSome, length, take, drop, get_or, cond, refl, sym, ap, subst, ◌∙◌, eq-eqb, get_or-take, length-take, arith}
 use Rattle.std.proofs.lemmas.Bool.{ne_eqb}
 use Rattle.std.proofs.lemmas.List.{get_or_default, take-take}
@@ -7,7 +7,7 @@ use Rattle.std.specs.Io.KnownBytes.{Consumes, Keeps}
 use Rattle.std.specs.Io.BufRead.{DropsThrough, DropsConsumable, take_through, drop_through}
 use Rattle.std.specs.Io.{StartsWith, StopsAt}
 
--- the first place of a byte is k
+-- the first position of a byte is k
 abbrev pub FirstAt : ℕ → List ℕ → ℕ → Type 0
 FirstAt byte xs k = (k < length xs) × (get_or xs k 0 ≡ byte) × ((j : ℕ) → j < k → get_or xs j 0 ≢ byte)
 
@@ -35,7 +35,7 @@ drops_front byte (suc k) (x ∷ xs) h =
     ∙ drops_front byte k xs (later byte x k xs h)
     ∙ ap (λ n. drop n (x ∷ xs)) next
 
--- what is shown stands in front of what is left
+-- the buffer is a prefix of the remaining bytes
 in_front : (byte k : ℕ) (xs shown : List ℕ) → StartsWith xs shown → FirstAt byte shown k → FirstAt byte xs k
 in_front byte k xs shown front h = (
   omega (arith, h.0, ap length front, length-take (length shown) xs),
@@ -50,7 +50,7 @@ within : (limit : Option ℕ) (n k : ℕ) → k < n → IfSome limit (λ m. n �
 within None n k h fits = tt
 within (Some m) n k h fits = omega arith
 
--- what was shown was taken up to and with the byte
+-- the bytes up to and including the byte were taken
 pub takes_shown : (old mid new : Option (List ℕ)) (limit : Option ℕ) (shown : List ℕ) (byte k : ℕ) → IfSome old (λ xs. StartsWith xs shown) → Keeps old mid
     → IfSome old (λ _. IfSome limit (λ n. length shown ≤ n)) → DropsConsumable mid new limit (k + 1) → FirstAt byte shown k
     → IfSome old (λ xs. take (k + 1) shown ≡ take_through byte xs) × DropsThrough old new byte
@@ -66,7 +66,7 @@ pub appended : (old : Option (List ℕ)) (before after taken : List ℕ) (byte :
 appended None before after taken byte is h = tt
 appended (Some xs) before after taken byte is h = is ∙ ap (λ l. before ++ l) h
 
--- the byte stands nowhere before the last of those that were taken
+-- only the last of the taken bytes is the byte
 pub stops_at : (byte k : ℕ) (shown : List ℕ) → FirstAt byte shown k → StopsAt (take (k + 1) shown) byte
 stops_at byte k shown h =
     let last : length (take (k + 1) shown) - 1 ≡ k = omega (arith, length-take (k + 1) shown, h.0) in

@@ -1,4 +1,4 @@
--- Tokens from the front on.
+-- Splitting off tokens from the start of a line.
 use Rattle.std.proofs.Common.{◌≡◌, ◌==◌, ℕ, ◌<◌, List, [], ◌∷◌, Bool, not, true, false, length, refl, sym, ap, ◌∙◌, arith, cond}
 use Rattle.std.specs.List.{filter, slice_split, position_or_len, before_first, after_first}
 use Rattle.std.proofs.lemmas.List.Splits.{slice_split_first, slice_split_none}
@@ -21,7 +21,7 @@ pub tokens_split : (s : List ℕ) → position_or_len is_space s < length s
     → tokens s ≡ cond (has_bytes (before_first is_space s)) (before_first is_space s ∷ tokens (after_first is_space s)) (tokens (after_first is_space s))
 tokens_split s h = ap (filter has_bytes) (slice_split_first is_space s 0 h) ∙ filter_cons (before_first is_space s) (slice_split is_space (after_first is_space s))
 
--- with no space at all
+-- without a space
 pub tokens_none : (s : List ℕ) → position_or_len is_space s ≡ length s → tokens s ≡ cond (has_bytes s) (s ∷ []) []
 tokens_none s h = ap (filter has_bytes) (slice_split_none is_space s (All-from_get_or (λ b. is_space b ≡ false) s 0 (λ i l. fails_before_first is_space s i 0 (omega arith)))) ∙ filter_cons s []
 

@@ -4,11 +4,11 @@ use Rattle.std.specs.Option.{option_and_then}
 use Rattle.blob_calls.specs.Forms.{all_tokens, words}
 use Rattle.blob_calls.specs.Tokens.{word_of}
 
--- words that were read, and those to come
+-- words already parsed, then the rest
 abbrev pub behind : List ℕ → Option (List ℕ) → Option (List ℕ)
 behind front rest = option_map (λ ws. front ++ ws) rest
 
--- one that is none
+-- a token that isn't a word
 pub words_stop : (front : List ℕ) (token : List ℕ) (tokens : List (List ℕ)) → word_of token ≡ None → behind front (all_tokens word_of (token ∷ tokens)) ≡ None
 words_stop front token tokens is = ap (λ found. behind front (option_and_then (λ w. option_map (λ ws. w ∷ ws) (all_tokens word_of tokens)) found)) is
 

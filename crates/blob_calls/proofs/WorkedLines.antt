@@ -1,4 +1,4 @@
--- Lines by the definitions alone: what some say, and some that say nothing.
+-- Worked examples: lines with their meaning, and lines without one.
 use Rattle.std.proofs.Common.{◌≡◌, ℕ, List, [], ◌∷◌, false, Some, None, refl}
 use Rattle.std.specs.Prelude.{codes}
 use Rattle.std.specs.Str.{is_utf8, chars}
@@ -27,7 +27,7 @@ open_up_to : says (codes "open p 62 0 3") (Call (act.Open (codes "p") (98 ∷ []
 unfolding is_utf8 chars encode decode_pairs
 open_up_to = refl
 
--- versions in the other order are none
+-- versions in descending order are an empty range
 open_none : says (codes "  loose  - -  5 3 ") (Call (act.OpenLoose (codes "-") [] None))
 unfolding is_utf8 chars encode decode_pairs
 open_none = refl

@@ -1,4 +1,4 @@
--- The calls of a laboratory, in the words of the definitions.
+-- The calls of a laboratory as data of the definitions.
 use Rattle.std.specs.Prelude.{ℕ, List, Bool, ◌||◌, nat_lt, Option, Some, None, if◌then◌else◌, option_map}
 use Rattle.std.specs.Range.{range_inclusive_start, range_inclusive_end, range_inclusive_exhausted}
 use Rattle.std.specs.String.{string_bytes}
@@ -8,34 +8,34 @@ use Rattle.blob_faults.specs.declared.config.Config.{Config}
 use Rattle.blob_calls.specs.declared.call.Call.{Call}
 use Rattle.blob_calls.specs.declared.call.Call.TheVariants as call
 
--- what is asked through a handle
+-- a call through a handle
 pub data Ask : Type 0 where
   Read : ℕ → ℕ → Ask
-  Write : ℕ → List ℕ → Bool → Ask  -- with `true` a SYNC write
+  Write : ℕ → List ℕ → Bool → Ask  -- the last is true for a SYNC write
   Resize : ℕ → Ask
   Size Sync StartSync : Ask
 
--- the first and the last version that an open accepts
+-- the first and the last accepted version
 abbrev pub AcceptedVersions : Type 0
 AcceptedVersions = ℕ × ℕ
 
 pub data Act : Type 0 where
   Configure : Config → Act
-  Open : List ℕ → List ℕ → Option AcceptedVersions → Act  -- partition, name and versions, which are none where the range is empty
+  Open : List ℕ → List ℕ → Option AcceptedVersions → Act  -- partition, name and versions; None for an empty range
   OpenLoose : List ℕ → List ℕ → Option AcceptedVersions → Act
   Admit : List ℕ → List ℕ → Act
   Close : ℕ → Act
-  Through : ℕ → Ask → Act  -- through the handle of a number
+  Through : ℕ → Ask → Act  -- a call through the handle with this number
   Finish : ℕ → Act
   Remove : List ℕ → Option (List ℕ) → Act
   Scan : List ℕ → Act
   Crash Reopen : Act
 
--- a range that is exhausted, or starts behind its end, is empty
+-- a range is empty if it is exhausted or its start is greater than its end
 abbrev pub accepted_versions : Bool → ℕ → ℕ → Option AcceptedVersions
 accepted_versions exhausted first last = if exhausted || nat_lt last first then None else Some (first, last)
 
--- those of a range
+-- the versions of a range
 abbrev pub versions_of : RangeInclusive BlobVersion → Option AcceptedVersions
 versions_of versions = accepted_versions (range_inclusive_exhausted versions) (range_inclusive_start versions).0 (range_inclusive_end versions).0
 

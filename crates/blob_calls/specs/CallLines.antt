@@ -6,11 +6,11 @@ use Rattle.blob_calls.specs.Forms.{Form, ◌>>=◌, gives, no_form, beside, text
 abbrev pub open_form : (List ℕ → List ℕ → Option AcceptedVersions → Act) → Form Act
 open_form act = do partition ← text; name ← hex; accepts ← versions; gives (act partition name accepts)
 
--- with `true` a SYNC write
+-- a SYNC write if the flag is true
 abbrev pub writing : Bool → Form Act
 writing sync = do handle ← digits; offset ← digits; bytes ← hex; gives (Through handle (Write offset bytes sync))
 
--- what follows the word of a call
+-- the tokens after the word of a call
 abbrev pub call : List ℕ → Form Act
 call = beside (
     (codes "open", open_form Open)

@@ -1,4 +1,4 @@
--- What the lines of a script say.
+-- The meaning of a script's lines.
 use Rattle.std.specs.Prelude.{ℕ, List, [], ◌∷◌, ◌==◌, Option, Some, None, if◌then◌else◌, slice_index, string_bytes, codes}
 use Rattle.std.specs.Str.{is_utf8, byte}
 use Rattle.blob_calls.specs.declared.script.line.Line.{Line}
@@ -11,10 +11,10 @@ use Rattle.blob_calls.specs.SettingLines.{setting}
 use Rattle.blob_calls.specs.Tokens.{tokens}
 
 pub data Said : Type 0 where
-  Blank : Said  -- nothing, or a comment
+  Blank : Said  -- an empty line or a comment
   Image : List ℕ → List ℕ → List ℕ → Said  -- partition, name and bytes of a raw image
   Given : List ℕ → Said  -- further words of the generator
-  Seed : ℕ → Said  -- the seed of the words behind them
+  Seed : ℕ → Said  -- the seed of the words after them
   Configure : Setting → Said
   Call : Act → Said
 
@@ -26,7 +26,7 @@ said_by (line.Seed seed) = Seed seed
 said_by (line.Configure setting) = Configure setting
 said_by (line.Call asked) = Call (act_of asked)
 
--- what follows the first word of a line: what stands before all calls or between them, and calls
+-- the tokens after the first word of a line: a preamble line, a configuration or a call
 abbrev pub statement : List ℕ → Form Said
 statement word = beside (
     (codes "image", do partition ← text; name ← hex; bytes ← hex; gives (Image partition name bytes))
@@ -35,11 +35,11 @@ statement word = beside (
     ∷ (codes "config", do set ← setting; gives (Configure set)) ∷ [])
     (do act ← call word; gives (Call act)) word
 
--- a comment begins at its first character
+-- a comment is a line with `#` at the start of its first token
 abbrev pub said_of : List (List ℕ) → Option Said
 said_of [] = Some Blank
 said_of (word ∷ tokens) = if slice_index word 0 == byte "#" then Some Blank else whole (statement word) tokens
 
--- what a line says, without its end; none where it is a bad call
+-- the meaning of a line without its line feed, or None for a bad line
 abbrev pub line_of : List ℕ → Option Said
 line_of line = if is_utf8 line then said_of (tokens line) else None

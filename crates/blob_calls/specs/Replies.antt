@@ -1,4 +1,4 @@
--- What is printed of a reply, without the line's end.
+-- A reply as a line, without its line feed.
 use Rattle.std.specs.Prelude.{ℕ, List, ◌++◌, map, codes, if◌then◌else◌}
 use Rattle.std.specs.List.{flat_map}
 use Rattle.std.specs.Fmt.{decimal}
@@ -10,7 +10,7 @@ use Rattle.blob_faults.specs.Rows.{table_of}
 use Rattle.blob_calls.specs.declared.reply.Reply.{Reply}
 use Rattle.blob_calls.specs.declared.reply.Reply.TheVariants.{Done, Opened, Bytes, Size, Names, Started, Crashed, Failed, NoHandle, EmptyRange}
 
--- bytes in lower-case hex, no bytes as a dash
+-- bytes in lower-case hex, or `-` if there are none
 abbrev pub hex_field : List ℕ → List ℕ
 hex_field bytes = field_of (encode_lower bytes)
 

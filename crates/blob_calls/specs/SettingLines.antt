@@ -1,4 +1,4 @@
--- What follows `config` in a line.
+-- The tokens after `config` in a line.
 use Rattle.std.specs.Prelude.{[], ◌∷◌, ◌&&◌, Some, None, nat_lt, nat_le, if◌then◌else◌, codes}
 use Rattle.blob_model.specs.Rates.{Rate}
 use Rattle.blob_model.specs.declared.mode.PartialWriteMode.{PartialWriteMode}
@@ -11,7 +11,7 @@ use Rattle.blob_calls.specs.Forms.{Form, ◌>>=◌, gives, gives_some, by_word, 
 abbrev pub rate : Form Rate
 rate = do n ← digits; d ← digits; gives_some (if nat_lt 0 d && nat_le n d then Some (record { numerator = n; denominator = d }) else None)
 
--- a sector has a byte at least
+-- a sector has at least one byte
 abbrev pub mode : Form PartialWriteMode
 mode = by_word (
     (codes "prefix", gives Prefix)

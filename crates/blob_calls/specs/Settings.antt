@@ -1,10 +1,10 @@
--- What a setting makes of a configuration.
+-- The configuration after a setting.
 use Rattle.std.specs.Prelude.{Some, None}
 use Rattle.blob_faults.specs.declared.config.Config.{Config}
 use Rattle.blob_calls.specs.declared.script.setting.Setting.{Setting}
 use Rattle.blob_calls.specs.declared.script.setting.Setting.TheVariants.{Open, Read, Write, Sync, Resize, Remove, Scan, Clear}
 
--- no rate at all
+-- no rates
 abbrev pub cleared : Config
 cleared = record { open_rate = None; read_rate = None; write_rate = None; sync_rate = None; resize_rate = None; remove_rate = None; scan_rate = None }
 

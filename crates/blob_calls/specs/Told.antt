@@ -1,4 +1,4 @@
--- Replies in the words of the definitions.
+-- Replies as data of the definitions.
 use Rattle.std.specs.Prelude.{◌≡◌, ℕ, List, Bool, Option, Some, None, map}
 use Rattle.blob_model.specs.Draws.{Row}
 use Rattle.blob_base.specs.Names.{AreNames}
@@ -12,13 +12,13 @@ pub data Told : Type 0 where
   Opened : ℕ → ℕ → ℕ → Told  -- a handle's number, its size and its version
   Bytes : List ℕ → Told
   Size : ℕ → Told
-  Names : (List ℕ → Bool) → Told  -- which names are there
+  Names : (List ℕ → Bool) → Told  -- the existing names
   Started : ℕ → Told
   Crashed : List Row → Told
   Failed : Refusal → Told
   NoHandle EmptyRange : Told
 
--- whether a reply says this; names are listed once each, sorted by their bytes
+-- whether a reply has this meaning; names are listed once each, sorted by bytes
 abbrev pub Tells : Reply → Told → Type 0
 Tells reply.Done Done = Unit {0}
 Tells (reply.Opened handle size version) (Opened number length v) = (handle ≡ number) × (size ≡ length) × (version.0 ≡ v)
@@ -32,7 +32,7 @@ Tells reply.NoHandle NoHandle = Unit {0}
 Tells reply.EmptyRange EmptyRange = Unit {0}
 Tells reply told = ⊥
 
--- what a reply refused, none where the call was done
+-- the error of a reply, or None if the call succeeded
 abbrev pub refused_by : Reply → Option Refusal
 refused_by (reply.Failed e) = Some (refusal_of e)
 refused_by reply = None

@@ -3,71 +3,75 @@ use blob_base::BlobVersion;
 use blob_faults::Config;
 use std::ops::RangeInclusive;
 
-/// One call. Handles and started syncs go by the numbers that `Reply` told.
+/// A call to a laboratory. Handles and started syncs are identified by the numbers in their replies. Offsets and
+/// lengths are logical, in bytes.
 ///
-/// Offsets and lengths are logical, in bytes. A number that has no open handle, or no unfinished sync, is answered `NoHandle`, an
-/// empty range of versions `EmptyRange`; neither changes anything. Other refusals are `Failed`, with the error of the call below.
+/// The reply is `NoHandle` if no open handle or unfinished sync has the number, and `EmptyRange` if a range of versions
+/// is empty. Neither changes anything. Any other error is `Failed`, with the error of the underlying call.
 #[derive(Debug, Drop)]
 pub enum Call {
     /// Replaces the wrapper's whole configuration.
     Configure(Config),
-    /// An exclusive open, by `Opens`, and behind it at once `admit` of the wrapper: nothing from before it is pending.
+    /// Opens a blob exclusively through `Opens`, then admits it in the wrapper, which retires its pending entries.
     Open {
         partition: String,
         name: Vec<u8>,
         versions: RangeInclusive<BlobVersion>,
     },
-    /// An open of the wrapper alone: it may stand beside other handles of the name, and what is pending stays pending.
+    /// Opens a blob in the wrapper only. The name may have other handles, and its pending entries stay.
     OpenLoose {
         partition: String,
         name: Vec<u8>,
         versions: RangeInclusive<BlobVersion>,
     },
-    /// Retires what the name's current incarnation has pending. Never refused.
+    /// Retires the pending entries of the name's current incarnation. Never fails.
     Admit {
         partition: String,
         name: Vec<u8>,
     },
-    /// Closes a handle; its number isn't used again. Its live bytes go.
+    /// Closes a handle and drops its live bytes. Its number isn't reused.
     Close(usize),
-    /// Reads exactly `len` of the handle's live bytes at a logical offset.
+    /// Reads exactly `len` of the handle's live bytes.
     Read {
         handle: usize,
         offset: u64,
         len: usize,
     },
-    /// Writes bytes at a logical offset: to the live bytes, and with `sync` as a SYNC write, which is durable when it is answered.
+    /// Writes to the live bytes. If `sync` is set, it is a SYNC write, which is durable when it returns.
     Write {
         handle: usize,
         offset: u64,
         bytes: Vec<u8>,
         sync: bool,
     },
-    /// Cuts the handle's live bytes to a logical length, or lengthens them with zeros.
+    /// Truncates the handle's live bytes to `len`, or extends them with zeros.
     Resize {
         handle: usize,
         len: u64,
     },
-    /// Asks the size in bytes that the wrapper tracks for a handle.
+    /// Returns the size in bytes that the wrapper tracks for a handle.
     Size(usize),
     /// Makes a handle's live bytes durable.
     Sync(usize),
-    /// Starts a sync, which makes the live bytes durable, and gives it a number, whatever its outcome.
+    /// Starts a sync, which makes the live bytes durable if its outcome is Ok. It gets a number regardless of its
+    /// outcome.
     StartSync(usize),
-    /// Ends a started sync, by its number, and tells its outcome.
+    /// Completes a started sync, by its number. The reply has its outcome.
     Finish(usize),
-    /// Removes a blob, or with no name the partition. None of these names is open any more; handles stay in the table, stale.
+    /// Removes a blob, or without a name a whole partition. The removed names aren't open any more; their handles stay
+    /// in the table, stale.
     Remove {
         partition: String,
         name: Option<Vec<u8>>,
     },
-    /// Asks the names of a partition, sorted by their bytes.
+    /// Lists the names of a partition, sorted by bytes.
     Scan {
         partition: String,
     },
-    /// Replays what is pending by drawn choices over the durable bytes, as the wrapper's `crash`. Handles keep their live bytes.
+    /// Replays the pending entries over the durable bytes, with drawn choices, as the wrapper's `crash` does. Handles
+    /// keep their live bytes.
     Crash,
-    /// Takes the wrapper apart and builds it again over the durable bytes, as a restart does. What is pending and all started syncs
-    /// are dropped, and every handle is stale.
+    /// Rebuilds the wrapper over the durable bytes, as a restart does. Drops all pending entries and started syncs.
+    /// Every handle becomes stale.
     Reopen,
 }

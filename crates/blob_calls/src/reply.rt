@@ -1,11 +1,11 @@
-//! What a laboratory answers.
+//! The replies of a laboratory.
 use blob_base::{BlobVersion, Error};
 use blob_faults::Selections;
 
-/// The answer to one call.
+/// The reply to one call.
 #[derive(Debug, Drop)]
 pub enum Reply {
-    /// The call is done, and has nothing to tell.
+    /// The call succeeded. There is no result.
     Done,
     /// An open: the handle's number, the blob's size in bytes and its version.
     Opened {
@@ -13,17 +13,17 @@ pub enum Reply {
         size: u64,
         version: BlobVersion,
     },
-    /// The bytes that a read got.
+    /// The bytes of a read.
     Bytes(Vec<u8>),
     /// A handle's tracked size in bytes.
     Size(u64),
-    /// The names of a partition, sorted by their bytes.
+    /// The names of a partition, sorted by bytes.
     Names(Vec<Vec<u8>>),
-    /// A started sync's number. Its outcome is told when it is finished.
+    /// The number of a started sync. Its outcome follows when it is finished.
     Started(usize),
-    /// What a crash chose: for each write that it drew for, which bytes it kept.
+    /// What a crash drew: for each write that needed a draw, which bytes it kept.
     Crashed(Selections),
-    /// The call was refused, with what its own docs say of the error.
+    /// The call failed. Its own docs say what each error leaves.
     Failed(Error),
     /// No open handle or unfinished sync has this number. Nothing changed.
     NoHandle,

@@ -1,4 +1,4 @@
-//! Scripts: lines that are read as calls, and replies that are printed as lines.
+//! Scripts: parsing lines as calls, and printing replies as lines.
 
 pub mod call_line;
 mod hex_text;

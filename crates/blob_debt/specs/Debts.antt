@@ -1,4 +1,4 @@
--- What a registry of durability debt keeps, and the histories that it stands for.
+-- The entries of a registry of durability debt, and the histories that it represents.
 use Rattle.std.specs.Prelude.{◌≡◌, ℕ, List, [], ◌∷◌, Bool, false, if◌then◌else◌, is_some, ◌||◌, Option, Some, None, Result, Ok, Err, option_map, ◌⊎◌}
 use Rattle.std.specs.Prelude.{Vec, String}
 use Rattle.std.specs.Global.{Global}
@@ -43,7 +43,7 @@ operation_of (change.Settle token dirty failed) = Settle token dirty (option_map
 operation_of (change.Clear g outcome) = Clear g (refused outcome)
 operation_of (change.Close g) = Close g
 
--- an entry became what the name's events say after a change; none where that leaves nothing to tell
+-- an entry after a change, by the name's events: none if nothing is left to report
 abbrev pub FollowsChange : Entry → Change → Option Entry → Type 0
 FollowsChange before change after = (es : List Event) → standing_of (Some before) ≡ standing es
     → standing_of after ≡ standing (with_operation (operation_of change) es)
@@ -80,17 +80,17 @@ pub record IsUnchanged (r s : Pending) : Type 0 where
   pub generations : s.next_generation ≡ r.next_generation
   pub tokens : s.next_token ≡ r.next_token
 
--- a result is this answer, or the refusal for want of memory
+-- a result is this one, or Memory
 abbrev pub AnswersOrMemory : {T : Type 0} → Result T Error → Result T Refusal → Type 0
 AnswersOrMemory (Ok x) answer = Ok x ≡ answer
 AnswersOrMemory (Err e) answer = (refusal_of e ≡ Memory) ⊎ (Err (refusal_of e) ≡ answer)
 
--- what an entry tells its open
+-- what an entry reports to its open
 abbrev pub told : List ℕ → List ℕ → Result Entry Error → Result (AdmittedOpen × Option ℕ × Bool) Error
 told p n (Ok e) = Ok (record { partition = p; name = n; number = e.generation }, e.settling, is_some e.settling || e.is_dirty)
 told p n (Err e) = Err e
 
--- an open is answered by whatever history the registry represents, or refused for want of memory
+-- an open returns what follows from any history that the registry represents, or Memory
 abbrev pub AnswersOpen : Pending → List ℕ → List ℕ → Bool → Result (AdmittedOpen × Option ℕ × Bool) Error → Type 0
 AnswersOpen r p n existing result = (h : History) → Represents r h → AnswersOrMemory result (admission h p n (found_by h p n existing))
 

@@ -6,7 +6,7 @@ use Rattle.blob_names.specs.Names.{with_name, with_all_names}
 
 -- what is done to a name. A generation or a token is a number
 pub data Operation : Type 0 where
-  -- an accepted open: whether the blob was there, and the generation that was given
+  -- an accepted open: whether the blob existed, and its generation
   Admit : Bool → ℕ → Operation
   -- a release by a generation that was given a token
   Release : ℕ → ℕ → Operation
@@ -52,7 +52,7 @@ debt (Settled dirty failed ∷ es) = dirty || debt es
 debt (Cleared ∷ es) = false
 debt (e ∷ es) = debt es
 
--- the last failure, standing_of for good
+-- the last failure, which is permanent
 abbrev pub failure : List Event → Option Refusal
 failure [] = None
 failure (Settled dirty (Some e) ∷ es) = Some e
@@ -67,7 +67,7 @@ is_live (Admitted g ∷ es) = true
 is_live (Closed ∷ es) = false
 is_live (e ∷ es) = is_live es
 
--- a closed name of which no later open has to be told anything
+-- a closed name about which later opens need not learn anything
 abbrev pub over : Bool → Option ℕ → Bool → Option Refusal → Bool
 over live settling debt failure = not live && is_none settling && not debt && is_none failure
 
@@ -82,7 +82,7 @@ latest (Closed ∷ es) = if is_over (Closed ∷ es) then None else latest es
 latest (Settled dirty failed ∷ es) = if is_over (Settled dirty failed ∷ es) then None else latest es
 latest (e ∷ es) = latest es
 
--- whether a number is there, and this one
+-- whether there is a number, and it is this one
 abbrev pub is_this_number : Option ℕ → ℕ → Bool
 is_this_number None n = false
 is_this_number (Some m) n = m == n
@@ -100,7 +100,7 @@ with_operation (Clear g outcome) es = if is_this_number (latest es) g then clear
 with_operation (Fail g e) es = if is_this_number (latest es) g then Failed e ∷ es else es
 with_operation (Close g) es = if is_this_number (latest es) g then Closed ∷ es else es
 
--- a name's events since it was last forgotten, by a call of that or by an open that makes the blob anew
+-- a name's events since it was last forgotten, by that call or by an open that creates the blob
 abbrev pub events : History → List ℕ → List ℕ → List Event
 events [] p n = []
 events (To q m operation ∷ h) p n = with_name (events h) q m (with_operation operation (events h q m)) p n
@@ -143,11 +143,11 @@ pub record AdmittedOpen : Type 0 where
   pub name : List ℕ
   pub number : ℕ
 
--- what an open finds: the name's events, or none where the blob is made anew
+-- what an open finds: the name's events, or none if it creates the blob
 abbrev pub found_by : History → List ℕ → List ℕ → Bool → List Event
 found_by h p n existing = if existing then events h p n else []
 
--- what an open is answered: its generation, the token of a predecessor, and whether the name owes
+-- what an open returns: its generation, the token of a predecessor, and whether the name has debt
 abbrev pub admission : History → List ℕ → List ℕ → List Event → Result (AdmittedOpen × Option ℕ × Bool) Refusal
 admission h p n es =
     if is_live es then Err (BlobAlreadyOpen p (encode_lower n))
@@ -155,7 +155,7 @@ admission h p n es =
     (if is_last (generations h) then Err GenerationsExhausted
     else Ok (record { partition = p; name = n; number = generations h }, settling es, is_some (settling es) || debt es))
 
--- what a generation that releases its name is answered
+-- what a generation that releases its name gets
 abbrev pub released : History → AdmittedOpen → Result (Option ℕ) Refusal
 released h o =
     let es = events h o.partition o.name in
@@ -163,6 +163,6 @@ released h o =
     then (if is_last (tokens_given h) then Err GenerationsExhausted else Ok (Some (tokens_given h)))
     else Ok None
 
--- what a generation that asks for the debt is answered
+-- what a generation that asks for the debt gets
 abbrev pub owed : List Event → ℕ → Result Bool Refusal
 owed es g = if is_this_number (latest es) g then unless_failed (failure es) (Ok (debt es)) else Ok false

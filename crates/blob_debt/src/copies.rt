@@ -1,11 +1,11 @@
-// A refusal that is handed out and kept.
+// Copies of errors.
 ghost use Rattle.std.specs.Prelude.{◌≡◌, IfOk, OnErr};
 ghost use Rattle.blob_header.specs.Refusals.{refusal_of, IsMemory};
 
 use blob_header::Error;
 use std::alloc::{AllocError, Global};
 
-/// A copy of an error, with texts of its own. The only refusal is `Memory`.
+/// Returns a copy of an error. The only error of its own is `Memory`.
 pub(crate) fn copied(alloc: Global, error: &Error) -> Result<Error, Error>
     ensures ok { IfOk result (λ copy. refusal_of copy ≡ refusal_of error.now) }
     ensures err { OnErr result (IsMemory result) }

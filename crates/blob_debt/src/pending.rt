@@ -1,8 +1,9 @@
-//! The durability debt that closed handles leave behind them.
+//! The durability debt of closed handles.
 //!
-//! A backend whose handles are closed with work outstanding admits each open here. The open learns whether a predecessor
-//! is still at work, whether mutations are left to flush, and whether a failure was retained. A contract speaks of the
-//! history of accepted calls: whatever history the registry represented, it answers by it and represents it with the call added.
+//! A backend that closes handles with work outstanding admits each open here. The open learns whether a predecessor is still
+//! working, whether mutations must be flushed, and whether a failure was retained. Contracts are about the history of accepted
+//! calls: a call's result follows from any history that the registry represents, and the registry then represents that history
+//! with the call added.
 ghost use Rattle.std.specs.Prelude.{◌≡◌, ◌≢◌, IsErr, is_some, Ok, ◌∷◌, [], OnErr, OnOk, IfOk, not, option_map, option_copied, Some, None, false, ◌⊎◌, ◌<◌, ◌^◌, ◌-◌};
 ghost use Rattle.std.specs.String.{string_bytes};
 ghost use Rattle.blob_header.specs.Refusals.{refusal_of, refused, Memory};
@@ -21,12 +22,12 @@ pub use generation::{Generation, GenerationId, Receiver, Sender};
 use std::alloc::Global;
 use std::collections::BTreeSet;
 
-/// The latest open of each name, and what the closed ones left.
+/// The latest open of each name, and the debt of the closed ones.
 ///
 /// A name has at most one live open. It is live until its generation is closed.
 ///
-/// Generations, their numbers, tokens and keys belong to the registry that gave them; at another one they may stand for
-/// another open's. A key that a call takes beside a number or a token is that of its generation.
+/// Generations, their numbers, tokens and keys belong to the registry that returned them. In another one they may be those of
+/// another open. If a call takes a key with a number or a token, the key must be that of its generation.
 #[derive(Drop)]
 pub struct Pending {
     pub(crate) names: Names<Entry>,
@@ -38,7 +39,7 @@ pub struct Pending {
 }
 
 impl Pending {
-    /// A registry in which nothing happened.
+    /// Returns a registry without history.
     pub fn new(alloc: Global) -> Pending
         ensures { Represents result [] }
     {
@@ -51,7 +52,7 @@ impl Pending {
         }
     }
 
-    /// Returns an empty registry whose first generation and token have these numbers. Those below were never given.
+    /// Returns an empty registry that numbers generations and tokens from these numbers on.
     pub fn starting_at(alloc: Global, next_generation: u64, next_token: u64) -> Pending
         ensures { Represents result (Skip next_generation next_token ∷ []) }
     {
@@ -61,18 +62,22 @@ impl Pending {
         pending
     }
 
-    /// Whether anything is kept of a name: an open that isn't closed or not settled, debt, or a failure.
+    /// Returns whether the registry has an entry for a name: an open that isn't closed or not settled, debt, or a failure.
     pub fn keeps(&self, partition: &str, name: &[u8]) -> bool
         ensures { (h : History) → Represents self.now h → result ≡ is_some (latest (events h partition.now name.now)) }
     {
         self.names.get(partition, name).is_some()
     }
 
-    /// Admits an open. `existing` tells whether the blob was there; where it wasn't, the name is forgotten first.
+    /// Admits an open. `existing` is whether the blob existed. If it didn't, the name is forgotten first.
     ///
-    /// Answers the open's generation, the token of a predecessor that is still settling, and whether the name owes: that
-    /// token, or debt. A name whose open isn't closed answers `BlobAlreadyOpen`, and a failure that was retained answers
-    /// itself. `GenerationsExhausted` where no number is left, `Memory` where none was found. After each of these all is as before.
+    /// Returns the open's generation, the token of a predecessor that is still settling, and whether there is such a token or debt.
+    ///
+    /// Errors, with nothing changed:
+    /// - `BlobAlreadyOpen` if the name has an open that isn't closed.
+    /// - The retained failure, if there is one.
+    /// - `GenerationsExhausted` if no number is left.
+    /// - `Memory`.
     pub fn admit(
         &mut self,
         partition: &str,
@@ -97,7 +102,7 @@ impl Pending {
         Ok((Generation { key, number }, receiver, owes))
     }
 
-    /// The entry that an open leaves, or why it is refused.
+    /// Returns the entry for an accepted open, or the error of a rejected one.
     fn admitted(&self, partition: &str, name: &[u8], existing: bool) -> Result<Entry, Error>
         ensures answer { AnswersOpen self.now partition.now name.now existing (told partition.now name.now result) }
         ensures entry { IfOk result (λ entry. IsOpenedEntry self.now partition.now name.now existing entry) }
@@ -117,7 +122,7 @@ impl Pending {
         Ok(entry)
     }
 
-    /// Refuses a name whose open isn't closed, or whose failure was retained.
+    /// Rejects a name with an open that isn't closed, or with a retained failure.
     fn check_closed(&self, partition: &str, name: &[u8], entry: &Entry) -> Result<(), Error>
         ensures ok { OnOk result ((entry.now.is_live ≡ false) × (entry.now.failure ≡ None)) }
         ensures err { OnErr result ((refused result ≡ Some Memory) ⊎ (refused result ≡ entry_denial entry.now partition.now name.now)) }
@@ -133,10 +138,10 @@ impl Pending {
         Ok(())
     }
 
-    /// Releases a name for its next open, and answers what settles this one once its work is done.
+    /// Releases a name for its next open. Returns the sender that settles this open when its work is done, or `None` if the
+    /// generation isn't the name's latest or a predecessor is still settling.
     ///
-    /// None where the generation isn't the name's latest, or where a predecessor is still settling.
-    /// `GenerationsExhausted` where no number is left for a token, `Memory` where none was found. After these all is as before.
+    /// `GenerationsExhausted` if no number is left for a token, or `Memory`. Both change nothing.
     pub fn release(&mut self, generation: &Generation) -> Result<Option<Sender>, Error>
         ensures answer { (h : History) → Represents self.old h → AnswersOrMemory result (released h generation.now) }
         ensures stands { (h : History) → Represents self.old h → Represents self.new (after_release h generation.now result) }
@@ -169,10 +174,10 @@ impl Pending {
         Ok(Some(Sender { token }))
     }
 
-    /// Whether the name owes what its predecessors left, asked by an open once its predecessor has settled.
+    /// Returns whether the name has debt. An open calls this after its predecessor has settled. `Ok(false)` if `id` isn't the
+    /// name's latest generation.
     ///
-    /// Answers the failure that was retained, or whether debt is there, and `Ok(false)` where `id` isn't the name's latest
-    /// generation. `Memory` where none was found for the failure's texts.
+    /// Returns the retained failure as an error, if there is one, or `Memory` if its texts can't be allocated.
     pub fn debt(&self, key: &(String, Vec<u8>), id: GenerationId) -> Result<bool, Error>
         ensures answer { (h : History) → Represents self.now h → AnswersOrMemory result (owed (events h (string_bytes key.now.0) key.now.1.items) id) }
         ensures memory { (h : History) → Represents self.now h → refused result ≡ Some Memory → IsErr (owed (events h (string_bytes key.now.0) key.now.1.items) id) }
@@ -189,19 +194,19 @@ impl Pending {
         Ok(entry.is_dirty)
     }
 
-    /// Whether a token was settled, under whichever name, also once the name was forgotten. Takes no memory.
+    /// Returns whether a token was settled, under any name, even a forgotten one. Allocates nothing.
     pub fn is_settled(&self, receiver: &Receiver) -> bool
         ensures { (h : History) → Represents self.now h → result ≡ not (is_outstanding h receiver.now) }
     {
         !self.outstanding.contains(&receiver.token)
     }
 
-    /// Settles a token once all work of its open is done. Takes no memory.
+    /// Settles a token. Call this when all work of its open is done. Allocates nothing.
     ///
-    /// Where the token is the one that the name has settling, debt is added if `dirty`, and a given failure is retained.
+    /// If the name is settling this token, adds debt if `dirty`, and retains the failure, if there is one.
     ///
-    /// The key has to be that of the generation that was released for the token. Under another key the token counts as settled
-    /// and is gone, while its own name goes on settling: no later open of that name is released until the name is forgotten.
+    /// `key` must be that of the generation that was released for the token. With another key the token is settled, but its own
+    /// name isn't: no later open of that name is released until the name is forgotten.
     pub fn settle(
         &mut self,
         key: &(String, Vec<u8>),
@@ -224,8 +229,8 @@ impl Pending {
         );
     }
 
-    /// Records the outcome of establishing what `debt` told: success ends the debt, a failure is retained.
-    /// Ignored unless the generation is the name's latest. Success never ends a failure. Takes no memory.
+    /// Records the outcome of flushing the debt: success ends the debt, a failure is retained. Success doesn't end a retained
+    /// failure. Ignored unless the generation is the name's latest. Allocates nothing.
     pub fn clear(&mut self, key: &(String, Vec<u8>), id: GenerationId, outcome: Result<(), Error>)
         ensures { (h : History) → Represents self.old h → Represents self.new (to_key key.now (Clear id (refused outcome)) ∷ h) }
     {
@@ -240,7 +245,7 @@ impl Pending {
         );
     }
 
-    /// Retains a failure, unless the generation isn't the name's latest. Takes no memory.
+    /// Retains a failure. Ignored unless the generation is the name's latest. Allocates nothing.
     pub fn fail(&mut self, generation: &Generation, error: Error)
         ensures { (h : History) → Represents self.old h → Represents self.new (by_open generation.now (Fail generation.now.number (refusal_of error)) ∷ h) }
     {
@@ -251,7 +256,7 @@ impl Pending {
         change(&mut self.names, &generation.key, failed);
     }
 
-    /// Closes an open. A later open of the name is told what was left. Takes no memory.
+    /// Closes an open. Its debt stays for later opens of the name. Allocates nothing.
     pub fn close(&mut self, generation: Generation)
         ensures { (h : History) → Represents self.old h → Represents self.new (by_open generation (Close generation.number) ∷ h) }
     {
@@ -259,8 +264,8 @@ impl Pending {
         change(&mut self.names, &key, Change::Close { generation: number });
     }
 
-    /// Forgets a name that is removed, or all names of a partition: nothing is owed any more, no failure is retained,
-    /// and tokens and generations from before no longer count. Takes no memory.
+    /// Forgets a removed name, or all names of a partition, with their debt and failures. Earlier tokens and generations are then
+    /// ignored. Allocates nothing.
     pub fn forget(&mut self, partition: &str, name: Option<&[u8]>)
         ensures { (h : History) → Represents self.old h → Represents self.new (Forget partition.now (option_copied name.entry) ∷ h) }
     {
@@ -271,12 +276,12 @@ impl Pending {
     }
 }
 
-/// Makes a change to a name's entry, and drops the entry where that ends it. Without an entry nothing counts.
+/// Applies a change to a name's entry and drops the entry if that ends it. Does nothing without an entry.
 fn change(names: &mut Names<Entry>, key: &(String, Vec<u8>), change: Change)
     ensures { (h : History) → HoldsNames names.old h → HoldsNames names.new (to_key key.now (operation_of change) ∷ h) }
 {
     let (partition, name) = (key.0.as_str(), key.1.as_slice());
-    // Stands in the map while the name's own entry is changed.
+    // A placeholder in the map while the name's own entry is changed.
     let mut entry = Entry::opened(0);
     if !names.exchange(partition, name, &mut entry) {
         return;

@@ -1,4 +1,4 @@
--- What a wrapper's calls may answer, from what their draws come to and what the inner store's calls may answer.
+-- What a wrapper's calls may return, given the draws and what the inner store's calls may return.
 use Rattle.std.specs.Prelude.{◌≡◌, ◌≢◌, ◌⊎◌, ℕ, ◌+◌, ◌-◌, ◌^◌, Bool, true, false, List, [], ◌∷◌, length, Option, Some, None, is_some, IsSome, MatchBool, ◌==◌}
 use Rattle.rand_core.specs.Stream.{Stream}
 use Rattle.blob_model.specs.Live.{is_idle}
@@ -9,11 +9,11 @@ use Rattle.blob_faults.specs.Changes.{lacks_number}
 use Rattle.blob_faults.specs.Fates.{has_uncounted_end}
 use Rattle.blob_faults.specs.Faults.{WriteFate, Done, Unsynced, Failed, ResizeFate, Resizes, Stays, Reaches, drawn_fate, retention}
 
--- which answers a call may have: a refusal, or none for Ok
+-- the results that a call may return: a refusal, or none for Ok
 abbrev pub Allowed : Type 1
 Allowed = Option Refusal → Type 0
 
--- injected where the draw is true, else what the inner store allows
+-- Injected if the draw is true, otherwise what the inner store allows
 abbrev pub injected_or : Bool → Allowed → Allowed
 injected_or true inner answer = answer ≡ Some Injected
 injected_or false inner answer = inner answer
@@ -22,7 +22,7 @@ injected_or false inner answer = inner answer
 abbrev pub injected_for : Allowed → Allowed
 injected_for inner answer = ((answer ≡ Some Injected) × inner None) ⊎ (IsSome answer × inner answer)
 
--- the call takes memory of its own
+-- the call allocates for itself
 abbrev pub or_memory : Allowed → Allowed
 or_memory inner answer = (answer ≡ Some Memory) ⊎ inner answer
 
@@ -39,13 +39,13 @@ abbrev pub last_end : ℕ → List Run → ℕ
 last_end before [] = before
 last_end before (r ∷ rs) = last_end (r.0 + length r.1) rs
 
--- Runs are laid as SYNC writes of the inner blob. What refuses the first is the answer; a later one that is refused is
--- answered WriteFailed, and a store that injects nothing refuses none of these
+-- Runs are SYNC writes of the inner blob. An error of the first is returned as it is, an error of a later one as
+-- WriteFailed. A store that injects nothing rejects no later one
 abbrev pub allows_laid : (ℕ → List ℕ → Bool → Allowed) → Bool → List Run → Allowed
 allows_laid writes direct [] answer = answer ≡ None
 allows_laid writes direct (r ∷ rs) answer = writes r.0 r.1 true answer ⊎ ((answer ≡ Some WriteFailed) × (direct ≡ false) × (rs ≢ []) × writes r.0 r.1 true None)
 
--- before the first of them, room is asked for up to the last one's end
+-- before the first of them, capacity is reserved up to the last one's end
 abbrev pub allows_runs : (ℕ → List ℕ → Bool → Allowed) → (ℕ → Allowed) → Bool → List Run → Allowed
 allows_runs writes reserves direct [] answer = answer ≡ None
 allows_runs writes reserves direct (r ∷ rs) answer = one_then (reserves (last_end 0 (r ∷ rs))) (allows_laid writes direct (r ∷ rs)) answer
@@ -54,7 +54,7 @@ abbrev pub allows_done : (ℕ → List ℕ → Bool → Allowed) → Bool → �
 allows_done writes retained next true offset bytes answer = writes offset bytes true answer
 allows_done writes retained next false offset bytes answer = numbered (lacks_number retained next bytes) (writes offset bytes false) answer
 
--- by a fate that was drawn: no other is
+-- by a drawn outcome: there is no other
 abbrev pub allows_fate : WriteFate → (ℕ → List ℕ → Bool → Allowed) → (ℕ → Allowed) → Bool → Bool → ℕ → Bool → ℕ → List ℕ → Allowed
 allows_fate Done writes reserves direct retained next sync offset bytes answer = allows_done writes retained next sync offset bytes answer
 allows_fate Unsynced writes reserves direct retained next sync offset bytes answer = numbered (lacks_number retained next bytes) (injected_for (writes offset bytes false)) answer

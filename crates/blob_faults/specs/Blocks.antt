@@ -12,7 +12,7 @@ is_within b (Cut n) = true
 is_within b (Again o x) = true
 is_within b (Marker k) = true
 
--- the entries of each part, of so many each, that has bounds lie within them
+-- the entries of each part that has bounds lie within them; a part has `size` entries
 abbrev pub AreBoundedBy : ℕ → List Bounds → List Pending → Type 0
 AreBoundedBy size bs q = (k : ℕ) (b : Bounds) (e : Pending) → k / size < length bs → (k < length q) × (is_within (get_or bs (k / size) b) (get_or q k e) ≡ true)
 
@@ -28,6 +28,6 @@ is_apart start end b = nat_le b.end start || nat_le end b.start
 abbrev pub LiesApart : List Bounds → ℕ → ℕ → ℕ → Type 0
 LiesApart bs index start end = (b : Bounds) → (index < length bs) × (is_apart start end (get_or bs index b) ≡ true)
 
--- the entry at k is in a group or a block whose bounds say that it lies elsewhere
+-- the entry at k is in a group or a block with bounds that don't overlap the range
 abbrev pub IsPassed : BlockBounds → ℕ → ℕ → ℕ → Type 0
 IsPassed bs k start end = LiesApart bs.groups.items (k / 4096) start end ⊎ LiesApart bs.blocks.items (k / 64) start end

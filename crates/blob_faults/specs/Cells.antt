@@ -4,7 +4,7 @@ use Rattle.blob_model.specs.Rates.{Rate}
 use Rattle.blob_model.specs.declared.mode.PartialWriteMode.{PartialWriteMode}
 use Rattle.blob_model.specs.declared.mode.PartialWriteMode.TheVariants.{Prefix, Subset}
 
--- so many hundredths
+-- this number of hundredths
 abbrev pub rate_in_cell : ℕ → Rate
 rate_in_cell part = record { numerator = part; denominator = 100 }
 

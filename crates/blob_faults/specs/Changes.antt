@@ -1,5 +1,5 @@
--- What a write or a resize adds to the log and makes of its handle, over a store that injects nothing. Another one may refuse
--- a call with some of it done, and its `Injected` is told apart from the wrapper's by nothing.
+-- What a write or a resize adds to the log and how it changes its handle, over a store that injects nothing. Any other store may
+-- fail a call in part, and its `Injected` can't be distinguished from the wrapper's.
 use Rattle.std.specs.Prelude.{ℕ, ◌+◌, ◌-◌, ◌^◌, ◌==◌, max, Bool, true, false, ◌&&◌, List, [], ◌∷◌, length, take, fold, Option, Some, None, if◌then◌else◌}
 use Rattle.blob_model.specs.Bytes.{resized}
 use Rattle.blob_model.specs.Live.{all_written}
@@ -30,11 +30,11 @@ pub record Changes : Type 0 where
   pub live : List ℕ → List ℕ  -- what becomes of the live bytes
   pub size : ℕ → ℕ  -- what becomes of the tracked size
 
--- runs laid over the live bytes, which raise the size, and these entries
+-- runs written over the live bytes, which raise the size, and these entries
 abbrev pub laying : List Run → (ℕ → List Entry) → Changes
 laying rs entries = record { entries = entries; live = λ live. all_written live rs; size = λ size. size_of_runs size rs }
 
--- where the incarnation is gone they are laid over the live bytes, and that is all
+-- if the incarnation has ended, they are written over the live bytes only
 abbrev pub laying_gone : List Run → Changes
 laying_gone rs = record (laying rs (λ number. [])) { size = λ size. size }
 
@@ -42,8 +42,8 @@ laying_gone rs = record (laying rs (λ number. [])) { size = λ size. size }
 abbrev pub cutting : ℕ → Bool → Changes
 cutting len survives = record { entries = λ number. if survives then Resized len ∷ [] else []; live = λ live. resized live len; size = λ size. len }
 
--- by fate and answer: a write done is kept whole where it is a SYNC write, else loose; one whose sync failed is loose; a failed one keeps its
--- runs. Where the incarnation is gone the live bytes have the SYNC write, or the first run of a failed one
+-- by outcome and result: a SYNC write that doesn't fail is kept whole, a plain one is loose, and so is one whose sync fails; a failed one
+-- keeps its runs. If the incarnation has ended, the live bytes have the SYNC write, or the first run of a failed one
 abbrev pub write_changes : WriteFate → Option (PartialWriteMode × Rate) → Bool → ℕ → List ℕ → Option Refusal → Changes
 write_changes Done retained true offset bytes None = laying ((offset, bytes) ∷ []) (λ number. Kept offset bytes ∷ [])
 write_changes Done retained false offset bytes None = laying ((offset, bytes) ∷ []) (λ number. loose retained number offset bytes)

@@ -29,14 +29,14 @@ drawing_in d = record { number = d.number; offset = d.offset; len = d.len; mode 
 abbrev pub drawings_in : List Draw → List Drawing
 drawings_in ds = map drawing_in ds
 
--- their rows, one read after the other, and what is left of the stream
+-- their rows, drawn in order, and the rest of the stream
 abbrev pub rows_drawn : Stream → List Drawing → List Row × Stream
 rows_drawn s [] = ([], s)
 rows_drawn s (d ∷ ds) =
     let p = positions d.mode d.rate d.offset d.len s in
     with_first (d.number, p.0) (rows_drawn p.1 ds)
 
--- an empty list of choices with room for so many
+-- an empty list of choices with this capacity
 pub record IsBlank (len : ℕ) (chosen : Vec Bool Global) : Type 0 where
   pub none : chosen.items ≡ []
   pub room : len ≤ vec_capacity chosen

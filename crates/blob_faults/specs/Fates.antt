@@ -1,4 +1,4 @@
--- The code's fates as the definitions have them, and what they go by.
+-- The code's drawn outcomes as the definitions have them.
 use Rattle.std.specs.Prelude.{◌≡◌, ◌≢◌, ℕ, ◌+◌, ◌-◌, ◌^◌, Bool, List, [], length, Option, option_map, nat_lt}
 use Rattle.rand_core.specs.Stream.{Stream}
 use Rattle.blob_faults.specs.declared.config.Config.{Config}

@@ -1,4 +1,4 @@
--- What a wrapper's draws make of a call.
+-- What the draws of a wrapper decide about a call.
 use Rattle.std.specs.Prelude.{ℕ, ◌+◌, ◌-◌, ◌^◌, min, max, Bool, false, ◌&&◌, List, [], length, Option, Some, None, option_map, option_and_then, if◌then◌else◌, nat_lt, ◌==◌}
 use Rattle.rand_core.specs.Stream.{Stream, next_u64}
 use Rattle.rand.specs.Uniform.{canon}
@@ -16,15 +16,15 @@ abbrev pub draw : Option Rate → Stream → Bool × Stream
 draw None stream = (false, stream)
 draw (Some rate) stream = sampled rate stream
 
--- how what is retained of a write is chosen, where the retention rate is set and isn't zero
+-- how the retained bytes of a write are selected, if the retention rate is set and isn't zero
 abbrev pub retention : Option WriteConfig → Option (PartialWriteMode × Rate)
 retention config = option_and_then (λ c. if c.retention_rate.numerator == 0 then None else Some (c.mode, c.retention_rate)) config
 
--- What the draws of a write come to.
+-- The drawn outcome of a write.
 
 pub data WriteFate : Type 0 where
-  Idle : WriteFate  -- it does nothing: a SYNC write of no bytes
-  Uncounted : WriteFate  -- its end can't be counted
+  Idle : WriteFate  -- it does nothing: an empty SYNC write
+  Uncounted : WriteFate  -- its end overflows
   Done : WriteFate  -- it is done as the inner store does it
   Unsynced : WriteFate  -- it is a SYNC write and its sync fails
   Failed : List Bool → WriteFate  -- it fails and keeps the chosen bytes
@@ -41,14 +41,14 @@ drawn_fate config sync offset len stream =
     else if sync then (let e = draw config.sync_rate d.1 in (if e.0 then Unsynced else Done, e.1))
     else (Done, d.1)
 
--- of any write, and what is left of the stream
+-- of any write, and the rest of the stream
 abbrev pub write_fate : Config → Bool → ℕ → List ℕ → Stream → WriteFate × Stream
 write_fate config sync offset bytes stream =
     if is_idle sync bytes then (Idle, stream)
     else if nat_lt (2 ^ 64 - 1) (offset + length bytes) then (Uncounted, stream)
     else drawn_fate config sync offset (length bytes) stream
 
--- What the draws of a resize come to.
+-- The drawn outcome of a resize.
 
 pub data ResizeFate : Type 0 where
   Resizes : Bool → ResizeFate  -- it is done, and survives a crash or not

@@ -19,7 +19,7 @@ held_by place i = (place i.origin, left_in i.entries.items)
 abbrev pub held : {O : Type 0} → (O → Place) → List (Incarnation O) → List ListAt
 held place is = map (held_by place) is
 
--- what is pending of an incarnation, nothing where it has no list
+-- the pending list of an incarnation, empty if it has none
 abbrev pub list_of : {O : Type 0} → (O → Place) → List (Incarnation O) → Place → List Pending
 list_of place is = held_at (held place is)
 
@@ -30,7 +30,7 @@ is_list_of o h = same_place h.0 o
 abbrev pub IsCopyFor : List ℕ → List Pending → List ℕ → Type 0
 IsCopyFor copy list bytes = has_barrier list ≡ true → copy ≡ bytes
 
--- a durable range of n bytes is laid in a list; where it is queued, `copy` has its bytes
+-- a list after a durable range of n bytes; `copy` has its bytes if it is queued
 abbrev pub LaysRange : ℕ → ℕ → List ℕ → List Pending → List Pending → Type 0
 LaysRange offset n copy old new = (bytes : List ℕ) → length bytes ≡ n → IsCopyFor copy old bytes → new ≡ laid offset bytes old
 
@@ -56,11 +56,11 @@ pub record Becomes {O : Type 0} (old new : Incarnation O) (q : List Pending) : T
   pub noted : new.was_current ≡ old.was_current
   pub entries : left_in new.entries.items ≡ q
 
--- a durable range of n bytes is laid in it; where it is queued, `copy` has its bytes
+-- the same of an incarnation's list
 abbrev pub LaysInto : {O : Type 0} → ℕ → ℕ → List ℕ → Incarnation O → Incarnation O → Type 0
 LaysInto offset n copy old new = (bytes : List ℕ) → length bytes ≡ n → IsCopyFor copy (left_in old.entries.items) bytes → Becomes old new (laid offset bytes (left_in old.entries.items))
 
--- the list at i is there, and can take this
+-- there is a list at i, and it has this capacity
 pub record HasRoomIn {O : Type 0} (is : List (Incarnation O)) (i : ℕ) (what : Room) : Type 0 where
   pub inside : i < length is
   pub room : (d : Incarnation O) → HasRoom what (get_or is i d)
@@ -78,11 +78,11 @@ SameLists place old new = (o : Place) → list_of place new o ≡ list_of place 
 abbrev pub ChangesAt : {O : Type 0} → (O → Place) → List (Incarnation O) → List (Incarnation O) → ℕ → (List Pending → List Pending) → Type 0
 ChangesAt place old new i change = (o : Place) → IsAt (held place old) i o → (a : Place) → list_of place new a ≡ with_at (list_of place old) o (change (list_of place old o)) a
 
--- the list at i, by whichever incarnation it is of, is handed these bytes where it queues a durable range of them
+-- the list at i, of any incarnation, gets these bytes if it queues a durable range of them
 abbrev pub IsCopyAt : {O : Type 0} → (O → Place) → List (Incarnation O) → ℕ → List ℕ → List ℕ → Type 0
 IsCopyAt place is i bytes copy = (o : Place) → IsAt (held place is) i o → IsCopyFor copy (list_of place is o) bytes
 
--- a durable range is laid in the list at i; where it is queued there, `copy` has its bytes
+-- the lists after a durable range in the list at i; `copy` has its bytes if it is queued there
 abbrev pub LaysAt : {O : Type 0} → (O → Place) → List (Incarnation O) → List (Incarnation O) → ℕ → ℕ → ℕ → List ℕ → Type 0
 LaysAt place old new i offset len copy = (o : Place) → IsAt (held place old) i o → (bytes : List ℕ) → length bytes ≡ len → IsCopyFor copy (list_of place old o) bytes
     → (a : Place) → list_of place new a ≡ with_at (list_of place old) o (laid offset bytes (list_of place old o)) a

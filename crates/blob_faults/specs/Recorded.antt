@@ -1,4 +1,4 @@
--- What a call records in the log, and what it makes of the handle, over a store that injects nothing: the table of `Changes`, part by part.
+-- What a call records in the log, and how it changes the handle, over a store that injects nothing: the table of `Changes`, part by part.
 use Rattle.std.specs.Prelude.{ℕ, Bool, List, [], ◌∷◌, Option}
 use Rattle.rand_core.specs.Stream.{Stream}
 use Rattle.blob_model.specs.Log.{Entry, Kept}

@@ -1,21 +1,21 @@
--- What a crash replays of a pending list, and the room that it takes.
+-- What a crash replays of a pending list, and the capacity that this needs.
 use Rattle.std.specs.Prelude.{ℕ, max, List, [], ◌∷◌, length, if◌then◌else◌}
 use Rattle.blob_model.specs.Order.{ListAt}
 use Rattle.blob_model.specs.Pending.{Pending, Waiting, Cut, Again, Marker, has_marker}
 
--- the entries behind the last marker
+-- the entries after the last marker
 abbrev pub unmarked : List Pending → List Pending
 unmarked [] = []
 unmarked (e ∷ q) = if has_marker (e ∷ q) then unmarked q else e ∷ q
 
--- how many bytes an entry lays
+-- how many bytes an entry applies
 abbrev pub width : Pending → ℕ
 width (Waiting m) = length m.write.bytes
 width (Cut n) = 0
 width (Again o b) = length b
 width (Marker k) = 0
 
--- the most that one entry lays
+-- the most bytes that one entry applies
 abbrev pub widest : List Pending → ℕ
 widest [] = 0
 widest (e ∷ q) = max (width e) (widest q)

@@ -1,4 +1,4 @@
--- Room in a pending list for durable ranges that are still to be laid.
+-- Capacity in a pending list for later durable ranges.
 use Rattle.std.specs.Prelude.{ℕ, ◌+◌, ◌<◌, ◌≤◌, ◌^◌, [], ◌∷◌, Bool, ◌&&◌, All, count_by, length, nat_lt, vec_len, vec_capacity}
 use Rattle.std.specs.declared.vec.Vec.{Vec}
 use Rattle.std.specs.declared.alloc.Global.{Global}
@@ -7,7 +7,7 @@ use Rattle.blob_faults.specs.declared.write.PendingWrite.{PendingWrite}
 use Rattle.blob_faults.specs.declared.entry.Entry.{Entry}
 use Rattle.blob_faults.specs.declared.entry.Entry.TheVariants as entry
 
--- at most so many ranges, apart and in rising order between two bounds
+-- at most `count` ranges, separate and sorted, between two bounds
 pub record AreWithin (start end count : ℕ) (hs : Holes) : Type 0 where
   pub few : length hs ≤ count
   pub apart : AreApart start hs end
@@ -31,11 +31,11 @@ pub record HasRoomsFor (hs : Holes) (list : Vec Entry Global) : Type 0 where
   pub entries : vec_len list + length hs ≤ vec_capacity list
   pub holes : All (HasRoomFor hs) list.items
 
--- a durable range of so many bytes can be cut out of what has this room
+-- a durable range of `len` bytes can be cut out of what has this capacity
 pub record CanCut (start len : ℕ) (room : Holes → Type 0) : Type 0 where
   pub fits : start + len < 2 ^ 64
   pub room_for : room ((start, start + len) ∷ [])
 
--- what had room for that range and for others has room for those
+-- what had capacity for that range and for others has capacity for those
 abbrev pub KeepsRest : ℕ → ℕ → (Holes → Type 0) → (Holes → Type 0) → Type 0
 KeepsRest start len before after = (later : Holes) → before ((start, start + len) ∷ later) → after later

@@ -15,7 +15,7 @@ rows_in rows = map row_in rows
 abbrev pub rows_of : Selections → List (ℕ × Vec Bool Global)
 rows_of selections = selections.rows.items
 
--- the table that a crash answers
+-- the table that a crash returns
 abbrev pub table_of : Selections → List Row
 table_of selections = map (λ row. (row.0, row.1.items)) selections.rows.items
 

@@ -17,7 +17,7 @@ AreRuns chosen ss = (offset : ℕ) (bytes : List ℕ) → length bytes ≡ lengt
 abbrev pub ends_by : ℕ → Span → Type 0
 ends_by end s = s.end ≤ end
 
--- a chosen position joins the runs behind it, of which the nearest is the last of the list
+-- a selected position is added before all runs, of which the lowest is last in the list
 abbrev pub JoinsRuns : ℕ → List Span → List Span → Type 0
 JoinsRuns position old new = (offset : ℕ) (bytes : List ℕ) → position < length bytes
     → pieces offset bytes (reverse new) ≡ with_byte (offset + position) (slice_index bytes position) (pieces offset bytes (reverse old))

@@ -1,4 +1,4 @@
--- What the code's entries stand for.
+-- The entries of the model that the code's entries represent.
 use Rattle.std.specs.Prelude.{ℕ, ◌+◌, ◌≤◌, Bool, true, List, filter, length, map}
 use Rattle.blob_model.specs.Log.{Write, has_bare}
 use Rattle.blob_model.specs.Pending as model
@@ -28,7 +28,7 @@ pared_by o n (model.Cut len) = model.Cut len
 pared_by o n (model.Again p b) = model.Again p b
 pared_by o n (model.Marker k) = model.Marker k
 
--- whether something is left of it
+-- whether a crash still draws for it or applies it
 abbrev pub is_left : Pending → Bool
 is_left (model.Waiting m) = has_bare m
 is_left (model.Cut len) = true

@@ -1,5 +1,5 @@
-//! Where the entries of a pending list lie, by blocks and by groups of blocks: a durable range looks into the blocks alone
-//! that it may meet.
+//! The positions of a pending list's entries, by blocks and by groups of blocks. A durable range only visits the blocks that
+//! it may overlap.
 ghost use Rattle.std.specs.Prelude.{◌≡◌, ◌<◌, ◌≤◌, ℕ, true, All};
 ghost use Rattle.blob_faults.specs.Blocks.{AreBoundedBy, LiesApart, is_within};
 ghost use Rattle.blob_faults.specs.Views.{view, views};
@@ -7,13 +7,13 @@ ghost use Rattle.blob_faults.specs.Views.{view, views};
 use crate::entry::Entry;
 use std::alloc::{AllocError, Global};
 
-/// How many entries a block has.
+/// The number of entries in a block.
 const BLOCK: usize = 64;
 
-/// How many entries a group of blocks has.
+/// The number of entries in a group of blocks.
 const GROUP: usize = 64 * BLOCK;
 
-/// The writes of a block or a group lie from `start` up to `end`.
+/// A range from `start` up to `end` that has all writes of a block or a group.
 #[derive(Clone, Copy)]
 pub struct Bounds {
     pub start: u64,
@@ -21,7 +21,7 @@ pub struct Bounds {
 }
 
 impl Bounds {
-    /// Wide enough for an entry too.
+    /// Returns the bounds, widened to contain an entry.
     fn with(self, entry: &Entry) -> Bounds
         ensures start { result.start ≤ self.start }
         ensures end { self.end ≤ result.end }
@@ -36,7 +36,7 @@ impl Bounds {
         }
     }
 
-    /// Those of a block's entries.
+    /// Returns the bounds of a block's entries.
     fn of(entries: &[Entry]) -> Bounds
         ensures { All (λ entry. is_within result (view entry) ≡ true) entries.now }
     {
@@ -51,7 +51,7 @@ impl Bounds {
     }
 }
 
-/// Adds the bounds of whole parts, of so many entries each, that have none yet. A refusal leaves what was added before it.
+/// Adds the missing bounds of whole parts of `size` entries. After an error, those added before it stay.
 fn add_bounds(bounds: &mut Vec<Bounds>, size: usize, entries: &[Entry]) -> Result<(), AllocError>
     requires size { 0 < size }
     requires bounded { AreBoundedBy size bounds.old.items (views entries.now) }
@@ -64,7 +64,7 @@ fn add_bounds(bounds: &mut Vec<Bounds>, size: usize, entries: &[Entry]) -> Resul
     Ok(())
 }
 
-/// Whether the bounds at an index are there and lie elsewhere than from `start` up to `end`.
+/// Returns whether there are bounds at an index and they don't overlap the range from `start` up to `end`.
 fn is_apart(bounds: &[Bounds], index: usize, start: u64, end: u64) -> bool
     ensures { result ≡ true → LiesApart bounds.now index start end }
 {
@@ -74,7 +74,7 @@ fn is_apart(bounds: &[Bounds], index: usize, start: u64, end: u64) -> bool
     }
 }
 
-/// The bounds of a list's whole blocks, and of its whole groups of blocks.
+/// The bounds of a list's whole blocks and of its whole groups of blocks.
 #[derive(Drop)]
 pub struct BlockBounds {
     pub blocks: Vec<Bounds>,
@@ -86,7 +86,7 @@ impl BlockBounds {
     ghost use Rattle.blob_model.specs.Pending.{Pending};
     ghost use Rattle.blob_faults.specs.Blocks.{AreBounded, IsPassed};
 
-    /// Those of no entries.
+    /// Returns the bounds of an empty list.
     pub fn new(alloc: Global) -> BlockBounds
         ensures { (entries : List Pending) → AreBounded result entries }
     {
@@ -96,7 +96,7 @@ impl BlockBounds {
         }
     }
 
-    /// Adds those of blocks and groups that have none yet. A refusal leaves what was added before it.
+    /// Adds the missing bounds of whole blocks and groups. After an error, those added before it stay.
     pub fn add(&mut self, entries: &[Entry]) -> Result<(), AllocError>
         requires { AreBounded self.old (views entries.now) }
         ensures { AreBounded self.new (views entries.now) }
@@ -105,7 +105,7 @@ impl BlockBounds {
         add_bounds(&mut self.groups, GROUP, entries)
     }
 
-    /// All go, since the entries may be others now.
+    /// Drops all bounds. Call this when entries are removed.
     pub fn clear(&mut self)
         ensures { (entries : List Pending) → AreBounded self.new entries }
     {
@@ -113,8 +113,8 @@ impl BlockBounds {
         self.groups.clear();
     }
 
-    /// How many entries from the index `at` on lie elsewhere than from `start` up to `end`, as the bounds of a group or a
-    /// block that begins there tell.
+    /// Returns how many entries from the index `at` on don't overlap the range, by the bounds of a group or a block that begins
+    /// at `at`.
     fn passed(&self, at: usize, start: u64, end: u64) -> usize
         ensures { (k : ℕ) → at ≤ k → k < at + result → IsPassed self.now k start end }
     {
@@ -127,7 +127,7 @@ impl BlockBounds {
         }
     }
 
-    /// The first index from `from` on at which an entry may lie from `start` up to `end`, or `len` where none is.
+    /// Returns the first index from `from` on at which an entry may overlap the range, or `len` if there is none.
     pub fn next_near(&self, from: usize, len: usize, start: u64, end: u64) -> usize
         requires { from ≤ len }
         ensures from { from ≤ result }

@@ -1,4 +1,4 @@
-//! The cells of write configurations are all of them.
+//! A law: the cells contain every pair of rates.
 ghost use Rattle.std.specs.Prelude.{◌≡◌, ◌<◌, ℕ};
 ghost use Rattle.blob_faults.specs.Cells.{first_cell_of, second_cell_of, config_in_cell, first_of, second_of};
 

@@ -3,7 +3,7 @@ ghost use Rattle.std.specs.Prelude.{◌<◌, ◌+◌, ◌^◌};
 use crate::mode::PartialWriteMode;
 use blob_base::Probability;
 
-/// What the draws of a pending write go by.
+/// What determines the draws of a pending write.
 #[derive(Clone, Copy)]
 pub struct Draw {
     pub number: u64,

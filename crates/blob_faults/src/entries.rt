@@ -1,4 +1,4 @@
-//! What is pending of one incarnation, in issue order.
+//! The pending entries of one incarnation, in issue order.
 ghost use Rattle.std.specs.Prelude.{◌≡◌, ◌<◌, ◌≤◌, ◌+◌, ◌*◌, ◌^◌, ℕ, List, ◌++◌, ◌∷◌, [], All, OnOk, map, filter, drop, length, vec_len, vec_capacity, true};
 ghost use Rattle.blob_model.specs.Holes.{Holes};
 ghost use Rattle.blob_model.specs.Pending.{has_barrier, finished, ends};
@@ -14,7 +14,7 @@ use crate::entry::{DurableRange, Entry};
 use blob_base::IoBufs;
 use std::alloc::AllocError;
 
-/// Room in the writes for the holes of so many ranges from `start` up to `end`.
+/// Reserves capacity in the writes for the holes of `count` ranges between `start` and `end`.
 fn reserve_holes(
     entries: &mut [Entry],
     bounds: &BlockBounds,
@@ -35,8 +35,8 @@ fn reserve_holes(
     Ok(())
 }
 
-/// Room for so many more durable ranges, which lie from `start` up to `end`. A write that lies elsewhere needs none, and is
-/// passed over where its bounds say so. A refusal leaves the list as it was.
+/// Reserves capacity for `count` more durable ranges between `start` and `end`. Only writes that overlap that range need some.
+/// Blocks whose bounds don't overlap it are skipped. After an error the list is unchanged.
 pub(crate) fn reserve_ranges(
     entries: &mut Vec<Entry>,
     bounds: &BlockBounds,
@@ -52,7 +52,7 @@ pub(crate) fn reserve_ranges(
     reserve_holes(entries.as_mut_slice(), bounds, start, end, count)
 }
 
-/// Each write gives up what a durable range covers. Of how many it left nothing.
+/// Adds a durable range to the holes of each write that it overlaps. Returns how many writes became fully covered.
 fn cover_each(entries: &mut [Entry], bounds: &BlockBounds, start: u64, len: u64) -> usize
     requires bounded { AreBounded bounds.now (views entries.old) }
     requires room { CanCut start len (λ hs. All (HasRoomFor hs) entries.old) }
@@ -72,7 +72,7 @@ fn cover_each(entries: &mut [Entry], bounds: &BlockBounds, start: u64, len: u64)
     covered
 }
 
-/// Each write of a vector gives up what a durable range covers.
+/// Does `cover_each` for the entries of a vector.
 fn cover_all(entries: &mut Vec<Entry>, bounds: &BlockBounds, start: u64, len: u64) -> usize
     requires bounded { AreBounded bounds.now (views entries.old.items) }
     requires room { CanCut start len (λ hs. All (HasRoomFor hs) entries.old.items) }
@@ -85,7 +85,7 @@ fn cover_all(entries: &mut Vec<Entry>, bounds: &BlockBounds, start: u64, len: u6
     cover_each(entries.as_mut_slice(), bounds, start, len)
 }
 
-/// Those go of which nothing is left.
+/// Drops the fully covered writes.
 fn drop_covered(entries: &mut Vec<Entry>)
     ensures items { entries.new.items ≡ filter (λ entry. is_left (view entry)) entries.old.items }
     ensures capacity { vec_capacity entries.old ≤ vec_capacity entries.new }
@@ -94,8 +94,8 @@ fn drop_covered(entries: &mut Vec<Entry>)
     entries.retain(|entry| entry.is_left());
 }
 
-/// Those go of which nothing is left, with the bounds of all, once they are more than half of the list: so what one of them
-/// costs doesn't grow with the list. There are at most `covered` of them.
+/// Drops the fully covered writes and all bounds, once more than half of the list may be covered, so that the cost of one covered
+/// write doesn't grow with the list. There are at most `covered` of them.
 fn compact(entries: &mut Vec<Entry>, bounds: &mut BlockBounds, covered: &mut usize)
     requires bounded { AreBounded bounds.old (views entries.old.items) }
     requires counted { CountsCovered covered.old (views entries.old.items) }
@@ -115,7 +115,7 @@ fn compact(entries: &mut Vec<Entry>, bounds: &mut BlockBounds, covered: &mut usi
     *covered = 0;
 }
 
-/// Whether a resize or a queued range is pending.
+/// Returns whether a resize or a queued range is pending.
 pub fn has_barrier(entries: &[Entry]) -> bool
     ensures { result ≡ has_barrier (views entries.now) }
 {
@@ -127,7 +127,7 @@ pub fn has_barrier(entries: &[Entry]) -> bool
     false
 }
 
-/// One more entry, where there is room for it.
+/// Appends an entry. The list has capacity for it.
 pub fn push(entries: &mut Vec<Entry>, entry: Entry)
     requires { vec_len entries.old < vec_capacity entries.old }
     ensures views { views entries.new.items ≡ views entries.old.items ++ view entry ∷ [] }
@@ -138,8 +138,8 @@ pub fn push(entries: &mut Vec<Entry>, entry: Entry)
     entries.push(entry).unwrap();
 }
 
-/// A durable range: the writes give up what it covers, and it is queued where a crash would undo it. Only there its bytes
-/// have to be in `copy`.
+/// Updates the list for a durable range: the range joins the holes of the writes, and if `queues` is set, it is queued, since a
+/// crash that replays an earlier resize would undo it. `copy` has the range's bytes if it is queued.
 pub(crate) fn lay(
     entries: &mut Vec<Entry>,
     bounds: &mut BlockBounds,
@@ -176,7 +176,7 @@ pub(crate) fn lay(
     }
 }
 
-/// The first entries go.
+/// Drops the first `count` entries.
 fn drop_front(entries: &mut Vec<Entry>, count: usize)
     requires { count ≤ vec_len entries.old }
     ensures { entries.new.items ≡ drop count entries.old.items }
@@ -184,7 +184,7 @@ fn drop_front(entries: &mut Vec<Entry>, count: usize)
     entries.drain(..count);
 }
 
-/// A started sync is finished: its marker and what stands before it go, where it is there.
+/// Completes a started sync: drops its marker, if it exists, and all entries before it.
 pub fn finish(entries: &mut Vec<Entry>, marker: u64)
     ensures { views entries.new.items ≡ finished marker (views entries.old.items) }
 {
@@ -196,7 +196,7 @@ pub fn finish(entries: &mut Vec<Entry>, marker: u64)
     }
 }
 
-/// The entries behind the last marker.
+/// Returns the entries after the last marker.
 pub fn unmarked(entries: &[Entry]) -> &[Entry]
     ensures { left_in result.now ≡ unmarked (left_in entries.now) }
 {
@@ -210,7 +210,7 @@ pub fn unmarked(entries: &[Entry]) -> &[Entry]
     entries
 }
 
-/// The greatest logical length that an entry asks for.
+/// Returns the greatest end of an entry: the logical length that a replay may need.
 pub fn end(entries: &[Entry]) -> u64
     ensures { result ≡ ends (left_in entries.now) }
 {
@@ -221,7 +221,7 @@ pub fn end(entries: &[Entry]) -> u64
     end
 }
 
-/// The most bytes that one entry lays.
+/// Returns the length of the longest write or range.
 pub fn widest(entries: &[Entry]) -> usize
     ensures { result ≡ widest (left_in entries.now) }
 {

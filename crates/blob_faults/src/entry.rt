@@ -1,11 +1,11 @@
-//! What is kept of a file's mutations for a crash.
+//! One pending mutation of a blob.
 ghost use Rattle.std.specs.Prelude.{◌<◌, ◌+◌, ◌^◌, length};
 
 use crate::write::PendingWrite;
 use blob_base::IoBufs;
 use std::alloc::AllocError;
 
-/// A range that is durable already, to be laid again where a crash replays an earlier resize.
+/// A range that is already durable. A crash that replays an earlier resize must apply it again.
 #[derive(Drop)]
 pub struct DurableRange {
     pub offset: u64,
@@ -17,10 +17,10 @@ pub struct DurableRange {
 #[derive(Drop)]
 pub enum Entry {
     Write(PendingWrite),
-    /// A resize that survives a crash, to so many logical bytes.
+    /// A resize that survives a crash, to this logical length.
     Resize(u64),
     Range(DurableRange),
-    /// A started sync, by its number: what stands before it is durable.
+    /// A started sync, by its number. The entries before it are durable.
     Marker(u64),
 }
 
@@ -32,7 +32,7 @@ impl Entry {
     ghost use Rattle.blob_faults.specs.Rooms.{AreWithin, HasRoomFor, CanCut, KeepsRest};
     ghost use Rattle.blob_faults.specs.Views.{view, pared_by, is_left, left_in};
 
-    /// A write gives up what a durable range covers. Whether that left nothing of it.
+    /// Adds a durable range to the holes of a write. Returns whether the write became fully covered by it.
     pub fn cover(&mut self, start: u64, len: u64) -> bool
         requires { CanCut start len (λ hs. HasRoomFor hs self.old) }
         ensures view { view self.new ≡ pared_by start len (view self.old) }
@@ -47,7 +47,7 @@ impl Entry {
         write.is_covered() != was_covered
     }
 
-    /// Room in a write for the holes of so many ranges from `start` up to `end`. A refusal leaves the entry as it was.
+    /// Reserves capacity in a write for the holes of `count` ranges between `start` and `end`. After an error it is unchanged.
     pub fn reserve(&mut self, start: u64, end: u64, count: usize) -> Result<(), AllocError>
         ensures view { view self.new ≡ view self.old }
         ensures ok { OnOk result ((ranges : Holes) → AreWithin start end count ranges → HasRoomFor ranges self.new) }
@@ -58,7 +58,7 @@ impl Entry {
         }
     }
 
-    /// Whether a crash could still lose or keep something of it.
+    /// Returns whether a crash still draws for it or applies it. False for a fully covered write.
     pub fn is_left(&self) -> bool
         ensures { result ≡ is_left (view self.now) }
     {
@@ -68,7 +68,7 @@ impl Entry {
         }
     }
 
-    /// Whether a later durable range has to be laid again behind it.
+    /// Returns whether a later durable range must be queued after it.
     pub fn is_barrier(&self) -> bool
         ensures { result ≡ is_barrier (view self.now) }
     {
@@ -87,7 +87,7 @@ impl Entry {
         }
     }
 
-    /// Whether it is the marker with this number.
+    /// Returns whether it is the marker with this number.
     pub fn is_mark(&self, marker: u64) -> bool
         ensures { result ≡ is_mark marker (view self.now) }
     {
@@ -97,7 +97,7 @@ impl Entry {
         }
     }
 
-    /// The logical length that it asks for, 0 where nothing is left of it.
+    /// Returns its end, or 0 for a fully covered write and for a marker.
     pub fn end(&self) -> u64
         ensures { result ≡ ends (left_in (self.now ∷ [])) }
     {
@@ -109,7 +109,7 @@ impl Entry {
         }
     }
 
-    /// How many bytes it lays, none where nothing is left of it.
+    /// Returns how many bytes it applies. 0 for a fully covered write, a resize and a marker.
     pub fn width(&self) -> usize
         ensures { result ≡ widest (left_in (self.now ∷ [])) }
     {

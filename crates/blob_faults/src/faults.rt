@@ -1,4 +1,4 @@
-//! What the draws of a call come to, before the inner store is asked.
+//! The draws of a call, made before the inner store is called.
 ghost use Rattle.std.specs.Prelude.{◌≡◌, ◌<◌, ◌+◌, ◌^◌, Some, None, IfOk, OnErr, length, replicate, false, IfSome};
 ghost use Rattle.blob_header.specs.Refusals.{IsMemory};
 ghost use Rattle.blob_faults.specs.Faults.{draw, retention, failed, drawn_fate, partly, resize_fate, size_between};
@@ -13,29 +13,29 @@ use rand::RngExt;
 use rand_core::Rng;
 use std::alloc::Global;
 
-/// What the draws of a write come to.
+/// The drawn outcome of a write.
 #[derive(Drop)]
 pub enum WriteFate {
-    /// It is done as the inner store does it.
+    /// It doesn't fail.
     Done,
-    /// It is a SYNC write and its sync fails.
+    /// It has SYNC, and its sync fails.
     Unsynced,
-    /// It fails and keeps the chosen bytes; none are listed where nothing is retained.
+    /// It fails and keeps the selected bytes. The list is empty if nothing is retained.
     Failed(Vec<bool>),
 }
 
-/// What the draws of a resize come to.
+/// The drawn outcome of a resize.
 #[derive(Clone, Copy)]
 pub enum ResizeFate {
-    /// It is done, and survives a crash or not.
+    /// It doesn't fail. `true` if it survives a crash.
     Resizes(bool),
-    /// It fails, and changes nothing.
+    /// It fails and changes nothing.
     Stays,
-    /// It fails, and reaches this size.
+    /// It fails and reaches this size.
     Reaches(u64),
 }
 
-/// One draw of a rate that may not be set.
+/// Draws a rate once. A rate that isn't set is false, without a draw.
 pub fn draws<R: Rng>(rate: Option<Probability>, rng: &mut R) -> bool
     ensures { (result, R.stream rng.new) ≡ draw rate (R.stream rng.old) }
 {
@@ -45,7 +45,7 @@ pub fn draws<R: Rng>(rate: Option<Probability>, rng: &mut R) -> bool
     }
 }
 
-/// The configuration of writes, where its retention rate isn't zero.
+/// Returns the configuration of writes if its retention rate isn't zero.
 pub fn retained(config: Option<WriteConfig>) -> Option<WriteConfig>
     ensures kept { kept_by result ≡ retention config }
 {
@@ -64,7 +64,7 @@ fn write_rate(config: Option<WriteConfig>) -> Option<Probability>
     }
 }
 
-/// The kept bytes of a write that fails.
+/// Draws the kept bytes of a write that fails.
 fn draw_kept<R: Rng>(
     alloc: Global,
     config: Option<WriteConfig>,
@@ -85,7 +85,7 @@ fn draw_kept<R: Rng>(
     Ok(WriteFate::Failed(kept))
 }
 
-/// The draws of a write. Its error is `Memory` alone; what the generator gave before stays taken.
+/// Draws the outcome of a write. The only error is `Memory`. The words drawn before it stay consumed.
 pub fn draw_write<R: Rng>(
     alloc: Global,
     config: &Config,
@@ -108,7 +108,7 @@ pub fn draw_write<R: Rng>(
     Ok(WriteFate::Done)
 }
 
-/// A size strictly between two others.
+/// Draws a size strictly between two others.
 fn draw_between<R: Rng>(low: u64, high: u64, rng: &mut R) -> u64
     requires { low + 1 < high }
     ensures drawn { (result, R.stream rng.new) ≡ size_between low high (R.stream rng.old) }
@@ -118,7 +118,7 @@ fn draw_between<R: Rng>(low: u64, high: u64, rng: &mut R) -> u64
     rng.random_range(low + 1..high)
 }
 
-/// The draws of a resize that fails.
+/// Draws the outcome of a resize that fails.
 fn draw_partial<R: Rng>(config: ResizeConfig, size: u64, len: u64, rng: &mut R) -> ResizeFate
     ensures { (resize_fate_of result, R.stream rng.new) ≡ partly size len (sampled config.partial_rate (R.stream rng.old)) }
 {
@@ -130,7 +130,7 @@ fn draw_partial<R: Rng>(config: ResizeConfig, size: u64, len: u64, rng: &mut R) 
     ResizeFate::Stays
 }
 
-/// The draws of a resize from the tracked `size`.
+/// Draws the outcome of a resize from the tracked `size`.
 pub fn draw_resize<R: Rng>(
     config: Option<ResizeConfig>,
     size: u64,

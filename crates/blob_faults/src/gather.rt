@@ -1,4 +1,4 @@
-//! For which writes a crash draws.
+//! The writes for which a crash draws.
 ghost use Rattle.std.specs.Prelude.{◌≡◌, ◌++◌, OnOk, IfOk, false};
 ghost use Rattle.std.specs.List.Sorted.{IsPermutation, IsNonDecreasingBy};
 ghost use Rattle.blob_model.specs.Order.{waiting_of_all};
@@ -14,7 +14,7 @@ use crate::entry::Entry;
 use crate::incarnation::Incarnation;
 use std::alloc::{AllocError, Global};
 
-/// Adds what is drawn for of entries among which no marker is.
+/// Adds the writes that need a draw. No entry is a marker.
 fn gather_unmarked(draws: &mut Vec<Draw>, entries: &[Entry]) -> Result<(), AllocError>
     requires { has_marker (left_in entries.now) ≡ false }
     ensures { OnOk result (drawings_in draws.new.items ≡ drawings_in draws.old.items ++ drawings_of (waiting (left_in entries.now))) }
@@ -34,7 +34,7 @@ fn gather_unmarked(draws: &mut Vec<Draw>, entries: &[Entry]) -> Result<(), Alloc
     Ok(())
 }
 
-/// What all lists wait for, list by list.
+/// Returns the writes of all lists that need a draw, list by list.
 fn gather_all<O>(alloc: Global, lists: &[Incarnation<O>]) -> Result<Vec<Draw>, AllocError>
     ensures { IfOk result (λ draws. (place : O → Place) → drawings_in draws.items ≡ drawings_of (waiting_of_all (held place lists.now))) }
 {
@@ -45,7 +45,7 @@ fn gather_all<O>(alloc: Global, lists: &[Incarnation<O>]) -> Result<Vec<Draw>, A
     Ok(draws)
 }
 
-/// What all lists wait for, in the order of the writes' numbers. Refused for memory, nothing has changed.
+/// Returns the writes of all lists that need a draw, sorted by number.
 pub fn gather<O>(alloc: Global, lists: &[Incarnation<O>]) -> Result<Vec<Draw>, AllocError>
     ensures all { IfOk result (λ draws. (place : O → Place) → IsPermutation (drawings_of (waiting_of_all (held place lists.now))) (drawings_in draws.items)) }
     ensures rising { IfOk result (λ draws. IsNonDecreasingBy (λ (d : Draw). d.number) draws.items) }

@@ -1,4 +1,4 @@
-//! The ranges of a pending write that later durable ranges cover.
+//! Holes: the ranges of a pending write that later durable ranges cover.
 ghost use Rattle.std.specs.Prelude.{◌≡◌, ◌<◌, ◌≤◌, ◌+◌, vec_len, vec_capacity};
 ghost use Rattle.blob_model.specs.Holes.{dug};
 ghost use Rattle.blob_faults.specs.Ranges.{ranges};

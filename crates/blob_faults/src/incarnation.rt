@@ -1,4 +1,4 @@
-//! What is pending of one incarnation, and which started syncs have a marker in it.
+//! The pending list of one incarnation, with its markers.
 ghost use Rattle.std.specs.Prelude.{◌≡◌, ◌≤◌, ◌==◌, drop, position, vec_len};
 ghost use Rattle.blob_model.specs.Pending.{has_barrier};
 ghost use Rattle.blob_faults.specs.Blocks.{AreBounded};
@@ -16,18 +16,18 @@ use std::alloc::{AllocError, Global};
 #[derive(Drop)]
 pub struct Incarnation<O> {
     pub origin: O,
-    /// Whether it was its name's current one when this was last noted.
+    /// Whether it was its name's current incarnation when `note` was last called.
     pub was_current: bool,
-    /// What is pending, among writes of which nothing is left and that go later, many at once.
+    /// The pending entries, and fully covered writes, which are dropped in bulk.
     pub entries: Vec<Entry>,
-    /// No fewer than there are such writes.
+    /// An upper bound on the number of fully covered writes.
     pub covered: usize,
-    /// The numbers of the markers among the entries, in their order. A sync that isn't among them is finished with no look
-    /// at the entries.
+    /// The numbers of the markers among the entries, in their order. A sync without a marker is completed without a search of
+    /// the entries.
     pub marks: Vec<u64>,
-    /// Whether a resize or a queued range is among the entries.
+    /// Whether the entries have a resize or a queued range.
     pub queues: bool,
-    /// Where the writes of the first blocks of entries lie.
+    /// The bounds of the first blocks of entries.
     pub bounds: BlockBounds,
     ghost marked: { marks.items ≡ marks_of (views entries.items) },
     ghost queued: { queues ≡ has_barrier (views entries.items) },
@@ -35,14 +35,14 @@ pub struct Incarnation<O> {
     ghost counted: { CountsCovered covered (views entries.items) },
 }
 
-/// Where a marker's number stands among others.
+/// Returns the index of a marker's number.
 fn place_of(marks: &[u64], marker: u64) -> Option<usize>
     ensures { result ≡ position (λ mark. mark == marker) marks.now }
 {
     marks.iter().position(|mark| *mark == marker)
 }
 
-/// The first numbers go.
+/// Drops the first `count` numbers.
 fn drop_front(marks: &mut Vec<u64>, count: usize)
     requires { count ≤ vec_len marks.old }
     ensures { marks.new.items ≡ drop count marks.old.items }
@@ -58,7 +58,7 @@ impl<O> Incarnation<O> {
     ghost use Rattle.blob_faults.specs.Rooms.{HasRoomsFor, CanCut, KeepsRest};
     ghost use Rattle.blob_faults.specs.Views.{view};
 
-    /// Nothing is pending of it yet.
+    /// Returns an empty list.
     pub fn new(alloc: Global, origin: O) -> Incarnation<O>
         ensures origin { result.origin ≡ origin }
         ensures entries { result.entries.items ≡ [] }
@@ -74,7 +74,7 @@ impl<O> Incarnation<O> {
         }
     }
 
-    /// Notes whether it is its name's current one.
+    /// Notes whether it is its name's current incarnation.
     pub fn note(&mut self, is_current: bool)
         ensures origin { self.new.origin ≡ self.old.origin }
         ensures entries { self.new.entries.items ≡ self.old.entries.items }
@@ -83,7 +83,7 @@ impl<O> Incarnation<O> {
         self.was_current = is_current;
     }
 
-    /// Room for this. A refusal leaves the list as it was.
+    /// Reserves capacity. After an error the list is unchanged.
     pub fn reserve(&mut self, room: Room) -> Result<(), AllocError>
         ensures same { Becomes self.old self.new (left_in self.old.entries.items) }
         ensures ok { OnOk result (HasRoom room self.new) }
@@ -101,7 +101,7 @@ impl<O> Incarnation<O> {
         }
     }
 
-    /// One more entry that is no marker, where there is room for it. One of which nothing is left isn't taken.
+    /// Appends an entry that isn't a marker. The list has capacity for it. A fully covered write is dropped instead.
     pub fn push(&mut self, entry: Entry)
         requires room { HasRoom Room.Entry self.old }
         requires unmarked { is_marker (view entry) ≡ false }
@@ -114,7 +114,7 @@ impl<O> Incarnation<O> {
         entries::push(&mut self.entries, entry);
     }
 
-    /// A marker, where there is room for it.
+    /// Appends a marker. The list has capacity for it.
     pub fn mark(&mut self, number: u64)
         requires { HasRoom Room.Mark self.old }
         ensures { Becomes self.old self.new (left_in self.old.entries.items ++ Marker number ∷ []) }
@@ -123,7 +123,7 @@ impl<O> Incarnation<O> {
         entries::push(&mut self.entries, Entry::Marker(number));
     }
 
-    /// A durable range, where there is room for it. Only where it is queued its bytes have to be in `copy`.
+    /// Updates the list for a durable range. The list has capacity for it. `copy` has the range's bytes if it is queued.
     pub fn lay(&mut self, offset: u64, len: u64, copy: IoBufs)
         requires room { CanCut offset len (λ hs. HasRoomsFor hs self.old.entries) }
         requires copied { length copy ≤ len }
@@ -143,7 +143,7 @@ impl<O> Incarnation<O> {
         );
     }
 
-    /// A started sync is finished: its marker and what stands before it go, where it is there.
+    /// Completes a started sync: drops its marker, if it exists, and all entries before it.
     pub fn finish(&mut self, marker: u64)
         ensures { Becomes self.old self.new (finished marker (left_in self.old.entries.items)) }
     {

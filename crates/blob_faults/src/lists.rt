@@ -1,4 +1,4 @@
-//! The pending lists, one for each incarnation that has one.
+//! The pending lists of all incarnations.
 ghost use Rattle.std.specs.Prelude.{◌≡◌, ◌<◌, ◌≤◌, ◌+◌, ◌^◌, ℕ, List, [], ◌∷◌, ◌++◌, length, filter, map, not, ◌||◌, false, OnOk, IfOk, IfSome, IfNone, cond, vec_len, true, OnErr};
 ghost use Rattle.blob_model.specs.Places.{Place, same_place};
 ghost use Rattle.blob_model.specs.Directory.{Directory, is_current};
@@ -17,20 +17,20 @@ use crate::room::Room;
 use blob_base::{Blob, Durable, Error, IoBufs};
 use std::alloc::{AllocError, Global};
 
-/// Pending lists, no two of one origin. It is a type of its own for this fact alone, which the check keeps through each call.
+/// Pending lists with distinct origins. A type of its own, so that the check keeps this invariant through each call.
 #[derive(Drop)]
 pub struct Distinct<O> {
     pub lists: Vec<Incarnation<O>>,
     ghost distinct: { AreDistinct lists.items },
 }
 
-/// What is pending of all incarnations. A list that is emptied stays until it is retired.
+/// The pending lists of all incarnations. An empty list stays until it is retired.
 #[derive(Drop)]
 pub struct Lists<S: Durable> {
     pub all: Distinct<S::Origin>,
 }
 
-/// A started sync is finished in each list.
+/// Completes a started sync in each list.
 fn finish_each<O>(lists: &mut [Incarnation<O>], marker: u64)
     ensures { (place : O → Place) → held place lists.new ≡ map (finished_in marker) (held place lists.old) }
 {
@@ -39,14 +39,14 @@ fn finish_each<O>(lists: &mut [Incarnation<O>], marker: u64)
     }
 }
 
-/// A started sync is finished in each list of a vector.
+/// Does `finish_each` for the lists of a vector.
 fn finish_all<O>(lists: &mut Vec<Incarnation<O>>, marker: u64)
     ensures { (place : O → Place) → held place lists.new.items ≡ map (finished_in marker) (held place lists.old.items) }
 {
     finish_each(lists.as_mut_slice(), marker);
 }
 
-/// Notes of each list whether its incarnation is current.
+/// Notes for each list whether its incarnation is current.
 fn note_each<S: Durable>(lists: &mut [Incarnation<S::Origin>], store: &S)
     ensures held { held S.place lists.new ≡ held S.place lists.old }
     ensures noted { AreNoted S.place (S.directory store.now) lists.new }
@@ -57,7 +57,7 @@ fn note_each<S: Durable>(lists: &mut [Incarnation<S::Origin>], store: &S)
     }
 }
 
-/// Notes of each list of a vector whether its incarnation is current.
+/// Does `note_each` for the lists of a vector.
 fn note_all<S: Durable>(lists: &mut Vec<Incarnation<S::Origin>>, store: &S)
     ensures held { held S.place lists.new.items ≡ held S.place lists.old.items }
     ensures noted { AreNoted S.place (S.directory store.now) lists.new.items }
@@ -65,7 +65,7 @@ fn note_all<S: Durable>(lists: &mut Vec<Incarnation<S::Origin>>, store: &S)
     note_each(lists.as_mut_slice(), store);
 }
 
-/// The lists go that were noted as current and aren't any more.
+/// Drops the lists that were noted as current and no longer are.
 fn drop_ended<S: Durable>(lists: &mut Vec<Incarnation<S::Origin>>, store: &S)
     ensures { lists.new.items ≡ filter (λ i. not i.was_current || is_current (S.directory store.now) (S.place i.origin)) lists.old.items }
 {
@@ -73,7 +73,7 @@ fn drop_ended<S: Durable>(lists: &mut Vec<Incarnation<S::Origin>>, store: &S)
 }
 
 impl<S: Durable> Lists<S> {
-    /// No list.
+    /// Returns no lists.
     pub fn new(alloc: Global) -> Lists<S>
         ensures { result.all.lists.items ≡ [] }
     {
@@ -84,7 +84,7 @@ impl<S: Durable> Lists<S> {
         }
     }
 
-    /// The index of an incarnation's list, among all of them.
+    /// Searches all lists for that of an incarnation and returns its index.
     fn search(&self, origin: &S::Origin) -> Option<usize>
         ensures some { IfSome result (λ i. IsAt (held S.place self.now.all.lists.items) i (S.place origin.now)) }
         ensures none { IfNone result (has_list (held S.place self.now.all.lists.items) (S.place origin.now) ≡ false) }
@@ -97,7 +97,7 @@ impl<S: Durable> Lists<S> {
         None
     }
 
-    /// The index of an incarnation's list, which is looked for at `hint` first. No other list has its origin.
+    /// Returns the index of an incarnation's list. Tries `hint` first.
     fn find(&self, origin: &S::Origin, hint: usize) -> Option<usize>
         ensures some { IfSome result (λ i. IsAt (held S.place self.now.all.lists.items) i (S.place origin.now)) }
         ensures none { IfNone result (has_list (held S.place self.now.all.lists.items) (S.place origin.now) ≡ false) }
@@ -108,7 +108,7 @@ impl<S: Durable> Lists<S> {
         self.search(origin)
     }
 
-    /// A list for an incarnation that has none. A refusal leaves the lists as they were.
+    /// Adds a list for an incarnation that has none. After an error the lists are unchanged.
     fn add(&mut self, origin: S::Origin) -> Result<(), AllocError>
         requires { has_list (held S.place self.old.all.lists.items) (S.place origin) ≡ false }
         ensures same { SameLists S.place self.old.all.lists.items self.new.all.lists.items }
@@ -120,7 +120,7 @@ impl<S: Durable> Lists<S> {
         Ok(())
     }
 
-    /// Where the list of a handle's incarnation is, which is added if there is none. After a refusal the lists are as before.
+    /// Returns the index of the list of a handle's incarnation. Adds the list if there is none. After an error nothing has changed.
     fn place_for<B: Blob<S>>(&mut self, blob: &B, hint: usize) -> Result<usize, Error>
         ensures same { SameLists S.place self.old.all.lists.items self.new.all.lists.items }
         ensures at { IfOk result (λ i. IsAt (held S.place self.new.all.lists.items) i (B.place blob.now)) }
@@ -135,7 +135,7 @@ impl<S: Durable> Lists<S> {
         Ok(i)
     }
 
-    /// Room for this in the list at `i`.
+    /// Reserves capacity in the list at `i`.
     fn reserve(&mut self, i: usize, room: Room) -> Result<(), AllocError>
         requires { i < vec_len self.old.all.lists }
         ensures held { held S.place self.new.all.lists.items ≡ held S.place self.old.all.lists.items }
@@ -144,8 +144,8 @@ impl<S: Durable> Lists<S> {
         self.all.lists[i].reserve(room)
     }
 
-    /// The list of a handle's incarnation, with room for this. It is looked for at `hint` first. The only error is `Memory`, and
-    /// leaves the lists as they were.
+    /// Reserves capacity in the list of a handle's incarnation and returns its index. Tries `hint` first, and adds the list if
+    /// there is none. The only error is `Memory`. The lists then have the same entries.
     pub fn room_for<B: Blob<S>>(
         &mut self,
         blob: &B,
@@ -161,7 +161,7 @@ impl<S: Durable> Lists<S> {
         Ok(i)
     }
 
-    /// One more entry in the list at `i` that is no marker, where there is room for it.
+    /// Appends an entry that isn't a marker to the list at `i`, which has capacity for it.
     pub fn push(&mut self, i: usize, entry: Entry)
         requires room { HasRoomIn self.old.all.lists.items i Room.Entry }
         requires unmarked { is_marker (view entry) ≡ false }
@@ -170,7 +170,7 @@ impl<S: Durable> Lists<S> {
         self.all.lists[i].push(entry);
     }
 
-    /// A marker in the list at `i`, where there is room for it.
+    /// Appends a marker to the list at `i`, which has capacity for it.
     pub fn mark(&mut self, i: usize, number: u64)
         requires { HasRoomIn self.old.all.lists.items i Room.Mark }
         ensures { ChangesAt S.place self.old.all.lists.items self.new.all.lists.items i (λ q. q ++ Marker number ∷ []) }
@@ -178,7 +178,7 @@ impl<S: Durable> Lists<S> {
         self.all.lists[i].mark(number);
     }
 
-    /// The bytes of a durable range for `lay`: a copy where the list at `i` queues the range, else none of them. The only
+    /// Returns the `copy` for `lay`: a copy of the bytes if the list at `i` queues durable ranges, otherwise no bytes. The only
     /// error is `Memory`.
     pub fn copy_for(&self, i: usize, bytes: &IoBufs) -> Result<IoBufs, Error>
         requires { i < vec_len self.now.all.lists }
@@ -192,8 +192,7 @@ impl<S: Durable> Lists<S> {
         Ok(IoBufs::new(*self.all.lists.allocator()))
     }
 
-    /// A durable range in the list at `i`, where there is room for it. Only where it is queued its bytes have to be in
-    /// `copy`.
+    /// Updates the list at `i` for a durable range. The list has capacity for it. `copy` has the range's bytes if it is queued.
     pub fn lay(&mut self, i: usize, offset: u64, len: u64, copy: IoBufs)
         requires inside { i < vec_len self.old.all.lists }
         requires room { CanCut offset len (HasRangesAt self.old.all.lists.items i) }
@@ -206,7 +205,7 @@ impl<S: Durable> Lists<S> {
         self.all.lists[i].lay(offset, len, copy);
     }
 
-    /// The list of an incarnation goes, and the last one takes its place. It is looked for at `hint` first.
+    /// Drops the list of an incarnation. Tries `hint` first. The last list takes its index.
     pub fn retire(&mut self, origin: &S::Origin, hint: usize)
         ensures { (a : Place) → list_of S.place self.new.all.lists.items a ≡ with_at (list_of S.place self.old.all.lists.items) (S.place origin.now) [] a }
     {
@@ -215,14 +214,14 @@ impl<S: Durable> Lists<S> {
         }
     }
 
-    /// A started sync is finished: its marker and what stands before it in its list go. Where the marker is gone, nothing changes.
+    /// Completes a started sync: drops its marker and the entries before it in its list. Does nothing if the marker doesn't exist.
     pub fn finish(&mut self, marker: u64)
         ensures { (o : Place) → list_of S.place self.new.all.lists.items o ≡ finished marker (list_of S.place self.old.all.lists.items o) }
     {
         finish_all(&mut self.all.lists, marker);
     }
 
-    /// Notes which incarnations are current, before a removal.
+    /// Notes which incarnations are current. Call this before a removal.
     pub fn note_current(&mut self, store: &S)
         ensures same { SameLists S.place self.old.all.lists.items self.new.all.lists.items }
         ensures noted { AreNoted S.place (S.directory store.now) self.new.all.lists.items }
@@ -230,7 +229,7 @@ impl<S: Durable> Lists<S> {
         note_all(&mut self.all.lists, store);
     }
 
-    /// The lists of incarnations that were current when this was noted, and aren't any more, go.
+    /// Drops the lists of incarnations that `note_current` found current and that no longer are.
     pub fn retire_ended(&mut self, store: &S)
         ensures { RetiresEnded S.place (S.directory store.now) self.old.all.lists.items self.new.all.lists.items }
     {

@@ -1,12 +1,12 @@
-//! What room a pending list is asked for.
+//! Capacity that a pending list can reserve.
 
-/// What is to go into a pending list.
+/// What the capacity is for.
 #[derive(Clone, Copy)]
 pub enum Room {
-    /// An entry that is no marker.
+    /// An entry that isn't a marker.
     Entry,
     /// A marker.
     Mark,
-    /// Durable ranges, which lie from the first position up to the second: so many of them.
+    /// Durable ranges between the first and the second position. The third field is their number.
     Ranges(u64, u64, usize),
 }

@@ -1,4 +1,4 @@
-//! The rows of a crash: drawn one after the other, and found again by number.
+//! The rows of a crash: drawn in order, found by number.
 ghost use Rattle.std.specs.Prelude.{◌≡◌, ◌<◌, ℕ, Bool, length, slice_index_or, IfOk, IfSome};
 ghost use Rattle.std.specs.declared.vec.Vec.{Vec};
 ghost use Rattle.std.specs.declared.alloc.Global.{Global};
@@ -11,7 +11,7 @@ use crate::selection::draw_positions;
 use rand_core::Rng;
 use std::alloc::{AllocError, Global};
 
-/// One row for each, one read after the other. Refused for memory, the words of the rows before stay taken.
+/// Draws a row for each write, in order. The only error is `Memory`. The words drawn before it stay consumed.
 pub fn draw_rows<R: Rng>(
     alloc: Global,
     draws: &[Draw],
@@ -27,7 +27,7 @@ pub fn draw_rows<R: Rng>(
     Ok(rows)
 }
 
-/// The number of a row.
+/// Returns the number of a row.
 fn number_at(rows: &[(u64, Vec<bool>)], i: usize) -> u64
     requires { i < length rows.now }
     ensures { (d : ℕ × Vec Bool Global) → result ≡ (slice_index_or rows.now i d).0 }
@@ -36,7 +36,7 @@ fn number_at(rows: &[(u64, Vec<bool>)], i: usize) -> u64
     row.0
 }
 
-/// The choices of a row.
+/// Returns the choices of a row.
 fn choices_at(rows: &[(u64, Vec<bool>)], i: usize) -> &[bool]
     requires { i < length rows.now }
     ensures { (d : ℕ × Vec Bool Global) → result.now ≡ (slice_index_or rows.now i d).1.items }
@@ -45,7 +45,7 @@ fn choices_at(rows: &[(u64, Vec<bool>)], i: usize) -> &[bool]
     row.1.as_slice()
 }
 
-/// Where the first row of a number is, if the numbers from the first row on follow one another, as they mostly do.
+/// Returns the index of the first row of a number if the numbers are consecutive, as they usually are.
 fn guess(rows: &[(u64, Vec<bool>)], number: u64) -> Option<usize>
     requires { AreNumbered rows.now }
     ensures inside { IfSome result (λ i. i < length rows.now) }
@@ -74,7 +74,7 @@ fn guess(rows: &[(u64, Vec<bool>)], number: u64) -> Option<usize>
     Some(i)
 }
 
-/// The choices of the write with this number by halving, none where it has no row.
+/// Finds the choices of a write by binary search. Returns none if it has no row.
 fn search_choices(rows: &[(u64, Vec<bool>)], number: u64) -> &[bool]
     requires { AreNumbered rows.now }
     ensures { result.now ≡ row_of (rows_in rows.now) number }
@@ -90,7 +90,7 @@ fn search_choices(rows: &[(u64, Vec<bool>)], number: u64) -> &[bool]
     row.1.as_slice()
 }
 
-/// The choices of the write with this number, none where it has no row.
+/// Returns the choices of a write, or none if it has no row.
 pub fn choices_in(rows: &[(u64, Vec<bool>)], number: u64) -> &[bool]
     requires { AreNumbered rows.now }
     ensures { result.now ≡ row_of (rows_in rows.now) number }

@@ -3,7 +3,7 @@ ghost use Rattle.std.specs.Prelude.{◌<◌};
 
 use std::alloc::{AllocError, Global};
 
-/// A maximal run of chosen positions, from `start` up to `end`, counted from the write's start.
+/// A maximal run of selected positions, from `start` up to `end`, counted from the write's start.
 #[derive(Clone, Copy)]
 pub struct Span {
     pub start: usize,
@@ -16,7 +16,7 @@ impl Span {
     ghost use Rattle.blob_model.specs.Runs.{runs, with_byte};
     ghost use Rattle.blob_faults.specs.Spans.{AreRuns, JoinsRuns, ends_by};
 
-    /// A chosen position joins the runs behind it, of which the nearest is the last.
+    /// Adds a selected position before all runs. The lowest run is last in the list.
     fn join(spans: &mut Vec<Span>, position: usize) -> Result<(), AllocError>
         requires { position + 1 < 2 ^ 64 }
         ensures pieces { OnOk result (JoinsRuns position spans.old.items spans.new.items) }
@@ -43,7 +43,7 @@ impl Span {
         Ok(())
     }
 
-    /// The maximal runs of the chosen positions, in rising order, or a refusal for memory.
+    /// Returns the maximal runs of the selected positions, lowest first.
     pub fn of(alloc: Global, chosen: &[bool]) -> Result<Vec<Span>, AllocError>
         ensures pieces { IfOk result (λ spans. AreRuns chosen.now spans.items) }
         ensures inside { IfOk result (λ spans. All (ends_by (length chosen.now)) spans.items) }

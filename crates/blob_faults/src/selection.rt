@@ -1,4 +1,4 @@
-//! Which bytes of a write are kept.
+//! Draws of the bytes of a write that are kept.
 ghost use Rattle.std.specs.Prelude.{◌≡◌, ◌<◌, ◌≤◌, ◌+◌, ◌%◌, ◌^◌, ◌||◌, ◌==◌, ◌++◌, List, [], true, false, length, replicate, if◌then◌else◌, IfOk, OnErr, vec_len, vec_capacity};
 ghost use Rattle.blob_model.specs.Draws.{front, each, sectors, positions};
 ghost use Rattle.blob_model.specs.Rates.{sampled};
@@ -9,7 +9,7 @@ use blob_base::Probability;
 use rand_core::Rng;
 use std::alloc::{AllocError, Global};
 
-/// Each byte by itself.
+/// Draws each byte.
 fn draw_each<R: Rng>(chosen: &mut Vec<bool>, rate: Probability, len: usize, rng: &mut R)
     requires blank { IsBlank len chosen.old }
     ensures { (chosen.new.items, R.stream rng.new) ≡ each rate len (R.stream rng.old) }
@@ -20,7 +20,7 @@ fn draw_each<R: Rng>(chosen: &mut Vec<bool>, rate: Probability, len: usize, rng:
     }
 }
 
-/// So many bytes are lost.
+/// Adds `count` lost bytes.
 fn lose(chosen: &mut Vec<bool>, count: usize)
     requires { vec_len chosen.old + count ≤ vec_capacity chosen.old }
     ensures { chosen.new.items ≡ chosen.old.items ++ replicate count false }
@@ -31,7 +31,7 @@ fn lose(chosen: &mut Vec<bool>, count: usize)
     }
 }
 
-/// Byte by byte up to the first that is lost.
+/// Draws byte by byte until one is lost. The bytes after it are lost too.
 fn draw_front<R: Rng>(chosen: &mut Vec<bool>, rate: Probability, len: usize, rng: &mut R)
     requires blank { IsBlank len chosen.old }
     ensures { (chosen.new.items, R.stream rng.new) ≡ front rate len (R.stream rng.old) }
@@ -45,7 +45,7 @@ fn draw_front<R: Rng>(chosen: &mut Vec<bool>, rate: Probability, len: usize, rng
     }
 }
 
-/// The choice of the byte at a position: its sector's own, which is drawn at the write's first byte of it.
+/// Returns the choice of the byte at `position`. Draws at the first byte of the write or of a sector. Otherwise returns `last`.
 fn draw_sector<R: Rng>(
     rate: Probability,
     size: u64,
@@ -64,7 +64,7 @@ fn draw_sector<R: Rng>(
     }
 }
 
-/// Each sector of the blob by itself.
+/// Draws each sector of the blob.
 fn draw_sectors<R: Rng>(
     chosen: &mut Vec<bool>,
     rate: Probability,
@@ -85,8 +85,8 @@ fn draw_sectors<R: Rng>(
     }
 }
 
-/// The choices of `len` bytes at the logical `offset`, one a byte. All room is taken before the first draw, so that
-/// a refusal for memory leaves the generator as it was.
+/// Draws the choices of `len` bytes at the logical `offset`, one per byte. Allocates before the first draw, so that an error leaves
+/// the generator unchanged.
 pub fn draw_positions<R: Rng>(
     alloc: Global,
     mode: PartialWriteMode,

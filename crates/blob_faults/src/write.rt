@@ -8,17 +8,17 @@ use crate::mode::PartialWriteMode;
 use blob_base::{IoBufs, Probability};
 use std::alloc::AllocError;
 
-/// A whole write that a crash may lose in part, and the ranges of it that later durable ranges cover.
+/// A write that a crash may lose in part, with the ranges of it that later durable ranges cover.
 #[derive(Drop)]
 pub struct PendingWrite {
-    /// Its place among all recorded writes.
+    /// Its number among all recorded writes.
     pub number: u64,
     pub offset: u64,
     pub bytes: IoBufs,
     /// The mode and the retention rate of its issue.
     pub mode: PartialWriteMode,
     pub rate: Probability,
-    /// In rising order, apart from each other, and within the write.
+    /// Sorted, separate from each other, and within the write.
     pub holes: Vec<Hole>,
     ghost some: { 0 < length bytes },
     ghost fits: { offset + length bytes < 2 ^ 64 },
@@ -32,14 +32,14 @@ impl PendingWrite {
     ghost use Rattle.blob_faults.specs.Rooms.{AreWithin, HasHolesFor, CanCut, KeepsRest};
     ghost use Rattle.blob_faults.specs.Views.{write_of};
 
-    /// The position after its last byte.
+    /// Returns the position after its last byte.
     pub fn end(&self) -> u64
         ensures { result ≡ self.now.offset + length self.now.bytes }
     {
         self.offset + self.bytes.remaining() as u64
     }
 
-    /// The overlap with a durable range joins the holes.
+    /// Adds the overlap with a durable range to the holes.
     pub fn cover(&mut self, start: u64, len: u64)
         requires { CanCut start len (λ hs. HasHolesFor hs self.old) }
         ensures holes { ranges self.new.holes.items ≡ dug_by start len (write_of self.old) (ranges self.old.holes.items) }
@@ -53,15 +53,15 @@ impl PendingWrite {
         }
     }
 
-    /// How many of its bytes lie from `start` up to `end`.
+    /// Returns how many of its bytes are in the range from `start` up to `end`.
     fn overlap(&self, start: u64, end: u64) -> u64
         ensures { result ≡ min end (self.now.offset + length self.now.bytes) - max start self.now.offset }
     {
         end.min(self.end()).saturating_sub(start.max(self.offset))
     }
 
-    /// Room for the holes of so many ranges from `start` up to `end`: no more than they have bytes in common with the
-    /// write, and none where it lies elsewhere. A refusal leaves the write as it was.
+    /// Reserves capacity for the holes of `count` ranges between `start` and `end`, at most one for each byte of the write there.
+    /// After an error the write is unchanged.
     pub fn reserve(&mut self, start: u64, end: u64, count: usize) -> Result<(), AllocError>
         ensures write { write_of self.new ≡ write_of self.old }
         ensures holes { ranges self.new.holes.items ≡ ranges self.old.holes.items }
@@ -71,7 +71,7 @@ impl PendingWrite {
         self.holes.reserve(most as usize)
     }
 
-    /// Whether no byte is left that a crash could lose or keep.
+    /// Returns whether the holes cover every byte.
     pub fn is_covered(&self) -> bool
         ensures { result ≡ not (has_bare (need_in (write_of self.now) (ranges self.now.holes.items))) }
     {

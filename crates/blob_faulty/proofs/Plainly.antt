@@ -71,10 +71,6 @@ same_view old = record {
   rng = refl;
 }
 
--- not even the inner store is another
-pub unmoved : {S R O : Type 0} (m d : Storage S R O) → d ≡ m → d ≡ record m { inner = d.inner }
-unmoved {S} {R} {O} m d e = e ∙ ap (λ (x : Storage S R O). record m { inner = x.inner }) (sym e)
-
 -- refused before the inner store was asked
 pub unasked : {R : Type 0} (direct whole : Bool) (old new : View R) (effect : View R → Effect) (answer : Option Refusal) → IsSome answer → (effect old).live answer ≡ old.live → Unchanged old new → Recorded direct whole old new effect answer
 unasked direct whole old new effect None some same u = absurd (cc)

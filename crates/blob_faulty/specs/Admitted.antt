@@ -1,8 +1,11 @@
 -- Opens over the memory store that are admitted at once: what is retired, what they leave of a wrapper, and what they find.
 use Rattle.std.specs.Prelude.{◌≡◌, ℕ, List, length, Option, None, IsSome, MatchBool}
+use Rattle.std.specs.declared.ops.RangeInclusive.{RangeInclusive}
 use Rattle.rand_core.specs.Stream.{Stream}
 use Rattle.blob_header.specs.Fronts.{BeginsWith}
 use Rattle.blob_header.specs.Refusals.{Refusal}
+use Rattle.blob_header.specs.Versions.{lower, upper}
+use Rattle.blob_header.specs.declared.version.BlobVersion.{BlobVersion}
 use Rattle.blob_model.specs.Directory.{Directory, current}
 use Rattle.blob_model.specs.Files.{Files, after_open, admitted}
 use Rattle.blob_model.specs.Opened.{IsNamed}
@@ -84,3 +87,11 @@ pub record FindsKept {R : Type 0} (before after : OverMemory R) (p n : List ℕ)
   -- all that it finds is kept, and begins with what was kept
   pub fixed : (f : Files) → IsFor before f → Keeps after (place (inside b)) (live (inside b))
   pub found : (o : Place) (bytes : List ℕ) → IsNamed o p n → Keeps before o bytes → (place (inside b) ≡ o) × BeginsWith bytes (live (inside b))
+
+-- the same for a range of versions
+module _ {R : Type 0} (before after : OverMemory R) (p n : List ℕ) (versions : RangeInclusive BlobVersion) where
+  abbrev pub AdmitsVersions : (R → Stream) → Option Refusal → Type 0
+  AdmitsVersions stream answer = AdmitsOpen before after p n (lower versions) (upper versions) stream answer
+
+  abbrev pub FindsVersions : Blob memory_blob.Blob → ℕ → ℕ → Type 0
+  FindsVersions b len version = FindsKept before after p n (lower versions) (upper versions) b len version

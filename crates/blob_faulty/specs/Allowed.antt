@@ -1,19 +1,21 @@
--- What the steps of a write may answer, and the room that they take for its runs.
+-- What a write and its steps may return, and the capacity that they reserve for its runs.
 use Rattle.std.specs.Prelude.{◌≡◌, ℕ, ◌+◌, Bool, true, false, List, ◌∷◌, length, All, Option, is_some}
+use Rattle.rand_core.specs.Stream.{Stream}
 use Rattle.blob_base.specs.declared.storage.Blob as handles
 use Rattle.blob_base.specs.declared.storage.Durable as stores
 use Rattle.blob_header.specs.Refusals.{Refusal}
 use Rattle.blob_model.specs.Directory.{is_current}
+use Rattle.blob_model.specs.Durable.{with_overlay}
 use Rattle.blob_model.specs.Holes.{Holes}
 use Rattle.blob_model.specs.Runs.{Run}
 use Rattle.blob_faults.specs.Changes.{lacks_number}
-use Rattle.blob_faults.specs.Answers.{Allowed, or_memory, numbered, allows_fate, allows_laid, allows_runs}
+use Rattle.blob_faults.specs.Answers.{Allowed, or_memory, numbered, allows_fate, allows_laid, allows_runs, allows_write}
 use Rattle.blob_faults.specs.Faults.{WriteFate, retention}
 use Rattle.blob_faults.specs.Lists.{HasRoomAt}
 use Rattle.blob_faulty.specs.declared.blob.Blob.{Blob}
 use Rattle.blob_faulty.specs.declared.storage.Storage.{Storage}
 use Rattle.blob_faulty.specs.Pieces.{EndsWithin}
-use Rattle.blob_faulty.specs.Wrapper.{inner_of, config_of, next_write_of, inside}
+use Rattle.blob_faulty.specs.Wrapper.{inner_of, rng_of, config_of, next_write_of, inside}
 
 module _ {S R O B : Type 0} (handle : handles.Ghosts B S O) (b : Blob B) (w : Storage S R O) where
   abbrev InnerWrites : ℕ → List ℕ → Bool → Allowed
@@ -22,7 +24,11 @@ module _ {S R O B : Type 0} (handle : handles.Ghosts B S O) (b : Blob B) (w : St
   abbrev InnerReserves : ℕ → Allowed
   InnerReserves = handle.allows_reserve (inside b) (inner_of w)
 
-  -- a plain write, which wants a number where it is to be recorded
+  -- a write, by the draws that the generator's stream decides
+  abbrev pub MayWrite : (R → Stream) → ℕ → List ℕ → Bool → Allowed
+  MayWrite stream = allows_write InnerWrites InnerReserves handle.is_direct (config_of w) (next_write_of w) (stream (rng_of w))
+
+  -- a plain write, which needs a number if it is recorded
   abbrev pub MayWritePlain : ℕ → List ℕ → Allowed
   MayWritePlain offset bytes = or_memory (numbered (lacks_number (is_some (retention (config_of w).write_rate)) (next_write_of w) bytes) (InnerWrites offset bytes false))
 
@@ -42,6 +48,17 @@ module _ {S R O B : Type 0} (handle : handles.Ghosts B S O) (b : Blob B) (w : St
   AllowsAsMuch c after = (offset : ℕ) (bytes : List ℕ) (sync : Bool) (answer : Option Refusal) → handle.allows_write (inside c) (inner_of after) offset bytes sync answer → InnerWrites offset bytes sync answer
 
 module _ {S R O B : Type 0} (store : stores.Ghosts S O) (handle : handles.Ghosts B S O) (b : Blob B) (w : Storage S R O) where
+  -- the handle's incarnation is its name's current one, or has ended
+  abbrev pub IsCurrent : Type 0
+  IsCurrent = is_current (store.directory (inner_of w)) (handle.place (inside b)) ≡ true
+
+  abbrev pub IsStale : Type 0
+  IsStale = is_current (store.directory (inner_of w)) (handle.place (inside b)) ≡ false
+
+  -- after a SYNC write the durable bytes are the old ones, overlaid with its range at the handle's place
+  abbrev pub WritesDurable : Storage S R O → ℕ → List ℕ → Type 0
+  WritesDurable after offset bytes = store.durable (inner_of after) ≡ with_overlay (store.durable (inner_of w)) (handle.place (inside b)) offset bytes
+
   -- the list at this index is that of the handle's incarnation, and has room for these durable ranges
   abbrev pub HasListRoom : ℕ → Holes → Type 0
   HasListRoom list ranges = HasRoomAt store.place w.lists.all.lists.items list (handle.place (inside b)) ranges

@@ -1,9 +1,13 @@
 -- An exclusive open over the memory store that is admitted at once: what it may answer and what it leaves.
 use Rattle.std.specs.Prelude.{◌≡◌, ℕ, List, Option, Some, None}
+use Rattle.std.specs.declared.ops.RangeInclusive.{RangeInclusive}
 use Rattle.rand_core.specs.Stream.{Stream}
 use Rattle.blob_header.specs.Refusals.{Refusal}
-use Rattle.blob_opens.specs.OpenNames.{OpenNames, OpenAnswer}
-use Rattle.blob_opens.specs.Opens.{IsMade}
+use Rattle.blob_header.specs.Versions.{lower, upper}
+use Rattle.blob_header.specs.declared.version.BlobVersion.{BlobVersion}
+use Rattle.blob_opens.specs.declared.opens.Opens.{Opens}
+use Rattle.blob_opens.specs.OpenNames.{OpenNames, OpenAnswer, Registration}
+use Rattle.blob_opens.specs.Opens.{IsMade, names_of}
 use Rattle.blob_faulty.specs.Admitted.{OpensAlone, OpensAdmitted, RefusesOpen, MayOpen, LeavesAdmitted}
 use Rattle.blob_faulty.specs.Keeps.{OverMemory}
 use Rattle.blob_faulty.specs.Wrapper.{inner_of}
@@ -23,3 +27,12 @@ module _ {R : Type 0} (before after : OverMemory R) (p n : List ℕ) (first last
   -- the answer, by the open names
   abbrev pub ExclusiveAnswer : (R → Stream) → OpenNames → Option Refusal → Type 0
   ExclusiveAnswer stream s answer = OpenAnswer s p n (Asked stream answer) (MadeAccepted answer) (RefusesOpen before after) (after ≡ before) answer
+
+-- the same for a range of versions and a registry
+module _ {R : Type 0} (before after : OverMemory R) (p n : List ℕ) (versions : RangeInclusive BlobVersion) where
+  abbrev pub AnswersExclusive : (R → Stream) → Opens → Option Refusal → Type 0
+  AnswersExclusive stream registry answer = ExclusiveAnswer before after p n (lower versions) (upper versions) stream (names_of registry) answer
+
+-- the registration of the next open of a name
+abbrev pub next_registration : Opens → List ℕ → List ℕ → Registration
+next_registration registry p n = record { partition = p; name = n; number = (names_of registry).next }

@@ -64,6 +64,16 @@ abbrev pub Steps : {S R O : Type 0} → (O → Place) → (S → Directory) → 
 Steps place directory durable before after step = (files : Files) →
     Stands place (directory (inner_of before)) (durable (inner_of before)) before files → Stands place (directory (inner_of after)) (durable (inner_of after)) after (step files)
 
+-- the directory, the durable bytes and the files without what a removal takes away
+abbrev pub RemovesNames : {S R O : Type 0} → stores.Ghosts S O → Storage S R O → Storage S R O → List ℕ → Option (List ℕ) → Type 0
+RemovesNames store before after p n = store.directory (inner_of after) ≡ removed (store.directory (inner_of before)) p n
+
+abbrev pub RemovesBytes : {S R O : Type 0} → stores.Ghosts S O → Storage S R O → Storage S R O → List ℕ → Option (List ℕ) → Type 0
+RemovesBytes store before after p n = store.durable (inner_of after) ≡ durable_without (store.durable (inner_of before)) p n
+
+abbrev pub RemovesFiles : {S R O : Type 0} → stores.Ghosts S O → Storage S R O → Storage S R O → List ℕ → Option (List ℕ) → Type 0
+RemovesFiles store before after p n = Steps store.place store.directory store.durable before after (λ files. after_remove files p n)
+
 -- a scan, by what it may leave of the inner store
 pub record ScanLeaves {S R O : Type 0} (store : stores.Ghosts S O) (stream : R → Stream) (asked : S → Type 0) (before after : Storage S R O) : Type 0 where
   -- one draw of the scan rate is taken

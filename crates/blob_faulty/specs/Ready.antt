@@ -2,6 +2,7 @@
 use Rattle.std.specs.Prelude.{◌≡◌, ℕ, ◌+◌, ◌<◌, ◌≤◌, ◌^◌, Bool, true, vec_capacity}
 use Rattle.std.specs.declared.vec.Vec.{Vec}
 use Rattle.std.specs.declared.alloc.Global.{Global}
+use Rattle.blob_pages.specs.Stored.{Stored}
 use Rattle.blob_model.specs.Directory.{is_current}
 use Rattle.blob_model.specs.Order.{ListAt}
 use Rattle.blob_model.specs.Pending.{ends}
@@ -14,7 +15,7 @@ abbrev pub IsReady : Storage → ListAt → Type 0
 IsReady s h = is_current (directory s) h.0 ≡ true → (ends (unmarked h.1) + h.0.start < 2 ^ 64) × HasCrashRoom s h.0 (ends (unmarked h.1))
 
 -- there is room to lay entries that end here and of which the widest lays so many bytes
-pub record CanReplay (bytes : Vec ℕ Global) (end widest : ℕ) (chosen : Vec Bool Global) : Type 0 where
+pub record CanReplay (bytes : Stored) (end widest : ℕ) (chosen : Vec Bool Global) : Type 0 where
   pub counted : end < 2 ^ 64
-  pub room : end ≤ vec_capacity bytes
+  pub room : end ≤ bytes.capacity
   pub width : widest ≤ vec_capacity chosen

@@ -1,4 +1,4 @@
-//! What is pending of a name is retired.
+//! `admit`, which retires the pending list of a name.
 ghost use Rattle.std.specs.Prelude.{◌≡◌, Some, filter, not};
 ghost use Rattle.blob_model.specs.Files.{is_removed_by};
 ghost use Rattle.blob_faulty.specs.Admitted.{Admits};
@@ -10,7 +10,7 @@ use blob_base::Durable;
 use blob_faults::incarnation::Incarnation;
 use blob_memory::Origin;
 
-/// Whether an origin names the current incarnation of the name.
+/// Returns whether an origin is the current incarnation of the name.
 fn is_current_of(
     inner: &blob_memory::Storage,
     origin: &Origin,
@@ -22,7 +22,7 @@ fn is_current_of(
     partition == origin.partition() && name == origin.name() && inner.is_current(origin)
 }
 
-/// The list of the name's current incarnation goes.
+/// Drops the list of the name's current incarnation.
 fn drop_current(
     lists: &mut Vec<Incarnation<Origin>>,
     inner: &blob_memory::Storage,
@@ -35,9 +35,10 @@ fn drop_current(
 }
 
 impl<R> Storage<blob_memory::Storage, R> {
-    /// What is pending of the name's current incarnation is retired, where it has one: a crash leaves its durable bytes as they
-    /// are. To be called behind an open that is to stand. What is pending of incarnations that ended stays, and changes no byte.
-    /// An unknown name changes nothing. Never refused; takes no memory and draws nothing.
+    /// Retires the pending list of the name's current incarnation: a crash then leaves its durable bytes as they are. Call it
+    /// after an open whose bytes must last. Lists of ended incarnations stay, and change no byte. An unknown name changes nothing.
+    ///
+    /// Can't fail. Makes no draw and allocates nothing.
     pub fn admit(&mut self, partition: &str, name: &[u8]) -> Retired
         ensures { Admits self.old self.new partition.now name.now }
     {

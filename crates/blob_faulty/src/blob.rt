@@ -10,7 +10,8 @@ ghost use Rattle.blob_base.specs.Options.{is_sync};
 ghost use Rattle.blob_model.specs.Pending.{Marker};
 ghost use Rattle.blob_model.specs.Places.{Place};
 ghost use Rattle.blob_header.specs.Refusals.{Refusal, refused, Memory, IsMemory};
-ghost use Rattle.blob_faults.specs.Answers.{injected_or, allows_write as answers_write, allows_resize as answers_resize, allows_start};
+ghost use Rattle.blob_faults.specs.Answers.{injected_or, allows_resize as answers_resize, allows_start};
+ghost use Rattle.blob_faulty.specs.Allowed.{MayWrite};
 ghost use Rattle.blob_faults.specs.Fates.{after_write};
 ghost use Rattle.blob_faults.specs.Faults.{Done, draw, drawn_fate, resize_fate};
 ghost use Rattle.blob_faulty.specs.HandleLeaves.{HandleLeaves};
@@ -19,6 +20,7 @@ ghost use Rattle.blob_faulty.specs.Syncs.{Publishes, Starts};
 ghost use Rattle.blob_faulty.specs.Wrapper.{inner_of, rng_of, config_of, next_write_of, next_marker_of, pending_of, inside, size_of, KeepsRecords, KeepsNumbers, Adds};
 ghost use Rattle.blob_faulty.specs.AnswerLaws.{injected_alike, write_none, write_empty};
 
+use crate::payload::Payload;
 use crate::storage::Storage;
 use blob_base::{Error, Handle, IoBufs, IoBufsMut, ReadOptions, WriteOptions};
 use blob_faults::faults::{draw_resize, draw_write, draws};
@@ -26,23 +28,64 @@ use rand_core::Rng;
 
 /// A handle on a blob through the wrapper, which tracks the size that the wrapper last knew.
 ///
-/// Offsets, lengths and sizes are logical, in bytes. Each refusal but those named leaves live and durable bytes, size and what is
-/// pending as they were; the words that were drawn are taken.
+/// Offsets, lengths and sizes are logical, in bytes. An error leaves live and durable bytes, the size and the pending lists
+/// unchanged, unless the call says otherwise. The generator has advanced by the draws made.
 #[derive(Drop)]
 pub struct Blob<B> {
     pub(crate) inner: B,
     pub(crate) size: u64,
-    /// Where the list of its incarnation was when last used: a hint, which the list's origin confirms.
+    /// The index of its incarnation's list when it was last used: a hint. The list's origin confirms it.
     pub(crate) list: usize,
 }
 
 impl<B> Blob<B> {
-    /// The tracked size in logical bytes: what the open answered, then the greatest end of a write that the inner
-    /// blob did and the length of each resize that it did.
+    /// Returns the tracked size in logical bytes. It is the size that the open returned, raised to the end of each write that
+    /// the inner blob performed and set to the length of each resize that it performed.
     pub fn size(&self) -> u64
         ensures { result ≡ size_of self.now }
     {
         self.size
+    }
+}
+
+impl<B> Blob<B> {
+    ghost use Rattle.blob_faulty.specs.Allowed.{IsCurrent, IsStale, WritesDurable};
+    ghost use Rattle.blob_faulty.specs.HandleLeaves.{WriteLeaves};
+
+    /// Performs `write_at` of owned pieces and `write_from` of a slice: draws the outcome, then carries it out.
+    #[tactic(auto, unfolding(blob_faults::specs::Answers::allows_write))]
+    pub(crate) fn write<S: blob_base::Storage, R: Rng, P>(
+        &mut self,
+        store: &mut Storage<S, R>,
+        offset: u64,
+        bytes: P,
+        sync: bool,
+    ) -> Result<(), Error>
+    where
+        B: blob_base::Blob<S>,
+        P: Payload<S, B>,
+        ensures allowed { MayWrite B.Blob self.old store.old R.stream offset (P.bytes bytes) sync (refused result) }
+        ensures leaves { WriteLeaves S.Durable B.Blob R.stream offset (P.bytes bytes) sync self.old store.old (refused result) self.new store.new }
+        ensures live { OnOk result (B.live self.new.inner ≡ live_written sync (B.live self.old.inner) offset (P.bytes bytes)) }
+        ensures synced { OnOk result (sync ≡ true → WritesDurable S.Durable B.Blob self.old store.old store.new offset (P.bytes bytes)) }
+        ensures plain { OnOk result (sync ≡ false → S.durable store.new.inner ≡ S.durable store.old.inner) }
+        ensures current { OnOk result (sync ≡ true → P.bytes bytes ≢ [] → IsCurrent S.Durable B.Blob self.old store.old) }
+        ensures stale { IsStale S.Durable B.Blob self.old store.old → S.durable store.new.inner ≡ S.durable store.old.inner }
+        ensures memory_live { IsMemory result → B.live self.new.inner ≡ B.live self.old.inner }
+        ensures memory_durable { IsMemory result → S.durable store.new.inner ≡ S.durable store.old.inner }
+        ensures directory { S.directory store.new.inner ≡ S.directory store.old.inner }
+        ensures place { B.place self.new.inner ≡ B.place self.old.inner }
+    {
+        let len = bytes.len();
+        if sync && len == 0 {
+            return Ok(());
+        }
+        if offset.checked_add(len as u64).is_none() {
+            return Err(Error::OffsetOverflow);
+        }
+        let alloc = store.alloc();
+        let fate = draw_write(alloc, &store.config, sync, offset, len, &mut store.rng)?;
+        self.write_by_fate(store, fate, offset, bytes, sync)
     }
 }
 
@@ -52,7 +95,7 @@ impl<S: blob_base::Storage, R: Rng, B: blob_base::Blob<S>> blob_base::Blob<Stora
 
     ghost place = { λ b. B.place b.inner };
 
-    // a call of the wrapper may want memory of its own, and may be refused by a draw
+    // a call of the wrapper may allocate for itself, and may fail by a draw
     ghost room = { λ b s. 0 };
 
     ghost live_room = { λ b. 0 };
@@ -63,7 +106,7 @@ impl<S: blob_base::Storage, R: Rng, B: blob_base::Blob<S>> blob_base::Blob<Stora
 
     ghost allows_read_buf = { λ b s offset len. injected_or (draw s.config.read_rate (R.stream s.rng)).0 (B.allows_read_buf b.inner s.inner offset len) };
 
-    ghost allows_write = { λ b s. answers_write (B.allows_write b.inner s.inner) (B.allows_reserve b.inner s.inner) B.is_direct s.config s.next_write (R.stream s.rng) };
+    ghost allows_write = { λ b s. MayWrite B.Blob b s R.stream };
 
     ghost allows_resize = { λ b s len. answers_resize (B.allows_resize b.inner s.inner) (resize_fate s.config.resize_rate b.size len (R.stream s.rng)).0 len };
 
@@ -75,11 +118,11 @@ impl<S: blob_base::Storage, R: Rng, B: blob_base::Blob<S>> blob_base::Blob<Stora
 
     ghost leaves = { λ call b before answer c after. HandleLeaves S.Durable B.Blob S.leaves_finish R.stream call b before answer c after };
 
-    /// Draws the read rate, then reads through the handle inside, current or stale. Records nothing.
+    /// Draws the read rate, then reads through the inner handle, current or stale. Records nothing.
     ///
     /// # Errors
     ///
-    /// `Injected`; then as the handle inside: over memory `OffsetOverflow`, `BlobInsufficientLength`, `Memory`.
+    /// `Injected`; then those of the inner handle: over memory `OffsetOverflow`, `BlobInsufficientLength`, `Memory`.
     fn read_at(
         &self,
         store: &mut Storage<S, R>,
@@ -93,11 +136,11 @@ impl<S: blob_base::Storage, R: Rng, B: blob_base::Blob<S>> blob_base::Blob<Stora
         self.inner.read_at(&mut store.inner, offset, len, options)
     }
 
-    /// Draws the read rate, then reads through the handle inside into a buffer whose capacity is at least `len`.
+    /// Draws the read rate, then reads through the inner handle into a buffer of capacity `len` or more.
     ///
     /// # Errors
     ///
-    /// `Injected`; then as the handle inside: over memory `OffsetOverflow`, `BlobInsufficientLength`. The buffer is dropped.
+    /// `Injected`; then those of the inner handle: over memory `OffsetOverflow`, `BlobInsufficientLength`. The buffer is dropped.
     fn read_at_buf(
         &self,
         store: &mut Storage<S, R>,
@@ -113,23 +156,25 @@ impl<S: blob_base::Storage, R: Rng, B: blob_base::Blob<S>> blob_base::Blob<Stora
         inner.read_at_buf(&mut store.inner, offset, len, buf, options)
     }
 
-    /// Draws whether the write fails and, of one that doesn't and is SYNC, whether its sync does. Before that a SYNC write of no
-    /// bytes is answered Ok, and any write whose logical end can't be counted `OffsetOverflow`.
+    /// Draws whether the write fails. If it doesn't and has SYNC, draws whether its sync fails. An empty SYNC write returns Ok
+    /// and an overflowing logical end returns `OffsetOverflow` before any draw. `write` above has the contract.
     ///
-    /// Done, it is the write of the handle inside. Where retention is set, a plain one of some bytes is pending from then on: a
-    /// crash keeps what it draws of it. Failed, each run of bytes that is kept by its positions is laid as a SYNC write inside,
-    /// and is durable and live. With its sync failed, it is a plain write. The size rises to the greatest end that was written.
+    /// - No failure: writes through the inner handle. If retention is set, a plain write of some bytes is pending from then on,
+    ///   and a crash keeps the bytes that it draws.
+    /// - The write fails: each run of the kept bytes is written with SYNC, so it is live and durable.
+    /// - The sync fails: the write is a plain one.
+    ///
+    /// The size rises to the greatest end written.
     ///
     /// # Errors
     ///
-    /// - `Injected` where the write or its sync was chosen to fail; the kept runs, or the plain write, stay.
-    /// - `GenerationsExhausted` where no number is left for a write that would be pending.
-    /// - `OffsetOverflow` where the raw end can't be counted, of a failed write that of its last kept run.
-    /// - `BlobMissing` by a stale handle, of a SYNC write or a failed one with a kept run: the live bytes have the write, or the
-    ///   first run.
-    /// - `WriteFailed` where the store inside refused a run behind the first: those before it stay. Memory stores refuse none.
-    /// - `Memory`: nothing changes but the generator.
-    #[tactic(auto, unfolding(blob_faults::specs::Answers::allows_write))]
+    /// - `Injected` if the write or its sync failed by a draw. The kept runs, or the plain write, stay.
+    /// - `GenerationsExhausted` if the write would be pending and no number is left for it.
+    /// - `OffsetOverflow` if the physical end overflows. For a failed write, the end of its last kept run.
+    /// - `BlobMissing` for a SYNC write, or a failed one with a kept run, through a stale handle. The live bytes have the write,
+    ///   or its first run.
+    /// - `WriteFailed` if the inner store rejected a run after the first. Those before it stay. A memory store rejects none.
+    /// - `Memory`. Only the generator has changed.
     fn write_at(
         &mut self,
         store: &mut Storage<S, R>,
@@ -137,50 +182,43 @@ impl<S: blob_base::Storage, R: Rng, B: blob_base::Blob<S>> blob_base::Blob<Stora
         bytes: IoBufs,
         options: WriteOptions,
     ) -> Result<(), Error> {
-        let sync = options.contains(WriteOptions::SYNC);
-        let len = bytes.remaining();
-        if sync && len == 0 {
-            return Ok(());
-        }
-        if offset.checked_add(len as u64).is_none() {
-            return Err(Error::OffsetOverflow);
-        }
-        let alloc = *store.lists.all.lists.allocator();
-        let fate = draw_write(alloc, &store.config, sync, offset, len, &mut store.rng)?;
-        self.write_by_fate(store, fate, offset, bytes, options)
+        self.write(store, offset, bytes, options.contains(WriteOptions::SYNC))
     }
 
-    /// Draws whether the resize fails. Done, it is that of the handle inside, and a second draw tells whether it is pending and so
-    /// survives a crash. Failed, it changes nothing, or by the partial rate reaches a drawn length strictly between the size and
-    /// `len`, which is pending then. Nothing becomes durable; a stale handle's is like any other.
+    /// Draws whether the resize fails. If it doesn't, resizes the inner handle, and a second draw decides whether the resize is
+    /// pending and so survives a crash. If it fails, the length stays, or by the partial rate becomes a drawn one strictly
+    /// between the size and `len`, which is then pending. No byte becomes durable. A stale handle behaves the same. After the draws,
+    /// the contract is that of `resize_by_fate`.
     ///
     /// # Errors
     ///
-    /// `Injected`; `OffsetOverflow` where the raw length can't be counted; `Memory`.
+    /// `Injected`; `OffsetOverflow` if the physical length overflows; `Memory`.
     fn resize(&mut self, store: &mut Storage<S, R>, len: u64) -> Result<(), Error> {
         let fate = draw_resize(store.config.resize_rate, self.size, len, &mut store.rng);
         self.resize_by_fate(store, fate, len)
     }
 
-    /// Draws the sync rate, then makes the live bytes durable. What is pending of the handle's incarnation is retired.
+    /// Draws the sync rate, then makes the live bytes durable and retires the pending list of the handle's incarnation. After the
+    /// draw, the contract is that of `sync_inner`.
     ///
     /// # Errors
     ///
-    /// `Injected`; then `BlobMissing` by a stale handle; `Memory`. What is pending stays pending.
+    /// `Injected`; then `BlobMissing` for a stale handle; `Memory`. The list stays as it was.
     fn sync(&mut self, store: &mut Storage<S, R>) -> Result<(), Error> {
         if draws(store.config.sync_rate, &mut store.rng) {
             return Err(Error::Injected);
         }
-        self.sync_drawn(store)
+        self.sync_inner(store)
     }
 
-    /// Draws the sync rate, then makes the live bytes durable, and leaves a marker: a crash replays nothing that is pending before
-    /// it. The store's `finish` takes the handle, and retires that for good.
+    /// Draws the sync rate, then makes the live bytes durable and adds a marker to the pending list: a crash replays no entry
+    /// before it. The store's `finish` takes the returned handle and drops these entries. After the draw, the contract is that of
+    /// `start_marked`.
     ///
     /// # Errors
     ///
-    /// The outcome may be `Injected`, `GenerationsExhausted` where no number is left for a marker, `BlobMissing` by a stale
-    /// handle, or `Memory`. There is no marker then.
+    /// The outcome may be `Injected`, `GenerationsExhausted` if no number is left for a marker, `BlobMissing` for a stale handle,
+    /// or `Memory`. No marker is added then.
     fn start_sync(&mut self, store: &mut Storage<S, R>) -> Handle {
         if draws(store.config.sync_rate, &mut store.rng) {
             return Handle::ready(Err(Error::Injected));
@@ -194,22 +232,22 @@ impl<S: blob_base::Storage, R: Rng, B: blob_base::Blob<S>> blob_base::Blob<Stora
         }
     }
 
-    /// Takes room in the handle inside up to the logical `end`, without a draw. The wrapper's own room is 0: it may want memory for
-    /// what it records, so a later write may still answer `Memory`.
+    /// Reserves capacity in the inner handle up to the logical `end`. Makes no draw. A later write may still return `Memory`,
+    /// since the wrapper allocates for what it records.
     ///
     /// # Errors
     ///
-    /// As the handle inside: over memory `OffsetOverflow`, then `Memory`.
+    /// Those of the inner handle: over memory `OffsetOverflow`, then `Memory`.
     fn reserve(&mut self, store: &mut Storage<S, R>, end: u64) -> Result<(), Error> {
         self.inner.reserve(&mut store.inner, end)
     }
 
-    /// Returns a copy of the incarnation that the handle inside was opened on, with its errors. Makes no draw.
+    /// Returns a copy of the incarnation that the inner handle was opened on, with its errors. Makes no draw.
     fn origin(&self) -> Result<S::Origin, Error> {
         self.inner.origin()
     }
 
-    /// Lends the incarnation that the handle inside was opened on. Takes no memory.
+    /// Borrows the incarnation that the inner handle was opened on. Allocates nothing.
     fn origin_ref(&self) -> &S::Origin {
         self.inner.origin_ref()
     }

@@ -1,4 +1,4 @@
-//! The crash: what isn't durable is kept or lost by the generator's choices.
+//! The crash: the generator decides which pending bytes are kept.
 ghost use Rattle.std.specs.Prelude.{◌≡◌, ℕ, List, [], All, OnOk, OnErr, IfOk};
 ghost use Rattle.blob_model.specs.Places.{Place};
 ghost use Rattle.blob_header.specs.Refusals.{IsMemory};
@@ -24,7 +24,7 @@ use blob_memory::Origin;
 use rand_core::Rng;
 use std::alloc::AllocError;
 
-/// The most bytes that one entry lays.
+/// Returns the length of the longest pending write or range.
 fn widest_of_all<O>(lists: &[Incarnation<O>]) -> usize
     ensures { (place : O → Place) → result ≡ widest_of_all (held place lists.now) }
 {
@@ -35,7 +35,8 @@ fn widest_of_all<O>(lists: &[Incarnation<O>]) -> usize
     most
 }
 
-/// Room for what a list is replayed to, where its incarnation is current. A length that can't be counted can't be had either.
+/// Reserves capacity for the result of replaying a list, if its incarnation is current. An overflowing length is reported as an
+/// allocation failure.
 fn reserve_list(
     inner: &mut blob_memory::Storage,
     list: &Incarnation<Origin>,
@@ -54,7 +55,7 @@ fn reserve_list(
     }
 }
 
-/// Room for what every list is replayed to.
+/// Reserves capacity for the results of replaying all lists.
 fn reserve_all(
     inner: &mut blob_memory::Storage,
     lists: &[Incarnation<Origin>],
@@ -70,14 +71,17 @@ fn reserve_all(
 }
 
 impl<R: Rng> Storage<blob_memory::Storage, R> {
-    /// The pending entries of each current incarnation, behind its last marker, are replayed in issue order over its durable
-    /// bytes: of each write what is drawn for it. The draws go by the writes' numbers, over all incarnations, ended ones too,
-    /// and each is for a whole write, where a byte of it isn't covered by a later durable range. Nothing is pending any more.
-    /// Handles keep their live bytes and stay current: to see what is left, open again.
+    /// Replays the pending entries of each current incarnation that follow its last marker, in issue order, over its durable
+    /// bytes. Of a write, only the drawn bytes are kept. Then nothing is pending.
+    ///
+    /// The draws are made in the order of the writes' numbers, over all incarnations, ended ones too. A write that later durable
+    /// ranges cover fully takes no draw. Any other is drawn over its whole range, covered bytes too.
+    ///
+    /// Handles stay current and keep their live bytes. Open again to see what is left.
     ///
     /// # Errors
     ///
-    /// `Memory` alone. It leaves all as it was but the generator.
+    /// `Memory` only. Nothing has changed except the generator.
     pub fn crash(&mut self) -> Result<Selections, Error>
         ensures rows { IfOk result (CrashDraws R.stream self.old self.new) }
         ensures stands { IfOk result (CrashLeaves self.old self.new) }
@@ -91,7 +95,7 @@ impl<R: Rng> Storage<blob_memory::Storage, R> {
         ensures numbers { KeepsNumbers self.old self.new }
         ensures keeps { (o : Place) (bytes : List ℕ) → Keeps self.old o bytes → Keeps self.new o bytes }
     {
-        let alloc = *self.lists.all.lists.allocator();
+        let alloc = self.alloc();
         let draws = gather(alloc, &self.lists.all.lists)?;
         let rows = draw_rows(alloc, &draws, &mut self.rng)?;
         let mut chosen = Vec::with_capacity(alloc, widest_of_all(&self.lists.all.lists))?;

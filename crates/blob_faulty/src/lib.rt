@@ -9,6 +9,7 @@ pub mod laws;
 pub mod names;
 mod open_admitted;
 mod open_exclusive;
+mod payload;
 mod replay;
 mod resizes;
 mod retired;

@@ -1,13 +1,10 @@
 //! Opens, removals, scans and finished syncs of the wrapper.
 ghost use Rattle.std.specs.Prelude.{◌≡◌, OnOk, OnErr, option_copied};
-ghost use Rattle.blob_model.specs.Directory.{removed};
-ghost use Rattle.blob_model.specs.Durable.{durable_without};
-ghost use Rattle.blob_model.specs.Files.{after_remove};
 ghost use Rattle.blob_base.specs.Handles.{outcome_of, marker_of};
 ghost use Rattle.blob_header.specs.Refusals.{refused};
 ghost use Rattle.blob_faults.specs.Answers.{injected_or};
 ghost use Rattle.blob_faults.specs.Faults.{draw};
-ghost use Rattle.blob_faulty.specs.Names.{OpenLeaves, MayRemove, Removes, ScanLeaves, FinishLeaves, SameStore, Steps};
+ghost use Rattle.blob_faulty.specs.Names.{OpenLeaves, MayRemove, Removes, RemovesNames, RemovesBytes, RemovesFiles, ScanLeaves, FinishLeaves, SameStore, Steps};
 ghost use Rattle.blob_faulty.specs.Wrapper.{inner_of, rng_of, config_of, inside, size_of};
 
 use crate::blob::Blob;
@@ -19,20 +16,21 @@ use rand_core::Rng;
 use std::ops::RangeInclusive;
 
 impl<S: blob_base::Storage, R: Rng> Storage<S, R> {
-    /// The trait's `remove` under a name of its own, which answers that it retired: draws the remove rate, then removes the
-    /// blob, or with no name the whole partition, and retires what is pending of the incarnations that end by it. What is pending of incarnations that ended earlier stays, and changes no byte.
+    /// Draws the remove rate, then removes the blob, or with no name the whole partition, and retires the pending lists of the
+    /// incarnations that this ends. Lists of incarnations that ended earlier stay, and change no byte. The trait's `remove` is
+    /// this call without its `Retired`.
     ///
     /// # Errors
     ///
-    /// `Injected`; then as the store inside: over memory `PartitionNameInvalid`, `PartitionMissing`, `BlobMissing`, or `Memory`
-    /// for their texts. Nothing is removed or retired.
+    /// `Injected`; then those of the inner store: over memory `PartitionNameInvalid`, `PartitionMissing`, `BlobMissing`, or
+    /// `Memory` for their texts. Nothing is removed or retired.
     pub fn remove_retired(&mut self, partition: &str, name: Option<&[u8]>) -> Result<Retired, Error>
         ensures allowed { MayRemove R.stream S.allows_remove self.old partition.now (option_copied name.entry) (refused result) }
         ensures leaves { Removes S.Durable R.stream S.leaves_remove self.old partition.now (option_copied name.entry) (refused result) self.new }
-        ensures directory { OnOk result (S.directory (inner_of self.new) ≡ removed (S.directory (inner_of self.old)) partition.now (option_copied name.entry)) }
-        ensures durable { OnOk result (S.durable (inner_of self.new) ≡ durable_without (S.durable (inner_of self.old)) partition.now (option_copied name.entry)) }
+        ensures directory { OnOk result (RemovesNames S.Durable self.old self.new partition.now (option_copied name.entry)) }
+        ensures durable { OnOk result (RemovesBytes S.Durable self.old self.new partition.now (option_copied name.entry)) }
         ensures err { OnErr result (SameStore S.Durable self.old self.new) }
-        ensures files { OnOk result (Steps S.place S.directory S.durable self.old self.new (λ files. after_remove files partition.now (option_copied name.entry))) }
+        ensures files { OnOk result (RemovesFiles S.Durable self.old self.new partition.now (option_copied name.entry)) }
         ensures same_files { OnErr result (Steps S.place S.directory S.durable self.old self.new (λ files. files)) }
     {
         if draws(self.config.remove_rate, &mut self.rng) {
@@ -64,16 +62,16 @@ impl<S: blob_base::Storage, R: Rng> blob_base::Storage for Storage<S, R> {
 
     ghost keeps_size = { λ blob size. (size_of blob ≡ size) × S.keeps_size (inside blob) size };
 
-    /// Draws the open rate, then opens in the store inside. The handle's size is the one that is answered. What was kept of any
-    /// blob still is (`laws::keeps::accepted_opens`).
+    /// Opens a blob in the inner store, after one draw of the open rate. The handle's size is the returned size. No kept byte of
+    /// any blob is lost (`laws::keeps::accepted_opens`).
     ///
-    /// Alone it fixes nothing: what is pending of the blob stays so, and a later crash may replay it over what the handle found.
-    /// Nor does it keep a second handle from the blob. Over a memory store `admit` behind it retires what is pending,
-    /// `open_versioned_admitted` does both, and `open_exclusive` sees to one handle at a time as well.
+    /// This does not discard pending writes: a later crash may still apply them over what the handle read. It does not prevent a
+    /// second handle either. Over a memory store, call `admit` after it to discard them, or use `open_versioned_admitted`, which
+    /// does both, or `open_exclusive`, which also allows one handle per name only.
     ///
     /// # Errors
     ///
-    /// `Injected`; then as the store inside: over memory `PartitionNameInvalid`, `BlobCorrupt`, `BlobVersionMismatch`,
+    /// `Injected`; then those of the inner store: over memory `PartitionNameInvalid`, `BlobCorrupt`, `BlobVersionMismatch`,
     /// `GenerationsExhausted`, or `Memory`.
     fn open_versioned(
         &mut self,
@@ -89,21 +87,21 @@ impl<S: blob_base::Storage, R: Rng> blob_base::Storage for Storage<S, R> {
         Ok((Blob { inner, size, list }, size, version))
     }
 
-    /// Draws the remove rate, then removes, and retires what is pending of what ends, as `remove_retired` does.
+    /// Removes a blob or a partition as `remove_retired`.
     ///
     /// # Errors
     ///
-    /// As `remove_retired`.
+    /// Those of `remove_retired`.
     fn remove(&mut self, partition: &str, name: Option<&[u8]>) -> Result<(), Error> {
         self.remove_retired(partition, name)?;
         Ok(())
     }
 
-    /// Draws the scan rate, then asks the names of the store inside. Records nothing.
+    /// Draws the scan rate, then lists the names in the inner store. Records nothing.
     ///
     /// # Errors
     ///
-    /// `Injected`; then as the store inside: over memory `PartitionNameInvalid`, `PartitionMissing`, or `Memory`.
+    /// `Injected`; then those of the inner store: over memory `PartitionNameInvalid`, `PartitionMissing`, or `Memory`.
     fn scan(&mut self, partition: &str) -> Result<Vec<Vec<u8>>, Error> {
         if draws(self.config.scan_rate, &mut self.rng) {
             return Err(Error::Injected);
@@ -111,9 +109,9 @@ impl<S: blob_base::Storage, R: Rng> blob_base::Storage for Storage<S, R> {
         self.inner.scan(partition)
     }
 
-    /// Ends a started sync, and answers its outcome: its marker and the entries of its incarnation before it go. Where the
-    /// marker is gone, by a crash, a later sync, `admit` or a removal, nothing changes. Draws nothing, and answers no error but
-    /// the outcome.
+    /// Completes a started sync and returns its outcome, with no error of its own. Drops the sync's marker and every pending
+    /// entry of the same incarnation before it. If the marker no longer exists (after a crash, a later sync, `admit` or a
+    /// removal), nothing changes. Makes no draw.
     fn finish(&mut self, handle: Handle) -> Result<(), Error>
         ensures outcome { result ≡ outcome_of handle }
         ensures leaves { FinishLeaves S.place (marker_of handle) self.old self.new }

@@ -1,9 +1,8 @@
-//! Opens that are admitted at once.
+//! Opens with `admit`, in one call.
 ghost use Rattle.std.specs.Prelude.{IfOk};
 ghost use Rattle.blob_header.specs.Refusals.{refused};
-ghost use Rattle.blob_faulty.specs.Admitted.{AdmitsOpen, FindsKept};
+ghost use Rattle.blob_faulty.specs.Admitted.{AdmitsOpen, AdmitsVersions, FindsKept, FindsVersions};
 ghost use Rattle.blob_faulty.specs.Names.{AreVersions};
-ghost use Rattle.blob_header.specs.Versions.{lower, upper};
 
 use crate::blob::Blob;
 use crate::laws::names::opens;
@@ -14,12 +13,12 @@ use rand_core::Rng;
 use std::ops::RangeInclusive;
 
 impl<R: Rng> Storage<blob_memory::Storage, R> {
-    /// Opens the blob for any of the versions, and admits it: what is pending of it is retired, so that no crash loses what
-    /// the handle found. This is the open of a caller that keeps one handle of a name at a time by itself.
+    /// Opens the blob for any of the versions and retires its pending list, so that no crash loses what the handle read. For
+    /// callers that keep to one handle per name themselves.
     ///
     /// # Errors
     ///
-    /// As `open_versioned`. Nothing is retired then.
+    /// Those of `open_versioned`. Nothing is retired then.
     pub fn open_versioned_admitted(
         &mut self,
         partition: &str,
@@ -27,8 +26,8 @@ impl<R: Rng> Storage<blob_memory::Storage, R> {
         versions: RangeInclusive<BlobVersion>,
     ) -> Result<(Blob<blob_memory::Blob>, u64, BlobVersion), Error>
         requires { AreVersions versions }
-        ensures answer { AdmitsOpen self.old self.new partition.now name.now (lower versions) (upper versions) R.stream (refused result) }
-        ensures accepted { IfOk result (λ o. FindsKept self.old self.new partition.now name.now (lower versions) (upper versions) o.0 o.1 o.2.0) }
+        ensures answer { AdmitsVersions self.old self.new partition.now name.now versions R.stream (refused result) }
+        ensures accepted { IfOk result (λ o. FindsVersions self.old self.new partition.now name.now versions o.0 o.1 o.2.0) }
     {
         opens::<blob_memory::Storage, R>();
         numbers_are_given::<blob_memory::Storage>();
@@ -37,12 +36,11 @@ impl<R: Rng> Storage<blob_memory::Storage, R> {
         Ok(opened)
     }
 
-    /// Opens the blob for the default version alone, and admits it: what is pending of it is retired, so that no crash loses what
-    /// the handle found.
+    /// Opens the blob for the default version only and retires its pending list, so that no crash loses what the handle read.
     ///
     /// # Errors
     ///
-    /// As `open`. Nothing is retired then.
+    /// Those of `open`. Nothing is retired then.
     pub fn open_admitted(
         &mut self,
         partition: &str,

@@ -1,11 +1,10 @@
-//! Exclusive opens that are admitted at once.
+//! Exclusive opens with `admit`, in one call.
 ghost use Rattle.std.specs.Prelude.{◌≡◌, OnOk, OnErr, IfOk};
 ghost use Rattle.blob_header.specs.Refusals.{refused};
-ghost use Rattle.blob_faulty.specs.Admitted.{FindsKept};
-ghost use Rattle.blob_faulty.specs.Exclusive.{ExclusiveAnswer};
+ghost use Rattle.blob_faulty.specs.Admitted.{FindsVersions};
+ghost use Rattle.blob_faulty.specs.Exclusive.{AnswersExclusive, next_registration};
 ghost use Rattle.blob_faulty.specs.Keeps.{LosesNothing};
 ghost use Rattle.blob_faulty.specs.Names.{AreVersions};
-ghost use Rattle.blob_header.specs.Versions.{lower, upper};
 ghost use Rattle.blob_opens.specs.OpenNames.{opened};
 ghost use Rattle.blob_opens.specs.Opens.{names_of, registration_of, store_handle as handle_of};
 
@@ -20,14 +19,13 @@ use rand_core::Rng;
 use std::ops::RangeInclusive;
 
 impl<R: Rng> Storage<blob_memory::Storage, R> {
-    /// Opens a blob that isn't open by another handle of this registry, and admits it: what is pending of it is retired, so that
-    /// no crash loses what the handle found. This is the open of a caller that leaves it to a registry that a name has one
-    /// handle at a time; the handle is spent by `Opens::close`.
+    /// Opens a blob that no other handle of this registry has open, and retires its pending list, so that no crash loses what the
+    /// handle read. For callers that let a registry keep each name to one handle. Close the handle with `Opens::close`.
     ///
     /// # Errors
     ///
-    /// As `Opens::open` over this store. Where the name is open, what the store's own open drew and made stays, else the files are
-    /// as before. Nothing is retired.
+    /// Those of `Opens::open` over this store. If the name is open, the draw and the effects of the store's own open stay.
+    /// Otherwise the files are unchanged. Nothing is retired.
     pub fn open_exclusive(
         &mut self,
         registry: &mut Opens,
@@ -36,11 +34,11 @@ impl<R: Rng> Storage<blob_memory::Storage, R> {
         versions: RangeInclusive<BlobVersion>,
     ) -> Result<(open::Blob<Blob<blob_memory::Blob>>, u64, BlobVersion), Error>
         requires { AreVersions versions }
-        ensures answer { ExclusiveAnswer self.old self.new partition.now name.now (lower versions) (upper versions) R.stream (names_of registry.old) (refused result) }
+        ensures answer { AnswersExclusive self.old self.new partition.now name.now versions R.stream registry.old (refused result) }
         ensures registered { OnOk result (names_of registry.new ≡ opened (names_of registry.old) partition.now name.now) }
         ensures err { OnErr result (names_of registry.new ≡ names_of registry.old) }
-        ensures handle { IfOk result (λ o. registration_of o.0 ≡ record { partition = partition.now; name = name.now; number = (names_of registry.old).next }) }
-        ensures accepted { IfOk result (λ o. FindsKept self.old self.new partition.now name.now (lower versions) (upper versions) (handle_of o.0) o.1 o.2.0) }
+        ensures handle { IfOk result (λ o. registration_of o.0 ≡ next_registration registry.old partition.now name.now) }
+        ensures accepted { IfOk result (λ o. FindsVersions self.old self.new partition.now name.now versions (handle_of o.0) o.1 o.2.0) }
         ensures keeps { LosesNothing self.old self.new }
     {
         opens::<blob_memory::Storage, R>();

@@ -1,4 +1,4 @@
-//! What a crash makes of the durable bytes. Where there is room for it, no memory is taken.
+//! The replay of pending entries over durable bytes, into capacity that was reserved before.
 ghost use Rattle.std.specs.Prelude.{◌≡◌, ◌<◌, ◌≤◌, ℕ, false, length, slice_index_or, vec_capacity, All};
 ghost use Rattle.blob_model.specs.Bytes.{between};
 ghost use Rattle.blob_model.specs.Draws.{chosen_by};
@@ -11,7 +11,7 @@ ghost use Rattle.blob_faulty.specs.Crashes.{ChoosesUncovered, ReplaysList, Repla
 ghost use Rattle.blob_faulty.specs.Ready.{IsReady, CanReplay};
 ghost use Rattle.blob_faults.specs.Rows.{rows_in, AreNumbered};
 ghost use Rattle.blob_faults.specs.Views.{view, left_in};
-ghost use Rattle.blob_overlay.specs.Overlays.{AreNow};
+ghost use Rattle.blob_pages.specs.Stored.{AreNow};
 ghost use Rattle.blob_memory.specs.Retained.{KeepsRoom};
 ghost use Rattle.blob_memory.specs.Store.{directory, durable};
 
@@ -21,9 +21,9 @@ use blob_faults::holes::Hole;
 use blob_faults::incarnation::Incarnation;
 use blob_faults::rows::choices_in;
 use blob_faults::write::PendingWrite;
-use blob_memory::{Origin, overlay};
+use blob_memory::{Bytes, Origin, overlay};
 
-/// A row's choices for so many bytes, none past its end.
+/// Sets `chosen` to a row's choices for `len` bytes. Bytes past the row's end aren't chosen.
 fn put_row(chosen: &mut Vec<bool>, row: &[bool], len: usize)
     requires { len ≤ vec_capacity chosen.old }
     ensures len { length chosen.new.items ≡ len }
@@ -36,8 +36,8 @@ fn put_row(chosen: &mut Vec<bool>, row: &[bool], len: usize)
     chosen.resize(len, false).unwrap();
 }
 
-/// Nothing that a hole covers is chosen of the bytes at `offset`.
-fn uncover(chosen: &mut [bool], offset: u64, hole: Hole)
+/// Deselects the bytes that a hole covers. `offset` is the position of the first byte.
+fn deselect(chosen: &mut [bool], offset: u64, hole: Hole)
     ensures { StaysChosen offset (between hole.start hole.end) chosen.old chosen.new }
 {
     let start = hole.start.saturating_sub(offset) as usize;
@@ -47,16 +47,16 @@ fn uncover(chosen: &mut [bool], offset: u64, hole: Hole)
     }
 }
 
-/// No byte in any of the holes is chosen.
-fn uncover_all(chosen: &mut [bool], offset: u64, holes: &[Hole])
+/// Deselects the bytes that any of the holes covers.
+fn deselect_covered(chosen: &mut [bool], offset: u64, holes: &[Hole])
     ensures { StaysChosen offset (in_holes (ranges holes.now)) chosen.old chosen.new }
 {
     for hole in holes {
-        uncover(chosen, offset, *hole);
+        deselect(chosen, offset, *hole);
     }
 }
 
-/// A row's choices of the bytes of a write that no later durable range covers.
+/// Sets `chosen` to a row's choices for a write, without the bytes that later durable ranges cover.
 fn put_choices(chosen: &mut Vec<bool>, write: &PendingWrite, row: &[bool])
     requires { length write.now.bytes ≤ vec_capacity chosen.old }
     ensures len { length chosen.new.items ≡ length write.now.bytes }
@@ -64,12 +64,12 @@ fn put_choices(chosen: &mut Vec<bool>, write: &PendingWrite, row: &[bool])
     ensures capacity { vec_capacity chosen.old ≤ vec_capacity chosen.new }
 {
     put_row(chosen, row, write.bytes.remaining());
-    uncover_all(chosen.as_mut_slice(), write.offset, &write.holes);
+    deselect_covered(chosen.as_mut_slice(), write.offset, &write.holes);
 }
 
-/// One entry is replayed over bytes that have room for it. The rows are read by the write's number.
+/// Replays one entry over bytes with enough capacity. A write's row is found by the write's number.
 fn replay_entry(
-    bytes: &mut Vec<u8>,
+    bytes: &mut Bytes,
     entry: &Entry,
     rows: &[(u64, Vec<bool>)],
     chosen: &mut Vec<bool>,
@@ -93,9 +93,9 @@ fn replay_entry(
     }
 }
 
-/// Entries among which no marker is are replayed in their order, those of which something is left.
+/// Replays entries in their order, except writes that are fully covered. None of them is a marker.
 fn replay_entries(
-    bytes: &mut Vec<u8>,
+    bytes: &mut Bytes,
     entries: &[Entry],
     rows: &[(u64, Vec<bool>)],
     chosen: &mut Vec<bool>,
@@ -113,7 +113,7 @@ fn replay_entries(
     }
 }
 
-/// A list is replayed over its incarnation, whose bytes are looked up once. Where that has ended, nothing is left to change.
+/// Replays a list over the durable bytes of its incarnation. Does nothing if the incarnation has ended.
 fn replay_list(
     inner: &mut blob_memory::Storage,
     list: &Incarnation<Origin>,
@@ -134,7 +134,7 @@ fn replay_list(
     replay_entries(bytes, entries, rows, chosen);
 }
 
-/// All lists are replayed, each over its incarnation.
+/// Replays all lists, each over its incarnation.
 pub fn replay_all(
     inner: &mut blob_memory::Storage,
     lists: &[Incarnation<Origin>],

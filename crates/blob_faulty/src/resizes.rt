@@ -1,4 +1,4 @@
-//! How a resize goes to the inner blob, and what it records.
+//! Resizes of the inner blob, and what they record.
 ghost use Rattle.std.specs.Prelude.{◌≡◌, [], ◌∷◌, OnErr};
 ghost use Rattle.blob_model.specs.Log.{Resized};
 ghost use Rattle.blob_header.specs.Refusals.{refused};
@@ -17,7 +17,7 @@ use blob_faults::faults::ResizeFate;
 use blob_faults::room::Room;
 
 impl<B> Blob<B> {
-    /// A resize of which nothing is recorded.
+    /// Resizes the inner blob and records nothing.
     fn resize_unrecorded<S: blob_base::Storage, R>(
         &mut self,
         store: &mut Storage<S, R>,
@@ -37,7 +37,7 @@ impl<B> Blob<B> {
         Ok(())
     }
 
-    /// A resize that survives a crash.
+    /// Resizes the inner blob and records it, so that it survives a crash.
     fn resize_pending<S: blob_base::Storage, R>(
         &mut self,
         store: &mut Storage<S, R>,
@@ -57,7 +57,7 @@ impl<B> Blob<B> {
         Ok(())
     }
 
-    /// A resize whose fate was drawn.
+    /// Carries out a resize by its drawn outcome.
     pub(crate) fn resize_by_fate<S: blob_base::Storage, R>(
         &mut self,
         store: &mut Storage<S, R>,

@@ -1,7 +1,6 @@
-//! What retiring answers.
+//! The result of a call that retires pending lists.
 
-/// That what was pending of a name is retired. It has no calls and holds nothing: it tells a call that retires from one that
-/// doesn't, in the call's type, and may be dropped.
+/// Returned by calls that retire the pending list of a name. It is empty and may be dropped.
 #[derive(Drop)]
 pub struct Retired {
     pub(crate) _private: (),

@@ -14,11 +14,10 @@ use blob_faults::lists::Lists;
 use rand_core::Rng;
 use std::alloc::Global;
 
-/// A store that fails by drawn choices and remembers which of its mutations a crash could still lose.
+/// A store that fails by draws of a generator and records the mutations that a crash could still lose.
 ///
-/// Each call that draws does so before it asks the store inside, and answers `Injected` where the draw is true. What the store
-/// inside refuses is the answer, also where `Injected` was to follow, and nothing is recorded. A refusal for memory leaves
-/// everything as it was but the generator.
+/// A call makes its draws before it calls the inner store, and returns `Injected` if a draw is true. An error of the inner store
+/// is returned in place of `Injected`, and nothing is recorded. `Memory` changes nothing except the generator.
 #[derive(Drop)]
 pub struct Storage<S: Durable, R> {
     pub(crate) inner: S,
@@ -30,16 +29,14 @@ pub struct Storage<S: Durable, R> {
 }
 
 impl<S: Durable, R> Storage<S, R> {
-    /// A wrapper of the store that draws from the generator. Nothing is pending, and writes and markers are
-    /// numbered from 0.
+    /// Wraps a store, with faults drawn from the generator. Nothing is pending. Writes and markers are numbered from 0.
     pub fn new(alloc: Global, inner: S, rng: R, config: Config) -> Storage<S, R>
         ensures { IsNew S.Durable inner rng config 0 0 result }
     {
         Storage::new_numbered(alloc, inner, rng, config, 0, 0)
     }
 
-    /// A wrapper of the store that draws from the generator. Nothing is pending, and writes and markers are numbered from these
-    /// two on, so that the end of the numbers can be reached.
+    /// Wraps a store as `new`, with writes and markers numbered from the given numbers on, so that a test can reach the last one.
     pub fn new_numbered(
         alloc: Global,
         inner: S,
@@ -60,7 +57,12 @@ impl<S: Durable, R> Storage<S, R> {
         }
     }
 
-    /// The wrapped store, for reading. What is pending isn't in it: its durable bytes are those before a crash.
+    /// Returns the allocator of the pending lists.
+    pub(crate) fn alloc(&self) -> Global {
+        *self.lists.all.lists.allocator()
+    }
+
+    /// Returns the inner store. Its durable bytes don't include pending writes.
     pub fn inner(&self) -> &S
         ensures { result.now ≡ inner_of self.now }
     {
@@ -74,15 +76,15 @@ impl<S: Durable, R> Storage<S, R> {
         &self.rng
     }
 
-    /// What a crash could lose or keep: a list for each incarnation that has one, in no order. An ended incarnation's list may be
-    /// among them, and so may an empty one, and among its entries a write of which nothing is left (`Entry::is_left`).
+    /// Returns the pending lists, in no order. Ended incarnations and empty lists may be among them, and a list may have a write
+    /// that later durable ranges cover fully (`Entry::is_left` is false for it).
     pub fn pending(&self) -> &[Incarnation<S::Origin>]
         ensures { list_of S.place result.now ≡ pending_of S.place self.now }
     {
         &self.lists.all.lists
     }
 
-    /// The rates of the faults, to be changed at any time. An entry that is pending keeps the mode and the rate of its own issue.
+    /// Returns the fault rates, which may be changed at any time. A pending entry keeps the mode and rate of its issue.
     pub fn config(&mut self) -> &mut Config
         ensures* writes_back { sem 𝓛 (LendsConfig S.row R.row S.Origin.row self.entry result) }
         ensures value { result.now ≡ config_of self.old }
@@ -90,8 +92,7 @@ impl<S: Durable, R> Storage<S, R> {
         &mut self.config
     }
 
-    /// From here on the faults are drawn by these rates, and nothing else changes: for an owner who lends no part of the wrapper,
-    /// as one whose type has an invariant.
+    /// Replaces the fault rates and nothing else. For a type with an invariant, which can't lend `config`.
     pub fn set_config(&mut self, config: Config)
         ensures set { self.new ≡ with_config self.old config }
         ensures files { Steps S.place S.directory S.durable self.old self.new (λ files. files) }
@@ -109,7 +110,7 @@ impl<S: Durable, R> Storage<S, R> {
         self.rng = rng;
     }
 
-    /// The wrapped store, the generator and the configuration; what is pending is dropped.
+    /// Returns the inner store, the generator and the configuration. Drops the pending lists.
     pub fn into_inner(self) -> (S, R, Config)
         ensures inner { result.0 ≡ inner_of self }
         ensures rng { result.1 ≡ rng_of self }
@@ -136,7 +137,7 @@ impl<S: blob_base::Storage, R: Rng> Durable for Storage<S, R> {
 
     ghost given = { λ s o. S.given s.inner o };
 
-    /// Whether the incarnation is still its name's current one, as the store inside says.
+    /// Returns whether the incarnation is its name's current one in the inner store.
     fn is_current(&self, origin: &S::Origin) -> bool {
         self.inner.is_current(origin)
     }

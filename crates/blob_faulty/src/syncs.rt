@@ -1,4 +1,4 @@
-//! How a sync goes to the inner blob, and what it retires.
+//! Syncs of the inner blob, and what they retire.
 ghost use Rattle.std.specs.Prelude.{◌≡◌, ◌<◌, ◌+◌, ◌-◌, ◌^◌, [], OnOk, IfOk};
 ghost use Rattle.blob_header.specs.Refusals.{refused};
 ghost use Rattle.blob_faults.specs.Answers.{or_memory};
@@ -11,8 +11,8 @@ use blob_base::Error;
 use blob_faults::room::Room;
 
 impl<B> Blob<B> {
-    /// A sync of the inner blob. Done, it retires what is pending of its incarnation.
-    pub(crate) fn sync_drawn<S: blob_base::Storage, R>(
+    /// Syncs the inner blob and, on Ok, retires the pending list of its incarnation.
+    pub(crate) fn sync_inner<S: blob_base::Storage, R>(
         &mut self,
         store: &mut Storage<S, R>,
     ) -> Result<(), Error>
@@ -29,7 +29,7 @@ impl<B> Blob<B> {
         Ok(())
     }
 
-    /// A started sync of the inner blob, which is finished at once, with room for its marker: the marker's number.
+    /// Starts and finishes a sync of the inner blob, adds a marker to the list and returns the marker's number.
     pub(crate) fn start_marked<S: blob_base::Storage, R>(
         &mut self,
         store: &mut Storage<S, R>,

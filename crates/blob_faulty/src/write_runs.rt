@@ -1,7 +1,8 @@
-//! A failed write: each maximal run of its kept bytes is durable at once.
+//! Failed writes: each maximal run of the kept bytes becomes durable.
 ghost use Rattle.std.specs.Prelude.{◌≡◌, ◌<◌, ◌+◌, ◌^◌, length};
 
 use crate::blob::Blob;
+use crate::payload::Payload;
 use crate::storage::Storage;
 use blob_base::laws::overlays::runs_are_choices;
 use blob_base::{Error, IoBufs};
@@ -27,7 +28,7 @@ impl Piece {
     ghost use Rattle.blob_faulty.specs.Pieces.{run_of, runs_in, first_start};
     ghost use Rattle.blob_faults.specs.Spans.{piece, pieces, ends_by};
 
-    /// A span of the bytes of a write at `offset`.
+    /// Copies a span of the bytes of a write at `offset`.
     fn of(offset: u64, bytes: &Vec<u8>, span: Span) -> Result<Piece, Error>
         requires inside { ends_by (length bytes.now.items) span }
         requires fits { offset + length bytes.now.items < 2 ^ 64 }
@@ -44,7 +45,7 @@ impl Piece {
         })
     }
 
-    /// The runs of the kept bytes, from the last to the first. The only error is `Memory`.
+    /// Returns the runs of the kept bytes, last first. The only error is `Memory`.
     pub(crate) fn all_of(offset: u64, bytes: &Vec<u8>, kept: &[bool]) -> Result<Vec<Piece>, Error>
         requires sized { length kept.now ≡ length bytes.now.items }
         requires fits { offset + length bytes.now.items < 2 ^ 64 }
@@ -61,30 +62,30 @@ impl Piece {
         Ok(all)
     }
 
-    /// The position after its last byte.
+    /// Returns the position after its last byte.
     fn end(&self) -> u64
         ensures { result ≡ self.now.offset + length self.now.bytes }
     {
         self.offset + self.bytes.remaining() as u64
     }
 
-    /// The offset of the first run, or 0 where there is none.
-    pub(crate) fn first_start(pieces: &[Piece]) -> u64
+    /// Returns the offset of the lowest run, which is the last in the list, or 0 if there is none.
+    pub(crate) fn lowest_start(pieces: &[Piece]) -> u64
         ensures { result ≡ first_start (runs_in pieces.now) }
     {
         match pieces.last() {
             None => 0,
-            Some(first) => first.offset,
+            Some(lowest) => lowest.offset,
         }
     }
 
-    /// The end of the last run, or 0 where there is none.
-    pub(crate) fn last_end(pieces: &[Piece]) -> u64
+    /// Returns the end of the highest run, which is the first in the list, or 0 if there is none.
+    pub(crate) fn highest_end(pieces: &[Piece]) -> u64
         ensures { result ≡ last_end 0 (runs_in pieces.now) }
     {
         match pieces {
             [] => 0,
-            [last, ..] => last.end(),
+            [highest, ..] => highest.end(),
         }
     }
 }
@@ -102,8 +103,7 @@ impl<B> Blob<B> {
     ghost use Rattle.blob_faults.specs.Faults.{Failed};
     ghost use Rattle.blob_faulty.specs.Writes.{LaysAll, RecordsRuns, FailsBy, StaysUnchanged};
 
-    /// The runs behind the first, in rising order. A refused one is answered `WriteFailed`, and those before it stay
-    /// laid.
+    /// Writes the runs after the first, lowest first. Returns `WriteFailed` if the inner blob rejects one. Those before it stay.
     fn lay_later<S: blob_base::Storage, R>(
         &mut self,
         store: &mut Storage<S, R>,
@@ -134,8 +134,7 @@ impl<B> Blob<B> {
         Ok(())
     }
 
-    /// All runs, in rising order. What refuses the first is the answer; a later one that is refused is answered
-    /// `WriteFailed`.
+    /// Writes all runs, lowest first. An error of the first is returned as it is, an error of a later one as `WriteFailed`.
     fn lay_runs<S: blob_base::Storage, R>(
         &mut self,
         store: &mut Storage<S, R>,
@@ -162,8 +161,8 @@ impl<B> Blob<B> {
         self.lay_later(store, list, pieces)
     }
 
-    /// Room for the runs: as durable ranges in the list of the handle's incarnation, which it answers, and for their
-    /// bytes in the inner store.
+    /// Reserves capacity for the runs: for durable ranges in the list of the handle's incarnation, and for bytes in the inner
+    /// store. Returns the list's index.
     fn reserve_runs<S: blob_base::Storage, R>(
         &mut self,
         store: &mut Storage<S, R>,
@@ -179,34 +178,36 @@ impl<B> Blob<B> {
         ensures ranges { IfOk result (λ i. HasListRoom S.Durable B.Blob self.new store.new i (extents (runs_in pieces.now))) }
         ensures unchanged { StaysUnchanged S.Durable B.Blob self.old store.old self.new store.new }
     {
-        let (start, end) = (Piece::first_start(pieces), Piece::last_end(pieces));
+        let (start, end) = (Piece::lowest_start(pieces), Piece::highest_end(pieces));
         let list = self.room_for(store, Room::Ranges(start, end, pieces.len()))?;
         self.inner.reserve(&mut store.inner, end)?;
         self.list = list;
         Ok(list)
     }
 
-    /// The runs of the kept bytes of a write, all of them. `kept` lists a choice for each byte, or none.
-    pub(crate) fn lay_kept<S: blob_base::Storage, R>(
+    /// Writes all runs of the kept bytes of a write. `kept` has a choice for each byte, or none at all.
+    pub(crate) fn lay_kept<S: blob_base::Storage, R, P>(
         &mut self,
         store: &mut Storage<S, R>,
         offset: u64,
-        bytes: IoBufs,
+        bytes: P,
         kept: &[bool],
     ) -> Result<(), Error>
     where
         B: blob_base::Blob<S>,
-        requires fits { offset + length bytes < 2 ^ 64 }
-        requires sized { kept.now ≢ [] → length kept.now ≡ length bytes }
-        ensures allowed { MayLayKept B.Blob self.old store.old (runs offset bytes kept.now) (refused result) }
-        ensures asked { AsksRuns B.Blob self.old store.old self.new store.new (runs offset bytes kept.now) (refused result) }
-        ensures recorded { RecordsRuns S.Durable B.Blob self.old store.old self.new store.new (runs offset bytes kept.now) (refused result) }
-        ensures front { FailsBy S.Durable B.Blob self.old store.old self.new store.new (Failed kept.now) offset bytes (refused result) }
+        P: Payload<S, B>,
+        requires fits { offset + length (P.bytes bytes) < 2 ^ 64 }
+        requires sized { kept.now ≢ [] → length kept.now ≡ length (P.bytes bytes) }
+        ensures allowed { MayLayKept B.Blob self.old store.old (runs offset (P.bytes bytes) kept.now) (refused result) }
+        ensures asked { AsksRuns B.Blob self.old store.old self.new store.new (runs offset (P.bytes bytes) kept.now) (refused result) }
+        ensures recorded { RecordsRuns S.Durable B.Blob self.old store.old self.new store.new (runs offset (P.bytes bytes) kept.now) (refused result) }
+        ensures front { FailsBy S.Durable B.Blob self.old store.old self.new store.new (Failed kept.now) offset (P.bytes bytes) (refused result) }
     {
         if kept.is_empty() {
             return Ok(());
         }
-        let bytes = bytes.coalesce()?;
+        let owned = bytes.into_bufs(store.alloc())?;
+        let bytes = owned.coalesce()?;
         let pieces = Piece::all_of(offset, &bytes, kept)?;
         if pieces.is_empty() {
             return Ok(());

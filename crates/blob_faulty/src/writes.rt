@@ -1,6 +1,5 @@
-//! How a write goes to the inner blob, and what it records.
-ghost use Rattle.std.specs.Prelude.{◌≡◌, ◌≢◌, ◌≤◌, ◌<◌, ◌+◌, ◌-◌, ◌^◌, ◌∷◌, [], true, false, Some, OnOk, OnErr, IfOk, length};
-ghost use Rattle.blob_base.specs.Options.{is_sync};
+//! Writes of the inner blob, and what they record.
+ghost use Rattle.std.specs.Prelude.{◌≡◌, ◌≢◌, ◌≤◌, ◌<◌, ◌+◌, ◌-◌, ◌^◌, ◌∷◌, [], true, false, OnOk, OnErr, IfOk, length};
 ghost use Rattle.blob_header.specs.Refusals.{refused, IsMemory};
 ghost use Rattle.blob_faults.specs.Answers.{or_memory};
 ghost use Rattle.blob_model.specs.Pending.{has_barrier};
@@ -13,6 +12,7 @@ ghost use Rattle.blob_faulty.specs.Writes.{Writes, Records, LaidRuns, FailsBy, W
 ghost use Rattle.blob_faults.specs.Fates.{write_fate_of, IsSized};
 
 use crate::blob::Blob;
+use crate::payload::Payload;
 use crate::storage::Storage;
 use blob_base::{Error, IoBufs, WriteOptions};
 use blob_faults::config::WriteConfig;
@@ -22,7 +22,7 @@ use blob_faults::room::Room;
 use blob_faults::write::PendingWrite;
 
 impl<S: blob_base::Storage, R> Storage<S, R> {
-    /// Records a write that a crash may lose, where there is room for it, and takes a number for it.
+    /// Adds a write that a crash may lose to the list at `list`, which has capacity for it. The write takes the next number.
     pub(crate) fn record_write(
         &mut self,
         list: usize,
@@ -39,7 +39,7 @@ impl<S: blob_base::Storage, R> Storage<S, R> {
     {
         let number = self.next_write;
         self.next_write = number + 1;
-        let holes = Vec::new(*self.lists.all.lists.allocator());
+        let holes = Vec::new(self.alloc());
         let (mode, rate) = (config.mode, config.retention_rate);
         let write = PendingWrite {
             number,
@@ -54,7 +54,7 @@ impl<S: blob_base::Storage, R> Storage<S, R> {
 }
 
 impl<B> Blob<B> {
-    /// The list of the handle's incarnation, with room for this. The only error is want of memory.
+    /// Reserves capacity in the list of the handle's incarnation and returns the list's index. The only error is `Memory`.
     pub(crate) fn room_for<S: blob_base::Storage, R>(
         &self,
         store: &mut Storage<S, R>,
@@ -72,68 +72,65 @@ impl<B> Blob<B> {
 }
 
 impl<B> Blob<B> {
-    /// A write of which nothing is recorded.
-    fn write_unrecorded<S: blob_base::Storage, R>(
+    /// Writes to the inner blob without SYNC and records nothing.
+    fn write_unrecorded<S: blob_base::Storage, R, P>(
         &mut self,
         store: &mut Storage<S, R>,
         offset: u64,
-        bytes: IoBufs,
-        options: WriteOptions,
+        bytes: P,
     ) -> Result<(), Error>
     where
         B: blob_base::Blob<S>,
-        requires fits { offset + length bytes < 2 ^ 64 }
-        ensures allowed { B.allows_write self.old.inner store.old.inner offset bytes (is_sync options) (refused result) }
-        ensures asked { B.leaves (Write offset bytes (is_sync options)) self.old.inner store.old.inner (refused result) self.new.inner store.new.inner }
-        ensures wrote { Writes S.Durable B.Blob self.old store.old self.new store.new (unrecorded (is_sync options) offset bytes) (refused result) }
+        P: Payload<S, B>,
+        requires fits { offset + length (P.bytes bytes) < 2 ^ 64 }
+        ensures allowed { B.allows_write self.old.inner store.old.inner offset (P.bytes bytes) false (refused result) }
+        ensures asked { B.leaves (Write offset (P.bytes bytes) false) self.old.inner store.old.inner (refused result) self.new.inner store.new.inner }
+        ensures wrote { Writes S.Durable B.Blob self.old store.old self.new store.new (unrecorded false offset (P.bytes bytes)) (refused result) }
         ensures untracked { OnErr result (self.new.size ≡ self.old.size) }
-        ensures room { OnOk result (is_sync options ≡ true → B.room self.old.inner store.old.inner ≤ B.room self.new.inner store.new.inner) }
         ensures rest { store.new ≡ record store.old { inner = store.new.inner } }
     {
-        let end = offset + bytes.remaining() as u64;
-        self.inner
-            .write_at(&mut store.inner, offset, bytes, options)?;
+        let end = offset + bytes.len() as u64;
+        bytes.write_plain(&mut self.inner, &mut store.inner, offset)?;
         self.size = self.size.max(end);
+        Ok(())
+    }
+
+    /// Writes without SYNC. If retention is set, a write of some bytes is pending from then on and takes the next number.
+    fn write_plain<S: blob_base::Storage, R, P>(
+        &mut self,
+        store: &mut Storage<S, R>,
+        offset: u64,
+        bytes: P,
+    ) -> Result<(), Error>
+    where
+        B: blob_base::Blob<S>,
+        P: Payload<S, B>,
+        requires fits { offset + length (P.bytes bytes) < 2 ^ 64 }
+        ensures allowed { MayWritePlain B.Blob self.old store.old offset (P.bytes bytes) (refused result) }
+        ensures asked { Asks B.Blob self.old store.old self.new store.new (Write offset (P.bytes bytes) false) (refused result) }
+        ensures recorded { Records S.Durable B.Blob self.old store.old self.new store.new (plain offset (P.bytes bytes)) (refused result) }
+    {
+        let Some(config) = retained(store.config.write_rate) else {
+            return self.write_unrecorded(store, offset, bytes);
+        };
+        if bytes.len() == 0 {
+            return self.write_unrecorded(store, offset, bytes);
+        }
+        if store.next_write == u64::MAX {
+            return Err(Error::GenerationsExhausted);
+        }
+        let copy = bytes.to_bufs(store.alloc())?;
+        let list = self.room_for(store, Room::Entry)?;
+        self.write_unrecorded(store, offset, bytes)?;
+        store.record_write(list, offset, copy, config);
+        self.list = list;
         Ok(())
     }
 }
 
 impl<B> Blob<B> {
-    /// A write that isn't durable. It is pending where retention is set and there is a byte, and then takes a number.
-    fn write_plain<S: blob_base::Storage, R>(
-        &mut self,
-        store: &mut Storage<S, R>,
-        offset: u64,
-        bytes: IoBufs,
-        options: WriteOptions,
-    ) -> Result<(), Error>
-    where
-        B: blob_base::Blob<S>,
-        requires plain { is_sync options ≡ false }
-        requires fits { offset + length bytes < 2 ^ 64 }
-        ensures allowed { MayWritePlain B.Blob self.old store.old offset bytes (refused result) }
-        ensures asked { Asks B.Blob self.old store.old self.new store.new (Write offset bytes false) (refused result) }
-        ensures recorded { Records S.Durable B.Blob self.old store.old self.new store.new (plain offset bytes) (refused result) }
-    {
-        let Some(config) = retained(store.config.write_rate) else {
-            return self.write_unrecorded(store, offset, bytes, options);
-        };
-        if bytes.is_empty() {
-            return self.write_unrecorded(store, offset, bytes, options);
-        }
-        if store.next_write == u64::MAX {
-            return Err(Error::GenerationsExhausted);
-        }
-        let copy = bytes.copied()?;
-        let list = self.room_for(store, Room::Entry)?;
-        self.write_unrecorded(store, offset, bytes, options)?;
-        store.record_write(list, offset, copy, config);
-        self.list = list;
-        Ok(())
-    }
-
-    /// A range that is durable at once, by a SYNC write of the inner blob, where its list has room for it. Only where it
-    /// is queued its bytes have to be in `copy`.
+    /// Makes a range durable by a SYNC write of the inner blob and updates the list at `list`, which has capacity for it.
+    /// `copy` has the range's bytes if the list queues it.
     pub(crate) fn lay_range<S: blob_base::Storage, R>(
         &mut self,
         store: &mut Storage<S, R>,
@@ -157,61 +154,66 @@ impl<B> Blob<B> {
         ensures left { OnOk result (LeavesListRoom S.Durable B.Blob self.old store.old self.new store.new list (offset, bytes)) }
     {
         let len = bytes.remaining() as u64;
-        self.write_unrecorded(store, offset, bytes, WriteOptions::SYNC)?;
+        self.inner
+            .write_at(&mut store.inner, offset, bytes, WriteOptions::SYNC)?;
+        self.size = self.size.max(offset + len);
         store.lists.lay(list, offset, len, copy);
         Ok(())
     }
 
-    /// A SYNC write: its range is durable at once, and the pending writes give up what it covers.
-    fn write_synced<S: blob_base::Storage, R>(
+    /// Writes with SYNC. The range becomes durable, and a crash no longer applies pending writes to it.
+    fn write_synced<S: blob_base::Storage, R, P>(
         &mut self,
         store: &mut Storage<S, R>,
         offset: u64,
-        bytes: IoBufs,
+        bytes: P,
     ) -> Result<(), Error>
     where
         B: blob_base::Blob<S>,
-        requires some { bytes ≢ [] }
-        requires fits { offset + length bytes < 2 ^ 64 }
-        ensures allowed { or_memory (B.allows_write self.old.inner store.old.inner offset bytes true) (refused result) }
-        ensures asked { Asks B.Blob self.old store.old self.new store.new (Write offset bytes true) (refused result) }
-        ensures recorded { Records S.Durable B.Blob self.old store.old self.new store.new (laid_runs ((offset, bytes) ∷ [])) (refused result) }
+        P: Payload<S, B>,
+        requires some { P.bytes bytes ≢ [] }
+        requires fits { offset + length (P.bytes bytes) < 2 ^ 64 }
+        ensures allowed { or_memory (B.allows_write self.old.inner store.old.inner offset (P.bytes bytes) true) (refused result) }
+        ensures asked { Asks B.Blob self.old store.old self.new store.new (Write offset (P.bytes bytes) true) (refused result) }
+        ensures recorded { Records S.Durable B.Blob self.old store.old self.new store.new (laid_runs ((offset, P.bytes bytes) ∷ [])) (refused result) }
     {
-        let len = bytes.remaining() as u64;
+        let owned = bytes.into_bufs(store.alloc())?;
+        let len = owned.remaining() as u64;
         let list = self.room_for(store, Room::Ranges(offset, offset + len, 1))?;
-        let copy = store.lists.copy_for(list, &bytes)?;
+        let copy = store.lists.copy_for(list, &owned)?;
         self.list = list;
-        self.lay_range(store, list, offset, bytes, copy)
+        self.lay_range(store, list, offset, owned, copy)
     }
 
-    /// A write of some bytes whose fate was drawn.
-    pub(crate) fn write_by_fate<S: blob_base::Storage, R>(
+    /// Performs a write by its drawn outcome. Copies a slice unless it is a plain write that is not recorded.
+    pub(crate) fn write_by_fate<S: blob_base::Storage, R, P>(
         &mut self,
         store: &mut Storage<S, R>,
         fate: WriteFate,
         offset: u64,
-        bytes: IoBufs,
-        options: WriteOptions,
+        bytes: P,
+        sync: bool,
     ) -> Result<(), Error>
     where
         B: blob_base::Blob<S>,
-        requires some { is_sync options ≡ true → bytes ≢ [] }
-        requires fits { offset + length bytes < 2 ^ 64 }
-        requires sized { IsSized (length bytes) (write_fate_of fate) }
-        ensures allowed { MayWriteBy B.Blob self.old store.old (write_fate_of fate) (is_sync options) offset bytes (refused result) }
-        ensures asked { AsksWrite B.Blob self.old store.old self.new store.new (write_fate_of fate) (is_sync options) offset bytes (refused result) }
-        ensures wrote { WritesBy S.Durable B.Blob self.old store.old self.new store.new (write_fate_of fate) (is_sync options) offset bytes (refused result) }
-        ensures failed { FailsBy S.Durable B.Blob self.old store.old self.new store.new (write_fate_of fate) offset bytes (refused result) }
+        P: Payload<S, B>,
+        requires some { sync ≡ true → P.bytes bytes ≢ [] }
+        requires fits { offset + length (P.bytes bytes) < 2 ^ 64 }
+        requires sized { IsSized (length (P.bytes bytes)) (write_fate_of fate) }
+        ensures allowed { MayWriteBy B.Blob self.old store.old (write_fate_of fate) sync offset (P.bytes bytes) (refused result) }
+        ensures asked { AsksWrite B.Blob self.old store.old self.new store.new (write_fate_of fate) sync offset (P.bytes bytes) (refused result) }
+        ensures wrote { WritesBy S.Durable B.Blob self.old store.old self.new store.new (write_fate_of fate) sync offset (P.bytes bytes) (refused result) }
+        ensures failed { FailsBy S.Durable B.Blob self.old store.old self.new store.new (write_fate_of fate) offset (P.bytes bytes) (refused result) }
     {
         match fate {
             WriteFate::Done => {
-                if options.contains(WriteOptions::SYNC) {
+                if sync {
                     return self.write_synced(store, offset, bytes);
                 }
-                self.write_plain(store, offset, bytes, options)
+                self.write_plain(store, offset, bytes)
             }
             WriteFate::Unsynced => {
-                self.write_plain(store, offset, bytes, options.without(WriteOptions::SYNC))?;
+                self.write_plain(store, offset, bytes)?;
                 Err(Error::Injected)
             }
             WriteFate::Failed(kept) => {

@@ -1,4 +1,4 @@
--- Bytes of one line at most, before those that are left.
+-- Bytes of at most one line, before the remaining ones.
 use Rattle.std.proofs.Common.{◌≡◌, ◌≢◌, ℕ, zero, suc, ◌-◌, ◌==◌, List, [], ◌∷◌, ◌++◌, All, Bool, true, false, length, take, inl, inr, refl, sym, ap, ◌∙◌, subst, cond, append_assoc, eq-eqb, Option, arith}
 use Rattle.std.proofs.lemmas.List.{append-nil}
 use Rattle.std.proofs.Math.ListN.{length-append}
@@ -8,7 +8,7 @@ use Rattle.std.specs.List.{AllByRecursion, onto_first}
 use Rattle.blob_lab.specs.ScriptReading.{TakesOne, PrintsFront, behind_part}
 use Rattle.blob_lab.specs.Scripts.{PrintsTaken, lines_of, no_script}
 
--- no line feed is among these bytes
+-- these bytes have no line feed
 abbrev IsFeedless : List ℕ → Type 0
 IsFeedless [] = Unit {0}
 IsFeedless (byte ∷ bytes) = ((byte == 10) ≡ false) × IsFeedless bytes
@@ -45,7 +45,7 @@ take_feedless zero bytes h = tt
 take_feedless (suc n) [] h = tt
 take_feedless (suc n) (b ∷ bs) h = (h.0, take_feedless n bs h.1)
 
--- Bytes without one begin a line.
+-- Bytes without a line feed start a line.
 
 begins : (part left line : List ℕ) (more : List (List ℕ)) → IsFeedless part → lines_of left ≡ line ∷ more → lines_of (part ++ left) ≡ (part ++ line) ∷ more
 begins [] left line more h e = e
@@ -77,7 +77,7 @@ in_hand lines left all (inl (line, e)) =
 in_hand lines left all (inr (part, e)) =
     subst (λ (l : List (List ℕ)). InHand l left) (sym e) (part_of_line part left (lines_of left) refl (subst (AllByRecursion IsFeedless) e all))
 
--- what is printed of a script's lines, by its bytes
+-- the output of a script's lines, by its bytes
 pub by_bytes : (Adds : Option (List ℕ) → Option (List ℕ) → List ℕ → Type 0) (bytes left : List ℕ) (old new : Option (List ℕ)) → PrintsFront no_script Adds (lines_of bytes) (lines_of left) old new → PrintsTaken Adds bytes left old new
 by_bytes Adds bytes left old new p =
     let (hand, is, one) = in_hand p.rest left (behind_feedless p.front p.rest (subst (AllByRecursion IsFeedless) p.parts (lines_feedless bytes))) p.in_hand in

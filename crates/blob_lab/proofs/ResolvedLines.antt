@@ -12,7 +12,7 @@ use Rattle.blob_header.specs.Resolve.{AnswersAs}
 use Rattle.blob_lab.specs.ResolveReplies.{AnswersLine, by_refusal, resolution_line, resolved_image}
 use Rattle.blob_lab.proofs.ScriptRuns.{kept_Appends}
 
--- the line of the resolution of these bytes, or that there was no memory for a refusal
+-- the line of the resolution of these bytes, or `Memory` instead of an error
 abbrev pub IsReplyTo : List ℕ → List ℕ → Type 0
 IsReplyTo image reply = (reply ≡ resolution_line (resolved_image image)) ⊎ (IsErr (resolved_image image) × (reply ≡ refusal_line Memory))
 
@@ -21,7 +21,7 @@ is_reply (Ok x) image e = inl (ap resolution_line (sym e))
 is_reply (Err e) image (inl h) = inl (ap resolution_line (sym h))
 is_reply (Err e) image (inr (refused, memory)) = inr (refused, ap refusal_line memory)
 
--- a line that was decoded, and a reply to its bytes that was written
+-- a line was decoded, and a reply to its bytes was written
 pub replied_line : (line image reply : List ℕ) (w0 w1 w2 w3 : Option (List ℕ)) → decode_of line ≡ Ok image → IsReplyTo image reply → Keeps w0 w1 → Appends w1 w2 (reply ++ 10 ∷ []) → Keeps w2 w3 → AnswersLine line w0 w3
 replied_line line image reply w0 w1 w2 w3 decoded is before written behind =
     let added : Appends w0 w3 (reply ++ 10 ∷ []) = Appends-kept w0 w2 w3 (reply ++ 10 ∷ []) (kept_Appends w0 w1 w2 (reply ++ 10 ∷ []) before written) behind in

@@ -1,4 +1,4 @@
--- How a script's run ends: what was taken and printed of it, also where its last flush fails.
+-- How a script's run ends: what was read and printed, also if the last flush fails.
 use Rattle.std.proofs.Common.{◌≡◌, ◌≢◌, ℕ, List, [], ◌∷◌, true, Option, Some, None, IfSome, IsSomeAnd, Result, Ok, Err, IfErr, OnOk, inl, inr, refl, sym, ap, subst}
 use Rattle.std.proofs.KnownBytes.{Appends-kept}
 use Rattle.std.proofs.lemmas.List.{append-nil}
@@ -13,7 +13,7 @@ use Rattle.blob_lab.specs.Streams.{AppendsPart}
 use Rattle.blob_lab.proofs.InHand.{by_bytes}
 use Rattle.blob_lab.proofs.ScriptRuns.{part_of_taken}
 
--- of bytes that are known and those that are left, this is printed in full, or up to a part of it
+-- of known bytes and the remaining ones, this is printed in full or up to a part of it
 abbrev pub Taken : Option (List ℕ) → Option (List ℕ) → Option (List ℕ) → Option (List ℕ) → Type 0
 Taken a b old new = IfSome a (λ bytes. IsSomeAnd b (λ left. PrintsTaken Appends bytes left old new))
 
@@ -76,7 +76,7 @@ module _ (old mid new : Option (List ℕ)) (kept : Keeps mid new) where
   ends_part ending first (Some xs) None cut up = absurd up
   ends_part ending first (Some xs) (Some ys) cut up = by_bytes AppendsPart xs ys old new (cut_part ending first (lines_of xs) (lines_of ys) cut up)
 
--- all was read and printed
+-- everything was read and printed
 
 none_left : (left : List ℕ) → left ≡ [] → [] ≡ lines_of left
 none_left [] e = refl

@@ -1,4 +1,4 @@
--- The lines of an input from the front on.
+-- Splitting off lines from the start of the input.
 use Rattle.std.proofs.Common.{◌≡◌, ◌≢◌, ℕ, suc, ◌==◌, List, [], ◌∷◌, ◌++◌, All, Bool, true, false, Option, Some, None, IfSome, length, take, drop, get_or, inl, inr, refl, sym, ap, ◌∙◌, subst, cond, arith}
 use Rattle.std.proofs.Math.Numerals.{sub-one}
 use Rattle.std.proofs.lemmas.Bool.{eqb-true, lt-ltb}
@@ -36,7 +36,7 @@ first_is b (c ∷ cs) false h =
 pub lines_cons : (b : ℕ) (bs : List ℕ) → lines_of (b ∷ bs) ≡ first_piece 10 (b ∷ bs) ∷ lines_of (drop_through 10 (b ∷ bs))
 lines_cons b bs = first_is b bs (b == 10) refl
 
--- a line with its end was read behind nothing, and the end was taken off
+-- a line with its line feed was read into an empty buffer, and the line feed was removed
 pub takes_line : (old new : Option (List ℕ)) (kept buf line : List ℕ) (said : Option Said) → kept ≡ [] → IfSome old (λ xs. buf ≡ kept ++ take_through 10 xs) → DropsThrough old new 10
     → (buf ≡ [] → ⊥) → line ≡ strip_last 10 buf → line_of line ≡ said → OfLines old new (TakesLine said)
 takes_line None new kept buf line said none bytes drops some is says = tt
@@ -47,7 +47,7 @@ takes_line (Some (b ∷ bs)) (Some ys) kept buf line said none bytes drops some 
     let first = is ∙ ap (strip_last 10) (bytes ∙ ap (λ l. l ++ take_through 10 (b ∷ bs)) none) in
     (line, lines_cons b bs ∙ ap (λ l. l ∷ lines_of (drop_through 10 (b ∷ bs))) (sym first) ∙ ap (λ zs. line ∷ lines_of zs) (sym left), says)
 
--- A line that was begun.
+-- A part of a line.
 
 pub part_nil : (lines : List (List ℕ)) → lines ≡ behind_part [] lines
 part_nil [] = refl
@@ -62,7 +62,7 @@ begun_with : (b : ℕ) (bs : List ℕ) (left : List (List ℕ)) (test : Bool) �
 begun_with b bs left true h last more = inl ([], ap (λ t. cond t ([] ∷ lines_of bs) (onto_first b (lines_of bs))) h ∙ ap (λ l. [] ∷ l) (last refl))
 begun_with b bs left false h last more = subst (λ lines. TakesOne lines left) (ap (λ t. cond t ([] ∷ lines_of bs) (onto_first b (lines_of bs))) (sym h)) (one_byte_more b (lines_of bs) left (more refl))
 
--- the bytes of one line at most stand before those that are left
+-- the bytes of at most one line come before the remaining ones
 begun : (hand left : List ℕ) → StopsAt hand 10 → TakesOne (lines_of (hand ++ left)) (lines_of left)
 begun [] left one = inr ([], part_nil (lines_of left))
 begun (b ∷ []) left one = begun_with b left (lines_of left) (b == 10) refl (λ _. refl) (λ _. inr ([], part_nil (lines_of left)))

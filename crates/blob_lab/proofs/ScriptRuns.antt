@@ -1,4 +1,4 @@
--- A script's calls, one after another: what of them is answered, and what is printed of that.
+-- A script's calls, one after another: which have replies, and what is printed.
 use Rattle.std.proofs.Common.{◌≡◌, ◌≢◌, ◌⊎◌, inl, inr, ℕ, ◌+◌, List, [], ◌∷◌, ◌++◌, Option, Some, None, IfSome, refl, sym, ap, ◌∙◌, subst, append_assoc, arith}
 use Rattle.std.proofs.KnownBytes.{Appends-kept, Appends-nil, Appends-trans}
 use Rattle.std.proofs.lemmas.List.{append-nil, flat_map_more, map-append}
@@ -22,7 +22,7 @@ use Rattle.blob_states.proofs.RunSteps.{run_more}
 use Rattle.blob_lab.proofs.ScriptLines.{part_nil}
 use Rattle.blob_lab.proofs.ScriptSteps.{TakesFront, more_lines, one_line}
 
--- of all lines, some at the front make t of s, and their calls are answered; `rest` is left
+-- the first of all lines extend s to t, and their calls have replies; `rest` remains
 pub record Settled (s : Script) (first next : ℕ) (lab : Lab) (config : Config) (old new : Option (List ℕ)) (all rest : List (List ℕ)) : Type 0 where
   pub t : Script
   pub w : State
@@ -34,7 +34,7 @@ pub record Settled (s : Script) (first next : ℕ) (lab : Lab) (config : Config)
   pub stands : LabStandsFor lab w
   pub added : Appends old new printed
 
--- the same, and the line behind them adds a call that isn't answered
+-- the same, and the next line adds a call that has no reply yet
 pub record Awaiting (s : Script) (first number : ℕ) (lab : Lab) (act : Act) (config : Config) (old new : Option (List ℕ)) (all rest : List (List ℕ)) : Type 0 where
   pub t : Script
   pub line : List ℕ
@@ -72,7 +72,7 @@ part_of_taken s lines left old new a = record {
 pub printed_of : (o : Option Script) (t : Script) (printed : List ℕ) (w : State) → o ≡ Some t → Answered t printed w → IsPrinted o printed
 printed_of o t printed w is a = subst (λ (x : Option Script). IsPrinted x printed) (sym is) (a.calls, a.replies, w, a.are, a.run, a.lines)
 
--- What is printed so far.
+-- The output so far.
 
 module _ (s : Script) (first : ℕ) (old : Option (List ℕ)) (all : List (List ℕ)) where
   settled_kept : (next : ℕ) (lab : Lab) (config : Config) (mid new : Option (List ℕ)) (rest : List (List ℕ)) → Settled s first next lab config old mid all rest → Keeps mid new → Settled s first next lab config old new all rest
@@ -124,7 +124,7 @@ module _ (s : Script) (first : ℕ) (old : Option (List ℕ)) (all : List (List 
     added = a.added;
   }
 
-  -- One more answer.
+  -- One more reply.
 
   more_taken : (number : ℕ) (lab : Lab) (act : Act) (config : Config) (mid : Option (List ℕ)) (rest : List (List ℕ)) (a : Awaiting s first number lab act config old mid all rest)
       → TakesFront s (with_call (record a.t { config = config }) act) first (number + 1) all rest
@@ -187,7 +187,7 @@ module _ (s : Script) (first : ℕ) (old : Option (List ℕ)) (all : List (List 
         );
       }
 
-  -- What is read behind it.
+  -- What is read after it.
 
   pub settled_over : (next : ℕ) (lab : Lab) (config : Config) (mid new : Option (List ℕ)) (rest : List (List ℕ)) → Settled s first next lab config old mid all rest → Keeps mid new
       → ((t : Script) → with_lines t rest ≡ Some t) → Prints (with_lines s all) old new
@@ -253,7 +253,7 @@ module _ (s : Script) (first : ℕ) (old : Option (List ℕ)) (all : List (List 
   settled_cut BadImage n lab config new lines left a bad part = tt
   settled_cut Usage n lab config new lines left a bad part = tt
 
--- The same where the bytes that were left are known: a at the start, b when the calls so far were answered, and c behind what is read next.
+-- The same if the remaining bytes are known: a at the start, b after the replies so far, c after the next read.
 
 module _ (s : Script) (first : ℕ) (old : Option (List ℕ)) (line : List ℕ) where
   pub settles : (a b : Option (List ℕ)) (number : ℕ) (lab lab' : Lab) (call : Call) (reply : Reply) (config : Config) (mid new : Option (List ℕ))
@@ -305,7 +305,7 @@ module _ (s : Script) (first : ℕ) (old : Option (List ℕ)) (line : List ℕ) 
   answer_cut BadImage all rest number lab lab' call config mid new a cut part same = tt
   answer_cut Usage all rest number lab lab' call config mid new a cut part same = tt
 
-  -- the call that was read wasn't answered, or a part of its reply was written at most
+  -- the call that was read has no reply, or at most a part of it was written
   pub unanswered : (ending : Ending) (a b : Option (List ℕ)) (number : ℕ) (lab lab' : Lab) (call : Call) (config : Config) (mid new : Option (List ℕ))
       → OfLines a b (λ all rest. Awaiting s first number lab (act_of call) config old mid (line ∷ all) rest) → (ending ≡ OutputFailed) ⊎ (ending ≡ NoMemory)
       → (ending ≡ OutputFailed → (reply : Reply) × Performs lab (act_of call) reply lab' × AppendsPart mid new (printed_reply reply)) → (ending ≡ NoMemory → new ≡ mid)

@@ -28,7 +28,7 @@ empty_preamble p config images words seed same =
     ∙ ap (λ n. record { images = []; words = record { given = []; seed = n }; config = config; calls = [] }) seed
     ∙ ap (λ c. record { images = []; words = only []; config = c; calls = [] }) same
 
--- No call is answered.
+-- No call has a reply.
 
 none_printed : (o : Option Script) (t : Script) → o ≡ Some t → t.calls ≡ [] → IsPrinted o []
 none_printed o t is none = printed_of o t [] (start t.images t.words cleared) is (record { calls = []; replies = []; are = sym none; run = refl; lines = refl })
@@ -51,7 +51,7 @@ nothing_of t lines left front rest old new kept parts in_hand is none = record {
   added = none_added old new kept;
 }
 
--- Lines before those that were printed of.
+-- Lines before those with output.
 
 prints_kept : (o : Option Script) (old mid new : Option (List ℕ)) → Keeps old mid → Prints o mid new → Prints o old new
 prints_kept o old mid new kept (printed, prints, added) = (printed, prints, kept_Appends old mid new printed kept added)
@@ -93,7 +93,8 @@ module _ (s t : Script) (front all rest left : List (List ℕ)) (old mid : Optio
   behind BadImage first n new counted p = tt
   behind Usage first n new counted p = tt
 
--- a is what was left at the start, b behind the lines that the first call ends; they made t of s, a script of no line, and the first has the number `first`; nothing was printed
+-- a are the bytes at the start, b those after the lines up to the first call; these lines extend s, the empty script,
+-- to t; the number of the first is `first`; nothing was printed
 module _ (s : Script) (same : s ≡ no_script) (first : ℕ) (one : first ≡ 1) (t : Script) (none : t.calls ≡ []) (old mid : Option (List ℕ)) (kept : Keeps old mid) where
   pub no_call : (a b : Option (List ℕ)) → OfLines a b (λ lines _. with_lines s lines ≡ Some t) → IfSome a (λ input. Prints (script_of (lines_of input)) old mid)
   no_call None b over = tt
@@ -115,7 +116,7 @@ module _ (s : Script) (same : s ≡ no_script) (first : ℕ) (one : first ≡ 1)
         refl,
       )
 
-  -- a laboratory wasn't made
+  -- creating the laboratory failed
   pub no_laboratory : (n : ℕ) (act : Act) (config : Config) (a b : Option (List ℕ)) → OfLines a b (TakesCall s t first n act config) → OfLines a b (λ lines left. PrintsFront no_script Appends lines left old mid)
   no_laboratory n act config None b call = tt
   no_laboratory n act config (Some xs) None call = absurd call
@@ -144,7 +145,7 @@ module _ (s : Script) (same : s ≡ no_script) (first : ℕ) (one : first ≡ 1)
         (call.numbered ∙ ap (λ k. u64_saturate (k + length call.front)) one)
         (prints t call.line (record { none = none; adds = call.adds; stands = stands }))
 
--- the same where no call was read; u is what was made of s by then
+-- the same if no call was read; u is the script so far
 module _ (s : Script) (same : s ≡ no_script) (old mid : Option (List ℕ)) (kept : Keeps old mid) where
   part_first : (u : Script) (none : u.calls ≡ []) (lines left : List (List ℕ)) → TakesPart s u lines left → PrintsFront no_script Appends lines left old mid
   part_first u none lines left part = nothing_of u lines left part.front part.rest old mid kept part.parts part.in_hand (ap (λ v. with_lines v part.front) (sym same) ∙ part.makes) none

@@ -1,4 +1,4 @@
--- The lines of a script, one after another: what they have made, and what one more makes of that.
+-- The lines of a script, one after another: the script so far, and how one more line extends it.
 use Rattle.std.proofs.Common.{◌≡◌, ◌≢◌, ℕ, ◌+◌, List, [], ◌∷◌, ◌++◌, Bool, ◌&&◌, if◌then◌else◌, Option, Some, None, is_none, option_and_then, Vec, String, string_bytes, length, refl, sym, ap, ◌∙◌, append_assoc, arith}
 use Rattle.std.proofs.lemmas.List.{append-nil, map-append}
 use Rattle.std.proofs.Math.ListN.{length-append}
@@ -25,7 +25,7 @@ use Rattle.blob_laboratory.specs.Tables.{images_of}
 line_said : (s : Script) (line : List ℕ) (said : Option Said) (made : Option Script) → line_of line ≡ said → option_and_then (with_said s) said ≡ made → with_line s line ≡ made
 line_said s line said made says makes = ap (option_and_then (with_said s)) says ∙ makes
 
--- a call, and a setting, behind calls with this configuration
+-- a call or a setting, after calls with this configuration
 
 pub said_call : (s : Script) (act : Act) (config : Config) → config ≡ s.config → with_said s (Call act) ≡ Some (with_call (record s { config = config }) act)
 said_call s act config e = ap (λ c. Some (with_call (record s { config = c }) act)) (sym e)
@@ -37,7 +37,7 @@ said_setting s setting before after asked same whole kept =
     ∙ ap (λ c. Some (with_call (record s { config = c }) (acts.Configure (configured before setting)))) (sym kept)
     ∙ ap (λ a. Some (with_call (record s { config = after }) (act_of a))) (sym whole)
 
--- images and words, where there is no call
+-- images and words, before any call
 
 pub said_image : (a b : Preamble) (config : Config) (partition : String Global) (name bytes : Vec ℕ Global) → b.images.items ≡ a.images.items ++ (partition, name, bytes) ∷ [] → b.words.items ≡ a.words.items → b.seed ≡ a.seed
     → with_said (preamble_of a config) (said_by (line.Image partition name bytes)) ≡ Some (preamble_of b config)
@@ -64,12 +64,12 @@ said_seed a b config seed none images words some =
     ∙ ap (λ n. Some (record { images = images_of a.images.items; words = record { given = b.words.items; seed = n }; config = config; calls = [] })) (sym some)
     ∙ ap (λ is. Some (record { images = images_of is; words = record { given = b.words.items; seed = b.seed }; config = config; calls = [] })) (sym images)
 
--- and a second one
+-- a second seed
 pub none_behind_seed : (seed : Option ℕ) (s : Script) → seed ≢ None → (if is_none seed then Some s else None) ≡ None
 none_behind_seed None s some = absurd (some refl)
 none_behind_seed (Some n) s some = refl
 
--- and behind one
+-- a line of the preamble after a call
 pub none_behind_calls : (calls : List Act) (s : Script) → calls ≢ [] → (if is_empty calls then Some s else None) ≡ None
 none_behind_calls [] s some = absurd (some refl)
 none_behind_calls (act ∷ acts) s some = refl
@@ -91,7 +91,7 @@ more_lines s t (line ∷ lines) rest e = after_line (with_line s line) (λ u. wi
 pub one_line : (s : Script) (line : List ℕ) → with_lines s (line ∷ []) ≡ with_line s line
 one_line s line = elim (with_line s line) as (λ o. option_and_then (λ t. Some t) o ≡ o) [ None ↦ refl | Some t ↦ refl ]
 
--- the lines so far make t of s; the first has the number `first`, and the next line has `next`, as far as numbers are counted
+-- the lines so far extend s to t; the first has the number `first`, the next one `next`, unless numbers saturate
 pub record TakesFront (s t : Script) (first next : ℕ) (lines rest : List (List ℕ)) : Type 0 where
   pub front : List (List ℕ)
   pub parts : lines ≡ front ++ rest
@@ -149,7 +149,7 @@ lines_over s t first next (Some xs) None new taken over = absurd taken
 lines_over s t first next (Some xs) (Some ys) None taken over = absurd over
 lines_over s t first next (Some xs) (Some ys) (Some zs) taken over = ap (with_lines s) (taken.parts ∙ ap (λ l. taken.front ++ l) over ∙ append-nil taken.front) ∙ taken.makes
 
--- a line that was begun, behind those so far
+-- a part of a line, after the lines so far
 pub line_part : (s t : Script) (first next : ℕ) (old mid new : Option (List ℕ)) → OfLines old mid (TakesFront s t first next) → OfLines mid new TakesOne → OfLines old new (TakesPart s t)
 line_part s t first next None mid new taken one = tt
 line_part s t first next (Some xs) None new taken one = absurd taken

@@ -1,4 +1,4 @@
--- What failed of a run's streams, step by step.
+-- Which streams of a run failed, step by step.
 use Rattle.std.proofs.Common.{◌≡◌, ◌≢◌, ◌⊎◌, ◌==◌, ℕ, List, true, false, inl, inr, Option, None, Some, is_none, Result, Ok, Err, IfErr, refl, sym, ap, subst, ◌∙◌}
 use Rattle.std.proofs.lemmas.List.Folds.{list_any_at}
 use Rattle.memchr.specs.Find.{IsFirstByte, is_byte}
@@ -23,7 +23,7 @@ module _ {R W : Type 0} (i m i' : Input R) (o p o' : Output W) (sound : StaySoun
   told_behind (Ok x) (r, w) = (r ∙ sound.0, w ∙ sound.1)
   told_behind (Err ending) tells = tells_behind ending tells
 
--- a call wasn't answered, behind what stayed sound
+-- a call has no reply, after steps that didn't fail
 pub unanswered_told : {R W : Type 0} (ending : Ending) (i m : Input R) (o p p' : Output W) → StaySound i m o p → (ending ≡ OutputFailed) ⊎ (ending ≡ NoMemory)
     → (ending ≢ NoMemory → write_failed p' ≡ true) → (ending ≡ NoMemory → p' ≡ p) → NamesFailed ending i m o p'
 unanswered_told OutputFailed i m o p p' sound cut told same = (sound.0, told (λ e. cc))
@@ -34,7 +34,7 @@ unanswered_told Done i m o p p' sound cut told same = elim cut [ inl e ↦ cc | 
 unanswered_told BadImage i m o p p' sound cut told same = elim cut [ inl e ↦ cc | inr e ↦ cc ]
 unanswered_told Usage i m o p p' sound cut told same = elim cut [ inl e ↦ cc | inr e ↦ cc ]
 
--- a write or a flush, behind what stayed sound
+-- a write or a flush, after steps that didn't fail
 module _ {R W : Type 0} (i m : Input R) (o p p' : Output W) (sound : StaySound i m o p) where
   output_tells : (ending : Ending) → ending ≡ OutputFailed → write_failed p' ≡ true → NamesFailed ending i m o p'
   output_tells ending e failed = subst (λ (x : Ending). NamesFailed x i m o p') (sym e) (sound.0, failed)
@@ -43,7 +43,7 @@ module _ {R W : Type 0} (i m : Input R) (o p p' : Output W) (sound : StaySound i
   output_told (Ok x) e told = (sound.0, told ∙ sound.1)
   output_told (Err ending) e told = output_tells ending e told
 
--- an ending that tells of neither stream
+-- an ending that names neither stream
 pub image_tells : {R W : Type 0} (ending : Ending) (i m : Input R) (o p : Output W) (P : Type 0) → StaySound i m o p → (ending ≡ NoMemory) ⊎ ((ending ≡ BadImage) × P) → NamesFailed ending i m o p
 image_tells ending i m o p P sound (inl e) = subst (λ (x : Ending). NamesFailed x i m o p) (sym e) sound
 image_tells ending i m o p P sound (inr (e, h)) = subst (λ (x : Ending). NamesFailed x i m o p) (sym e) sound

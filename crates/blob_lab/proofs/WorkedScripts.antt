@@ -1,4 +1,4 @@
--- Scripts by the definitions alone: the lines of some texts, what some make, and some that are no script.
+-- Worked examples: the lines of some texts, some scripts, and texts that aren't scripts.
 use Rattle.std.proofs.Common.{◌≡◌, [], ◌∷◌, ◌++◌, Some, None, refl}
 use Rattle.std.specs.Prelude.{codes}
 use Rattle.std.specs.Str.{is_utf8, chars}
@@ -12,11 +12,11 @@ use Rattle.blob_calls.specs.Settings.{cleared}
 no_line : lines_of [] ≡ []
 no_line = refl
 
--- an empty line has an end too
+-- an empty line counts
 three_lines : lines_of (codes "a" ++ 10 ∷ 10 ∷ codes "b" ++ 10 ∷ []) ≡ codes "a" ∷ [] ∷ codes "b" ∷ []
 three_lines = refl
 
--- the last line without an end
+-- the last line without a line feed
 unended : lines_of (codes "a" ++ 10 ∷ codes "bc") ≡ codes "a" ∷ codes "bc" ∷ []
 unended = refl
 
@@ -33,12 +33,12 @@ setting_is_a_call : script_of (codes "config clear" ∷ []) ≡ Some (record { i
 unfolding is_utf8 chars encode decode_pairs
 setting_is_a_call = refl
 
--- words behind a call
+-- words after a call
 words_too_late : script_of (codes "close 0" ∷ codes "words 7" ∷ []) ≡ None
 unfolding is_utf8 chars encode decode_pairs
 words_too_late = refl
 
--- one seed, among the words, and no second one
+-- one seed, among the words; a second one isn't a script
 seed_and_words : script_of (codes "words 7" ∷ codes "seed 042" ∷ codes "words 8" ∷ []) ≡ Some (record { images = []; words = behind_seeded (7 ∷ 8 ∷ []) 42; config = cleared; calls = [] })
 unfolding is_utf8 chars encode decode_pairs
 seed_and_words = refl

@@ -14,7 +14,7 @@ status_of BadImage = 2
 status_of Usage = 2
 status_of NoMemory = 3
 
--- the line for standard error, without its end; none where all went well
+-- the line for standard error, without its line feed; empty after success
 abbrev pub ending_line : Ending → List ℕ
 ending_line Done = []
 ending_line InputFailed = codes "input failed"
@@ -24,31 +24,31 @@ ending_line BadImage = codes "bad image"
 ending_line Usage = codes "usage: blobcrash [resolve]"
 ending_line NoMemory = codes "no memory"
 
--- whether a script may end so: it isn't called in a wrong way, and has no image
+-- whether a script can end like this: without an image and with valid arguments
 abbrev pub is_of_script : Ending → Bool
 is_of_script BadImage = false
 is_of_script Usage = false
 is_of_script ending = true
 
--- whether a script's run may be cut short so
+-- whether a script's run can fail like this
 abbrev pub is_cut : Ending → Bool
 is_cut Done = false
 is_cut ending = is_of_script ending
 
--- whether reading or writing ends so
+-- whether a read or a write can fail like this
 abbrev pub is_of_stream : Ending → Bool
 is_of_stream InputFailed = true
 is_of_stream OutputFailed = true
 is_of_stream NoMemory = true
 is_of_stream ending = false
 
--- whether a run of `resolve` may end so: it has no script, and isn't called in a wrong way
+-- whether a run of `resolve` can end like this: without a script and with valid arguments
 abbrev pub is_of_resolve : Ending → Bool
 is_of_resolve (BadCall line) = false
 is_of_resolve Usage = false
 is_of_resolve ending = true
 
--- whether a run of `resolve` may be cut short so
+-- whether a run of `resolve` can fail like this
 abbrev pub is_cut_of_resolve : Ending → Bool
 is_cut_of_resolve Done = false
 is_cut_of_resolve ending = is_of_resolve ending

@@ -1,4 +1,4 @@
--- A script: what its lines make, and what is printed of it.
+-- A script: the meaning of its lines, and its output.
 use Rattle.std.specs.Prelude.{◌≡◌, ℕ, ◌+◌, List, [], ◌∷◌, ◌++◌, ◌==◌, ◌&&◌, if◌then◌else◌, length, map, Option, Some, None, is_none, option_and_then, IsSomeAnd}
 use Rattle.std.specs.List.{flat_map, onto_first}
 use Rattle.std.specs.Io.{StopsAt}
@@ -21,9 +21,9 @@ use Rattle.blob_calls.specs.Settings.{cleared, configured}
 use Rattle.blob_states.specs.States as states
 use Rattle.blob_states.specs.States.{State, start}
 
--- What its lines make.
+-- The meaning of its lines.
 
--- what stands before each line feed, and what is left behind the last one, if anything is
+-- the bytes before each line feed, and those after the last one, if there are any
 abbrev pub lines_of : List ℕ → List (List ℕ)
 lines_of [] = []
 lines_of (byte ∷ bytes) = if byte == 10 then [] ∷ lines_of bytes else onto_first byte (lines_of bytes)
@@ -31,10 +31,11 @@ lines_of (byte ∷ bytes) = if byte == 10 then [] ∷ lines_of bytes else onto_f
 pub record Script : Type 0 where
   pub images : List states.Image
   pub words : Words
-  pub config : Config  -- what the settings so far have made of no rates
+  pub config : Config  -- the settings so far, applied to no rates
   pub calls : List Act
 
--- a line that says this: images, words and one seed come before the calls, and a setting is a call with the whole configuration so far
+-- adds a line with this meaning: images, words and one seed come before the calls, and a setting is a call with the
+-- whole configuration so far
 abbrev pub with_said : Script → Said → Option Script
 with_said s Blank = Some s
 with_said s (Image p n bytes) = if is_empty s.calls then Some (record s { images = s.images ++ (p, n, bytes) ∷ [] }) else None
@@ -43,7 +44,7 @@ with_said s (Seed seed) = if is_empty s.calls && is_none s.words.seed then Some 
 with_said s (Configure setting) = Some (record s { config = configured s.config setting; calls = s.calls ++ acts.Configure (configured s.config setting) ∷ [] })
 with_said s (Call act) = Some (record s { calls = s.calls ++ act ∷ [] })
 
--- none where a line is a bad call, or may not stand there
+-- None if the line is bad or isn't allowed there
 abbrev pub with_line : Script → List ℕ → Option Script
 with_line s line = option_and_then (with_said s) (line_of line)
 
@@ -57,9 +58,9 @@ no_script = record { images = []; words = only []; config = cleared; calls = [] 
 abbrev pub script_of : List (List ℕ) → Option Script
 script_of lines = with_lines no_script lines
 
--- What is printed of it by a writer that had `old` and has `new`.
+-- Its output to a writer with contents `old` before and `new` after.
 
--- it is a script, and these are the lines of replies that its calls may have had
+-- it is a script, and these are lines of replies that its calls may have
 abbrev pub IsPrinted : Option Script → List ℕ → Type 0
 IsPrinted None printed = ⊥
 IsPrinted (Some s) printed = (calls : List LabCall) × (replies : List Reply) × (w : State) × (map act_of calls ≡ s.calls)
@@ -68,7 +69,7 @@ IsPrinted (Some s) printed = (calls : List LabCall) × (replies : List Reply) ×
 abbrev pub Prints : Option Script → Option (List ℕ) → Option (List ℕ) → Type 0
 Prints script old new = (printed : List ℕ) × IsPrinted script printed × Appends old new printed
 
--- the lines before the one of this number, counted from 1, are printed of; with it they aren't a script
+-- the lines before the line with this number, counted from 1, have this output; with that line they aren't a script
 pub record PrintsBeforeLine (number : ℕ) (bytes : List ℕ) (old new : Option (List ℕ)) : Type 0 where
   pub front : List (List ℕ)
   pub bad : List ℕ
@@ -78,7 +79,8 @@ pub record PrintsBeforeLine (number : ℕ) (bytes : List ℕ) (old new : Option 
   pub refused : script_of (front ++ bad ∷ []) ≡ None
   pub prints : Prints (script_of front) old new
 
--- of these bytes `left` are left; the lines of those that were taken are printed of, but for what is in hand: one line at most, or a part of one
+-- of these bytes, `left` remain; the output is that of the lines that were taken, except at most one line in hand or a
+-- part of one
 pub record PrintsTaken (Adds : Option (List ℕ) → Option (List ℕ) → List ℕ → Type 0) (bytes left : List ℕ) (old new : Option (List ℕ)) : Type 0 where
   pub front : List (List ℕ)
   pub hand : List ℕ
@@ -88,11 +90,12 @@ pub record PrintsTaken (Adds : Option (List ℕ) → Option (List ℕ) → List 
   pub prints : IsPrinted (script_of front) printed
   pub added : Adds old new printed
 
--- where the bytes that a reader had left are known, so are those that it has left, and this holds of both, and of what a writer had and has then
+-- if a reader's bytes before are known, they are known afterwards, and P holds of both and of a writer's contents
+-- before and after
 abbrev pub OfKnownRun : {R W : Type 0} → (R → Option (List ℕ)) → (W → Option (List ℕ)) → R → R → W → W → (List ℕ → List ℕ → Option (List ℕ) → Option (List ℕ) → Type 0) → Type 0
 OfKnownRun remaining contents r r' w w' P = OfKnown remaining contents r w w' (λ bytes old new. IsSomeAnd (remaining r') (λ left. P bytes left old new))
 
--- the same of the reader and the writer of a run
+-- the same for the reader and the writer of a run
 abbrev pub OfRun : {R W : Type 0} → (R → Option (List ℕ)) → (W → Option (List ℕ)) → Input R → Input R → Output W → Output W
     → (List ℕ → List ℕ → Option (List ℕ) → Option (List ℕ) → Type 0) → Type 0
 OfRun remaining contents i i' o o' P = OfKnownRun remaining contents (reader_of i) (reader_of i') (writer_of o) (writer_of o') P

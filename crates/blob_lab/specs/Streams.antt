@@ -1,4 +1,4 @@
--- The streams of a run, and what came of reading and writing.
+-- The streams of a run, and the results of reads and writes.
 use Rattle.std.specs.Prelude.{◌≡◌, ℕ, ◌+◌, ◌==◌, List, ◌++◌, length, Bool, true, Result, Option, IfSome, IfOk, OnOk, MatchResult}
 use Rattle.std.specs.List.{list_any}
 use Rattle.std.specs.Io.{StopsAt, appended_bytes}
@@ -12,11 +12,11 @@ use Rattle.blob_lab.specs.declared.streams.Output.{Output}
 abbrev pub reader_of : {R : Type 0} → Input R → R
 reader_of input = input.reader
 
--- how many lines may still be read
+-- how many more lines may be read
 abbrev pub lines_left : {R : Type 0} → Input R → ℕ
 lines_left input = input.left
 
--- whether reading failed
+-- whether a read failed
 abbrev pub read_failed : {R : Type 0} → Input R → Bool
 read_failed input = input.failed
 
@@ -27,25 +27,25 @@ writer_of output = output.writer
 abbrev pub write_failed : {W : Type 0} → Output W → Bool
 write_failed output = output.failed
 
--- whether the writer was flushed behind the last write
+-- whether the writer was flushed after the last write
 abbrev pub is_flushed : {W : Type 0} → Output W → Bool
 is_flushed output = output.flushed
 
--- whether a whole line stands among these bytes, so that taking it doesn't wait
+-- whether these bytes include a whole line, so that taking it doesn't wait
 abbrev pub has_line : List ℕ → Bool
 has_line bytes = list_any (λ b. b == 10) bytes
 
--- What failed, and what is told of it.
+-- What failed, and how a result says so.
 
--- writing failed exactly where it is told so
+-- a write or a flush failed exactly if the result is an error
 abbrev pub ToldOutput : {T E W : Type 0} → Result T E → Output W → Output W → Type 0
 ToldOutput result old new = MatchResult result (λ _. write_failed new ≡ write_failed old) (λ _. write_failed new ≡ true)
 
--- neither stream failed
+-- no stream failed
 abbrev pub StaySound : {R W : Type 0} → Input R → Input R → Output W → Output W → Type 0
 StaySound i i' o o' = (read_failed i' ≡ read_failed i) × (write_failed o' ≡ write_failed o)
 
--- the one that this ending names failed, and no other
+-- the stream that this ending names failed, and no other
 abbrev pub NamesFailed : {R W : Type 0} → Ending → Input R → Input R → Output W → Output W → Type 0
 NamesFailed InputFailed i i' o o' = (read_failed i' ≡ true) × (write_failed o' ≡ write_failed o)
 NamesFailed OutputFailed i i' o o' = (read_failed i' ≡ read_failed i) × (write_failed o' ≡ true)
@@ -54,21 +54,21 @@ NamesFailed ending i i' o o' = StaySound i i' o o'
 abbrev pub ToldEnding : {T R W : Type 0} → Result T Ending → Input R → Input R → Output W → Output W → Type 0
 ToldEnding result i i' o o' = MatchResult result (λ _. StaySound i i' o o') (λ ending. NamesFailed ending i i' o o')
 
--- Which bytes were taken and given.
+-- The bytes that were read and written.
 
--- bytes that were to be appended were, up to one of them
+-- a prefix of the bytes was appended
 abbrev pub AppendsPart : Option (List ℕ) → Option (List ℕ) → List ℕ → Type 0
 AppendsPart old new bytes = (front : List ℕ) × (rest : List ℕ) × (bytes ≡ front ++ rest) × Appends old new front
 
--- where the bytes that a reader has left are known: what holds of them, and of what a writer had and has then
+-- if a reader's bytes are known, P holds of them, and of a writer's contents before and after
 abbrev pub OfKnown : {R W : Type 0} → (R → Option (List ℕ)) → (W → Option (List ℕ)) → R → W → W → (List ℕ → Option (List ℕ) → Option (List ℕ) → Type 0) → Type 0
 OfKnown remaining contents r w w' P = IfSome (remaining r) (λ bytes. P bytes (contents w) (contents w'))
 
--- the same of the reader and the writer of a run
+-- the same for the reader and the writer of a run
 abbrev pub OfBytes : {R W : Type 0} → (R → Option (List ℕ)) → (W → Option (List ℕ)) → Input R → Output W → Output W → (List ℕ → Option (List ℕ) → Option (List ℕ) → Type 0) → Type 0
 OfBytes remaining contents i o o' P = OfKnown remaining contents (reader_of i) (writer_of o) (writer_of o') P
 
--- one line was read behind what a buffer had; where reading failed, a part of it at most
+-- one line was appended to a buffer; after an error at most a part of it
 pub record ReadsLine (result : Result ℕ Ending) (old new : Option (List ℕ)) (before after : List ℕ) : Type 0 where
   pub count : IfOk result (λ n. length after ≡ length before + n)
   pub bytes : OnOk result (IfSome old (λ xs. after ≡ before ++ take_through 10 xs))

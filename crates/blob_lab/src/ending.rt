@@ -3,27 +3,28 @@ ghost use Rattle.blob_lab.specs.Endings.{ending_line, status_of};
 
 use std::fmt;
 
-/// How a run of the program ends. Printed, it is the line for standard error, without its end; empty where all went well.
+/// How a run of the program ends. Displayed, it is the line for standard error, without its line feed; empty after
+/// success.
 #[derive(Clone, Copy, Debug, PartialEq, Eq)]
 pub enum Ending {
     /// Every reply was written.
     Done,
-    /// The input couldn't be read, or goes on behind 2^64 - 1 lines.
+    /// The input couldn't be read, or has more than 2^64 - 1 lines.
     InputFailed,
-    /// The output couldn't be written; a part of a reply may have been.
+    /// The output couldn't be written. Part of a reply may have been.
     OutputFailed,
     /// This line of a script, counted from 1, isn't a call. The replies before it were written.
     BadCall(u64),
-    /// The line to be resolved isn't hex.
+    /// The line for `resolve` isn't hex.
     BadImage,
-    /// The program was called with other arguments than it takes.
+    /// The arguments of the program are invalid.
     Usage,
-    /// The program itself found no memory. A call that was refused memory is told by its reply.
+    /// The program itself couldn't allocate. If a call can't, its reply says so.
     NoMemory,
 }
 
 impl Ending {
-    /// The exit status.
+    /// Returns the exit status.
     pub fn status(self) -> u8
         ensures { result ≡ status_of self }
     {

@@ -1,4 +1,4 @@
-//! Whole scripts over a laboratory, a line in and its reply out, and `resolve`.
+//! Runs whole scripts over a laboratory, a reply per call, and `resolve`.
 #![tactic(auto)]
 
 pub mod ending;

@@ -4,8 +4,8 @@ ghost use Rattle.blob_lab.specs.ResolveReplies.{by_refusal, resolution_line};
 use blob_base::{BlobVersion, Error, RefusalLine};
 use std::fmt;
 
-/// Prints what `resolve` answered as a reply's line, without its end: `valid SIZE VERSION OFFSET`, `create`, or the
-/// refusal's line.
+/// Displays a result of `resolve` as a line, without the line feed: `valid SIZE VERSION OFFSET`, `create`, or the
+/// error's line.
 #[derive(Clone, Copy)]
 pub struct ResolutionLine<'a>(pub &'a Result<Option<(u64, BlobVersion, u64)>, Error>);
 

@@ -12,9 +12,8 @@ use resolving::resolve_line;
 use std::alloc::Global;
 use std::io::{BufRead, Write};
 
-/// Reads one line of hex digits, resolves its bytes as a whole blob, and writes what comes of it as one line, which is flushed.
-/// Returns how the run ended, which is the exit status and the line for standard error, with the reader and the writer as they are
-/// then.
+/// Reads one line of hex digits, resolves its bytes as a whole blob, and writes and flushes the result as one line.
+/// Returns how the run ended (the exit status and the line for standard error), the reader and the writer.
 pub fn run_resolve<R: BufRead, W: Write>(alloc: Global, reader: R, writer: W) -> (Ending, R, W)
     ensures replied { result.0 ≡ Ending.Done
         → OfKnown R.remaining W.contents reader writer result.2 (λ bytes. AnswersLine (first_piece 10 bytes)) }
@@ -29,7 +28,7 @@ pub fn run_resolve<R: BufRead, W: Write>(alloc: Global, reader: R, writer: W) ->
     (ending, input.into_reader(), output.into_writer())
 }
 
-/// Runs `resolve` as `run_resolve` does, over streams that remember what came of using them.
+/// Runs `resolve` like `run_resolve`, over streams that record whether they failed.
 pub fn serve_resolve<R: BufRead, W: Write>(
     alloc: Global,
     input: &mut Input<R>,

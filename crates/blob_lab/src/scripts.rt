@@ -15,10 +15,10 @@ use std::alloc::Global;
 use std::io::{BufRead, Write};
 use unknown::Unknown;
 
-/// Runs a script: reads its lines, and writes the reply to each call as a line. Returns how the run ended, which is the exit status
-/// and the line for standard error, with the reader and the writer as they are then.
+/// Runs a script: reads its lines, and writes the reply to each call as a line. Returns how the run ended (the exit
+/// status and the line for standard error), the reader and the writer.
 ///
-/// Each reply is flushed before the next line is read, and the writer once more at the end. `serve_script` flushes less often.
+/// Flushes each reply before it reads the next line, and once more at the end. `serve_script` flushes less often.
 pub fn run_script<R: BufRead, W: Write>(alloc: Global, reader: R, writer: W) -> (Ending, R, W)
     ensures ending { (result.0 ≢ Ending.BadImage) × (result.0 ≢ Ending.Usage) }
     ensures read { result.0 ≡ Ending.Done → IfSome (R.remaining reader) (λ _. R.remaining result.1 ≡ Some []) }
@@ -38,11 +38,12 @@ pub fn run_script<R: BufRead, W: Write>(alloc: Global, reader: R, writer: W) -> 
     (ending, reader.into_inner(), output.into_writer())
 }
 
-/// Runs a script as `run_script` does, over streams that remember what came of using them. Before a read that may wait, as no
-/// whole line lies ready, the replies are handed on: whoever sends a line at a time gets each reply before the next line is due.
+/// Runs a script like `run_script`, over streams that record whether they failed. Flushes the replies only before a
+/// read that may wait because no whole line is buffered. So a client that sends one line at a time gets each reply
+/// before it sends the next.
 ///
-/// The writer is flushed at the end, so that `Done` says that every reply was handed on, and so that the replies before a
-/// failure stand before what is told of it. Where that flush fails too, the run ends as `OutputFailed`.
+/// Flushes at the end too: after `Done`, every reply was flushed, and after an error, the replies come before the
+/// message about it. If that flush fails, the run ends with `OutputFailed`.
 pub fn serve_script<R: Ahead, W: Write>(
     alloc: Global,
     input: &mut Input<R>,

@@ -1,4 +1,4 @@
-//! The streams of a run: a reader and a writer, and what came of using them.
+//! The streams of a run: a reader and a writer that record whether they failed.
 ghost use Rattle.std.specs.Prelude.{◌≡◌, ◌≢◌, ◌⊎◌, ◌+◌, ◌++◌, ◌<◌, true, false, IfSome, IfErr, OnOk};
 ghost use Rattle.std.specs.Io.KnownBytes.{Appends, Keeps};
 ghost use Rattle.std.specs.Io.BufRead.{strip_last};
@@ -13,7 +13,7 @@ use memchr::memchr;
 use std::fmt::Display;
 use std::io::{BufRead, ErrorKind, Write};
 
-/// A reader of lines, at most 2^64 - 1 of them, with whether reading failed.
+/// A reader of at most 2^64 - 1 lines, and whether it failed.
 #[derive(Drop)]
 pub struct Input<R> {
     reader: R,
@@ -22,7 +22,7 @@ pub struct Input<R> {
 }
 
 impl<R> Input<R> {
-    /// The reader, of which nothing was read.
+    /// Returns a new input. Nothing was read yet.
     pub fn new(reader: R) -> Input<R>
         ensures reader { reader_of result ≡ reader }
         ensures sound { read_failed result ≡ false }
@@ -34,14 +34,14 @@ impl<R> Input<R> {
         }
     }
 
-    /// Whether reading failed, but for want of memory, or went on behind 2^64 - 1 lines.
+    /// Returns whether a read failed (out of memory doesn't count) or the input had more than 2^64 - 1 lines.
     pub fn has_failed(&self) -> bool
         ensures { result ≡ read_failed self.now }
     {
         self.failed
     }
 
-    /// The reader, behind what was read.
+    /// Returns the reader, after what was read.
     pub fn into_reader(self) -> R
         ensures { result ≡ reader_of self }
     {
@@ -50,8 +50,8 @@ impl<R> Input<R> {
 }
 
 impl<R: BufRead> Input<R> {
-    /// Reads one line with its end behind what `line` has, and answers how many bytes; 0 at the end of the input. What was
-    /// written is handed on before, since reading may wait.
+    /// Appends one line with its line feed to `line`. Returns the number of bytes, 0 at the end of the input. Flushes
+    /// the output first if needed, since the read may wait.
     pub(crate) fn read_line<W: Write>(
         &mut self,
         line: &mut Vec<u8>,
@@ -67,11 +67,11 @@ impl<R: BufRead> Input<R> {
         self.read_on(line)
     }
 
-    /// Reads all that is left behind what `bytes` has.
+    /// Appends the rest of the input to `bytes`.
     ///
     /// # Errors
     ///
-    /// `InputFailed` where reading failed, `NoMemory`. `bytes` may have a part then.
+    /// `InputFailed` if a read failed; `NoMemory`. `bytes` may have a part then.
     pub fn read_all(&mut self, bytes: &mut Vec<u8>) -> Result<(), Ending>
         ensures failed { result ≡ Err Ending.InputFailed → read_failed self.new ≡ true }
         ensures sound { result ≢ Err Ending.InputFailed → read_failed self.new ≡ read_failed self.old }
@@ -113,7 +113,7 @@ impl<R: BufRead> Input<R> {
 }
 
 impl<R: Ahead> Input<R> {
-    /// The same, but where a whole line lies ready, so that taking it doesn't wait, what was written may still be held.
+    /// Like `read_line`, but doesn't flush if a whole line is buffered, since reading it doesn't wait.
     pub(crate) fn read_ahead<W: Write>(
         &mut self,
         line: &mut Vec<u8>,
@@ -133,7 +133,7 @@ impl<R: Ahead> Input<R> {
     }
 }
 
-/// A writer with whether writing failed, and whether all that was written was handed on.
+/// A writer, and whether it failed and was flushed after the last write.
 #[derive(Drop)]
 pub struct Output<W> {
     writer: W,
@@ -142,7 +142,7 @@ pub struct Output<W> {
 }
 
 impl<W> Output<W> {
-    /// The writer, to which nothing was written.
+    /// Returns a new output. Nothing was written yet.
     pub fn new(writer: W) -> Output<W>
         ensures writer { writer_of result ≡ writer }
         ensures sound { write_failed result ≡ false }
@@ -155,21 +155,21 @@ impl<W> Output<W> {
         }
     }
 
-    /// Whether a write or a flush failed.
+    /// Returns whether a write or a flush failed.
     pub fn has_failed(&self) -> bool
         ensures { result ≡ write_failed self.now }
     {
         self.failed
     }
 
-    /// Whether the writer was flushed behind the last write.
+    /// Returns whether the writer was flushed after the last write.
     pub fn is_flushed(&self) -> bool
         ensures { result ≡ is_flushed self.now }
     {
         self.flushed
     }
 
-    /// The writer, with what was written.
+    /// Returns the writer.
     pub fn into_writer(self) -> W
         ensures { result ≡ writer_of self }
     {
@@ -178,11 +178,11 @@ impl<W> Output<W> {
 }
 
 impl<W: Write> Output<W> {
-    /// Writes all of these bytes, which aren't handed on before a flush.
+    /// Writes all bytes. They may stay in a buffer until a flush.
     ///
     /// # Errors
     ///
-    /// `OutputFailed`. Some bytes at their front may have been written.
+    /// `OutputFailed`. A prefix of the bytes may have been written.
     pub fn write_all(&mut self, bytes: &[u8]) -> Result<(), Ending>
         ensures written { OnOk result (Appends (W.contents (writer_of self.old)) (W.contents (writer_of self.new)) bytes.now) }
         ensures part { IfErr result (λ _. AppendsPart (W.contents (writer_of self.old)) (W.contents (writer_of self.new)) bytes.now) }
@@ -207,7 +207,7 @@ impl<W: Write> Output<W> {
         Err(Ending::OutputFailed)
     }
 
-    /// Writes this text as a line.
+    /// Writes a text as a line.
     pub(crate) fn write_line<D: Display + Drop>(&mut self, text: D) -> Result<(), Ending>
         ensures written { OnOk result (IfSome (with_newline (D.output text)) (Appends (W.contents (writer_of self.old)) (W.contents (writer_of self.new)))) }
         ensures ending { IfErr result (λ ending. ending ≡ Ending.OutputFailed) }
@@ -224,11 +224,7 @@ impl<W: Write> Output<W> {
         }
     }
 
-    /// Flushes the writer.
-    ///
-    /// # Errors
-    ///
-    /// `OutputFailed`.
+    /// Flushes the writer. The only error is `OutputFailed`.
     pub fn flush(&mut self) -> Result<(), Ending>
         ensures flushed { OnOk result (is_flushed self.new ≡ true) }
         ensures kept { Keeps (W.contents (writer_of self.old)) (W.contents (writer_of self.new)) }
@@ -247,7 +243,7 @@ impl<W: Write> Output<W> {
         }
     }
 
-    /// Flushes the writer, unless that was done behind the last write.
+    /// Flushes the writer, if something was written since the last flush.
     fn hand_on(&mut self) -> Result<(), Ending>
         ensures flushed { OnOk result (is_flushed self.new ≡ true) }
         ensures kept { Keeps (W.contents (writer_of self.old)) (W.contents (writer_of self.new)) }
@@ -261,7 +257,7 @@ impl<W: Write> Output<W> {
     }
 }
 
-/// Takes the end of a line off, if it has one.
+/// Removes the line feed at the end of a line, if it has one.
 pub(crate) fn drop_line_feed(line: &mut Vec<u8>)
     ensures { line.new.items ≡ strip_last 10 line.old.items }
 {

@@ -1,4 +1,4 @@
--- What it is for a laboratory to stand for a state, and for a call to be one of it.
+-- When a laboratory represents a state, and when a call is one of that state.
 use Rattle.std.specs.Prelude.{◌≡◌, ◌<◌, List, true, Option, Some}
 use Rattle.rand_core.specs.Stream.{Stream}
 use Rattle.blob_faulty.specs.Keeps.{OverMemory, IsFor}
@@ -14,14 +14,14 @@ use Rattle.blob_states.specs.States.{State, Held, Started, AreGiven}
 use Rattle.blob_laboratory.specs.Tables.{handles_of, syncs_of}
 use Rattle.blob_calls.specs.Told.{refused_by}
 
--- the wrapper of a laboratory, whose generator is seen as what is left of its words
+-- the wrapper of a laboratory, with the rest of the words as its generator
 abbrev pub Wrapper : Type 0
 Wrapper = OverMemory Left
 
 abbrev pub stream_of : Wrapper → Stream
 stream_of w = scripted (rng_of w)
 
--- a wrapper has a state's configuration and stream, and stands for its files
+-- a wrapper has a state's configuration and stream, and represents its files
 pub record Wraps (w : Wrapper) (v : State) : Type 0 where
   pub files : IsFor w v.files
   pub config : config_of w ≡ v.config
@@ -38,8 +38,8 @@ pub record LabStandsFor (lab : Lab) (v : State) : Type 0 where
 abbrev pub wrapper_of : Lab → Wrapper
 wrapper_of lab = lab.wrapper
 
--- a call with this reply: whatever state the laboratory stood for, the reply is one that it allows, and the laboratory now
--- stands for what the call makes of it
+-- a call with this reply: in any state that the laboratory represented, the reply is allowed, and the laboratory then
+-- represents the state after the call
 pub record Performs (lab : Lab) (act : Act) (reply : Reply) (lab' : Lab) : Type 0 where
   pub answers : (v : State) → LabStandsFor lab v → Answers v act reply (stream_of lab'.wrapper)
   pub stands : (v : State) → LabStandsFor lab v → LabStandsFor lab' (after v act (refused_by reply) (stream_of lab'.wrapper))

@@ -27,7 +27,7 @@ syncs_of syncs = map (option_map started_by) syncs.slots.items
 abbrev pub images_of : List (String Global × Vec ℕ Global × Vec ℕ Global) → List Image
 images_of images = map (λ i. (string_bytes i.0, i.1.items, i.2.items)) images
 
--- room for one more
+-- capacity for one more
 abbrev pub HasFreeSlot : Handles → Type 0
 HasFreeSlot handles = vec_len handles.slots + 1 ≤ vec_capacity handles.slots
 

@@ -27,7 +27,7 @@ use syncs::Syncs;
 
 /// One wrapper over a memory store, with the handles that were opened on it and the syncs that were started.
 ///
-/// It is spent by `end`.
+/// It can't be dropped: call `end`.
 pub struct Lab {
     pub(crate) wrapper: Wrapper,
     pub(crate) opens: Opens,
@@ -40,8 +40,8 @@ pub struct Lab {
 pub type Wrapper = blob_faulty::Storage<blob_memory::Storage, ScriptedRng>;
 
 impl Lab {
-    /// A laboratory over these raw images (partition, name and bytes), set in order before the store is wrapped. The
-    /// generator has these words, and behind them zeros. The only error is `Memory`.
+    /// Returns a laboratory over these raw images (partition, name and bytes), set in order before the store is wrapped. The
+    /// generator has these words, followed by zeros. The only error is `Memory`.
     pub fn new(
         images: Vec<(String, Vec<u8>, Vec<u8>)>,
         words: Vec<u64>,
@@ -53,8 +53,8 @@ impl Lab {
         Lab::drawing(images, ScriptedRng::new(words), config)
     }
 
-    /// A laboratory over these raw images (partition, name and bytes), set in order before the store is wrapped. The
-    /// generator has these words, and behind them those of `Xoshiro256PlusPlus::seed_from_u64(seed)`. The only error is `Memory`.
+    /// Returns a laboratory over these raw images (partition, name and bytes), set in order before the store is wrapped. The
+    /// generator has these words, followed by those of `Xoshiro256PlusPlus::seed_from_u64(seed)`. The only error is `Memory`.
     pub fn seeded(
         images: Vec<(String, Vec<u8>, Vec<u8>)>,
         words: Vec<u64>,
@@ -89,11 +89,11 @@ impl Lab {
         })
     }
 
-    /// Makes calls one after another, and answers the reply to each. The only error is `Memory`: the list of replies has
-    /// no room, and no call was made.
+    /// Makes calls in order and returns their replies. The only error is `Memory`, if the list of replies can't be allocated. No
+    /// call is made then.
     ///
-    /// Where all opens, these and those of earlier calls, are exclusive, a byte that one of the calls fixes lasts through
-    /// the calls after it, until one of them reaches it.
+    /// If all opens, those of earlier calls too, are exclusive, a byte that one of the calls fixes stays until a later call
+    /// writes, cuts or removes it.
     pub fn run(&mut self, calls: &[Call]) -> Result<Vec<Reply>, Error>
         ensures stands { IfOk result (λ replies. RunsTo (⟦<Lab as Stands>⟧.stands_for self.old) calls.now replies.items (⟦<Lab as Stands>⟧.stands_for self.new)) }
         ensures fixed { IfOk result (λ replies. PersistsExclusively (⟦<Lab as Stands>⟧.stands_for self.old) calls.now replies.items) }
@@ -108,7 +108,7 @@ impl Lab {
         Ok(replies)
     }
 
-    /// Closes every handle, and drops the store. Takes no memory.
+    /// Closes all handles and drops the store. Allocates nothing.
     pub fn end(self) {
         let Lab {
             wrapper: _,

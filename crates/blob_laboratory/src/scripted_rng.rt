@@ -1,4 +1,4 @@
-//! A generator whose first words are given.
+//! A generator with given first words.
 ghost use Rattle.std.specs.Prelude.{◌≡◌, ◌++◌, IfOk, IfSome, is_none, is_some};
 ghost use Rattle.blob_tree.specs.WordsLeft.{EndsAfter};
 ghost use Rattle.blob_states.specs.Scripted.{next_of, scripted};
@@ -11,9 +11,9 @@ use rand_xoshiro::Xoshiro256PlusPlus;
 use std::alloc::{AllocError, Global};
 use std::marker::Model;
 
-/// The given words in order, and then zeros for good, or the words of a seed.
+/// Returns the given words in order, and then zeros or the words of a seed.
 ///
-/// `next_u32` takes one word and answers its low 32 bits; `fill_bytes` takes a word for each 8 bytes, little-endian.
+/// `next_u32` takes one word and returns its low 32 bits. `fill_bytes` takes a word for each 8 bytes, little-endian.
 #[derive(Drop)]
 pub struct ScriptedRng {
     words: Vec<u64>,
@@ -33,7 +33,7 @@ impl Model for ScriptedRng {
 }
 
 impl ScriptedRng {
-    /// A generator of these words, and of zeros behind them.
+    /// Returns a generator of these words, followed by zeros.
     pub fn new(words: Vec<u64>) -> ScriptedRng
         ensures { result ≡ (words.items, None) }
     {
@@ -44,7 +44,7 @@ impl ScriptedRng {
         }
     }
 
-    /// A generator of these words, and of those of `Xoshiro256PlusPlus::seed_from_u64` behind them.
+    /// Returns a generator of these words, followed by those of `Xoshiro256PlusPlus::seed_from_u64`.
     pub fn seeded(words: Vec<u64>, seed: u64) -> ScriptedRng
         ensures { result ≡ (words.items, Some (of_seed (splitmix_seed 32 seed))) }
     {

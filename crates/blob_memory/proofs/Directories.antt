@@ -20,7 +20,7 @@ use Rattle.blob_model.specs.Durable.{Durable, with_at, durable_without}
 use Rattle.blob_model.specs.Places.{Place}
 use Rattle.blob_memory.specs.declared.item.Item.TheVariants.{Raw, Held}
 use Rattle.blob_memory.specs.declared.item.Held as held
-use Rattle.blob_memory.specs.Contents.{file_of, file_when, vec_in, items_of, IsUnder}
+use Rattle.blob_memory.specs.Contents.{file_of, file_when, vec_in, bytes_of, IsUnder}
 
 -- directories are equal where their parts are, name by name
 pub same_directory : (d e : Directory) → ((q : List ℕ) → d.has_partition q ≡ e.has_partition q) → ((q m : List ℕ) → d.file q m ≡ e.file q m) → d.next ≡ e.next → d ≡ e
@@ -46,27 +46,27 @@ module _ (first : ℕ) (f g : List ℕ → List ℕ → Option Item) where
 
 -- the durable bytes that items have
 abbrev pub durable_in : ℕ → (List ℕ → List ℕ → Option Item) → Durable
-durable_in first f o = items_of (vec_in first (f o.partition o.name) o.number o.start)
+durable_in first f o = bytes_of (vec_in first (f o.partition o.name) o.number o.start)
 
 module _ (first : ℕ) (f g : List ℕ → List ℕ → Option Item) where
   -- one item made new that isn't a current incarnation
   pub durable_placed : (p n : List ℕ) (x : Option Item) → ((q m : List ℕ) → g q m ≡ with_item f p n x q m) → ((k start : ℕ) → vec_in first x k start ≡ None)
       → durable_in first g ≡ durable_without (durable_in first f) p (Some n)
-  durable_placed p n x h none = λ i o. (ap (λ y. items_of (vec_in first y o.number o.start)) (h o.partition o.name) ∙ push o (bytes_eq p o.partition) (bytes_eq n o.name)) i where
-    push : (o : Place) (b d : Bool) → items_of (vec_in first (cond b (cond d x (f o.partition o.name)) (f o.partition o.name)) o.number o.start) ≡ cond (b && d) None (durable_in first f o)
-    push o true true = ap items_of (none o.number o.start)
+  durable_placed p n x h none = λ i o. (ap (λ y. bytes_of (vec_in first y o.number o.start)) (h o.partition o.name) ∙ push o (bytes_eq p o.partition) (bytes_eq n o.name)) i where
+    push : (o : Place) (b d : Bool) → bytes_of (vec_in first (cond b (cond d x (f o.partition o.name)) (f o.partition o.name)) o.number o.start) ≡ cond (b && d) None (durable_in first f o)
+    push o true true = ap bytes_of (none o.number o.start)
     push o true false = refl
     push o false d = refl
 
   -- a partition's items taken away
   pub durable_gone : (p : List ℕ) → ((q m : List ℕ) → g q m ≡ without_partition f p q m) → durable_in first g ≡ durable_without (durable_in first f) p None
-  durable_gone p h = λ i o. (ap (λ y. items_of (vec_in first y o.number o.start)) (h o.partition o.name) ∙ push o (bytes_eq p o.partition)) i where
-    push : (o : Place) (b : Bool) → items_of (vec_in first (cond b None (f o.partition o.name)) o.number o.start) ≡ cond b None (durable_in first f o)
+  durable_gone p h = λ i o. (ap (λ y. bytes_of (vec_in first y o.number o.start)) (h o.partition o.name) ∙ push o (bytes_eq p o.partition)) i where
+    push : (o : Place) (b : Bool) → bytes_of (vec_in first (cond b None (f o.partition o.name)) o.number o.start) ≡ cond b None (durable_in first f o)
     push o true = refl
     push o false = refl
 
   pub durable_same : ((q m : List ℕ) → g q m ≡ f q m) → durable_in first g ≡ durable_in first f
-  durable_same h = λ i o. items_of (vec_in first (h o.partition o.name i) o.number o.start)
+  durable_same h = λ i o. bytes_of (vec_in first (h o.partition o.name i) o.number o.start)
 
 -- an item that isn't a current incarnation has no current bytes
 pub not_current : (first : ℕ) (x : Option Item) (p n : List ℕ) → place_in p n (file_of first x) ≡ None → (k start : ℕ) → vec_in first x k start ≡ None
@@ -81,19 +81,19 @@ module _ (first : ℕ) (f g : List ℕ → List ℕ → Option Item) where
   -- an incarnation that begins where there was none
   pub durable_begun : (p n : List ℕ) (h : held.Held) → first ≤ h.number → place_in p n (file_of first (f p n)) ≡ None → ((q m : List ℕ) → g q m ≡ with_item f p n (Some (Held h)) q m)
       → durable_in first g ≡ with_at (durable_in first f) (record { partition = p; name = n; number = h.number; start = data_start h.layout }) (Some h.bytes.items)
-  durable_begun p n h begun none new = λ i o. (ap (λ y. items_of (vec_in first y o.number o.start)) (new o.partition o.name)
+  durable_begun p n h begun none new = λ i o. (ap (λ y. bytes_of (vec_in first y o.number o.start)) (new o.partition o.name)
       ∙ push o (bytes_eq p o.partition) (bytes_eq n o.name) (λ y z. not_current first (f o.partition o.name) p n (ap (λ q. place_in p n (file_of first (f q o.name))) (sym ((bytes_decides p o.partition).0 y)) ∙ ap (λ m. place_in p n (file_of first (f p m))) (sym ((bytes_decides n o.name).0 z)) ∙ none) o.number o.start)) i
     where
-      mine : (o : Place) (b : Bool) → items_of (cond b (Some h.bytes) None) ≡ cond b (Some h.bytes.items) None
+      mine : (o : Place) (b : Bool) → bytes_of (cond b (Some h.bytes) None) ≡ cond b (Some h.bytes.items) None
       mine o true = refl
       mine o false = refl
 
       push : (o : Place) (b d : Bool) → (b ≡ true → d ≡ true → vec_in first (f o.partition o.name) o.number o.start ≡ None)
-          → items_of (vec_in first (cond b (cond d (Some (Held h)) (f o.partition o.name)) (f o.partition o.name)) o.number o.start)
+          → bytes_of (vec_in first (cond b (cond d (Some (Held h)) (f o.partition o.name)) (f o.partition o.name)) o.number o.start)
           ≡ cond (b && (d && (nat_eq h.number o.number && nat_eq (data_start h.layout) o.start))) (Some h.bytes.items) (durable_in first f o)
-      push o true true gone = ap (λ e. items_of (cond (not e && ((h.number == o.number) && (data_start h.layout == o.start))) (Some h.bytes) None)) (le-ltb h.number first begun)
+      push o true true gone = ap (λ e. bytes_of (cond (not e && ((h.number == o.number) && (data_start h.layout == o.start))) (Some h.bytes) None)) (le-ltb h.number first begun)
           ∙ mine o (nat_eq h.number o.number && nat_eq (data_start h.layout) o.start)
-          ∙ ap (λ r. cond (nat_eq h.number o.number && nat_eq (data_start h.layout) o.start) (Some h.bytes.items) (items_of r)) (sym (gone refl refl))
+          ∙ ap (λ r. cond (nat_eq h.number o.number && nat_eq (data_start h.layout) o.start) (Some h.bytes.items) (bytes_of r)) (sym (gone refl refl))
       push o true false gone = refl
       push o false d gone = refl
 
@@ -122,13 +122,13 @@ file_again first next f below p n = at (f p n) (below p n) refl where
   at (Some (Held h)) b e = ap (λ t. Some (file_when t h)) (lt-ltb h.number next (b h.number refl)) ∙ by_end (nat_lt h.number first) refl where
     by_end : (t : Bool) → nat_lt h.number first ≡ t → Some (file_when true h) ≡ raw_again (λ o. unwrap_or (durable_in first f o) []) p n (Some (file_when t h))
     by_end true z = refl
-    by_end false z = sym (ap (λ v. Some (directory.Raw (region h.layout h.version.0 ++ unwrap_or (items_of v) []))) is) where
+    by_end false z = sym (ap (λ v. Some (directory.Raw (region h.layout h.version.0 ++ unwrap_or (bytes_of v) []))) is) where
       is : vec_in first (f p n) h.number (data_start h.layout) ≡ Some h.bytes
       is = ap (λ x. vec_in first x h.number (data_start h.layout)) e ∙ (λ i. cond (not (z i) && (eq-eqb h.number h.number refl i && eq-eqb (data_start h.layout) (data_start h.layout) refl i)) (Some h.bytes) None)
 
 pub none_again : (next : ℕ) (f : List ℕ → List ℕ → Option Item) → ((p n : List ℕ) (k : ℕ) → item_number (f p n) ≡ Some k → k < next) → ◌≡◌ {A = Durable} (durable_in next f) (λ _. None)
 none_again next f below = λ i o. at o (f o.partition o.name) (below o.partition o.name) i where
-  at : (o : Place) (x : Option Item) → ((k : ℕ) → item_number x ≡ Some k → k < next) → items_of (vec_in next x o.number o.start) ≡ None
+  at : (o : Place) (x : Option Item) → ((k : ℕ) → item_number x ≡ Some k → k < next) → bytes_of (vec_in next x o.number o.start) ≡ None
   at o None b = refl
   at o (Some (Raw bytes)) b = refl
   at o (Some (Held h)) b = rw (lt-ltb h.number next (b h.number refl)) refl

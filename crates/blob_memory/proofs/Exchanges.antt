@@ -1,5 +1,5 @@
 -- What is left where the bytes of a current incarnation are changed.
-use Rattle.std.proofs.Common.{◌≡◌, ◌≤◌, ℕ, List, Bool, true, false, cond, ◌&&◌, ◌==◌, nat_eq, nat_lt, not, Option, Some, None, IsSome, refl, sym, ap, ◌∙◌, Vec, Global, subst, arith}
+use Rattle.std.proofs.Common.{◌≡◌, ◌≤◌, ℕ, List, Bool, true, false, cond, ◌&&◌, ◌==◌, nat_eq, nat_lt, not, Option, Some, None, IsSome, refl, sym, ap, ◌∙◌, subst, arith}
 use Rattle.std.proofs.lemmas.Bool.{false≢true, and_parts}
 use Rattle.std.proofs.lemmas.Bool.Decides.{nat_tests}
 use Rattle.std.specs.Cmp.Lexicographic.{bytes_decides}
@@ -7,14 +7,15 @@ use Rattle.std.specs.Str.{bytes_eq}
 use Rattle.blob_header.specs.Header.{data_start}
 use Rattle.blob_model.specs.Durable.{Durable, with_at, with_changed}
 use Rattle.blob_model.specs.SamePlace.{same_place_exact}
-use Rattle.std.specs.Prelude.{option_map, vec_capacity}
+use Rattle.std.specs.Prelude.{option_map}
 use Rattle.blob_model.specs.Places.{Place, same_place}
 use Rattle.blob_memory.specs.declared.item.Item.{Item}
 use Rattle.blob_memory.specs.declared.item.Item.TheVariants.{Raw, Held}
 use Rattle.blob_memory.specs.declared.item.Held as held
-use Rattle.blob_memory.specs.Contents.{file_of, vec_in, items_of, Fits}
+use Rattle.blob_memory.specs.Contents.{file_of, vec_in, bytes_of, Fits}
 use Rattle.blob_memory.specs.Numbers.{item_number}
 use Rattle.blob_memory.specs.Partitions.{with_item, with_bytes_in}
+use Rattle.blob_pages.specs.Stored.{Stored}
 
 -- what there is to know of a current incarnation's item
 pub record IsCurrent (first : ℕ) (x : Option Item) (k start : ℕ) : Type 0 where
@@ -40,7 +41,7 @@ is_current_item first (Some (Held i)) k start h =
     let two = and_parts (i.number == k) (data_start i.layout == start) all.1 in
     record { held = i; is = refl; begun = not_true (nat_lt i.number first) all.0; number = grind (arith, nat_tests); layout = grind (arith, nat_tests) }
 
-module _ (f g : List ℕ → List ℕ → Option Item) (p n : List ℕ) (v : Vec ℕ Global) (after : (q m : List ℕ) → g q m ≡ with_item f p n (with_bytes_in (f p n) v) q m) where
+module _ (f g : List ℕ → List ℕ → Option Item) (p n : List ℕ) (v : Stored) (after : (q m : List ℕ) → g q m ≡ with_item f p n (with_bytes_in (f p n) v) q m) where
   -- the item at an equal name
   alike : (q m : List ℕ) → bytes_eq p q ≡ true → bytes_eq n m ≡ true → f p n ≡ f q m
   alike q m y z = ap (λ (l : List ℕ). f l n) ((bytes_decides p q).0 y) ∙ ap (f q) ((bytes_decides n m).0 z)
@@ -67,7 +68,7 @@ module _ (f g : List ℕ → List ℕ → Option Item) (p n : List ℕ) (v : Vec
       both : (i : held.Held) → nat_lt i.number first ≡ false → file_of first (with_bytes_in (Some (Held i)) v) ≡ file_of first (Some (Held i))
       both i e = rw e refl
 
-pub vecs_after : (f g : List ℕ → List ℕ → Option Item) (v : Vec ℕ Global) (first : ℕ) (o : Place) → ((q m : List ℕ) → g q m ≡ with_item f o.partition o.name (with_bytes_in (f o.partition o.name) v) q m)
+pub vecs_after : (f g : List ℕ → List ℕ → Option Item) (v : Stored) (first : ℕ) (o : Place) → ((q m : List ℕ) → g q m ≡ with_item f o.partition o.name (with_bytes_in (f o.partition o.name) v) q m)
     → IsSome (vec_in first (f o.partition o.name) o.number o.start)
     → (a : Place) → vec_in first (g a.partition a.name) a.number a.start ≡ with_at (λ (b : Place). vec_in first (f b.partition b.name) b.number b.start) o (Some v) a
 vecs_after f g v first o after h a =
@@ -76,7 +77,7 @@ vecs_after f g v first o after h a =
     c : IsCurrent first (f o.partition o.name) o.number o.start
     c = is_current_item first (f o.partition o.name) o.number o.start h
 
-    two : (b : Bool) (x y : Option (Vec ℕ Global)) → cond b x None ≡ cond b x (cond b y None)
+    two : (b : Bool) (x y : Option Stored) → cond b x None ≡ cond b x (cond b y None)
     two true x y = refl
     two false x y = refl
 
@@ -95,26 +96,26 @@ vecs_after f g v first o after h a =
     push false d e = refl
 
 -- The bytes of one place, changed.
-module _ (f h : Place → Option (Vec ℕ Global)) (o : Place) (v w : Vec ℕ Global) (here : f o ≡ Some v) (after : (a : Place) → h a ≡ with_at f o (Some w) a) where
+module _ (f h : Place → Option Stored) (o : Place) (v w : Stored) (here : f o ≡ Some v) (after : (a : Place) → h a ≡ with_at f o (Some w) a) where
   at_same : (a : Place) → same_place o a ≡ true → f a ≡ Some v
   at_same a y = ap f (sym (same_place_exact o a y)) ∙ here
 
-  pub changed_by : (k : List ℕ → List ℕ) → w.items ≡ k v.items → ◌≡◌ {A = Durable} (λ (a : Place). items_of (h a)) (with_changed (λ (a : Place). items_of (f a)) o k)
-  changed_by k e = λ i a. (ap items_of (after a) ∙ push a (same_place o a) (at_same a)) i where
-    push : (a : Place) (b : Bool) → (b ≡ true → f a ≡ Some v) → items_of (cond b (Some w) (f a)) ≡ cond b (option_map k (items_of (f a))) (items_of (f a))
-    push a true is = ap (λ x. Some x) e ∙ sym (ap (λ r. option_map k (items_of r)) (is refl))
+  pub changed_by : (k : List ℕ → List ℕ) → w.items ≡ k v.items → ◌≡◌ {A = Durable} (λ (a : Place). bytes_of (h a)) (with_changed (λ (a : Place). bytes_of (f a)) o k)
+  changed_by k e = λ i a. (ap bytes_of (after a) ∙ push a (same_place o a) (at_same a)) i where
+    push : (a : Place) (b : Bool) → (b ≡ true → f a ≡ Some v) → bytes_of (cond b (Some w) (f a)) ≡ cond b (option_map k (bytes_of (f a))) (bytes_of (f a))
+    push a true is = ap (λ x. Some x) e ∙ sym (ap (λ r. option_map k (bytes_of r)) (is refl))
     push a false is = refl
 
-  pub unchanged_by : w.items ≡ v.items → ◌≡◌ {A = Durable} (λ (a : Place). items_of (h a)) (λ (a : Place). items_of (f a))
-  unchanged_by e = λ i a. (ap items_of (after a) ∙ push a (same_place o a) (at_same a)) i where
-    push : (a : Place) (b : Bool) → (b ≡ true → f a ≡ Some v) → items_of (cond b (Some w) (f a)) ≡ items_of (f a)
-    push a true is = ap (λ x. Some x) e ∙ sym (ap items_of (is refl))
+  pub unchanged_by : w.items ≡ v.items → ◌≡◌ {A = Durable} (λ (a : Place). bytes_of (h a)) (λ (a : Place). bytes_of (f a))
+  unchanged_by e = λ i a. (ap bytes_of (after a) ∙ push a (same_place o a) (at_same a)) i where
+    push : (a : Place) (b : Bool) → (b ≡ true → f a ≡ Some v) → bytes_of (cond b (Some w) (f a)) ≡ bytes_of (f a)
+    push a true is = ap (λ x. Some x) e ∙ sym (ap bytes_of (is refl))
     push a false is = refl
 
-  pub room_by : vec_capacity v ≤ vec_capacity w → (a : Place) (n : ℕ) → Fits (f a) n → Fits (h a) n
+  pub room_by : v.capacity ≤ w.capacity → (a : Place) (n : ℕ) → Fits (f a) n → Fits (h a) n
   room_by le a n fits = subst (λ r. Fits r n) (sym (after a)) (push (same_place o a) (at_same a)) where
     push : (b : Bool) → (b ≡ true → f a ≡ Some v) → Fits (cond b (Some w) (f a)) n
-    push true is = let k : n ≤ vec_capacity v = subst (λ r. Fits r n) (is refl) fits in omega arith
+    push true is = let k : n ≤ v.capacity = subst (λ r. Fits r n) (is refl) fits in omega arith
     push false is = fits
 
 -- nothing is changed at a place that has no bytes

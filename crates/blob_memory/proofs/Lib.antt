@@ -9,4 +9,5 @@ pub mod Kept
 pub mod Lent
 pub mod Listings
 pub mod Openings
+pub mod Parts
 pub mod Rooms

@@ -1,6 +1,6 @@
 -- What no call of a memory store answers.
-use Rattle.std.specs.Prelude.{◌≡◌, ◌≢◌, ◌⊎◌, ℕ, ◌+◌, ◌-◌, ◌^◌, ◌<◌, ◌≤◌, min, vec_capacity, nat_le, Bool, true, false, not, ◌&&◌, ◌||◌, if◌then◌else◌, List, [], ◌∷◌, length, Option, Some, None, IsTrue}
-use Rattle.std.proofs.Common.{refl, sym, ap, subst, ◌∙◌, inl, inr, arith, true≢false, Vec, Global}
+use Rattle.std.specs.Prelude.{◌≡◌, ◌≢◌, ◌⊎◌, ℕ, ◌+◌, ◌-◌, ◌^◌, ◌<◌, ◌≤◌, min, nat_le, Bool, true, false, not, ◌&&◌, ◌||◌, if◌then◌else◌, List, [], ◌∷◌, length, Option, Some, None, IsTrue}
+use Rattle.std.proofs.Common.{refl, sym, ap, subst, ◌∙◌, inl, inr, arith, true≢false}
 use Rattle.std.proofs.lemmas.Bool.{false≢true, le-ltb}
 use Rattle.std.proofs.lemmas.Bool.Decides.{nat_tests}
 use Rattle.std.proofs.lemmas.Option.{none-some}
@@ -13,6 +13,7 @@ use Rattle.blob_memory.specs.declared.storage.Storage.{Storage}
 use Rattle.blob_memory.specs.Answers.{is_uncounted, missing, read_refusal, write_refusal, end_refusal, OrMemory, AllowsWrite}
 use Rattle.blob_memory.specs.Contents.{vec_at}
 use Rattle.blob_memory.specs.Store.{directory, place, live, live_room, room, room_in, room_for}
+use Rattle.blob_pages.specs.Stored.{Stored}
 
 -- the refusals that no state calls for
 abbrev pub is_uncalled : Option Refusal → Bool
@@ -80,7 +81,7 @@ pub within_room : (b : Blob) (s : Storage) (offset : ℕ) (bytes : List ℕ) →
     → AllowsWrite (directory s) (place b) (room_for b s) offset bytes true (Some Memory) → ⊥
 within_room b s offset bytes now fits h = within_at (directory s) (place b) (room_for b s) offset bytes now fits h
 
-counted_room : (limit capacity : ℕ) (v : Option (Vec ℕ Global)) → room_in (min limit capacity) v ≤ limit
+counted_room : (limit capacity : ℕ) (v : Option Stored) → room_in (min limit capacity) v ≤ limit
 counted_room limit capacity None = omega arith
 counted_room limit capacity (Some v) = omega arith
 
@@ -102,7 +103,7 @@ done_at d o rooms offset (b ∷ bytes) refusal now fits least (inr h) = go (is_u
 pub done_within : (b : Blob) (s : Storage) (offset : ℕ) (bytes : List ℕ) (refusal : Refusal) → true ≡ true → is_current (directory s) (place b) ≡ true → offset + length bytes ≤ room b s
     → AllowsWrite (directory s) (place b) (room_for b s) offset bytes true (Some refusal) → ⊥
 done_within b s offset bytes refusal direct now fits h = done_at (directory s) (place b) (room_for b s) offset bytes refusal now fits
-    (counted_room (2 ^ 64 - 1 - b.origin.start) (vec_capacity b.live) (vec_at s.contents b.origin)) h
+    (counted_room (2 ^ 64 - 1 - b.origin.start) b.live.capacity (vec_at s.contents b.origin)) h
 
 plain_at : (d : Directory) (o : Place) (rooms : Bool → ℕ) (offset : ℕ) (bytes : List ℕ) (refusal : Refusal) → 0 < offset + length bytes → offset + length bytes ≤ rooms false → rooms false ≤ 2 ^ 64 - 1 - o.start
     → AllowsWrite d o rooms offset bytes false (Some refusal) → ⊥

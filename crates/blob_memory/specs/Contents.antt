@@ -1,6 +1,5 @@
 -- What a memory store holds, by names and by places.
-use Rattle.std.specs.Prelude.{◌≡◌, ℕ, ◌≤◌, List, [], ◌++◌, drop, length, Bool, true, false, cond, not, ◌&&◌, ◌==◌, nat_lt, Option, None, Some, Vec, vec_capacity}
-use Rattle.std.specs.Global.{Global}
+use Rattle.std.specs.Prelude.{◌≡◌, ℕ, ◌≤◌, List, [], ◌++◌, drop, length, Bool, true, false, cond, not, ◌&&◌, ◌==◌, nat_lt, Option, None, Some, Vec}
 use Rattle.blob_header.specs.declared.layout.Layout.{Layout}
 use Rattle.blob_header.specs.declared.version.BlobVersion.{BlobVersion}
 use Rattle.blob_model.specs.Places.{Place}
@@ -13,6 +12,8 @@ use Rattle.blob_memory.specs.declared.item.Item.TheVariants.{Raw, Held}
 use Rattle.blob_memory.specs.declared.item.Held as held
 use Rattle.blob_memory.specs.declared.contents.Contents.{Contents}
 use Rattle.blob_memory.specs.Partitions.{item_at, is_there}
+use Rattle.std.specs.Global.{Global}
+use Rattle.blob_pages.specs.Stored.{Stored}
 
 -- an incarnation that ended is a raw file again
 abbrev pub file_when : Bool → held.Held → File
@@ -33,26 +34,30 @@ abbrev pub is_current_of : ℕ → held.Held → ℕ → ℕ → Bool
 is_current_of first h k start = not (nat_lt h.number first) && ((h.number == k) && (data_start h.layout == start))
 
 -- an item's logical bytes, where it is the current incarnation of this number and data offset
-abbrev pub vec_in : ℕ → Option Item → ℕ → ℕ → Option (Vec ℕ Global)
+abbrev pub vec_in : ℕ → Option Item → ℕ → ℕ → Option Stored
 vec_in first None k start = None
 vec_in first (Some (Raw bytes)) k start = None
 vec_in first (Some (Held h)) k start = cond (is_current_of first h k start) (Some h.bytes) None
 
--- the vector of an incarnation's durable logical bytes, where it is current
-abbrev pub vec_at : Contents → Place → Option (Vec ℕ Global)
+-- the bytes and the capacity of an incarnation's durable logical bytes, where it is current
+abbrev pub vec_at : Contents → Place → Option Stored
 vec_at s o = vec_in s.first (item_at s.partitions o.partition o.name) o.number o.start
 
 abbrev pub items_of : Option (Vec ℕ Global) → Option (List ℕ)
 items_of None = None
 items_of (Some v) = Some v.items
 
+abbrev pub bytes_of : Option Stored → Option (List ℕ)
+bytes_of None = None
+bytes_of (Some v) = Some v.items
+
 abbrev pub durable_of : Contents → Durable
-durable_of s o = items_of (vec_at s o)
+durable_of s o = bytes_of (vec_at s o)
 
 -- an incarnation that isn't current, or whose durable bytes can grow so far without memory
-abbrev pub Fits : Option (Vec ℕ Global) → ℕ → Type 0
+abbrev pub Fits : Option Stored → ℕ → Type 0
 Fits None n = Unit {0}
-Fits (Some v) n = n ≤ vec_capacity v
+Fits (Some v) n = n ≤ v.capacity
 
 -- one name's file made raw
 abbrev pub directory_raw : Directory → List ℕ → List ℕ → List ℕ → Directory

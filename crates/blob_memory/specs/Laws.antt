@@ -10,22 +10,22 @@ use Rattle.blob_memory.specs.declared.contents.Contents.{Contents}
 use Rattle.blob_memory.specs.declared.item.Item.{Item}
 use Rattle.blob_memory.specs.declared.item.Item.TheVariants.{Raw, Held}
 use Rattle.blob_memory.specs.declared.item.Held as held
-use Rattle.blob_memory.specs.Contents.{directory_of, durable_of, file_of, file_when, vec_in, items_of}
+use Rattle.blob_memory.specs.Contents.{directory_of, durable_of, file_of, file_when, vec_in, bytes_of}
 use Rattle.blob_memory.specs.Numbers.{item_number}
 use Rattle.blob_memory.specs.Partitions.{item_at}
 
 -- the incarnations with durable bytes are the current ones
 pub currents : (s : Contents) (o : Place) → is_some (durable_of s o) ≡ is_current (directory_of s) o
 currents s o = at (item_at s.partitions o.partition o.name) where
-  some_when : (h : held.Held) (b : Bool) → is_some (items_of (cond b (Some h.bytes) None)) ≡ b
+  some_when : (h : held.Held) (b : Bool) → is_some (bytes_of (cond b (Some h.bytes) None)) ≡ b
   some_when h true = refl
   some_when h false = refl
 
-  at : (x : Option Item) → is_some (items_of (vec_in s.first x o.number o.start)) ≡ is_that (file_of s.first x) o.number o.start
+  at : (x : Option Item) → is_some (bytes_of (vec_in s.first x o.number o.start)) ≡ is_that (file_of s.first x) o.number o.start
   at None = refl
   at (Some (Raw bytes)) = refl
   at (Some (Held h)) = by_end (nat_lt h.number s.first) where
-    by_end : (b : Bool) → is_some (items_of (cond (not b && ((h.number == o.number) && (data_start h.layout == o.start))) (Some h.bytes) None)) ≡ is_that (Some (file_when b h)) o.number o.start
+    by_end : (b : Bool) → is_some (bytes_of (cond (not b && ((h.number == o.number) && (data_start h.layout == o.start))) (Some h.bytes) None)) ≡ is_that (Some (file_when b h)) o.number o.start
     by_end true = refl
     by_end false = some_when h ((h.number == o.number) && (data_start h.layout == o.start))
 

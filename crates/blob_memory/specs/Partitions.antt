@@ -1,12 +1,12 @@
 -- What the partitions of a store have.
-use Rattle.std.specs.Prelude.{◌≡◌, ℕ, List, Bool, cond, Option, None, Some, is_some, Vec}
-use Rattle.std.specs.Global.{Global}
+use Rattle.std.specs.Prelude.{◌≡◌, ℕ, List, Bool, cond, Option, None, Some, is_some}
 use Rattle.std.specs.Str.{bytes_eq}
 use Rattle.std.specs.String.{string_bytes}
 use Rattle.blob_memory.specs.declared.item.Item.{Item}
 use Rattle.blob_memory.specs.declared.item.Item.TheVariants.{Raw, Held}
 use Rattle.blob_memory.specs.declared.partitions.Partitions.{Partitions}
 use Rattle.blob_names.specs.Names.{found, below}
+use Rattle.blob_pages.specs.Stored.{Stored}
 
 -- the item of a name in a partition
 abbrev pub item_at : Partitions → List ℕ → List ℕ → Option Item
@@ -25,12 +25,12 @@ abbrev pub without_partition : (List ℕ → List ℕ → Option Item) → List 
 without_partition f p q m = cond (bytes_eq p q) None (f q m)
 
 -- an item with other logical bytes, where it is an incarnation
-abbrev pub with_bytes : Item → Vec ℕ Global → Item
+abbrev pub with_bytes : Item → Stored → Item
 with_bytes (Raw bytes) new = Raw bytes
 with_bytes (Held h) new = Held (record { number = h.number; layout = h.layout; version = h.version; bytes = new })
 
 -- the same of what a name has
-abbrev pub with_bytes_in : Option Item → Vec ℕ Global → Option Item
+abbrev pub with_bytes_in : Option Item → Stored → Option Item
 with_bytes_in None new = None
 with_bytes_in (Some item) new = Some (with_bytes item new)
 

@@ -1,6 +1,5 @@
 -- What the calls of a crash leave of a memory store.
-use Rattle.std.specs.Prelude.{◌≡◌, ℕ, ◌+◌, ◌<◌, ◌≤◌, ◌^◌, Bool, List, Some, None, Result, OnOk, OnErr, IsOk, if◌then◌else◌, Vec, vec_capacity}
-use Rattle.std.specs.Global.{Global}
+use Rattle.std.specs.Prelude.{◌≡◌, ℕ, ◌+◌, ◌<◌, ◌≤◌, ◌^◌, Bool, List, Some, None, Result, OnOk, OnErr, IsOk, if◌then◌else◌}
 use Rattle.blob_header.specs.declared.error.Error.{Error}
 use Rattle.blob_header.specs.Refusals.{refused, OffsetOverflow}
 use Rattle.blob_model.specs.Bytes.{reach}
@@ -9,6 +8,7 @@ use Rattle.blob_model.specs.Places.{Place}
 use Rattle.blob_memory.specs.declared.storage.Storage.{Storage}
 use Rattle.blob_memory.specs.Answers.{OrMemory, is_uncounted}
 use Rattle.blob_memory.specs.Store.{directory, durable, HasCrashRoom}
+use Rattle.blob_pages.specs.Stored.{Stored}
 
 -- the same files, and no less room
 pub record KeepsRoom (s t : Storage) : Type 0 where
@@ -25,9 +25,9 @@ abbrev pub NeedsWriteRoom : {T : Type 0} → Result T Error → Storage → Plac
 NeedsWriteRoom result s o offset n chosen = NeedsRoom result s o (offset + o.start + n) (reach offset n chosen)
 
 -- the durable bytes b of an incarnation are w now
-pub record Retakes (s t : Storage) (o : Place) (b w : Vec ℕ Global) : Type 0 where
+pub record Retakes (s t : Storage) (o : Place) (b w : Stored) : Type 0 where
   pub durable : (change : List ℕ → List ℕ) → w.items ≡ change b.items → durable t ≡ with_changed (durable s) o change
-  pub kept : vec_capacity b ≤ vec_capacity w → KeepsRoom s t
+  pub kept : b.capacity ≤ w.capacity → KeepsRoom s t
 
 -- nothing that is durable has changed
 pub record IsAsBefore (s t : Storage) : Type 0 where

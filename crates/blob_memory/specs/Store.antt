@@ -1,6 +1,5 @@
 -- A memory store and its handles, as the contracts of their calls see them.
-use Rattle.std.specs.Prelude.{ℕ, ◌-◌, ◌^◌, min, Bool, true, false, List, Option, None, Some, Vec, vec_capacity}
-use Rattle.std.specs.Global.{Global}
+use Rattle.std.specs.Prelude.{ℕ, ◌-◌, ◌^◌, min, Bool, true, false, List, Option, None, Some}
 use Rattle.blob_memory.specs.Audit.{Listed}
 use Rattle.blob_model.specs.Directory.{Directory}
 use Rattle.blob_model.specs.Durable.{Durable}
@@ -10,6 +9,7 @@ use Rattle.blob_memory.specs.declared.blob.Blob.{Blob}
 use Rattle.blob_memory.specs.declared.snapshot.Snapshot.{Snapshot}
 use Rattle.blob_memory.specs.Contents.{directory_of, durable_of, vec_at, Fits}
 use Rattle.blob_memory.specs.Listing.{listing_at}
+use Rattle.blob_pages.specs.Stored.{Stored}
 
 -- the partitions, the names and what each name's file is
 abbrev pub directory : Storage → Directory
@@ -28,13 +28,13 @@ abbrev pub live : Blob → List ℕ
 live b = b.live.items
 
 -- how far both live and durable bytes reach without memory; not at all where there are no durable ones
-abbrev pub room_in : ℕ → Option (Vec ℕ Global) → ℕ
+abbrev pub room_in : ℕ → Option Stored → ℕ
 room_in capacity None = 0
-room_in capacity (Some v) = min capacity (vec_capacity v)
+room_in capacity (Some v) = min capacity v.capacity
 
 -- how far live bytes reach without memory, no further than can be counted behind the header
 abbrev pub live_room : Blob → ℕ
-live_room b = min (2 ^ 64 - 1 - b.origin.start) (vec_capacity b.live)
+live_room b = min (2 ^ 64 - 1 - b.origin.start) b.live.capacity
 
 abbrev pub room : Blob → Storage → ℕ
 room b s = room_in (live_room b) (vec_at s.contents b.origin)

@@ -1,6 +1,5 @@
 -- What a table ends as, where a name's item or its bytes are lent.
-use Rattle.std.specs.Prelude.{ℕ, List, Option, Some, Vec}
-use Rattle.std.specs.Global.{Global}
+use Rattle.std.specs.Prelude.{ℕ, List, Option, Some}
 use Rattle.std.specs.Option.{OnSome}
 use Rattle.std.specs.Borrow.{LendsSo, MutBor, Fml}
 use Rattle.blob_memory.specs.declared.item.Item.{Item}
@@ -9,6 +8,7 @@ use Rattle.blob_memory.specs.declared.partitions.Partitions.{Partitions}
 use Rattle.blob_memory.specs.contracts.partitions.Partitions.{the_row}
 use Rattle.blob_memory.specs.ItemLends.{bytes_row}
 use Rattle.blob_memory.specs.Partitions.{item_at, is_there, with_item, with_bytes_in, HasItems}
+use Rattle.blob_pages.specs.Stored.{Stored}
 
 -- the name ends with the last item written through r, and nothing else changes
 abbrev pub LendsItem : MutBor Partitions → List ℕ → List ℕ → Option (MutBor Item) → Fml
@@ -17,7 +17,7 @@ LendsItem s p n r = LendsSo the_row item_row s r
     (λ t. HasItems t (item_at s.now) (is_there s.now))
 
 -- the same of the logical bytes of its item
-abbrev pub LendsBytesAt : MutBor Partitions → List ℕ → List ℕ → Option (MutBor (Vec ℕ Global)) → Fml
+abbrev pub LendsBytesAt : MutBor Partitions → List ℕ → List ℕ → Option (MutBor Stored) → Fml
 LendsBytesAt s p n r = LendsSo the_row bytes_row s r
     (λ t w. HasItems t (with_item (item_at s.now) p n (with_bytes_in (item_at s.now p n) w)) (is_there s.now))
     (λ t. HasItems t (item_at s.now) (is_there s.now))

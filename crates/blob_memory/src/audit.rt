@@ -8,6 +8,7 @@ ghost use Rattle.blob_memory.specs.Listing.{raw_bytes, listed_of, raw_in, listin
 
 use crate::item::Item;
 use blob_base::{BlobVersion, Crc32, Header, Layout};
+use blob_pages::Bytes;
 use std::collections::BTreeMap;
 
 /// Feeds the region of a header.
@@ -30,6 +31,19 @@ fn feed_header(crc: &mut Crc32, layout: Layout, version: BlobVersion)
     }
 }
 
+/// Feeds the bytes of a blob.
+fn feed_bytes(crc: &mut Crc32, bytes: &Bytes)
+    ensures { (before : List ℕ) → HasTaken crc.old before → HasTaken crc.new (before ++ bytes.now.items) }
+{
+    let len = bytes.len();
+    let mut done = 0;
+    while done < len {
+        let part = bytes.part(done, len - done);
+        crc.update(part);
+        done += part.len();
+    }
+}
+
 /// Feeds the raw bytes of an item.
 fn feed_item(crc: &mut Crc32, item: &Item)
     ensures { (before : List ℕ) → HasTaken crc.old before → HasTaken crc.new (before ++ raw_bytes item.now) }
@@ -38,7 +52,7 @@ fn feed_item(crc: &mut Crc32, item: &Item)
         Item::Raw(bytes) => crc.update(bytes),
         Item::Held(held) => {
             feed_header(crc, held.layout, held.version);
-            crc.update(&held.bytes);
+            feed_bytes(crc, &held.bytes);
         }
     }
 }

@@ -1,5 +1,5 @@
 //! A handle on a blob of the memory store.
-ghost use Rattle.std.specs.Prelude.{◌≡◌, ℕ, ◌≤◌, ◌+◌, ◌≢◌, [], true, false, None, OnOk, IfOk, OnErr, length, take, drop, vec_capacity};
+ghost use Rattle.std.specs.Prelude.{◌≡◌, ℕ, ◌≤◌, ◌+◌, ◌≢◌, [], true, false, None, OnOk, IfOk, OnErr, length, take, drop};
 ghost use Rattle.blob_model.specs.Bytes.{overlay, resized, written};
 ghost use Rattle.blob_model.specs.Directory.{Directory, is_current};
 ghost use Rattle.blob_model.specs.Durable.{with_changed};
@@ -11,7 +11,7 @@ use crate::live;
 use crate::origin::Origin;
 use crate::storage::Storage;
 use blob_base::{Error, Handle, IoBufs, IoBufsMut, ReadOptions, WriteOptions};
-use blob_overlay::overlay;
+use blob_pages::{Bytes, overlay};
 use std::alloc::AllocError;
 
 /// A handle on a blob of the memory store: live bytes of its own, and the incarnation that they were opened on.
@@ -21,16 +21,31 @@ use std::alloc::AllocError;
 #[derive(Drop)]
 pub struct Blob {
     pub(crate) origin: Origin,
-    pub(crate) live: Vec<u8>,
+    pub(crate) live: Bytes,
+}
+
+/// Makes the bytes of a buffer those of a range. Takes no memory.
+fn fill(buf: &mut IoBufsMut, live: &Bytes, at: usize, len: usize)
+    requires within { at + len ≤ length live.now.items }
+    requires room { len ≤ buf.old.capacity }
+    ensures bytes { buf.new.bytes ≡ take len (drop at live.now.items) }
+    ensures room { buf.old.capacity ≤ buf.new.capacity }
+{
+    let _there = live.len();
+    buf.set(&[]);
+    let mut done = 0;
+    while done < len {
+        let part = live.part(at + done, len - done);
+        buf.put_slice(part);
+        done += part.len();
+    }
 }
 
 impl Blob {
     ghost use Rattle.blob_memory.specs.Store.{place, live};
 
-    /// The live bytes of a range, or why it can't be read.
-    pub(crate) fn readable(&self, offset: u64, len: usize) -> Result<&[u8], Error>
-        ensures bytes { IfOk result (λ bytes. bytes.now ≡ take len (drop offset (live self.now))) }
-        ensures len { IfOk result (λ bytes. length bytes.now ≡ len) }
+    /// Whether a range of live bytes can be read, or why not.
+    pub(crate) fn readable(&self, offset: u64, len: usize) -> Result<(), Error>
         ensures within { OnOk result (offset + len ≤ length (live self.now)) }
         ensures refusal { refused result ≡ read_refusal (place self.now) (live self.now) offset len }
     {
@@ -38,14 +53,14 @@ impl Blob {
         if end > self.live.len() {
             return Err(Error::BlobInsufficientLength);
         }
-        Ok(&self.live[offset as usize..end])
+        Ok(())
     }
 
     /// The refusal of a call whose incarnation isn't current. The only error is want of memory.
     fn missing(&self) -> Result<Error, AllocError>
         ensures { IfOk result (λ error. refusal_of error ≡ missing (place self.now)) }
     {
-        let alloc = *self.live.allocator();
+        let alloc = self.live.allocator();
         let partition = String::from_str(alloc, self.origin.partition())?;
         let name = hex::encode(alloc, self.origin.name())?;
         Ok(Error::BlobMissing(partition, name))
@@ -162,9 +177,9 @@ impl blob_base::Blob<Storage> for Blob {
     ) -> Result<IoBufsMut, Error> {
         let _ = store;
         let _ = options;
-        let bytes = self.readable(offset, len)?;
-        let mut buf = IoBufsMut::with_capacity(*self.live.allocator(), len)?;
-        buf.set(bytes);
+        self.readable(offset, len)?;
+        let mut buf = IoBufsMut::with_capacity(self.live.allocator(), len)?;
+        fill(&mut buf, &self.live, offset as usize, len);
         Ok(buf)
     }
 
@@ -183,9 +198,9 @@ impl blob_base::Blob<Storage> for Blob {
     ) -> Result<IoBufsMut, Error> {
         let _ = store;
         let _ = options;
-        let bytes = self.readable(offset, len)?;
+        self.readable(offset, len)?;
         let mut buf = buf;
-        buf.set(bytes);
+        fill(&mut buf, &self.live, offset as usize, len);
         Ok(buf)
     }
 
@@ -233,7 +248,7 @@ impl blob_base::Blob<Storage> for Blob {
         let Some(durable) = store.contents.bytes_mut(&self.origin) else {
             return Err(self.missing()?);
         };
-        overlay::replace(durable, &self.live)?;
+        overlay::replace(durable, &mut self.live)?;
         Ok(())
     }
 

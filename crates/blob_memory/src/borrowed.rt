@@ -9,7 +9,7 @@ ghost use Rattle.blob_memory.specs.declared.storage.Storage.{Storage};
 use crate::blob::Blob;
 use crate::live;
 use blob_base::Error;
-use blob_overlay::overlay;
+use blob_pages::overlay;
 
 impl Blob {
     /// Reads live bytes from the logical `offset` on, as many as fill `buf`, by a stale handle too. Takes no memory.
@@ -23,8 +23,8 @@ impl Blob {
         ensures bytes { OnOk result (buf.new ≡ take (length buf.old) (drop offset (live self.now))) }
         ensures err { OnErr result (buf.new ≡ buf.old) }
     {
-        let bytes = self.readable(offset, buf.len())?;
-        buf.copy_from_slice(bytes);
+        self.readable(offset, buf.len())?;
+        self.live.read(offset as usize, buf);
         Ok(())
     }
 

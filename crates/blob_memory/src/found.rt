@@ -10,6 +10,7 @@ ghost use Rattle.blob_header.specs.Versions.{is_in_range};
 use crate::item::Held;
 use blob_base::header_laws::resolved_has_header;
 use blob_base::{BlobVersion, DEFAULT_BLOB_LAYOUT, Error, Layout, resolve};
+use blob_pages::Bytes;
 use std::alloc::Global;
 use std::ops::RangeInclusive;
 
@@ -22,7 +23,7 @@ pub struct Found {
     pub is_file: bool,
     pub layout: Layout,
     pub version: BlobVersion,
-    pub live: Vec<u8>,
+    pub live: Bytes,
 }
 
 /// What is found where a blob is to be created.
@@ -38,7 +39,7 @@ pub fn nothing(alloc: Global, versions: &RangeInclusive<BlobVersion>) -> Found
         is_file: false,
         layout: DEFAULT_BLOB_LAYOUT,
         version: *versions.end(),
-        live: Vec::new(alloc),
+        live: Bytes::new(alloc),
     }
 }
 
@@ -91,7 +92,7 @@ impl Held {
             is_file: true,
             layout: self.layout,
             version: self.version,
-            live: Vec::from_slice(*self.bytes.allocator(), &self.bytes)?,
+            live: self.bytes.copy()?,
         })
     }
 }
@@ -112,7 +113,7 @@ fn found_behind(
     ensures err { OnErr result (IsMemory result) }
 {
     let bytes = &raw[offset as usize..];
-    let live = Vec::from_slice(alloc, bytes)?;
+    let live = Bytes::from_slice(alloc, bytes)?;
     Ok(Found {
         number: None,
         is_file: true,

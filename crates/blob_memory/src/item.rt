@@ -7,6 +7,7 @@ ghost use Rattle.blob_memory.specs.ItemLends.{LendsBytes};
 
 use crate::origin::Origin;
 use blob_base::{BlobVersion, Layout};
+use blob_pages::Bytes;
 
 /// A blob that an open has accepted. Its header is kept as what it says, so no write can reach it.
 #[derive(Drop)]
@@ -16,7 +17,7 @@ pub struct Held {
     pub layout: Layout,
     pub version: BlobVersion,
     /// The durable bytes that follow the header.
-    pub bytes: Vec<u8>,
+    pub bytes: Bytes,
 }
 
 /// The file of a name.
@@ -40,7 +41,7 @@ impl Held {
 
 impl Item {
     /// The logical bytes, where it is the current incarnation of an origin, to be changed.
-    pub fn bytes_mut(&mut self, first: u64, origin: &Origin) -> Option<&mut Vec<u8>>
+    pub fn bytes_mut(&mut self, first: u64, origin: &Origin) -> Option<&mut Bytes>
         ensures* writes_back { sem 𝓛 (LendsBytes self.entry result) }
         ensures value { option_copied_mut result ≡ vec_in first (Some self.old) origin.now.number origin.now.start }
     {

@@ -16,7 +16,7 @@ pub mod snapshot;
 pub mod storage;
 
 pub use blob::Blob;
-pub use blob_overlay::overlay;
+pub use blob_pages::{Bytes, overlay};
 pub use origin::Origin;
 pub use snapshot::Snapshot;
 pub use storage::Storage;

@@ -1,11 +1,11 @@
 // The live bytes of a handle.
-ghost use Rattle.std.specs.Prelude.{◌≡◌, ◌≤◌, ◌<◌, ◌+◌, ◌^◌, ℕ, None, Some, OnOk, IfOk, OnErr, length, if◌then◌else◌, vec_capacity};
+ghost use Rattle.std.specs.Prelude.{◌≡◌, ◌≤◌, ◌<◌, ◌+◌, ◌^◌, ℕ, None, Some, OnOk, IfOk, OnErr, length, if◌then◌else◌};
 ghost use Rattle.blob_model.specs.Bytes.{written};
 ghost use Rattle.blob_header.specs.Refusals.{refused, OffsetOverflow, IsMemory};
 ghost use Rattle.blob_memory.specs.Answers.{is_uncounted};
 
 use blob_base::{Error, IoBufs};
-use blob_overlay::overlay;
+use blob_pages::{Bytes, overlay};
 
 /// The logical end of a range, where the raw one, behind a header of `start` bytes, can be counted; else `OffsetOverflow`.
 pub fn logical_end(start: u64, offset: u64, len: usize) -> Result<usize, Error>
@@ -23,22 +23,22 @@ pub fn logical_end(start: u64, offset: u64, len: usize) -> Result<usize, Error>
 }
 
 /// Lays a run over live bytes that have room for it, over zeros in a gap.
-pub fn write(live: &mut Vec<u8>, offset: usize, run: &IoBufs)
+pub fn write(live: &mut Bytes, offset: usize, run: &IoBufs)
     requires fits { offset + length run.now < 2 ^ 64 }
-    requires room { offset + length run.now ≤ vec_capacity live.old }
+    requires room { offset + length run.now ≤ live.old.capacity }
     ensures bytes { live.new.items ≡ written live.old.items offset run.now }
-    ensures capacity { vec_capacity live.old ≤ vec_capacity live.new }
+    ensures capacity { live.old.capacity ≤ live.new.capacity }
 {
     overlay::grow(live, offset);
     overlay::lay(live, offset, run);
 }
 
 /// The same of one piece.
-pub fn write_slice(live: &mut Vec<u8>, offset: usize, run: &[u8])
+pub fn write_slice(live: &mut Bytes, offset: usize, run: &[u8])
     requires fits { offset + length run.now < 2 ^ 64 }
-    requires room { offset + length run.now ≤ vec_capacity live.old }
+    requires room { offset + length run.now ≤ live.old.capacity }
     ensures bytes { live.new.items ≡ written live.old.items offset run.now }
-    ensures capacity { vec_capacity live.old ≤ vec_capacity live.new }
+    ensures capacity { live.old.capacity ≤ live.new.capacity }
 {
     overlay::grow(live, offset);
     overlay::lay_slice(live, offset, run);

@@ -15,6 +15,7 @@ ghost use Rattle.std.specs.Option.{option_copied_mut};
 use crate::audit::audit;
 use crate::item::Item;
 use crate::origin::Origin;
+use blob_pages::Bytes;
 use std::alloc::{AllocError, Global};
 use std::collections::BTreeMap;
 
@@ -108,7 +109,7 @@ impl Partitions {
     }
 
     /// The logical bytes of an incarnation, where it is current and those with numbers below `first` ended, to be changed.
-    pub fn bytes_mut(&mut self, first: u64, origin: &Origin) -> Option<&mut Vec<u8>>
+    pub fn bytes_mut(&mut self, first: u64, origin: &Origin) -> Option<&mut Bytes>
         ensures* writes_back { sem 𝓛 (LendsBytesAt self.entry origin.now.partition origin.now.name result) }
         ensures value { option_copied_mut result ≡ vec_in first (item_at self.old origin.now.partition origin.now.name) origin.now.number origin.now.start }
     {

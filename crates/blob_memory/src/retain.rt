@@ -1,5 +1,5 @@
 //! What a crash keeps of mutations that weren't made durable.
-ghost use Rattle.std.specs.Prelude.{◌≡◌, ◌≤◌, ◌+◌, ℕ, OnOk, IfSome, is_some, length, vec_capacity};
+ghost use Rattle.std.specs.Prelude.{◌≡◌, ◌≤◌, ◌+◌, ℕ, OnOk, IfSome, is_some, length};
 ghost use Rattle.std.specs.Borrow.{sem};
 ghost use Rattle.std.specs.Option.{option_copied_mut};
 ghost use Rattle.blob_model.specs.Bytes.{overlay_by, resized};
@@ -11,11 +11,11 @@ use crate::live::logical_end;
 use crate::origin::Origin;
 use crate::storage::Storage;
 use blob_base::{Error, IoBufs};
-use blob_overlay::overlay;
+use blob_pages::{Bytes, overlay};
 
 impl Storage {
     ghost use Rattle.blob_memory.specs.Retained.{KeepsRoom, NeedsRoom, NeedsWriteRoom, Retains};
-    ghost use Rattle.blob_memory.specs.Contents.{items_of};
+    ghost use Rattle.blob_memory.specs.Contents.{bytes_of};
     ghost use Rattle.blob_memory.specs.StorageLends.{LendsKept};
     ghost use Rattle.blob_memory.specs.Store.{directory, durable, HasCrashRoom};
 
@@ -67,11 +67,11 @@ impl Storage {
 
     /// The durable logical bytes of an incarnation, to be changed as a crash leaves them; none where it isn't current. Handles
     /// keep their live bytes.
-    pub fn durable_mut(&mut self, origin: &Origin) -> Option<&mut Vec<u8>>
+    pub fn durable_mut(&mut self, origin: &Origin) -> Option<&mut Bytes>
         ensures* writes_back { sem 𝓛 (LendsKept self.entry origin.now result) }
-        ensures value { items_of (option_copied_mut result) ≡ durable self.old origin.now }
+        ensures value { bytes_of (option_copied_mut result) ≡ durable self.old origin.now }
         ensures current { is_some result ≡ is_current (directory self.old) origin.now }
-        ensures room { (n : ℕ) → HasCrashRoom self.old origin.now n → IfSome result (λ bytes. n ≤ vec_capacity bytes.now) }
+        ensures room { (n : ℕ) → HasCrashRoom self.old origin.now n → IfSome result (λ bytes. n ≤ bytes.now.capacity) }
     {
         self.contents.bytes_mut(origin)
     }

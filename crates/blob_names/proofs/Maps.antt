@@ -1,4 +1,4 @@
--- Maps by the bytes of their keys, and maps of such maps.
+-- Maps by the bytes of their keys, and nested maps.
 use Rattle.std.proofs.Common.{◌≡◌, ℕ, List, [], Bool, true, false, cond, Option, Some, None, Result, Ok, Err, sym, ap, subst, ◌∙◌, ⊎_elim}
 use Rattle.std.specs.BTreeMap.{BTreeMap, UpdatesBy}
 use Rattle.std.specs.Ordering.{nat_cmp, is_eq}
@@ -28,7 +28,7 @@ at_bytes f g bs w here other cs =
     (λ n. other cs n ∙ sym (cond-false (bytes_eq bs cs) w (f cs) n))
     (cases_Bool (bytes_eq bs cs))
 
--- a change at the key of bs leaves this at any bytes cs
+-- the value at key cs after a change at key bs
 pub found_after : {K X : Type 0} (bytes : K → List ℕ) (bs : List ℕ) (m n : BTreeMap K X) (w : Option X)
     → UpdatesBy (λ x y. slice_cmp nat_cmp (bytes x) (bytes y)) (λ k. slice_cmp nat_cmp bs (bytes k)) m n w
     → (cs : List ℕ) → found bytes n cs ≡ update bytes_eq (found bytes m) bs w cs
@@ -40,12 +40,12 @@ pub on_err : {T E P : Type 0} (r : Result T E) → P → OnErr r P
 on_err (Ok x) p = tt
 on_err (Err e) p = p
 
--- nothing is found in a map without entries
+-- an empty map has no value
 pub found_none : {K X : Type 0} (bytes : K → List ℕ) (m : BTreeMap K X) (cs : List ℕ) → m.entries ≡ [] → found bytes m cs ≡ None
 found_none bytes m cs e = ap (λ es. lookup (λ k. is_eq (slice_cmp nat_cmp cs (bytes k))) es) e
 
 module _ {M X : Type 0} (v : M → List ℕ → Option X) (f g : List ℕ → Option M) (p : List ℕ) where
-  -- what both levels say, where the outer one changed at p alone
+  -- both levels, if the outer map changes only at p
   levels : (n : List ℕ) (w : Option M) (x : Option X)
       → ((cs : List ℕ) → g cs ≡ update bytes_eq f p w cs)
       → ((m : List ℕ) → below v w m ≡ cond (bytes_eq n m) x (below v (f p) m))
@@ -63,21 +63,21 @@ module _ {M X : Type 0} (v : M → List ℕ → Option X) (f g : List ℕ → Op
       ap (λ o. below v o m) is ∙ sym (cond-false (bytes_eq p q) (cond (bytes_eq n m) x (below v (f q) m)) (below v (f q) m) no))
       (cases_Bool (bytes_eq p q))
 
-  -- one value changed below
+  -- one value of an inner map changes
   pub set_below : (n : List ℕ) (a b : M) (x : Option X) → f p ≡ Some a
       → ((cs : List ℕ) → g cs ≡ update bytes_eq f p (Some b) cs)
       → ((m : List ℕ) → v b m ≡ update bytes_eq (v a) n x m)
       → (q m : List ℕ) → below v (g q) m ≡ with_name (λ r l. below v (f r) l) p n x q m
   set_below n a b x here outer inner = levels n (Some b) x outer (λ m. inner m ∙ ap (λ o. cond (bytes_eq n m) x (below v o m)) (sym here))
 
-  -- a map below that is new
+  -- a new inner map
   pub new_below : (n : List ℕ) (b : M) (x : Option X) → f p ≡ None
       → ((cs : List ℕ) → g cs ≡ update bytes_eq f p (Some b) cs)
       → ((m : List ℕ) → v b m ≡ cond (bytes_eq n m) x None)
       → (q m : List ℕ) → below v (g q) m ≡ with_name (λ r l. below v (f r) l) p n x q m
   new_below n b x here outer inner = levels n (Some b) x outer (λ m. inner m ∙ ap (λ o. cond (bytes_eq n m) x (below v o m)) (sym here))
 
-  -- a map below that went with its last value
+  -- an inner map is removed with its last value
   pub emptied_below : (n : List ℕ) (a b : M) → f p ≡ Some a
       → ((cs : List ℕ) → g cs ≡ update bytes_eq f p None cs)
       → ((m : List ℕ) → v b m ≡ update bytes_eq (v a) n None m)
@@ -85,7 +85,7 @@ module _ {M X : Type 0} (v : M → List ℕ → Option X) (f g : List ℕ → Op
       → (q m : List ℕ) → below v (g q) m ≡ with_name (λ r l. below v (f r) l) p n None q m
   emptied_below n a b here outer inner empty = levels n None None outer (λ m. sym (empty m) ∙ inner m ∙ ap (λ o. cond (bytes_eq n m) None (below v o m)) (sym here))
 
-  -- a map below that answers as before
+  -- an inner map with the same values
   pub same_below : (a b : M) → f p ≡ Some a
       → ((cs : List ℕ) → g cs ≡ update bytes_eq f p (Some b) cs)
       → ((m : List ℕ) → v b m ≡ v a m)
@@ -98,7 +98,7 @@ module _ {M X : Type 0} (v : M → List ℕ → Option X) (f g : List ℕ → Op
       (λ no. ap (λ o. below v o m) (outer q ∙ cond-false (bytes_eq p q) (Some b) (f q) no))
       (cases_Bool (bytes_eq p q))
 
-  -- nothing to take out
+  -- there is no value to remove
   pub none_below : (n : List ℕ) → below v (f p) n ≡ None → (q m : List ℕ) → below v (f q) m ≡ with_name (λ r l. below v (f r) l) p n None q m
   none_below n here q m =
       ⊎_elim
@@ -112,7 +112,7 @@ module _ {M X : Type 0} (v : M → List ℕ → Option X) (f g : List ℕ → Op
       (λ no. sym (cond-false (bytes_eq p q) (cond (bytes_eq n m) None (below v (f q) m)) (below v (f q) m) no))
       (cases_Bool (bytes_eq p q))
 
-  -- a partition that went
+  -- a partition is removed
   pub gone_below : ((cs : List ℕ) → g cs ≡ update bytes_eq f p None cs) → (q m : List ℕ) → below v (g q) m ≡ with_all_names (λ r l. below v (f r) l) None p q m
   gone_below outer q m =
       ⊎_elim
@@ -120,7 +120,7 @@ module _ {M X : Type 0} (v : M → List ℕ → Option X) (f g : List ℕ → Op
       (λ no. ap (λ o. below v o m) (outer q ∙ cond-false (bytes_eq p q) None (f q) no) ∙ sym (cond-false (bytes_eq p q) None (below v (f q) m) no))
       (cases_Bool (bytes_eq p q))
 
--- two changes at one key: the last one counts
+-- of two changes at one key, the last one counts
 pub twice : {M : Type 0} (f g h : List ℕ → Option M) (p : List ℕ) (a b : Option M)
     → ((cs : List ℕ) → g cs ≡ update bytes_eq f p a cs) → ((cs : List ℕ) → h cs ≡ update bytes_eq g p b cs) → (cs : List ℕ) → h cs ≡ update bytes_eq f p b cs
 twice f g h p a b first second cs =

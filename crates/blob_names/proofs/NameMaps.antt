@@ -1,4 +1,4 @@
--- What a map by names has after one name's value is made new.
+-- A map of names after the value of one name is set.
 use Rattle.std.proofs.Common.{◌≡◌, ℕ, List, Bool, true, false, refl, ap, ◌∙◌, ⊎_elim, cond}
 use Rattle.std.specs.Str.{bytes_eq}
 use Rattle.std.specs.Cmp.Lexicographic.{bytes_decides}

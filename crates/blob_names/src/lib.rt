@@ -1,4 +1,4 @@
-//! A map from the names of blobs.
+//! A map keyed by partition and name.
 #![tactic(auto)]
 
 pub mod names;

@@ -1,4 +1,4 @@
-// A map from the names of blobs, looked up by borrowed texts, so that only a new name takes memory.
+// A map keyed by partition and name. Lookups use borrowed keys, so only inserting a new name allocates.
 ghost use Rattle.std.specs.Prelude.{◌≡◌, OnOk, OnErr, option_copied, None, Some, is_some};
 ghost use Rattle.std.specs.Bool.{OnTrue, OnFalse};
 ghost use Rattle.blob_names.specs.Names.{at, with_name, with_all_names};
@@ -6,7 +6,7 @@ ghost use Rattle.blob_names.specs.Names.{at, with_name, with_all_names};
 use std::alloc::{AllocError, Global};
 use std::collections::BTreeMap;
 
-/// A value for each name in each partition.
+/// A map from names in partitions to values.
 #[derive(Drop)]
 pub struct Names<V> {
     pub(crate) partitions: BTreeMap<String, BTreeMap<Vec<u8>, V>>,
@@ -14,7 +14,7 @@ pub struct Names<V> {
 }
 
 impl<V: Drop> Names<V> {
-    /// No name has a value. Takes no memory.
+    /// Returns an empty map. Doesn't allocate.
     pub fn new(alloc: Global) -> Names<V>
         ensures { at result ≡ (λ _ _. None) }
     {
@@ -24,7 +24,7 @@ impl<V: Drop> Names<V> {
         }
     }
 
-    /// The value of a name; none where it isn't there.
+    /// Returns the value of a name, if it has one.
     pub fn get(&self, partition: &str, name: &[u8]) -> Option<&V>
         ensures { option_copied result ≡ at self.now partition.now name.now }
     {
@@ -34,7 +34,7 @@ impl<V: Drop> Names<V> {
         }
     }
 
-    /// Exchanges a name's value for the one that is handed in, and answers whether the name is there.
+    /// Swaps `value` with the value of a name, if it has one. Returns whether it has.
     pub fn exchange(&mut self, partition: &str, name: &[u8], value: &mut V) -> bool
         ensures found { result ≡ is_some (at self.old partition.now name.now) }
         ensures given { OnTrue result (at self.new ≡ with_name (at self.old) partition.now name.now (Some value.old)) }
@@ -52,8 +52,8 @@ impl<V: Drop> Names<V> {
         true
     }
 
-    /// Sets a name's value. Takes memory only for a name that isn't there. The only error is want of memory, and leaves everything
-    /// as it was.
+    /// Sets the value of a name. Allocates only if the name is new. The only error is out of memory, and nothing
+    /// changes then.
     pub fn insert(&mut self, partition: &str, name: &[u8], mut value: V) -> Result<(), AllocError>
         ensures ok { OnOk result (at self.new ≡ with_name (at self.old) partition.now name.now (Some value)) }
         ensures err { OnErr result (at self.new ≡ at self.old) }
@@ -80,7 +80,7 @@ impl<V: Drop> Names<V> {
         Ok(())
     }
 
-    /// Takes a name out, and its partition with the last one.
+    /// Removes a name, and its partition if no name remains.
     pub fn remove(&mut self, partition: &str, name: &[u8])
         ensures { at self.new ≡ with_name (at self.old) partition.now name.now None }
     {
@@ -93,7 +93,7 @@ impl<V: Drop> Names<V> {
         }
     }
 
-    /// Takes out all names of a partition.
+    /// Removes all names of a partition.
     pub fn remove_partition(&mut self, partition: &str)
         ensures { at self.new ≡ with_all_names (at self.old) None partition.now }
     {

@@ -1,4 +1,4 @@
--- Which names of blobs are open, by what was done to them. Of a list of deeds the newest comes first.
+-- The open names of blobs, by the history of calls. In a list of calls the newest comes first.
 use Rattle.std.specs.Prelude.{◌≡◌, ◌≢◌, ℕ, ◌+◌, ◌-◌, ◌^◌, List, [], ◌∷◌, ◌==◌, if◌then◌else◌, Option, Some, None, ◌<◌}
 use Rattle.hex.specs.Hex.{encode_lower}
 use Rattle.blob_header.specs.Refusals.{Refusal, BlobAlreadyOpen, GenerationsExhausted, Memory}
@@ -18,7 +18,7 @@ pub data Deed : Type 0 where
   Opened : List ℕ → List ℕ → Deed  -- an open of a name was accepted
   Closed : Registration → Deed  -- the handle of that open was closed
   Ended : List ℕ → Option (List ℕ) → Deed  -- a removal or replacement of a name succeeded, or with none of a whole partition
-  Rebuilt : Deed  -- the store was built anew
+  Rebuilt : Deed  -- the store was rebuilt
 
 -- a name held by the next number, which isn't counted yet
 abbrev pub with_registration : OpenNames → List ℕ → List ℕ → OpenNames
@@ -42,8 +42,8 @@ ended s p n = record s { registered = elim n [ Some m ↦ with_name s.registered
 abbrev pub none_open : ℕ → OpenNames
 none_open next = record { registered = λ p n. None; next = next }
 
--- A name is open where there was an accepted open of it, since when its handle wasn't closed, neither the name nor its
--- partition was ended, and the store wasn't built anew.
+-- A name is open if an open of it was accepted and since then its handle wasn't closed, neither the name nor its
+-- partition was ended, and the store wasn't rebuilt.
 abbrev pub after_deeds : List Deed → OpenNames
 after_deeds [] = none_open 0
 after_deeds (Opened p n ∷ h) = opened (after_deeds h) p n
@@ -56,8 +56,8 @@ pub record IsExhausted (s : OpenNames) (p n : List ℕ) : Type 0 where
   pub free : s.registered p n ≡ None
   pub last : s.next ≡ 2 ^ 64 - 1
 
--- What an open of a name may answer. `asked` says that the store's own open answered so, `made` what that leaves in the
--- store's files where it is accepted, `kept` what it leaves where it isn't, and `untouched` that the store wasn't asked.
+-- What an open of a name may return. `asked` says that the store's own open returned this, `made` how an accepted one leaves
+-- the store's files, `kept` how a rejected one does, and `untouched` that the store wasn't called.
 pub data OpenAnswer (s : OpenNames) (p n : List ℕ) (asked : Option Refusal → Type 0) (made kept untouched : Type 0) : Option Refusal → Type 0 where
   Accepted : s.registered p n ≡ None → s.next < 2 ^ 64 - 1 → asked None → made → OpenAnswer s p n asked made kept untouched None
   -- the store is asked first, and what its open made stays

@@ -28,18 +28,18 @@ registration_of b = b.registration
 abbrev pub store_handle : {B : Type 0} → Blob B → B
 store_handle b = b.inner
 
--- a store's open was accepted, with this left of it in the store
+-- a store's open was accepted, and left this in the store
 pub record IsMade (d : Directory) (durable : Durable) (d' : Directory) (durable' : Durable) (p n : List ℕ) (first last : ℕ) : Type 0 where
   pub place : Place
   pub live : List ℕ
   pub version : ℕ
   pub is : IsOpened d durable d' durable' p n first last place live version
 
--- an open for these versions answered this handle, whose incarnation and live bytes are the store's own handle's, and this version
+-- an open for these versions returned this handle, with the incarnation and live bytes of the store's own handle, and this version
 abbrev pub OpensHandle : {S O B : Type 0} → stores.Ghosts S O → handles.Ghosts B S O → S → S → List ℕ → List ℕ → ℕ → ℕ → Blob B → ℕ → Type 0
 OpensHandle store handle s s' p n first last b version = OpensBlob store handle s s' p n first last (store_handle b) version
 
--- what an open through the registry answers, by the names that were open, what the store allows of its own open and what that leaves
+-- what an open through the registry returns, given the open names, what the store's own open may return and what it leaves
 abbrev pub RegistryOpens : {S O : Type 0} → stores.Ghosts S O → (S → List ℕ → List ℕ → ℕ → ℕ → Option Refusal → Type 0)
     → (S → List ℕ → List ℕ → ℕ → ℕ → Option Refusal → S → Type 0) → Opens → S → S → List ℕ → List ℕ → RangeInclusive BlobVersion → Option Refusal → Type 0
 RegistryOpens store allows leaves opens s s' p n versions =

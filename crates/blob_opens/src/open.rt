@@ -28,10 +28,10 @@ impl Model for Registration {
     ghost view = { λ r. record { partition = string_bytes r.partition; name = r.name.items; number = r.number } };
 }
 
-/// A handle of a store whose name is open by it alone. It must be spent, by `Opens::close`.
+/// The only open handle of a name in its registry. It can't be dropped: pass it to `Opens::close`.
 ///
-/// It passes each call on to the store's own handle, and answers what that answers: nothing of a call is its own. Its two parts
-/// stay together until `into_parts`: they can't be exchanged for those of another handle.
+/// Each call is that of the store's own handle, with the same result. The handle and its registration stay together until
+/// `into_parts`, and can't be swapped with those of another handle.
 pub struct Blob<B> {
     pub(crate) inner: B,
     pub(crate) registration: Registration,
@@ -53,7 +53,7 @@ impl<B> Blob<B> {
         (inner, registration)
     }
 
-    /// The store's own handle, for what isn't a call of the traits, as a wrapper's tracked size.
+    /// Returns the store's own handle, for calls that aren't in the traits, such as a wrapper's tracked size.
     pub fn inner(&self) -> &B
         ensures { result.now ≡ store_handle self.now }
     {
@@ -166,7 +166,7 @@ impl<S: Durable, B: blob_base::Blob<S>> blob_base::Blob<S> for Blob<B> {
         self.inner.origin()
     }
 
-    /// Lends the incarnation that the store's own handle was opened on. Takes no memory.
+    /// Borrows the incarnation that the store's own handle was opened on. Allocates nothing.
     fn origin_ref(&self) -> &S::Origin {
         self.inner.origin_ref()
     }

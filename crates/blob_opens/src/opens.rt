@@ -18,7 +18,7 @@ use blob_names::names::Names;
 use std::alloc::Global;
 use std::ops::RangeInclusive;
 
-/// Which names are open, so that each has one handle at a time.
+/// A registry of open names. It allows one open handle per name.
 #[derive(Drop)]
 pub struct Opens {
     pub(crate) names: Names<u64>,
@@ -27,7 +27,7 @@ pub struct Opens {
 }
 
 impl Opens {
-    /// No name is open.
+    /// Returns a registry without open names.
     pub fn new(alloc: Global) -> Opens
         ensures { names_of result ≡ none_open 0 }
     {
@@ -38,18 +38,19 @@ impl Opens {
         }
     }
 
-    /// Opens a blob that isn't open yet, and answers its handle, its size in logical bytes and its version. The store's own open
-    /// comes first. The caller hands a range of versions that isn't empty and wasn't iterated to its end.
+    /// Opens a blob that isn't open in this registry. Returns its handle, its size in logical bytes and its version. `versions`
+    /// must not be empty nor iterated to its end.
     ///
-    /// Over a fault wrapper this alone fixes nothing: what is pending of the blob stays so. The wrapper's `open_exclusive` opens by
-    /// this and admits.
+    /// Over a fault wrapper, this does not discard pending writes. The wrapper's `open_exclusive` makes this call and `admit`.
     ///
     /// # Errors
     ///
-    /// `GenerationsExhausted` where the name isn't open and no number is left: the store isn't asked. Then what the store's open
-    /// refuses, also where the name is open. Then `BlobAlreadyOpen` where the name is open: what the store's open drew and made
-    /// stays. `Memory` also where there is no room for the registration or for the texts of a refusal. After each the same names
-    /// are open.
+    /// After each error the same names are open.
+    ///
+    /// - `GenerationsExhausted` if the name isn't open and no number is left. The store isn't called.
+    /// - Those of the store's open, which is made even if the name is open.
+    /// - `BlobAlreadyOpen` if the name is open. The draw and the effects of the store's open stay.
+    /// - `Memory` also if the registration or the texts of an error can't be allocated. The store isn't called then.
     pub fn open<S: Storage>(
         &mut self,
         store: &mut S,
@@ -95,12 +96,12 @@ impl Opens {
         }
     }
 
-    /// Removes a blob, or with no name a partition, from the store. Answered `Ok`, none of these names is open any more; their
-    /// handles are stale, and still have to be closed.
+    /// Removes a blob, or with no name a partition, from the store. After Ok, none of these names is open. Their handles are
+    /// stale and must still be closed.
     ///
     /// # Errors
     ///
-    /// As the store's removal. The same names are open.
+    /// Those of the store's removal. The same names are open.
     pub fn remove<S: Storage>(
         &mut self,
         store: &mut S,
@@ -120,8 +121,8 @@ impl Opens {
         Ok(())
     }
 
-    /// Calls the closure once and answers what it answered. After an `Ok` the name, or with none the whole partition,
-    /// isn't open any more; after an `Err` the same names are open.
+    /// Calls the closure once and returns its result. After Ok the name, or with none the whole partition, is no longer open.
+    /// After an error the same names are open.
     pub fn replace<R, F: FnOnce() -> Result<R, Error>>(
         &mut self,
         partition: &str,
@@ -138,8 +139,8 @@ impl Opens {
         Ok(replaced)
     }
 
-    /// Closes a handle. Its name isn't open any more where it was open by this handle; where it was removed and opened again by
-    /// another, that stays. Never refused, and takes no memory. What isn't synced is dropped with the live bytes.
+    /// Closes a handle and drops its live bytes. Its name is then no longer open, unless it was removed and another handle has
+    /// opened it since. Can't fail. Allocates nothing.
     pub fn close<B: Drop>(&mut self, blob: Blob<B>)
         ensures { names_of self.new ≡ closed (names_of self.old) (registration_of blob) }
     {
@@ -150,7 +151,7 @@ impl Opens {
         self.release(registration);
     }
 
-    /// Ends the open of a handle that was taken apart, as `close` does.
+    /// Ends the open of a handle that `into_parts` took apart, as `close` does.
     pub fn release(&mut self, registration: Registration)
         ensures { names_of self.new ≡ closed (names_of self.old) registration }
     {
@@ -164,14 +165,14 @@ impl Opens {
         }
     }
 
-    /// Ends all opens, of a store that is built anew. Numbers aren't given again.
+    /// Ends all opens, for a store that is rebuilt. Numbers aren't reused.
     pub fn end_all(&mut self)
         ensures { names_of self.new ≡ none_open (names_of self.old).next }
     {
         self.names = Names::new(self.alloc);
     }
 
-    /// What refuses an open of this name while it is open. The only error is `Memory`.
+    /// Returns the error of an open of this name while it is open. The only error of its own is `Memory`.
     fn already_open(&self, partition: &str, name: &[u8]) -> Result<Error, Error>
         ensures ok { IfOk result (λ e. refusal_of e ≡ BlobAlreadyOpen partition.now (encode_lower name.now)) }
         ensures err { OnErr result (IsMemory result) }
@@ -181,14 +182,14 @@ impl Opens {
         Ok(Error::BlobAlreadyOpen(partition, name))
     }
 
-    /// The number of the open that a name is held by.
+    /// Returns the number of a name's open.
     fn held_by(&self, partition: &str, name: &[u8]) -> Option<u64>
         ensures { result ≡ (names_of self.now).registered partition.now name.now }
     {
         self.names.get(partition, name).copied()
     }
 
-    /// Registers a name that isn't open under the next number, which isn't counted yet.
+    /// Registers a name that isn't open under the next number. Doesn't increment that number.
     fn register(&mut self, partition: &str, name: &[u8]) -> Result<Registration, Error>
         requires { (names_of self.old).registered partition.now name.now ≡ None }
         ensures ok { IfOk result (λ r. r ≡ record { partition = partition.now; name = name.now; number = (names_of self.old).next }) }

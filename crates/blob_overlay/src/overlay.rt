@@ -30,7 +30,7 @@ pub fn grow(bytes: &mut Vec<u8>, len: usize)
 }
 
 /// Cuts off what lies past a length, or adds zeros up to it.
-fn set_len(bytes: &mut Vec<u8>, len: usize)
+pub fn set_len(bytes: &mut Vec<u8>, len: usize)
     requires { len ≤ vec_capacity bytes.old }
     ensures { AreNow bytes.old bytes.new (resized bytes.old.items len) }
 {
@@ -38,7 +38,7 @@ fn set_len(bytes: &mut Vec<u8>, len: usize)
 }
 
 /// The end of the last chosen byte, or 0.
-fn reach_of(offset: usize, keep: &[bool]) -> usize
+pub fn reach_of(offset: usize, keep: &[bool]) -> usize
     requires { offset + length keep.now < 2 ^ 64 }
     ensures { result ≡ reach offset (length keep.now) (picked keep.now) }
 {
@@ -109,7 +109,7 @@ fn copy_chosen(bytes: &mut [u8], offset: usize, run: &[u8], keep: &[bool])
 }
 
 /// Copies the chosen bytes of a run's pieces one after another over bytes that are there.
-fn copy_chosen_pieces(bytes: &mut [u8], offset: usize, pieces: &[Vec<u8>], keep: &[bool])
+pub fn copy_chosen_pieces(bytes: &mut [u8], offset: usize, pieces: &[Vec<u8>], keep: &[bool])
     requires same { length keep.now ≡ length (flat_map (λ p. p.items) pieces.now) }
     requires fits { offset + length (flat_map (λ p. p.items) pieces.now) < 2 ^ 64 }
     requires inside { reach offset (length (flat_map (λ p. p.items) pieces.now)) (picked keep.now) ≤ length bytes.old }

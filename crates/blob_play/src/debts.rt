@@ -1,4 +1,4 @@
-//! The registry of durability debt, with what it gave.
+//! The registry of durability debt, with its opens and tokens.
 
 use crate::slots::Slots;
 use blob_base::Error;
@@ -11,7 +11,8 @@ use std::mem;
 
 type Key = (String, Vec<u8>);
 
-/// A registry, and its opens and tokens. Of an open that was closed its number and its token stay until another has its place.
+/// A registry, its opens and its tokens. The number and the token of a closed open stay until another open takes its
+/// slot.
 pub struct Debts {
     alloc: Global,
     pending: Pending,
@@ -27,7 +28,7 @@ fn close(pending: &mut Pending, open: Option<Generation>) {
     }
 }
 
-// Settles a token, of which nothing is left to tell.
+// Settles a token, without an outcome to record.
 fn settle(pending: &mut Pending, key: &Key, token: Option<Sender>) {
     if let Some(sender) = token {
         pending.settle(key, sender, false, None);
@@ -43,7 +44,7 @@ fn key(args: &mut Args<'_>) -> Key {
 }
 
 impl Debts {
-    /// A registry in which nothing happened.
+    /// Returns a new registry.
     pub fn new(alloc: Global) -> Debts {
         Debts {
             alloc,
@@ -55,7 +56,7 @@ impl Debts {
         }
     }
 
-    /// Closes and settles what is open.
+    /// Closes all opens and settles all tokens.
     pub fn end(self) {
         let Debts {
             alloc,
@@ -88,7 +89,7 @@ impl Debts {
         settle(&mut pending, &key, last);
     }
 
-    // Begins anew, with these first numbers.
+    // Starts a new registry with these first numbers.
     fn begin(&mut self, generation: u64, token: u64) -> Found {
         let mut debts = Debts::new(self.alloc);
         debts.pending = Pending::starting_at(self.alloc, generation, token);
@@ -148,7 +149,7 @@ impl Debts {
         }
     }
 
-    // What goes by the number of an open, which may be closed.
+    // Runs a call by the number of an open, which may be closed.
     fn by_id(&mut self, debt: Debt, args: &mut Args<'_>) -> Result<Found, Error> {
         let Some(Some(id)) = self.ids.get(args.handle()) else {
             return Err(Error::Closed);
@@ -184,7 +185,7 @@ impl Debts {
         }
     }
 
-    /// Makes a call of the registry.
+    /// Runs a call of the registry.
     pub fn call(&mut self, debt: Debt, args: &mut Args<'_>) -> Result<Found, Error> {
         match debt {
             Debt::Begin => Ok(self.begin(args.numbers[0], args.numbers[1])),

@@ -14,14 +14,14 @@ use std::alloc::{AllocError, Global};
 
 type Held = Blob<blob_faulty::Blob<blob_memory::Blob>>;
 
-/// The open names, and their handles.
+/// The open names and their handles.
 pub struct Exclusive {
     opens: Opens,
     held: Slots<Held>,
     started: Started,
 }
 
-// What a replacement answers, where it isn't to fail.
+// The result of a replacement that succeeds.
 const REPLACED: u64 = 7;
 
 fn replacement(error: Option<Error>) -> Result<u64, Error> {
@@ -43,7 +43,7 @@ fn close(opens: &mut Opens, held: Option<Held>) {
 }
 
 impl Exclusive {
-    /// No name is open.
+    /// Returns a registry without open names.
     pub fn new(alloc: Global) -> Exclusive {
         Exclusive {
             opens: Opens::new(alloc),
@@ -52,7 +52,7 @@ impl Exclusive {
         }
     }
 
-    /// Closes the handles that are open.
+    /// Closes all open handles.
     pub fn end(self) {
         let Exclusive {
             mut opens,
@@ -71,7 +71,7 @@ impl Exclusive {
         close(&mut opens, last);
     }
 
-    /// Takes room for one more of all that is kept.
+    /// Reserves capacity for one more started sync.
     pub fn make_room(&mut self) -> Result<(), AllocError> {
         self.started.reserve(1)
     }
@@ -120,7 +120,7 @@ impl Exclusive {
             .map(size)
     }
 
-    /// Makes a call of exclusive opens, or through a handle of theirs. Opens aren't admitted.
+    /// Runs a call of exclusive opens, or through one of their handles. Opens aren't admitted.
     pub fn call(
         &mut self,
         wrapper: &mut Wrapper<Memory>,

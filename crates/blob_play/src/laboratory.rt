@@ -1,4 +1,4 @@
-//! A laboratory, with the lines of a script.
+//! A laboratory that runs lines of a script.
 
 use blob_base::Error;
 use blob_faulty::Config;
@@ -9,7 +9,7 @@ use blob_player::{tokens, window};
 use std::alloc::Global;
 use std::mem;
 
-/// A laboratory, which is there from its first call on, and its configuration.
+/// A laboratory, which its first call creates, and its configuration.
 pub struct Laboratory {
     alloc: Global,
     words: Vec<u64>,
@@ -17,7 +17,7 @@ pub struct Laboratory {
     config: Config,
 }
 
-// Whether a laboratory is made over one image, with zeros or the words of a seed.
+// Creates a laboratory with one image, and zeros or the words of a seed.
 fn made(
     alloc: Global,
     partition: &str,
@@ -44,7 +44,7 @@ fn made(
     }
 }
 
-// All live bytes of a handle, below 32 KiB: as many as can be read.
+// Returns all live bytes of a handle, if they are fewer than 32 KiB. Finds their number by trying reads.
 fn all(lab: &mut Lab, handle: usize) -> Reply {
     let (offset, mut len) = (0, 0usize);
     for bit in 0..15u32 {
@@ -66,7 +66,7 @@ fn all(lab: &mut Lab, handle: usize) -> Reply {
 }
 
 impl Laboratory {
-    /// A laboratory whose generator has these words.
+    /// Returns a laboratory with these words for its generator.
     pub fn new(alloc: Global, words: Vec<u64>) -> Laboratory {
         Laboratory {
             alloc,
@@ -76,7 +76,7 @@ impl Laboratory {
         }
     }
 
-    /// Ends it.
+    /// Ends the laboratory, if it was created.
     pub fn end(self) {
         let Laboratory {
             alloc: _,
@@ -104,7 +104,7 @@ impl Laboratory {
         Ok(())
     }
 
-    // The call of a line, if a script has it.
+    // Parses a line as a call of a script. Returns `None` if it isn't one.
     fn call_of(&mut self, line: &str) -> Result<Option<Call>, Error> {
         match read_line(self.alloc, line.as_bytes()) {
             Ok(Line::Call(call)) => Ok(Some(call)),
@@ -125,7 +125,7 @@ impl Laboratory {
         Ok(Found::Told(reply))
     }
 
-    // Makes calls as one list, and tells how many replies there are.
+    // Runs calls as one list. Returns the number of replies.
     fn run(&mut self, lines: &str) -> Result<Found, Error> {
         let mut calls = Vec::new(self.alloc);
         for line in lines.split(';') {
@@ -161,7 +161,7 @@ impl Laboratory {
         Ok(Found::Told(all(lab, handle)))
     }
 
-    /// Makes the call of a line.
+    /// Runs the call of a line.
     pub fn perform(&mut self, line: &str) -> Result<Found, Error> {
         self.begin()?;
         if let Some(call) = self.call_of(line)? {

@@ -1,13 +1,13 @@
-//! Plays rows: calls of the memory store, of the wrapper, of the registries over them and of a laboratory, each with the answer
-//! that it has to give.
+//! Plays rows: calls on the memory store, on the wrapper, on the registries over them and on a laboratory, each with
+//! its expected result.
 //!
 //!     blob_play FILE ..
 //!     blob_play try FILE NAME
 //!
-//! A line tells of each row that was answered otherwise, and one of each file how many of its rows were played. A file that
-//! ends in `.calls` has calls that are tried while a preloaded library refuses requests for memory: `window` tells it which ones,
-//! and without it none is refused. `try` tries one of them by its name. Exit statuses: 0 where every row and call was answered so, 1
-//! where one wasn't, or a file can't be read.
+//! Prints a line for each row with another result, and for each file the number of rows. A file that ends in `.calls`
+//! has calls that are tried while a preloaded library makes allocations fail: `window` marks them, and without the
+//! library none fails. `try` tries one of these calls by its name. Exit statuses: 0 if every result is as expected, 1
+//! if one isn't or a file can't be read.
 #![tactic(auto)]
 
 mod debts;
@@ -27,7 +27,7 @@ use std::process::ExitCode;
 use std::rt::Files;
 use std::{env, fs};
 
-// Plays the rows of a file, and tells how many were answered otherwise.
+// Plays the rows of a file. Returns how many had another result.
 fn play<R: AllocGlobal + Print>(rt: &R, file: &str, text: &str) -> Result<u64> {
     let (tally, failures) = table::play(rt.alloc(), file, text)?;
     print!(rt; "{failures}")?;
@@ -36,7 +36,7 @@ fn play<R: AllocGlobal + Print>(rt: &R, file: &str, text: &str) -> Result<u64> {
     Ok(failed)
 }
 
-// What a refusal leaves, and what the call answers where none came.
+// Tries one call with failing allocations.
 fn try_call<R: Print>(rt: &R, alloc: Global, all: &[Section<'_>], one: &Section<'_>) -> Result<()> {
     let name = one.name;
     let tally = trial::try_call(alloc, all, one).context(format_args!("{name}"))?;
@@ -45,7 +45,7 @@ fn try_call<R: Print>(rt: &R, alloc: Global, all: &[Section<'_>], one: &Section<
     Ok(())
 }
 
-// Tries the call of a name, or each.
+// Tries the call with this name, or all calls.
 fn try_calls<R: AllocGlobal + Print>(rt: &R, text: &str, name: Option<&str>) -> Result<()> {
     let sections = sections::read(rt.alloc(), text)?;
     let mut tried = 0u64;
@@ -65,7 +65,7 @@ fn read<R: AllocGlobal + Files>(rt: &R, file: &str) -> Result<String> {
     Ok(fs::read_to_string(rt, file).context(format_args!("{file}"))?)
 }
 
-// Whether all of a file was answered so.
+// Returns whether all results of a file are as expected.
 fn is_right<R: AllocGlobal + Files + Print>(rt: &R, file: &str) -> Result<bool> {
     let text = read(rt, file)?;
     if file.ends_with(".calls") {

@@ -1,24 +1,24 @@
-//! What a case begins with.
+//! The first lines of a case.
 
 use blob_base::Error;
 use blob_lab::script::{Line, read_line};
 use blob_player::tokens::number;
 use std::alloc::Global;
 
-/// What calls are made on.
+/// What calls work on.
 #[derive(Clone, Copy)]
 pub enum Layer {
     /// The memory store itself.
     Memory,
-    /// A wrapper over another one.
+    /// A wrapper over another memory store.
     Wrapper,
     /// Exclusive opens over that wrapper.
     Opens,
-    /// A laboratory, by the lines of a script.
+    /// A laboratory that runs lines of a script.
     Laboratory,
 }
 
-/// The layer of its calls, the words of generators, and the first numbers.
+/// The layer of the calls, the words of generators, and the first numbers.
 #[derive(Drop)]
 pub struct Preamble {
     pub layer: Layer,
@@ -27,7 +27,7 @@ pub struct Preamble {
     pub next_marker: u64,
 }
 
-/// The layer that a line turns to, if it is such a line.
+/// Returns the layer that a line selects, if it selects one.
 pub fn layer_of(line: &str) -> Option<Layer> {
     Some(match line {
         "over memory" => Layer::Memory,
@@ -48,15 +48,15 @@ impl Preamble {
         }
     }
 
-    /// Another case begins: over the same layer, without words, and with numbers from 0.
+    /// Starts another case: the same layer, no words, and numbers from 0.
     pub fn clear(&mut self) {
         self.words.clear();
         self.next = 0;
         self.next_marker = 0;
     }
 
-    /// Reads a line, if it is one of a preamble: `over LAYER`, which holds for the cases behind it too, `numbers N` and
-    /// `numbers N M`, and a script's `words`.
+    /// Parses a line, if it belongs to a preamble: `over LAYER`, which holds for later cases too, `numbers N`, `numbers
+    /// N M`, or a script's `words`.
     pub fn read(&mut self, alloc: Global, line: &str) -> Result<bool, Error> {
         if let Some(layer) = layer_of(line) {
             self.layer = layer;

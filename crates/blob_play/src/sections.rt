@@ -1,10 +1,11 @@
-//! A file of calls that are tried while memory is refused: what worlds are prepared by, what of them is compared, and the
-//! calls.
+//! A file of calls that are tried with failing allocations: the rows that prepare the worlds, the rows that compare
+//! them, and the calls.
 
 use anyhow::Result;
 use std::alloc::Global;
 
-/// Lines under a heading, `KIND NAME`: `part NAME`, or a call by its name, which `grows` or is `steady`.
+/// Lines under a heading, `KIND NAME`: `part NAME`, or a call by its name, which is `grows` if it may allocate and
+/// `steady` if it must not.
 #[derive(Drop)]
 pub struct Section<'a> {
     pub kind: &'a str,
@@ -20,7 +21,7 @@ fn heading(line: &str) -> Option<(&str, &str)> {
     }
 }
 
-/// The sections of a file. Empty lines and comments are passed over.
+/// Parses a file into sections. Skips empty lines and comments.
 pub fn read<'a>(alloc: Global, text: &'a str) -> Result<Vec<Section<'a>>> {
     let mut sections: Vec<Section<'a>> = Vec::new(alloc);
     for line in text.lines() {
@@ -40,7 +41,7 @@ pub fn read<'a>(alloc: Global, text: &'a str) -> Result<Vec<Section<'a>>> {
     Ok(sections)
 }
 
-/// The lines of a part.
+/// Returns the lines of a part.
 pub fn part<'s, 'a>(sections: &'s [Section<'a>], name: &str) -> &'s [&'a str] {
     for section in sections {
         if section.kind == "part" && section.name == name {

@@ -1,6 +1,6 @@
-//! Places for values that have to be spent.
+//! Slots for values that must be consumed.
 
-/// Four places. A value is put into the first that is free, whose number it has until it is taken.
+/// Four slots. A value gets the first free slot, and keeps its number until it is taken.
 pub struct Slots<T> {
     pub first: Option<T>,
     pub second: Option<T>,
@@ -18,7 +18,7 @@ impl<T> Slots<T> {
         }
     }
 
-    /// Puts a value, and answers its number. Where no place is free it gets the last one, whose value is handed out.
+    /// Stores a value. Returns its number, and the earlier value if no slot was free: then the last slot is reused.
     pub fn put(&mut self, value: T) -> (usize, Option<T>) {
         if self.first.is_none() {
             return (0, self.first.replace(value));

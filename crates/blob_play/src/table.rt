@@ -8,7 +8,7 @@ use blob_player::found::{Found, bytes, line_of};
 use blob_player::tokens;
 use std::alloc::Global;
 
-/// How many cases and rows were played, and how many rows were answered otherwise.
+/// How many cases and rows were played, and how many rows had another result.
 #[derive(Clone, Copy, Default)]
 pub struct Tally {
     pub cases: u64,
@@ -16,20 +16,20 @@ pub struct Tally {
     pub failed: u64,
 }
 
-// What is played of a file.
+// The state of playing a file.
 struct Player<'a> {
     alloc: Global,
     file: &'a str,
     title: &'a str,
     preamble: Preamble,
     world: Option<World>,
-    // behind a row that failed the others of its case are passed over
+    // After a row that failed, the rest of its case is skipped.
     is_failed: bool,
     tally: Tally,
     failures: String,
 }
 
-/// A wanted answer as it is printed: its bytes may be written in pieces.
+/// Returns an expected result as it is printed. Its bytes may be written in pieces.
 pub fn printed(alloc: Global, answer: &str) -> Result<String, Error> {
     match answer.strip_prefix("bytes ") {
         Some(token) => Ok(line_of(alloc, Ok(bytes(tokens::bytes(alloc, token)?)))?),
@@ -37,7 +37,7 @@ pub fn printed(alloc: Global, answer: &str) -> Result<String, Error> {
     }
 }
 
-// Puts a world in the place of another.
+// Replaces a world, and ends the earlier one.
 fn put(place: &mut Option<World>, world: World) {
     if let Some(earlier) = place.replace(world) {
         earlier.end();
@@ -45,7 +45,7 @@ fn put(place: &mut Option<World>, world: World) {
 }
 
 impl<'a> Player<'a> {
-    // What a row or a case found, where another was wanted.
+    // Records a failure if the result of a row or a case isn't the expected one.
     fn expect(&mut self, line: usize, asked: &str, wanted: &str, found: &str) -> Result<()> {
         if wanted != found {
             self.is_failed = true;
@@ -59,7 +59,7 @@ impl<'a> Player<'a> {
         Ok(())
     }
 
-    // What a call finds in the world of the case, which its first row begins.
+    // Runs a call in the world of the case. The first row creates the world.
     fn find(&mut self, asked: &str) -> Result<String> {
         if self.world.is_none() {
             match World::new(self.alloc, &self.preamble) {
@@ -81,7 +81,7 @@ impl<'a> Player<'a> {
         self.expect(line, asked, &wanted, &found)
     }
 
-    // Ends the world, and answers how many words were taken.
+    // Ends the world. Returns how many words were taken.
     fn end_world(&mut self) -> Option<Result<Found, Error>> {
         let mut world = self.world.take()?;
         let taken = world.taken();
@@ -89,7 +89,7 @@ impl<'a> Player<'a> {
         Some(taken)
     }
 
-    // All given words have to be taken at the end of a case.
+    // Ends a case: all given words must have been taken.
     fn end(&mut self, line: usize) -> Result<()> {
         if let Some(taken) = self.end_world() {
             if !self.is_failed {
@@ -111,7 +111,7 @@ impl<'a> Player<'a> {
         Ok(())
     }
 
-    // What isn't a row. In the midst of a case it may turn to another layer.
+    // Handles a line that isn't a row. Within a case it may select another layer.
     fn say(&mut self, line: usize, text: &str) -> Result<()> {
         if !self.preamble.read(self.alloc, text)? {
             return self.expect(line, text, "a row", "none");
@@ -148,7 +148,7 @@ impl<'a> Player<'a> {
     }
 }
 
-/// Plays the rows of a file, whose text is given. Tells of each that was answered otherwise, a line each.
+/// Plays the rows of a file with this text. Returns the counts, and a line for each row with another result.
 pub fn play(alloc: Global, file: &str, text: &str) -> Result<(Tally, String)> {
     let mut player = Player {
         alloc,

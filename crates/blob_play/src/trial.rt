@@ -1,4 +1,4 @@
-//! One call, made while requests for memory are refused, beside a world where it isn't made.
+//! Tries one call with failing allocations, and compares with a world without the call.
 
 use crate::preamble::{Layer, Preamble, layer_of};
 use crate::sections::{Section, part};
@@ -9,23 +9,23 @@ use blob_player::found::line_of;
 use blob_player::window;
 use std::alloc::Global;
 
-/// What the trials of a call came to.
+/// The results of a call's trials.
 #[derive(Clone, Copy, Default)]
 pub struct Tally {
-    /// In how many of them the call was refused memory.
+    /// The number of trials in which the call failed with `Memory`.
     pub refused: u64,
-    /// How often what two worlds show was compared.
+    /// How often two worlds were compared.
     pub compared: u64,
 }
 
-// What is done after a refusal.
+// What follows a failed call.
 #[derive(Clone, Copy)]
 enum After {
     Crash,
     CallAgain,
 }
 
-// A call that is tried.
+// The call of a trial.
 #[derive(Clone, Copy)]
 struct Tried<'a> {
     call: &'a str,
@@ -33,7 +33,7 @@ struct Tried<'a> {
     grows: bool,
 }
 
-// Makes a call, and checks its answer.
+// Runs a call and checks its result.
 fn make(alloc: Global, world: &mut World, call: &str, answer: &str) -> Result<()> {
     let found = line_of(alloc, world.perform(call))?;
     let wanted = printed(alloc, answer)?;
@@ -41,7 +41,7 @@ fn make(alloc: Global, world: &mut World, call: &str, answer: &str) -> Result<()
     Ok(())
 }
 
-// Turns to a layer, or makes a call.
+// Selects a layer, or runs a row.
 fn prepare(alloc: Global, world: &mut World, line: &str) -> Result<()> {
     if let Some(layer) = layer_of(line) {
         world.layer = layer;
@@ -60,7 +60,7 @@ fn prepare_all(alloc: Global, world: &mut World, lines: &[&str]) -> Result<()> {
     Ok(())
 }
 
-// The world whose call is refused memory, and the other.
+// The world with the failing call, and the other one.
 struct Worlds {
     tried: World,
     spared: World,
@@ -94,7 +94,7 @@ impl Worlds {
         prepare_all(alloc, &mut self.spared, lines)
     }
 
-    // Makes calls in both worlds, which have to answer the same.
+    // Runs calls in both worlds. The results must be equal.
     fn compare(&mut self, alloc: Global, lines: &[&str]) -> Result<()> {
         for line in lines {
             match layer_of(line) {
@@ -112,7 +112,7 @@ impl Worlds {
         Ok(())
     }
 
-    // The call with memory, in both.
+    // Runs the call in both worlds, without failing allocations.
     fn make(&mut self, alloc: Global, layer: Layer, tried: Tried<'_>) -> Result<()> {
         self.turn(layer);
         make(alloc, &mut self.tried, tried.call, tried.answer)?;
@@ -120,8 +120,8 @@ impl Worlds {
     }
 }
 
-// The refused call left no trace: a crash of both worlds keeps the same, or all that they show is the same, and the call with
-// memory answers as it is to and leaves the same.
+// Checks that the failed call left no trace. Either both worlds show the same after a crash. Or both show the same now,
+// the call returns the expected result without failing allocations, and both show the same after it and after a crash.
 fn follow(
     alloc: Global,
     sections: &[Section<'_>],
@@ -149,7 +149,7 @@ fn follow(
     }
 }
 
-// Makes the call in one world. Whether it was refused memory.
+// Runs the call in one world. Returns whether it failed with `Memory`.
 fn is_refused(alloc: Global, world: &mut World, tried: Tried<'_>) -> Result<bool> {
     let answer = printed(alloc, tried.answer)?;
     window::arm(alloc);
@@ -165,7 +165,7 @@ fn is_refused(alloc: Global, world: &mut World, tried: Tried<'_>) -> Result<bool
     Ok(true)
 }
 
-// One trial, and how often it compared where the call was refused memory.
+// Runs one trial. Returns how often it compared, if the call failed with `Memory`.
 fn try_in(
     alloc: Global,
     sections: &[Section<'_>],
@@ -191,7 +191,7 @@ fn preamble(alloc: Global, sections: &[Section<'_>]) -> Result<Preamble> {
     Ok(preamble)
 }
 
-// A section's last row is the call; where nothing is kept, a crash of what is pending has no row.
+// Returns the call of a section, which is its last row. If nothing is kept, a crash of the pending writes has no rows.
 fn tried_of<'a>(section: &Section<'a>, kept: &str) -> Option<Tried<'a>> {
     let (call, answer) = section.lines.last()?.split_once(" => ")?;
     let is_lost = kept == "lost" && answer.starts_with("crashed");
@@ -220,7 +220,7 @@ fn try_once(
     outcome
 }
 
-/// Tries a section's call where a crash keeps all of the pending writes, and where it keeps nothing.
+/// Tries a section's call, once with a crash that keeps all pending writes and once with one that keeps none.
 pub fn try_call(alloc: Global, sections: &[Section<'_>], section: &Section<'_>) -> Result<Tally> {
     let trials = [
         ("kept", After::Crash),

@@ -1,4 +1,4 @@
-//! All that the calls of a case are made on.
+//! All stores and registries of a case.
 
 use crate::debts::Debts;
 use crate::exclusive::Exclusive;
@@ -15,10 +15,10 @@ use blob_player::wrapper_calls::WrapperPlace;
 use blob_player::{values, window};
 use std::alloc::Global;
 
-/// Stores and registries of every layer, and a list of pieces.
+/// The stores and registries of every layer, and a list of pieces.
 pub struct World {
     alloc: Global,
-    /// What calls are made on.
+    /// What calls work on.
     pub layer: Layer,
     pieces: IoBufs,
     memory: MemoryPlace,
@@ -29,7 +29,7 @@ pub struct World {
 }
 
 impl World {
-    /// Empty ones, as a preamble says.
+    /// Returns empty stores and registries, as a preamble requires.
     pub fn new(alloc: Global, preamble: &Preamble) -> Result<World, Error> {
         let words = Vec::from_slice(alloc, &preamble.words)?;
         let (next, next_marker) = (preamble.next, preamble.next_marker);
@@ -47,7 +47,7 @@ impl World {
         })
     }
 
-    /// Closes what is open.
+    /// Closes all that is open.
     pub fn end(self) {
         let World {
             alloc: _,
@@ -64,7 +64,7 @@ impl World {
         laboratory.end();
     }
 
-    // The store whose bytes are told.
+    // Returns the store with the durable bytes of the layer.
     fn store(&self) -> &Memory {
         match self.layer {
             Layer::Memory => &self.memory.place.store,
@@ -108,7 +108,7 @@ impl World {
         }
     }
 
-    // Takes room for what a call may leave, so that keeping it takes no memory.
+    // Reserves capacity for the results of a call, so that recording them doesn't allocate.
     fn make_room(&mut self) -> Result<(), Error> {
         self.memory.place.make_room()?;
         self.layers.below.place.make_room()?;
@@ -116,8 +116,8 @@ impl World {
         Ok(())
     }
 
-    /// Makes the call that a line says. What isn't a call here is refused as `Closed`, which no store answers. All requests for
-    /// memory between the marks are the call's own.
+    /// Runs the call of a line. Returns `Closed`, an error that no store returns, if it isn't a call. All allocations
+    /// between the marks are the call's own.
     pub fn perform(&mut self, line: &str) -> Result<Found, Error> {
         if let Layer::Laboratory = self.layer {
             return self.laboratory.perform(line);
@@ -130,7 +130,7 @@ impl World {
         found
     }
 
-    /// How many words of the wrapper over memory were taken, at the end.
+    /// Returns how many words of the wrapper over memory were taken, at the end of a case.
     pub fn taken(&mut self) -> Result<Found, Error> {
         self.layers.below.taken()
     }

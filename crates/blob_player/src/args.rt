@@ -1,4 +1,4 @@
-//! What a call is given, all of it made before the call begins.
+//! The arguments of a call. All are built before the call starts.
 
 use crate::tokens;
 use blob_base::{BlobVersion, Error, IoBufs, IoBufsMut, Layout};
@@ -7,14 +7,14 @@ use std::alloc::Global;
 use std::mem;
 use std::ops::RangeInclusive;
 
-/// How many bytes a buffer has room for.
+/// The capacity of a buffer in bytes.
 pub const ROOM: usize = 16;
 
 /// The arguments of a call.
 #[derive(Drop)]
 pub struct Args<'a> {
     pub alloc: Global,
-    /// The numbers in their order, and behind them zeros.
+    /// The numbers in order, then zeros.
     pub numbers: [u64; 4],
     given: usize,
     pub partition: String,
@@ -25,33 +25,33 @@ pub struct Args<'a> {
     pub buf: Option<IoBufsMut>,
     pub choices: Vec<bool>,
     pub words: Vec<u64>,
-    /// The last two.
+    /// The last two of each.
     pub layouts: [Layout; 2],
     pub versions: [BlobVersion; 2],
     pub setting: Option<Setting>,
     pub error: Option<Error>,
-    /// What stands behind the call's word.
+    /// The text after the call's word.
     pub text: &'a str,
 }
 
-// A buffer that has room, and holds other bytes.
+// Returns a buffer with this capacity and other contents.
 fn buffer(alloc: Global) -> Result<IoBufsMut, Error> {
     let mut buf = IoBufsMut::with_capacity(alloc, ROOM)?;
     buf.set(b"sixteen bytes...");
     Ok(buf)
 }
 
-/// Whether a letter takes all tokens that are left. Letters stand for the arguments of a call.
+/// Returns whether a letter takes all remaining tokens. Letters are the types of a call's arguments.
 ///
-/// Of the first token: `n` is a number, and `u` one with a buffer; `p` a partition, `a` a blob's name, `b` bytes, `w` those of a
-/// write, `c` choices, `l` a layout, `v` a version. Of all tokens that are left: `W` is a write in pieces, `G` words of a
+/// One token: `n` is a number, and `u` one with a buffer; `p` a partition, `a` a blob's name, `b` bytes, `w` those of a
+/// write, `c` choices, `l` a layout, `v` a version. All remaining tokens: `W` is a write in pieces, `G` words of a
 /// generator, `S` a setting, `E` an error, `T` a text.
 pub fn takes_all(letter: u8) -> bool {
     letter.is_ascii_uppercase()
 }
 
 impl<'a> Args<'a> {
-    /// No arguments but the text.
+    /// Returns no arguments except the text.
     pub fn new(alloc: Global, text: &'a str) -> Args<'a> {
         let none = BlobVersion::new(0);
         Args {
@@ -80,7 +80,7 @@ impl<'a> Args<'a> {
         }
     }
 
-    /// Takes the argument that a letter stands for from the front of the tokens.
+    /// Parses the argument of a letter's type from the first of the tokens, or from all of them.
     pub fn take(&mut self, letter: u8, tokens: &[&str]) -> Result<(), Error> {
         let token = match tokens {
             [token, ..] => *token,
@@ -115,12 +115,12 @@ impl<'a> Args<'a> {
         Ok(())
     }
 
-    /// The number of a handle, which comes first.
+    /// Returns the number of a handle, which is the first number.
     pub fn handle(&self) -> usize {
         self.numbers[0] as usize
     }
 
-    /// The bytes of a write.
+    /// Takes the bytes of a write.
     pub fn take_bufs(&mut self) -> IoBufs {
         mem::replace(&mut self.bufs, IoBufs::new(self.alloc))
     }
@@ -129,7 +129,7 @@ impl<'a> Args<'a> {
         mem::replace(&mut self.bytes, Vec::new(self.alloc))
     }
 
-    /// The versions from the first to the last, none where the first is the greater one.
+    /// Returns the range of versions, or `None` if the first is greater than the last.
     pub fn versions(&self) -> Option<RangeInclusive<BlobVersion>> {
         let [first, last] = self.versions;
         if first > last {

@@ -1,5 +1,5 @@
-//! The callers that know a store by its traits alone, over the memory store. Each is called by a function of its own, so that its
-//! contract is known where it is called and nowhere behind it.
+//! The operations of `any_store`, over the memory store. Each is called in a function of its own, so that only the
+//! proof of that function sees its contract.
 
 use crate::args::Args;
 use crate::calls::Own;
@@ -22,7 +22,7 @@ fn removed(store: &mut Memory, blob: &mut Opened, args: &mut Args<'_>) -> Result
     write_and_remove(store, blob, at, bufs, WriteOptions::SYNC, partition, name)
 }
 
-// Within a room that ends there.
+// Writes with SYNC within a reservation that ends at `end`.
 fn within_room(store: &mut Memory, blob: &mut Opened, args: &mut Args<'_>) -> Result<(), Error> {
     let ([_, end, at, _], bufs) = (args.numbers, args.take_bufs());
     if at > end || bufs.remaining() as u64 > end - at || !store.is_current(blob.origin_ref()) {
@@ -43,7 +43,7 @@ fn plain_within_room(
     plain_write_within_room(store, blob, end, at, bufs, WriteOptions::default())?
 }
 
-/// Calls one of them.
+/// Runs one of these operations.
 pub fn call(
     store: &mut Memory,
     blob: &mut Opened,

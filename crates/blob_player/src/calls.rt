@@ -1,10 +1,10 @@
-//! The words of calls, with what each is given.
+//! The words of calls, with their arguments.
 
 use crate::args::{Args, takes_all};
 use blob_base::Error;
 use std::alloc::Global;
 
-/// A call, by what it is made on.
+/// A call, by what it works on.
 #[derive(Clone, Copy)]
 pub enum Ask {
     Value(Value),
@@ -13,7 +13,7 @@ pub enum Ask {
     Debt(Debt),
 }
 
-/// What needs no store.
+/// Calls without a store.
 #[derive(Clone, Copy)]
 pub enum Value {
     Resolve,
@@ -47,7 +47,7 @@ pub enum Value {
     Seeded,
 }
 
-/// Of the list of pieces that is kept, and of the durable bytes.
+/// Calls on the list of pieces, and on durable bytes.
 #[derive(Clone, Copy)]
 pub enum Kept {
     Push,
@@ -56,7 +56,7 @@ pub enum Kept {
     Logical,
 }
 
-/// What is made on a store, a wrapper or exclusive opens, or through a handle of theirs.
+/// Calls on a store, a wrapper or exclusive opens, or through their handles.
 #[derive(Clone, Copy)]
 pub enum Own {
     Open,
@@ -112,7 +112,7 @@ pub enum Own {
     PlainWithin,
 }
 
-/// Of the registry of durability debt.
+/// Calls on the registry of durability debt.
 #[derive(Clone, Copy)]
 pub enum Debt {
     Begin,
@@ -233,7 +233,7 @@ static CALLS: [Row; 98] = [
     ("forget", "pa", Ask::Debt(Debt::Forget)),
 ];
 
-// Whether letters stand for so many tokens.
+// Returns whether letters match this number of tokens.
 fn fits(letters: &str, count: usize) -> bool {
     match letters.as_bytes() {
         [fixed @ .., last] if takes_all(*last) => fixed.len() <= count,
@@ -250,7 +250,7 @@ fn look_up(word: &str, count: usize) -> Option<(&'static str, Ask)> {
     None
 }
 
-/// The call of a line, and what it is given. What isn't a call here is refused as `Closed`, which no store answers.
+/// Parses a line as a call and its arguments. Returns `Closed`, an error that no store returns, if it isn't a call.
 pub fn read<'a>(alloc: Global, line: &'a str) -> Result<(Ask, Args<'a>), Error> {
     let (word, text) = line.split_once(' ').unwrap_or((line, ""));
     let tokens: Vec<&str> = line.split(' ').collect(alloc)?;

@@ -1,4 +1,4 @@
-//! What a call found, and its line.
+//! The result of a call, and its line.
 
 use blob_base::{BlobVersion, Error, IoBufsMut, Layout};
 use blob_calls::Reply;
@@ -7,44 +7,44 @@ use blob_faulty::{PartialWriteMode, WriteConfig};
 use blob_memory::Origin;
 use std::alloc::{AllocError, Global};
 
-/// What a call found.
+/// The result of a call.
 #[derive(Drop)]
 pub enum Found {
-    /// What a script is told.
+    /// A reply of a script.
     Told(Reply),
-    /// A sync was started, of this number, and has this marker.
+    /// A sync was started: its number, and its marker if it has one.
     Started(usize, Option<u64>),
     Is(bool),
-    /// No blob.
+    /// There is no blob.
     Nothing,
     Origin(Origin),
-    /// How writes fail, and what of them is kept.
+    /// How writes fail, and which of their bytes are kept.
     Writes(WriteConfig),
-    /// A blob is to be created.
+    /// The blob must be created.
     Creates,
-    /// A blob's logical size, its version, and where its data begin.
+    /// The blob's logical size, its version and its data offset.
     Valid(u64, BlobVersion, u64),
     Layout(Layout),
     /// A checksum.
     Sum([u8; 4]),
-    /// A draw, and how many words it took.
+    /// The result of a draw, and the number of words that it took.
     Drawn(bool, usize),
-    /// So many words were taken so far.
+    /// The number of words taken so far.
     Taken(usize),
-    /// What a line of a script says.
+    /// The meaning of a line of a script.
     Line(Result<Line, RefusedLine>),
     Text(String),
-    /// How many pieces there are, of how many bytes, and whether there is none.
+    /// The number of pieces, the number of bytes, and whether there are no bytes.
     Pieces(usize, usize, bool),
-    /// An error in words.
+    /// An error as a text.
     Words(Error),
-    /// An open was admitted, of this number: whether its predecessor is still settling, and whether its name owes.
+    /// An open was admitted: its number, whether its predecessor is still settling, and whether its name has debt.
     Admitted(usize, bool, bool),
-    /// A name was released, for a token of this number.
+    /// A name was released: the number of its token.
     Released(usize),
 }
 
-/// A call that has nothing to tell.
+/// A result without a value.
 pub fn done(_: ()) -> Found {
     Found::Told(Reply::Done)
 }
@@ -54,12 +54,12 @@ pub fn bytes(bytes: Vec<u8>) -> Found {
     Found::Told(Reply::Bytes(bytes))
 }
 
-/// Bytes that were read.
+/// The bytes of a read.
 pub fn read(read: IoBufsMut) -> Found {
     bytes(read.coalesce())
 }
 
-/// Bytes, where there is a blob.
+/// The bytes of a blob, if it exists.
 pub fn bytes_of(blob: Option<Vec<u8>>) -> Found {
     match blob {
         Some(found) => bytes(found),
@@ -88,7 +88,7 @@ fn print_writes(config: &WriteConfig, line: &mut String) -> Result<(), AllocErro
     match config.mode {
         PartialWriteMode::Prefix => line.push_str("prefix"),
         PartialWriteMode::Subset => line.push_str("subset"),
-        // no cell has another
+        // No cell has another mode.
         mode => write!(line, "{mode:?}"),
     }
 }
@@ -157,7 +157,7 @@ fn print_more(found: &Found, line: &mut String) -> Result<(), AllocError> {
     }
 }
 
-/// The line of what a call found, or of its refusal.
+/// Returns a result, or an error, as a line.
 pub fn line_of(alloc: Global, found: Result<Found, Error>) -> Result<String, AllocError> {
     let found = match found {
         Ok(found) => found,

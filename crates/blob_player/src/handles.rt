@@ -1,14 +1,14 @@
-//! The calls that every handle has.
+//! The calls of every handle.
 
 use crate::args::{Args, ROOM};
 use crate::calls::Own;
 use crate::found::{Found, bytes, done, read};
 use blob_base::{Blob, Durable, Error, Handle, IoBufsMut, ReadOptions, WriteOptions};
 
-/// The syncs that were started, each by its number.
+/// The started syncs by number.
 pub type Started = Vec<Option<Handle>>;
 
-/// All live bytes, where there are so many.
+/// Returns all live bytes, if there are `len`.
 pub fn live<S: Durable, B: Blob<S>>(store: &mut S, blob: &B, len: u64) -> Result<Found, Error> {
     match blob.read_at(store, len, 1, ReadOptions::default()) {
         Err(Error::BlobInsufficientLength) => {}
@@ -19,7 +19,7 @@ pub fn live<S: Durable, B: Blob<S>>(store: &mut S, blob: &B, len: u64) -> Result
         .map(read)
 }
 
-/// All live bytes, below 32 KiB: as many as can be read.
+/// Returns all live bytes, if they are fewer than 32 KiB. Finds their number by trying reads.
 pub fn all<S: Durable, B: Blob<S>>(store: &mut S, blob: &B) -> Result<Found, Error> {
     let mut len: usize = 0;
     for bit in 0..15u32 {
@@ -34,7 +34,7 @@ pub fn all<S: Durable, B: Blob<S>>(store: &mut S, blob: &B) -> Result<Found, Err
         .map(read)
 }
 
-// Into a buffer that has room, and holds other bytes.
+// Reads into a buffer that has this capacity and other contents.
 fn read_into<S: Durable, B: Blob<S>>(
     store: &mut S,
     blob: &B,
@@ -52,7 +52,7 @@ fn read_into<S: Durable, B: Blob<S>>(
     Ok(bytes(read.coalesce()))
 }
 
-// A sync that wanted memory was not started.
+// Records a started sync. If its outcome is `Memory`, returns this error instead.
 fn start(started: &mut Started, handle: Handle) -> Result<Found, Error> {
     if let Err(Error::Memory(e)) = handle.outcome() {
         return Err(Error::Memory(*e));
@@ -62,7 +62,7 @@ fn start(started: &mut Started, handle: Handle) -> Result<Found, Error> {
     Ok(Found::Started(number, marker))
 }
 
-/// Makes a call through a handle.
+/// Runs a call through a handle.
 pub fn call<S: Durable, B: Blob<S>>(
     store: &mut S,
     blob: &mut B,

@@ -1,4 +1,4 @@
-//! A wrapper over the memory store, and for a while a wrapper over that.
+//! A wrapper over the memory store, and sometimes a wrapper over that one.
 
 use crate::args::Args;
 use crate::calls::Own;
@@ -9,7 +9,7 @@ use blob_memory::Storage as Memory;
 use std::alloc::Global;
 use std::mem;
 
-/// The wrapper over the memory store, and the one above it where there is one, which has its store then.
+/// The wrapper over the memory store, and the one above it if there is one, which then owns the lower one.
 #[derive(Drop)]
 pub struct Layers {
     alloc: Global,
@@ -26,7 +26,7 @@ impl Layers {
         }
     }
 
-    /// The durable bytes of all layers.
+    /// Returns the memory store below all layers.
     pub fn memory(&self) -> &Memory {
         match &self.above {
             Some(above) => above.place.store.inner().inner(),
@@ -34,7 +34,7 @@ impl Layers {
         }
     }
 
-    // The wrapper is wrapped, with these words.
+    // Wraps the wrapper, with these words.
     fn wrap(&mut self, args: &mut Args<'_>) -> Result<Found, Error> {
         if self.above.is_some() {
             return Err(Error::Closed);
@@ -45,7 +45,7 @@ impl Layers {
         Ok(done(()))
     }
 
-    // The wrapper inside is taken out again, and has its handles. Tells how many words the outer one took.
+    // Takes the inner wrapper out again, for its handles. Returns how many words the outer one took.
     fn unwrap(&mut self) -> Result<Found, Error> {
         let above = self.above.take().ok_or(Error::Closed)?;
         let (inner, taken) = above.into_inner()?;
@@ -53,7 +53,7 @@ impl Layers {
         Ok(Found::Taken(taken))
     }
 
-    /// Makes a call of the outer wrapper.
+    /// Runs a call of the outer wrapper.
     pub fn call(&mut self, own: Own, args: &mut Args<'_>) -> Result<Found, Error> {
         match own {
             Own::Wrap => self.wrap(args),

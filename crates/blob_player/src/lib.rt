@@ -1,4 +1,4 @@
-//! Calls by their lines: of the memory store, of the wrapper, of a wrapper over it and of values, each told as a line.
+//! Runs calls by their lines: on the memory store, a wrapper, a wrapper over it, and values. Each result is a line.
 #![tactic(auto)]
 
 pub mod args;

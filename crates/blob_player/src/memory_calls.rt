@@ -10,14 +10,14 @@ use blob_memory::{Blob as Opened, Storage as Memory};
 use std::alloc::Global;
 use std::mem;
 
-/// A memory store with its handles, and the store that was laid aside.
+/// A memory store with its handles, and the store that was set aside.
 #[derive(Drop)]
 pub struct MemoryPlace {
     pub place: Place<Memory>,
     aside: Memory,
 }
 
-// What a crash lays, by the handle or by its origin.
+// Applies or reserves what a crash keeps, by a handle or by its origin.
 fn retain(store: &mut Memory, blob: &Opened, own: Own, args: &Args<'_>) -> Result<Found, Error> {
     let [_, at, _, _] = args.numbers;
     let (bufs, choices) = (&args.bufs, args.choices.as_slice());
@@ -34,13 +34,13 @@ fn retain(store: &mut Memory, blob: &Opened, own: Own, args: &Args<'_>) -> Resul
     .map(done)
 }
 
-// The partition, the name, the number and the offset of the data.
+// Returns the partition, the name, the number and the data offset.
 fn origin_of(blob: &Opened) -> Result<Found, Error> {
     Ok(Found::Origin(blob.origin()?))
 }
 
 impl MemoryPlace {
-    /// An empty store whose first incarnation has this number.
+    /// Returns an empty store; its first incarnation gets the number `next`.
     pub fn starting_at(alloc: Global, next: u64) -> MemoryPlace {
         MemoryPlace {
             place: Place::new(alloc, Memory::starting_at(alloc, next)),
@@ -48,20 +48,20 @@ impl MemoryPlace {
         }
     }
 
-    // A store of a snapshot takes the place of the store, which is laid aside.
+    // Sets the store aside and replaces it by one that is rebuilt from its snapshot.
     fn rebuild(&mut self) -> Result<Found, Error> {
         let later = Memory::from_snapshot(self.place.store.take_snapshot());
         self.aside = mem::replace(&mut self.place.store, later);
         Ok(done(()))
     }
 
-    // The store that was laid aside and the store change places.
+    // Swaps the store with the one that was set aside.
     fn swap(&mut self) -> Result<Found, Error> {
         mem::swap(&mut self.place.store, &mut self.aside);
         Ok(done(()))
     }
 
-    // Reads into a slice, or writes one.
+    // Reads into a slice, or writes from one.
     fn borrow(&mut self, own: Own, args: &mut Args<'_>) -> Result<Found, Error> {
         let [_, at, _, _] = args.numbers;
         let mut slice = args.take_bytes();
@@ -82,7 +82,7 @@ impl MemoryPlace {
         }
     }
 
-    /// Makes a call of the memory store.
+    /// Runs a call of the memory store.
     pub fn call(&mut self, own: Own, args: &mut Args<'_>) -> Result<Found, Error> {
         match own {
             Own::SetRaw => {

@@ -1,4 +1,4 @@
-//! A store with its handles, and the calls that every store has.
+//! A store with its handles, and the calls of every store.
 
 use crate::args::Args;
 use crate::calls::Own;
@@ -8,7 +8,7 @@ use blob_base::{Blob, BlobVersion, DEFAULT_BLOB_VERSION, Error, Storage};
 use blob_calls::Reply;
 use std::alloc::{AllocError, Global};
 
-/// A store with the handles that were opened on it, and the syncs that were started.
+/// A store with its open handles and its started syncs.
 #[derive(Drop)]
 pub struct Place<S: Storage + Drop> {
     pub store: S,
@@ -25,13 +25,13 @@ impl<S: Storage + Drop> Place<S> {
         }
     }
 
-    /// Takes room for one more handle and started sync, so that keeping one takes no memory.
+    /// Reserves capacity for one more handle and one more started sync, so that recording one doesn't allocate.
     pub fn make_room(&mut self) -> Result<(), AllocError> {
         self.blobs.reserve(1)?;
         self.started.reserve(1)
     }
 
-    /// Keeps the handle of an open.
+    /// Records the handle of an open.
     pub fn opened(
         &mut self,
         blob: S::Blob,
@@ -63,13 +63,13 @@ impl<S: Storage + Drop> Place<S> {
         self.opened(blob, size, version)
     }
 
-    // All bytes that a new open reads. Its handle is dropped.
+    // Returns all bytes that a new open reads. Drops its handle.
     fn fresh(&mut self, args: &Args<'_>) -> Result<Found, Error> {
         let (blob, size) = self.store.open(&args.partition, &args.name)?;
         handles::live(&mut self.store, &blob, size)
     }
 
-    // Whether both handles were opened on one incarnation.
+    // Returns whether both handles were opened on the same incarnation.
     fn is_same(&self, args: &Args<'_>) -> Result<Found, Error> {
         let blob = self.blobs.get(args.handle()).ok_or(Error::Closed)?;
         let other = self
@@ -85,7 +85,7 @@ impl<S: Storage + Drop> Place<S> {
         self.store.finish(started).map(done)
     }
 
-    /// Makes a call that every store has.
+    /// Runs a call of every store.
     pub fn call(&mut self, own: Own, args: &mut Args<'_>) -> Result<Found, Error> {
         match own {
             Own::Open => self.open(args),

@@ -1,10 +1,10 @@
-//! What the tokens of a row stand for. What stands for nothing is refused as `Closed`, which no store here answers.
+//! Parses the tokens of a row. An invalid token is `Closed`, an error that no store here returns.
 
 use blob_base::{BlobVersion, Error, IoBufs, Layout};
 use blob_calls::script::{Line, RefusedLine, Setting, read_line, token};
 use std::alloc::{AllocError, Global};
 
-/// A number; `max` is the greatest.
+/// Parses a number; `max` is the greatest one.
 pub fn number(token: &str) -> Result<u64, Error> {
     if token == "max" {
         return Ok(u64::MAX);
@@ -35,7 +35,7 @@ pub fn layout(token: &str) -> Result<Layout, Error> {
     }
 }
 
-/// Why a line of a script is refused.
+/// Converts the error of a line of a script.
 pub fn refused(refusal: RefusedLine) -> Error {
     match refusal {
         RefusedLine::BadCall => Error::Closed,
@@ -50,7 +50,7 @@ fn repeat(all: &mut Vec<u8>, bytes: &[u8], times: u64) -> Result<(), Error> {
     Ok(())
 }
 
-/// Bytes in pieces that `+` parts; `00x4084` is 4084 times `00`.
+/// Parses bytes in pieces that are separated by `+`; `00x4084` is 4084 times `00`.
 pub fn bytes(alloc: Global, token: &str) -> Result<Vec<u8>, Error> {
     let mut all = Vec::new(alloc);
     for piece in token.split('+') {
@@ -61,7 +61,7 @@ pub fn bytes(alloc: Global, token: &str) -> Result<Vec<u8>, Error> {
     Ok(all)
 }
 
-/// Bytes of which each token is a piece.
+/// Parses bytes; each token is a piece.
 pub fn pieces(alloc: Global, tokens: &[&str]) -> Result<IoBufs, Error> {
     let mut pieces = IoBufs::new(alloc);
     for token in tokens {
@@ -70,7 +70,7 @@ pub fn pieces(alloc: Global, tokens: &[&str]) -> Result<IoBufs, Error> {
     Ok(pieces)
 }
 
-/// Which bytes are kept, `1` or `0` for each.
+/// Parses which bytes are kept, `1` or `0` for each.
 pub fn choices(alloc: Global, token: &str) -> Result<Vec<bool>, Error> {
     let mut choices = Vec::new(alloc);
     for digit in token.bytes() {
@@ -79,7 +79,7 @@ pub fn choices(alloc: Global, token: &str) -> Result<Vec<bool>, Error> {
     Ok(choices)
 }
 
-/// A text, as a partition: `''` is the empty one, and `%20` a space.
+/// Parses a string, such as a partition: `''` is empty, and `%20` is a space.
 pub fn text(alloc: Global, token: &str) -> Result<String, Error> {
     let mut text = String::new(alloc);
     if token != "''" {
@@ -93,7 +93,7 @@ pub fn text(alloc: Global, token: &str) -> Result<String, Error> {
     Ok(text)
 }
 
-/// A setting, as it stands behind `config` in a script.
+/// Parses a setting, as after `config` in a script.
 pub fn setting(alloc: Global, text: &str) -> Result<Setting, Error> {
     let line = format!(in alloc; "config {text}")?;
     let read = read_line(alloc, line.as_bytes()).map_err(refused)?;
@@ -103,7 +103,7 @@ pub fn setting(alloc: Global, text: &str) -> Result<Setting, Error> {
     }
 }
 
-/// An error by its name and what it tells; `-` is none.
+/// Parses an error by its name and its fields; `-` is none.
 pub fn error(alloc: Global, tokens: &[&str]) -> Result<Option<Error>, Error> {
     Ok(match tokens {
         ["-"] => None,

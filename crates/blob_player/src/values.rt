@@ -1,4 +1,4 @@
-//! Calls that need no store: buffers, headers, names, rates, lines and errors.
+//! Calls without a store: buffers, headers, names, rates, lines and errors.
 
 use crate::args::Args;
 use crate::calls::Value;
@@ -22,7 +22,7 @@ fn said((size, version, offset): (u64, BlobVersion, u64)) -> Found {
     Found::Valid(size, version, offset)
 }
 
-// What an open finds in a whole blob, where every layout is accepted.
+// Resolves a whole blob. All layouts are accepted.
 fn resolved(args: &Args<'_>) -> Result<Found, Error> {
     let versions = args.versions().ok_or(Error::Closed)?;
     let len = args.bytes.len() as u64;
@@ -33,7 +33,7 @@ fn resolved(args: &Args<'_>) -> Result<Found, Error> {
 
 type Parsed = Result<(u64, BlobVersion, u64), HeaderError>;
 
-// What a blob's header says, where these layouts and versions are accepted.
+// Parses a blob's header, with these accepted layouts and versions.
 fn parse(args: &Args<'_>) -> Result<Parsed, Error> {
     let versions = args.versions().ok_or(Error::Closed)?;
     if args.bytes.len() < 8 {
@@ -51,7 +51,7 @@ fn parsed(args: &Args<'_>) -> Result<Found, Error> {
     }
 }
 
-// Whether an interrupted creation may have left a header that is refused.
+// Returns whether an interrupted creation may have left a header that is rejected.
 fn may_be_torn(args: &Args<'_>) -> Result<Found, Error> {
     match parse(args)? {
         Ok(_) => Err(Error::Closed),
@@ -59,7 +59,7 @@ fn may_be_torn(args: &Args<'_>) -> Result<Found, Error> {
     }
 }
 
-// The header region of a new blob.
+// Returns the header region of a new blob.
 fn created(args: &Args<'_>) -> Result<Found, Error> {
     let [first, last] = args.versions;
     if first > last {
@@ -80,7 +80,7 @@ fn layout_of(args: &Args<'_>) -> Result<Found, Error> {
     Ok(Layout::from_magic(&[*a, *b, *c, *d]).map_or(Found::Nothing, Found::Layout))
 }
 
-// What a rate draws at a word, and how many words it takes.
+// Draws with a rate from one word. Returns the result and how many words it took.
 fn drawn(args: &Args<'_>) -> Result<Found, Error> {
     let [n, d, word, _] = args.numbers;
     let Some(rate) = Probability::new(n, d) else {
@@ -93,7 +93,7 @@ fn drawn(args: &Args<'_>) -> Result<Found, Error> {
     Ok(Found::Drawn(is_hit, words::taken(args.alloc, rng, 1, 1)?))
 }
 
-// How writes fail by a cell of 16 bits.
+// Returns the write configuration of a 16-bit cell.
 fn cell(number: u64) -> Result<Found, Error> {
     match u16::try_from(number) {
         Ok(number) => Ok(Found::Writes(write_config_from_cell(number))),
@@ -101,7 +101,7 @@ fn cell(number: u64) -> Result<Found, Error> {
     }
 }
 
-// A copy is one piece.
+// A copy has one piece.
 fn copied(bufs: &IoBufs) -> Result<Found, Error> {
     bufs.copied()?.coalesce().map(bytes)
 }
@@ -112,7 +112,7 @@ fn new_origin(args: &Args<'_>) -> Result<Found, Error> {
     Ok(Found::Origin(origin))
 }
 
-// The reply of a read.
+// Prints the reply of a read.
 fn printed(alloc: Global, bytes: Vec<u8>) -> Result<Found, Error> {
     let mut line = String::new(alloc);
     print_reply(&Reply::Bytes(bytes), &mut line)?;
@@ -130,7 +130,7 @@ fn counted(bufs: &IoBufs) -> Found {
     Found::Pieces(bufs.pieces().len(), bufs.remaining(), bufs.is_empty())
 }
 
-// Whether one piece keeps its own room.
+// Returns whether a single piece keeps its capacity.
 fn moved(mut bytes: Vec<u8>) -> Result<Found, Error> {
     bytes.reserve(100)?;
     let room = bytes.capacity();
@@ -138,7 +138,7 @@ fn moved(mut bytes: Vec<u8>) -> Result<Found, Error> {
     Ok(Found::Is(back.capacity() == room))
 }
 
-// The header that eight bytes are.
+// Decodes a header of eight bytes.
 fn header(args: &Args<'_>) -> Result<Header, Error> {
     let [a, b, c, d, e, f, g, h] = args.bytes.as_slice() else {
         return Err(Error::Closed);
@@ -158,7 +158,7 @@ fn encoded(args: &Args<'_>) -> Result<Found, Error> {
     Ok(bytes(Vec::from_slice(args.alloc, &again)?))
 }
 
-// What a generator of words and a seed draws: 64 and 32 bits, both once more, and eight bytes.
+// Draws from a generator with words and a seed: 64 and 32 bits, twice, and eight bytes.
 fn seeded(args: &mut Args<'_>) -> Result<Found, Error> {
     let words = mem::replace(&mut args.words, Vec::new(args.alloc));
     let mut rng = ScriptedRng::seeded(words, args.numbers[0]);
@@ -171,7 +171,7 @@ fn seeded(args: &mut Args<'_>) -> Result<Found, Error> {
     Ok(Found::Text(told))
 }
 
-/// Makes a call that needs no store.
+/// Runs a call without a store.
 pub fn call(value: Value, args: &mut Args<'_>) -> Result<Found, Error> {
     match value {
         Value::Resolve => resolved(args),

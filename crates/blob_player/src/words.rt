@@ -5,16 +5,16 @@ use blob_laboratory::ScriptedRng;
 use rand_core::Rng;
 use std::alloc::Global;
 
-// Stands behind the given words, and among none of them.
+// Follows the given words. None of them has this value.
 const END: u64 = 0x656e_6420_776f_7264;
 
-/// A generator of these words.
+/// Returns a generator of these words.
 pub fn generator(mut words: Vec<u64>) -> Result<ScriptedRng, Error> {
     words.push(END)?;
     Ok(ScriptedRng::new(words))
 }
 
-/// The words that are left in a generator that had so many. None where more were taken.
+/// Returns the remaining words of a generator that had `had` words, or `None` if more were taken.
 pub fn left(alloc: Global, mut rng: ScriptedRng, had: usize) -> Result<Option<Vec<u64>>, Error> {
     let mut words = Vec::new(alloc);
     for _ in 0..=had {
@@ -27,8 +27,8 @@ pub fn left(alloc: Global, mut rng: ScriptedRng, had: usize) -> Result<Option<Ve
     Ok(None)
 }
 
-/// How many of the given words were taken, where a generator had so many of them at last: one more than given where it was
-/// more.
+/// Returns how many of the `given` words were taken from a generator that last had `had` of them. If more than all were
+/// taken, it is `given` + 1.
 pub fn taken(alloc: Global, rng: ScriptedRng, given: usize, had: usize) -> Result<usize, Error> {
     Ok(match left(alloc, rng, had)? {
         Some(words) => given.wrapping_sub(words.len()),

@@ -1,4 +1,4 @@
-//! The calls of a wrapper, and those of a wrapper over the memory store alone.
+//! The calls of a wrapper, and those of a wrapper over the memory store only.
 
 use crate::args::Args;
 use crate::calls::Own;
@@ -25,19 +25,19 @@ impl<S: Storage + Drop> Place<Wrapper<S>> {
         Ok(done(()))
     }
 
-    // The size that a handle tracks.
+    // Returns the size that a handle tracks.
     fn size(&self, handle: usize) -> Result<Found, Error> {
         let blob = self.blobs.get(handle).ok_or(Error::Closed)?;
         Ok(Found::Told(Reply::Size(blob.size())))
     }
 
-    // A removal by its other name.
+    // Removes through `remove_retired`.
     fn remove_retired(&mut self, partition: &str, name: Option<&[u8]>) -> Result<Found, Error> {
         let _retired = self.store.remove_retired(partition, name)?;
         Ok(done(()))
     }
 
-    /// Makes a call that every wrapper has.
+    /// Runs a call of every wrapper.
     pub fn call_wrapper(&mut self, own: Own, args: &mut Args<'_>) -> Result<Found, Error> {
         match own {
             Own::Config => self.configure(args),
@@ -49,7 +49,7 @@ impl<S: Storage + Drop> Place<Wrapper<S>> {
     }
 }
 
-/// A wrapper with its handles and the number of its words that are left.
+/// A wrapper with its handles and the number of its remaining words.
 #[derive(Drop)]
 pub struct WrapperPlace<S: Storage + Drop> {
     pub place: Place<Wrapper<S>>,
@@ -59,7 +59,7 @@ pub struct WrapperPlace<S: Storage + Drop> {
 }
 
 impl<S: Storage + Drop> WrapperPlace<S> {
-    /// A store, wrapped with these words and first numbers.
+    /// Wraps a store, with these words and first numbers.
     pub fn new(
         alloc: Global,
         store: S,
@@ -77,7 +77,7 @@ impl<S: Storage + Drop> WrapperPlace<S> {
         })
     }
 
-    /// The store, and how many words were taken: one more than given where more were taken.
+    /// Returns the store, and how many words were taken; if more than all were taken, one more than given.
     pub fn into_inner(self) -> Result<(S, usize), Error> {
         let WrapperPlace {
             place,
@@ -92,20 +92,20 @@ impl<S: Storage + Drop> WrapperPlace<S> {
 }
 
 impl WrapperPlace<Memory> {
-    /// The wrapper, in whose place an empty one is left.
+    /// Takes the wrapper and leaves an empty one.
     pub fn take(&mut self) -> Wrapper<Memory> {
         let rng = ScriptedRng::new(Vec::new(self.alloc));
         let empty = Wrapper::new(self.alloc, Memory::new(self.alloc), rng, Config::default());
         mem::replace(&mut self.place.store, empty)
     }
 
-    /// The handles are used with this wrapper from now on.
+    /// Sets the wrapper that the handles use from now on.
     pub fn put_back(&mut self, wrapper: Wrapper<Memory>) {
         self.place.store = wrapper;
     }
 
-    // Takes the store out of its wrapper and wraps it anew, with the same generator and configuration; where it is to be
-    // rebuilt, by a snapshot. Handles stay. Tells how many words were taken so far.
+    // Takes the store out of its wrapper and wraps it again, with the same generator and configuration. If
+    // `is_rebuilt`, rebuilds the store from a snapshot first. Handles stay. Returns how many words were taken so far.
     fn rewrap(&mut self, is_rebuilt: bool) -> Result<Found, Error> {
         let (mut memory, rng, config) = self.take().into_inner();
         if is_rebuilt {
@@ -118,13 +118,13 @@ impl WrapperPlace<Memory> {
         Ok(Found::Taken(self.given.wrapping_sub(self.left)))
     }
 
-    // Retires what is pending of a name.
+    // Admits a name, which retires its pending entries.
     fn admit(&mut self, args: &Args<'_>) -> Result<Found, Error> {
         let _retired = self.place.store.admit(&args.partition, &args.name);
         Ok(done(()))
     }
 
-    // An open that is admitted at once.
+    // Opens and admits a name.
     fn open_admitted(&mut self, args: &Args<'_>) -> Result<Found, Error> {
         let (blob, size) = self.place.store.open_admitted(&args.partition, &args.name)?;
         self.place.opened(blob, size, DEFAULT_BLOB_VERSION)
@@ -142,7 +142,7 @@ impl WrapperPlace<Memory> {
         self.place.opened(blob, size, version)
     }
 
-    // Reads into a slice, or writes one.
+    // Reads into a slice, or writes from one.
     fn borrow(&mut self, own: Own, args: &mut Args<'_>) -> Result<Found, Error> {
         let [_, at, _, _] = args.numbers;
         let mut slice = args.take_bytes();
@@ -161,7 +161,7 @@ impl WrapperPlace<Memory> {
         Ok(Found::Told(Reply::Crashed(self.place.store.crash()?)))
     }
 
-    /// Makes a call of the wrapper over the memory store.
+    /// Runs a call of the wrapper over the memory store.
     pub fn call(&mut self, own: Own, args: &mut Args<'_>) -> Result<Found, Error> {
         match own {
             Own::Admit => self.admit(args),
@@ -175,7 +175,7 @@ impl WrapperPlace<Memory> {
         }
     }
 
-    /// How many words were taken, at the end.
+    /// Returns how many words were taken, at the end of a case.
     pub fn taken(&mut self) -> Result<Found, Error> {
         let (_memory, rng, _config) = self.take().into_inner();
         Ok(Found::Taken(words::taken(self.alloc, rng, self.given, self.left)?))

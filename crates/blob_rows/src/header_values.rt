@@ -1,4 +1,4 @@
-//! The region of a header, and what a blob resolves to.
+//! The region of a header, and the resolution of a blob.
 
 use blob_header::{BlobVersion, Error, Header, Layout, resolve};
 use std::alloc::Global;
@@ -9,7 +9,7 @@ fn versions(first: u16, last: u16) -> RangeInclusive<BlobVersion> {
     BlobVersion::new(first)..=BlobVersion::new(last)
 }
 
-/// What a whole blob resolves to, in words: the reason where it is corrupt.
+/// Returns the resolution of a whole blob as a text, with the reason if it is corrupt.
 pub(crate) fn told(alloc: Global, blob: &[u8]) -> Result<String, Error> {
     let raw_len = blob.len() as u64;
     let found = resolve(
@@ -32,7 +32,7 @@ pub(crate) fn told(alloc: Global, blob: &[u8]) -> Result<String, Error> {
     }
 }
 
-/// The V1 region of this version.
+/// Returns the V1 region of this version.
 pub(crate) fn region_of(
     rt: &impl Abort,
     alloc: Global,

@@ -1,4 +1,4 @@
-//! Images of a damaged region: each front of it, and each change of one byte.
+//! Images of a damaged region: each prefix of it, and each change of one byte.
 
 use crate::header_values::{region_of, told};
 use blob_header::{BlobVersion, Error};
@@ -33,7 +33,7 @@ fn each_change_of_one_byte_is_told(rt: HostRuntime) -> Result<(), Fail> {
     Ok(())
 }
 
-// What a region of version 5 resolves to once its byte at this place is another.
+// Returns the expected resolution of a region of version 5 with another byte at this position.
 fn after_change(alloc: Global, at: usize, byte: u8) -> Result<String, Error> {
     let text = match (at, byte) {
         (0, _) => format!(in alloc; "invalid magic: found [{byte}, 87, 73, 75]")?,

@@ -1,4 +1,4 @@
-//! Tests of values, damaged headers and rates, through their public calls.
+//! Tests of values, damaged headers and rates, through public calls.
 #![tactic(auto)]
 
 #[cfg(test)]

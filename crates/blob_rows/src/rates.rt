@@ -1,4 +1,4 @@
-//! When rates are equal.
+//! Equality of rates.
 
 ghost use Rattle.std.specs.Prelude.{◌≡◌, ◌↔◌, IsTrue};
 
@@ -10,7 +10,7 @@ fn is_same<T: Eq>(a: &T, b: &T) -> bool
     a == b
 }
 
-/// Generic code tells rates apart by both numbers.
+/// Generic code compares rates by both numbers.
 fn is_same_rate(a: &Probability, b: &Probability) -> bool
     ensures { IsTrue result ↔ (a.now ≡ b.now) }
 {

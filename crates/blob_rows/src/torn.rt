@@ -1,4 +1,4 @@
-//! Every front of an old layout's header, with any of its bytes lost: what an open makes of it.
+//! Opening every prefix of an old layout's header, with any of its bytes lost.
 
 use blob_base::{BlobVersion, Error, Storage};
 use blob_memory::Storage as Memory;
@@ -15,7 +15,7 @@ enum Outcome {
 
 const BITS: [u8; 8] = [1, 2, 4, 8, 16, 32, 64, 128];
 
-// Eight bytes with zeros in the place of some, by bits.
+// Replaces some of eight bytes by zeros, selected by bits.
 fn with_holes(whole: [u8; 8], lost: u8) -> [u8; 8] {
     let mut image = whole;
     for (byte, bit) in image.iter_mut().zip(BITS) {
@@ -26,7 +26,8 @@ fn with_holes(whole: [u8; 8], lost: u8) -> [u8; 8] {
     image
 }
 
-// An image is created anew where it is shorter than a header, or where what isn't zero in it begins every layout's magic.
+// An image is created again if it is shorter than a header, or if it is a prefix of all layouts' magics, followed by
+// zeros.
 fn outcome_of(image: &[u8], whole: [u8; 8]) -> Outcome {
     if image.len() < 8 {
         return Outcome::Created;
@@ -54,7 +55,7 @@ struct Whole {
     created: Vec<u8>,
 }
 
-// The size that an open of one version answers, if it is accepted.
+// Returns the size of an open for one version, if it is accepted.
 fn opened(store: &mut Memory, name: &[u8], version: u16) -> Option<u64> {
     let versions = BlobVersion::new(version)..=BlobVersion::new(version);
     match store.open_versioned("p", name, versions) {
@@ -63,7 +64,7 @@ fn opened(store: &mut Memory, name: &[u8], version: u16) -> Option<u64> {
     }
 }
 
-// Opens a store's one blob. Whether it comes out so.
+// Opens a store's only blob. Returns whether the result is as expected.
 fn opens_so(alloc: Global, image: &[u8], whole: &Whole) -> Result<bool, Error> {
     let mut store = Memory::new(alloc);
     store.set_raw_blob("p", b"b", Vec::from_slice(alloc, image)?)?;
@@ -76,7 +77,7 @@ fn opens_so(alloc: Global, image: &[u8], whole: &Whole) -> Result<bool, Error> {
     })
 }
 
-// Each front once, with each of its bytes lost or not.
+// Tries each prefix once, with each of its bytes lost or not.
 fn fronts_open_so(rt: &impl Abort, alloc: Global, whole: &Whole) -> Result<(), Error> {
     for lost in 0..=u8::MAX {
         let image = with_holes(whole.bytes, lost);

@@ -1,4 +1,4 @@
-//! Options, handles of started syncs, and buffers that are filled.
+//! Options, handles of started syncs, and read buffers.
 
 use blob_base::{Error, Handle, IoBufsMut, ReadOptions, WriteOptions};
 use std::test::Fail;

@@ -1,7 +1,7 @@
 //! A reader and a writer that fail in mid-stream, for tests.
 use std::io::{self, Error, ErrorKind, Read, Write};
 
-/// Gives its bytes three at a time, and fails once `reads` are done.
+/// Returns its bytes three at a time, and fails after `reads` reads.
 #[derive(Drop)]
 pub(crate) struct Halting<'a> {
     pub(crate) bytes: &'a [u8],
@@ -23,7 +23,7 @@ impl Read for Halting<'_> {
     }
 }
 
-/// Holds what was written, and fails once `room` bytes are there, or when it is flushed.
+/// Stores what is written. A write fails once the capacity is used, and a flush if `flushes` is false.
 #[derive(Drop)]
 pub(crate) struct Full {
     pub(crate) bytes: Vec<u8>,

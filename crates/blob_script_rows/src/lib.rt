@@ -1,4 +1,4 @@
-//! Tests of whole scripts and of `resolve` over streams that fail, through their public calls.
+//! Tests of whole scripts and of `resolve` over failing streams, through public calls.
 #![tactic(auto)]
 
 #[cfg(test)]

@@ -1,4 +1,4 @@
-//! `resolve` over streams that fail. What it replies over sound ones is data: tests/resolve at the top of the repository.
+//! `resolve` over failing streams. Its replies over other streams are tested by the data in tests/resolve.
 
 use crate::failing::{Full, Halting};
 use blob_lab::{Ending, Input, Output, serve_resolve};
@@ -9,7 +9,7 @@ use std::test::Fail;
 
 const LINE: &[u8] = b"4357494300000007\n";
 
-/// Resolves the line of 17 bytes, which comes in six reads, over a reader that fails.
+/// Resolves a line of 17 bytes, which takes six reads, over a reader that fails.
 fn halted(
     rt: &impl Abort,
     alloc: Global,
@@ -41,7 +41,7 @@ fn a_failing_read_is_told(rt: HostRuntime) -> Result<(), Fail> {
     halted(&rt, alloc, 6, ErrorKind::Other, Ending::Done)
 }
 
-/// Resolves the line over a writer that fails once `room` bytes are there, or when it is flushed.
+/// Resolves the line over a writer that fails once its capacity is used, or at a flush.
 fn filled(
     rt: &impl Abort,
     alloc: Global,

@@ -1,4 +1,4 @@
-//! Scripts over streams that fail. What runs over sound ones is data: tests/scripts at the top of the repository.
+//! Scripts over failing streams. Scripts over other streams are tested by the data in tests/scripts.
 
 use crate::failing::{Full, Halting};
 use blob_lab::{Ending, Input, Output, serve_script};
@@ -7,7 +7,8 @@ use std::io::{BufReader, ErrorKind};
 use std::process::Abort;
 use std::test::Fail;
 
-/// Runs two lines of eight bytes each, which come in six reads and their end in a seventh, over a reader that fails.
+/// Runs two lines of eight bytes each over a reader that fails. They take six reads, and the end of the input a
+/// seventh.
 fn halted(
     rt: &impl Abort,
     alloc: Global,
@@ -52,7 +53,7 @@ fn a_failing_read_is_told(rt: HostRuntime) -> Result<(), Fail> {
     halted(&rt, alloc, (7, other), Ending::Done, both)
 }
 
-/// Runs a script over a writer that fails once `room` bytes are there, or when it is flushed.
+/// Runs a script over a writer that fails once its capacity is used, or at a flush.
 fn filled(
     rt: &impl Abort,
     alloc: Global,
@@ -75,7 +76,7 @@ fn filled(
     assert!(rt; written.bytes.as_slice() == output, "with room for {room}");
 }
 
-// What fails last is told: the output, where a bad line came before its flush.
+// The last failure is reported: that of the output, if its flush fails after a bad line.
 #[test]
 fn a_failing_write_is_told(rt: HostRuntime) {
     let alloc = rt.alloc();

@@ -1,14 +1,14 @@
-//! Streams that work, with few and with many bytes: none is reported as failed, and a flush hands all bytes on.
+//! Streams that work, with few and with many bytes: none is reported as failed, and a flush passes all bytes on.
 use blob_lab::Ending;
 use blob_lab::streams::{Input, Output};
 use std::alloc::{AllocError, Global};
 use std::io::{self, Write};
 use std::test::Fail;
 
-/// Sizes about those of buffers.
+/// Sizes around those of buffers.
 const SIZES: [usize; 6] = [0, 1, 4095, 4097, 8193, 70_001];
 
-/// So many bytes, no two neighbors alike.
+/// Returns `len` bytes. No two neighbors are equal.
 fn filled(alloc: Global, len: usize) -> Result<Vec<u8>, AllocError> {
     let mut bytes = Vec::new(alloc);
     for i in 0..len {
@@ -17,7 +17,7 @@ fn filled(alloc: Global, len: usize) -> Result<Vec<u8>, AllocError> {
     Ok(bytes)
 }
 
-/// Whether all bytes are read, in one call.
+/// Returns whether one call reads all bytes.
 fn reads(bytes: &[u8], alloc: Global) -> Result<bool, Ending> {
     let mut input = Input::new(bytes);
     let mut read = Vec::new(alloc);
@@ -35,7 +35,7 @@ fn input_of_each_size(rt: HostRuntime) -> Result<(), Fail> {
     Ok(())
 }
 
-/// Keeps what was written, and how much of it was there at the last flush.
+/// Stores what is written, and how many bytes there were at the last flush.
 #[derive(Drop)]
 struct Counting {
     bytes: Vec<u8>,
@@ -54,7 +54,7 @@ impl Write for Counting {
     }
 }
 
-/// Whether all bytes are written, and handed on by a flush.
+/// Returns whether all bytes are written, and passed on by a flush.
 fn writes(bytes: &[u8], alloc: Global) -> Result<bool, Ending> {
     let mut output = Output::new(Counting {
         bytes: Vec::new(alloc),

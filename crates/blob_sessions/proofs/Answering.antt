@@ -25,7 +25,7 @@ pub answered : (k asked made k' : Kept) (line : List ℕ) (act : Act) (ran : Ran
 answered k asked made k' line act ran old new asks kept reply makes same tells =
     let AskedWith : Config → Type 0 = λ c. SaysCall k.config line act c in
     let asks' : SaysCall k.config line act k'.config = subst AskedWith (sym (ap (λ x. x.config) tells.same ∙ same)) asks in
-    let makes' : Makes k act reply k' = record { performs = performs_alike k.lab asked.lab made.lab k'.lab act reply (ap (λ x. x.lab) kept) (ap (λ x. x.lab) tells.same) makes.performs; last = ap (λ x. x.last) tells.same ∙ makes.last } in
+    let makes' : Makes k act reply k' = record { performs = performs_alike k.lab asked.lab made.lab k'.lab act reply (ap (λ x. x.lab) kept) (ap (λ x. x.lab) tells.same) makes.performs; last = ap (λ x. x.last) tells.same ∙ makes.last; debts = ap (λ x. x.debts) tells.same ∙ makes.debts ∙ ap (λ x. x.debts) kept } in
     let known = tells.status in
     record {
       done = λ h. inl (act, reply, asks', makes', (let P : Option Reply → Type 0 = λ o. MatchOption o (ran.len ≡ 0) (λ r. take ran.len new ≡ reply_line r) in subst P makes.last (tells.done h)));

@@ -1,5 +1,7 @@
 pub mod Applying
+pub mod Debts
 pub mod DurableBlobs
+pub mod Headers
 pub mod Owned
 pub mod Parts
 pub mod Preambles

@@ -22,6 +22,8 @@ use Rattle.blob_sessions.specs.declared.ran.TheConstants.{DONE, BAD_LINE, NO_MEM
 pub record Makes (k : Kept) (act : Act) (reply : Reply) (k' : Kept) : Type 0 where
   pub performs : Performs k.lab act reply k'.lab
   pub last : k'.last ≡ Some reply
+  -- the registry isn't asked
+  pub debts : k'.debts ≡ k.debts
 
 -- with these settings the line says this call, and leaves these
 abbrev pub SaysCall : Config → List ℕ → Act → Config → Type 0

@@ -8,6 +8,7 @@ ghost use Rattle.blob_sessions.specs.Sessions.{RunsLine, AnswersRead, AnswersWri
 ghost use Rattle.blob_sessions.specs.Typed.{last_reply};
 ghost use Rattle.blob_sessions.specs.Words.{TakesWords, TellsWordsLeft};
 
+use crate::debts::{DebtCall, DebtReply, Debts};
 use crate::ran::{
     BAD_CALL, BAD_LINE, DONE, ENDLESS, NO_MEMORY, NO_ROOM, OTHER_REPLY, Ran, UNPRINTED,
 };
@@ -23,6 +24,8 @@ pub struct Kept {
     pub(crate) lab: Lab,
     config: Config,
     pub(crate) last: Option<Reply>,
+    /// A registry that no call of the laboratory changes.
+    pub(crate) debts: Debts,
 }
 
 impl Drop for Kept {
@@ -31,13 +34,15 @@ impl Drop for Kept {
             lab,
             config: _,
             last: _,
+            debts,
         } = self;
+        debts.end();
         lab.end();
     }
 }
 
 impl Kept {
-    pub fn new(lab: Lab, config: Config) -> Kept
+    pub fn new(alloc: Global, lab: Lab, config: Config) -> Kept
         ensures lab { result.lab ≡ lab }
         ensures config { result.config ≡ config }
         ensures last { result.last ≡ None }
@@ -46,7 +51,21 @@ impl Kept {
             lab,
             config,
             last: None,
+            debts: Debts::new(alloc),
         }
+    }
+
+    /// Makes a call of the registry of durability debt. The laboratory doesn't change.
+    pub fn owe(
+        &mut self,
+        alloc: Global,
+        asked: &DebtCall,
+        partition: &[u8],
+        name: &[u8],
+    ) -> DebtReply
+        ensures { self.new ≡ record self.old { debts = self.new.debts } }
+    {
+        self.debts.apply(alloc, asked, partition, name)
     }
 
     /// Makes the call that a line says, and prints its reply. A line that says nothing is answered with nothing.

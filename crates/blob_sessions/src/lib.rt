@@ -2,7 +2,9 @@
 //! whole scripts. `blob_c` exports these to C.
 #![tactic(auto)]
 
+pub mod debts;
 mod durable;
+pub mod headers;
 mod kept;
 pub mod kinds;
 mod loose;
@@ -15,6 +17,8 @@ pub mod script;
 pub mod session;
 pub mod typed;
 
+pub use debts::{DebtCall, DebtReply};
+pub use headers::{Accepts, ParsedHeader};
 pub use kept::Kept;
 pub use parts::KeptRun;
 pub use preamble::RefusedPreamble;

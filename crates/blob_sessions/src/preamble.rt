@@ -100,7 +100,7 @@ pub fn start(alloc: Global, text: &[u8]) -> Result<Kept, RefusedPreamble>
     } = read(alloc, text)?;
     let settings = copy_of(&config);
     match laboratory(images, words, seed, config) {
-        Ok(lab) => Ok(Kept::new(lab, settings)),
+        Ok(lab) => Ok(Kept::new(alloc, lab, settings)),
         Err(_) => Err(RefusedPreamble::NoMemory),
     }
 }

@@ -1,4 +1,4 @@
--- What is said of a file by its kind.
+-- Properties of a file by its kind.
 use Rattle.std.specs.Prelude.{ℕ, List}
 use Rattle.blob_sql.specs.declared.file.File.{File}
 use Rattle.blob_sql.specs.declared.file.File.TheVariants.{Drawn, Lying, Fused}
@@ -13,7 +13,7 @@ leaves_by_kind a b c (Drawn d) = a d
 leaves_by_kind a b c (Lying d) = b d
 leaves_by_kind a b c (Fused d) = c d
 
--- what is so of each kind is so of each file
+-- what holds for each kind holds for each file
 pub by_each : {A B C : Type 0} (P : File A B C → Type 0) → ((d : A) → P (Drawn d)) → ((d : B) → P (Lying d)) → ((d : C) → P (Fused d)) → (f : File A B C) → P f
 by_each P a b c (Drawn d) = a d
 by_each P a b c (Lying d) = b d

@@ -2,22 +2,22 @@
 
 #[derive(Clone, Copy, Debug, Default)]
 pub struct Counts {
-    /// Transactions that were answered.
+    /// Transactions that succeeded.
     pub commits: u64,
-    /// Transactions that were answered by an error.
+    /// Transactions that failed.
     pub failed: u64,
-    /// Opens that were answered by an error, each behind a crash; the one behind it fails by no draw.
+    /// Opens that failed. After another crash, the next open has no faults.
     pub refused: u64,
     pub crashes: u64,
-    /// Failed transactions of which the next open had to tell whether they are there.
+    /// Failed transactions in doubt: the next open shows whether they were applied.
     pub doubt: u64,
-    /// Those of them that were there.
+    /// Those of them that were applied.
     pub kept: u64,
-    /// Seeds that found other rows than were committed, or a database that can't be opened.
+    /// Seeds that found other rows than the committed ones, or a database that can't be opened.
     pub wrong: u64,
 }
 
-/// One more.
+/// Increments a count.
 pub fn add(count: &mut u64) {
     *count = count.wrapping_add(1);
 }

@@ -1,4 +1,4 @@
-//! The disks of a database by mode, and their crash.
+//! The disks of a database in each mode, and their crash.
 ghost use Rattle.blob_faulty.specs.Certain.{IsNever, partial_resizes};
 
 use crate::file::File;
@@ -14,13 +14,13 @@ use std::alloc::Global;
 
 type BlobFile = BlobDisk<Xoshiro256PlusPlus>;
 
-/// What a database is tried on: one type, so that it is built for one.
+/// The disk of a database. It is one type, so that the database code is compiled once.
 pub type AnyFile = File<BlobFile, Lying<BlobFile>, Fuse<BlobFile>>;
 
-/// A disk under which the machine can stop.
+/// A disk that can crash.
 pub trait Crashing: Disk {
-    /// What wasn't durable is lost by its draws, and from here on its faults are drawn by these rates. A fused file gets a fuse
-    /// that doesn't blow in their place.
+    /// Crashes: bytes that aren't durable are lost by the disk's draws. Faults are then drawn with these rates. A fused
+    /// file ignores the rates, and its next fuse never blows.
     fn crash_to(&mut self, config: Config)
         requires { IsNever (partial_resizes config.resize_rate) };
 }
@@ -53,7 +53,7 @@ fn disk(
     Ok(BlobDisk::new(alloc, draws, config, is_mixing)?)
 }
 
-/// Files that fail from some call on, as where the machine stops.
+/// Returns files that fail from some call on, as if the machine stopped.
 fn fused(alloc: Global, mode: &Mode, rng: &mut Xoshiro256PlusPlus) -> Result<Files<AnyFile>> {
     let (log, db) = (mode.faults.config(rng), mode.faults.config(rng));
     let log = disk(alloc, rng, log, mode.is_mixing)?;
@@ -64,7 +64,7 @@ fn fused(alloc: Global, mode: &Mode, rng: &mut Xoshiro256PlusPlus) -> Result<Fil
     })
 }
 
-/// Empty files of a mode. Only fused ones fail before the first crash.
+/// Returns the empty files of a mode. Before the first crash, only fused files fail.
 pub fn files(
     alloc: Global,
     mode: &Mode,

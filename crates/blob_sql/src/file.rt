@@ -1,15 +1,15 @@
-//! A file that fails and crashes, in one of three ways.
+//! A file that fails and crashes in one of three ways.
 use sqlite_disk::{Disk, Tally};
 use std::io;
 
-/// One type for all three, so that the database is built once.
+/// The three kinds as one type, so that the database code is compiled once.
 #[derive(Drop)]
 pub enum File<A, B, C> {
-    /// Calls fail by their draws.
+    /// Calls fail by draws.
     Drawn(A),
-    /// A sync does nothing, too.
+    /// Calls fail by draws, and a sync does nothing.
     Lying(B),
-    /// From some call on each one fails.
+    /// From some call on, every call fails.
     Fused(C),
 }
 

@@ -1,9 +1,9 @@
-//! A disk whose sync does nothing and says that it did.
+//! A disk with a sync that does nothing and reports success.
 use sqlite_disk::{Disk, Tally};
 use std::io;
 
-/// As a disk it says that a crash leaves what was written, synced or not. So it keeps the contract of a disk, and is none that
-/// crashes (`Crash`): what a crash leaves of it is another thing than it says.
+/// Its contract says that a crash leaves all written bytes, synced or not. That satisfies `Disk`. It doesn't implement
+/// `Crash`, because a crash leaves something else.
 #[derive(Drop)]
 pub struct Lying<D: Disk> {
     pub inner: D,

@@ -1,11 +1,12 @@
-//! A database of the kit on disks that fail: by each seed its log and its file crash again and again, and each transaction that
-//! was answered has to be there, and each that failed whole or not at all.
+//! Tests the toolchain's database on disks that fail. For each seed, its log and its file crash several times. Each
+//! transaction that succeeded must then be in the database, and each one that failed must be there in whole or not at
+//! all.
 //!
 //!     blob_sql [--lie] FIRST LAST
 //!
-//! The seeds are those from FIRST up to LAST, which is not among them. A line tells what happened in each mode; a line before it
-//! tells of each wrong row. With `--lie` a sync does nothing and says that it did, and rows have to be wrong.
-//! Exit statuses: 0 where no row was wrong, 1 where one was, 2 for other arguments, 3 where the run could not be done.
+//! The seeds are FIRST up to LAST, without LAST. Prints a line for each mode, after a line for each wrong row. With
+//! `--lie` a sync does nothing and reports success, so rows must be wrong. Exit statuses: 0 if no row was wrong, 1 if
+//! one was, 2 for other arguments, 3 if the run couldn't be done.
 #![tactic(auto)]
 
 mod counts;
@@ -35,7 +36,7 @@ fn number(word: Option<String>) -> Option<u64> {
     word.and_then(|word| word.parse::<u64>().ok())
 }
 
-/// What is asked for, if the arguments say it.
+/// Parses the arguments.
 fn asked(mut args: env::Args) -> Option<Seeds> {
     let _program = args.next();
     let mut word = args.next();
@@ -58,7 +59,7 @@ fn asked(mut args: env::Args) -> Option<Seeds> {
     })
 }
 
-/// A line of the table.
+/// Prints a line of the table.
 fn print_row<R: Print>(rt: &R, mode: &Mode, counts: &Counts) -> Result<()> {
     let (name, syncs) = (mode.name, mode.syncs());
     let (commits, failed, refused) = (counts.commits, counts.failed, counts.refused);
@@ -68,7 +69,7 @@ fn print_row<R: Print>(rt: &R, mode: &Mode, counts: &Counts) -> Result<()> {
     Ok(())
 }
 
-/// One mode over all seeds. A line tells of each seed that found a wrong row.
+/// Runs one mode over all seeds. Prints a line for each seed that found a wrong row.
 fn run<R: Print>(rt: &R, alloc: Global, mode: &Mode, seeds: Seeds) -> Result<Counts> {
     let mut counts = Counts::default();
     for seed in seeds.first..seeds.last {
@@ -82,7 +83,7 @@ fn run<R: Print>(rt: &R, alloc: Global, mode: &Mode, seeds: Seeds) -> Result<Cou
     Ok(counts)
 }
 
-/// The table. Whether a row was wrong.
+/// Prints the table. Returns whether a row was wrong.
 fn run_all<R: Print>(rt: &R, alloc: Global, seeds: Seeds) -> Result<bool> {
     let mut is_wrong = false;
     println!(rt; "mode      syncs  commits   failed  refused  crashes    doubt     kept    wrong")?;

@@ -1,4 +1,4 @@
-//! Which calls of the disks fail, and what a crash keeps.
+//! The faults of a mode, and what a crash keeps.
 ghost use Rattle.std.specs.Prelude.{◌<◌, Some};
 ghost use Rattle.blob_faulty.specs.Certain.{IsNever, partial_resizes};
 
@@ -7,16 +7,16 @@ use blob_faulty::{Config, PartialWriteMode, ResizeConfig, WriteConfig};
 use rand_core::Rng;
 use rand_xoshiro::Xoshiro256PlusPlus;
 
-/// Which calls may fail, besides by a crash.
+/// The calls that may fail in addition to crashes.
 #[derive(Clone, Copy, Debug, PartialEq, Eq)]
 pub enum Faults {
     /// None.
     Nothing,
-    /// Writes, of which a failed one keeps a front.
+    /// Writes. A failed one keeps a prefix.
     Prefixes,
-    /// Writes, of which a failed one keeps any bytes.
+    /// Writes. A failed one keeps any bytes.
     Subsets,
-    /// Writes, of which a failed one keeps whole sectors.
+    /// Writes. A failed one keeps whole sectors.
     Sectors,
     Syncs,
     Reads,
@@ -29,14 +29,15 @@ pub enum Faults {
 pub struct Mode {
     pub name: &'static str,
     pub faults: Faults,
-    /// A commit is one sync and not two: a crash is known to leave each byte of a write old or new.
+    /// A commit needs one sync instead of two, since the disk guarantees that a crash leaves each byte of a write old
+    /// or new.
     pub is_mixing: bool,
-    /// Each file fails from some call on, as a machine that stops, and crashes then.
+    /// Each file fails from some call on, as if the machine stopped, and then crashes.
     pub is_fused: bool,
 }
 
 impl Mode {
-    /// How many syncs a commit is.
+    /// Returns the number of syncs per commit.
     pub fn syncs(&self) -> &'static str {
         if self.is_mixing { "one" } else { "two" }
     }
@@ -153,7 +154,7 @@ pub static MODES: [Mode; 18] = [
     },
 ];
 
-/// A number below this one.
+/// Returns a random number below `bound`.
 pub fn below(rng: &mut Xoshiro256PlusPlus, bound: u64) -> u64
     requires { 0 < bound }
     ensures { result < bound }
@@ -182,7 +183,7 @@ fn torn(rng: &mut Xoshiro256PlusPlus, faults: Faults) -> PartialWriteMode {
     }
 }
 
-/// No resize fails in part, as a disk of the kit's databases wants it.
+/// No resize fails in part: a disk of the toolchain's database must guarantee that.
 fn resizes(fails: bool) -> ResizeConfig
     ensures { IsNever (partial_resizes (Some result)) }
 {
@@ -192,7 +193,7 @@ fn resizes(fails: bool) -> ResizeConfig
     }
 }
 
-/// What of the two is written, unless it is synced: nothing, all of it, or each part by chance.
+/// Returns the rate at which unsynced bytes survive a crash: 0, 1 or 1/2.
 fn retention(rng: &mut Xoshiro256PlusPlus) -> Probability {
     match below(rng, 4) {
         0 => Probability::ZERO,
@@ -221,7 +222,7 @@ impl Faults {
         matches!(self, Faults::Reads | Faults::Anything)
     }
 
-    /// The rates of a disk from a crash to the next.
+    /// Returns the rates of a disk from one crash to the next.
     pub fn config(self, rng: &mut Xoshiro256PlusPlus) -> Config
         ensures { IsNever (partial_resizes result.resize_rate) }
     {

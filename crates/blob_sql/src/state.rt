@@ -1,4 +1,4 @@
-//! The rows that have to be in the table, and how they are read.
+//! The rows that the table must have, and reading them.
 use crate::counts::{Counts, add};
 use sqlite::{Alter, Connection, Error};
 use std::alloc::Global;
@@ -11,10 +11,10 @@ pub struct Entry {
     pub padding: i64,
 }
 
-/// The rows, none where there is no table.
+/// The rows, or `None` without a table.
 pub type Rows = Option<Vec<Entry>>;
 
-/// The rows that were committed, and those that a transaction which failed may have left in their place.
+/// The committed rows, and those that a failed transaction may have left instead.
 #[derive(Debug, Drop)]
 pub struct State {
     pub rows: Rows,
@@ -31,7 +31,7 @@ impl State {
         }
     }
 
-    /// Whether these may be the rows. From now on they have to be.
+    /// Returns whether these rows are possible. If so, they are the committed rows from now on.
     pub fn takes(&mut self, found: Rows, counts: &mut Counts) -> bool {
         let doubt = self.doubt.take();
         if doubt.is_some() {
@@ -72,7 +72,7 @@ fn rows<S: Alter>(alloc: Global, conn: &mut Connection<S>) -> Result<Vec<Entry>,
     Ok(rows)
 }
 
-/// What is in the database.
+/// Reads all rows of the database.
 pub fn read<S: Alter>(alloc: Global, conn: &mut Connection<S>) -> Result<Rows, Error> {
     if !has_table(conn)? {
         return Ok(None);

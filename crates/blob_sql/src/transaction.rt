@@ -1,4 +1,4 @@
-//! Transactions of a few statements by chance.
+//! Random transactions of a few statements.
 use crate::counts::{Counts, add};
 use crate::mode::below;
 use crate::state::{Entry, State};
@@ -7,7 +7,7 @@ use rand_xoshiro::Xoshiro256PlusPlus;
 use sqlite::{Alter, Connection};
 use std::alloc::Global;
 
-/// The text of a transaction, and the rows after it.
+/// The statements of a transaction, and the rows after it.
 #[derive(Drop)]
 struct Transaction {
     sql: String,
@@ -84,7 +84,7 @@ fn drawn(
     Ok(transaction)
 }
 
-/// Whether these statements are answered; else the rows after them are in doubt.
+/// Runs a transaction and returns whether it succeeds. If it fails, the rows after it are in doubt.
 fn commits<S: Alter>(
     conn: &mut Connection<S>,
     sql: &str,
@@ -104,7 +104,7 @@ fn commits<S: Alter>(
 
 const TABLE: &str = "CREATE TABLE t (id INTEGER PRIMARY KEY, value INTEGER NOT NULL, padding TEXT)";
 
-/// A few transactions, and before them the table where there is none, until one fails.
+/// Runs a few transactions until one fails. Creates the table first if it doesn't exist.
 pub fn fill<S: Alter>(
     alloc: Global,
     conn: &mut Connection<S>,

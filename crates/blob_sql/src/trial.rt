@@ -1,4 +1,4 @@
-//! One seed: a database is filled, its files crash, it is opened again, and its rows are compared.
+//! One seed: fills a database, crashes its files, opens it again, and compares its rows.
 ghost use Rattle.blob_faulty.specs.Certain.{IsNever, partial_resizes};
 
 use crate::counts::{Counts, add};
@@ -14,10 +14,10 @@ use sqlite::{Connection, FileStore, Files, Options};
 use sqlite_disk::Disk;
 use std::alloc::Global;
 
-/// How often the machine stops, before a last time without faults.
+/// The number of crashes before the last open, which has no faults.
 const ROUNDS: u64 = 3;
 
-/// Small numbers, so that transactions spill and the log is copied into the file.
+/// Small limits, so that transactions spill and the log is copied into the file.
 fn options(rng: &mut Xoshiro256PlusPlus) -> Options {
     let mut options = Options::new(rng.next_u64());
     options.cache_pages = 1 + below(rng, 8) as usize;
@@ -26,7 +26,8 @@ fn options(rng: &mut Xoshiro256PlusPlus) -> Options {
     options
 }
 
-/// An open, or the files as they were left. Files of which a sync has failed can't be opened before a crash.
+/// Opens the database, or returns the files as they were left. After a failed sync, files can't be opened before a
+/// crash.
 fn open<D: Disk + Drop>(
     alloc: Global,
     files: Files<D>,
@@ -46,7 +47,7 @@ fn close<D: Disk + Drop>(conn: Connection<FileStore<D>>) -> Files<D> {
     conn.into_store().close()
 }
 
-/// Both files lose what wasn't durable.
+/// Crashes both files.
 fn crash<D: Crashing>(files: &mut Files<D>, log: Config, db: Config)
     requires log { IsNever (partial_resizes log.resize_rate) }
     requires db { IsNever (partial_resizes db.resize_rate) }
@@ -55,7 +56,7 @@ fn crash<D: Crashing>(files: &mut Files<D>, log: Config, db: Config)
     files.db.crash_to(db);
 }
 
-/// An open that may be refused once: behind another crash nothing fails.
+/// Opens the database. If that fails, crashes the files and opens it again without faults.
 fn open_again<D: Crashing + Drop>(
     alloc: Global,
     files: Files<D>,
@@ -73,7 +74,8 @@ fn open_again<D: Crashing + Drop>(
     }
 }
 
-/// Whether the rows are those that were committed, and then some transactions. Where a read fails nothing is known.
+/// Returns whether the rows are the committed ones, and then runs some transactions. If a read fails, the rows are
+/// unknown, and the result is true.
 fn go_on<D: Disk + Drop>(
     alloc: Global,
     conn: &mut Connection<FileStore<D>>,
@@ -103,7 +105,7 @@ fn unopened(alloc: Global) -> Result<Option<String>> {
     Ok(Some(String::from_str(alloc, "the database can't be opened")?))
 }
 
-/// What was wrong, if anything was.
+/// Runs a seed with crashes. Returns what was wrong, if anything.
 fn rounds<D: Crashing + Drop>(
     alloc: Global,
     mut files: Files<D>,
@@ -129,7 +131,7 @@ fn rounds<D: Crashing + Drop>(
     ends(alloc, files, rng, &mut state, counts)
 }
 
-/// The rows once more, where nothing fails.
+/// Compares the rows once more, without faults.
 fn ends<D: Disk + Drop>(
     alloc: Global,
     files: Files<D>,
@@ -149,7 +151,7 @@ fn ends<D: Disk + Drop>(
     Ok(None)
 }
 
-/// The files behind a first open and its transactions.
+/// Returns the files after a first open and its transactions.
 fn filled<D: Disk + Drop>(
     alloc: Global,
     files: Files<D>,
@@ -169,7 +171,7 @@ fn filled<D: Disk + Drop>(
     }
 }
 
-/// A run of files that fail from some call on, over a crash. What was wrong, if anything was.
+/// Runs a seed of files that fail from some call on, over one crash. Returns what was wrong, if anything.
 fn fused<D: Crashing + Drop>(
     alloc: Global,
     files: Files<D>,
@@ -183,7 +185,7 @@ fn fused<D: Crashing + Drop>(
     ends(alloc, files, rng, &mut state, counts)
 }
 
-/// What was wrong, if anything was.
+/// Runs a seed. Returns what was wrong, if anything.
 pub fn run(
     alloc: Global,
     seed: u64,

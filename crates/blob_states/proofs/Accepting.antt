@@ -1,4 +1,4 @@
--- What an open accepted is accepted again: its header stands, as that of an incarnation or as the bytes of a raw file.
+-- A version that an open accepted is accepted again: its header stays, in an incarnation or in the bytes of a raw file.
 use Rattle.std.proofs.Common.{◌≡◌, ℕ, ◌^◌, ◌<◌, Bool, true, false, ◌&&◌, cond, if◌then◌else◌, List, [], ◌∷◌, ◌++◌, Option, Some, None, refl, sym, ap, ◌∙◌, subst}
 use Rattle.std.specs.List.{AllZip}
 use Rattle.std.specs.Str.{bytes_eq}
@@ -28,13 +28,13 @@ use Rattle.blob_states.proofs.Stale.{asked_directory, admitted_directory}
 
 -- Files of a version.
 
--- an incarnation of the version, or a raw file that begins with a whole header of it
+-- an incarnation of this version, or a raw file with a whole header of it
 abbrev pub IsOf : Option File → ℕ → Type 0
 IsOf None version = ⊥
 IsOf (Some (Raw bytes)) version = (layout : Layout) × (data_bytes : List ℕ) × (bytes ≡ region layout version ++ data_bytes)
 IsOf (Some (Incarnation number layout found_at)) version = found_at ≡ version
 
--- what begins from such a file is of its version
+-- an incarnation that is created from such a file has this version
 begins_of : (p n : List ℕ) (file : Option File) (first last : ℕ) (layout : Layout) (begun : ℕ) (live : List ℕ) (version : ℕ) → version < 2 ^ 16 → IsOf file version
     → opening p n file first last ≡ Begins layout begun live → begun ≡ version
 begins_of p n None first last layout begun live version fits is e = absurd is
@@ -49,7 +49,7 @@ begins_of p n (Some (Incarnation k l v)) first last layout begun live version fi
   by_range true e' = cc
   by_range false e' = cc
 
--- an open of any name leaves it
+-- an open of any name keeps it
 of_opened : (f : Files) (p n q m : List ℕ) (first last version : ℕ) → version < 2 ^ 16 → IsOf (f.directory.file q m) version → IsOf ((after_open f p n first last).directory.file q m) version
 of_opened f p n q m first last version fits is = by_found (opening p n (f.directory.file p n) first last) refl where
   old : Option File
@@ -69,7 +69,7 @@ of_opened f p n q m first last version fits is = by_found (opening p n (f.direct
       (λ _. is))
       (λ _. is)
 
--- a rebuilt store has it as a raw file
+-- in a rebuilt store it is a raw file
 pub of_again : (bytes : Place → List ℕ) (p n : List ℕ) (file : Option File) (version : ℕ) → IsOf file version → (layout : Layout) × (data_bytes : List ℕ) × (raw_again bytes p n file ≡ Some (Raw (region layout version ++ data_bytes)))
 of_again bytes p n None version is = absurd is
 of_again bytes p n (Some (Raw x)) version (layout, data_bytes, same) = (layout, data_bytes, ap (λ y. Some (Raw y)) same)

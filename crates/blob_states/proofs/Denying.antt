@@ -1,4 +1,4 @@
--- What a wrapper over memory may answer is what is expected of the state, or that there is no memory.
+-- Each result that a wrapper over memory may return is the expected one of the state, or `Memory`.
 use Rattle.std.proofs.Common.{◌≡◌, ℕ, max, ◌+◌, ◌≤◌, ◌<◌, suc, inl, inr, Bool, true, false, not, ◌&&◌, List, [], ◌∷◌, length, Option, Some, None, refl, sym, ap, ◌∙◌, subst, if◌then◌else◌, arith, ⊎_elim}
 use Rattle.std.specs.Prelude.{MatchBool}
 use Rattle.std.proofs.lemmas.Bool.{false≢true}
@@ -16,11 +16,11 @@ use Rattle.blob_memory.specs.Answers.{OrMemory, AllowsWrite, write_refusal, end_
 use Rattle.blob_states.specs.Steps.{write_denial_by, or_injected}
 use Rattle.blob_states.specs.Denials.{refused_if, runs_denial}
 
--- what may be answered, where the answer may also be that there is no memory
+-- the possible results are the expected one and `Memory`
 abbrev Expects : Allowed → Option Refusal → Type 0
 Expects inner expected = (answer : Option Refusal) → inner answer → OrMemory expected answer
 
--- a draw comes first
+-- the draw is checked first
 pub drawn_denial : (b : Bool) (inner : Allowed) (expected : Option Refusal) → Expects inner expected → Expects (injected_or b inner) (option_or (refused_if Injected b) expected)
 drawn_denial true inner expected i answer a = inr a
 drawn_denial false inner expected i answer a = i answer a
@@ -41,7 +41,7 @@ pub not_memory : (expected : Option Refusal) → OrMemory expected None → None
 not_memory expected (inl m) = cc
 not_memory expected (inr e) = e
 
--- a call that fails, unless the store refuses
+-- a call that fails, unless the store has an error
 pub injected_denial : (inner : Allowed) (expected : Option Refusal) → Expects inner expected → Expects (injected_for inner) (or_injected expected)
 injected_denial inner expected i answer (inl (e, a)) = inr (e ∙ ap or_injected (not_memory expected (i None a)))
 injected_denial inner expected i None (inr (some, a)) = absurd (false≢true some)
@@ -74,7 +74,7 @@ module _ (d : Directory) (o : Place) (room : Bool → ℕ) where
       never : Some OffsetOverflow ≡ None → ⊥
       never x = cc
 
-  -- the first of some runs that are all counted: it has bytes, so that only a stale handle is refused
+  -- the first of some runs with ends that don't overflow: it isn't empty, so only a stale handle has an error
   first_denied : (offset : ℕ) (bytes : List ℕ) → 0 < length bytes → is_uncounted (offset + o.start + length bytes) ≡ false → write_refusal d o offset bytes true ≡ sync_refusal d o
   first_denied offset [] some within = absurd (omega arith)
   first_denied offset (b ∷ bytes) some within = ap (λ (t : Bool). if t then Some OffsetOverflow else if true && not (is_current d o) then Some (missing o) else None) within ∙ by_test (is_current d o) where
@@ -82,7 +82,7 @@ module _ (d : Directory) (o : Place) (room : Bool → ℕ) where
     by_test true = refl
     by_test false = refl
 
-  -- runs end one behind the other
+  -- each run ends after the one before
   ends_rise : (from before : ℕ) (rs : List Run) → before ≤ from → AreRunsApart from rs → before ≤ last_end before rs
   ends_rise from before [] below apart = omega arith
   ends_rise from before (r ∷ rs) below apart =
@@ -126,7 +126,7 @@ module _ (d : Directory) (o : Place) (room : Bool → ℕ) where
   fate_denied (Failed chosen) retained next sync offset bytes apart answer a = runs_denied offset (runs offset bytes chosen) (apart chosen) answer a
   fate_denied fate retained next sync offset bytes apart answer a = absurd a
 
--- a write that does nothing, and one whose end can't be counted, come before all
+-- a write that does nothing, or with an end that overflows, is checked first
 module _ (d : Directory) (o : Place) (retained : Bool) (next : ℕ) (sync : Bool) (offset : ℕ) (bytes : List ℕ) (drawn : WriteFate × Stream) (left : Stream) where
   pub counted_denial : (nothing uncounted : Bool) (inner : Allowed) → Expects inner (write_denial_by drawn.0 d o retained next sync offset bytes)
       → Expects (λ answer. MatchBool nothing (answer ≡ None) (MatchBool uncounted (answer ≡ Some OffsetOverflow) (or_memory inner answer)))

@@ -1,4 +1,4 @@
--- What a SYNC write that is answered Ok did.
+-- The effect of a SYNC write that returned Ok.
 use Rattle.std.proofs.Common.{◌≡◌, ℕ, ◌+◌, ◌<◌, max, List, [], ◌∷◌, Bool, true, false, Option, Some, None, refl, sym, ap, ◌∙◌, length, arith, ⊎_elim, if◌then◌else◌}
 use Rattle.std.specs.Prelude.{is_some, option_map}
 use Rattle.blob_faults.specs.declared.config.Config.{Config}
@@ -28,7 +28,7 @@ use Rattle.blob_calls.specs.Told as told
 use Rattle.blob_calls.specs.Told.{refused_by}
 use Rattle.blob_states.proofs.ToldRefusals.{denied}
 
--- a fate that was drawn isn't that nothing is done
+-- a drawn outcome isn't that of a write that does nothing
 abbrev is_nothing : WriteFate → Bool
 is_nothing Idle = true
 is_nothing fate = false
@@ -50,7 +50,7 @@ drawn_some config sync offset len stream = go d.0 sync (draw config.sync_rate d.
     go false true false = refl
     go false false unsynced = refl
 
--- why its fate is no other
+-- why it has no other outcome
 done_fate : (fate : WriteFate) (d : Directory) (o : Place) (retained : Bool) (next : ℕ) (offset : ℕ) (bytes : List ℕ) → is_nothing fate ≡ false → write_denial_by fate d o retained next true offset bytes ≡ None → fate ≡ Done
 done_fate Idle d o retained next offset bytes some free = absurd (false≢true (sym some))
 done_fate Uncounted d o retained next offset bytes some free = cc
@@ -69,7 +69,7 @@ done_fate (Failed chosen) d o retained next offset bytes some free = absurd (nev
   never [] e = cc
   never (r ∷ rs) e = failed_so _ e
 
--- what it did of all that a write could come to
+-- the outcome of a write that is applied
 abbrev pub IsDone : State → ℕ → List ℕ → Type 0
 IsDone v offset bytes = (write_fate v.config true offset bytes v.stream).0 ≡ Done
 
@@ -93,7 +93,7 @@ module _ (v : State) (h : Held) (offset : ℕ) (bytes : List ℕ) (done : IsDone
   pub size_whole : size_of_write v.config v.stream true h.size offset bytes None ≡ max h.size (offset + length bytes)
   size_whole = ap (λ (f : WriteFate). (write_changes f (retention v.config.write_rate) true offset bytes None).size h.size) done
 
--- what was done wasn't denied
+-- a write that returned Ok has no error
 pub write_free : (v : State) (h : Held) (offset : ℕ) (bytes : List ℕ) (answered : Reply) (left : Stream) → IsAnswer true (through v (Some h) (Write offset bytes true)) answered left → refused_by answered ≡ None → write_denial v h offset bytes true ≡ None
 write_free v h offset bytes answered left answers done = ⊎_elim
     (λ memory. absurd (none-some Memory (sym done ∙ memory.1)))

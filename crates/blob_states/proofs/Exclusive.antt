@@ -1,4 +1,4 @@
--- Handles of a laboratory whose opens are all exclusive: a current incarnation has one handle, whatever is called.
+-- Handles of a laboratory with exclusive opens only: after any calls, a current incarnation has one handle.
 use Rattle.std.proofs.Common.{◌≡◌, ℕ, List, [], ◌∷◌, true, false, Option, Some, None, option_map, refl, sym, ap, ◌∙◌, subst, ⊎_elim, ◌==◌}
 use Rattle.std.specs.Prelude.{◌<◌, is_some, IfSome}
 use Rattle.std.proofs.lemmas.Bool.{and_from, false≢true, eq-eqb}
@@ -38,7 +38,7 @@ Exclusive v = AreExclusive v.files.directory v.names v.handles
 
 -- What follows.
 
--- two handles of one current incarnation have its name open by one registration
+-- two handles on the same current incarnation have the same registration
 pub sole : (v : State) → Exclusive v → Sole v
 sole v x i j h k here there now same =
     let place : h.place ≡ k.place = same_place_exact h.place k.place same in
@@ -73,7 +73,7 @@ not_open : (o : Option ℕ) (r : Refusal) → refused_if r (is_some o) ≡ None 
 not_open None r none = refl
 not_open (Some k) r none = cc
 
--- an open is accepted where the name isn't open
+-- an open is accepted only if the name isn't open
 pub open_free : (v : State) (p n : List ℕ) (versions : AcceptedVersions) (answered : Reply) (left : Stream) → Answers v (Open p n (Some versions)) answered left → refused_by answered ≡ None → v.names.registered p n ≡ None
 open_free v p n versions answered left answers done =
     ⊎_elim
@@ -85,7 +85,7 @@ open_free v p n versions answered left answers done =
     not_open (v.names.registered p n) _ last.1)
     (exclusive_told v p n versions answered left answers)
 
--- before it no handle of the name is current
+-- before it, no handle on the name is current
 pub fresh : (v : State) (p n : List ℕ) (versions : AcceptedVersions) (answered : Reply) (left : Stream) → Exclusive v → Answers v (Open p n (Some versions)) answered left → refused_by answered ≡ None
     → (i : ℕ) (h : Held) → kept_at v.handles i ≡ Some h → is_current v.files.directory h.place ≡ true → h.place.partition ≡ p → h.place.name ≡ n → ⊥
 fresh v p n versions answered left x answers done i h here now partition name =
@@ -93,7 +93,7 @@ fresh v p n versions answered left x answers done i h here now partition name =
     none-some is_open.by.number
     (sym (open_free v p n versions answered left answers done) ∙ sym (ap (λ q. v.names.registered q n) partition) ∙ sym (ap (v.names.registered h.place.partition) name) ∙ is_open.number)
 
--- a name's current incarnation is of the name, and current
+-- the incarnation of a name has the name, and is current
 pub record IsOf (d : Directory) (p n : List ℕ) (o : Place) : Type 0 where
   pub partition : o.partition ≡ p
   pub name : o.name ≡ n
@@ -154,7 +154,7 @@ exclusive_crashed : (v : State) (refusal : Option Refusal) → Exclusive v → E
 exclusive_crashed v None x = x
 exclusive_crashed v (Some refusal) x = x
 
--- no incarnation is current in a store that is rebuilt
+-- no incarnation is current in a rebuilt store
 exclusive_rebuilt : (v : State) (left : Stream) → Exclusive v → Exclusive (rebuilt v)
 exclusive_rebuilt v left x =
     let y = aged v.files.directory (reopened v.files).directory v.names v.handles (ages v Reopen None left) x in
@@ -196,7 +196,7 @@ exclusive_run (call ∷ calls) (r ∷ replies) v w x strict (left, answers, run)
 pub reached_exclusive : (v : State) → ReachedExclusively v → Exclusive v
 reached_exclusive v (images, words, config, calls, replies, strict, run) = exclusive_run calls replies (start images words config) v (exclusive_start images words config) strict run
 
--- What is promised of them.
+-- The laws.
 
 pub handles_sole : (v : State) → ReachedExclusively v → Sole v
 handles_sole v reached = sole v (reached_exclusive v reached)

@@ -1,4 +1,4 @@
--- What calls leave of handles that are exclusive: of the directory, the open names and the handles alone.
+-- Exclusive handles after each call, in terms of the directory, the open names and the handles.
 use Rattle.std.proofs.Common.{◌≡◌, ℕ, ◌+◌, ◌<◌, ◌≤◌, ◌++◌, List, [], ◌∷◌, set, length, true, cond, Option, Some, None, IfSome, refl, sym, ap, ◌∙◌, subst, ⊎_elim, if◌then◌else◌, ne_eqb, arith}
 use Rattle.std.specs.Cmp.Lexicographic.{bytes_decides}
 use Rattle.std.specs.Str.{bytes_eq}
@@ -18,20 +18,20 @@ use Rattle.blob_states.proofs.GivenHandles.{given_at}
 use Rattle.blob_states.proofs.Slots.{kept_set, kept_emptied, kept_push}
 use Rattle.blob_states.proofs.Stale.{Ages, AreCurrentGiven}
 
--- handles that are exclusive: the name of each that is current is open by its own registration, and registrations differ
+-- exclusive handles: the name of each current one is open by its own registration, and registrations differ
 pub record AreExclusive (d : Directory) (s : OpenNames) (handles : List (Option Held)) : Type 0 where
   pub opens : (i : ℕ) (h : Held) → kept_at handles i ≡ Some h → is_current d h.place ≡ true → IsOpenBy s h.place h.registration
   pub below : (i : ℕ) (h : Held) (r : Registration) → kept_at handles i ≡ Some h → h.registration ≡ Some r → r.number < s.next
   pub apart : (i j : ℕ) (h k : Held) (r t : Registration) → kept_at handles i ≡ Some h → kept_at handles j ≡ Some k → h.registration ≡ Some r → k.registration ≡ Some t → r.number ≡ t.number → i ≡ j
-  -- incarnations that handles are on, and current ones, aren't still to come
+  -- the incarnations of handles, and the current ones, have numbers below the next one
   pub given : AreGiven d.next handles
   pub current : AreCurrentGiven d
 
--- what is current was so before
+-- an incarnation with an earlier number that is current was current before
 pub current_before : (d e : Directory) → Ages d e → (o : Place) → o.number < d.next → is_current e o ≡ true → is_current d o ≡ true
 current_before d e ages o below now = true_from_ne_false (is_current d o) (λ old. false≢true (sym (ages.stale o below old) ∙ now))
 
--- The directory grows older.
+-- A later directory.
 
 aged_given : (d e : Directory) → d.next ≤ e.next → (handles : List (Option Held)) → AreGiven d.next handles → AreGiven e.next handles
 aged_given d e more handles given = All-weaker (λ slot. IfSome slot (λ h. h.place.number < d.next)) (λ slot. IfSome slot (λ h. h.place.number < e.next)) weaker handles given
@@ -51,19 +51,19 @@ aged d e s handles ages x = record {
 
 -- Names.
 
--- one name's value made new, or another's
+-- one name's new value, or another's old one
 pub with_at_is : {X : Type 0} (f : List ℕ → List ℕ → X) (p n q m : List ℕ) (value x : X) → (bytes_eq p q ≡ true → bytes_eq n m ≡ true → value ≡ x) → f q m ≡ x → with_name f p n value q m ≡ x
 with_at_is f p n q m value x new old = cond_both (bytes_eq p q) (cond (bytes_eq n m) value (f q m)) (f q m) (λ y. y ≡ x)
     (λ partition. cond_both (bytes_eq n m) value (f q m) (λ y. y ≡ x) (new partition) (λ _. old))
     (λ _. old)
 
--- a name where the others' values are
+-- the values of two equal names
 at_name : {X : Type 0} (f : List ℕ → List ℕ → X) (p n q m : List ℕ) → bytes_eq p q ≡ true → bytes_eq n m ≡ true → f p n ≡ f q m
 at_name f p n q m partition name = ap (λ r. f r n) ((bytes_decides p q).0 partition) ∙ ap (f q) ((bytes_decides n m).0 name)
 
--- A handle that is closed.
+-- Closing a handle.
 
--- another open of a name stays
+-- another name stays open
 closed_open : (s : OpenNames) (r : Registration) (o : Place) (registration : Option Registration) (is_open : IsOpenBy s o registration) → (is_open.by.number ≡ r.number → ⊥) → IsOpenBy (closed s r) o registration
 closed_open s r o registration is_open other = record {
   by = is_open.by;
@@ -77,7 +77,7 @@ closed_open s r o registration is_open other = record {
       is_open.number;
 }
 
--- a slot that is emptied, where the other handles' names stay open
+-- a slot is emptied, and the names of the other handles stay open
 emptied : (d : Directory) (s t : OpenNames) (handles : List (Option Held)) (number : ℕ) → s.next ≡ t.next
     → ((i : ℕ) (h : Held) → (number ≡ i → ⊥) → kept_at handles i ≡ Some h → IsOpenBy s h.place h.registration → IsOpenBy t h.place h.registration)
     → AreExclusive d s handles → AreExclusive d t (set handles number None)
@@ -101,7 +101,7 @@ closed_one d s handles number (Some h) here x = by_registration h.registration r
         (λ i k other was is_open. closed_open s r k.place k.registration is_open (λ same. other (x.apart number i h k r is_open.by here was by is_open.held (sym same))))
         x
 
--- A handle that is put back on its incarnation, with its registration.
+-- A handle that is set again, with the same incarnation and registration.
 
 record IsAgain (handles : List (Option Held)) (i : ℕ) (k : Held) : Type 0 where
   pub was : Held
@@ -144,7 +144,7 @@ put_back d s handles number h g here place registration x =
 
 -- A removal.
 
--- a name that has a current incarnation after it isn't ended
+-- a name with a current incarnation afterwards isn't ended
 ended_open : (d : Directory) (s : OpenNames) (p : List ℕ) (n : Option (List ℕ)) (o : Place) (registration : Option Registration) → is_current (removed d p n) o ≡ true → IsOpenBy s o registration → IsOpenBy (ended s p n) o registration
 ended_open d s p n o registration now is_open = record { by = is_open.by; held = is_open.held; partition = is_open.partition; name = is_open.name; number = number n now }
   where
@@ -170,7 +170,7 @@ ended_names d s handles p n ages x =
       current = y.current;
     }
 
--- A handle that an accepted open adds.
+-- The handle of an accepted open.
 
 -- other names stay open
 opened_open : (s : OpenNames) (p n : List ℕ) (o : Place) (registration : Option Registration) → s.registered p n ≡ None → IsOpenBy s o registration → IsOpenBy (opened s p n) o registration
@@ -184,7 +184,7 @@ opened_open s p n o registration free is_open = record {
       is_open.number;
 }
 
--- the new one's name is open by it
+-- its own name is open by it
 opened_here : (s : OpenNames) (p n : List ℕ) (o : Place) (registration : Option Registration) → o.partition ≡ p → o.name ≡ n → registration ≡ Some (record { partition = p; name = n; number = s.next }) → IsOpenBy (opened s p n) o registration
 opened_here s p n o registration partition name held = record {
   by = record { partition = p; name = n; number = s.next };
@@ -197,7 +197,7 @@ opened_here s p n o registration partition name held = record {
       ∙ ap (λ b. cond b (Some s.next) (s.registered p n)) ((bytes_decides n n).1 refl);
 }
 
--- a handle on a name's current incarnation, of the open that is accepted
+-- the handle of an accepted open, on its name's current incarnation
 pub record IsNew (d : Directory) (s : OpenNames) (p n : List ℕ) (h : Held) : Type 0 where
   pub registration : h.registration ≡ Some (record { partition = p; name = n; number = s.next })
   pub partition : h.place.partition ≡ p

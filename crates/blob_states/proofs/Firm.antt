@@ -1,4 +1,4 @@
--- A byte that is fixed: in its incarnation, whatever a crash keeps, and in the live bytes of each handle that is on it.
+-- A fixed byte: in its incarnation, after any crash, and in the live bytes of each handle on it.
 use Rattle.std.proofs.Common.{◌≡◌, ℕ, ◌<◌, ◌++◌, ◌&&◌, ◌==◌, List, [], ◌∷◌, true, Option, Some, None, refl, sym, ap, ◌∙◌, subst, set, length, ⊎_elim}
 use Rattle.std.specs.Prelude.{option_map}
 use Rattle.std.specs.Cmp.Lexicographic.{bytes_decides}
@@ -18,28 +18,28 @@ use Rattle.blob_opens.specs.OpenNames.{Registration}
 use Rattle.blob_states.specs.States.{State, Held, held_on}
 use Rattle.blob_states.proofs.Slots.{kept_set, kept_push}
 
--- a handle's live bytes have it, and its tracked size counts it
+-- a handle's live bytes have it, and its tracked size includes it
 pub record IsLive (b : Byte) (h : Held) : Type 0 where
   pub live : HasByte b.position b.value h.live
   pub size : b.position < h.size
 
--- each handle on an incarnation
+-- each handle on this incarnation
 abbrev pub AreLive : List (Option Held) → Place → Byte → Type 0
 AreLive handles o b = (i : ℕ) (h : Held) → kept_at handles i ≡ Some h → same_place h.place o ≡ true → IsLive b h
 
--- the incarnation of a byte's blob with a number and a layout
+-- the incarnation of a byte's blob with this number and layout
 abbrev pub at : Byte → ℕ → Layout → Place
 at b number layout = place_of b.partition b.name number layout
 
 pub data IsFirm (f : Files) (handles : List (Option Held)) (b : Byte) : Type 0 where
-  -- of the current incarnation
+  -- in the current incarnation
   Now : (number : ℕ) (layout : Layout) (version : ℕ) → f.directory.file b.partition b.name ≡ Some (Incarnation number layout version)
       → IsFixed b.position b.value f (at b number layout) → AreLive handles (at b number layout) b → IsFirm f handles b
-  -- behind the header of a raw file
+  -- after the header of a raw file
   Behind : (layout : Layout) (version : ℕ) (bytes : List ℕ) → f.directory.file b.partition b.name ≡ Some (Raw (region layout version ++ bytes))
       → HasByte b.position b.value bytes → IsFirm f handles b
 
--- Handles that are on a byte's blob.
+-- Handles on a byte's blob.
 
 -- places with equal parts
 same_parts : (a o : Place) → a.partition ≡ o.partition → a.name ≡ o.name → a.number ≡ o.number → a.start ≡ o.start → same_place a o ≡ true
@@ -52,11 +52,11 @@ self_that : (number : ℕ) (layout : Layout) (version : ℕ) → is_that (Some (
 self_that number layout version = and_from (number == number) (data_start layout == data_start layout) (eq-eqb number number refl) (eq-eqb (data_start layout) (data_start layout) refl)
 
 module _ (d : Directory) (b : Byte) where
-  -- the incarnation that the name has is current
+  -- the incarnation of the name is current
   pub current_at : (number : ℕ) (layout : Layout) (version : ℕ) → d.file b.partition b.name ≡ Some (Incarnation number layout version) → is_current d (at b number layout) ≡ true
   current_at number layout version e = ap (λ (x : Option File). is_that x number (data_start layout)) e ∙ self_that number layout version
 
-  -- a name's parts
+  -- the partition and name of the byte
   pub of_parts : (p n : List ℕ) → is_of p (Some n) b ≡ true → (p ≡ b.partition) × (n ≡ b.name)
   of_parts p n e =
       let t = and_parts (bytes_eq p b.partition) (bytes_eq n b.name) e in
@@ -65,7 +65,7 @@ module _ (d : Directory) (b : Byte) where
   of_self : (p n : List ℕ) → p ≡ b.partition → n ≡ b.name → is_of p (Some n) b ≡ true
   of_self p n e f = and_from (bytes_eq p b.partition) (bytes_eq n b.name) ((bytes_decides p b.partition).1 e) ((bytes_decides n b.name).1 f)
 
-  -- a handle on the blob is on what the name has
+  -- a handle on the blob is on the incarnation of the name
   pub on_file : (h : Held) → is_on d h b ≡ true → is_that (d.file b.partition b.name) h.place.number h.place.start ≡ true
   on_file h on =
       let t = and_parts (is_of h.place.partition (Some h.place.name) b) (is_current d h.place) on in
@@ -87,7 +87,7 @@ module _ (d : Directory) (b : Byte) where
       (of_self h.place.partition h.place.name (ap (λ (o : Place). o.partition) exact) (ap (λ (o : Place). o.name) exact))
       (ap (is_current d) exact ∙ current_at number layout version e)
 
--- What is fixed is there.
+-- A fixed byte has its value.
 
 pub firm_has : (v : State) (b : Byte) → IsFirm v.files v.handles b → Has v b
 firm_has v b (Now number layout version e fixed live) = record {
@@ -101,7 +101,7 @@ firm_has v b (Behind layout version bytes e has) = record {
 
 -- Tables of handles.
 
--- handles with one made new
+-- a table with one slot set
 pub live_set : (handles : List (Option Held)) (number : ℕ) (slot : Option Held) (o : Place) (b : Byte) → ((h : Held) → slot ≡ Some h → same_place h.place o ≡ true → IsLive b h) → AreLive handles o b → AreLive (set handles number slot) o b
 live_set handles number slot o b new old i h here same =
     ⊎_elim
@@ -109,7 +109,7 @@ live_set handles number slot o b new old i h here same =
     (λ (k : (number ≡ i → ⊥) × (kept_at handles i ≡ Some h)). old i h k.1 same)
     (kept_set handles number slot i h here)
 
--- and with one that was just opened
+-- a table with a new handle
 opened_live : (f : Files) (registration : Option Registration) (slot : Option Place) (h : Held) (o : Place) (b : Byte) → HasByte b.position b.value (durable_at f o) → option_map (held_on f registration) slot ≡ Some h → same_place h.place o ≡ true → IsLive b h
 opened_live f registration None h o b has e same = cc
 opened_live f registration (Some a) h o b has e same =
@@ -126,7 +126,7 @@ firm_held f handles p n registration b (Now number layout version e fixed live) 
     (kept_push handles (option_map (held_on f registration) (current f.directory p n)) i h here))
 firm_held f handles p n registration b (Behind layout version bytes e has) = Behind layout version bytes e has
 
--- a handle that is closed
+-- a closed handle
 pub firm_closed : (f : Files) (handles : List (Option Held)) (number : ℕ) (b : Byte) → IsFirm f handles b → IsFirm f (set handles number None) b
 firm_closed f handles k b (Now number layout version e fixed live) = Now number layout version e fixed (live_set handles k None (at b number layout) b (λ h new same. cc) live)
 firm_closed f handles k b (Behind layout version bytes e has) = Behind layout version bytes e has

@@ -1,4 +1,4 @@
--- What leaves a fixed byte of a name: calls through a handle that don't reach it.
+-- Calls through a handle that don't touch a fixed byte keep it fixed.
 use Rattle.std.proofs.Common.{◌≡◌, ℕ, ◌<◌, min, true, false, Option, Some, None, sym, ap, ◌∙◌, subst, set, arith, ⊎_elim}
 use Rattle.std.proofs.lemmas.Bool.{leb-false, and_cases, true≢false}
 use Rattle.blob_model.specs.Directory.{Directory}
@@ -39,7 +39,7 @@ held_live v h Size refusal b out l = l
 held_live v h Sync refusal b out l = l
 held_live v h StartSync refusal b out l = l
 
--- a handle of the incarnation doesn't reach it
+-- a started sync
 fixed_begun : (f : Files) (h : Held) (a : Place) (p v : ℕ) (outcome : Option Refusal) → (same_place h.place a ≡ true → HasByte p v h.live) → IsFixed p v f a → IsFixed p v (begun f h outcome) a
 fixed_begun f h a p v None has fixed = fixed_started f h.place a p v h.live has fixed
 fixed_begun f h a p v (Some refusal) has fixed = fixed

@@ -1,4 +1,4 @@
--- What leaves a fixed byte of a name: steps of the files.
+-- Steps of the files that keep a byte fixed.
 use Rattle.std.proofs.Common.{◌≡◌, ℕ, ◌&&◌, List, Bool, true, false, cond, Option, Some, None, refl, sym, ap, ◌∙◌}
 use Rattle.std.specs.Str.{bytes_eq}
 use Rattle.std.proofs.lemmas.Bool.{and_left, cond-false, false≢true}
@@ -12,7 +12,7 @@ use Rattle.blob_states.specs.States.{Held}
 use Rattle.blob_states.proofs.Firm.{IsFirm, Now, Behind, at}
 use Rattle.blob_states.proofs.Stale.{admitted_directory}
 
--- pending entries retired, and a crash
+-- retired pending entries, and a crash
 
 pub firm_admitted : (f : Files) (handles : List (Option Held)) (p n : List ℕ) (b : Byte) → IsFirm f handles b → IsFirm (admitted f p n) handles b
 firm_admitted f handles p n b (Now number layout version e fixed live) =
@@ -24,7 +24,7 @@ pub firm_crashed : (f : Files) (handles : List (Option Held)) (t : Choices) (b :
 firm_crashed f handles t b (Now number layout version e fixed live) = Now number layout version e (fixed_crashed f (at b number layout) b.position b.value t fixed) live
 firm_crashed f handles t b (Behind layout version bytes e has) = Behind layout version bytes e has
 
--- a store that is rebuilt
+-- a rebuilt store
 
 pub firm_reopened : (f : Files) (handles : List (Option Held)) (b : Byte) → IsFirm f handles b → IsFirm (reopened f) handles b
 firm_reopened f handles b (Now number layout version e fixed live) =

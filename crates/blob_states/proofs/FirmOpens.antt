@@ -1,4 +1,4 @@
--- What leaves a fixed byte of a name: opens.
+-- Opens keep a byte fixed.
 use Rattle.std.proofs.Common.{◌≡◌, ℕ, ◌<◌, ◌≤◌, ◌++◌, ◌&&◌, ◌%◌, ◌/◌, ◌^◌, List, [], ◌∷◌, Bool, true, false, cond, Option, Some, refl, sym, ap, ◌∙◌, subst, arith, ⊎_elim, replicate}
 use Rattle.std.specs.Int.{to_be_bytes, w16, w32}
 use Rattle.std.specs.Str.{bytes_eq}
@@ -40,12 +40,13 @@ unfolding region
 region_low V0 v = prelude_low V0 v
 region_low V1 v = ap (λ (x : List ℕ). x ++ to_be_bytes w32 (crc32c x) ++ replicate 4084 0) (prelude_low V1 v)
 
--- An open leaves a fixed byte. No handle is on an incarnation that is still to come, and nothing is recorded of one.
+-- An open keeps a byte fixed. No handle is on an incarnation that doesn't exist yet, and such an incarnation has no
+-- log.
 
 module _ (f : Files) (handles : List (Option Held)) (b : Byte)
     (given : (i : ℕ) (h : Held) → kept_at handles i ≡ Some h → h.place.number < f.directory.next)
     (fresh : (o : Place) → f.directory.next ≤ o.number → log_of f.log o ≡ []) where
-  -- the name's own incarnation begins
+  -- an incarnation of the name itself is created
   begun : (layout : Layout) (version : ℕ) (bytes : List ℕ) → HasByte b.position b.value bytes → IsFirm (made f b.partition b.name layout version bytes) handles b
   begun layout version bytes has =
       let o = place_made f.directory b.partition b.name layout in
@@ -54,7 +55,7 @@ module _ (f : Files) (handles : List (Option Held)) (b : Byte)
       (fixed_made f b.partition b.name layout version b.position b.value bytes (fresh o (omega arith)) has)
       (λ i h here same. absurd (omega (arith, given i h here, ap (λ (a : Place). a.number) (same_place_exact h.place o same))))
 
-  -- another name's begins
+  -- an incarnation of another name is created
   apart : (p n : List ℕ) (number : ℕ) (layout l : Layout) → is_of p (Some n) b ≡ false → same_place (place_made f.directory p n l) (at b number layout) ≡ false
   apart p n number layout l other = by_names (bytes_eq p b.partition) (bytes_eq n b.name) _ other where
     by_names : (s t u : Bool) → (s && t) ≡ false → (s && (t && u)) ≡ false

@@ -1,4 +1,4 @@
--- A fixed byte of a name stays by every call that doesn't reach it.
+-- Each call that doesn't touch a fixed byte keeps it fixed.
 use Rattle.std.proofs.Common.{◌≡◌, ℕ, ◌<◌, ◌≤◌, List, [], false, Option, Some, None, refl}
 use Rattle.rand_core.specs.Stream.{Stream}
 use Rattle.blob_model.specs.Draws.{chosen_by, drawn}
@@ -16,12 +16,12 @@ use Rattle.blob_states.proofs.FirmAsks.{firm_asked}
 use Rattle.blob_states.proofs.FirmFiles.{firm_admitted, firm_crashed, firm_reopened, firm_removed}
 use Rattle.blob_states.proofs.FirmOpens.{firm_opened}
 
--- no handle is on an incarnation that is still to come, and nothing is recorded of one
+-- no handle is on an incarnation that doesn't exist yet, and such an incarnation has no log
 pub record IsSound (v : State) : Type 0 where
   pub given : (i : ℕ) (h : Held) → kept_at v.handles i ≡ Some h → h.place.number < v.files.directory.next
   pub fresh : (o : Place) → v.files.directory.next ≤ o.number → log_of v.files.log o ≡ []
 
--- of a state's files and handles
+-- the same for the files and handles of a state
 abbrev pub HasFirm : State → Byte → Type 0
 HasFirm v b = IsFirm v.files v.handles b
 

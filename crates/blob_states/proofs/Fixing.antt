@@ -1,4 +1,4 @@
--- What a call fixes is fixed after it, where opens are exclusive.
+-- With exclusive opens only, a byte that a call fixes is fixed afterwards.
 use Rattle.std.specs.Prelude.{slice_index}
 use Rattle.std.proofs.Common.{◌≡◌, ℕ, ◌+◌, ◌-◌, ◌<◌, ◌≤◌, length, List, true, false, Option, Some, None, refl, sym, ap, ◌∙◌, subst, set, arith, ⊎_elim}
 use Rattle.std.proofs.lemmas.Bool.{and_parts, cond-true, false≢true, cases_Bool}
@@ -36,7 +36,7 @@ use Rattle.blob_states.proofs.DoneWrites.{was_done, kept_whole, live_whole, size
 
 -- Through a handle.
 
--- a handle on a byte's blob is on an incarnation
+-- the incarnation of a handle on a byte's blob
 record IsAt (v : State) (h : Held) (b : Byte) : Type 0 where
   pub number : ℕ
   pub layout : Layout
@@ -52,7 +52,7 @@ is_at v h b on = go (v.files.directory.file b.partition b.name) refl (on_file v.
   go (Some (Incarnation number layout version)) e that = record { number = number; layout = layout; version = version; file = e; place = on_place v.files.directory b h number layout version e on }
 
 module _ (v : State) (b : Byte) (number : ℕ) (h : Held) (here : kept_at v.handles number ≡ Some h) (on : is_on v.files.directory h b ≡ true) (alone : Sole v) where
-  -- what is asked fixes it in the handle's incarnation and leaves it in its live bytes; no other handle is on the incarnation
+  -- a call fixes it in the handle's incarnation and live bytes; no other handle is on the incarnation
   through_firm : (ask : Ask) → IsFixed b.position b.value (files_after v h ask None) h.place → IsLive b (held_after v h ask None) → IsFirm (files_after v h ask None) (set v.handles number (Some (held_after v h ask None))) b
   through_firm ask fixed live =
       let a = is_at v h b on in
@@ -94,7 +94,7 @@ module _ (v : State) (b : Byte) (number : ℕ) (h : Held) (here : kept_at v.hand
         size = omega (arith, size_whole v h offset bytes done, submits.1);
       })
 
--- A handle's tracked size counts its live bytes.
+-- A handle's tracked size is the length of its live bytes.
 counted : (v : State) (number : ℕ) (h : Held) (b : Byte) → ReachedExclusively v → kept_at v.handles number ≡ Some h → is_on v.files.directory h b ≡ true → HasByte b.position b.value h.live → b.position < h.size
 counted v number h b (images, words, config, calls, replies, strict, run) here on has =
     let now = (and_parts (is_of h.place.partition (Some h.place.name) b) (is_current v.files.directory h.place) on).1 in
@@ -125,7 +125,7 @@ module _ (v : State) (p n : List ℕ) (versions : AcceptedVersions) (answered : 
   abbrev opened : State
   opened = exclusively_opened v p n versions None
 
-  -- no handle is on the incarnation that it finds or begins
+  -- no handle is on the incarnation that it finds or creates
   none_on : (number : ℕ) (layout : Layout) (version : ℕ) → opened.files.directory.file b.partition b.name ≡ Some (Incarnation number layout version) → AreLive v.handles (at b number layout) b
   none_on number layout version e i k here same =
       let o = at b number layout in
@@ -137,7 +137,7 @@ module _ (v : State) (p n : List ℕ) (versions : AcceptedVersions) (answered : 
       (λ (stale : is_current v.files.directory k.place ≡ false). false≢true (sym ((ages v (Open p n (Some versions)) None left).stale k.place (given_at v.files.directory.next i v.handles k x.given here) stale) ∙ now))
       (cases_Bool (is_current v.files.directory k.place)))
 
-  -- what is found durable is published
+  -- the durable bytes that it finds are published
   published_here : (number : ℕ) (layout : Layout) (version : ℕ) → opened.files.directory.file b.partition b.name ≡ Some (Incarnation number layout version) → HasByte b.position b.value (durable_at opened.files (at b number layout))
       → IsFixed b.position b.value opened.files (at b number layout)
   published_here number layout version e has =

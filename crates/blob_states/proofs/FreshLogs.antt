@@ -1,4 +1,4 @@
--- Nothing is recorded of an incarnation that is still to come.
+-- An incarnation that doesn't exist yet has no log.
 use Rattle.std.proofs.Common.{◌≡◌, ℕ, ◌<◌, ◌≤◌, ◌++◌, List, [], ◌∷◌, false, Option, Some, None, refl, subst, arith}
 use Rattle.std.proofs.lemmas.List.Elements.{All-head, All-tail}
 use Rattle.rand_core.specs.Stream.{Stream}

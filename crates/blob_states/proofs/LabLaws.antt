@@ -1,4 +1,4 @@
--- What follows for the states of a laboratory.
+-- Laws of the states of a laboratory.
 use Rattle.std.proofs.Common.{◌≡◌, ℕ, Bool, true, false, ◌&&◌, cond, List, Option, Some, None, refl, sym}
 use Rattle.std.proofs.lemmas.Bool.{cond-false, false≢true}
 use Rattle.std.specs.Str.{bytes_eq}
@@ -20,7 +20,7 @@ pub removed_log : (v : State) (p : List ℕ) (n : Option (List ℕ)) (refusal : 
 removed_log v p n None rest o stays = log_removed v.files p n o stays
 removed_log v p n (Some refusal) rest o stays = refl
 
--- the file of a name that a removal doesn't remove stays, a raw one too
+-- a removal keeps the files of other names, including raw files
 pub removed_file : (v : State) (p : List ℕ) (n : Option (List ℕ)) (refusal : Option Refusal) (rest : Stream) (q m : List ℕ) → removes (Remove p n) refusal q m ≡ false → (after v (Remove p n) refusal rest).files.directory.file q m ≡ v.files.directory.file q m
 removed_file v p n (Some refusal) rest q m stays = refl
 removed_file v p None None rest q m stays = cond-false (bytes_eq p q) None (v.files.directory.file q m) stays

@@ -1,4 +1,4 @@
--- Over lists of calls: what one of them fixes lasts until another reaches it.
+-- A byte that one of several calls fixes lasts until another touches it.
 use Rattle.std.proofs.Common.{◌≡◌, ℕ, ◌++◌, List, [], ◌∷◌, true, false, Option, Some, None, refl, sym, ap, ◌∙◌, subst, length, ⊎_elim}
 use Rattle.std.specs.Prelude.{option_map}
 use Rattle.std.proofs.lemmas.List.Elements.{All-nil, All-cons, All-head, All-tail}
@@ -54,7 +54,7 @@ reached_next v call answered left reached strict a =
     reached_strictly v (after v (act_of call) (refused_by answered) left) (call ∷ []) (answered ∷ []) reached
     (All-cons (λ c. is_loose (act_of c) ≡ false) call [] strict (All-nil (λ c. is_loose (act_of c) ≡ false))) (left, a, refl)
 
--- as many replies as calls
+-- the same number of replies and calls
 abbrev ArePaired : List Call → List Reply → Type 0
 ArePaired [] [] = Unit {0}
 ArePaired (call ∷ calls) (answered ∷ replies) = ArePaired calls replies
@@ -68,7 +68,7 @@ paired (call ∷ calls) (r ∷ replies) v w (left, a, run) = paired calls replie
 
 -- The handle of an accepted open.
 
--- a name that is opened has an incarnation
+-- an opened name has an incarnation
 record HasCurrent (f : Files) (p n : List ℕ) : Type 0 where
   pub place : Place
   pub is : current f.directory p n ≡ Some place
@@ -93,7 +93,7 @@ kept_last : (handles : List (Option Held)) (slot : Option Held) → kept_at (han
 kept_last [] slot = refl
 kept_last (h ∷ handles) slot = kept_last handles slot
 
--- it reads what is fixed
+-- the handle reads a fixed byte
 firm_current : (f : Files) (handles : List (Option Held)) (p n : List ℕ) (b : Byte) (o : Place) → is_of p (Some n) b ≡ true → current f.directory p n ≡ Some o → IsFirm f handles b → HasByte b.position b.value (durable_at f o)
 firm_current f handles p n b o own is firm = by_firm firm where
   here : current f.directory b.partition b.name ≡ Some o

@@ -1,4 +1,4 @@
--- An open that was accepted, and the open of the same name in a rebuilt store.
+-- An accepted open, and an open of the same name in a rebuilt store.
 use Rattle.std.proofs.Common.{◌≡◌, inl, inr, ℕ, ◌-◌, ◌^◌, ◌<◌, ◌≤◌, ◌==◌, Bool, true, false, not, ◌&&◌, if◌then◌else◌, List, ◌++◌, length, Option, Some, None, is_some, is_none, refl, sym, ap, ◌∙◌, subst, ne_eqb}
 use Rattle.hex.specs.Hex.{encode_lower}
 use Rattle.std.proofs.lemmas.Bool.{false≢true, and_from, le-leb}
@@ -36,13 +36,13 @@ use Rattle.blob_states.proofs.Exclusive.{or_then_none}
 use Rattle.blob_model.proofs.Opened.{with_file_here}
 use Rattle.blob_states.proofs.Stale.{admitted_directory}
 
--- An open that was accepted.
+-- An accepted open.
 
 tells_opened : (denial : Option Refusal) (handle size : ℕ) (version : BlobVersion) (number len found : ℕ) → Tells (reply.Opened handle size version) (unless_denied denial (told.Opened number len found)) → (denial ≡ None) × (version.0 ≡ found)
 tells_opened None handle size version number len found t = (refl, t.2)
 tells_opened (Some r) handle size version number len found t = absurd t
 
--- an incarnation that goes on is of its version
+-- an incarnation that continues keeps its version
 of_continued : (p n : List ℕ) (file : Option File) (first last number : ℕ) (layout : Layout) (version : ℕ) → opening p n file first last ≡ Continues number layout version → IsOf file version
 of_continued p n None first last number layout version e = absurd cc
 of_continued p n (Some (Raw raw)) first last number layout version e = absurd (raw_not_continues p n raw last (resolution raw (every_layout first last)) number layout version e)
@@ -51,7 +51,7 @@ of_continued p n (Some (Incarnation k l v)) first last number layout version e =
   by_range true same = ap opened_version same
   by_range false same = absurd cc
 
--- what an open that isn't refused leaves is of the version that it tells
+-- after an open without an error, the file has the returned version
 of_found : (f : Files) (p n : List ℕ) (first last : ℕ) → opening_refusal (opening p n (f.directory.file p n) first last) f.directory.next ≡ None
     → IsOf ((after_open f p n first last).directory.file p n) (opened_version (opening p n (f.directory.file p n) first last))
 of_found f p n first last free = by_found (opening p n (f.directory.file p n) first last) refl free where
@@ -67,7 +67,7 @@ valid_open p later e = by_name (is_partition_name p) refl e where
   by_name true is e' = (is, e')
   by_name false is e' = absurd (none-some _ (sym e'))
 
--- a name that was opened as of a version
+-- a name that was opened with a version
 pub record IsOpened (d : Directory) (p n : List ℕ) (version : ℕ) : Type 0 where
   pub valid : is_partition_name p ≡ true
   pub file : IsOf (d.file p n) version
@@ -124,7 +124,7 @@ module _ (v : State) (handle size : ℕ) (version : BlobVersion) (left : Stream)
   accepted Crash p n same a = absurd (none-some _ same)
   accepted Reopen p n same a = absurd (none-some _ same)
 
--- An open of a name that isn't open.
+-- Opening a name that isn't open.
 
 in_range : (first last version : ℕ) → first ≤ version → version ≤ last → is_in_range first last version ≡ true
 in_range first last version least greatest = and_from _ _ (le-leb first version least) (le-leb version last greatest)
@@ -148,7 +148,7 @@ module _ (v : State) (p n : List ℕ) (first last version : ℕ) (accepts : Acce
       (undenied (ap (λ b. if not b then Some (PartitionNameInvalid p) else opening_refusal (found_at v p n first last) v.files.directory.next) valid ∙ ap (λ x. opening_refusal x v.files.directory.next) finds ∙ later))
       ∙ ap (λ x. told.Opened (length v.handles) (opened_size v.files p n x) (opened_version x)) finds
 
-  -- of a raw file under a whole header
+  -- a raw file with a whole header
   module _ (layout : Layout) (data_bytes : List ℕ) (raw : v.files.directory.file p n ≡ Some (Raw (region layout version ++ data_bytes))) where
     finds : found_at v p n first last ≡ Begins layout version data_bytes
     finds =
@@ -159,7 +159,7 @@ module _ (v : State) (p n : List ℕ) (first last version : ℕ) (accepts : Acce
     opens_raw : is_partition_name p ≡ true → Told_as (length data_bytes)
     opens_raw valid = told_by (Begins layout version data_bytes) finds valid (ap (λ b. if b then Some GenerationsExhausted else None) (ne_eqb v.files.directory.next (2 ^ 64 - 1) accepts.incarnation))
 
-  -- of a current incarnation
+  -- a current incarnation
   module _ (number : ℕ) (layout : Layout) (held : v.files.directory.file p n ≡ Some (Incarnation number layout version)) where
     continues : found_at v p n first last ≡ Continues number layout version
     continues =
@@ -169,7 +169,7 @@ module _ (v : State) (p n : List ℕ) (first last version : ℕ) (accepts : Acce
     opens_current : is_partition_name p ≡ true → Told_as (length (durable_at v.files (place_of p n number layout)))
     opens_current valid = told_by (Continues number layout version) continues valid refl
 
-  -- of any file of the version
+  -- any file of the version
   pub opens_file : (size : ℕ) → is_partition_name p ≡ true → HasFileOf v.files p n version size → Told_as size
   opens_file size valid (IsCurrent number layout held same) = opens_current number layout held valid ∙ ap (λ k. told.Opened (length v.handles) k version) (sym same)
   opens_file size valid (IsRaw layout data_bytes raw same) = opens_raw layout data_bytes raw valid ∙ ap (λ k. told.Opened (length v.handles) k version) (sym same)
@@ -192,13 +192,13 @@ module _ (v : State) (rest : Stream) (p n : List ℕ) (first last version : ℕ)
   accepts_again : Accepts again again.stream first last version
   accepts_again = record { fits = accepts.fits; least = accepts.least; greatest = accepts.greatest; uninjected = accepts.uninjected; incarnation = accepts.incarnation; registration = accepts.registration }
 
-  -- of any file of the version
+  -- any file of the version
   opens_of : is_partition_name p ≡ true → IsOf (v.files.directory.file p n) version → IsToldOf again p n version (answer again (Open p n (Some (first, last)))).0
   opens_of valid is =
       let (layout, data_bytes, raw) = of_again (durable_at v.files) p n (v.files.directory.file p n) version is in
       record { layout = layout; behind = data_bytes; file = raw; told = opens_raw again p n first last version accepts_again refl layout data_bytes raw valid }
 
-  -- of an incarnation
+  -- an incarnation
   module _ (number : ℕ) (layout : Layout) (held : v.files.directory.file p n ≡ Some (Incarnation number layout version)) where
     raw_held : again.files.directory.file p n ≡ Some (Raw (region layout version ++ durable_at v.files (place_of p n number layout)))
     raw_held = ap (λ (file : Option File). raw_again (durable_at v.files) p n file) held
@@ -209,7 +209,7 @@ module _ (v : State) (rest : Stream) (p n : List ℕ) (first last version : ℕ)
     pub opens_held : is_partition_name p ≡ true → (answer again (Open p n (Some (first, last)))).0 ≡ told.Opened (length v.handles) (length (durable_at v.files (place_of p n number layout))) version
     opens_held valid = opens_raw again p n first last version accepts_again refl layout (durable_at v.files (place_of p n number layout)) raw_held valid
 
--- What was opened and isn't removed.
+-- A name that was opened and not removed.
 
 record StillOf (w : State) (p n : List ℕ) (version : ℕ) : Type 0 where
   pub valid : is_partition_name p ≡ true
@@ -221,7 +221,7 @@ kept_still v w p n version fits kept =
     let first_open : IsOpened (after v (act_of kept.opening) None left).files.directory p n version.0 = accepted v kept.handle kept.size version left (act_of kept.opening) p n kept.opens a in
     record { valid = first_open.valid; file = still_run (after v (act_of kept.opening) None left) kept.calls kept.replies w p n version.0 fits kept.keeps run first_open.file }
 
--- it opens
+-- it opens again
 pub opens_kept : (v w : State) (p n : List ℕ) (version : BlobVersion) (first last : ℕ) → IsKept v p n version w → Accepts w w.stream first last version.0 → w.names.registered p n ≡ None → OpensAs w p n first last version.0
 opens_kept v w p n version first last kept accepts free =
     let still = kept_still v w p n version accepts.fits kept in

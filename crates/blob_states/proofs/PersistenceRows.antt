@@ -1,4 +1,4 @@
--- Fixed bytes by the definitions alone: bytes that stay beside a write that a crash keeps in part, and why a loose open is left out.
+-- Worked examples of fixed bytes: those next to a write that a crash keeps in part, and why opens must be exclusive.
 use Rattle.std.proofs.Common.{◌≡◌, ◌≤◌, ◌<◌, ℕ, List, [], ◌∷◌, true, false, Some, None, refl, arith}
 use Rattle.std.specs.Prelude.{codes}
 use Rattle.rand_core.specs.Steps.{stream_of}
@@ -30,11 +30,11 @@ byte position value = record { partition = partition; name = name; position = po
 abbrev opens : Act
 opens = Open partition name (Some (0, 0))
 
--- what a write may lose a crash keeps byte by byte from its front, with one in two
+-- a crash keeps a prefix of an unsynced write, with rate 1/2 per byte
 abbrev halving : Config
 halving = record cleared { write_rate = Some (record { failure_rate = record { numerator = 0; denominator = 1 }; retention_rate = record { numerator = 1; denominator = 2 }; mode = Prefix }) }
 
--- calls that are done, with what they leave of the stream
+-- a state after a call that returns Ok
 abbrev done : State → Act → State
 done v act = after v act None (answer v act).1
 
@@ -43,17 +43,17 @@ done v act = after v act None (answer v act).1
 abbrev written : State
 written = done (done (start [] (only (0 ∷ 18446744073709551615 ∷ [])) cleared) opens) (Through 0 (Write 0 (97 ∷ 98 ∷ 99 ∷ []) false))
 
--- a sync fixes what is live
+-- a sync fixes the live bytes
 sync_fixes : Fixes written (Through 0 Sync) None (byte 0 97)
 unfolding overlay_by resized
 sync_fixes = (refl, (omega arith, refl))
 
--- and so does a started one, at once, where its outcome is Ok
+-- so does a started sync if its outcome is Ok, before it is finished
 start_fixes : Fixes written (Through 0 StartSync) None (byte 0 97)
 unfolding overlay_by resized
 start_fixes = (refl, refl, (omega arith, refl))
 
--- but for the bytes that aren't there
+-- but no byte past their end
 none_past_the_end : Fixes written (Through 0 Sync) None (byte 3 0) → ⊥
 unfolding overlay_by resized
 none_past_the_end fixes = let low : 3 < 3 = fixes.1.0 in omega arith
@@ -61,7 +61,7 @@ none_past_the_end fixes = let low : 3 < 3 = fixes.1.0 in omega arith
 abbrev synced : State
 synced = done (done written (Through 0 Sync)) (Configure halving)
 
--- a write reaches the bytes of its range, whatever is answered, and a resize those from its length on
+-- a write touches the bytes of its range regardless of its result, and a resize those from its length on
 write_reaches : reaches synced (Through 0 (Write 1 (88 ∷ 89 ∷ []) false)) None (byte 1 98) ≡ true
 write_reaches = refl
 
@@ -77,21 +77,21 @@ resize_above = refl
 failed_write_reaches : reaches synced (Through 0 (Write 1 (88 ∷ 89 ∷ []) false)) (Some Injected) (byte 1 98) ≡ true
 failed_write_reaches = refl
 
--- a removal reaches them all, where it is done
+-- a removal touches all bytes if it returns Ok
 removal_reaches : reaches synced (Remove partition None) None (byte 0 97) ≡ true
 removal_reaches = refl
 
 failed_removal_reaches_none : reaches synced (Remove partition None) (Some Injected) (byte 0 97) ≡ false
 failed_removal_reaches_none = refl
 
--- a stale handle reaches none
+-- a stale handle touches none
 stale_reaches_none : reaches (done (done synced (Remove partition (Some name))) opens) (Through 0 (Write 0 (88 ∷ []) false)) None (byte 0 97) ≡ false
 stale_reaches_none = refl
 
 abbrev loosened : State
 loosened = done synced (Through 0 (Write 1 (88 ∷ 89 ∷ []) false))
 
--- a SYNC write fixes what it submits, and not the zeros before it
+-- a SYNC write fixes its own bytes, and not the zeros before them
 sync_write_fixes : Fixes loosened (Through 0 (Write 4 (90 ∷ []) true)) None (byte 4 90)
 unfolding sampled
 sync_write_fixes = (refl, omega arith, (omega arith, refl))
@@ -99,7 +99,7 @@ sync_write_fixes = (refl, omega arith, (omega arith, refl))
 gap_isn't_fixed : Fixes loosened (Through 0 (Write 4 (90 ∷ []) true)) None (byte 3 0) → ⊥
 gap_isn't_fixed fixes = let low : 4 ≤ 3 = fixes.1 in omega arith
 
--- the crash keeps one byte of the pending write, and what was fixed is there
+-- the crash keeps one byte of the pending write, and the fixed bytes stay
 abbrev kept : State
 kept = done (done (done (done loosened (Through 0 (Write 4 (90 ∷ []) true))) Crash) (Close 0)) opens
 
@@ -107,13 +107,13 @@ reads : (answer kept (Through 1 (Read 0 5))).0 ≡ told.Bytes (97 ∷ 88 ∷ 99 
 unfolding overlay_by resized front sampled next_u64 stream_of
 reads = refl
 
--- the open fixes all that it finds durable
+-- an open fixes all durable bytes that it finds
 open_fixes : Fixes (done (done (done loosened (Through 0 (Write 4 (90 ∷ []) true))) Crash) (Close 0)) opens None (byte 1 88)
 unfolding overlay_by resized front sampled next_u64 stream_of
 open_fixes = (refl, (omega arith, refl))
 
--- Why an open that isn't exclusive is left out: a byte that a SYNC write fixed changes by a sync through another handle, and
--- no call reached it.
+-- Why opens must be exclusive: a sync through another handle changes a byte that a SYNC write fixed, and no call
+-- touched it.
 
 abbrev first : State
 first = done (done (done (start [] (only []) cleared) opens) (Through 0 (Write 0 (97 ∷ []) false))) (Through 0 Sync)

@@ -1,4 +1,4 @@
--- In each state that calls lead to, the numbers of incarnations were given and their partitions have valid names, and current
+-- In each reached state, incarnations have numbers below the next one and partitions with valid names, and current
 -- handles track the length of their live bytes.
 use Rattle.std.proofs.Common.{◌≡◌, ⊎_elim, ℕ, ◌<◌, Bool, true, false, cond, List, [], ◌∷◌, ◌++◌, set, length, Option, Some, None, IfSome, refl, sym, ap, ◌∙◌, subst, arith}
 use Rattle.std.specs.Prelude.{All, option_map, option_and_then, slice_get}
@@ -50,7 +50,7 @@ valid_with f p n q m x new old = cond_both (bytes_eq p q) (cond (bytes_eq n m) x
     (λ same. cond_both (bytes_eq n m) x (f q m) (IsValid q) (λ _. subst (λ (r : List ℕ). IsValid r x) ((bytes_decides p q).0 same) new) (λ _. old))
     (λ _. old)
 
--- an open that begins an incarnation has a valid name
+-- an open that creates an incarnation has a valid name
 abbrev begins : Opening → Bool
 begins (Begins layout version live) = true
 begins (Continues number layout version) = false
@@ -65,7 +65,7 @@ valid_removed : (d : Directory) (p : List ℕ) (n : Option (List ℕ)) → AreVa
 valid_removed d p (Some n) valid = λ q m. valid_with d.file p n q m None tt (valid q m)
 valid_removed d p None valid = λ q m. cond_both (bytes_eq p q) None (d.file q m) (IsValid q) (λ _. tt) (λ _. valid q m)
 
--- a rebuilt store has raw files alone
+-- a rebuilt store has raw files only
 valid_again : (bytes : Place → List ℕ) (p n : List ℕ) (file : Option File) → IsValid p (raw_again bytes p n file)
 valid_again bytes p n None = tt
 valid_again bytes p n (Some (Raw x)) = tt
@@ -81,7 +81,7 @@ valid_images d (i ∷ is) valid = valid_images (with_image d i) is (λ q m. vali
 
 -- Handles.
 
--- a handle is on an incarnation whose number was given, and tracks its length while it is current
+-- the incarnation of a handle has a number below the next one, and the handle tracks its length while it is current
 pub record IsTracked (d : Directory) (h : Held) : Type 0 where
   pub given : h.place.number < d.next
   pub sized : is_current d h.place ≡ true → h.size ≡ length h.live
@@ -92,7 +92,7 @@ Slot d slot = IfSome slot (IsTracked d)
 abbrev AreTracked : Directory → List (Option Held) → Type 0
 AreTracked d handles = All (Slot d) handles
 
--- a handle that isn't current doesn't become it
+-- a handle that isn't current doesn't become current
 tracked_later : (d e : Directory) → Ages d e → (h : Held) → IsTracked d h → IsTracked e h
 tracked_later d e aged h t = record {
   given = omega (arith, t.given, aged.next);
@@ -105,14 +105,14 @@ tracked_later d e aged h t = record {
 all_later : (d e : Directory) (handles : List (Option Held)) → Ages d e → AreTracked d handles → AreTracked e handles
 all_later d e handles aged all = All-weaker (Slot d) (Slot e) (λ slot t. IfSome_then slot t (tracked_later d e aged)) handles all
 
--- a handle that was just opened
+-- a new handle
 tracked_on : (d : Directory) (f : Files) (registration : Option Registration) (p n : List ℕ) → AreCurrentGiven d → Slot d (option_map (held_on f registration) (current d p n))
 tracked_on d f registration p n given = go (current d p n) (λ o here. given o (current_of d p n o here).current) where
   go : (slot : Option Place) → ((o : Place) → slot ≡ Some o → o.number < d.next) → Slot d (option_map (held_on f registration) slot)
   go None below = tt
   go (Some o) below = record { given = below o refl; sized = λ now. refl }
 
--- the handle of a number
+-- the handle with this number
 kept_tracked : (d : Directory) (handles : List (Option Held)) (number : ℕ) → AreTracked d handles → IfSome (kept_at handles number) (IsTracked d)
 kept_tracked d handles number all = go (slice_get handles number) refl where
   go : (slot : Option (Option Held)) → slice_get handles number ≡ slot → IfSome (option_and_then (λ s. s) slot) (IsTracked d)
@@ -126,7 +126,7 @@ pub record Holds (v : State) : Type 0 where
   pub given : AreCurrentGiven v.files.directory
   pub handles : AreTracked v.files.directory v.handles
 
--- a call that leaves the handles
+-- a call that doesn't change the handles
 holds_same : (v w : State) → Holds v → Ages v.files.directory w.files.directory → AreValid w.files.directory → w.handles ≡ v.handles → Holds w
 holds_same v w h aged valid same = record {
   valid = valid;
@@ -137,7 +137,7 @@ holds_same v w h aged valid same = record {
 opened_valid : (v : State) (p n : List ℕ) (first last : ℕ) → Holds v → is_partition_name p ≡ true → AreValid (after_open v.files p n first last).directory
 opened_valid v p n first last h name = valid_opened v.files p n (opening p n (v.files.directory.file p n) first last) (λ _. name) h.valid
 
--- one more handle
+-- a new handle
 holds_more : (v w : State) (p n : List ℕ) (registration : Option Registration) → Holds v → Ages v.files.directory w.files.directory → AreValid w.files.directory
     → w.handles ≡ v.handles ++ option_map (held_on w.files registration) (current w.files.directory p n) ∷ [] → Holds w
 holds_more v w p n registration h aged valid more = record {
@@ -186,7 +186,7 @@ module _ (v : State) (rest : Stream) (h : Holds v) where
   finished_at : (number : ℕ) (refusal : Option Refusal) → Holds (after v (Finish number) refusal rest)
   finished_at number refusal = record { valid = h.valid; given = h.given; handles = h.handles }
 
-  -- what is asked through a handle changes that handle alone
+  -- a call through a handle changes only that handle
   asked_at : (number : ℕ) (slot : Option Held) (ask : Ask) (grows : Bool) (reply : Reply) (left : Stream) → IfSome slot (IsTracked d) → IsAnswer grows (through v slot ask) reply left
       → Holds (record (asked v number slot ask (refused_by reply)) { stream = rest })
   asked_at number None ask grows reply left tracked a = record { valid = h.valid; given = h.given; handles = h.handles }
@@ -203,7 +203,7 @@ module _ (v : State) (rest : Stream) (h : Holds v) where
         handles = subst (λ (e : Directory). AreTracked e (set v.handles number (Some held'))) (sym same) (All-set (Slot d) v.handles number (Some held') now h.handles);
       }
 
--- a call with an answer that the state allows
+-- a call with a possible reply
 pub holds_after : (v : State) (act : Act) (reply : Reply) (left : Stream) → Holds v → Answers v act reply left → Holds (after v act (refused_by reply) left)
 holds_after v (Configure config) reply left h a = holds_same v (after v (Configure config) (refused_by reply) left) h (ages v (Configure config) (refused_by reply) left) h.valid refl
 holds_after v (Open p n None) reply left h a = holds_same v (after v (Open p n None) (refused_by reply) left) h (ages v (Open p n None) (refused_by reply) left) h.valid refl
@@ -248,7 +248,7 @@ current_sized v number h reached here =
     let tracked : IfSome (Some h) (IsTracked v.files.directory) = subst (Slot v.files.directory) here (kept_tracked v.files.directory v.handles number (holds_reached v reached).handles) in
     tracked.sized
 
--- and tells it
+-- and `Size` returns it
 pub current_told : (v : State) (number : ℕ) (h : Held) → Reached v → kept_at v.handles number ≡ Some h → is_current v.files.directory h.place ≡ true → (answer v (Through number Size)).0 ≡ told.Size (length h.live)
 current_told v number h reached here now =
     ap (λ (slot : Option Held). (through v slot Size).0) here ∙ ap told.Size (current_sized v number h reached here now)

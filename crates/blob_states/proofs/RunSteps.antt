@@ -1,4 +1,4 @@
--- Runs of a laboratory, one call after another, and what they reach.
+-- Runs of a laboratory, one call after another, and the states that they reach.
 use Rattle.std.proofs.Common.{◌≡◌, ◌<◌, arith, false, List, [], ◌∷◌, ◌++◌, refl, sym, ap, subst}
 use Rattle.std.proofs.lemmas.List.Elements.{All-nil, All-append}
 use Rattle.rand_core.specs.Stream.{Stream}
@@ -27,7 +27,7 @@ run_more w (c ∷ calls) [] v call reply left run a = absurd run
 run_more w (c ∷ calls) (r ∷ replies) v call reply left (first, b, run) a =
     (first, b, run_more w calls replies (after v (act_of c) (refused_by r) first) call reply left run a)
 
--- one run after another
+-- two runs in sequence
 pub run_append : (calls : List Call) (replies : List Reply) (more : List Call) (rest : List Reply) (v w u : State) → LeadsTo v calls replies w → LeadsTo w more rest u → LeadsTo v (calls ++ more) (replies ++ rest) u
 run_append [] [] more rest v w u same next = subst (λ (s : State). LeadsTo s more rest u) (sym same) next
 run_append [] (r ∷ replies) more rest v w u run next = absurd run
@@ -35,7 +35,7 @@ run_append (c ∷ calls) [] more rest v w u run next = absurd run
 run_append (c ∷ calls) (r ∷ replies) more rest v w u (left, answers, run) next =
     (left, answers, run_append calls replies more rest (after v (act_of c) (refused_by r) left) w u run next)
 
--- where calls lead from a state that was reached is reached too
+-- calls from a reached state lead to a reached state
 
 pub reached_start : (images : List Image) (words : Words) (config : Config) → ReachedExclusively (start images words config)
 reached_start images words config = (images, words, config, [], [], All-nil (λ c. is_loose (act_of c) ≡ false), refl)
@@ -48,7 +48,7 @@ pub reached_strictly : (v w : State) (calls : List Call) (replies : List Reply) 
 reached_strictly v w calls replies (images, words, config, before, told, none, run) strict next =
     (images, words, config, before ++ calls, told ++ replies, All-append (λ c. is_loose (act_of c) ≡ false) before calls none strict, run_append before told calls replies (start images words config) v w run next)
 
--- what is stale stays so through a run
+-- a stale incarnation stays stale through a run
 pub stale_ever : (calls : List Call) (replies : List Reply) (v w : State) (o : Place) → LeadsTo v calls replies w → o.number < v.files.directory.next → is_current v.files.directory o ≡ false → is_current w.files.directory o ≡ false
 stale_ever [] [] v w o same below stale = subst (λ (s : State). is_current s.files.directory o ≡ false) same stale
 stale_ever [] (r ∷ replies) v w o run below stale = absurd run

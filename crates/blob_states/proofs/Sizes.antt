@@ -1,4 +1,4 @@
--- The size that a handle tracks and the length of its live bytes, by each call through it.
+-- The tracked size of a handle and the length of its live bytes, after each call through it.
 use Rattle.std.proofs.Common.{◌≡◌, inl, inr, ℕ, ◌+◌, Bool, true, false, not, ◌&&◌, List, [], ◌∷◌, length, Option, Some, None, refl, sym, ap, ◌∙◌, if◌then◌else◌}
 use Rattle.std.specs.Prelude.{is_some}
 use Rattle.std.proofs.lemmas.Bool.{false≢true}
@@ -25,7 +25,7 @@ use Rattle.blob_calls.specs.Told as told
 use Rattle.blob_calls.specs.Told.{refused_by}
 use Rattle.blob_states.proofs.ToldRefusals.{denied}
 
--- A current handle isn't answered that its blob is missing.
+-- A call through a current handle doesn't return `BlobMissing`.
 
 abbrev is_missing : Option Refusal → Bool
 is_missing (Some (BlobMissing p n)) = true
@@ -81,11 +81,11 @@ reply_there : (r : Reply) (denial : Option Refusal) (grows : Bool) (left expecte
 reply_there r denial grows left expected there (inl m) = ap is_missing m.1
 reply_there r denial grows left expected there (inr t) = ap is_missing (denied r denial told.Done refl t.0) ∙ there
 
--- an answer that isn't that
+-- a result other than `BlobMissing`
 found : (answer : Option Refusal) → is_missing answer ≡ false → (p n : List ℕ) → answer ≡ Some (BlobMissing p n) → ⊥
 found answer there p n e = absurd (false≢true (sym there ∙ ap is_missing e))
 
--- what is asked through a current handle
+-- a call through a current handle
 pub asked_sized : (v : State) (h : Held) (ask : Ask) (r : Reply) (grows : Bool) (left : Stream) → IsAnswer grows (through v (Some h) ask) r left → is_current v.files.directory h.place ≡ true
     → h.size ≡ length h.live → (held_after v h ask (refused_by r)).size ≡ length (held_after v h ask (refused_by r)).live
 asked_sized v h (Write offset bytes sync) r grows left a now e =

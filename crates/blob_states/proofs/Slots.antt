@@ -1,9 +1,9 @@
--- What a slot of a table holds after one is made new or added.
+-- The slots of a table after one is set or added.
 use Rattle.std.proofs.Common.{◌≡◌, ℕ, zero, suc, ◌++◌, ◌⊎◌, inl, inr, List, [], ◌∷◌, set, length, Option, Some, None, refl, sym, ap, ⊎_elim, arith}
 use Rattle.std.proofs.lemmas.Option.{none-some}
 use Rattle.blob_states.specs.Answers.{kept_at}
 
--- a slot made new: what there is at a number is new, or at another number and was there
+-- after a slot is set, a value is the new one, or an old one at another number
 pub kept_set : {X : Type 0} (slots : List (Option X)) (number : ℕ) (slot : Option X) (i : ℕ) (x : X) → kept_at (set slots number slot) i ≡ Some x
     → ((number ≡ i) × (slot ≡ Some x)) ⊎ ((number ≡ i → ⊥) × (kept_at slots i ≡ Some x))
 kept_set [] number slot i x here = cc
@@ -28,7 +28,7 @@ kept_push (y ∷ slots) slot (suc i) x here =
     (λ (old : kept_at slots i ≡ Some x). inr old)
     (kept_push slots slot i x here)
 
--- a slot that is emptied
+-- an emptied slot
 pub kept_emptied : {X : Type 0} (slots : List (Option X)) (number i : ℕ) (x : X) → kept_at (set slots number None) i ≡ Some x → (number ≡ i → ⊥) × (kept_at slots i ≡ Some x)
 kept_emptied slots number i x here =
     ⊎_elim
@@ -36,7 +36,7 @@ kept_emptied slots number i x here =
     (λ (old : (number ≡ i → ⊥) × (kept_at slots i ≡ Some x)). old)
     (kept_set slots number None i x here)
 
--- one where nothing is
+-- emptying an empty slot changes nothing
 pub emptied_again : {X : Type 0} (slots : List (Option X)) (number : ℕ) → kept_at slots number ≡ None → set slots number None ≡ slots
 emptied_again [] number gone = refl
 emptied_again (y ∷ slots) zero gone = ap (λ slot. slot ∷ slots) (sym gone)

@@ -1,4 +1,4 @@
--- An incarnation that isn't its name's current one never is again: a number isn't given twice.
+-- An incarnation that isn't its name's current one never becomes current again: numbers aren't reused.
 use Rattle.std.proofs.Common.{◌≡◌, ◌≢◌, ℕ, ◌+◌, ◌-◌, ◌^◌, ◌<◌, ◌≤◌, Bool, true, false, cond, ◌&&◌, List, [], ◌∷◌, Option, Some, None, refl, sym, ◌∙◌, subst, arith, ne_eqb, ◌==◌, ap, ⊎_elim, if◌then◌else◌}
 use Rattle.std.proofs.lemmas.Bool.{cond_both, and_left, eqb-true, false≢true, cases_Bool}
 use Rattle.std.specs.Str.{bytes_eq}
@@ -25,11 +25,11 @@ use Rattle.blob_states.specs.Answers.{kept_at}
 use Rattle.blob_states.specs.Denials.{refused_if, start_denial}
 use Rattle.blob_states.specs.States.{State, Held}
 
--- each current incarnation has a number that was given
+-- each current incarnation has a number below the next one
 abbrev pub AreCurrentGiven : Directory → Type 0
 AreCurrentGiven d = (o : Place) → is_current d o ≡ true → o.number < d.next
 
--- a directory after which an incarnation that was given a number and isn't current still isn't
+-- a later directory: an incarnation with an earlier number that isn't current still isn't
 pub record Ages (d e : Directory) : Type 0 where
   pub next : d.next ≤ e.next
   pub stale : (o : Place) → o.number < d.next → is_current d o ≡ false → is_current e o ≡ false
@@ -41,23 +41,23 @@ same_age d = record { next = omega arith; stale = λ o below old. old; given = �
 by_same : (d e : Directory) → e ≡ d → Ages d e
 by_same d e same = subst (λ (x : Directory). Ages d x) (sym same) (same_age d)
 
--- one name's file made new
+-- a new file for one name
 pub with_file_stale : (f : List ℕ → List ℕ → Option File) (p n q m : List ℕ) (x : Option File) (number start : ℕ) → is_that x number start ≡ false → is_that (f q m) number start ≡ false → is_that (with_file f p n x q m) number start ≡ false
 with_file_stale f p n q m x number start new old = cond_both (bytes_eq p q) (cond (bytes_eq n m) x (f q m)) (f q m) (λ r. is_that r number start ≡ false)
     (λ _. cond_both (bytes_eq n m) x (f q m) (λ r. is_that r number start ≡ false) (λ _. new) (λ _. old))
     (λ _. old)
 
--- the next number is no earlier one
+-- the next number isn't an earlier one
 new_number : (next number : ℕ) (rest : Bool) → number < next → ((next == number) && rest) ≡ false
 new_number next number rest below = and_left (next == number) rest (ne_eqb next number (λ same. absurd (omega (arith, same, below))))
 
--- what is the file that was made new, or is there as before
+-- an incarnation is the new file, or an old one
 with_file_either : (f : List ℕ → List ℕ → Option File) (p n q m : List ℕ) (x : Option File) (number start : ℕ) (P : Type 0) → (is_that x number start ≡ true → P) → (is_that (f q m) number start ≡ true → P) → is_that (with_file f p n x q m) number start ≡ true → P
 with_file_either f p n q m x number start P new old = cond_both (bytes_eq p q) (cond (bytes_eq n m) x (f q m)) (f q m) (λ r. is_that r number start ≡ true → P)
     (λ _. cond_both (bytes_eq n m) x (f q m) (λ r. is_that r number start ≡ true → P) (λ _. new) (λ _. old))
     (λ _. old)
 
--- the next number was given once it is taken
+-- after the next number is taken, it is below the next one
 taken : (next number : ℕ) (rest : Bool) → ((next == number) && rest) ≡ true → number < next + 1
 taken next number rest now = let same : next ≡ number = eqb-true next number (parts (next == number) rest now).0 in omega (arith, same)
 
@@ -98,7 +98,7 @@ removed_ages d p None = record {
   given = λ given o now. cond_both (bytes_eq p o.partition) None (d.file o.partition o.name) (λ r. is_that r o.number o.start ≡ true → o.number < d.next) (λ _ none. absurd (false≢true none)) (λ _. given o) now;
 }
 
--- a rebuilt store has raw files alone
+-- a rebuilt store has raw files only
 raw_stale : (bytes : Place → List ℕ) (p n : List ℕ) (file : Option File) (number start : ℕ) → is_that (raw_again bytes p n file) number start ≡ false
 raw_stale bytes p n None number start = refl
 raw_stale bytes p n (Some (Raw x)) number start = refl
@@ -114,7 +114,7 @@ reopened_ages f = record {
   given = λ given o now. absurd (false≢true (sym (none_current f o) ∙ now));
 }
 
--- what is asked through a handle leaves the directory
+-- a call through a handle doesn't change the directory
 pub logged_directory : (f : Files) (o : Place) (es : List Entry) → (all_logged f o es).directory ≡ f.directory
 logged_directory f o [] = refl
 logged_directory f o (e ∷ es) = logged_directory (logged f o e) o es
@@ -133,7 +133,7 @@ asked_directory v h StartSync (Some refusal) = refl
 asked_directory v h (Read offset len) refusal = refl
 asked_directory v h Size refusal = refl
 
--- and the handle on its incarnation
+-- nor the handle's incarnation
 pub place_after : (v : State) (h : Held) (ask : Ask) (refusal : Option Refusal) → (held_after v h ask refusal).place ≡ h.place
 place_after v h (Write offset bytes sync) refusal = refl
 place_after v h (Resize len) refusal = refl
@@ -175,7 +175,7 @@ ages v (Scan p) refusal rest = same_age v.files.directory
 ages v Crash refusal rest = crash_ages v refusal
 ages v Reopen refusal rest = reopened_ages v.files
 
--- what is asked through a handle leaves each other incarnation
+-- a call through a handle doesn't change other incarnations
 other_logged : (f : Files) (o a : Place) (es : List Entry) → same_place o a ≡ false → durable_at (all_logged f o es) a ≡ durable_at f a
 other_logged f o a [] other = refl
 other_logged f o a (e ∷ es) other = other_logged (logged f o e) o a es other ∙ (others_logged f o e a other).0
@@ -194,7 +194,7 @@ other_asked v h StartSync (Some refusal) a other = refl
 other_asked v h (Read offset len) refusal a other = refl
 other_asked v h Size refusal a other = refl
 
--- a stale handle's incarnation is none that is current
+-- a stale handle's incarnation differs from every current one
 pub stale_apart : (d : Directory) (o a : Place) → is_current d o ≡ false → is_current d a ≡ true → same_place o a ≡ false
 stale_apart d o a stale now = ⊎_elim
     (λ same. absurd (false≢true (sym stale ∙ ap (is_current d) (same_place_exact o a same) ∙ now)))
@@ -215,7 +215,7 @@ stale_start v h stale undrawn left =
     ∙ ap (λ b. option_or (refused_if GenerationsExhausted b) (sync_refusal v.files.directory h.place)) (ne_eqb v.files.next_marker (2 ^ 64 - 1) left)
     ∙ ap (λ b. if b then None else Some (missing h.place)) stale
 
--- it begins nothing, whatever is drawn
+-- a started sync publishes nothing then, regardless of the draw
 pub stale_begun : (v : State) (h : Held) (refusal : Option Refusal) → is_current v.files.directory h.place ≡ false → files_after v h StartSync refusal ≡ v.files
 stale_begun v h (Some refusal) stale = refl
 stale_begun v h None stale = go (draw v.config.sync_rate v.stream).0 (v.files.next_marker == 2 ^ 64 - 1) (is_current v.files.directory h.place) stale where

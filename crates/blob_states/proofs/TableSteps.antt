@@ -1,4 +1,4 @@
--- Tables of slots, seen by what their slots hold.
+-- Tables of slots through a view of their values.
 use Rattle.std.proofs.Common.{◌≡◌, ℕ, ◌≤◌, ◌++◌, List, [], ◌∷◌, map, set, Option, Some, None, refl, ap, ◌∙◌, length}
 use Rattle.std.specs.Prelude.{IfSome, option_map, option_and_then, slice_get}
 use Rattle.std.proofs.lemmas.List.{map-append, map-set}
@@ -16,11 +16,11 @@ slot_seen g None = refl
 slot_seen g (Some None) = refl
 slot_seen g (Some (Some x)) = refl
 
--- what a slot holds, as it is seen
+-- the view of a slot's value
 pub kept_seen : {A B : Type 0} (g : A → B) (slots : List (Option A)) (k : ℕ) → kept_at (map (option_map g) slots) k ≡ option_map g (kept_at slots k)
 kept_seen g slots k = ap (option_and_then (λ s. s)) (slice_get-map (option_map g) slots k) ∙ slot_seen g (slice_get slots k)
 
--- no slot has this number
+-- there is no slot with this number
 pub kept_past : {A B : Type 0} (g : A → B) (slots : List (Option A)) (k : ℕ) → length slots ≤ k → kept_at (map (option_map g) slots) k ≡ None
 kept_past g slots k past = kept_seen g slots k ∙ ap (λ o. option_map g (option_and_then (λ s. s) o)) (slice_get_past slots k past)
 

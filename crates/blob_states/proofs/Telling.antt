@@ -1,4 +1,4 @@
--- Replies that tell an answer.
+-- Replies that match an expected one.
 use Rattle.std.proofs.Common.{◌≡◌, ◌≢◌, ◌⊎◌, inl, inr, true, Option, Some, None, refl, subst, ⊎_elim}
 use Rattle.rand_core.specs.Stream.{Stream}
 use Rattle.blob_header.specs.declared.error.Error.{Error}
@@ -9,17 +9,17 @@ use Rattle.blob_calls.specs.declared.reply.Reply.TheVariants.{Failed}
 use Rattle.blob_states.specs.Answers.{IsAnswer, unless_denied}
 use Rattle.blob_calls.specs.Told.{Told, Tells}
 
--- whether memory was wanted
+-- whether an error is `Memory`
 pub memory_or_not : (answer : Option Refusal) → (answer ≡ Some Memory) ⊎ (answer ≢ Some Memory)
 memory_or_not None = inr (λ e. cc)
 memory_or_not (Some Memory) = inl refl
 memory_or_not (Some r) = inr (λ e. cc)
 
--- a call that was done
+-- a call that succeeded
 pub done_answers : (reply : Reply) (denial : Option Refusal) (done : Told) (left expected : Stream) → Tells reply done → None ≡ denial → left ≡ expected → IsAnswer true (unless_denied denial done, expected) reply left
 done_answers reply denial done left expected tells free same = inr (subst (λ (x : Option Refusal). Tells reply (unless_denied x done)) free tells, same)
 
--- a call that was refused
+-- a call that failed
 pub failed_answers : (e : Error) (denial : Option Refusal) (done : Told) (left expected : Stream) → OrMemory denial (Some (refusal_of e)) → (Some (refusal_of e) ≢ Some Memory → left ≡ expected) → IsAnswer true (unless_denied denial done, expected) (Failed e) left
 failed_answers e denial done left expected told same =
     ⊎_elim

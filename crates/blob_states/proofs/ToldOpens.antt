@@ -1,4 +1,4 @@
--- What an exclusive open is told, by why it is refused and what it leaves of the stream.
+-- The reply to an exclusive open, by its error and the rest of the stream.
 use Rattle.std.proofs.Common.{◌≡◌, ℕ, List, Bool, true, false, Option, Some, refl, sym, subst, if◌then◌else◌}
 use Rattle.std.specs.Option.{option_or}
 use Rattle.rand_core.specs.Stream.{Stream}

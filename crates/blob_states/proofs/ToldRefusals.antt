@@ -1,4 +1,4 @@
--- What a reply refused, by what it tells.
+-- The error of a reply, by the expected one.
 use Rattle.std.proofs.Common.{◌≡◌, Option, Some, None, refl, ap, ◌∙◌}
 use Rattle.blob_header.specs.Refusals.{Refusal}
 use Rattle.blob_calls.specs.declared.reply.Reply.{Reply}
@@ -33,7 +33,7 @@ tells_refused reply.NoHandle other t = absurd t
 tells_refused reply.EmptyRange told.EmptyRange t = refl
 tells_refused reply.EmptyRange other t = absurd t
 
--- a call is refused by its denial
+-- the error of a call is its denial
 pub denied : (r : Reply) (denial : Option Refusal) (answer : Told) → refused_in answer ≡ None → Tells r (unless_denied denial answer) → refused_by r ≡ denial
 denied r None answer none t = tells_refused r answer t ∙ none
 denied r (Some refusal) answer none t = tells_refused r (told.Failed refusal) t

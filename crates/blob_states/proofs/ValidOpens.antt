@@ -1,4 +1,4 @@
--- An open that the store has done is of a valid partition name.
+-- If the store did an open, the partition has a valid name.
 use Rattle.std.proofs.Common.{◌≡◌, inl, inr, ⊎_elim, ℕ, Bool, true, false, not, List, Option, Some, None, refl, sym, ap, ◌∙◌, subst, if◌then◌else◌}
 use Rattle.std.proofs.lemmas.Bool.{cases_Bool, false≢true}
 use Rattle.rand_core.specs.Stream.{Stream}
@@ -19,7 +19,7 @@ use Rattle.blob_calls.specs.Told.{Told, Tells, refused_by}
 use Rattle.blob_states.proofs.ToldOpens.{exclusive_answer}
 use Rattle.blob_states.proofs.ToldRefusals.{denied}
 
--- the open of the store was done: it was accepted, or refused because the name is open
+-- the store did the open: it was accepted, or failed because the name is open
 abbrev pub made : Option Refusal → Bool
 made None = true
 made (Some (BlobAlreadyOpen p n)) = true

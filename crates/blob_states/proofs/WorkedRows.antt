@@ -1,4 +1,4 @@
--- A worked run by the definitions alone: a SYNC write over an earlier pending one, and a crash that keeps all.
+-- A worked run: a SYNC write over an earlier pending one, and a crash that keeps all.
 use Rattle.std.proofs.Common.{◌≡◌, ℕ, List, [], ◌∷◌, true, false, Some, None, refl}
 use Rattle.std.specs.Prelude.{codes}
 use Rattle.hex.specs.Hex.{encode_lower}
@@ -38,11 +38,11 @@ done v act = after v act None (scripted ([], None))
 abbrev opened : State
 opened = done (done (start [] (only []) cleared) (Configure retaining)) opens
 
--- the first open begins the blob
+-- the first open creates the blob
 first_open : (answer (start [] (only []) cleared) opens).0 ≡ told.Opened 0 0 0
 first_open = refl
 
--- a second one is refused
+-- a second one fails
 second_open : (answer opened opens).0 ≡ told.Failed (BlobAlreadyOpen partition (encode_lower name))
 second_open = refl
 
@@ -54,12 +54,12 @@ live_read : (answer written (Through 0 (Read 0 3))).0 ≡ told.Bytes (97 ∷ 88 
 unfolding overlay_by resized sampled
 live_read = refl
 
--- the pending write is drawn for, with one choice a byte
+-- the pending write is drawn, with one choice per byte
 crash_draws : (answer written Crash).0 ≡ told.Crashed ((0, true ∷ true ∷ true ∷ []) ∷ [])
 unfolding front sampled
 crash_draws = refl
 
--- after the crash it is laid under the SYNC write
+-- after the crash, the SYNC write is on top
 crash_leaves : (answer (done (done (done written Crash) Reopen) opens) (Through 1 (Read 0 3))).0 ≡ told.Bytes (97 ∷ 88 ∷ 99 ∷ [])
 unfolding front sampled overlay_by resized resolution region is_torn page_tests crc32c low_bits with_bit
 crash_leaves = refl

@@ -1,4 +1,4 @@
--- Names that an open accepted and that nothing removed since, and their opens in a rebuilt store.
+-- Names that an open accepted and no call removed since, and opening them again, also in a rebuilt store.
 use Rattle.std.specs.Prelude.{◌≡◌, ◌≢◌, ℕ, ◌-◌, ◌^◌, ◌<◌, ◌≤◌, ◌&&◌, List, ◌∷◌, ◌++◌, length, Bool, false, Option, Some, None}
 use Rattle.std.specs.List.{AllZip}
 use Rattle.std.specs.Str.{bytes_eq}
@@ -20,19 +20,19 @@ use Rattle.blob_states.specs.Runs.{LeadsTo}
 use Rattle.blob_states.specs.States.{State}
 use Rattle.blob_calls.specs.Told.{Told, Opened, refused_by}
 
--- partition and name of what a call opens
+-- the partition and name that a call opens
 abbrev pub opened_name : Act → Option (List ℕ × List ℕ)
 opened_name (Open p n versions) = Some (p, n)
 opened_name (OpenLoose p n versions) = Some (p, n)
 opened_name act = None
 
--- whether a call removes a name, or its whole partition: a removal that is answered Ok
+-- whether a call removes a name or its whole partition, which only a removal that returns Ok does
 abbrev pub removes : Act → Option Refusal → List ℕ → List ℕ → Bool
 removes (Remove q (Some m)) None p n = bytes_eq q p && bytes_eq m n
 removes (Remove q None) None p n = bytes_eq q p
 removes act refusal p n = false
 
--- calls from one state to another: an open of a name that answered this version, and then none that removes the name
+-- calls from one state to another: an open of a name that returned this version, then none that removes the name
 pub record IsKept (v : State) (p n : List ℕ) (version : BlobVersion) (w : State) : Type 0 where
   pub opening : Call
   pub handle : ℕ
@@ -43,8 +43,8 @@ pub record IsKept (v : State) (p n : List ℕ) (version : BlobVersion) (w : Stat
   pub run : LeadsTo v (opening ∷ calls) (reply.Opened handle size version ∷ replies) w
   pub keeps : AllZip (λ call reply. removes (act_of call) (refused_by reply) p n ≡ false) calls replies
 
--- in a state with this stream, an open for versions from a first to a last one accepts this version: nothing is injected, and
--- a number is left for the incarnation and for the open
+-- in a state with this stream, an open for versions from `first` to `last` accepts this version: no fault is injected,
+-- and numbers are left for the incarnation and the open
 pub record Accepts (v : State) (rest : Stream) (first last version : ℕ) : Type 0 where
   pub fits : version < 2 ^ 16
   pub least : first ≤ version
@@ -53,20 +53,20 @@ pub record Accepts (v : State) (rest : Stream) (first last version : ℕ) : Type
   pub incarnation : v.files.directory.next ≢ 2 ^ 64 - 1
   pub registration : v.names.next ≢ 2 ^ 64 - 1
 
--- a name has a file of this version, with so many bytes
+-- a name has a file of this version with `size` bytes
 pub data HasFileOf (f : Files) (p n : List ℕ) (version size : ℕ) : Type 0 where
-  -- a current incarnation with its durable bytes
+  -- a current incarnation, with its durable bytes
   IsCurrent : (number : ℕ) (layout : Layout) → f.directory.file p n ≡ Some (Incarnation number layout version) → size ≡ length (durable_at f (place_of p n number layout)) → HasFileOf f p n version size
-  -- a raw file with the bytes behind a whole header
+  -- a raw file, with the bytes after a whole header
   IsRaw : (layout : Layout) (behind : List ℕ) → f.directory.file p n ≡ Some (Raw (region layout version ++ behind)) → size ≡ length behind → HasFileOf f p n version size
 
--- an open of a name is told the version of its file, and how many bytes it has
+-- an open of a name returns the version and the number of bytes of its file
 pub record OpensAs (v : State) (p n : List ℕ) (first last version : ℕ) : Type 0 where
   pub size : ℕ
   pub file : HasFileOf v.files p n version size
   pub told : (answer v (Open p n (Some (first, last)))).0 ≡ Opened (length v.handles) size version
 
--- what an open is told of a name that has a raw file: the version in its header, and how many bytes are behind that
+-- the reply to an open of a raw file: the version in its header, and the number of bytes after it
 pub record IsToldOf (v : State) (p n : List ℕ) (version : ℕ) (answer : Told) : Type 0 where
   pub layout : Layout
   pub behind : List ℕ

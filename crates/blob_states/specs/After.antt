@@ -1,4 +1,4 @@
--- What a call leaves of a laboratory, by what it refused.
+-- The state of a laboratory after a call, by its error if any.
 use Rattle.std.specs.Prelude.{ℕ, List, [], ◌∷◌, ◌++◌, map, set, Option, Some, None, option_map, option_and_then}
 use Rattle.std.specs.Option.{option_map_or}
 use Rattle.rand_core.specs.Stream.{Stream}
@@ -17,7 +17,7 @@ use Rattle.blob_states.specs.States.{State, Held, Started, held_on}
 
 -- Through a handle.
 
--- what it adds to the log of the handle's incarnation, and makes of the handle
+-- the change to the log of the handle's incarnation, and to the handle
 abbrev pub ask_changes : State → Held → Ask → Option Refusal → Changes
 ask_changes v h (Write offset bytes sync) refusal =
     write_changes (write_fate v.config sync offset bytes v.stream).0 (retention v.config.write_rate) sync offset bytes refusal
@@ -44,11 +44,11 @@ asked v number (Some h) ask refusal =
 
 -- Opens.
 
--- these files, and one more handle, on the name's current incarnation
+-- these files, and a new handle on the name's current incarnation
 abbrev pub with_held : State → List ℕ → List ℕ → Files → Option Registration → State
 with_held v p n f registration = record v { files = f; handles = v.handles ++ option_map (held_on f registration) (current f.directory p n) ∷ [] }
 
--- an exclusive open is admitted at once; where the name is open, what the store's open made stays
+-- an exclusive open admits the name; if the name was open already, what the store's open created stays
 abbrev pub exclusively_opened : State → List ℕ → List ℕ → AcceptedVersions → Option Refusal → State
 exclusively_opened v p n versions None = with_held (record v { names = names.opened v.names p n }) p n
     (admitted (after_open v.files p n versions.0 versions.1) p n) (Some (record { partition = p; name = n; number = v.names.next }))
@@ -57,8 +57,8 @@ exclusively_opened v p n versions (Some refusal) = v
 
 -- Any call.
 
--- but for the generator. A crash keeps what is drawn. In a rebuilt store all names are closed and all started syncs dropped;
--- numbers aren't given again, and handles stay
+-- the state except the generator; a crash keeps the drawn bytes; a rebuild closes all names and drops all started
+-- syncs, but numbers aren't reused, and handles stay
 abbrev pub changed : State → Act → Option Refusal → State
 changed v (Configure config) refusal = record v { config = config }
 changed v (Open p n (Some versions)) refusal = exclusively_opened v p n versions refusal

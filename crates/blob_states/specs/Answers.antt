@@ -1,4 +1,4 @@
--- What a call of a laboratory is told, and what its draws leave of the generator's stream.
+-- The reply to a call of a laboratory, and the rest of the generator's stream.
 use Rattle.std.specs.Prelude.{◌≡◌, ◌⊎◌, ℕ, ◌-◌, ◌^◌, ◌==◌, Bool, true, false, ◌&&◌, if◌then◌else◌, List, length, take, drop, Option, Some, None, is_some, is_none, slice_get, option_and_then, IsTrue}
 use Rattle.std.specs.Option.{option_or}
 use Rattle.rand_core.specs.Stream.{Stream}
@@ -18,22 +18,23 @@ use Rattle.blob_memory.specs.Answers.{read_refusal, sync_refusal, open_refusal, 
 use Rattle.blob_calls.specs.Told as told
 use Rattle.blob_calls.specs.Told.{Told, Tells, refused_by}
 
--- the refusal, or with none this
+-- the error if there is one, otherwise this reply
 abbrev pub unless_denied : Option Refusal → Told → Told
 unless_denied None otherwise = otherwise
 unless_denied (Some refusal) otherwise = told.Failed refusal
 
--- of a call that draws one rate: injected where the draw is true, else the refusal, or with none this; and what is left of the stream
+-- a call that draws one rate: `Injected` if the draw is true, otherwise the error if there is one, otherwise this
+-- reply; and the rest of the stream
 abbrev pub unless_drawn : State → Option Rate → Option Refusal → Told → Told × Stream
 unless_drawn v rate refusal otherwise = let d = draw rate v.stream in (unless_denied (option_or (refused_if Injected d.0) refusal) otherwise, d.1)
 
--- what is there of a number
+-- the slot with this number, if it exists and isn't empty
 abbrev pub kept_at : {X : Type 0} → List (Option X) → ℕ → Option X
 kept_at slots number = option_and_then (λ slot. slot) (slice_get slots number)
 
 -- Through a handle.
 
--- what is told, and what is left of the stream. The outcome of a started sync is told when it is finished
+-- the reply and the rest of the stream; the outcome of a started sync is returned when it is finished
 abbrev pub through : State → Option Held → Ask → Told × Stream
 through v None ask = (told.NoHandle, v.stream)
 through v (Some h) (Read offset len) = unless_drawn v v.config.read_rate (read_refusal h.place h.live offset len) (told.Bytes (take len (drop offset h.live)))
@@ -49,13 +50,13 @@ through v (Some h) StartSync = (told.Started (length v.syncs), (draw v.config.sy
 
 -- An open.
 
--- the version of what an open finds
+-- the version that an open returns
 abbrev pub opened_version : Opening → ℕ
 opened_version (Continues number layout version) = version
 opened_version (Begins layout version live) = version
 opened_version (Declines refusal) = 0
 
--- how many bytes the handle reads
+-- the number of bytes of the opened handle
 abbrev pub opened_size : Files → List ℕ → List ℕ → Opening → ℕ
 opened_size f p n (Continues number layout version) = length (durable_at f (place_of p n number layout))
 opened_size f p n (Begins layout version live) = length live
@@ -67,7 +68,7 @@ told_opened v p n (first, last) =
 
 -- Any call.
 
--- where no number is left for an exclusive open, the store isn't asked; that the name is open is told after the store's open
+-- without a number for an exclusive open, the store isn't called; `BlobAlreadyOpen` comes after the store's open
 abbrev pub answer : State → Act → Told × Stream
 answer v (Open p n None) = (told.EmptyRange, v.stream)
 answer v (Open p n (Some (first, last))) =
@@ -85,8 +86,7 @@ answer v (Scan p) = unless_drawn v v.config.scan_rate (partition_refusal v.files
 answer v Crash = let d = drawn v.stream (all_needs v.files.log) in (told.Crashed d.0, d.1)
 answer v act = (told.Done, v.stream)
 
--- whether what is asked through a handle may want memory: a number without a handle never does
--- whether a call may want memory that can't be had
+-- whether a call may return `Memory`; through a number without a handle it never does
 abbrev pub may_grow : State → Act → Bool
 may_grow v (Open p n versions) = is_some versions
 may_grow v (OpenLoose p n versions) = is_some versions
@@ -97,8 +97,8 @@ may_grow v (Scan p) = true
 may_grow v Crash = true
 may_grow v act = false
 
--- A reply that may be given, with what is left of the stream: the answer, or, where the call may grow, that there is no
--- memory. Then any draws may have been made.
+-- A possible reply, with the rest of the stream: the expected one, or, if the call may allocate, `Memory`. After
+-- `Memory`, any draws may have been made.
 abbrev pub IsAnswer : Bool → Told × Stream → Reply → Stream → Type 0
 IsAnswer grows answer reply left = (IsTrue grows × (refused_by reply ≡ Some Memory)) ⊎ (Tells reply answer.0 × (left ≡ answer.1))
 

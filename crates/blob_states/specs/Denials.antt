@@ -1,4 +1,4 @@
--- Why a call of a laboratory is refused, by its state: the first refusal whose condition holds, or none.
+-- The error of a call, by its state: the first one with a condition that holds, or none.
 use Rattle.std.specs.Prelude.{ℕ, ◌-◌, ◌^◌, ◌==◌, Bool, true, false, if◌then◌else◌, List, [], Option, Some, None}
 use Rattle.std.specs.Option.{option_or}
 use Rattle.blob_model.specs.Directory.{Directory}
@@ -13,12 +13,12 @@ use Rattle.blob_states.specs.States.{State, Held}
 
 -- Writes.
 
--- of a failed write's kept runs: all of them have to be counted, and they are laid by a current handle alone
+-- the kept runs of a failed write: the end of each must not overflow, and only a current handle applies them
 abbrev pub runs_denial : Directory → Place → List Run → Option Refusal
 runs_denial d o [] = Some Injected
 runs_denial d o rs = option_or (option_or (end_refusal o (size_of_runs 0 rs)) (sync_refusal d o)) (Some Injected)
 
--- of a write by what comes of it, with the refusal where no number is left for it
+-- a write by its outcome; `unnumbered` is the error if no number is left for it
 abbrev pub fate_denial : WriteFate → Directory → Place → Option Refusal → Bool → ℕ → List ℕ → Option Refusal
 fate_denial Idle d o unnumbered sync offset bytes = None
 fate_denial Uncounted d o unnumbered sync offset bytes = Some OffsetOverflow
@@ -34,7 +34,7 @@ reaching_denial (Resizes survives) o len = end_refusal o len
 reaching_denial Stays o len = Some Injected
 reaching_denial (Reaches size) o len = option_or (end_refusal o size) (Some Injected)
 
--- a started sync wants a number for its marker
+-- a started sync needs a number for its marker
 abbrev pub start_denial : State → Held → Option Refusal
 start_denial v h =
     let unnumbered = refused_if GenerationsExhausted (v.files.next_marker == 2 ^ 64 - 1) in

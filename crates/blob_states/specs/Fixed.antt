@@ -1,4 +1,4 @@
--- Bytes that are fixed: what fixes one, what reaches one, and that it keeps its value until then.
+-- Fixed bytes: what fixes one, what touches it, and that it keeps its value until then.
 use Rattle.std.specs.Prelude.{◌≡◌, ◌≤◌, ◌-◌, ℕ, List, [], ◌∷◌, ◌++◌, Bool, true, false, ◌&&◌, Option, Some, None, length, nat_le}
 use Rattle.std.specs.Str.{bytes_eq}
 use Rattle.rand_core.specs.Stream.{Stream}
@@ -20,14 +20,14 @@ use Rattle.blob_states.specs.Denials.{start_denial}
 use Rattle.blob_states.specs.States.{State, Held}
 use Rattle.blob_calls.specs.Told.{refused_by}
 
--- a byte of a blob: partition, name, its position behind the header, and its value
+-- a byte of a blob: partition, name, logical position and value
 pub record Byte : Type 0 where
   pub partition : List ℕ
   pub name : List ℕ
   pub position : ℕ
   pub value : ℕ
 
--- whether a name, or with none the whole partition, is that of the byte's blob
+-- whether this name, or with None this whole partition, includes the byte's blob
 abbrev pub is_of : List ℕ → Option (List ℕ) → Byte → Bool
 is_of p None b = bytes_eq p b.partition
 is_of p (Some n) b = bytes_eq p b.partition && bytes_eq n b.name
@@ -36,23 +36,23 @@ is_of p (Some n) b = bytes_eq p b.partition && bytes_eq n b.name
 abbrev pub is_on : Directory → Held → Byte → Bool
 is_on d h b = is_of h.place.partition (Some h.place.name) b && is_current d h.place
 
--- What reaches it.
+-- What touches a byte.
 
--- a write whose range holds it, and a resize to its position or below
+-- a write with a range that includes it, and a resize to its position or below
 abbrev pub asks_for : Ask → Byte → Bool
 asks_for (Write offset bytes sync) b = lies offset (length bytes) b.position
 asks_for (Resize len) b = nat_le len b.position
 asks_for ask b = false
 
--- through a handle on its blob, whatever is answered; or a removal that is answered Ok
+-- such a call through a handle on its blob, with any result; or a removal that returns Ok
 abbrev pub reaches : State → Act → Option Refusal → Byte → Bool
 reaches v (Through number ask) refusal b = elim (kept_at v.handles number) [ None ↦ false | Some h ↦ is_on v.files.directory h b && asks_for ask b ]
 reaches v (Remove p n) None b = is_of p n b
 reaches v act refusal b = false
 
--- Where it is kept.
+-- The copies of a byte.
 
--- a file has it durably: behind the header of a raw file, or in an incarnation's durable bytes
+-- a file has it durably: after the header of a raw file, or in an incarnation's durable bytes
 abbrev pub HasIn : Files → Option File → Byte → Type 0
 HasIn f None b = ⊥
 HasIn f (Some (Raw raw)) b = (layout : Layout) × (version : ℕ) × (bytes : List ℕ) × (raw ≡ region layout version ++ bytes) × HasByte b.position b.value bytes
@@ -66,30 +66,30 @@ pub record Has (v : State) (b : Byte) : Type 0 where
   pub durable : HasDurably v.files b
   pub live : (i : ℕ) (h : Held) → kept_at v.handles i ≡ Some h → is_on v.files.directory h b ≡ true → HasByte b.position b.value h.live
 
--- What fixes it.
+-- What fixes a byte.
 
--- a sync, and a started one whose outcome is Ok, by the live bytes; a SYNC write by what it submits
+-- a sync, and a started sync with outcome Ok, if the live bytes have it; a SYNC write if its bytes include it
 abbrev pub FixesThrough : State → Option Held → Ask → Byte → Type 0
 FixesThrough v (Some h) Sync b = (is_on v.files.directory h b ≡ true) × HasByte b.position b.value h.live
 FixesThrough v (Some h) StartSync b = (is_on v.files.directory h b ≡ true) × (start_denial v h ≡ None) × HasByte b.position b.value h.live
 FixesThrough v (Some h) (Write offset bytes true) b = (is_on v.files.directory h b ≡ true) × (offset ≤ b.position) × HasByte (b.position - offset) b.value bytes
 FixesThrough v slot ask b = ⊥
 
--- answered Ok; an open by the durable bytes that it finds
+-- such a call if it returns Ok; an open if it finds the byte durable
 abbrev pub Fixes : State → Act → Option Refusal → Byte → Type 0
 Fixes v (Through number ask) None b = FixesThrough v (kept_at v.handles number) ask b
 Fixes v (Open p n (Some versions)) None b = (is_of p (Some n) b ≡ true) × HasDurably (exclusively_opened v p n versions None).files b
 Fixes v act refusal b = ⊥
 
--- What keeps it.
+-- What a fixed byte guarantees.
 
--- where a call opened its blob, the new handle's live bytes have it
+-- if a call opened its blob, the new handle's live bytes have it
 abbrev pub Opens : State → Act → Reply → Byte → Type 0
 Opens v (Open p n versions) (Opened handle size version) b =
     is_of p (Some n) b ≡ true → (h : Held) × (kept_at v.handles handle ≡ Some h) × HasByte b.position b.value h.live
 Opens v act reply b = Unit {0}
 
--- from a state on it has its value, after each call until one reaches it
+-- the byte has its value now, and after each call until one touches it
 abbrev pub Lasts : State → Byte → List Call → List Reply → Type 0
 Lasts v b [] [] = Has v b
 Lasts v b (call ∷ calls) (reply ∷ replies) = Has v b × ((left : Stream) → Answers v (act_of call) reply left →

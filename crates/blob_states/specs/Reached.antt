@@ -1,4 +1,4 @@
--- Which states calls lead to, from a laboratory that was just made.
+-- The states that calls reach from a new laboratory.
 use Rattle.std.specs.Prelude.{◌≡◌, List, Bool, true, false, All}
 use Rattle.blob_faults.specs.declared.config.Config.{Config}
 use Rattle.blob_calls.specs.declared.call.Call.{Call}
@@ -21,7 +21,7 @@ abbrev pub Reached : State → Type 0
 Reached v = (images : List Image) × (words : Words) × (config : Config) × (calls : List Call) × (replies : List Reply)
     × LeadsTo (start images words config) calls replies v
 
--- by calls whose opens are all exclusive
+-- by calls with exclusive opens only
 abbrev pub ReachedExclusively : State → Type 0
 ReachedExclusively v = (images : List Image) × (words : Words) × (config : Config) × (calls : List Call) × (replies : List Reply)
     × NoneLoose calls × LeadsTo (start images words config) calls replies v

@@ -9,7 +9,7 @@ use Rattle.blob_states.specs.Answers.{Answers}
 use Rattle.blob_states.specs.After.{after}
 use Rattle.blob_states.specs.States.{State}
 
--- calls one after another, from a state, with these replies, to a state
+-- calls one after another, from one state to another, with these replies
 abbrev pub LeadsTo : State → List Call → List Reply → State → Type 0
 LeadsTo v [] [] w = v ≡ w
 LeadsTo v (call ∷ calls) (reply ∷ replies) w =

@@ -1,14 +1,14 @@
--- Given words as a stream, and what comes behind them.
+-- Given words as a stream, and the words after them.
 use Rattle.std.specs.Prelude.{ℕ, List, [], ◌∷◌, Option, Some, None}
 use Rattle.rand_core.specs.Stream.{Stream}
 use Rattle.rand_core.specs.Steps.{stream_of, steps_u64_low}
 use Rattle.rand_xoshiro.specs.Xoshiro256.{plus_plus}
 
--- the words that are left, and behind them xoshiro256++ in a state, or else zeros for good
+-- the remaining words, then xoshiro256++ from this state, or zeros forever
 abbrev pub Left : Type 0
 Left = List ℕ × Option (List ℕ)
 
--- the next word, and what is left after it
+-- the next word and the rest
 abbrev pub next_of : Left → ℕ × Left
 next_of (w ∷ ws, behind) = (w, (ws, behind))
 next_of ([], None) = (0, ([], None))
@@ -18,15 +18,15 @@ next_of ([], Some state) = ((plus_plus state).0, ([], Some (plus_plus state).1))
 abbrev pub scripted : Left → Stream
 scripted = stream_of (steps_u64_low next_of)
 
--- the words that a script gives, and the seed of those behind them
+-- the words of a script, and the seed of the words after them
 pub record Words : Type 0 where
   pub given : List ℕ
   pub seed : Option ℕ
 
--- these words, and zeros for good
+-- these words, then zeros forever
 abbrev pub only : List ℕ → Words
 only given = record { given = given; seed = None }
 
--- these words, and behind them those of a seed
+-- these words, then those of a seed
 abbrev pub behind_seeded : List ℕ → ℕ → Words
 behind_seeded given seed = record { given = given; seed = Some seed }

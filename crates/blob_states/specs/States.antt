@@ -1,4 +1,4 @@
--- What a laboratory is seen as: files, and what is kept beside them.
+-- The state of a laboratory: its files, configuration, generator, open names, handles and started syncs.
 use Rattle.std.specs.Prelude.{◌<◌, ℕ, List, [], true, false, All, Option, Some, None, length, IfSome, option_map, fold}
 use Rattle.rand_core.specs.Stream.{Stream}
 use Rattle.blob_model.specs.Directory.{Directory, Raw, with_file, with_partition}
@@ -16,21 +16,21 @@ pub record Held : Type 0 where
   pub place : Place  -- the incarnation that it was opened on
   pub live : List ℕ
   pub size : ℕ  -- the tracked size
-  pub registration : Option Registration  -- the exclusive open that it is of, none of a loose one
+  pub registration : Option Registration  -- its exclusive open, if it has one
 
 -- a started sync
 pub record Started : Type 0 where
-  pub outcome : Option Refusal  -- what it answers
+  pub outcome : Option Refusal  -- its error, if any
 
 pub record State : Type 0 where
   pub files : Files
   pub config : Config
-  pub stream : Stream  -- what is left of the generator
+  pub stream : Stream  -- the rest of the generator's words
   pub names : OpenNames
-  pub handles : List (Option Held)  -- each handle by its number, none where it is closed
-  pub syncs : List (Option Started)  -- each started sync by its number, none where it is finished or dropped
+  pub handles : List (Option Held)  -- each handle by its number, None if it is closed
+  pub syncs : List (Option Started)  -- each started sync by its number, None if it is finished or dropped
 
--- a handle that was just opened on an incarnation
+-- a new handle on an incarnation
 abbrev pub held_on : Files → Option Registration → Place → Held
 held_on f registration o = record { place = o; live = durable_at f o; size = length (durable_at f o); registration = registration }
 
@@ -46,7 +46,7 @@ empty_directory = record { has_partition = λ p. false; file = λ p n. None; nex
 abbrev pub with_image : Directory → Image → Directory
 with_image d (p, n, bytes) = record { has_partition = with_partition d.has_partition p true; file = with_file d.file p n (Some (Raw bytes)); next = d.next }
 
--- the images are set one after another
+-- sets the images one after another
 abbrev pub start_on : List Image → Stream → Config → State
 start_on images stream config =
     let files = wrapped (fold with_image empty_directory images) (λ o. []) 0 0 in
@@ -55,6 +55,6 @@ start_on images stream config =
 abbrev pub start : List Image → Words → Config → State
 start images words config = start_on images (scripted (words.given, option_map (λ seed. of_seed (splitmix_seed 32 seed)) words.seed)) config
 
--- every handle's incarnation has a number that was given
+-- the incarnation of each handle has a number below the next one
 abbrev pub AreGiven : ℕ → List (Option Held) → Type 0
 AreGiven next handles = All (λ slot. IfSome slot (λ h. h.place.number < next)) handles

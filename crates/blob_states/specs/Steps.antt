@@ -1,4 +1,4 @@
--- What single calls answer and what they leave of a state, for proofs.
+-- The replies and effects of single calls, as proofs use them.
 use Rattle.std.specs.Prelude.{List, ℕ, ◌-◌, ◌^◌, ◌==◌, Bool, false, ◌&&◌, Option, Some, None, is_some, is_none, option_and_then, fold, set}
 use Rattle.std.specs.Option.{option_or, option_map_or}
 use Rattle.hex.specs.Hex.{encode_lower}
@@ -18,13 +18,13 @@ use Rattle.blob_states.specs.Denials.{refused_if, fate_denial}
 use Rattle.blob_states.specs.Fixed.{Byte, is_on, asks_for}
 use Rattle.blob_states.specs.States.{State, Held, Image, with_image}
 
--- What refuses them.
+-- Errors.
 
--- a call that fails, unless the store refuses what it does of it
+-- the store's error if there is one, otherwise `Injected`
 abbrev pub or_injected : Option Refusal → Option Refusal
 or_injected refusal = option_or refusal (Some Injected)
 
--- a write by what comes of it, by whether writes are retained and by the next number
+-- a write by its outcome, by whether writes are retained, and by the next number
 abbrev pub write_denial_by : WriteFate → Directory → Place → Bool → ℕ → Bool → ℕ → List ℕ → Option Refusal
 write_denial_by fate d o retained next sync offset bytes = fate_denial fate d o (refused_if GenerationsExhausted (lacks_number retained next bytes)) sync offset bytes
 
@@ -45,11 +45,11 @@ scan_denial v p = option_or (refused_if Injected (draw v.config.scan_rate v.stre
 abbrev pub loose_denial : State → List ℕ → List ℕ → ℕ → ℕ → Option Refusal
 loose_denial v p n first last = option_or (refused_if Injected (draw v.config.open_rate v.stream).0) (open_refusal v.files.directory p n first last)
 
--- whether no number is left for an open of a name that isn't open
+-- whether no number is left to open a name that isn't open
 abbrev pub is_unnumbered : OpenNames → List ℕ → List ℕ → Bool
 is_unnumbered names p n = is_none (names.registered p n) && (names.next == 2 ^ 64 - 1)
 
--- of a name that is open, which is told after the store's open
+-- the error if a name is already open, which comes after the store's open
 abbrev pub open_already : OpenNames → List ℕ → List ℕ → Option Refusal
 open_already names p n = refused_if (BlobAlreadyOpen p (encode_lower n)) (is_some (names.registered p n))
 
@@ -57,7 +57,7 @@ abbrev pub open_denial : State → List ℕ → List ℕ → ℕ → ℕ → Opt
 open_denial v p n first last =
     option_or (refused_if GenerationsExhausted (is_unnumbered v.names p n)) (option_or (loose_denial v p n first last) (open_already v.names p n))
 
--- whether what is asked may want memory
+-- whether a call through a handle may return `Memory`
 abbrev pub asks_memory : Ask → Option Held → Bool
 asks_memory Size slot = false
 asks_memory ask slot = is_some slot
@@ -66,22 +66,22 @@ asks_memory ask slot = is_some slot
 abbrev pub found_at : State → List ℕ → List ℕ → ℕ → ℕ → Opening
 found_at v p n first last = opening p n (v.files.directory.file p n) first last
 
--- whether what is asked through a handle reaches a byte of its blob
+-- whether a call through a handle touches a byte of its blob
 abbrev pub reaches_through : State → Option Held → Ask → Byte → Bool
 reaches_through v slot ask b = elim slot [ None ↦ false | Some h ↦ is_on v.files.directory h b && asks_for ask b ]
 
--- What they leave.
+-- Effects.
 
--- a started sync with this outcome
+-- files after a started sync with this outcome
 abbrev pub begun : Files → Held → Option Refusal → Files
 begun f h None = started f h.place h.live
 begun f h (Some refusal) = f
 
--- an exclusive open ended, of a loose one nothing
+-- open names after an exclusive open ends; an open that isn't exclusive has no registration
 abbrev pub unregistered : OpenNames → Option Registration → OpenNames
 unregistered s registration = option_map_or (names.closed s) registration s
 
--- a handle's slot emptied, and its open ended
+-- a state with one handle closed
 abbrev pub with_closed : State → ℕ → Option Held → State
 with_closed v number slot = record v { names = unregistered v.names (option_and_then (λ h. h.registration) slot); handles = set v.handles number None }
 

@@ -1,5 +1,4 @@
-//! What follows for the states of a laboratory, whatever calls came before. Each law is carried by a function that does
-//! nothing: its contract is the law.
+//! Laws of the states of a laboratory, after any calls. A law is an empty function; its contract is the law.
 
 ghost use Rattle.std.specs.Prelude.{◌≡◌, ◌≤◌, List, [], Option, None, length};
 ghost use Rattle.rand_core.specs.Stream.{Stream};
@@ -26,9 +25,9 @@ pub mod current_handles;
 pub mod persistence;
 pub mod rebuilt_stores;
 
-/// A crash that is answered with its rows leaves of each incarnation its base with the uncut log replayed in issue order, by
-/// exactly these rows, which are drawn for the writes that the log needs. It changes no header. One straight after it
-/// changes nothing more, answers no row and takes no word.
+/// A crash that replies with its rows replays the uncut log of each incarnation over its base, in issue order, by
+/// exactly these rows: one per write that the log needs. A crash changes no header. Another crash right after it
+/// changes nothing, returns no row and takes no word.
 pub fn crashes()
     ensures rows { (v : State) → answer v Crash ≡ (told.Crashed (drawn v.stream (all_needs v.files.log)).0, (drawn v.stream (all_needs v.files.log)).1) }
     ensures left { CrashReplaysTheLog }
@@ -37,30 +36,32 @@ pub fn crashes()
     ensures same { CrashAgainChangesNothing }
 {}
 
-/// A removal leaves the base and the log of every incarnation that it doesn't end, and the file of every name that it
-/// doesn't remove, a raw one too.
+/// A removal changes no base, no log of an incarnation that it doesn't end, and no file of a name that it doesn't
+/// remove, including raw files.
 pub fn removals()
     ensures base { RemovalKeepsBases }
     ensures files { RemovalKeepsOtherFiles }
     ensures log { RemovalKeepsOtherLogs }
 {}
 
-/// A handle that was just opened reads what is durable and tracks its length.
+/// A newly opened handle reads the durable bytes and tracks their length.
 pub fn opens()
     ensures live { (files : Files) (registration : Option Registration) (o : Place) → (held_on files registration o).live ≡ durable_at files o }
     ensures size { (files : Files) (registration : Option Registration) (o : Place) → (held_on files registration o).size ≡ length (durable_at files o) }
 {}
 
-/// An incarnation that isn't its name's current one never is again, whatever is called, in a store that is rebuilt too.
+/// An incarnation that isn't its name's current one never becomes current again, after any calls and rebuilds.
 pub fn stale_stays_stale()
     ensures next { (v : State) (act : Act) (refusal : Option Refusal) (rest : Stream) → v.files.directory.next ≤ (after v act refusal rest).files.directory.next }
     ensures stale { StaleStaysStale }
     ensures ever { StaleStaysForEver }
 {}
 
-/// What is asked through a handle changes no directory, and no durable byte but those of its own incarnation. So a stale
-/// handle changes none; its sync is refused, with `BlobMissing` where nothing is injected. So is its started sync, where a
-/// number is left for a marker; whatever refuses that one, it begins nothing.
+/// A call through a handle changes no directory, and durable bytes only of its own incarnation. A stale handle changes
+/// none.
+///
+/// A sync by a stale handle fails with `BlobMissing`, unless a fault is injected. A started sync fails likewise, if a
+/// number is left for a marker. Regardless of its error, it publishes nothing.
 pub fn asks()
     ensures directory { (v : State) (h : Held) (ask : Ask) (refusal : Option Refusal) → (files_after v h ask refusal).directory ≡ v.files.directory }
     ensures others { AskKeepsOtherFiles }
@@ -70,15 +71,15 @@ pub fn asks()
     ensures stale_begun { StaleStartBeginsNothing }
 {}
 
-/// Where calls lead to whose opens are all exclusive, a current incarnation has one open handle at most, and the name of
-/// each handle that is on a current incarnation is open by that handle's own registration.
+/// If all opens are exclusive, a current incarnation has at most one open handle, and the name of each handle on a
+/// current incarnation is open by that handle's own registration.
 pub fn opens_are_exclusive()
     ensures sole { (v : State) → ReachedExclusively v → Sole v }
     ensures names { (v : State) → ReachedExclusively v → HoldNames v }
 {}
 
-/// A run after another is one run, so that where calls lead from a state that was reached is reached too: exclusively,
-/// where no call of either is an open that isn't exclusive. A laboratory that was just made is reached so.
+/// Two runs in sequence are one run. So calls from a reached state lead to a reached state; if all opens of both are
+/// exclusive, to one that is reached exclusively. So is the state of a new laboratory.
 pub fn runs_go_on()
     ensures runs { RunsGoOn }
     ensures start { (images : List Image) (words : Words) (config : Config) → ReachedExclusively (start images words config) }

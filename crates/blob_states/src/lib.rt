@@ -1,4 +1,4 @@
-//! What the calls of a laboratory are told and leave, state by state, and what follows for all runs.
+//! The states of a laboratory: the reply and the effect of each call, and laws of all runs.
 #![tactic(auto)]
 
 pub mod laws;

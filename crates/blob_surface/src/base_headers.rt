@@ -91,7 +91,7 @@ fn header_errors_become_errors(rt: HostRuntime) {
     assert!(rt; version.into_error(rt.alloc(), "p", b"b") == refused);
 }
 
-/// What these bytes are as a whole blob.
+/// Resolves these bytes as a whole blob.
 fn resolved(alloc: Global, raw: &[u8]) -> Result<Option<(u64, BlobVersion, u64)>, Error> {
     let versions = BlobVersion::new(0)..=BlobVersion::new(u16::MAX);
     let len = raw.len() as u64;

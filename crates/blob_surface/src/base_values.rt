@@ -55,7 +55,7 @@ fn rates(rt: HostRuntime) -> Result<(), Fail> {
     Ok(())
 }
 
-/// The number of words that an error carries.
+/// Returns the number of an error's strings.
 fn texts(error: &Error) -> u8 {
     match error {
         Error::OffsetOverflow | Error::BlobInsufficientLength => 0,
@@ -75,7 +75,7 @@ fn texts(error: &Error) -> u8 {
     }
 }
 
-/// A text of an error.
+/// Returns an error as a text.
 fn text(alloc: Global, error: &Error) -> Result<String, AllocError> {
     format!(in alloc; "{error}")
 }

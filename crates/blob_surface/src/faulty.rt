@@ -21,7 +21,7 @@ pub(crate) fn bytes(alloc: Global, bytes: &[u8]) -> Result<IoBufs, Error> {
     IoBufs::from_vec(Vec::from_slice(alloc, bytes)?)
 }
 
-/// No write fails; a crash keeps what half of the draws choose.
+/// No write fails. A crash keeps bytes with rate 1/2.
 fn halves(mode: PartialWriteMode) -> WriteConfig {
     WriteConfig {
         failure_rate: Probability::ZERO,
@@ -30,13 +30,13 @@ fn halves(mode: PartialWriteMode) -> WriteConfig {
     }
 }
 
-/// A wrapper that draws these words, and then zeros.
+/// Returns a wrapper that draws these words, and then zeros.
 pub(crate) fn wrapper(alloc: Global, words: &[u64], config: Config) -> Result<Faulty, Error> {
     let rng = ScriptedRng::new(Vec::from_slice(alloc, words)?);
     Ok(Wrapper::new(alloc, Memory::new(alloc), rng, config))
 }
 
-/// A wrapper that injects nothing, with the blob `b` of `p`, whose durable bytes are `abc`.
+/// Returns a wrapper that injects nothing. The blob `b` of `p` has the durable bytes `abc`.
 fn with_blob(alloc: Global) -> Result<(Faulty, Opened), Error> {
     let mut store = wrapper(alloc, &[], Config::default())?;
     let (mut blob, _) = store.open("p", b"b")?;
@@ -76,12 +76,12 @@ fn configurations(rt: HostRuntime) {
     assert!(rt; built == whole);
 }
 
-/// A rate in hundredths.
+/// Returns a rate in hundredths.
 fn hundredths(part: u64) -> Probability {
     Probability::new(part, 100).unwrap_or(Probability::ZERO)
 }
 
-/// The write configuration of both rates in hundredths.
+/// Returns the write configuration with both rates in hundredths.
 fn cell(rate: u64, mode: PartialWriteMode) -> WriteConfig {
     WriteConfig {
         failure_rate: hundredths(rate),
@@ -100,7 +100,7 @@ fn cells(rt: HostRuntime) {
     assert!(rt; sectors.is_some_and(|mode| mode != PartialWriteMode::Subset));
 }
 
-/// Whether the first row of a crash is that of this write, with these choices.
+/// Returns whether the first row of a crash is that of this write, with these choices.
 fn begins_with(kept: &Selections, number: u64, choices: &[bool]) -> bool {
     match kept.rows().first() {
         Some((found, kept)) => *found == number && kept.as_slice() == choices,
@@ -128,7 +128,7 @@ fn a_crash_keeps_what_is_drawn(rt: HostRuntime) -> Result<(), Fail> {
     Ok(())
 }
 
-/// A wrapper with a pending write of eight bytes, three SYNC writes over it, and the choices of a crash.
+/// Returns a wrapper with a pending write of eight bytes, three SYNC writes over it, and the choices of a crash.
 fn with_holes(alloc: Global) -> Result<Faulty, Error> {
     let config = Config::default().write(halves(PartialWriteMode::Subset));
     let mut store = wrapper(alloc, &[0, 0, 0, u64::MAX, 0, 0, u64::MAX, 0], config)?;
@@ -146,7 +146,7 @@ fn with_holes(alloc: Global) -> Result<Faulty, Error> {
     Ok(store)
 }
 
-/// Whether the first entry that is pending is a write with these holes, each from its start to before its end.
+/// Returns whether the first pending entry is a write with these holes, each as start and end.
 fn has_holes(store: &Faulty, holes: &[(u64, u64)]) -> bool {
     let Some(list) = store.pending().first() else {
         return false;

@@ -1,4 +1,4 @@
-//! Opens of the wrapper that keep what they find, and its calls that take slices.
+//! Opens of the wrapper that make durable what they find, and its calls with slices.
 use crate::faulty::{Faulty, bytes, wrapper};
 use blob_base::{Blob, DEFAULT_BLOB_VERSION, Error, Probability, Storage, WriteOptions};
 use blob_faulty::{Config, PartialWriteMode, WriteConfig};
@@ -6,7 +6,7 @@ use blob_lab::Opens;
 use std::alloc::Global;
 use std::test::Fail;
 
-/// A wrapper with an unsynced write of `abc`, which a crash loses unless an open keeps it.
+/// Returns a wrapper with an unsynced write of `abc`, which a crash loses unless an open makes it durable.
 fn with_unsynced(alloc: Global) -> Result<Faulty, Error> {
     let lost = WriteConfig {
         failure_rate: Probability::ZERO,
@@ -24,7 +24,7 @@ fn with_unsynced(alloc: Global) -> Result<Faulty, Error> {
     Ok(store)
 }
 
-/// Whether the durable bytes of the blob are `wanted` after a crash.
+/// Returns whether the durable bytes of the blob are `wanted` after a crash.
 fn crashes_to(store: &mut Faulty, wanted: &[u8]) -> Result<bool, Error> {
     store.crash()?;
     let durable = store.inner().logical_blob("p", b"b")?;
@@ -49,7 +49,7 @@ fn an_admitted_open_of_versions(rt: HostRuntime) -> Result<(), Fail> {
     Ok(())
 }
 
-/// Whether the registry refuses an exclusive open of the blob. A handle is closed again at once.
+/// Returns whether an exclusive open of the blob returns `BlobAlreadyOpen`. Closes a returned handle.
 fn is_refused(store: &mut Faulty, opens: &mut Opens) -> bool {
     let versions = DEFAULT_BLOB_VERSION..=DEFAULT_BLOB_VERSION;
     match store.open_exclusive(opens, "p", b"b", versions) {

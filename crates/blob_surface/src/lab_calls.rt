@@ -29,7 +29,7 @@ fn keeping() -> Config {
     })
 }
 
-/// A laboratory over the raw blob `c` of `p`.
+/// Returns a laboratory with the raw blob `c` of `p`.
 fn lab(alloc: Global) -> Result<Lab, Error> {
     let mut images = Vec::new(alloc);
     let image = Vec::from_slice(alloc, b"CWIC\0\0\0\0abc")?;
@@ -37,7 +37,7 @@ fn lab(alloc: Global) -> Result<Lab, Error> {
     Lab::new(images, Vec::new(alloc), Config::default())
 }
 
-/// Calls that open and write.
+/// Returns calls that open and write.
 fn writes(alloc: Global) -> Result<Vec<Call>, Error> {
     let (partition, name) = (partition(alloc)?, name(alloc)?);
     let bytes = Vec::from_slice(alloc, b"ab")?;
@@ -60,7 +60,7 @@ fn writes(alloc: Global) -> Result<Vec<Call>, Error> {
     Ok(calls)
 }
 
-/// The laboratory makes these calls, and is ended.
+/// Runs these calls in the laboratory and ends it.
 fn answers(alloc: Global, calls: &[Call]) -> Result<Vec<Reply>, Error> {
     let mut lab = lab(alloc)?;
     let replies = lab.run(calls);
@@ -93,7 +93,7 @@ fn a_laboratory_writes(rt: HostRuntime) -> Result<(), Fail> {
     Ok(())
 }
 
-/// Calls through a loose handle of the blob `c`.
+/// Returns calls through a handle of the blob `c` that isn't exclusive.
 fn reads(alloc: Global) -> Result<Vec<Call>, Error> {
     let (partition, name) = (partition(alloc)?, Vec::from_slice(alloc, b"c")?);
     let mut calls = Vec::new(alloc);
@@ -128,7 +128,7 @@ fn a_laboratory_reads(rt: HostRuntime) -> Result<(), Fail> {
     Ok(())
 }
 
-/// Calls by name.
+/// Returns calls by name.
 fn removals(alloc: Global) -> Result<Vec<Call>, Error> {
     let mut calls = Vec::new(alloc);
     calls.push(Call::Scan {

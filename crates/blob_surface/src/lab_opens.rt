@@ -10,7 +10,7 @@ use std::test::Fail;
 
 type Held = open::Blob<blob_memory::Blob>;
 
-/// Opens the blob `1` of `a`. A handle is closed again at once.
+/// Opens the blob `1` of `a`. Returns whether the error is `BlobAlreadyOpen`. Closes a returned handle.
 fn refused(opens: &mut Opens, store: &mut Memory) -> bool {
     let versions = DEFAULT_BLOB_VERSION..=DEFAULT_BLOB_VERSION;
     match opens.open(store, "a", b"1", versions) {
@@ -35,7 +35,7 @@ fn writes(store: &mut Memory, blob: &mut Held, alloc: Global) -> Result<bool, Er
     )
 }
 
-/// Syncs at once and in two steps, and compares the origins.
+/// Syncs in one call and in two steps, and compares the origins.
 fn syncs(store: &mut Memory, blob: &mut Held) -> Result<bool, Error> {
     blob.reserve(store, 6)?;
     blob.sync(store)?;

@@ -23,7 +23,7 @@ fn settle(
     }
 }
 
-/// Admits the name again, and answers why it is refused, or which open it is. That is closed at once.
+/// Admits the name again. Returns the error or the id of the open. Closes the open.
 fn again(pending: &mut Pending) -> Result<GenerationId, Error> {
     let (open, _, _) = pending.admit("a", b"1", true)?;
     let id = open.id();
@@ -63,7 +63,7 @@ fn debt_lasts_until_it_is_cleared(rt: HostRuntime) -> Result<(), Fail> {
     Ok(())
 }
 
-/// Whether the token that an open is given is settled.
+/// Returns whether an open gets a token that isn't settled yet. Then fails and closes the open.
 fn is_waited_for(pending: &mut Pending) -> Result<bool, Error> {
     let (open, receiver, _) = pending.admit("a", b"1", true)?;
     let waits = receiver.is_some_and(|token| !pending.is_settled(&token));

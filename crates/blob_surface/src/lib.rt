@@ -1,4 +1,5 @@
-//! Tests that call each public item of `blob_base`, `blob_memory`, `blob_faulty` and `blob_lab` once, by its public path.
+//! Tests that call each public item of `blob_base`, `blob_memory`, `blob_faulty` and `blob_lab` once, by its public
+//! path.
 #![tactic(auto)]
 
 #[cfg(test)]

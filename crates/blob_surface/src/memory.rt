@@ -11,7 +11,7 @@ fn bytes(alloc: Global, bytes: &[u8]) -> Result<IoBufs, Error> {
     IoBufs::from_vec(Vec::from_slice(alloc, bytes)?)
 }
 
-/// A store with the blob `b` of `p`, whose durable bytes these are, and a handle on it.
+/// Returns a store with the blob `b` of `p`, which has these durable bytes, and a handle on it.
 fn with_blob(alloc: Global, text: &[u8]) -> Result<(Memory, Opened), Error> {
     let mut store = Memory::new(alloc);
     let (mut blob, _) = store.open("p", b"b")?;
@@ -69,7 +69,7 @@ fn names(rt: HostRuntime) -> Result<(), Fail> {
     Ok(())
 }
 
-/// A store with these raw blobs of `p`.
+/// Returns a store with these raw blobs of `p`.
 fn of_images(alloc: Global, images: &[(&[u8], &[u8])]) -> Result<Memory, Error> {
     let mut store = Memory::new(alloc);
     for (name, raw) in images {

@@ -1,7 +1,7 @@
 //! The tests of header regions.
 use crate::{blob_bytes, versions};
 use blobcrash::Error;
-use blobcrash::header::{Layout, create, resolve};
+use blobcrash::header::{HeaderError, Layout, create, parse, resolve};
 use blobcrash::storage::BlobVersion;
 use std::ops::RangeInclusive;
 
@@ -93,6 +93,21 @@ fn test_header_extension_rejects_bad_crc() {
     let region = with(&blob_bytes(Layout::V1, 0, b""), |raw| raw[11] ^= 1);
     let found = resolved(&region, &Layout::ALL, 0, 0);
     assert_eq!(found, corrupt("invalid header checksum"));
+}
+
+#[test]
+fn test_header_extension_rejects_truncated_region() {
+    let (region, _) = create(&V1, &versions(0, 0));
+    let raw_len = Layout::V1.data_offset() - 1;
+    let raw = &region[..raw_len as usize];
+    let truncated = HeaderError::Truncated {
+        required_len: 4096,
+        raw_len: 4095,
+    };
+    assert_eq!(
+        parse(raw, raw_len, &Layout::ALL, &versions(0, 0)),
+        Err(truncated)
+    );
 }
 
 #[test]
@@ -268,6 +283,72 @@ fn test_header_interrupted_v1_creation_accepts_torn_states() {
     // The complete region has the shape as well, and is valid.
     let found = resolved(&region, &Layout::ALL, 0, u16::MAX);
     assert_eq!(found, valid(0, 5, Layout::V1));
+}
+
+#[test]
+fn test_layout_v0_interrupted_creation_rejects_all() {
+    let (region, _) = create(&V1, &versions(0, 0));
+    assert!(Layout::V1.interrupted_creation(&region[..10]));
+    assert!(!Layout::V0.interrupted_creation(&region[..10]));
+    assert!(!Layout::V0.interrupted_creation(&[]));
+}
+
+/// What `parse` says of a header that each of its tests refuses.
+#[test]
+fn each_test_of_a_header_has_its_error() {
+    let (region, _) = create(&V1, &versions(5, 5));
+    let whole = |raw: &[u8]| parse(raw, raw.len() as u64, &V1, &versions(4, 6));
+    let changed = |at: usize, byte: u8| with(&region, |raw| raw[at] = byte);
+    assert_eq!(whole(&region), Ok((0, BlobVersion::new(5), 4096)));
+    let found = *b"XWIK";
+    assert_eq!(
+        whole(&changed(0, b'X')),
+        Err(HeaderError::InvalidMagic { found })
+    );
+    let (expected, found) = (1, 2);
+    assert_eq!(
+        whole(&changed(5, 2)),
+        Err(HeaderError::UnsupportedLayoutVersion { expected, found })
+    );
+    let found = *b"CWIC";
+    assert_eq!(found, Layout::V0.magic());
+    assert_eq!(
+        whole(b"CWIC\0\x01\0\0"),
+        Err(HeaderError::UnsupportedLayoutVersion {
+            expected: 0,
+            found: 1
+        })
+    );
+    assert_eq!(whole(&changed(7, 4)), Err(HeaderError::InvalidChecksum));
+    assert_eq!(whole(&changed(4095, 1)), Err(HeaderError::InvalidPadding));
+    let (required_len, raw_len) = (12, 8);
+    assert_eq!(
+        whole(&region[..8]),
+        Err(HeaderError::Truncated {
+            required_len,
+            raw_len
+        })
+    );
+    assert_eq!(
+        whole(b"CWIC\0\0\0\x05"),
+        Err(HeaderError::LayoutMismatch {
+            expected: V1,
+            found: Layout::V0
+        })
+    );
+    let expected = versions(0, 4);
+    let found = BlobVersion::new(5);
+    assert_eq!(
+        parse(&region, 5000, &V1, &expected),
+        Err(HeaderError::VersionMismatch {
+            expected: expected.clone(),
+            found
+        })
+    );
+    assert_eq!(
+        parse(&region, 5000, &V1, &versions(5, 5)),
+        Ok((904, found, 4096))
+    );
 }
 
 #[test]

@@ -79,6 +79,30 @@ fn test_empty_write_semantics() {
     assert_eq!(store.open("partition", b"sync").unwrap().1, 0);
 }
 
+#[test]
+fn test_set_raw_blob_retires_live_generation() {
+    let store = plain_store();
+    let (stale, _) = store.open("partition", b"blob").unwrap();
+    stale.write_at(0, b"stale", PLAIN()).unwrap();
+
+    let installed = blob_bytes(Layout::V1, 0, b"current");
+    store
+        .set_raw_blob("partition", b"blob", &installed)
+        .unwrap();
+    let missing = Error::BlobMissing("partition".to_owned(), "626c6f62".to_owned());
+    assert_eq!(stale.sync(), Err(missing));
+    assert_eq!(raw(&store, b"blob"), installed);
+
+    let (fresh, size) = store.open("partition", b"blob").unwrap();
+    assert_eq!((size, fresh.version()), (7, 0));
+    assert_eq!(fresh.read_at(0, 7).unwrap(), b"current");
+    drop(stale);
+    let already = Error::BlobAlreadyOpen("partition".to_owned(), "626c6f62".to_owned());
+    assert_eq!(store.open("partition", b"blob").err(), Some(already));
+    drop(fresh);
+    drop(store.open("partition", b"blob").unwrap());
+}
+
 /// The counterpart applies chosen bytes to the durable ones by a call of its own. Here they are those of a pending write through a
 /// second handle, and the words of the crash choose them.
 #[test]

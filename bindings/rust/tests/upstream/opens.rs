@@ -2,7 +2,7 @@
 use crate::{block_on, plain_store};
 use blobcrash::asynchronous::{Blob as _, ReadOptions, Storage};
 use blobcrash::storage::{self, BlobVersion, Handle, IoBufs, IoBufsMut};
-use blobcrash::{Error, WriteOptions};
+use blobcrash::{Error, Opens, WriteOptions};
 use std::ops::RangeInclusive;
 use std::sync::Arc;
 use std::sync::atomic::{AtomicUsize, Ordering};
@@ -151,4 +151,39 @@ fn test_open_racing_last_blob_drop() {
     dropper.join().unwrap();
     drop(store.open("partition", b"independent").unwrap());
     drop(block_on(opened(&store, b"saved")));
+}
+
+#[test]
+fn test_replace_retires_only_matching_registrations() {
+    let inner = plain_store();
+    let opens = Opens::new().unwrap();
+    let open = |partition: &str, name: &[u8]| {
+        opens.open(partition, name, || {
+            let versions = storage::DEFAULT_BLOB_VERSION..=storage::DEFAULT_BLOB_VERSION;
+            let (blob, size) = inner.open_loose(partition, name, 0..=0)?;
+            Ok((blob, size, *versions.start()))
+        })
+    };
+    let refused = |partition: &str, name: &[u8]| {
+        matches!(open(partition, name), Err(Error::BlobAlreadyOpen(..)))
+    };
+    let ax = open("a", b"x").unwrap();
+    let ay = open("a", b"y").unwrap();
+    let bx = open("b", b"x").unwrap();
+
+    let failed = opens.replace("a", None, || Err::<(), _>(Error::Closed));
+    assert_eq!(failed, Err(Error::Closed));
+    assert!(refused("a", b"x") && refused("a", b"y") && refused("b", b"x"));
+
+    opens.replace("a", Some(b"x"), || Ok(())).unwrap();
+    assert!(refused("a", b"y") && refused("b", b"x"));
+    let current = open("a", b"x").unwrap();
+    drop(ax);
+    assert!(refused("a", b"x"));
+
+    opens.replace("a", None, || Ok(())).unwrap();
+    drop(open("a", b"x").unwrap());
+    drop(open("a", b"y").unwrap());
+    assert!(refused("b", b"x"));
+    drop((current, ay, bx));
 }

@@ -1,4 +1,4 @@
-//! What an accepted open leaves, in any store.
+//! The result of an accepted open, in any store.
 
 ghost use Rattle.std.specs.Prelude.{◌≡◌, ◌<◌, ℕ, List, Some};
 ghost use Rattle.blob_model.specs.Directory.{current};
@@ -7,9 +7,9 @@ ghost use Rattle.blob_model.specs.Places.{Place};
 
 use crate::Durable as Shows;
 
-/// The handle's incarnation has the partition and the name that were asked for, and is the name's current one afterwards; its
-/// durable bytes are the handle's live ones. An incarnation that was current goes on, and nothing changes. A name that has no
-/// file begins without bytes. Numbers don't fall. An open for one version answers that version.
+/// The handle's incarnation has the requested partition and name, and is the name's current one afterwards. Its durable
+/// bytes are the handle's live bytes. If the name had a current incarnation, the open continues it and nothing changes.
+/// A name without a file starts empty. The next number doesn't decrease. An open for one version returns that version.
 pub fn accepted_opens()
     ensures named { OpensAreNamed }
     ensures current { OpensAreCurrent }
@@ -20,7 +20,7 @@ pub fn accepted_opens()
     ensures missing_names_begin_empty { MissingNamesBeginEmpty }
 {}
 
-/// The number of a current incarnation was given: the next one is above it.
+/// The number of a current incarnation is less than the next number.
 pub fn numbers_are_given<S: Shows>()
     ensures current { (s : S) (p n : List ℕ) (o : Place) → current (S.directory s) p n ≡ Some o → o.number < (S.directory s).next }
     ensures durable { (s : S) (o : Place) (bytes : List ℕ) → S.durable s o ≡ Some bytes → o.number < (S.directory s).next }

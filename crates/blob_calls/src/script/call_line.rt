@@ -13,7 +13,7 @@ use blob_base::{BlobVersion, DEFAULT_BLOB_VERSION};
 use std::alloc::Global;
 use std::ops::RangeInclusive;
 
-/// Reads a call, of which `word` is the first token. Tokens after it are left.
+/// Parses a call. `word` is its first token. Leaves the tokens after the call.
 pub(crate) fn call(alloc: Global, word: &str, tokens: &mut Tokens) -> Result<Call, RefusedLine>
     ensures ok { IfOk result (λ asked. call word.now tokens.old ≡ Some (act_of asked, tokens.new)) }
     ensures bad { result ≡ Err RefusedLine.BadCall → call word.now tokens.old ≡ None }
@@ -127,7 +127,7 @@ fn write(alloc: Global, tokens: &mut Tokens, sync: bool) -> Result<Call, Refused
     })
 }
 
-/// The next token as it is.
+/// Returns the next token.
 pub(crate) fn text(alloc: Global, tokens: &mut Tokens) -> Result<String, RefusedLine>
     ensures ok { IfOk result (λ read. text tokens.old ≡ Some (string_bytes read, tokens.new)) }
     ensures bad { result ≡ Err RefusedLine.BadCall → text tokens.old ≡ None }
@@ -136,7 +136,7 @@ pub(crate) fn text(alloc: Global, tokens: &mut Tokens) -> Result<String, Refused
     Ok(String::from_str(alloc, token)?)
 }
 
-/// The bytes of the next token.
+/// Parses the next token as bytes.
 pub(crate) fn hex(alloc: Global, tokens: &mut Tokens) -> Result<Vec<u8>, RefusedLine>
     ensures ok { IfOk result (λ read. hex tokens.old ≡ Some (read.items, tokens.new)) }
     ensures bad { result ≡ Err RefusedLine.BadCall → hex tokens.old ≡ None }
@@ -144,7 +144,7 @@ pub(crate) fn hex(alloc: Global, tokens: &mut Tokens) -> Result<Vec<u8>, Refused
     bytes(alloc, tokens.next().ok_or(RefusedLine::BadCall)?)
 }
 
-/// The bytes of the next token, where there is one.
+/// Parses the next token as bytes, if there is one.
 fn name(alloc: Global, tokens: &mut Tokens) -> Result<Option<Vec<u8>>, RefusedLine>
     ensures ok { IfOk result (λ read. name tokens.old ≡ Some (option_map (λ bytes. bytes.items) read, tokens.new)) }
     ensures bad { result ≡ Err RefusedLine.BadCall → name tokens.old ≡ None }
@@ -155,7 +155,7 @@ fn name(alloc: Global, tokens: &mut Tokens) -> Result<Option<Vec<u8>>, RefusedLi
     }
 }
 
-/// The number of the next token.
+/// Parses the next token as a number.
 pub(crate) fn digits(tokens: &mut Tokens) -> Result<u64, RefusedLine>
     ensures ok { IfOk result (λ read. digits tokens.old ≡ Some (read, tokens.new)) }
     ensures bad { result ≡ Err RefusedLine.BadCall → digits tokens.old ≡ None }
@@ -171,7 +171,7 @@ fn index(tokens: &mut Tokens) -> Result<usize, RefusedLine>
     Ok(digits(tokens)? as usize)
 }
 
-/// The two versions that are left, or where nothing is left the default alone.
+/// Parses the next two tokens as versions. If there are no tokens, returns the default version only.
 fn versions(tokens: &mut Tokens) -> Result<RangeInclusive<BlobVersion>, RefusedLine>
     ensures ok { IfOk result (λ read. versions tokens.old ≡ Some (versions_of read, tokens.new)) }
     ensures bad { result ≡ Err RefusedLine.BadCall → versions tokens.old ≡ None }

@@ -1,11 +1,11 @@
-//! Bytes as hex digits, and back.
+//! Decoding hex digits by a table.
 ghost use Rattle.std.specs.Prelude.{◌≡◌, ◌*◌, length, unwrap_or, Ok, IfOk, IsErr, MatchResult, true, false};
 ghost use Rattle.hex.specs.Hex.{decode_of, decode_pairs, hex_digit_value};
 
 use crate::script::RefusedLine;
 use std::alloc::Global;
 
-/// What each byte is as a digit of either case, and 16 where it is none.
+/// The value of each byte as a hex digit of either case, or 16 if it isn't one.
 static DIGITS: [u8; 256] = [
     16, 16, 16, 16, 16, 16, 16, 16, 16, 16, 16, 16, 16, 16, 16, 16, 16, 16, 16, 16, 16, 16, 16, 16,
     16, 16, 16, 16, 16, 16, 16, 16, 16, 16, 16, 16, 16, 16, 16, 16, 16, 16, 16, 16, 16, 16, 16, 16,
@@ -20,7 +20,7 @@ static DIGITS: [u8; 256] = [
     16, 16, 16, 16, 16, 16, 16, 16, 16, 16, 16, 16, 16, 16,
 ];
 
-/// What a byte is as a digit of either case, and 16 where it is none.
+/// Returns the value of a hex digit of either case, or 16 for any other byte.
 #[inline(always)]
 fn digit(byte: u8) -> u8
     ensures { result ≡ unwrap_or (hex_digit_value byte) 16 }
@@ -28,7 +28,7 @@ fn digit(byte: u8) -> u8
     DIGITS[byte as usize]
 }
 
-/// Decodes pairs of digits. Tells whether all are digits; where one isn't, what `bytes` then holds isn't told.
+/// Decodes pairs of digits into `bytes`. Returns false if a byte isn't a digit; `bytes` is unspecified then.
 fn decode_pairs(digits: &[u8], bytes: &mut [u8]) -> bool
     requires { length digits.now ≡ 2 * length bytes.old }
     ensures { MatchResult (decode_pairs 0 digits.now) (λ read. (result ≡ true) × (bytes.new ≡ read)) (λ _. result ≡ false) }
@@ -44,7 +44,7 @@ fn decode_pairs(digits: &[u8], bytes: &mut [u8]) -> bool
     true
 }
 
-/// The bytes of hex digits of either case, as the crate `hex` decodes them, by a table.
+/// Decodes hex digits of either case, as the crate `hex` does, by a table.
 pub(crate) fn decode(alloc: Global, digits: &[u8]) -> Result<Vec<u8>, RefusedLine>
     ensures ok { IfOk result (λ bytes. decode_of digits.now ≡ Ok bytes.items) }
     ensures bad { result ≡ Err RefusedLine.BadCall → IsErr (decode_of digits.now) }

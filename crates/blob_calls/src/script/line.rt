@@ -10,32 +10,32 @@ use crate::script::token::{Tokens, number};
 use crate::script::{RefusedLine, Setting};
 use std::alloc::Global;
 
-/// What a line says.
+/// The meaning of a line.
 #[derive(Debug, Drop)]
 pub enum Line {
-    /// Nothing, or a comment.
+    /// An empty line or a comment.
     Blank,
-    /// A raw image that lies in the store before anything else. Only in the preamble.
+    /// A raw image that the store starts with. Only in the preamble.
     Image {
         partition: String,
         name: Vec<u8>,
         bytes: Vec<u8>,
     },
-    /// Further words of the generator. Only in the preamble.
+    /// More words for the generator. Only in the preamble.
     Words(Vec<u64>),
-    /// The seed of the words behind the given ones. Only in the preamble, and once.
+    /// The seed of the words after the given ones. Only in the preamble, and only once.
     Seed(u64),
-    /// A change of the configuration, after which the whole of it is handed to `Call::Configure`.
+    /// A change of the configuration. The caller passes the whole new configuration to `Call::Configure`.
     Configure(Setting),
     /// Any other call.
     Call(Call),
 }
 
-/// Reads a line, without its end. Whether a preamble line may stand here is the caller's to tell.
+/// Parses a line, without its line feed. The caller checks whether a preamble line is allowed here.
 ///
-/// `BadCall` where it isn't UTF-8, its first token is no word of a script, a token is missing or surplus, or a number is out
-/// of range; `NoMemory` where none was found for its texts. Tokens are parted by spaces alone, and a `#` at the start of the
-/// first one begins a comment.
+/// Returns `BadCall` if the line isn't UTF-8, its first token is unknown, a token is missing or left over, or a number
+/// is out of range. Returns `NoMemory` if its strings can't be allocated. Only spaces separate tokens. A `#` at the
+/// start of the first token begins a comment.
 pub fn read_line(alloc: Global, line: &[u8]) -> Result<Line, RefusedLine>
     ensures ok { IfOk result (λ read. line_of line.now ≡ Some (said_by read)) }
     ensures bad { result ≡ Err RefusedLine.BadCall → line_of line.now ≡ None }
@@ -77,7 +77,7 @@ fn said(alloc: Global, word: &str, tokens: &mut Tokens) -> Result<Line, RefusedL
     }
 }
 
-/// The words that are left, one at least.
+/// Parses the remaining tokens as words, at least one.
 fn words(alloc: Global, tokens: &mut Tokens) -> Result<Vec<u64>, RefusedLine>
     ensures ok { IfOk result (λ read. words tokens.old ≡ Some (read.items, tokens.new)) }
     ensures bad { result ≡ Err RefusedLine.BadCall → words tokens.old ≡ None }

@@ -7,8 +7,8 @@ ghost use Rattle.std.specs.Io.BufRead.{DropsThrough, take_through};
 use memchr::memchr;
 use std::io::{BufRead, ErrorKind, Result};
 
-/// Takes what lies ready in a reader up to and with the first `byte`, where it is there, or tells that the input is at its end.
-/// Answers none where more has to be read; then nothing was taken.
+/// Takes the reader's buffered bytes up to and including the first `byte`, and returns their number, or 0 at the end of
+/// the input. Returns `None` and takes nothing if more must be read.
 fn take_ready<R: BufRead>(reader: &mut R, byte: u8, bytes: &mut Vec<u8>) -> Result<Option<usize>>
     ensures len { IfOk result (λ taken. IfSome taken (λ n. vec_len bytes.new ≡ vec_len bytes.old + n)) }
     ensures bytes { IfOk result (λ taken. IfSome taken (λ _. IfSome (R.remaining reader.old) (λ xs. bytes.new.items ≡ bytes.old.items ++ take_through byte xs))) }
@@ -36,12 +36,13 @@ fn take_ready<R: BufRead>(reader: &mut R, byte: u8, bytes: &mut Vec<u8>) -> Resu
     Ok(Some(end))
 }
 
-/// Appends what a reader has left up to and with the first `byte`, or to its end. `BufRead::read_until` with a faster search: of a
-/// line that lies whole in the reader's buffer, no byte is looked at by itself.
+/// Appends the reader's bytes up to and including the first `byte`, or to the end. Returns their number. Like
+/// `BufRead::read_until`, with a faster search if the whole line is in the reader's buffer.
 ///
 /// # Errors
 ///
-/// The reader's, but for an interrupted read, which is tried again; `OutOfMemory`. What was taken then is what was appended.
+/// Those of the reader, except an interrupted read, which is retried; `OutOfMemory`. The bytes taken until then were
+/// appended.
 pub fn read_through<R: BufRead>(reader: &mut R, byte: u8, bytes: &mut Vec<u8>) -> Result<usize>
     ensures len { IfOk result (λ n. vec_len bytes.new ≡ vec_len bytes.old + n) }
     ensures bytes { OnOk result (IfSome (R.remaining reader.old) (λ xs. bytes.new.items ≡ bytes.old.items ++ take_through byte xs)) }

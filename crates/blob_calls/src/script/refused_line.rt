@@ -2,12 +2,12 @@ ghost use Rattle.std.specs.Prelude.{◌≡◌};
 
 use std::alloc::{AllocError, AllocFailed};
 
-/// Why a line gives no call.
+/// Why a line isn't a call.
 #[derive(Clone, Copy, Debug, PartialEq, Eq)]
 pub enum RefusedLine {
-    /// It says nothing that a script may say there.
+    /// The line isn't allowed in a script at this point.
     BadCall,
-    /// No memory could be had for its texts.
+    /// The strings of the line couldn't be allocated.
     NoMemory,
 }
 

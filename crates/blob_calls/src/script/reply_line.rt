@@ -9,7 +9,7 @@ use crate::Reply;
 use blob_base::RefusalLine;
 use std::alloc::{AllocError, Global};
 
-/// Adds a reply's line to a text, without the line's end. Refused for memory, it may have added a part.
+/// Appends a reply's line to `line`, without the line feed. After an error, a part of it may have been appended.
 pub fn print_reply(reply: &Reply, line: &mut String) -> Result<(), AllocError>
     ensures { OnOk result (string_bytes line.new ≡ string_bytes line.old ++ reply_line reply.now) }
 {
@@ -46,7 +46,7 @@ pub fn print_reply(reply: &Reply, line: &mut String) -> Result<(), AllocError>
     }
 }
 
-/// Adds bytes in lower-case hex, no bytes as a dash.
+/// Appends bytes in lower-case hex, or `-` if there are none.
 #[tactic(auto, using(crate::proofs::HexFields::none, crate::proofs::HexFields::some))]
 fn print_hex(bytes: &[u8], line: &mut String) -> Result<(), AllocError>
     ensures { OnOk result (string_bytes line.new ≡ string_bytes line.old ++ hex_field bytes.now) }

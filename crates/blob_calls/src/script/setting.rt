@@ -7,29 +7,29 @@ use crate::script::token::{Tokens, number};
 use blob_base::{Probability, SectorSize};
 use blob_faults::{Config, PartialWriteMode, ResizeConfig, WriteConfig};
 
-/// What one `config` line sets. The other rates stay, but for `Clear`.
+/// The change that a `config` line makes. It leaves the other rates, except `Clear`.
 #[derive(Clone, Copy, Debug, PartialEq, Eq)]
 pub enum Setting {
     /// How often an open fails.
     Open(Probability),
     /// How often a read fails.
     Read(Probability),
-    /// How writes fail, and what of them is kept.
+    /// How often writes fail, and which of their bytes are kept.
     Write(WriteConfig),
-    /// How often a sync fails, a started one and that of a SYNC write too.
+    /// How often a sync fails, including started syncs and those of SYNC writes.
     Sync(Probability),
-    /// How resizes fail, and how often one survives a crash.
+    /// How often resizes fail, and how often one survives a crash.
     Resize(ResizeConfig),
     /// How often a removal fails.
     Remove(Probability),
     /// How often a scan fails.
     Scan(Probability),
-    /// Nothing fails any more, and nothing is kept.
+    /// No call fails any more, and nothing pending is kept.
     Clear,
 }
 
 impl Setting {
-    /// The configuration with this set.
+    /// Returns the configuration with this change.
     pub fn apply(self, config: Config) -> Config
         ensures { result ≡ configured config self }
     {
@@ -46,7 +46,7 @@ impl Setting {
     }
 }
 
-/// A copy of a configuration.
+/// Returns a copy of a configuration.
 pub fn copy_of(config: &Config) -> Config
     ensures { result ≡ config.now }
 {
@@ -61,7 +61,7 @@ pub fn copy_of(config: &Config) -> Config
     }
 }
 
-/// Reads what follows `config`; none where it isn't a setting. Tokens after it are left.
+/// Parses what follows `config`. Returns `None` if it isn't a setting. Leaves the tokens after it.
 pub(crate) fn read_setting(tokens: &mut Tokens) -> Option<Setting>
     ensures some { IfSome result (λ read. setting tokens.old ≡ Some (read, tokens.new)) }
     ensures none { IfNone result (setting tokens.old ≡ None) }

@@ -1,4 +1,4 @@
-//! The tokens of a line, and what they stand for.
+//! The tokens of a line, and their meaning.
 ghost use Rattle.std.specs.Prelude.{◌≡◌, ◌↔◌, ◌∷◌, [], ◌<◌, ◌^◌, IfSome, IfNone, IfOk, IfErr, OnErr, IsSome, IsErr, string_bytes};
 ghost use Rattle.std.specs.Str.Parse.{digits_value};
 ghost use Rattle.blob_calls.specs.Tokens.{tokens, bytes_of, number_of, IsNumber};
@@ -10,7 +10,7 @@ use std::alloc::Global;
 use std::marker::Model;
 use std::mem;
 
-/// The tokens of a line that are still to be read. They are parted by spaces; a tab isn't one.
+/// The remaining tokens of a line. Only spaces separate tokens, not tabs.
 #[derive(Drop)]
 pub struct Tokens<'a> {
     rest: &'a str,
@@ -26,14 +26,14 @@ impl<'a> Model for Tokens<'a> {
 }
 
 impl<'a> Tokens<'a> {
-    /// The tokens of this line.
+    /// Returns the tokens of a line.
     pub fn new(line: &'a str) -> Tokens<'a>
         ensures { result ≡ tokens line.now }
     {
         Tokens { rest: line }
     }
 
-    /// Takes the next token.
+    /// Removes and returns the next token.
     pub fn next(&mut self) -> Option<&'a str>
         ensures some { IfSome result (λ token. self.old ≡ token.now ∷ self.new) }
         ensures none { IfNone result (self.old ≡ []) }
@@ -53,24 +53,24 @@ impl<'a> Tokens<'a> {
     }
 }
 
-/// The number that a token is: decimal digits, at most `u64::MAX`.
+/// Parses a number: decimal digits, at most `u64::MAX`.
 pub fn number(token: &str) -> Option<u64>
     ensures value { IfSome result (λ value. value ≡ digits_value 10 token.now) }
     ensures found { IsSome result ↔ IsNumber token.now }
     ensures read { result ≡ number_of token.now }
 {
-    // The library's parser takes a sign.
+    // The library's parser accepts a sign.
     if token.starts_with('+') {
         return None;
     }
     token.parse().ok()
 }
 
-/// The bytes that a token is: hex digits, an even number of them, or `-` for none.
+/// Parses bytes: an even number of hex digits, or `-` for none.
 ///
 /// # Errors
 ///
-/// `BadCall` where it is neither, `NoMemory` where its bytes find no room.
+/// `BadCall` if it is neither, `NoMemory` if the bytes can't be allocated.
 pub fn bytes(alloc: Global, token: &str) -> Result<Vec<u8>, RefusedLine>
     ensures ok { IfOk result (λ bytes. bytes_of token.now ≡ Ok bytes.items) }
     ensures bad { result ≡ Err RefusedLine.BadCall → IsErr (bytes_of token.now) }

@@ -1,9 +1,9 @@
-// What the registry keeps of one name.
+// The entry of one name.
 ghost use Rattle.std.specs.Prelude.{◌≡◌, Some, None, if◌then◌else◌, true, false};
 
 use blob_header::Error;
 
-/// A name's latest open and what its predecessors left.
+/// A name's latest open and the debt of its predecessors.
 #[derive(Drop)]
 pub(crate) struct Entry {
     pub(crate) generation: u64,
@@ -14,7 +14,7 @@ pub(crate) struct Entry {
     pub(crate) failure: Option<Error>,
 }
 
-/// What a call does to an entry. It counts only by the latest generation or the settling token.
+/// A change of an entry. Ignored unless it has the latest generation or the settling token.
 #[derive(Drop)]
 pub(crate) enum Change {
     Release {
@@ -38,7 +38,7 @@ pub(crate) enum Change {
 impl Entry {
     ghost use Rattle.blob_debt.specs.Debts.{standing_of, is_standing_over, FollowsChange};
 
-    /// The entry of a live open, to which nothing was left.
+    /// Returns the entry of a live open without debt.
     pub(crate) fn opened(generation: u64) -> Entry
         ensures { result ≡ record { generation = generation; is_live = true; settling = None; is_dirty = false; failure = None } }
     {
@@ -51,14 +51,14 @@ impl Entry {
         }
     }
 
-    /// Whether a later open has to be told nothing.
+    /// Returns whether a later open needs no entry.
     fn is_over(&self) -> bool
         ensures { result ≡ is_standing_over (standing_of (Some self.now)) }
     {
         !self.is_live && self.settling.is_none() && !self.is_dirty && self.failure.is_none()
     }
 
-    /// Makes a change, and answers whether it ends the name.
+    /// Applies a change. Returns whether the entry can be dropped.
     pub(crate) fn apply(&mut self, change: Change) -> bool
         ensures { FollowsChange self.old change (if result then None else Some self.new) }
     {

@@ -1,9 +1,9 @@
-// What an open is given, and what settles it.
+// Generations, and the tokens that settle them.
 ghost use Rattle.std.specs.Prelude.{◌≡◌};
 
 use std::marker::Model;
 
-/// The open of one name. Spent by `Pending::close`.
+/// The open of one name. It can't be dropped: pass it to `Pending::close`.
 pub struct Generation {
     pub(crate) key: (String, Vec<u8>),
     pub(crate) number: u64,
@@ -21,7 +21,7 @@ impl Model for Generation {
 impl Generation {
     ghost use Rattle.std.specs.String.{string_bytes};
 
-    /// What tells this open from all others, after it was spent too.
+    /// Returns the number of this open, which stays valid after `close`.
     pub fn id(&self) -> GenerationId
         ensures { result ≡ self.now.number }
     {
@@ -30,7 +30,7 @@ impl Generation {
         }
     }
 
-    /// Partition and name.
+    /// Returns its partition and name.
     pub fn key(&self) -> &(String, Vec<u8>)
         ensures partition { string_bytes result.now.0 ≡ self.now.partition }
         ensures name { result.now.1.items ≡ self.now.name }
@@ -69,7 +69,7 @@ impl Model for Receiver {
     ghost view = { λ r. r.token };
 }
 
-/// Settles an open whose work was still outstanding. Spent by `Pending::settle`.
+/// Settles an open that was released with work outstanding. It can't be dropped: pass it to `Pending::settle`.
 pub struct Sender {
     pub(crate) token: u64,
 }

@@ -1,4 +1,4 @@
-// Numbers from before a name was forgotten.
+// A law about numbers from before a name was forgotten.
 ghost use Rattle.std.specs.Prelude.{◌≡◌, ◌∷◌, Bool, Option, Ok, None, false};
 ghost use Rattle.blob_header.specs.Refusals.{Refusal};
 ghost use Rattle.blob_debt.specs.History.{To, Settle, Clear, Fail, Close, events, generations, tokens_given, released, owed};
@@ -6,8 +6,8 @@ ghost use Rattle.blob_debt.specs.Recreated.{ForOlder};
 
 /// Does nothing: its contract is a law of all histories.
 ///
-/// A token, or a generation, that was given before a name was forgotten no longer counts: its settlement, and its clear,
-/// failure and close, leave the name that was made anew and every other name as they are, and it is given no token and told of no debt.
+/// A token or generation from before a name was forgotten is ignored: its settlement, clear, failure and close change neither the
+/// recreated name nor any other. It is released without a token, and has no debt.
 pub fn old_numbers_leave_recreated_names()
     ensures settle { ForOlder tokens_given (λ h p n token. (dirty : Bool) (failed : Option Refusal) → events (To p n (Settle token dirty failed) ∷ h) ≡ events h) }
     ensures clear { ForOlder generations (λ h p n g. (outcome : Option Refusal) → events (To p n (Clear g outcome) ∷ h) ≡ events h) }

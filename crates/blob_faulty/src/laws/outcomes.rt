@@ -1,19 +1,18 @@
-//! What a crash may leave after a mutation, by what it might have left before it.
+//! Laws about what a crash may leave after a mutation, given what it might have left before it.
 ghost use Rattle.blob_faulty.specs.Outcomes.{RecordedStands, RecordedLeft, RecordedInRange, WritesLay, ResizesCut};
 
 use blob_base::Storage as Inner;
 use rand_core::Rng;
 
-/// After a write or a resize that was recorded, a crash may leave of its incarnation what it might have left before, with the
-/// recorded entries done, each by the same choices.
+/// After a recorded write or resize, a crash leaves what it might have left before, followed by the recorded entries. Each entry
+/// is applied by the same choices.
 pub fn recorded<S: Inner, R: Rng>()
     ensures stands { RecordedStands R S.Durable }
     ensures left { RecordedLeft R S.Durable }
 {}
 
-/// What a write records is laid by a crash as some of its bytes, all of a SYNC write's and of kept runs, and lies in its range. What
-/// a resize records resizes to the length that was asked for, where none fails in part; a resize of which nothing is recorded is
-/// lost.
+/// A crash applies some bytes of a recorded write, all of them for a SYNC write and for kept runs, and none outside its range. If
+/// resizes don't fail in part, a recorded resize has the requested length. A resize that isn't recorded is lost.
 pub fn entries()
     ensures writes { WritesLay }
     ensures in_range { RecordedInRange }

@@ -1,4 +1,4 @@
-// A line of hex, resolved and answered.
+// Resolving one line of hex.
 ghost use Rattle.std.specs.Prelude.{true, ◌≡◌, OnOk, ◌≢◌, ◌⊎◌, IfSome, IfOk, IfErr, IsErr};
 ghost use Rattle.std.specs.Io.KnownBytes.{Keeps};
 ghost use Rattle.std.specs.Io.BufRead.{DropsThrough, first_piece};
@@ -16,7 +16,7 @@ use hex::FromHexError;
 use std::alloc::Global;
 use std::io::{BufRead, Write};
 
-/// Answers one line, and flushes that answer.
+/// Resolves one line, and writes and flushes the result.
 pub(super) fn resolve_line<R: BufRead, W: Write>(
     alloc: Global,
     input: &mut Input<R>,
@@ -38,7 +38,7 @@ pub(super) fn resolve_line<R: BufRead, W: Write>(
     output.flush()
 }
 
-// What the bytes are as a whole blob, under the names that the program gives it.
+// Resolves the bytes as a whole blob, with the program's fixed partition and name.
 fn resolved(alloc: Global, image: &[u8]) -> Result<Option<(u64, BlobVersion, u64)>, Error>
     ensures { AnswersAs result (resolved_image image.now) }
 {
@@ -55,7 +55,7 @@ fn resolved(alloc: Global, image: &[u8]) -> Result<Option<(u64, BlobVersion, u64
     )
 }
 
-// One line without its end.
+// Reads one line without its line feed.
 fn read_line<R: BufRead, W: Write>(
     alloc: Global,
     input: &mut Input<R>,
@@ -73,7 +73,7 @@ fn read_line<R: BufRead, W: Write>(
     Ok(line)
 }
 
-// The bytes that a line of hex digits stands for.
+// Decodes a line of hex digits.
 fn image_of(alloc: Global, line: &[u8]) -> Result<Vec<u8>, Ending>
     ensures bytes { IfOk result (λ image. decode_of line.now ≡ Ok image.items) }
     ensures refused { IfErr result (λ ending. (ending ≡ Ending.NoMemory) ⊎ ((ending ≡ Ending.BadImage) × IsErr (decode_of line.now))) }

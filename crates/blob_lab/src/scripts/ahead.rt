@@ -1,15 +1,15 @@
-// What lies ready in a reader.
+// Readers with a visible buffer.
 ghost use Rattle.std.specs.Prelude.{◌≡◌, ℕ, List};
 
 use std::alloc::Allocator;
 use std::io::{BufRead, BufReader, Read};
 
-/// A reader that tells which bytes it has read ahead.
+/// A reader with a buffer that callers can see.
 pub trait Ahead: BufRead {
-    // The bytes that reading takes next, without waiting for more.
+    // The buffered bytes, which the next reads take without waiting.
     ghost ready: { Self → List ℕ };
 
-    /// The bytes that lie ready, so that taking them doesn't wait.
+    /// Returns the buffered bytes. Taking them doesn't wait.
     fn ready(&self) -> &[u8]
         ensures { result.now ≡ ready self.now };
 }
@@ -24,7 +24,7 @@ impl<R: Read, A: Allocator> Ahead for BufReader<R, A> {
     }
 }
 
-/// All of it lies ready.
+/// The whole slice counts as buffered.
 impl Ahead for &[u8] {
     ghost ready = { λ bytes. bytes.now };
 

@@ -1,4 +1,4 @@
-// The calls of a script, answered one after another.
+// Running the calls of a script, one after another.
 ghost use Rattle.std.specs.Prelude.{◌≡◌, ◌≢◌, ◌⊎◌, true, IfErr, OnOk};
 ghost use Rattle.std.specs.Io.KnownBytes.{Appends};
 ghost use Rattle.blob_lab.specs.Endings.{is_cut};
@@ -16,7 +16,7 @@ use blob_laboratory::Lab;
 use std::alloc::Global;
 use std::io::Write;
 
-/// Reads the preamble, makes the laboratory, and answers the calls.
+/// Reads the preamble, creates the laboratory, and runs the calls.
 pub(super) fn run_lines<R: Ahead, W: Write>(
     alloc: Global,
     input: &mut Input<R>,
@@ -68,7 +68,7 @@ fn answer_calls<R: Ahead, W: Write>(
     }
 }
 
-/// Runs a call and writes its reply, in a text that is used again for each.
+/// Runs a call and writes its reply. Reuses `text` for each reply.
 fn answer<W: Write>(
     lab: &mut Lab,
     call: &Call,

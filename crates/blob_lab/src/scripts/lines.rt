@@ -1,4 +1,4 @@
-// The lines of a script as they come in.
+// Reading the lines of a script.
 ghost use Rattle.std.specs.Prelude.{◌≡◌, ℕ, ◌+◌, ◌<◌, [], true, IfSome, IfNone, IfOk, IfErr, OnOk};
 ghost use Rattle.std.specs.Io.Iter.{u64_saturate};
 ghost use Rattle.std.specs.Io.KnownBytes.{Keeps};
@@ -26,7 +26,7 @@ use blob_laboratory::Lab;
 use std::alloc::Global;
 use std::io::Write;
 
-/// What the lines before the first call say.
+/// The content of the lines before the first call.
 #[derive(Drop)]
 pub(crate) struct Preamble {
     pub(crate) images: Vec<(String, Vec<u8>, Vec<u8>)>,
@@ -47,7 +47,7 @@ impl Preamble {
         }
     }
 
-    /// The laboratory that these lines make. The only error is `Memory`.
+    /// Creates the laboratory. The only error is `Memory`.
     pub(crate) fn into_lab(self) -> Result<Lab, Error>
         ensures { IfOk result (λ lab. LabStandsFor lab (start (images_of self.images.items) (record { given = self.words.items; seed = self.seed }) cleared)) }
     {
@@ -63,7 +63,7 @@ impl Preamble {
     }
 }
 
-/// The line that was read last, its number from 1, and the configuration so far.
+/// The last line that was read, its number from 1, and the configuration so far.
 #[derive(Drop)]
 pub(crate) struct Lines {
     line: Vec<u8>,
@@ -83,7 +83,7 @@ impl Lines {
         }
     }
 
-    /// Reads up to the first call, and keeps what comes before it.
+    /// Reads up to the first call, and adds the lines before it to `preamble`.
     pub(crate) fn first_call<R: Ahead, W: Write>(
         &mut self,
         input: &mut Input<R>,
@@ -133,7 +133,7 @@ impl Lines {
         }
     }
 
-    /// Reads up to the next call. A line of the preamble can't come any more.
+    /// Reads up to the next call. Rejects a line of the preamble.
     pub(crate) fn next_call<R: Ahead, W: Write>(
         &mut self,
         input: &mut Input<R>,
@@ -165,7 +165,7 @@ impl Lines {
         }
     }
 
-    /// Reads one line; none where the input is at its end.
+    /// Reads one line. Returns `None` at the end of the input.
     fn next_line<R: Ahead, W: Write>(
         &mut self,
         input: &mut Input<R>,
@@ -198,7 +198,7 @@ impl Lines {
         }
     }
 
-    /// The call that hands the whole configuration so far on.
+    /// Returns the call that sets the whole configuration so far, with this change.
     fn configure(&mut self, setting: Setting) -> Call
         ensures whole { result ≡ Call.Configure (configured self.old.config setting) }
         ensures kept { self.new ≡ record self.old { config = configured self.old.config setting } }

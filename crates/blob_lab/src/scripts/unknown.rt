@@ -1,10 +1,10 @@
-// A reader of which nothing is known to lie ready.
+// A reader with a hidden buffer.
 ghost use Rattle.std.specs.Prelude.{◌≡◌, []};
 
 use crate::scripts::Ahead;
 use std::io::{self, BufRead, Read};
 
-/// A reader, each read of which may wait.
+/// A reader that counts as unbuffered: each read may wait.
 pub(super) struct Unknown<R> {
     reader: R,
 }

@@ -14,11 +14,11 @@ use blob_calls::{Call, Reply};
 use blob_faulty::Config;
 
 impl Lab {
-    /// Makes one call: whatever state the laboratory stood for, the reply is one that the call may be given there, and the
-    /// laboratory now stands for what the call makes of that state.
+    /// Makes one call. If the laboratory represented a state, the reply is one that the call may get in it, and the laboratory then
+    /// represents the state after the call.
     ///
-    /// `NoHandle` and `EmptyRange` change nothing and draw nothing. `Failed(Memory)` changes nothing but the generator,
-    /// and isn't answered to `Configure`, `Admit`, `Close`, `Size`, `Finish` and `Reopen`.
+    /// `NoHandle` and `EmptyRange` change nothing and draw nothing. `Failed(Memory)` changes nothing except the generator. It isn't
+    /// a reply to `Configure`, `Admit`, `Close`, `Size`, `Finish` and `Reopen`.
     pub fn apply(&mut self, call: &Call) -> Reply
         ensures { Performs self.old (act_of call.now) result self.new }
     {
@@ -59,8 +59,8 @@ impl Lab {
         }
     }
 
-    /// The wrapper, for reading: its store's durable bytes, and which incarnations are current. It stands for the files of
-    /// whichever state the laboratory stands for, with that state's configuration and generator.
+    /// Returns the wrapper, for reading: its store's durable bytes, and which incarnations are current. It represents the files of
+    /// any state that the laboratory represents, with that state's configuration and generator.
     pub fn wrapper(&self) -> &Wrapper
         ensures wrapper { result.now ≡ wrapper_of self.now }
         ensures stands { (v : State) → ⟦<Lab as Stands>⟧.stands_for self.now v → Wraps result.now v }

@@ -26,7 +26,7 @@ fn write_options(sync: bool) -> WriteOptions
     }
 }
 
-/// Whether there was no memory.
+/// Returns whether the error is `Memory`.
 fn is_memory(outcome: &Result<(), Error>) -> bool
     ensures is { OnTrue result (refused outcome.now ≡ Some Memory) }
     ensures not { OnFalse result (refused outcome.now ≢ Some Memory) }
@@ -79,7 +79,7 @@ impl Handle {
         }
     }
 
-    /// A started sync takes a number, whatever its outcome, unless there is no memory for it.
+    /// Starts a sync. It takes a number, even if it fails, unless the error is `Memory`.
     fn start_sync(&mut self, wrapper: &mut Wrapper, syncs: &mut Syncs) -> Reply
         ensures { StartsSync wrapper.old (as_held self.old) (syncs_of syncs.old) result wrapper.new (as_held self.new) (syncs_of syncs.new) }
     {
@@ -159,7 +159,7 @@ impl Lab {
         reply
     }
 
-    /// Ends a started sync, and tells its outcome.
+    /// Completes a started sync and returns its outcome.
     pub(crate) fn finish(&mut self, number: usize) -> Reply
         ensures { Performs self.old (Finish number) result self.new }
     {

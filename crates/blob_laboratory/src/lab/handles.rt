@@ -1,4 +1,4 @@
-//! The handles of a laboratory by their numbers, from 0 in the order of accepted opens. No number is given again.
+//! The handles of a laboratory by number: from 0, in the order of accepted opens. Numbers aren't reused.
 ghost use Rattle.std.specs.Prelude.{◌≡◌, ◌<◌, ◌++◌, ◌∷◌, [], Some, None, OnOk, OnErr, IfSome, IfNone, length, set, option_map, option_copied};
 ghost use Rattle.blob_header.specs.Refusals.{IsMemory};
 ghost use Rattle.blob_states.specs.Steps.{unregistered};
@@ -33,7 +33,7 @@ impl Handle {
         }
     }
 
-    /// A handle of the wrapper alone.
+    /// Returns a handle of a non-exclusive open.
     pub(crate) fn loose(blob: WrapperBlob) -> Handle
         ensures blob { result.blob ≡ blob }
         ensures registration { result.registration ≡ None }
@@ -44,7 +44,7 @@ impl Handle {
         }
     }
 
-    /// Closes it, and its exclusive open.
+    /// Closes it and its exclusive open, if it has one.
     pub(crate) fn close(self, opens: &mut Opens)
         ensures { names_of opens.new ≡ unregistered (names_of opens.old) self.registration }
     {
@@ -58,7 +58,7 @@ impl Handle {
     }
 }
 
-/// A table of handles; the slot of a closed one is empty.
+/// A table of handles. The slot of a closed one is empty.
 pub(crate) struct Handles {
     pub(crate) slots: Vec<Option<Handle>>,
 }
@@ -72,7 +72,7 @@ impl Handles {
         }
     }
 
-    /// Takes room for one more handle. The only error is `Memory`.
+    /// Reserves capacity for one more handle. The only error is `Memory`.
     pub(crate) fn reserve(&mut self) -> Result<(), Error>
         ensures handles { handles_of self.new ≡ handles_of self.old }
         ensures room { OnOk result (HasFreeSlot self.new) }
@@ -82,7 +82,7 @@ impl Handles {
         Ok(())
     }
 
-    /// Adds a handle where there is room, and answers its number.
+    /// Adds a handle and returns its number. The table has capacity for it.
     pub(crate) fn add(&mut self, handle: Handle) -> usize
         requires { HasFreeSlot self.old }
         ensures number { result ≡ length (handles_of self.old) }

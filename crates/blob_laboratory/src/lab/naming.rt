@@ -1,4 +1,4 @@
-// Calls by name, but for opens.
+// Calls by name, except opens.
 ghost use Rattle.std.specs.Prelude.{option_map, option_copied};
 ghost use Rattle.blob_calls.specs.Acts.{Admit, Remove, Scan};
 ghost use Rattle.blob_laboratory.specs.LabStands.{Performs};
@@ -10,7 +10,7 @@ use blob_calls::Reply;
 use blob_faulty::laws::names::removals;
 
 impl Lab {
-    /// Retires what the name's current incarnation has pending.
+    /// Retires the pending list of the name's current incarnation.
     pub(crate) fn admit(&mut self, partition: &str, name: &[u8]) -> Reply
         ensures { Performs self.old (Admit partition.now name.now) result self.new }
     {
@@ -18,7 +18,7 @@ impl Lab {
         Reply::Done
     }
 
-    /// Removes a blob, or with no name the partition. None of these names is open any more.
+    /// Removes a blob, or with no name the partition. None of these names is open then.
     pub(crate) fn remove(&mut self, partition: &str, name: &Option<Vec<u8>>) -> Reply
         ensures { Performs self.old (Remove partition.now (option_map (λ n. n.items) name.now)) result self.new }
     {
@@ -38,7 +38,7 @@ impl Lab {
         }
     }
 
-    /// The names of a partition.
+    /// Returns the names of a partition.
     pub(crate) fn scan(&mut self, partition: &str) -> Reply
         ensures { Performs self.old (Scan partition.now) result self.new }
     {

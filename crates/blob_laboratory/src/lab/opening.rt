@@ -1,4 +1,4 @@
-// Opens, and closes.
+// Opens and closes.
 ghost use Rattle.std.specs.Prelude.{◌≡◌, ◌≤◌, false, Some, None, IfSome, IfNone};
 ghost use Rattle.std.specs.Range.{range_inclusive_start, range_inclusive_end, range_inclusive_exhausted};
 ghost use Rattle.blob_calls.specs.Acts.{Open, OpenLoose, Close, versions_of};
@@ -12,7 +12,7 @@ use blob_calls::Reply;
 use blob_faulty::laws::names::opens;
 use std::ops::RangeInclusive;
 
-/// A copy of a range of versions; none where it is empty.
+/// Returns a copy of a range of versions, or `None` if it is empty.
 fn accepted(versions: &RangeInclusive<BlobVersion>) -> Option<RangeInclusive<BlobVersion>>
     ensures versions { IfSome result (λ v. versions_of versions.now ≡ Some ((range_inclusive_start v).0, (range_inclusive_end v).0)) }
     ensures fresh { IfSome result (λ v. range_inclusive_exhausted v ≡ false) }
@@ -26,7 +26,7 @@ fn accepted(versions: &RangeInclusive<BlobVersion>) -> Option<RangeInclusive<Blo
 }
 
 impl Lab {
-    /// An exclusive open, which is admitted at once.
+    /// Opens a blob exclusively, with `admit`.
     pub(crate) fn open(
         &mut self,
         partition: &str,
@@ -54,7 +54,7 @@ impl Lab {
         }
     }
 
-    /// An open of the wrapper alone.
+    /// Opens a blob without the registry of open names.
     pub(crate) fn open_loose(
         &mut self,
         partition: &str,
@@ -80,7 +80,7 @@ impl Lab {
         }
     }
 
-    /// Closes a handle. Its name isn't open any more where it was open by this handle.
+    /// Closes a handle. If it has the name open, the name is no longer open.
     pub(crate) fn close(&mut self, number: usize) -> Reply
         ensures { Performs self.old (Close number) result self.new }
     {

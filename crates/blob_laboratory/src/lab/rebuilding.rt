@@ -1,4 +1,4 @@
-// Crashes, and the wrapper taken apart and made again.
+// Crashes, and wrappers that are taken apart and rebuilt.
 ghost use Rattle.std.specs.Prelude.{◌≡◌};
 ghost use Rattle.blob_model.specs.Files.{Files, reopened};
 ghost use Rattle.blob_faulty.specs.Wrapper.{config_of};
@@ -14,7 +14,7 @@ use blob_faulty::Config;
 use std::alloc::Global;
 use std::mem;
 
-/// A wrapper's store built again from a snapshot of it, and wrapped anew with its generator and configuration.
+/// Rebuilds a wrapper's store from a snapshot of it, and wraps it with the same generator and configuration.
 fn rewrapped(alloc: Global, wrapper: Wrapper) -> Wrapper
     ensures files { (f : Files) → IsFor wrapper f → IsFor result (reopened f) }
     ensures config { config_of result ≡ config_of wrapper }
@@ -26,7 +26,7 @@ fn rewrapped(alloc: Global, wrapper: Wrapper) -> Wrapper
     blob_faulty::Storage::new(alloc, rebuilt, rng, config)
 }
 
-/// What stands in a laboratory while its wrapper is taken apart.
+/// Returns the placeholder for a wrapper that is taken apart.
 fn placeholder(alloc: Global) -> Wrapper {
     let store = blob_memory::Storage::new(alloc);
     blob_faulty::Storage::new(
@@ -38,7 +38,7 @@ fn placeholder(alloc: Global) -> Wrapper {
 }
 
 impl Lab {
-    /// Loses what wasn't durable, but for what the draws keep.
+    /// Crashes: loses what isn't durable, except the bytes that the draws keep.
     pub(crate) fn crash(&mut self) -> Reply
         ensures { Performs self.old Crash result self.new }
     {
@@ -48,8 +48,8 @@ impl Lab {
         }
     }
 
-    /// Rebuilds the store from a snapshot and wraps it anew. All opens end and all started syncs are dropped; handles stay,
-    /// and are stale.
+    /// Rebuilds the store from a snapshot and wraps it again. All opens end and all started syncs are dropped. Handles stay and
+    /// are stale.
     pub(crate) fn reopen(&mut self) -> Reply
         ensures { Performs self.old Reopen result self.new }
     {

@@ -1,12 +1,11 @@
-// Which states a laboratory may stand for.
+// The states that a laboratory may represent.
 ghost use Rattle.blob_laboratory.specs.LabStands.{LabStandsFor};
 ghost use Rattle.blob_states.specs.States.{State};
 
 use crate::lab::Lab;
 
-/// Which states a value may stand for: an inner matter of it. A contract says that a new value stands for its start, and
-/// that a call leaves it standing for what it makes of whichever state it stood for. So whoever rests on what is answered
-/// need not read which relation it is.
+/// The states that a value may represent. The relation is private: a contract says that a new value represents its start, and
+/// that after a call it represents the state after that call. A reader who relies on the replies doesn't need the relation.
 pub trait Stands {
     ghost stands_for: { Self → State → Type 0 };
 }

@@ -1,4 +1,4 @@
-//! The started syncs of a laboratory by their numbers, from 0 in the order in which they were started. No number is given again.
+//! The started syncs of a laboratory by number: from 0, in the order of their starts. Numbers aren't reused.
 ghost use Rattle.std.specs.Prelude.{◌≡◌, ◌++◌, ◌∷◌, [], Some, None, OnOk, OnErr, IfSome, IfNone, length, map, set, option_map};
 ghost use Rattle.blob_header.specs.Refusals.{IsMemory};
 ghost use Rattle.blob_states.specs.Answers.{kept_at};
@@ -7,7 +7,7 @@ ghost use Rattle.blob_laboratory.specs.Tables.{started_by, syncs_of, HasSyncRoom
 use blob_base::{Error, Handle};
 use std::alloc::Global;
 
-/// A table of started syncs; the slot of one that was finished or dropped is empty.
+/// A table of started syncs. The slot of one that was finished or dropped is empty.
 #[derive(Drop)]
 pub(crate) struct Syncs {
     pub(crate) slots: Vec<Option<Handle>>,
@@ -22,7 +22,7 @@ impl Syncs {
         }
     }
 
-    /// Takes room for one more. The only error is `Memory`.
+    /// Reserves capacity for one more. The only error is `Memory`.
     pub(crate) fn reserve(&mut self) -> Result<(), Error>
         ensures syncs { syncs_of self.new ≡ syncs_of self.old }
         ensures room { OnOk result (HasSyncRoom self.new) }
@@ -32,7 +32,7 @@ impl Syncs {
         Ok(())
     }
 
-    /// Adds one where there is room, and answers its number.
+    /// Adds one and returns its number. The table has capacity for it.
     pub(crate) fn add(&mut self, handle: Handle) -> usize
         requires { HasSyncRoom self.old }
         ensures number { result ≡ length (syncs_of self.old) }

@@ -9,9 +9,10 @@ use super::Contents;
 use crate::item::{Held, Item};
 use blob_base::{BlobVersion, Layout};
 use blob_overlay::overlay::drop_front;
+use blob_pages::Bytes;
 
 /// The logical bytes of an item, where those of a raw file begin at `start`. They keep their memory.
-fn into_logical(item: Item, start: usize) -> Vec<u8>
+fn into_logical(item: Item, start: usize) -> Bytes
     requires { IsFrom start item }
     ensures { result.items ≡ logical_from start item }
 {
@@ -19,7 +20,7 @@ fn into_logical(item: Item, start: usize) -> Vec<u8>
         Item::Raw(bytes) => {
             let mut bytes = bytes;
             drop_front(&mut bytes, start);
-            bytes
+            Bytes::from_vec(bytes)
         }
         Item::Held(held) => held.bytes,
     }

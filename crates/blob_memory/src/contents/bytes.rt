@@ -8,12 +8,13 @@ ghost use Rattle.blob_memory.specs.Contents.{directory_of, vec_at};
 use super::Contents;
 use crate::item::Item;
 use crate::origin::Origin;
+use blob_pages::Bytes;
 
 impl Contents {
     ghost use Rattle.blob_memory.specs.ContentsLends.{LendsDurable};
 
     /// The durable logical bytes of an incarnation, where it is current.
-    pub fn bytes(&self, origin: &Origin) -> Option<&Vec<u8>>
+    pub fn bytes(&self, origin: &Origin) -> Option<&Bytes>
         ensures { option_copied result ≡ vec_at self.now origin.now }
     {
         match self.partitions.get(origin.partition(), origin.name()) {
@@ -29,7 +30,7 @@ impl Contents {
     }
 
     /// The same, to be changed.
-    pub fn bytes_mut(&mut self, origin: &Origin) -> Option<&mut Vec<u8>>
+    pub fn bytes_mut(&mut self, origin: &Origin) -> Option<&mut Bytes>
         ensures* writes_back { sem 𝓛 (LendsDurable self.entry origin.now result) }
         ensures value { option_copied_mut result ≡ vec_at self.old origin.now }
     {

@@ -18,7 +18,7 @@ fn with_header(alloc: Global, held: &Held) -> Result<Vec<u8>, Error>
     let layouts = held.layout..=held.layout;
     let versions = held.version..=held.version;
     let (mut raw, _) = Header::create(alloc, &layouts, &versions)?;
-    raw.extend_from_slice(&held.bytes)?;
+    held.bytes.append_to(&mut raw)?;
     Ok(raw)
 }
 
@@ -67,13 +67,13 @@ fn behind_header(
 }
 
 /// The bytes that follow an incarnation's header.
-fn held_bytes(alloc: Global, held: &Held) -> Result<Vec<u8>, Error>
+fn held_bytes(held: &Held) -> Result<Vec<u8>, Error>
     ensures ok { IfOk result (λ bytes. bytes.items ≡ held.now.bytes.items) }
     ensures found { IfOk result (λ bytes. Some held.now.bytes.items ≡ logical_found (raw_bytes (Item.Held held.now))) }
     ensures memory { OnErr result (IsMemory result) }
 {
     let _number = held.version.get();
-    Ok(Vec::from_slice(alloc, &held.bytes)?)
+    Ok(held.bytes.to_vec()?)
 }
 
 impl Contents {
@@ -98,7 +98,7 @@ impl Contents {
         match self.partitions.get(partition, name) {
             None => Ok(None),
             Some(Item::Raw(bytes)) => behind_header(self.alloc, bytes, partition, name),
-            Some(Item::Held(held)) => Ok(Some(held_bytes(self.alloc, held)?)),
+            Some(Item::Held(held)) => Ok(Some(held_bytes(held)?)),
         }
     }
 }

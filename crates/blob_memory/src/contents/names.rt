@@ -13,6 +13,7 @@ use super::Contents;
 use crate::item::{Held, Item};
 use crate::partitions::Partitions;
 use blob_base::{BlobVersion, Layout};
+use blob_pages::Bytes;
 use std::alloc::{AllocError, Global};
 
 impl Contents {
@@ -90,7 +91,7 @@ impl Contents {
         name: &[u8],
         layout: Layout,
         version: BlobVersion,
-        bytes: Vec<u8>,
+        bytes: Bytes,
     ) -> Result<(), AllocError>
         requires left { (directory_of self.old).next < 2 ^ 64 - 1 }
         requires free { current (directory_of self.old) partition.now name.now ≡ None }

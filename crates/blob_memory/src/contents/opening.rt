@@ -10,6 +10,7 @@ use super::Contents;
 use crate::found::{Found, found_raw, nothing};
 use crate::item::Item;
 use blob_base::{BlobVersion, Error};
+use blob_pages::Bytes;
 use std::ops::RangeInclusive;
 
 impl Contents {
@@ -63,7 +64,7 @@ impl Contents {
             self.adopt(partition, name, found.layout, found.version);
             return Ok(());
         }
-        let bytes = Vec::new(self.alloc);
+        let bytes = Bytes::new(self.alloc);
         self.create(partition, name, found.layout, found.version, bytes)?;
         Ok(())
     }

@@ -1,10 +1,10 @@
-//! What holds of the handles on current incarnations, in each state that calls lead to.
+//! Laws of the handles on current incarnations, in each reached state.
 
 ghost use Rattle.blob_states.specs.Laws.{CurrentSizeIsTold, CurrentSizeIsTracked};
 
-/// A handle on its name's current incarnation tracks the length of its live bytes, and tells it when it is asked.
+/// A handle on its name's current incarnation tracks the length of its live bytes, and `Size` returns it.
 ///
-/// A stale one may not: a write that was refused for want of its incarnation leaves its bytes changed, and not its size.
+/// A stale handle may not: a SYNC write that fails because the handle is stale changes its bytes, but not its size.
 pub fn sizes()
     ensures tracked { CurrentSizeIsTracked }
     ensures told { CurrentSizeIsTold }

@@ -1,19 +1,20 @@
-//! Names that were opened open again, in a store that is rebuilt too.
+//! Names that were opened can be opened again, in a rebuilt store too.
 
 ghost use Rattle.blob_states.specs.Laws.{AcceptedOpenIsTold, KeptNamesOpen, KeptNamesOpenAgain, RebuiltFilesAreFound, RebuiltOpenIsTold};
 
-/// A name that an open accepted and that no call removed since opens again, in whatever state calls have led to, refused
-/// removals, crashes and rebuilds anywhere among them: for versions that hold its own, where the name isn't open, nothing is
-/// injected and numbers are left, it is told the version that the first open was told, and the number of bytes of its file.
-/// As ever the reply says this answer, or `Memory`.
+/// A name that an open accepted can be opened again in every later state, if no call has removed it. Failed removals,
+/// crashes and rebuilds may happen in between. Conditions: the range includes the name's version, the name isn't open,
+/// no fault is injected, and numbers are left. The open returns the version that the first open returned, and the
+/// number of bytes of the name's file. As always, the reply may be `Memory` instead.
 pub fn accepted_names_open()
     ensures kept { KeptNamesOpen }
     ensures told { AcceptedOpenIsTold }
 {}
 
-/// A current incarnation opens again with its durable bytes, for versions that hold its own, where nothing is injected and
-/// numbers are left. So does every name that an open accepted and that no call removed since, through any calls, refused
-/// removals, crashes and further rebuilds among them. As ever the reply says this answer, or `Memory`.
+/// After a rebuild, an incarnation that was current can be opened again with its durable bytes, if the range includes
+/// its version, no fault is injected, and numbers are left. So can every name that an open accepted and no call removed
+/// since. Failed removals, crashes and further rebuilds may happen in between. As always, the reply may be `Memory`
+/// instead.
 pub fn accepted_names_open_again()
     ensures found { RebuiltFilesAreFound }
     ensures told { RebuiltOpenIsTold }

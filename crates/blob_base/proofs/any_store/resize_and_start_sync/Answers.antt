@@ -14,7 +14,7 @@ returns-clause-answer g c =
     let left = c.in_ok-resize.ensures in
     rw c.finish.ensures.outcome (Second c.resize.new.self c.resize.new.store _ left.allowed (left.live, left.place, left.durable, left.directory) c.start_sync-handle.ensures.allowed)
 
--- what holds after an outcome of Ok holds after the answer that tells it
+-- if the outcome and the result have the same error, what follows from an Ok outcome follows from an Ok result
 if_told : {P : Type 0} (answer outcome : Result (Unit {0}) Error) → refused answer ≡ refused outcome → (refused outcome ≡ None → P) → OnOk answer P
 if_told (Ok x) outcome told so = so (sym told)
 if_told (Err e) outcome told so = tt
@@ -36,7 +36,7 @@ returns-in_err-resize-clause-memory g c =
 pub returns-clause-memory : goal.returns-clause-memory
 returns-clause-memory g c = λ memory. inr (c.start_sync-handle.ensures.live ∙ c.in_ok-resize.ensures.live)
 
--- and what holds after a refusal
+-- and what follows from an error of the one follows from an error of the other
 if_refused : {P : Type 0} (answer outcome : Result (Unit {0}) Error) → refused answer ≡ refused outcome → (IsSome (refused outcome) → P) → OnErr answer P
 if_refused (Ok x) outcome told so = tt
 if_refused (Err e) outcome told so = so (subst (λ (r : Option Refusal). IsSome r) told refl)

@@ -20,7 +20,7 @@ returns-clause-answer g c =
 pub returns-clause-durable : goal.returns-clause-durable
 returns-clause-durable g c = subst (λ (before : Durable). OnOk c.remove.result (g.S.Durable.durable c.remove.new.self ≡ durable_without before c.args.partition.now (Some c.args.name.now))) (c.in_ok-write_at.ensures.synced c.requires) c.remove.ensures.durable
 
--- by an answer: what always holds, what a refusal leaves, and the refusal that is known
+-- by a result: a fact that always holds, one after an error, and one after a known error
 always : {P : Type 0} (answer : Result (Unit {0}) Error) → P → OnOk answer P
 always (Ok x) p = p
 always (Err e) p = tt

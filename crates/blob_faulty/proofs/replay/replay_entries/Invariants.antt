@@ -10,6 +10,6 @@ abbrev pub invariant-loop-entry : goal.invariant-loop-entry
 invariant-loop-entry l = record {
   unmarked : has_marker (left_in (drop l.entry-index l.entries)) ≡ false;
   bytes : replay (left_in (drop l.entry-index l.entries)) (chosen_by (rows_in l.rows)) l.bytes.items ≡ replay (left_in l.entries) (chosen_by (rows_in l.rows)) l.fn.bytes.items;
-  room : vec_capacity l.fn.bytes ≤ vec_capacity l.bytes;
+  room : l.fn.bytes.capacity ≤ l.bytes.capacity;
   capacity : vec_capacity l.fn.chosen ≤ vec_capacity l.chosen;
 }

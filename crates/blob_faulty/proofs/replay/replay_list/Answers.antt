@@ -1,11 +1,10 @@
 use Rattle.std.proofs.Common.{◌≡◌, ◌∙◌, ◌≤◌, ℕ, sym, ap, is_some, List, arith}
-use Rattle.std.specs.Prelude.{vec_capacity}
 use Rattle.std.specs.Option.{option_copied_mut}
 use Rattle.blob_model.specs.Draws.{chosen_by}
 use Rattle.blob_model.specs.Durable.{Durable}
 use Rattle.blob_model.specs.Log.{Choices}
 use Rattle.blob_model.specs.Pending.{Pending, has_marker, replay, ends}
-use Rattle.blob_memory.specs.Contents.{items_of}
+use Rattle.blob_memory.specs.Contents.{bytes_of}
 use Rattle.blob_memory.specs.Store.{durable}
 use Rattle.blob_faults.specs.declared.entry.Entry.{Entry}
 use Rattle.blob_faults.specs.Replays.{unmarked, widest}
@@ -23,7 +22,7 @@ replay_entries-requires-clause-room c =
     let same : left_in c.unmarked-entries.result.now ≡ unmarked (left_in c.args.list.now.entries.items) = c.unmarked-entries.ensures ∙ ap (λ (q : List Entry). unmarked (left_in q)) c.deref.ensures.value in
     let wide : widest (left_in c.unmarked-entries.result.now) ≡ widest (unmarked (left_in c.args.list.now.entries.items)) = ap widest same in
     let ready = c.requires.ready (sym c.durable_mut.ensures.current ∙ ap is_some c.in-Some.is) in
-    let room : ends (unmarked (left_in c.args.list.now.entries.items)) ≤ vec_capacity c.in-Some.bytes.now = if_some _ _ _ c.in-Some.is (c.durable_mut.ensures.room _ ready.1) in
+    let room : ends (unmarked (left_in c.args.list.now.entries.items)) ≤ c.in-Some.bytes.now.capacity = if_some _ _ _ c.in-Some.is (c.durable_mut.ensures.room _ ready.1) in
     let end = ap ends same in
     record {
       counted = omega (arith, end, ready.0);
@@ -33,7 +32,7 @@ replay_entries-requires-clause-room c =
 
 pub returns-in_default-clause-durable : goal.returns-in_default-clause-durable
 returns-in_default-clause-durable c o =
-    ap (λ (f : Durable). f o) c.durable_mut.follows.holds-at-none.durable ∙ changed_ended (durable c.args.inner.now) c.args.list.now.origin _ o (ap is_some (sym c.durable_mut.ensures.value) ∙ ap (λ r. is_some (items_of (option_copied_mut r))) c.in_default.is)
+    ap (λ (f : Durable). f o) c.durable_mut.follows.holds-at-none.durable ∙ changed_ended (durable c.args.inner.now) c.args.list.now.origin _ o (ap is_some (sym c.durable_mut.ensures.value) ∙ ap (λ r. is_some (bytes_of (option_copied_mut r))) c.in_default.is)
 
 pub returns-clause-durable : goal.returns-clause-durable
 returns-clause-durable c o =

@@ -13,6 +13,6 @@ returns-clause-ranges g c =
       at = first_of (search rules, grind (arith, common_steps));
       inside = first_of (search rules, grind (arith, common_steps));
       ranges = λ d. c.in_ok-list.ensures.ok.here.room d (extents (runs_in ps))
-          (subst (λ (end : ℕ). AreWithin c.first_start-start.result end (length ps) (extents (runs_in ps))) (sym c.last_end-end.ensures)
-          (subst (λ (start : ℕ). AreWithin start (last_end 0 (runs_in ps)) (length ps) (extents (runs_in ps))) (sym c.first_start-start.ensures) (runs_within ps c.requires)));
+          (subst (λ (end : ℕ). AreWithin c.lowest_start-start.result end (length ps) (extents (runs_in ps))) (sym c.highest_end-end.ensures)
+          (subst (λ (start : ℕ). AreWithin start (last_end 0 (runs_in ps)) (length ps) (extents (runs_in ps))) (sym c.lowest_start-start.ensures) (runs_within ps c.requires)));
     }

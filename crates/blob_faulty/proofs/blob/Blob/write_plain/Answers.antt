@@ -10,10 +10,10 @@ use Rattle.blob_faulty.proofs.blob.Blob.write_plain.Goals as goal
 
 pub returns-clause-recorded : goal.returns-clause-recorded
 returns-clause-recorded g c =
-    let some : 0 < length c.args.bytes = first_of (search rules, grind (arith, common_steps)) in
+    let some : 0 < length (g.P.Payload.bytes c.args.bytes) = first_of (search rules, grind (arith, common_steps)) in
     let retained : retention c.args.store.now.config.write_rate ≡ Some (c.in-Some.config.mode, c.in-Some.config.retention_rate) = first_of (search rules, cc) in
-    pushed g.S.Durable g.B.Blob c.args.self.now c.write_unrecorded-2.new.self c.args.store.now c.room_for.new.store c.write_unrecorded-2.new.store c.args.offset c.args.bytes c.record_write.new.self _ c.in_ok-list.list c.in-Some.config
-    c.requires.plain some retained c.room_for.ensures.rest c.room_for.ensures.same c.in_ok-list.ensures.ok.at c.write_unrecorded-2.ensures.rest c.in_ok-write_unrecorded.ensures.wrote
+    pushed g.S.Durable g.B.Blob c.args.self.now c.write_unrecorded-2.new.self c.args.store.now c.room_for.new.store c.write_unrecorded-2.new.store c.args.offset (g.P.Payload.bytes c.args.bytes) c.record_write.new.self _ c.in_ok-list.list c.in-Some.config
+    refl some retained c.room_for.ensures.rest c.room_for.ensures.same c.in_ok-list.ensures.ok.at c.write_unrecorded-2.ensures.rest c.in_ok-write_unrecorded.ensures.wrote
     (subst (λ (b : List ℕ). GainsWrite g.S.Durable.place c.write_unrecorded-2.new.store c.record_write.new.self c.in_ok-list.list c.args.offset b c.in-Some.config) c.in_ok-copy.ensures.ok c.record_write.ensures.lists) c.record_write.ensures.rest
 
 pub returns-in_err-write_unrecorded-clause-recorded : goal.returns-in_err-write_unrecorded-clause-recorded
@@ -21,7 +21,7 @@ returns-in_err-write_unrecorded-clause-recorded g c =
     let r = c.write_unrecorded-2 in
     let same : refused r.result ≡ refused c.from_residual-in_err-write_unrecorded.result = first_of (search rules, cc, grind (arith, common_steps)) in
     let some : IsSome (refused r.result) = first_of (search rules, cc, grind (arith, common_steps)) in
-    rw (sym same) (refused_behind g.S.Durable g.B.Blob c.args.self.now r.new.self c.args.store.now c.room_for.new.store r.new.store c.args.offset c.args.bytes _ (refused r.result) c.requires.plain some
+    rw (sym same) (refused_behind g.S.Durable g.B.Blob c.args.self.now r.new.self c.args.store.now c.room_for.new.store r.new.store c.args.offset (g.P.Payload.bytes c.args.bytes) _ (refused r.result) refl some
     (relisted g.S.Durable g.B.Blob c.args.self.now c.args.self.now c.args.store.now c.room_for.new.store refl refl c.room_for.ensures.rest c.room_for.ensures.same) (same_rest g.S.Durable g.B.Blob c.args.self.now r.new.self c.room_for.new.store r.new.store r.ensures.rest) (first_of (search rules, cc)) r.ensures.wrote)
 
 -- Where nothing is to be recorded.
@@ -29,13 +29,13 @@ returns-in_err-write_unrecorded-clause-recorded g c =
 pub returns-in_default-clause-recorded : goal.returns-in_default-clause-recorded
 returns-in_default-clause-recorded g c =
     let none : retention c.args.store.now.config.write_rate ≡ None = first_of (search rules, cc) in
-    unrecorded_plain _ _ _ _ _ _ c.write_unrecorded.result c.requires.plain (unretained _ _ c.args.offset c.args.bytes none) c.write_unrecorded.ensures.wrote c.write_unrecorded.ensures.untracked (same_rest g.S.Durable g.B.Blob c.args.self.now c.write_unrecorded.new.self c.args.store.now c.write_unrecorded.new.store c.write_unrecorded.ensures.rest)
+    unrecorded_plain _ _ _ _ _ _ c.write_unrecorded.result refl (unretained _ _ c.args.offset (g.P.Payload.bytes c.args.bytes) none) c.write_unrecorded.ensures.wrote c.write_unrecorded.ensures.untracked (same_rest g.S.Durable g.B.Blob c.args.self.now c.write_unrecorded.new.self c.args.store.now c.write_unrecorded.new.store c.write_unrecorded.ensures.rest)
 
-pub returns-then-is_empty-clause-recorded : goal.returns-then-is_empty-clause-recorded
-returns-then-is_empty-clause-recorded g c =
-    let r = c.write_unrecorded-then-is_empty in
-    let none : c.args.bytes ≡ [] = first_of (search rules, cc) in
-    unrecorded_plain _ _ _ _ _ _ r.result c.requires.plain (no_byte _ _ c.args.offset c.args.bytes none) r.ensures.wrote r.ensures.untracked (same_rest g.S.Durable g.B.Blob c.args.self.now r.new.self c.args.store.now r.new.store r.ensures.rest)
+pub returns-then-len-eq0-clause-recorded : goal.returns-then-len-eq0-clause-recorded
+returns-then-len-eq0-clause-recorded g c =
+    let r = c.write_unrecorded-then-len-eq0 in
+    let none : (g.P.Payload.bytes c.args.bytes) ≡ [] = first_of (search rules, grind (arith, common_steps)) in
+    unrecorded_plain _ _ _ _ _ _ r.result refl (no_byte _ _ c.args.offset (g.P.Payload.bytes c.args.bytes) none) r.ensures.wrote r.ensures.untracked (same_rest g.S.Durable g.B.Blob c.args.self.now r.new.self c.args.store.now r.new.store r.ensures.rest)
 
 -- Refused.
 
@@ -57,11 +57,11 @@ returns-in_err-list-clause-recorded g c =
 pub returns-clause-allowed : goal.returns-clause-allowed
 returns-clause-allowed g c =
     let left : (c.args.store.now.next_write == 2 ^ 64 - 1) ≡ false = first_of (search rules, grind (arith, common_steps)) in
-    allowed_behind g.B.Blob c.args.self.now c.args.store.now c.room_for.new.store c.args.offset c.args.bytes _ None c.requires.plain c.room_for.ensures.rest left c.in_ok-write_unrecorded.ensures.allowed
+    allowed_behind g.B.Blob c.args.self.now c.args.store.now c.room_for.new.store c.args.offset (g.P.Payload.bytes c.args.bytes) _ None refl c.room_for.ensures.rest left c.in_ok-write_unrecorded.ensures.allowed
 
 pub returns-clause-asked : goal.returns-clause-asked
 returns-clause-asked g c =
-    asked_behind g.B.Blob c.args.self.now c.args.store.now c.room_for.new.store c.args.offset c.args.bytes _ None c.write_unrecorded-2.new.self c.write_unrecorded-2.new.store.inner c.record_write.new.self c.requires.plain c.room_for.ensures.rest
+    asked_behind g.B.Blob c.args.self.now c.args.store.now c.room_for.new.store c.args.offset (g.P.Payload.bytes c.args.bytes) _ None c.write_unrecorded-2.new.self c.write_unrecorded-2.new.store.inner c.record_write.new.self refl c.room_for.ensures.rest
     (ap (λ (s : Storage g.row.S.Denot g.row.R.Denot g.row.S-Origin.Denot). s.inner) c.record_write.ensures.rest) c.in_ok-write_unrecorded.ensures.asked
 
 pub returns-in_err-write_unrecorded-clause-allowed : goal.returns-in_err-write_unrecorded-clause-allowed
@@ -69,7 +69,7 @@ returns-in_err-write_unrecorded-clause-allowed g c =
     let left : (c.args.store.now.next_write == 2 ^ 64 - 1) ≡ false = first_of (search rules, grind (arith, common_steps)) in
     let r = c.write_unrecorded-2 in
     let same : refused r.result ≡ refused c.from_residual-in_err-write_unrecorded.result = first_of (search rules, cc, grind (arith, common_steps)) in
-    rw (sym same) (allowed_behind g.B.Blob c.args.self.now c.args.store.now c.room_for.new.store c.args.offset c.args.bytes _ (refused r.result) c.requires.plain c.room_for.ensures.rest left r.ensures.allowed)
+    rw (sym same) (allowed_behind g.B.Blob c.args.self.now c.args.store.now c.room_for.new.store c.args.offset (g.P.Payload.bytes c.args.bytes) _ (refused r.result) refl c.room_for.ensures.rest left r.ensures.allowed)
 
 -- The entry is of the bytes that were copied.
 
@@ -78,5 +78,5 @@ record_write-requires-clause-fits g c = subst (λ (b : List ℕ). c.args.offset 
 
 pub record_write-requires-clause-some : goal.record_write-requires-clause-some
 record_write-requires-clause-some g c =
-    let some : 0 < length c.args.bytes = first_of (search rules, grind (arith, common_steps)) in
+    let some : 0 < length (g.P.Payload.bytes c.args.bytes) = first_of (search rules, grind (arith, common_steps)) in
     subst (λ (b : List ℕ). 0 < length b) (sym c.in_ok-copy.ensures.ok) some

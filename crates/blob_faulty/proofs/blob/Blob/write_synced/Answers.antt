@@ -1,8 +1,8 @@
-use Rattle.std.proofs.Common.{rules, ℕ, true, ◌+◌, ◌∷◌, [], length, sym, subst, arith}
+use Rattle.std.proofs.Common.{rules, ℕ, List, ◌≢◌, ◌∙◌, true, ◌+◌, ◌∷◌, [], length, sym, subst, arith}
 use Rattle.std.proofs.lemmas.Grind.{common_steps}
 use Rattle.blob_header.specs.Refusals.{refused}
 use Rattle.blob_faults.specs.Rooms.{AreWithin}
-use Rattle.blob_faulty.specs.Writes.{View, Unchanged, seen}
+use Rattle.blob_faulty.specs.Writes.{View, Recorded, Unchanged, seen, laid_runs}
 use Rattle.blob_faulty.proofs.Adding.{some_byte}
 use Rattle.blob_faults.proofs.HoleRoom.{one_within}
 use Rattle.blob_faulty.proofs.Writing.{runs_after}
@@ -10,12 +10,13 @@ use Rattle.blob_faulty.proofs.blob.Blob.write_synced.Goals as goal
 
 pub lay_range-requires-clause-room : goal.lay_range-requires-clause-room
 lay_range-requires-clause-room g c =
-    let range = (c.args.offset, c.args.offset + length c.args.bytes) ∷ [] in
+    let range = (c.args.offset, c.args.offset + length c.in_ok-owned.owned) ∷ [] in
+    let some : c.in_ok-owned.owned ≢ [] = λ none. c.requires.some (sym c.in_ok-owned.ensures.ok ∙ none) in
     record {
       at = c.in_ok-list.ensures.ok.at;
       inside = c.in_ok-list.ensures.ok.here.inside;
       ranges = λ d. c.in_ok-list.ensures.ok.here.room d range (subst (λ (n : ℕ). AreWithin c.args.offset (c.args.offset + n) 1 range) (sym c.remaining-len.ensures)
-          (one_within c.args.offset (c.args.offset + length c.args.bytes) (omega (arith, some_byte c.args.bytes c.requires.some))));
+          (one_within c.args.offset (c.args.offset + length c.in_ok-owned.owned) (omega (arith, some_byte c.in_ok-owned.owned some))));
     }
 
 pub returns-clause-recorded : goal.returns-clause-recorded
@@ -24,4 +25,5 @@ returns-clause-recorded g c =
     let mid : View g.row.R.Denot = seen g.S.Durable g.B.Blob (record c.args.self.now { list = c.in_ok-list.list }) c.room_for.new.store in
     let new : View g.row.R.Denot = seen g.S.Durable g.B.Blob c.lay_range.new.self c.lay_range.new.store in
     let room : Unchanged old mid = first_of (search rules, grind (arith, common_steps)) in
-    runs_after g.B.Blob.is_direct true old mid new ((c.args.offset, c.args.bytes) ∷ []) (refused c.lay_range.result) room c.lay_range.ensures.recorded
+    subst (λ (b : List ℕ). Recorded g.B.Blob.is_direct true old new (laid_runs ((c.args.offset, b) ∷ [])) (refused c.lay_range.result)) c.in_ok-owned.ensures.ok
+    (runs_after g.B.Blob.is_direct true old mid new ((c.args.offset, c.in_ok-owned.owned) ∷ []) (refused c.lay_range.result) room c.lay_range.ensures.recorded)

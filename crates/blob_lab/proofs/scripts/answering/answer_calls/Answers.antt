@@ -15,7 +15,7 @@ calls-init g c = record {
   sound = (refl, refl);
 }
 
--- the calls so far, the last one with them, are answered
+-- the calls so far, including the last one, have replies
 settled : (g : _) (c : In_ok-answer g) (s : Script) (line : List ℕ) → Begins c.args.lab.now s line (act_of c.args.first) c.args.lines.now.config
     → OfLines (g.R.Read.remaining (reader_of c.args.input.now)) (g.R.Read.remaining (reader_of c.calls.input)) (λ all rest.
     Settled s c.args.lines.now.number (c.calls.lines.number + 1) c.answer.new.lab c.calls.lines.config (g.W.Write.contents (writer_of c.args.output.now)) (g.W.Write.contents (writer_of c.answer.new.output)) (line ∷ all) rest)

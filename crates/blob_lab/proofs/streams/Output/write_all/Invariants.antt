@@ -1,4 +1,4 @@
--- what is gone from `rest` was appended
+-- the bytes no longer in `rest` were appended
 use Rattle.std.proofs.Common.{◌≡◌, ℕ, List, ◌++◌, false}
 use Rattle.std.specs.Io.KnownBytes.{Appends}
 use Rattle.blob_lab.specs.Streams.{writer_of, write_failed, is_flushed}

@@ -1,4 +1,3 @@
-use Rattle.std.proofs.Common.{◌∙◌}
 use Rattle.blob_memory.specs.Store.{place}
 use Rattle.blob_memory.proofs.ByBytes.{on_err}
 use Rattle.blob_memory.proofs.Kept.{lent, alters, stays}
@@ -11,7 +10,7 @@ pub returns-in_err-replace-clause-directory : goal.returns-in_err-replace-clause
 returns-in_err-replace-clause-directory c = (lent c.args.store.now.contents _ (place c.args.self.now) _ _ c.replace.new.bytes c.in-Some.is c.bytes_mut.ensures.value (c.bytes_mut.follows.holds c.replace.new.bytes)).now.directory
 
 pub returns-clause-synced : goal.returns-clause-synced
-returns-clause-synced c = alters (lent c.args.store.now.contents _ (place c.args.self.now) _ _ c.replace.new.bytes c.in-Some.is c.bytes_mut.ensures.value (c.bytes_mut.follows.holds c.replace.new.bytes)) (λ _. c.args.self.now.live.items) (c.in_ok-replace.ensures.ok ∙ c.deref.ensures.value)
+returns-clause-synced c = alters (lent c.args.store.now.contents _ (place c.args.self.now) _ _ c.replace.new.bytes c.in-Some.is c.bytes_mut.ensures.value (c.bytes_mut.follows.holds c.replace.new.bytes)) (λ _. c.args.self.now.live.items) c.in_ok-replace.ensures.ok
 
 pub returns-clause-directory : goal.returns-clause-directory
 returns-clause-directory c = (lent c.args.store.now.contents _ (place c.args.self.now) _ _ c.replace.new.bytes c.in-Some.is c.bytes_mut.ensures.value (c.bytes_mut.follows.holds c.replace.new.bytes)).now.directory

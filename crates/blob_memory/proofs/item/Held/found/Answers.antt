@@ -17,4 +17,4 @@ pub returns-clause-opening : goal.returns-clause-opening
 returns-clause-opening c = λ p n.
     held_opens p n c.args.is_ended c.args.self.now (range_inclusive_start c.args.versions.now).0 (range_inclusive_end c.args.versions.now).0 c.has_version.ensures.fits
     ∙ held_accepted c.args.self.now c.args.is_ended (range_inclusive_start c.args.versions.now).0 (range_inclusive_end c.args.versions.now).0 (sym c.has_version.ensures.within ∙ c.if-not-has_version.false)
-    ∙ sym (ap₂ (λ (k : Option ℕ) (v : List ℕ). opening_with k c.args.self.now.layout c.args.self.now.version.0 v) c.then_some.ensures (c.in_ok-from_slice.ensures.items ∙ c.deref.ensures.value))
+    ∙ sym (ap₂ (λ (k : Option ℕ) (v : List ℕ). opening_with k c.args.self.now.layout c.args.self.now.version.0 v) c.then_some.ensures c.in_ok-copy.ensures)

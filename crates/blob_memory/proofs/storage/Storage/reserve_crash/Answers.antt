@@ -1,5 +1,4 @@
 use Rattle.std.proofs.Common.{◌≤◌, arith}
-use Rattle.std.specs.Prelude.{vec_capacity}
 use Rattle.blob_memory.proofs.Kept.{lent, stays, kept, kept_none, still, fits_lent, fits_none}
 use Rattle.blob_memory.proofs.storage.Storage.reserve_crash.Goals as goal
 
@@ -22,7 +21,7 @@ returns-in_default-clause-kept c = kept_none c.args.self.now _ c.bytes_mut.follo
 
 pub returns-clause-ok : goal.returns-clause-ok
 returns-clause-ok c =
-    let end : c.args.len ≤ vec_capacity c.make_room.new.bytes = omega (arith, c.in_ok-len.ensures.end, c.in_ok-make_room.ensures.room) in
+    let end : c.args.len ≤ c.make_room.new.bytes.capacity = omega (arith, c.in_ok-len.ensures.end, c.in_ok-make_room.ensures.room) in
     fits_lent (lent c.args.self.now.contents _ c.args.origin.now _ _ c.make_room.new.bytes c.in-Some.is c.bytes_mut.ensures.value (c.bytes_mut.follows.holds c.make_room.new.bytes)) _ end
 
 pub returns-clause-durable : goal.returns-clause-durable

@@ -1,0 +1,179 @@
+//! The library as it is declared in `bindings/c/blobcrash.h`: its statuses, structs and functions. `library` alone calls them.
+use crate::debt_calls::{DebtReply, RawDebtCall};
+use std::ffi::c_void;
+
+pub(crate) const DONE: u32 = 0;
+pub(crate) const ENDLESS: u32 = 1;
+pub(crate) const BAD_LINE: u32 = 2;
+pub(crate) const NO_MEMORY: u32 = 3;
+pub(crate) const NO_ROOM: u32 = 4;
+pub(crate) const OTHER_REPLY: u32 = 6;
+pub(crate) const BAD_CALL: u32 = 8;
+/// Below this a status isn't a refusal.
+pub(crate) const FIRST_REFUSAL: u32 = 16;
+pub(crate) const BLOB_MISSING: u32 = 20;
+
+/// Why a header region is refused. Any other status is `TRUNCATED`.
+pub(crate) const INVALID_MAGIC: u32 = 48;
+pub(crate) const UNSUPPORTED_LAYOUT_VERSION: u32 = 49;
+pub(crate) const LAYOUT_MISMATCH: u32 = 50;
+pub(crate) const VERSION_MISMATCH: u32 = 51;
+pub(crate) const INVALID_CHECKSUM: u32 = 52;
+pub(crate) const INVALID_PADDING: u32 = 53;
+
+/// A session, which belongs to the library.
+#[repr(C)]
+#[derive(Debug)]
+pub(crate) struct RawSession {
+    pub(crate) at: *mut c_void,
+    pub(crate) is_open: bool,
+}
+
+/// How a call ended, and how many bytes its reply has.
+#[repr(C)]
+pub(crate) struct Ran {
+    pub(crate) status: u32,
+    pub(crate) len: usize,
+}
+
+/// How a script ended, how many bytes its replies have, and which line is bad.
+#[repr(C)]
+pub(crate) struct ScriptRan {
+    pub(crate) status: u32,
+    pub(crate) len: usize,
+    pub(crate) line: u64,
+}
+
+/// A typed call without its bytes.
+#[repr(C)]
+pub(crate) struct Asked {
+    pub(crate) kind: u32,
+    pub(crate) number: usize,
+    pub(crate) first: u64,
+    pub(crate) last: u64,
+}
+
+/// The numbers of a reply. Those that a reply doesn't have are 0.
+#[repr(C)]
+pub(crate) struct TypedReply {
+    pub(crate) status: u32,
+    /// The version of an opened blob.
+    pub(crate) version: u32,
+    /// The handle of an opened blob, or the number of a started sync.
+    pub(crate) number: usize,
+    /// The size of a blob in bytes.
+    pub(crate) size: u64,
+}
+
+/// The kinds of typed calls that this crate makes.
+#[derive(Clone, Copy, Debug, PartialEq, Eq)]
+#[repr(u32)]
+pub(crate) enum Kind {
+    Open = 0,
+    OpenLoose = 1,
+    Admit = 2,
+    Close = 3,
+    Resize = 4,
+    Size = 5,
+    Sync = 6,
+    StartSync = 7,
+    Finish = 8,
+    RemoveBlob = 9,
+    RemovePartition = 10,
+}
+
+/// Which header regions are accepted.
+#[repr(C)]
+pub(crate) struct Accepts {
+    pub(crate) oldest: u16,
+    pub(crate) newest: u16,
+    pub(crate) least: u16,
+    pub(crate) greatest: u16,
+}
+
+/// What a header region says.
+#[repr(C)]
+pub(crate) struct ParsedHeader {
+    pub(crate) status: u32,
+    pub(crate) version: u32,
+    pub(crate) size: u64,
+    pub(crate) data_offset: u64,
+}
+
+unsafe extern "C" {
+    pub(crate) fn blobcrash_open(
+        session: *mut RawSession,
+        preamble: *const u8,
+        len: usize,
+    ) -> ScriptRan;
+    pub(crate) fn blobcrash_call(
+        session: *mut RawSession,
+        line: *const u8,
+        len: usize,
+        reply: *mut u8,
+        room: usize,
+    ) -> Ran;
+    pub(crate) fn blobcrash_reply(session: *mut RawSession, reply: *mut u8, room: usize) -> Ran;
+    pub(crate) fn blobcrash_write(
+        session: *mut RawSession,
+        handle: usize,
+        offset: u64,
+        bytes: *const u8,
+        len: usize,
+        sync: bool,
+    ) -> u32;
+    pub(crate) fn blobcrash_read(
+        session: *mut RawSession,
+        handle: usize,
+        offset: u64,
+        into: *mut u8,
+        len: usize,
+    ) -> u32;
+    pub(crate) fn blobcrash_apply(
+        session: *mut RawSession,
+        asked: *const Asked,
+        partition: *const u8,
+        partition_len: usize,
+        name: *const u8,
+        name_len: usize,
+    ) -> TypedReply;
+    pub(crate) fn blobcrash_words_left(session: *mut RawSession) -> Ran;
+    pub(crate) fn blobcrash_push_words(
+        session: *mut RawSession,
+        words: *const u64,
+        count: usize,
+    ) -> u32;
+    pub(crate) fn blobcrash_durable_blob(
+        session: *mut RawSession,
+        partition: *const u8,
+        partition_len: usize,
+        name: *const u8,
+        name_len: usize,
+        with_header: bool,
+        into: *mut u8,
+        capacity: usize,
+    ) -> Ran;
+    pub(crate) fn blobcrash_audit(session: *mut RawSession, into: *mut u8, capacity: usize) -> Ran;
+    pub(crate) fn blobcrash_debt(
+        session: *mut RawSession,
+        asked: *const RawDebtCall,
+        partition: *const u8,
+        partition_len: usize,
+        name: *const u8,
+        name_len: usize,
+    ) -> DebtReply;
+    pub(crate) fn blobcrash_close(session: *mut RawSession);
+    pub(crate) fn blobcrash_parse_header(
+        raw: *const u8,
+        len: usize,
+        raw_len: u64,
+        accepts: *const Accepts,
+    ) -> ParsedHeader;
+    pub(crate) fn blobcrash_interrupted_creation(layout: u16, raw: *const u8, len: usize) -> bool;
+    pub(crate) fn blobcrash_run(
+        script: *const u8,
+        len: usize,
+        replies: *mut u8,
+        room: usize,
+    ) -> ScriptRan;
+}

@@ -1,0 +1,61 @@
+use crate::library::Session;
+use crate::script::first_word;
+use crate::shared::{Shared, State};
+use crate::{Error, Store};
+
+impl Store {
+    /// Returns another store in the same state: blobs, pending writes, settings, and the words that the generator gives next. From here
+    /// on the two share nothing, so that a run forks, as after a crash. The calls of [`Store::script`] are made again, which takes as long
+    /// as they took.
+    ///
+    /// Handles and started syncs aren't part of it. A name that is open stays so until the new store is reopened.
+    ///
+    /// Errors:
+    /// - `Argument` if the store is `unrecorded` or that of an explored run, or its power is off or limited.
+    /// - `OutOfMemory`.
+    ///
+    /// ```
+    /// # use blobcrash::{Store, WriteOptions};
+    /// # fn main() -> Result<(), blobcrash::Error> {
+    /// let store = Store::builder().seed(7).open()?;
+    /// let (blob, _) = store.open("p", b"b")?;
+    /// blob.write_at(0, b"abc", WriteOptions::SYNC)?;
+    /// store.crash()?;
+    /// let fork = store.fork()?;
+    /// for outcome in [store, fork] {
+    ///     outcome.reopen()?;
+    ///     assert_eq!(outcome.open("p", b"b")?.1, 3);
+    /// }
+    /// # Ok(())
+    /// # }
+    /// ```
+    pub fn fork(&self) -> Result<Store, Error> {
+        let state = self.shared.lock();
+        let refused = |text: &str| Error::Argument(text.to_owned());
+        let Some(script) = &state.session.script else {
+            return Err(refused("a store without a script can't be forked"));
+        };
+        if state.choices.is_some() || state.power.is_limited() {
+            let text = "a store of an explored run, or with a limited power, can't be forked";
+            return Err(refused(text));
+        }
+        let text = script.text();
+        let lines: Vec<&str> = text.lines().collect();
+        let is_first = |line: &&str| ["image", "words", "seed"].contains(&first_word(line));
+        let first = lines.iter().rposition(is_first).map_or(0, |last| last + 1);
+        let mut session = Session::open(&lines[..first].join("\n"))?;
+        for line in &lines[first..] {
+            session.call(line)?;
+        }
+        session.script = Some(script.clone());
+        let forked = State::new(session, state.config(), None);
+        let shared = &self.shared;
+        let (has_draws, allow_stale) = (shared.has_draws, shared.allow_stale);
+        Ok(Store::of(Shared::new(
+            forked,
+            has_draws,
+            allow_stale,
+            shared.is_pushed,
+        )))
+    }
+}

@@ -1,0 +1,4 @@
+pub mod Forms
+pub mod Paged
+pub mod Stored
+pub mod Values

@@ -1,0 +1,42 @@
+-- The registry of durability debt of a session.
+use Rattle.std.specs.Prelude.{◌≡◌, ◌==◌, ◌∷◌, [], ℕ, List, false, if◌then◌else◌, slice_get, Option, Some, None}
+use Rattle.blob_debt.specs.Debts.{Represents, by_open}
+use Rattle.blob_debt.specs.History.{AdmittedOpen, History, Operation}
+use Rattle.blob_header.specs.Refusals as refusals
+use Rattle.blob_header.specs.Refusals.{Refusal}
+use Rattle.blob_sessions.specs.declared.debts.Debts.{Debts}
+use Rattle.blob_sessions.specs.declared.debts.DebtReply.{DebtReply}
+use Rattle.blob_sessions.specs.declared.ran.TheConstants.{DONE}
+use Rattle.blob_sessions.specs.declared.refusals.TheConstants.{OFFSET_OVERFLOW, BLOB_INSUFFICIENT_LENGTH, BLOB_CLOSED, READ_FAILED, WRITE_FAILED, INJECTED, MEMORY, GENERATIONS_EXHAUSTED}
+
+-- what a slot of a table has
+abbrev pub kept_at : {T : Type 0} → List (Option T) → ℕ → Option T
+kept_at slots number = elim (slice_get slots number) [ None ↦ None | Some slot ↦ slot ]
+
+abbrev pub no_debt : ℕ → DebtReply
+no_debt status = record { status = status; flag = false; has_predecessor = false; number = 0; predecessor = 0 }
+
+-- an operation of an open was added to whatever history the registry had
+abbrev pub Steps : Debts → Debts → AdmittedOpen → Operation → Type 0
+Steps d d' o operation = (h : History) → Represents d.pending h → Represents d'.pending (by_open o operation ∷ h)
+
+abbrev pub outcomes : List (ℕ × Option Refusal)
+outcomes =
+    (DONE, None)
+    ∷ (OFFSET_OVERFLOW, Some refusals.OffsetOverflow)
+    ∷ (BLOB_INSUFFICIENT_LENGTH, Some refusals.BlobInsufficientLength)
+    ∷ (BLOB_CLOSED, Some refusals.Closed)
+    ∷ (READ_FAILED, Some refusals.ReadFailed)
+    ∷ (WRITE_FAILED, Some refusals.WriteFailed)
+    ∷ (INJECTED, Some refusals.Injected)
+    ∷ (MEMORY, Some refusals.Memory)
+    ∷ (GENERATIONS_EXHAUSTED, Some refusals.GenerationsExhausted)
+    ∷ []
+
+abbrev pub with_status : List (ℕ × Option Refusal) → ℕ → Option (Option Refusal)
+with_status [] status = None
+with_status (row ∷ rows) status = if status == row.0 then Some row.1 else with_status rows status
+
+-- the outcome with this status, if it has no texts
+abbrev pub plain_refusal : ℕ → Option (Option Refusal)
+plain_refusal status = with_status outcomes status

@@ -1,0 +1,135 @@
+// What a blob's header says, without a session.
+ghost use Rattle.std.specs.Prelude.{◌≡◌, ◌↔◌, IsTrue, false, IfSome, None};
+ghost use Rattle.blob_header.specs.Header.{IsFrontOfCreation};
+ghost use Rattle.blob_header.specs.Parse.{failure_of, parsed};
+ghost use Rattle.blob_sessions.specs.Headers.{IsFrontOfBlob, accepted_by, header_reply, layout_numbered, no_header, refused_header};
+
+use crate::ran::{BAD_CALL, DONE};
+use blob_header::{BlobVersion, Header, HeaderError, Layout};
+
+/// The first four bytes are no layout's magic.
+pub const INVALID_MAGIC: u32 = 48;
+/// The layout version isn't the one that goes with the magic.
+pub const UNSUPPORTED_LAYOUT_VERSION: u32 = 49;
+/// The layout isn't accepted.
+pub const LAYOUT_MISMATCH: u32 = 50;
+/// The version isn't accepted.
+pub const VERSION_MISMATCH: u32 = 51;
+/// Bytes 8 to 11 aren't the checksum of the eight before them.
+pub const INVALID_CHECKSUM: u32 = 52;
+/// A byte between the checksum and the data offset isn't zero.
+pub const INVALID_PADDING: u32 = 53;
+/// The blob ends before its header does.
+pub const TRUNCATED: u32 = 54;
+
+/// Which layouts and versions are accepted, each from the first to the second. A layout is its number: 0 or 1.
+#[repr(C)]
+#[derive(Clone, Copy)]
+pub struct Accepts {
+    pub oldest: u16,
+    pub newest: u16,
+    pub least: u16,
+    pub greatest: u16,
+}
+
+/// What a header says. Those that it doesn't say are 0.
+#[repr(C)]
+#[derive(Clone, Copy)]
+pub struct ParsedHeader {
+    /// `DONE`, why the header is refused, or `BAD_CALL`.
+    pub status: u32,
+    /// The blob's version. If the layout version, the layout or the version is refused, its number.
+    pub version: u32,
+    /// The size of the blob without its header, in bytes; with `TRUNCATED` the length that the header needs.
+    pub size: u64,
+    /// The offset of the blob's own bytes.
+    pub data_offset: u64,
+}
+
+impl ParsedHeader {
+    /// Without a header.
+    pub fn stopped(status: u32) -> ParsedHeader
+        ensures { result ≡ no_header status }
+    {
+        ParsedHeader {
+            status,
+            version: 0,
+            size: 0,
+            data_offset: 0,
+        }
+    }
+
+    fn refused(error: &HeaderError) -> ParsedHeader
+        ensures { result ≡ refused_header (failure_of error.now) }
+    {
+        let (status, version, size) = match error {
+            HeaderError::InvalidMagic { .. } => (INVALID_MAGIC, 0, 0),
+            HeaderError::UnsupportedLayoutVersion { found, .. } => {
+                (UNSUPPORTED_LAYOUT_VERSION, *found, 0)
+            }
+            HeaderError::LayoutMismatch { found, .. } => {
+                (LAYOUT_MISMATCH, found.layout_version(), 0)
+            }
+            HeaderError::VersionMismatch { found, .. } => (VERSION_MISMATCH, found.get(), 0),
+            HeaderError::InvalidChecksum => (INVALID_CHECKSUM, 0, 0),
+            HeaderError::InvalidPadding => (INVALID_PADDING, 0, 0),
+            HeaderError::Truncated { required_len, .. } => (TRUNCATED, 0, *required_len),
+        };
+        ParsedHeader {
+            status,
+            version: version as u32,
+            size,
+            data_offset: 0,
+        }
+    }
+}
+
+/// Parses the header of a blob. `raw` is a prefix of the blob, of at least `min(raw_len, 4096)` bytes, and `raw_len` its whole
+/// length in bytes.
+///
+/// `BAD_CALL` if a layout is unknown, `raw` has too few bytes or more than the blob, or the blob is shorter than any header.
+pub fn parse(raw: &[u8], raw_len: u64, accepts: &Accepts) -> ParsedHeader
+    ensures parsed { IsFrontOfBlob raw.now raw_len → IfSome (accepted_by accepts.now) (λ accepted. result ≡ header_reply (parsed raw.now raw_len accepted)) }
+    ensures unknown { accepted_by accepts.now ≡ None → result ≡ no_header BAD_CALL }
+    ensures no_front { (IsFrontOfBlob raw.now raw_len → ⊥) → result ≡ no_header BAD_CALL }
+{
+    let len = raw.len() as u64;
+    if raw_len < 8 || len > raw_len || len < raw_len.min(4096) {
+        return ParsedHeader::stopped(BAD_CALL);
+    }
+    let (Some(oldest), Some(newest)) = (layout(accepts.oldest), layout(accepts.newest)) else {
+        return ParsedHeader::stopped(BAD_CALL);
+    };
+    let versions = BlobVersion::new(accepts.least)..=BlobVersion::new(accepts.greatest);
+    match Header::parse(raw, raw_len, &(oldest..=newest), &versions) {
+        Ok((size, version, data_offset)) => ParsedHeader {
+            status: DONE,
+            version: version.get() as u32,
+            size,
+            data_offset,
+        },
+        Err(error) => ParsedHeader::refused(&error),
+    }
+}
+
+/// Returns whether these raw bytes of a whole blob may be what an interrupted creation in this layout left. No bytes are if there
+/// is no such layout.
+pub fn is_interrupted_creation(number: u16, raw: &[u8]) -> bool
+    ensures known { IfSome (layout_numbered number) (λ layout. IsTrue result ↔ IsFrontOfCreation layout raw.now) }
+    ensures unknown { layout_numbered number ≡ None → result ≡ false }
+{
+    match layout(number) {
+        Some(layout) => layout.interrupted_creation(raw),
+        None => false,
+    }
+}
+
+fn layout(number: u16) -> Option<Layout>
+    ensures { result ≡ layout_numbered number }
+{
+    match number {
+        0 => Some(Layout::V0),
+        1 => Some(Layout::V1),
+        _ => None,
+    }
+}
