@@ -50,7 +50,7 @@ enum blobcrash_status {
     BLOBCRASH_CLOSED = 5,
     /* The call was made, and has a reply of another kind, as an error. The reply is kept. */
     BLOBCRASH_OTHER_REPLY = 6,
-    /* The call was made. The library can't allocate the text of its reply, which is kept. */
+    /* The call was made. The length of its reply doesn't fit in 64 bits. The reply is kept. */
     BLOBCRASH_UNPRINTED = 7,
     /* A typed call has an unknown kind, a version above 65535 or a partition that isn't UTF-8. No call was made. */
     BLOBCRASH_BAD_CALL = 8

@@ -2,7 +2,7 @@
 use Rattle.std.proofs.Common.{◌≡◌, ◌∙◌, refl, ap, sym, inl, inr, ℕ, List, Ok, Err, Some, None, Result, Option, OnErr}
 use Rattle.std.proofs.lemmas.Option.{none-some}
 use Rattle.std.specs.Prelude.{codes, true, false, is_none}
-use Rattle.blob_header.specs.Refusals.{Refusal, IsMemory, refused}
+use Rattle.blob_header.specs.Refusals.{Refusal, IsMemory}
 use Rattle.blob_header.specs.declared.error.Error.{Error}
 use Rattle.blob_memory.specs.Answers.{OrMemory, open_refusal, opening_refusal}
 use Rattle.blob_model.specs.Directory.{Directory}

@@ -1,5 +1,5 @@
 -- How a disk tells what the wrapper answered.
-use Rattle.std.specs.Prelude.{◌≡◌, ◌≢◌, ◌⊎◌, ℕ, List, Option, Some, None, Result, Ok, Err}
+use Rattle.std.specs.Prelude.{◌≡◌, ◌≢◌, ℕ, List, Option, Some, None, Result, Ok, Err}
 use Rattle.std.specs.IoError.{error_kind}
 use Rattle.std.specs.declared.io.Error.{Error}
 use Rattle.std.specs.declared.io.ErrorKind.{ErrorKind}
@@ -33,7 +33,3 @@ pub record IsCaught {T : Type 0} (allowed : Option Refusal → Type 0) (key want
   pub kind : IsOfKind InvalidData result
   pub digest : digest key bytes ≢ want
   pub counted : MoreFaults old new
-
--- a tested read: told as a read and not counted as caught, or caught
-abbrev pub TellsTested : {T : Type 0} → (Option Refusal → Type 0) → ℕ → ℕ → List ℕ → Result T Error → ℕ → ℕ → Type 0
-TellsTested allowed key want bytes result old new = (TellsBy allowed result × (new ≡ old)) ⊎ IsCaught allowed key want bytes result old new

@@ -1,16 +1,19 @@
 -- A disk, seen as its bytes, its draws and its counts, and what its calls leave.
-use Rattle.std.specs.Prelude.{◌≡◌, ℕ, Bool, List, Option, Result}
+use Rattle.std.specs.Prelude.{◌≡◌, ◌⊎◌, ℕ, Bool, List, Option, Result}
+use Rattle.std.specs.declared.io.Error.{Error as io_error}
 use Rattle.rand_core.specs.Stream.{Stream}
 use Rattle.rand_core.specs.declared.Rng.{Ghosts}
 use Rattle.blob_header.specs.declared.error.Error.{Error}
 use Rattle.blob_faulty.specs.Keeps.{OverMemory}
-use Rattle.blob_faulty.specs.Wrapper.{inner_of, rng_of, inside}
-use Rattle.blob_memory.specs.Store.{durable, live, place}
+use Rattle.blob_faulty.specs.OverMemory.{MayReadInto}
+use Rattle.blob_faulty.specs.Wrapper.{rng_of}
+use Rattle.blob_header.specs.Refusals.{Refusal}
 use Rattle.sqlite_disk.specs.Disk.{Follows}
 use Rattle.sqlite_disk.specs.declared.tally.Tally.{Tally}
 use Rattle.blob_disk.specs.declared.BlobDisk.{BlobDisk}
 use Rattle.blob_disk.specs.Drawn.{rates_of}
-use Rattle.blob_disk.specs.Outcomes.{Opened, Leads, outcomes}
+use Rattle.blob_disk.specs.Answers.{IsCaught, TellsBy}
+use Rattle.blob_disk.specs.Outcomes.{Opened, Leads, durable_at, live_of, outcomes}
 
 abbrev pub blob_of : {R : Type 0} {g : Ghosts R} → BlobDisk R g → Opened
 blob_of d = d.blob
@@ -20,11 +23,11 @@ store_of d = d.store
 
 -- the bytes that a read returns
 abbrev pub seen_of : {R : Type 0} {g : Ghosts R} → BlobDisk R g → List ℕ
-seen_of d = live (inside d.blob)
+seen_of d = live_of d.blob
 
 -- the bytes that are durable
 abbrev pub durable_of : {R : Type 0} {g : Ghosts R} → BlobDisk R g → Option (List ℕ)
-durable_of d = durable (inner_of d.store) (place (inside d.blob))
+durable_of d = durable_at d.blob d.store
 
 -- what a crash may leave
 abbrev pub outcomes_of : {R : Type 0} {g : Ghosts R} → BlobDisk R g → List ℕ → Type 0
@@ -67,3 +70,20 @@ pub record StepsBytes {R : Type 0} {g : Ghosts R} (step : List ℕ → List ℕ 
   pub seen : step (seen_of d) (seen_of d')
   pub follows : Follows step (outcomes_of d) (outcomes_of d')
   pub leads : Leads step (outcomes_of d) (outcomes_of d')
+
+-- what the wrapper may answer to a call on a handle
+abbrev pub Allowed : Type 0 → Type 1
+Allowed R = Opened → OverMemory R → Option Refusal → Type 0
+
+abbrev pub MayRead : {R : Type 0} → (R → Stream) → ℕ → ℕ → Allowed R
+MayRead stream at len b w = MayReadInto stream b w at len
+
+-- a result that tells what the wrapper may answer to the disk's handle
+abbrev pub TellsCall : {R T : Type 0} {g : Ghosts R} → Allowed R → BlobDisk R g → Result T io_error → Type 0
+TellsCall allowed d result = TellsBy (allowed d.blob d.store) result
+
+-- a tested read: told as a read and not counted as caught, or caught
+abbrev pub TellsTested : {R T : Type 0} {g : Ghosts R} → Allowed R → ℕ → ℕ → List ℕ → Result T io_error → BlobDisk R g → BlobDisk R g → Type 0
+TellsTested allowed key want bytes result d d' =
+    (TellsCall allowed d result × (caught_of d' ≡ caught_of d))
+    ⊎ IsCaught (allowed d.blob d.store) key want bytes result (caught_of d) (caught_of d')

@@ -8,9 +8,8 @@ use Rattle.blob_model.specs.Stands.{replayed_at}
 use Rattle.blob_faults.specs.Answers.{injected_or}
 use Rattle.blob_faults.specs.Faults.{draw}
 use Rattle.blob_faulty.specs.Keeps.{OverMemory, IsFor}
-use Rattle.blob_faulty.specs.Wrapper.{inner_of, rng_of, config_of, pending_of, inside}
-use Rattle.blob_memory.specs.Store.{durable, place}
-use Rattle.blob_disk.specs.Outcomes.{Opened}
+use Rattle.blob_faulty.specs.Wrapper.{rng_of, config_of}
+use Rattle.blob_disk.specs.Outcomes.{Opened, durable_at, pending_at}
 
 -- the rows that a crash draws for the writes that it may lose, and what is left of the stream
 abbrev pub crash_draws : {R : Type 0} → (R → Stream) → OverMemory R → Files → List Row × Stream
@@ -19,7 +18,7 @@ crash_draws stream w files = drawn (stream (rng_of w)) (all_needs files.log)
 -- what these rows leave of the blob that a handle is on
 abbrev pub IsLeft : {R : Type 0} → (R → Stream) → Opened → OverMemory R → List ℕ → Type 0
 IsLeft stream b w c = (files : Files) → IsFor w files →
-    replayed_at (chosen_by (crash_draws stream w files).0) (pending_of (λ o. o) w (place (inside b))) (durable (inner_of w) (place (inside b))) ≡ Some c
+    replayed_at (chosen_by (crash_draws stream w files).0) (pending_at b w) (durable_at b w) ≡ Some c
 
 -- whether the open behind a crash fails, by the next draw
 abbrev pub open_fails : {R : Type 0} → (R → Stream) → OverMemory R → Files → Bool

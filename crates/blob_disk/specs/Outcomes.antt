@@ -5,22 +5,30 @@ use Rattle.blob_model.specs.Directory.{current}
 use Rattle.blob_model.specs.Files.{Files}
 use Rattle.blob_model.specs.Log.{Choices}
 use Rattle.blob_model.specs.Pending.{Pending}
-use Rattle.blob_model.specs.Places.{Place}
 use Rattle.blob_model.specs.Rates.{Rate}
 use Rattle.blob_model.specs.Stands.{replayed_at}
 use Rattle.blob_faulty.specs.Certain.{IsNever, partial_resizes}
 use Rattle.blob_faulty.specs.Keeps.{OverMemory}
 use Rattle.blob_faulty.specs.Wrapper.{Stands, inner_of, config_of, pending_of, inside, size_of}
 use Rattle.blob_faulty.specs.declared.blob.Blob as faulty_blob
-use Rattle.blob_faulty.specs.declared.storage.Storage as faulty
 use Rattle.blob_memory.specs.Answers.{open_refusal}
 use Rattle.blob_memory.specs.Store.{directory, durable, live, place}
 use Rattle.blob_memory.specs.declared.blob.Blob as memory_blob
-use Rattle.blob_memory.specs.declared.storage.Storage as memory
 
 -- a handle on a blob of a wrapper over a memory store
 abbrev pub Opened : Type 0
 Opened = faulty_blob.Blob memory_blob.Blob
+
+-- the bytes that a read of a handle returns
+abbrev pub live_of : Opened → List ℕ
+live_of b = live (inside b)
+
+-- the durable bytes of the blob that a handle is on, and what is pending for it
+abbrev pub durable_at : {R : Type 0} → Opened → OverMemory R → Option (List ℕ)
+durable_at b w = durable (inner_of w) (place (inside b))
+
+abbrev pub pending_at : {R : Type 0} → Opened → OverMemory R → List Pending
+pending_at b w = pending_of (λ o. o) w (place (inside b))
 
 -- all that was written, as where the process alone dies, or what some choices keep of what is pending
 abbrev pub MayLeave : List ℕ → List Pending → Option (List ℕ) → List ℕ → Type 0
@@ -28,11 +36,11 @@ MayLeave live pending durable c = (c ≡ live) ⊎ ((t : Choices) × (replayed_a
 
 -- what a crash of the machine leaves of the blob that a handle is on, by some choices
 abbrev pub IsDrawn : {R : Type 0} → Opened → OverMemory R → List ℕ → Type 0
-IsDrawn b w c = (t : Choices) × (replayed_at t (pending_of (λ o. o) w (place (inside b))) (durable (inner_of w) (place (inside b))) ≡ Some c)
+IsDrawn b w c = (t : Choices) × (replayed_at t (pending_at b w) (durable_at b w) ≡ Some c)
 
 -- or of the process alone
 abbrev pub outcomes : {R : Type 0} → Opened → OverMemory R → List ℕ → Type 0
-outcomes b w = MayLeave (live (inside b)) (pending_of (λ o. o) w (place (inside b))) (durable (inner_of w) (place (inside b)))
+outcomes b w = MayLeave (live_of b) (pending_at b w) (durable_at b w)
 
 -- the wrapper stands for some files
 abbrev pub IsStanding : {R : Type 0} → OverMemory R → Type 0
@@ -40,7 +48,7 @@ IsStanding w = ∥ ((files : Files) × Stands (λ o. o) (directory (inner_of w))
 
 -- the size that the handle tracks is that of its live bytes
 abbrev pub IsTracked : Opened → Type 0
-IsTracked b = size_of b ≡ length (live (inside b))
+IsTracked b = size_of b ≡ length (live_of b)
 
 -- the handle is on the current incarnation of the disk's name
 abbrev pub IsCurrent : {R : Type 0} → Opened → OverMemory R → Type 0
@@ -85,6 +93,6 @@ Leads step old new = (c : List ℕ) → old c → (d : List ℕ) × new d × ste
 
 -- nothing of the blob became durable, and a crash may leave the same as before
 pub record KeepsOutcomes {R : Type 0} (b : Opened) (w : OverMemory R) (b' : Opened) (w' : OverMemory R) : Type 0 where
-  pub durable : durable (inner_of w') (place (inside b')) ≡ durable (inner_of w) (place (inside b))
+  pub durable : durable_at b' w' ≡ durable_at b w
   pub no_more : (c : List ℕ) → outcomes b' w' c → outcomes b w c
   pub no_fewer : (c : List ℕ) → outcomes b w c → outcomes b' w' c

@@ -3,13 +3,13 @@ ghost use Rattle.std.specs.Prelude.{◌≡◌, ◌⊎◌, ◌≤◌, ◌<◌, �
 ghost use Rattle.std.specs.IoError.{error_kind};
 ghost use Rattle.blob_header.specs.Refusals.{refusal_of, refused};
 ghost use Rattle.blob_faulty.specs.OverMemory.{MayReadInto};
-ghost use Rattle.blob_faulty.specs.Wrapper.{inside, inner_of, KeepsRecords};
-ghost use Rattle.blob_memory.specs.Store.{live, place, durable};
+ghost use Rattle.blob_faulty.specs.Wrapper.{inner_of, KeepsRecords};
+ghost use Rattle.blob_memory.specs.Store.{durable};
 ghost use Rattle.sqlite_disk.specs.Disk.{Holds, Only, Torn, Mixed, Cut, Follows, MoreFaults};
 ghost use Rattle.sqlite_disk.specs.Refusal.{is_no_room};
 ghost use Rattle.blob_disk.specs.Answers.{kind_of};
 ghost use Rattle.blob_disk.specs.Crashes.{IsLeft, MayCrash, MayReopen};
-ghost use Rattle.blob_disk.specs.Outcomes.{KeepsOutcomes, LeavesDisk, Leads, IsCurrent, IsFile, IsDrawn, IsOpenable, outcomes};
+ghost use Rattle.blob_disk.specs.Outcomes.{KeepsOutcomes, LeavesDisk, Leads, IsCurrent, IsFile, IsDrawn, IsOpenable, durable_at, live_of, outcomes};
 
 use crate::{NAME, PARTITION};
 use blob_base::laws::opens::accepted_opens;
@@ -45,7 +45,7 @@ pub(crate) fn read<R: Rng>(
     at: usize,
     buf: &mut [u8],
 ) -> Result<(), Error>
-    ensures bytes { OnOk result (Holds (live (inside blob.now)) at buf.new) }
+    ensures bytes { OnOk result (Holds (live_of blob.now) at buf.new) }
     ensures allowed { MayReadInto R.stream blob.now store.old at (length buf.old) (refused result) }
     ensures keeps { LeavesDisk blob.now store.old blob.now store.new }
     ensures outcomes { KeepsOutcomes blob.now store.old blob.now store.new }
@@ -63,12 +63,12 @@ pub(crate) fn write<R: Rng>(
     bytes: &[u8],
 ) -> Result<(), Error>
     requires { IsFile blob.old store.old }
-    ensures written { OnOk result (0 < length bytes.now → Holds (live (inside blob.new)) at bytes.now) }
-    ensures others { Torn at (length bytes.now) (live (inside blob.old)) (live (inside blob.new)) }
+    ensures written { OnOk result (0 < length bytes.now → Holds (live_of blob.new) at bytes.now) }
+    ensures others { Torn at (length bytes.now) (live_of blob.old) (live_of blob.new) }
     ensures keeps { LeavesDisk blob.old store.old blob.new store.new }
     ensures allowed { ⟦<Handle as Blob<Wrapper<R>>>⟧.allows_write blob.old store.old at bytes.now false (refused result) }
-    ensures durable { OnOk result (durable (inner_of store.new) (place (inside blob.new)) ≡ durable (inner_of store.old) (place (inside blob.old))) }
-    ensures mixes { Mixed at bytes.now (live (inside blob.old)) (live (inside blob.new)) }
+    ensures durable { OnOk result (durable_at blob.new store.new ≡ durable_at blob.old store.old) }
+    ensures mixes { Mixed at bytes.now (live_of blob.old) (live_of blob.new) }
     ensures mixed { Follows (Mixed at bytes.now) (outcomes blob.old store.old) (outcomes blob.new store.new) }
     ensures leads { Leads (Mixed at bytes.now) (outcomes blob.old store.old) (outcomes blob.new store.new) }
     ensures crash { Follows (Torn at (length bytes.now)) (outcomes blob.old store.old) (outcomes blob.new store.new) }
@@ -88,10 +88,10 @@ pub(crate) fn resize<R: Rng>(
     len: usize,
 ) -> Result<(), Error>
     requires { IsFile blob.old store.old }
-    ensures len { OnOk result (length (live (inside blob.new)) ≡ len) }
-    ensures others { Cut len (live (inside blob.old)) (live (inside blob.new)) }
+    ensures len { OnOk result (length (live_of blob.new) ≡ len) }
+    ensures others { Cut len (live_of blob.old) (live_of blob.new) }
     ensures allowed { ⟦<Handle as Blob<Wrapper<R>>>⟧.allows_resize blob.old store.old len (refused result) }
-    ensures durable { durable (inner_of store.new) (place (inside blob.new)) ≡ durable (inner_of store.old) (place (inside blob.old)) }
+    ensures durable { durable_at blob.new store.new ≡ durable_at blob.old store.old }
     ensures keeps { LeavesDisk blob.old store.old blob.new store.new }
     ensures crash { Follows (Cut len) (outcomes blob.old store.old) (outcomes blob.new store.new) }
     ensures leads { Leads (Cut len) (outcomes blob.old store.old) (outcomes blob.new store.new) }
@@ -105,9 +105,9 @@ pub(crate) fn resize<R: Rng>(
 
 /// Makes the live bytes durable.
 pub(crate) fn sync<R: Rng>(store: &mut Wrapper<R>, blob: &mut Handle) -> Result<(), Error>
-    ensures durable { OnOk result (Only (live (inside blob.old)) (outcomes blob.new store.new)) }
+    ensures durable { OnOk result (Only (live_of blob.old) (outcomes blob.new store.new)) }
     ensures keeps { LeavesDisk blob.old store.old blob.new store.new }
-    ensures live { live (inside blob.new) ≡ live (inside blob.old) }
+    ensures live { live_of blob.new ≡ live_of blob.old }
     ensures allowed { ⟦<Handle as Blob<Wrapper<R>>>⟧.allows_sync blob.old store.old (refused result) }
     ensures kept { OnErr result (KeepsOutcomes blob.old store.old blob.new store.new) }
     ensures crash { (c : List ℕ) → outcomes blob.new store.new c → outcomes blob.old store.old c }
@@ -122,9 +122,9 @@ fn reopen<R: Rng>(store: &mut Wrapper<R>, blob: &mut Handle) -> Result<(), Error
     requires here { IsCurrent blob.old store.old }
     requires openable { IsOpenable store.old }
     ensures answer { MayReopen R.stream store.old (refused result) }
-    ensures found { OnOk result (durable (inner_of store.old) (place (inside blob.old)) ≡ Some (live (inside blob.new))) }
-    ensures kept { OnErr result (live (inside blob.new) ≡ live (inside blob.old)) }
-    ensures live { (live (inside blob.new) ≡ live (inside blob.old)) ⊎ (durable (inner_of store.old) (place (inside blob.old)) ≡ Some (live (inside blob.new))) }
+    ensures found { OnOk result (durable_at blob.old store.old ≡ Some (live_of blob.new)) }
+    ensures kept { OnErr result (live_of blob.new ≡ live_of blob.old) }
+    ensures live { (live_of blob.new ≡ live_of blob.old) ⊎ (durable_at blob.old store.old ≡ Some (live_of blob.new)) }
     ensures durable { durable (inner_of store.new) ≡ durable (inner_of store.old) }
     ensures records { KeepsRecords (λ o. o) store.old store.new }
     ensures keeps { LeavesDisk blob.old store.old blob.new store.new }
@@ -146,10 +146,10 @@ pub(crate) fn lose<R: Rng>(store: &mut Wrapper<R>, blob: &mut Handle) -> Result<
     requires here { IsCurrent blob.old store.old }
     requires openable { IsOpenable store.old }
     ensures answer { MayCrash R.stream store.old (refused result) }
-    ensures drawn { OnOk result (IsLeft R.stream blob.old store.old (live (inside blob.new))) }
-    ensures lost { OnOk result (IsDrawn blob.old store.old (live (inside blob.new))) }
-    ensures kept { OnErr result (live (inside blob.new) ≡ live (inside blob.old)) }
-    ensures left { outcomes blob.old store.old (live (inside blob.new)) }
+    ensures drawn { OnOk result (IsLeft R.stream blob.old store.old (live_of blob.new)) }
+    ensures lost { OnOk result (IsDrawn blob.old store.old (live_of blob.new)) }
+    ensures kept { OnErr result (live_of blob.new ≡ live_of blob.old) }
+    ensures left { outcomes blob.old store.old (live_of blob.new) }
     ensures keeps { LeavesDisk blob.old store.old blob.new store.new }
     ensures crash { (c : List ℕ) → outcomes blob.new store.new c → outcomes blob.old store.old c }
 {

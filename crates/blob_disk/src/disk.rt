@@ -9,14 +9,12 @@ use std::io;
 impl<R: Rng> Disk for BlobDisk<R> {
     ghost use Rattle.std.specs.Prelude.{◌≡◌, ◌<◌, ℕ, List, IsTrue, true, false, refl, is_ok, length, OnOk, OnErr};
     ghost use Rattle.std.proofs.Common.{inl};
-    ghost use Rattle.blob_faulty.specs.OverMemory.{MayReadInto};
     ghost use Rattle.blob_faulty.specs.Wrapper.{inside};
     ghost use Rattle.blob_memory.specs.Store.{live};
     ghost use Rattle.sqlite_disk.specs.Digest.{digest};
     ghost use Rattle.sqlite_disk.specs.Disk.{CountsFault, Cut, Follows, Holds, Mixed, Only, Torn};
     ghost use Rattle.sqlite_disk.specs.Tally.{CountsCatch};
-    ghost use Rattle.blob_disk.specs.Answers.{TellsBy, TellsTested};
-    ghost use Rattle.blob_disk.specs.Calls.{KeepsBytes, KeepsSettings, StepsBytes, blob_of, caught_of, counts_of, durable_of, faults_of, is_usable_of, outcomes_of, seen_of, store_of};
+    ghost use Rattle.blob_disk.specs.Calls.{KeepsBytes, KeepsSettings, MayRead, StepsBytes, TellsCall, TellsTested, counts_of, durable_of, faults_of, is_usable_of, outcomes_of, seen_of};
     ghost use Rattle.blob_disk.specs.Outcomes.{outcomes};
 
     ghost seen = { λ d. live (inside d.blob) };
@@ -72,7 +70,7 @@ impl<R: Rng> Disk for BlobDisk<R> {
     fn read_at(&mut self, at: usize, buf: &mut [u8]) -> io::Result<()>
         requires { IsTrue (is_usable_of self.old) }
         ensures read { OnOk result (Holds (seen_of self.old) at buf.new) }
-        ensures answer { TellsBy (MayReadInto R.stream (blob_of self.old) (store_of self.old) at (length buf.old)) result }
+        ensures answer { TellsCall (MayRead R.stream at (length buf.old)) self.old result }
         ensures faults { CountsFault result (faults_of self.old) (faults_of self.new) }
         ensures counts { counts_of self.new ≡ counts_of self.old }
         ensures bytes { KeepsBytes self.old self.new }
@@ -90,7 +88,7 @@ impl<R: Rng> Disk for BlobDisk<R> {
         requires { IsTrue (is_usable_of self.old) }
         ensures read { OnOk result (Holds (seen_of self.old) at buf.new) }
         ensures tested { OnOk result (digest key buf.new ≡ want) }
-        ensures answer { TellsTested (MayReadInto R.stream (blob_of self.old) (store_of self.old) at (length buf.old)) key want buf.new result (caught_of self.old) (caught_of self.new) }
+        ensures answer { TellsTested (MayRead R.stream at (length buf.old)) key want buf.new result self.old self.new }
         ensures faults { CountsFault result (faults_of self.old) (faults_of self.new) }
         ensures counts { CountsCatch result (counts_of self.old) (counts_of self.new) }
         ensures bytes { KeepsBytes self.old self.new }
@@ -109,7 +107,7 @@ impl<R: Rng> Disk for BlobDisk<R> {
     fn write_at(&mut self, at: usize, bytes: &[u8]) -> io::Result<()>
         requires { IsTrue (is_usable_of self.old) }
         ensures written { OnOk result (0 < length bytes.now → Holds (seen_of self.new) at bytes.now) }
-        ensures answer { TellsBy (⟦<Handle as Blob<Wrapper<R>>>⟧.allows_write (blob_of self.old) (store_of self.old) at bytes.now false) result }
+        ensures answer { TellsCall (λ b w. ⟦<Handle as Blob<Wrapper<R>>>⟧.allows_write b w at bytes.now false) self.old result }
         ensures faults { CountsFault result (faults_of self.old) (faults_of self.new) }
         ensures counts { counts_of self.new ≡ counts_of self.old }
         ensures durable { OnOk result (durable_of self.new ≡ durable_of self.old) }
@@ -128,7 +126,7 @@ impl<R: Rng> Disk for BlobDisk<R> {
     fn set_len(&mut self, len: usize) -> io::Result<()>
         requires { IsTrue (is_usable_of self.old) }
         ensures len { OnOk result (length (seen_of self.new) ≡ len) }
-        ensures answer { TellsBy (⟦<Handle as Blob<Wrapper<R>>>⟧.allows_resize (blob_of self.old) (store_of self.old) len) result }
+        ensures answer { TellsCall (λ b w. ⟦<Handle as Blob<Wrapper<R>>>⟧.allows_resize b w len) self.old result }
         ensures faults { CountsFault result (faults_of self.old) (faults_of self.new) }
         ensures counts { counts_of self.new ≡ counts_of self.old }
         ensures durable { durable_of self.new ≡ durable_of self.old }
@@ -145,7 +143,7 @@ impl<R: Rng> Disk for BlobDisk<R> {
     fn sync(&mut self) -> io::Result<()>
         requires { IsTrue (is_usable_of self.old) }
         ensures durable { OnOk result (Only (seen_of self.old) (outcomes_of self.new)) }
-        ensures answer { TellsBy (⟦<Handle as Blob<Wrapper<R>>>⟧.allows_sync (blob_of self.old) (store_of self.old)) result }
+        ensures answer { TellsCall ⟦<Handle as Blob<Wrapper<R>>>⟧.allows_sync self.old result }
         ensures faults { CountsFault result (faults_of self.old) (faults_of self.new) }
         ensures counts { counts_of self.new ≡ counts_of self.old }
         ensures seen { seen_of self.new ≡ seen_of self.old }
@@ -167,7 +165,7 @@ impl<R: Rng> Disk for BlobDisk<R> {
 impl<R: Rng> BlobDisk<R> {
     ghost use Rattle.std.specs.Prelude.{◌≡◌, ℕ, List, true, OnOk, OnErr};
     ghost use Rattle.blob_header.specs.Refusals.{refused};
-    ghost use Rattle.blob_disk.specs.Calls.{blob_of, crash_of, store_of, seen_of};
+    ghost use Rattle.blob_disk.specs.Calls.{blob_of, counts_of, crash_of, faults_of, is_usable_of, outcomes_of, seen_of, store_of};
     ghost use Rattle.blob_disk.specs.Crashes.{IsLeft, MayCrash};
     ghost use Rattle.blob_disk.specs.Drawn.{MayDraw, rates_of};
 
@@ -181,14 +179,14 @@ impl<R: Rng> BlobDisk<R> {
     pub fn try_crash(&mut self) -> Result<(), Error>
         ensures answer { MayCrash R.stream (store_of self.old) (refused result) }
         ensures drawn { OnOk result (IsLeft R.stream (blob_of self.old) (store_of self.old) (seen_of self.new)) }
-        ensures lost { OnOk result (MayDraw self.old (⟦<BlobDisk<R> as Disk>⟧.seen self.new)) }
-        ensures kept { OnErr result (⟦<BlobDisk<R> as Disk>⟧.seen self.new ≡ ⟦<BlobDisk<R> as Disk>⟧.seen self.old) }
-        ensures left { ⟦<BlobDisk<R> as Disk>⟧.may_leave self.old (⟦<BlobDisk<R> as Disk>⟧.seen self.new) }
-        ensures crash { (c : List ℕ) → ⟦<BlobDisk<R> as Disk>⟧.may_leave self.new c → ⟦<BlobDisk<R> as Disk>⟧.may_leave self.old c }
-        ensures usable { ⟦<BlobDisk<R> as Disk>⟧.is_usable self.new ≡ true }
+        ensures lost { OnOk result (MayDraw self.old (seen_of self.new)) }
+        ensures kept { OnErr result (seen_of self.new ≡ seen_of self.old) }
+        ensures left { outcomes_of self.old (seen_of self.new) }
+        ensures crash { (c : List ℕ) → outcomes_of self.new c → outcomes_of self.old c }
+        ensures usable { is_usable_of self.new ≡ true }
         ensures mixing { ⟦<BlobDisk<R> as Disk>⟧.is_mixing self.new ≡ ⟦<BlobDisk<R> as Disk>⟧.is_mixing self.old }
-        ensures faults { ⟦<BlobDisk<R> as Disk>⟧.faults self.new ≡ ⟦<BlobDisk<R> as Disk>⟧.faults self.old }
-        ensures tally { ⟦<BlobDisk<R> as Disk>⟧.tally_of self.new ≡ ⟦<BlobDisk<R> as Disk>⟧.tally_of self.old }
+        ensures faults { faults_of self.new ≡ faults_of self.old }
+        ensures tally { counts_of self.new ≡ counts_of self.old }
         ensures rates { rates_of self.new ≡ rates_of self.old }
         ensures last { crash_of self.new ≡ crash_of self.old }
     {

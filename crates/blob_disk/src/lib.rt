@@ -92,15 +92,15 @@ impl<R: Rng + Drop> BlobDisk<R> {
 }
 
 impl<R: Rng> BlobDisk<R> {
-    ghost use Rattle.blob_disk.specs.Calls.{KeepsBytes, counts_of, crash_of, faults_of, stream_of};
+    ghost use Rattle.blob_disk.specs.Calls.{KeepsBytes, counts_of, crash_of, faults_of, is_usable_of, outcomes_of, seen_of, stream_of};
     ghost use Rattle.blob_disk.specs.Drawn.{rates_of};
 
     /// Sets the rates of the faults from here on. The file stays, and what a crash may leave of it. Draws nothing.
     pub fn set_config(&mut self, config: Config)
         requires { IsNever (partial_resizes config.resize_rate) }
-        ensures seen { ⟦<BlobDisk<R> as Disk>⟧.seen self.new ≡ ⟦<BlobDisk<R> as Disk>⟧.seen self.old }
-        ensures outcomes { (c : List ℕ) → ⟦<BlobDisk<R> as Disk>⟧.may_leave self.new c → ⟦<BlobDisk<R> as Disk>⟧.may_leave self.old c }
-        ensures usable { ⟦<BlobDisk<R> as Disk>⟧.is_usable self.new ≡ ⟦<BlobDisk<R> as Disk>⟧.is_usable self.old }
+        ensures seen { seen_of self.new ≡ seen_of self.old }
+        ensures outcomes { (c : List ℕ) → outcomes_of self.new c → outcomes_of self.old c }
+        ensures usable { is_usable_of self.new ≡ is_usable_of self.old }
         ensures mixing { ⟦<BlobDisk<R> as Disk>⟧.is_mixing self.new ≡ ⟦<BlobDisk<R> as Disk>⟧.is_mixing self.old }
         ensures set { rates_of self.new ≡ config }
         ensures bytes { KeepsBytes self.old self.new }

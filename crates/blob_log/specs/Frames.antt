@@ -1,5 +1,5 @@
 -- Records as bytes, one frame after another, and the records that bytes begin with.
-use Rattle.std.specs.Prelude.{ℕ, zero, suc, ◌+◌, ◌^◌, ◌<◌, Bool, ◌&&◌, List, [], ◌∷◌, ◌++◌, length, take, drop, nat_le, nat_eq, if◌then◌else◌}
+use Rattle.std.specs.Prelude.{◌≡◌, true, ℕ, zero, suc, ◌+◌, ◌^◌, ◌<◌, Bool, ◌&&◌, List, [], ◌∷◌, ◌++◌, length, take, drop, nat_le, nat_eq, if◌then◌else◌}
 use Rattle.std.specs.Int.{w32, to_be_bytes, from_be_bytes}
 use Rattle.std.specs.List.{flat_map}
 use Rattle.blob_header.specs.Checksum.{crc32c}
@@ -28,6 +28,10 @@ payload bytes = take (length_told bytes) (drop 8 bytes)
 -- whether bytes begin with a whole frame whose checksum holds
 abbrev pub is_frame : List ℕ → Bool
 is_frame bytes = nat_le (8 + length_told bytes) (length bytes) && nat_eq (checksum (payload bytes)) (sum_told bytes)
+
+-- the record of the whole frame that bytes begin with
+abbrev pub IsFirst : List ℕ → List ℕ → Type 0
+IsFirst bytes entry = (is_frame bytes ≡ true) × (entry ≡ payload bytes)
 
 -- the records of at most n frames
 abbrev pub scan_to : ℕ → List ℕ → List (List ℕ)

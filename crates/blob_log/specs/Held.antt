@@ -4,7 +4,8 @@ use Rattle.std.specs.Global.{Global}
 use Rattle.blob_header.specs.Fronts.{BeginsWith}
 use Rattle.blob_model.specs.Opened.{IsNamed}
 use Rattle.blob_model.specs.Places.{Place}
-use Rattle.blob_faulty.specs.Keeps.{OverMemory, Keeps}
+use Rattle.blob_model.specs.Files.{Files}
+use Rattle.blob_faulty.specs.Keeps.{OverMemory, IsFor, Keeps}
 use Rattle.blob_faulty.specs.Wrapper.{inside}
 use Rattle.blob_faulty.specs.declared.blob.Blob.{Blob}
 use Rattle.blob_memory.specs.Store.{place}
@@ -34,6 +35,14 @@ pub record HoldsRecords {R : Type 0} (log : Log) (store : OverMemory R) (records
 abbrev pub AddsRecords : {R : Type 0} → Log → OverMemory R → Log → OverMemory R → List (List ℕ) → Type 0
 AddsRecords log store log' store' added = (records : List (List ℕ)) → HoldsRecords log store records → HoldsRecords log' store' (records ++ added)
 
+-- whatever records the log held, it still holds
+abbrev pub StillHolds : {R : Type 0} → Log → OverMemory R → Log → OverMemory R → Type 0
+StillHolds log store log' store' = (records : List (List ℕ)) → HoldsRecords log store records → HoldsRecords log' store' records
+
+-- these records, where the wrapper stood for any files before
+abbrev pub HoldsFrom : {R : Type 0} → OverMemory R → Log → OverMemory R → List (List ℕ) → Type 0
+HoldsFrom before log store records = (files : Files) → IsFor before files → HoldsRecords log store records
+
 -- all records whose frames were kept of the log of this name are found, first and in order, in that log
 abbrev pub FindsRecords : {R : Type 0} → OverMemory R → List ℕ → List ℕ → Log → List (List ℕ) → Type 0
 FindsRecords store p n log found = (o : Place) (records : List (List ℕ)) → IsNamed o p n → AreShort records → Keeps store o (frames records)
@@ -49,6 +58,9 @@ acknowledged [] records = []
 acknowledged (b ∷ answers) [] = []
 acknowledged (b ∷ answers) (r ∷ records) = if b then r ∷ acknowledged answers records else acknowledged answers records
 
+abbrev pub acknowledged_in : Vec Bool Global → List (Vec ℕ Global) → List (List ℕ)
+acknowledged_in answers records = acknowledged answers.items (record_bytes records)
+
 -- what a session found, and behind it what it was acknowledged
 abbrev pub trusted : Session × Vec (Vec ℕ Global) Global → List (List ℕ)
 trusted (session, records) = record_bytes session.before.items ++ acknowledged session.answers.items (record_bytes records.items)
@@ -56,6 +68,10 @@ trusted (session, records) = record_bytes session.before.items ++ acknowledged s
 -- of each of these sessions, which were asked to append these records, that is a front of what is found in the end
 abbrev pub Survive : List Session → List (Vec (Vec ℕ Global) Global) → List (List ℕ) → Type 0
 Survive sessions asked after = All (λ s. BeginsWith (trusted s) after) (zip sessions asked)
+
+-- where the wrapper stood for any files before the first session
+abbrev pub SurviveFrom : {R : Type 0} → OverMemory R → List Session → List (Vec (Vec ℕ Global) Global) → List (List ℕ) → Type 0
+SurviveFrom before sessions asked after = (files : Files) → IsFor before files → Survive sessions asked after
 
 -- one session for each list of records, with an answer for each of these
 abbrev pub AreAnswered : List Session → List (Vec (Vec ℕ Global) Global) → Type 0

@@ -1,10 +1,12 @@
 -- What the calls of a log leave of the files of its wrapper: of the log's own file, and of all others.
-use Rattle.std.specs.Prelude.{◌≡◌, ℕ, true, false, List, length}
+use Rattle.std.specs.Prelude.{◌≡◌, ◌⊎◌, ℕ, true, false, List, length}
 use Rattle.blob_model.specs.Bytes.{lies}
 use Rattle.blob_model.specs.Directory.{is_current}
 use Rattle.blob_model.specs.Files.{Files, logged, all_logged}
+use Rattle.blob_model.specs.Live.{live_written}
 use Rattle.blob_model.specs.Log.{Entry, Kept}
 use Rattle.blob_model.specs.Persistence.{any_touches}
+use Rattle.blob_faulty.specs.Admitted.{OpensAdmitted, StaysSame}
 use Rattle.blob_faulty.specs.Keeps.{OverMemory, IsFor}
 use Rattle.blob_faulty.specs.Wrapper.{inner_of, inside}
 use Rattle.blob_memory.specs.Store.{directory, live}
@@ -15,6 +17,14 @@ use Rattle.blob_log.specs.Held.{log_place, log_blob, log_end}
 -- the live bytes of the log's handle
 abbrev pub log_live : Log → List ℕ
 log_live log = live (inside (log_blob log))
+
+-- the live bytes with the frame of a record written at the log's end
+abbrev pub live_appended : Log → List ℕ → List ℕ
+live_appended log entry = live_written true (log_live log) (log_end log) (frame entry)
+
+-- an admitted open of a log's blob, or nothing
+abbrev pub MayOpenLog : {R : Type 0} → OverMemory R → OverMemory R → List ℕ → List ℕ → Type 0
+MayOpenLog before after p n = StaysSame before after ⊎ OpensAdmitted before after p n 0 0
 
 -- the frame is written once, behind the log's end, and kept whole; nothing else is recorded, retired or made durable
 abbrev pub AppendsFrame : {R : Type 0} → Log → List ℕ → OverMemory R → OverMemory R → Type 0

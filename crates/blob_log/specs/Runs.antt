@@ -24,12 +24,16 @@ use Rattle.blob_log.specs.Refused.{MayAppend}
 abbrev pub may_write : {R : Type 0} → (R → Stream) → Blob memory_blob.Blob → OverMemory R → ℕ → List ℕ → Bool → Allowed
 may_write stream b w = allows_write (memory_handle.allows_write (inside b) (inner_of w)) (memory_handle.allows_reserve (inside b) (inner_of w)) memory_handle.is_direct (config_of w) (next_write_of w) (stream (rng_of w))
 
+-- what an append of a record may answer
+abbrev pub MayAppendTo : {R : Type 0} → (R → Stream) → Log → OverMemory R → List ℕ → Option Refusal → Type 0
+MayAppendTo stream log w entry = MayAppend (log_end log) entry (may_write stream (log_blob log) w)
+
 -- an append that memory didn't refuse, by whether it was answered Ok
 pub record Appends {R : Type 0} (stream : R → Stream) (log : Log) (w : OverMemory R) (entry : List ℕ) (done : Bool) (log' : Log) (w' : OverMemory R) : Type 0 where
   pub answer : Option Refusal
   pub is : done ≡ is_none answer
   pub memory : answer ≢ Some Memory
-  pub may : MayAppend (log_end log) entry (may_write stream (log_blob log) w) answer
+  pub may : MayAppendTo stream log w entry answer
   pub appended : done ≡ true → AppendsFrame log entry w w'
   pub failed : done ≡ false → TriesFrame log entry w w'
   pub config : config_of w' ≡ config_of w
@@ -40,6 +44,9 @@ AppendsAll {R} stream log w [] [] log' w' = (log' ≡ log) × (w' ≡ w)
 AppendsAll {R} stream log w (entry ∷ entries) (done ∷ answers) log' w' =
     (l : Log) × (v : OverMemory R) × Appends stream log w entry done l v × AppendsAll stream l v entries answers log' w'
 AppendsAll {R} stream log w entries answers log' w' = ⊥
+
+abbrev pub AppendsEach : {R : Type 0} → (R → Stream) → Log → OverMemory R → List (Vec ℕ Global) → Log → OverMemory R → Vec Bool Global → Type 0
+AppendsEach stream log w entries log' w' answers = AppendsAll stream log w (record_bytes entries) answers.items log' w'
 
 -- an open of the log that is admitted, and the records that it finds
 pub record Recovers {R : Type 0} (w : OverMemory R) (p n : List ℕ) (log : Log) (found : List (List ℕ)) (w' : OverMemory R) : Type 0 where
@@ -90,3 +97,13 @@ pub record RunAnew {R : Type 0} (stream : R → Stream) (p n : List ℕ) (rng : 
   pub configured : config_of began ≡ config
   pub nothing : durable (inner_of began) ≡ (λ _. None)
   pub ran : SessionsRun stream p n began sessions asked after ended
+
+-- the same, by what a run returns: the sessions, and the records that are found in the end
+abbrev pub Ran : Type 0
+Ran = Vec Session Global × Vec (Vec ℕ Global) Global
+
+abbrev pub RunsSessions : {R : Type 0} → (R → Stream) → List ℕ → List ℕ → OverMemory R → List (Vec (Vec ℕ Global) Global) → OverMemory R → Ran → Type 0
+RunsSessions stream p n w asked w' ran = SessionsRun stream p n w ran.0.items asked (record_bytes ran.1.items) w'
+
+abbrev pub RunsAnew : {R : Type 0} → (R → Stream) → List ℕ → List ℕ → R → Config → List (Vec (Vec ℕ Global) Global) → Ran → Type 0
+RunsAnew stream p n rng config asked ran = RunAnew stream p n rng config ran.0.items asked (record_bytes ran.1.items)

@@ -1,8 +1,8 @@
 //! Frames: the bytes of a record in a log, and the records that bytes begin with.
-ghost use Rattle.std.specs.Prelude.{◌≡◌, ◌<◌, ◌≤◌, ◌+◌, ◌^◌, ℕ, true, false, MatchOption, IfOk, OnOk, OnErr, length, map, List, ◌++◌, [], slice_index, replicate};
+ghost use Rattle.std.specs.Prelude.{◌≡◌, ◌<◌, ◌≤◌, ◌+◌, ◌^◌, ℕ, false, MatchOption, IfOk, OnOk, OnErr, length, map, List, ◌++◌, [], slice_index, replicate};
 ghost use Rattle.std.specs.Int.{w32, from_be_bytes};
 ghost use Rattle.blob_header.specs.Fronts.{BeginsWith};
-ghost use Rattle.blob_log.specs.Frames.{AreShort, checksum, frame, frames, payload, is_frame, scan};
+ghost use Rattle.blob_log.specs.Frames.{AreShort, IsFirst, checksum, frame, frames, is_frame, scan};
 
 use blob_base::Crc32;
 use blob_base::laws::checksums::checksums_fit;
@@ -44,7 +44,7 @@ fn number(bytes: &[u8]) -> u32
 /// The record that the bytes begin with, where a whole frame is there and its checksum holds.
 #[tactic(auto, using(std::proofs::lemmas::Bool::Decides::nat_tests), unfolding(crate::specs::Frames::length_told, crate::specs::Frames::sum_told))]
 pub fn first(bytes: &[u8]) -> Option<&[u8]>
-    ensures { MatchOption result (is_frame bytes.now ≡ false) (λ entry. (is_frame bytes.now ≡ true) × (entry.now ≡ payload bytes.now)) }
+    ensures { MatchOption result (is_frame bytes.now ≡ false) (λ entry. IsFirst bytes.now entry.now) }
 {
     if bytes.len() < 8 || bytes.len() - 8 < number(bytes) as usize {
         return None;
@@ -72,7 +72,8 @@ pub fn scan(alloc: Global, bytes: &[u8]) -> Result<(Vec<Vec<u8>>, usize), AllocE
     Ok((records, end))
 }
 
-/// What was written comes back, whatever stands behind it; and what comes back was written, where all are bytes. Zeros hold no record.
+/// A scan of frames finds their records, whatever bytes follow. Bytes begin with the frames of the records that a scan of them
+/// finds. Zeros hold no record.
 pub fn scans_find_frames()
     ensures again { (rs : List (List ℕ)) (rest : List ℕ) → AreShort rs → scan (frames rs ++ rest) ≡ rs ++ scan rest }
     ensures front { (bytes : List ℕ) → ((i : ℕ) → slice_index bytes i < 256) → BeginsWith (frames (scan bytes)) bytes }

@@ -1,17 +1,15 @@
 //! A log of records in one blob of a fault wrapper.
-ghost use Rattle.std.specs.Prelude.{◌≡◌, ◌⊎◌, ◌∷◌, [], List, ℕ, true, OnOk, OnErr, IfOk};
-ghost use Rattle.blob_model.specs.Files.{Files};
+ghost use Rattle.std.specs.Prelude.{◌≡◌, ◌∷◌, [], List, ℕ, OnOk, OnErr, IfOk};
 ghost use Rattle.blob_header.specs.Refusals.{refused};
-ghost use Rattle.blob_model.specs.Live.{live_written};
 ghost use Rattle.blob_model.specs.Opened.{IsNamed};
 ghost use Rattle.blob_model.specs.Places.{Place};
-ghost use Rattle.blob_faulty.specs.Admitted.{OpensAdmitted, StaysSame};
-ghost use Rattle.blob_faulty.specs.Keeps.{IsFor, Keeps};
+ghost use Rattle.blob_faulty.specs.Admitted.{OpensAdmitted};
+ghost use Rattle.blob_faulty.specs.Keeps.{Keeps};
 ghost use Rattle.blob_faulty.specs.Wrapper.{config_of};
-ghost use Rattle.blob_log.specs.Frames.{frame};
-ghost use Rattle.blob_log.specs.Held.{AddsRecords, FindsRecords, HoldsRecords, log_place, log_blob, log_end, record_bytes};
-ghost use Rattle.blob_log.specs.Leaves.{AppendsFrame, TriesFrame, log_live};
-ghost use Rattle.blob_log.specs.Refused.{MayAppend, MayRecover};
+ghost use Rattle.blob_log.specs.Held.{AddsRecords, FindsRecords, HoldsFrom, StillHolds, log_place, record_bytes};
+ghost use Rattle.blob_log.specs.Leaves.{AppendsFrame, MayOpenLog, TriesFrame, live_appended, log_live};
+ghost use Rattle.blob_log.specs.Refused.{MayRecover};
+ghost use Rattle.blob_log.specs.Runs.{MayAppendTo};
 
 use crate::frame::{frame_of, scan, scans_find_frames};
 use blob_base::laws::opens::accepted_opens;
@@ -45,13 +43,13 @@ impl Log {
     /// over whatever a failed write left there.
     pub fn append<R: Rng>(&mut self, store: &mut Store<R>, entry: &[u8]) -> Result<(), Error>
         ensures acknowledged { OnOk result (AddsRecords self.old store.old self.new store.new (entry.now ∷ [])) }
-        ensures refused { OnErr result ((records : List (List ℕ)) → HoldsRecords self.old store.old records → HoldsRecords self.new store.new records) }
+        ensures refused { OnErr result (StillHolds self.old store.old self.new store.new) }
         ensures place { log_place self.new ≡ log_place self.old }
         ensures appended { OnOk result (AppendsFrame self.old entry.now store.old store.new) }
         ensures failed { OnErr result (TriesFrame self.old entry.now store.old store.new) }
-        ensures live { OnOk result (log_live self.new ≡ live_written true (log_live self.old) (log_end self.old) (frame entry.now)) }
+        ensures live { OnOk result (log_live self.new ≡ live_appended self.old entry.now) }
         ensures config { config_of store.new ≡ config_of store.old }
-        ensures answer { MayAppend (log_end self.old) entry.now (⟦<Handle as Blob<Store<R>>>⟧.allows_write (log_blob self.old) store.old) (refused result) }
+        ensures answer { MayAppendTo R.stream self.old store.old entry.now (refused result) }
     {
         writes::<blob_memory::Storage, R, blob_memory::Blob>();
         recorded::<blob_memory::Storage, R>();
@@ -81,12 +79,12 @@ impl Log {
         partition: &str,
         name: &[u8],
     ) -> Result<(Log, Vec<Vec<u8>>), Error>
-        ensures held { IfOk result (λ r. (files : Files) → IsFor store.old files → HoldsRecords r.0 store.new (record_bytes r.1.items)) }
+        ensures held { IfOk result (λ r. HoldsFrom store.old r.0 store.new (record_bytes r.1.items)) }
         ensures found { IfOk result (λ r. FindsRecords store.old partition.now name.now r.0 (record_bytes r.1.items)) }
         ensures keeps { (o : Place) (bytes : List ℕ) → Keeps store.old o bytes → Keeps store.new o bytes }
         ensures named { IfOk result (λ r. IsNamed (log_place r.0) partition.now name.now) }
         ensures opened { OnOk result (OpensAdmitted store.old store.new partition.now name.now 0 0) }
-        ensures failed { OnErr result (StaysSame store.old store.new ⊎ OpensAdmitted store.old store.new partition.now name.now 0 0) }
+        ensures failed { OnErr result (MayOpenLog store.old store.new partition.now name.now) }
         ensures config { config_of store.new ≡ config_of store.old }
         ensures answer { MayRecover R.stream store.old partition.now name.now (refused result) }
     {

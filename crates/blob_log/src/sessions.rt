@@ -1,11 +1,9 @@
 //! A log through crashes: what was acknowledged is found again.
 ghost use Rattle.std.specs.Prelude.{◌≡◌, ◌≢◌, Some, IfOk, is_none, length};
-ghost use Rattle.blob_model.specs.Files.{Files};
 ghost use Rattle.blob_header.specs.Refusals.{refused, Memory};
-ghost use Rattle.blob_faulty.specs.Keeps.{IsFor};
-ghost use Rattle.blob_log.specs.Held.{AddsRecords, AreAnswered, Survive, log_place, record_bytes, acknowledged};
+ghost use Rattle.blob_log.specs.Held.{AddsRecords, AreAnswered, Survive, SurviveFrom, acknowledged_in, log_place, record_bytes};
 ghost use Rattle.blob_log.specs.Refused.{MayStop};
-ghost use Rattle.blob_log.specs.Runs.{AppendsAll, RunAnew, SessionsRun};
+ghost use Rattle.blob_log.specs.Runs.{AppendsEach, RunsAnew, RunsSessions};
 
 use crate::log::{Log, Store};
 use blob_base::Error;
@@ -41,9 +39,9 @@ fn append_all<R: Rng>(
     entries: &[Vec<u8>],
 ) -> Result<Vec<bool>, AllocError>
     ensures count { IfOk result (λ answers. length answers.items ≡ length entries.now) }
-    ensures held { IfOk result (λ answers. AddsRecords log.old store.old log.new store.new (acknowledged answers.items (record_bytes entries.now))) }
+    ensures held { IfOk result (λ a. AddsRecords log.old store.old log.new store.new (acknowledged_in a entries.now)) }
     ensures place { log_place log.new ≡ log_place log.old }
-    ensures ran { IfOk result (λ answers. AppendsAll R.stream log.old store.old (record_bytes entries.now) answers.items log.new store.new) }
+    ensures ran { IfOk result (AppendsEach R.stream log.old store.old entries.now log.new store.new) }
 {
     let mut answers = Vec::with_capacity(alloc, entries.len())?;
     for entry in entries {
@@ -69,8 +67,8 @@ pub fn sessions_survive<R: Rng>(
 ) -> Result<(Vec<Session>, Vec<Vec<u8>>), Error>
     ensures answer { MayStop R.stream partition.now name.now (refused result) }
     ensures answered { IfOk result (λ r. AreAnswered r.0.items sessions.now) }
-    ensures ran { IfOk result (λ r. SessionsRun R.stream partition.now name.now store.old r.0.items sessions.now (record_bytes r.1.items) store.new) }
-    ensures survive { IfOk result (λ r. (files : Files) → IsFor store.old files → Survive r.0.items sessions.now (record_bytes r.1.items)) }
+    ensures ran { IfOk result (RunsSessions R.stream partition.now name.now store.old sessions.now store.new) }
+    ensures survive { IfOk result (λ r. SurviveFrom store.old r.0.items sessions.now (record_bytes r.1.items)) }
 {
     let (mut log, mut before) = Log::recover(alloc, store, partition, name)?;
     let mut done = Vec::with_capacity(alloc, sessions.len())?;
@@ -101,7 +99,7 @@ pub fn sessions_survive_anew<R: Rng + Drop>(
 ) -> Result<(Vec<Session>, Vec<Vec<u8>>), Error>
     ensures answer { MayStop R.stream partition.now name.now (refused result) }
     ensures answered { IfOk result (λ r. AreAnswered r.0.items sessions.now) }
-    ensures ran { IfOk result (λ r. RunAnew R.stream partition.now name.now rng config r.0.items sessions.now (record_bytes r.1.items)) }
+    ensures ran { IfOk result (RunsAnew R.stream partition.now name.now rng config sessions.now) }
     ensures survive { IfOk result (λ r. Survive r.0.items sessions.now (record_bytes r.1.items)) }
 {
     let memory = blob_memory::Storage::new(alloc);

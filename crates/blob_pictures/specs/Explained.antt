@@ -27,6 +27,10 @@ pub record IsRemarking (old new line : List ℕ) : Type 0 where
   pub remarks : Remarks old new
   pub is : IsLine line
 
+-- wherever the remarks began, they go on
+abbrev pub GoesOn : List ℕ → List ℕ → List ℕ → List ℕ → Type 0
+GoesOn to line to' line' = (old : List ℕ) → IsRemarking old to line → IsRemarking old to' line'
+
 -- a line that is ended, alone and with the remarks behind it
 abbrev pub as_line : List ℕ × List ℕ → List ℕ
 as_line piece = piece.0 ++ 10 ∷ []

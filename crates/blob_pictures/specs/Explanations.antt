@@ -19,6 +19,10 @@ pub record WritesExplanation (bytes : List ℕ) (ending : Ending) (old new : Opt
   pub explains : IsExplanation bytes ending text
   pub added : Appends old new text
 
+-- what the run of a whole script has written, explained
+abbrev pub ExplainsScript : List ℕ → Option (List ℕ) → Option (List ℕ) → Type 0
+ExplainsScript bytes old new = Explains (Prints (script_of (lines_of bytes))) old new
+
 -- what a run that prints so before a line of this number has written, explained
 abbrev pub ExplainsBefore : ℕ → List ℕ → Option (List ℕ) → Option (List ℕ) → Type 0
 ExplainsBefore number bytes old new = Explains (PrintsBeforeLine number bytes) old new

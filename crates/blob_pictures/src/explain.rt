@@ -2,10 +2,9 @@
 ghost use Rattle.std.specs.Prelude.{◌≡◌, ◌≢◌, ◌⊎◌, ◌<◌, ◌++◌, ◌∷◌, ℕ, true, IfSome, IfOk, IfErr, OnOk, length};
 ghost use Rattle.std.specs.Io.KnownBytes.{Keeps};
 ghost use Rattle.blob_lab.specs.Endings.{is_of_script};
-ghost use Rattle.blob_lab.specs.Scripts.{Prints, lines_of, script_of};
 ghost use Rattle.blob_lab.specs.Streams.{OfBytes, reader_of, read_failed, writer_of, write_failed, is_flushed};
-ghost use Rattle.blob_pictures.specs.Explained.{Explains, IsExplained, Remarks};
-ghost use Rattle.blob_pictures.specs.Explanations.{ExplainsBefore, IsExplanation, WritesExplanation};
+ghost use Rattle.blob_pictures.specs.Explained.{IsExplained, Remarks};
+ghost use Rattle.blob_pictures.specs.Explanations.{ExplainsBefore, ExplainsScript, IsExplanation, WritesExplanation};
 
 use crate::play::remarks_of;
 use crate::remarks::push_remarks;
@@ -28,7 +27,7 @@ pub fn explain_script<R: BufRead, W: Write>(
 ) -> Ending
     ensures ending { (result ≢ Ending.BadImage) × (result ≢ Ending.Usage) }
     ensures done { result ≡ Ending.Done
-        → OfBytes R.remaining W.contents input.old output.old output.new (λ bytes. Explains (Prints (script_of (lines_of bytes)))) }
+        → OfBytes R.remaining W.contents input.old output.old output.new ExplainsScript }
     ensures bad_call { (number : ℕ) → result ≡ Ending.BadCall number
         → OfBytes R.remaining W.contents input.old output.old output.new (ExplainsBefore number) }
     ensures unwritten { result ≡ Ending.InputFailed → Keeps (W.contents (writer_of output.old)) (W.contents (writer_of output.new)) }

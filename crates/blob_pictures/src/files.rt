@@ -1,4 +1,9 @@
 // What a crash finds pending, file by file.
+ghost use Rattle.std.specs.Prelude.{◌≡◌, All, OnOk};
+ghost use Rattle.blob_faults.specs.Rows.{AreNumbered, rows_in};
+ghost use Rattle.blob_model.specs.Draws.{row_of};
+ghost use Rattle.blob_pictures.specs.Choices.{HasChoices, HaveChoices};
+
 use crate::bases::{Bases, Range};
 use blob_base::{Durable, Error, IoBufs};
 use blob_faults::entries::unmarked;
@@ -66,31 +71,57 @@ pub(crate) fn pending_files(
     Ok(files)
 }
 
-/// Gives each write the choices of its row. Both are sorted by number. The only error is `Memory`.
+/// Gives each write the choices of its row. The only error is `Memory`.
 pub(crate) fn choose(
     alloc: Global,
     files: &mut [File],
     rows: &[(u64, Vec<bool>)],
-) -> Result<(), Error> {
+) -> Result<(), Error>
+    ensures { OnOk result (AreNumbered rows.now → All (HaveChoices (rows_in rows.now)) files.new) }
+{
     for file in files.iter_mut() {
-        let mut left = rows;
-        for item in file.entries.iter_mut() {
-            if let Item::Write(write) = item {
-                let Some(number) = write.number else {
-                    continue;
-                };
-                let place = left.iter().position(|row| number <= row.0);
-                left = left.get(place.unwrap_or(left.len())..).unwrap_or(&[]);
-                match left.first() {
-                    Some((drawn, choices)) if *drawn == number => {
-                        write.kept = Vec::from_slice(alloc, choices)?;
-                    }
-                    _ => {}
-                }
-            }
+        choose_each(alloc, file.entries.as_mut_slice(), rows)?;
+    }
+    Ok(())
+}
+
+fn choose_each(
+    alloc: Global,
+    entries: &mut [Item],
+    rows: &[(u64, Vec<bool>)],
+) -> Result<(), Error>
+    ensures { OnOk result (AreNumbered rows.now → All (HasChoices (rows_in rows.now)) entries.new) }
+{
+    for item in entries.iter_mut() {
+        choose_one(alloc, item, rows)?;
+    }
+    Ok(())
+}
+
+fn choose_one(alloc: Global, item: &mut Item, rows: &[(u64, Vec<bool>)]) -> Result<(), Error>
+    ensures { OnOk result (AreNumbered rows.now → HasChoices (rows_in rows.now) item.new) }
+{
+    if let Item::Write(write) = item {
+        if let Some(number) = write.number {
+            write.kept = Vec::from_slice(alloc, choices_of(rows, number))?;
         }
     }
     Ok(())
+}
+
+/// Returns the choices of a write, none if it has no row. The rows are sorted by number.
+fn choices_of(rows: &[(u64, Vec<bool>)], number: u64) -> &[bool]
+    ensures { AreNumbered rows.now → result.now ≡ row_of (rows_in rows.now) number }
+{
+    let i = rows.partition_point(|row| row.0 < number);
+    if i == rows.len() {
+        return &[];
+    }
+    let row = &rows[i];
+    if row.0 != number {
+        return &[];
+    }
+    row.1.as_slice()
 }
 
 fn comes_before(file: &File, other: &File) -> bool {

@@ -1,6 +1,6 @@
 // Texts as remarks.
-ghost use Rattle.std.specs.Prelude.{◌≡◌, ◌≢◌, ◌++◌, ℕ, List, OnOk};
-ghost use Rattle.blob_pictures.specs.Explained.{IsRemarking, Remarks, remark};
+ghost use Rattle.std.specs.Prelude.{◌≡◌, ◌≢◌, ◌++◌, OnOk};
+ghost use Rattle.blob_pictures.specs.Explained.{GoesOn, Remarks, remark};
 
 use std::alloc::AllocError;
 
@@ -20,7 +20,7 @@ pub(crate) fn push_remarks(text: &str, to: &mut Vec<u8>) -> Result<(), AllocErro
 }
 
 fn take(byte: u8, width: &mut usize, line: &mut Vec<u8>, to: &mut Vec<u8>) -> Result<(), AllocError>
-    ensures { OnOk result ((old : List ℕ) → IsRemarking old to.old.items line.old.items → IsRemarking old to.new.items line.new.items) }
+    ensures { OnOk result (GoesOn to.old.items line.old.items to.new.items line.new.items) }
 {
     if byte == b'\n' {
         return end_line(width, line, to);
@@ -31,7 +31,7 @@ fn take(byte: u8, width: &mut usize, line: &mut Vec<u8>, to: &mut Vec<u8>) -> Re
 /// Adds the line that was begun, and begins another.
 #[tactic(auto, using(crate::proofs::Explaining::line_ended))]
 fn end_line(width: &mut usize, line: &mut Vec<u8>, to: &mut Vec<u8>) -> Result<(), AllocError>
-    ensures { OnOk result ((old : List ℕ) → IsRemarking old to.old.items line.old.items → IsRemarking old to.new.items line.new.items) }
+    ensures { OnOk result (GoesOn to.old.items line.old.items to.new.items line.new.items) }
 {
     push_remark(line, to)?;
     line.clear();
@@ -47,7 +47,7 @@ fn push_byte(
     to: &mut Vec<u8>,
 ) -> Result<(), AllocError>
     requires { byte ≢ 10 }
-    ensures { OnOk result ((old : List ℕ) → IsRemarking old to.old.items line.old.items → IsRemarking old to.new.items line.new.items) }
+    ensures { OnOk result (GoesOn to.old.items line.old.items to.new.items line.new.items) }
 {
     // A character goes with all of its bytes: those behind its first begin with the bits 10.
     let is_first = byte & 0xc0 != 0x80;
@@ -64,7 +64,7 @@ fn make_room(
     line: &mut Vec<u8>,
     to: &mut Vec<u8>,
 ) -> Result<(), AllocError>
-    ensures { OnOk result ((old : List ℕ) → IsRemarking old to.old.items line.old.items → IsRemarking old to.new.items line.new.items) }
+    ensures { OnOk result (GoesOn to.old.items line.old.items to.new.items line.new.items) }
 {
     if !is_first || *width < WIDTH {
         return Ok(());

@@ -10,7 +10,7 @@ use Rattle.blob_faults.specs.declared.config.Config.{Config}
 use Rattle.blob_sessions.specs.declared.kept.Kept.{Kept}
 use Rattle.blob_sessions.specs.declared.ran.Ran.{Ran}
 use Rattle.blob_sessions.specs.declared.ran.TheConstants.{BAD_LINE}
-use Rattle.blob_sessions.specs.Sessions.{RunsLine, SaysCall, Calls, IsNoCall, Makes, TellsAgain}
+use Rattle.blob_sessions.specs.Sessions.{RunsLine, SaysCall, Calls, IsNoCall, IsTooLong, Makes, TellsAgain}
 
 performs_alike : (a b c d : Lab) (act : Act) (reply : Reply) → b ≡ a → d ≡ c → Performs b act reply c → Performs a act reply d
 performs_alike a b c d act reply before after p =
@@ -24,13 +24,13 @@ pub answered : (k asked made k' : Kept) (line : List ℕ) (act : Act) (ran : Ran
     → made.config ≡ asked.config → TellsAgain made k' ran old new → RunsLine k k' line ran old new
 answered k asked made k' line act ran old new asks kept reply makes same tells =
     let AskedWith : Config → Type 0 = λ c. SaysCall k.config line act c in
-    let asks' : SaysCall k.config line act k'.config = subst AskedWith (sym (tells.config ∙ same)) asks in
-    let makes' : Makes k act reply k' = record { performs = performs_alike k.lab asked.lab made.lab k'.lab act reply (ap (λ x. x.lab) kept) tells.lab makes.performs; last = tells.last ∙ makes.last; debts = tells.debts ∙ makes.debts ∙ ap (λ x. x.debts) kept } in
+    let asks' : SaysCall k.config line act k'.config = subst AskedWith (sym (ap (λ x. x.config) tells.same ∙ same)) asks in
+    let makes' : Makes k act reply k' = record { performs = performs_alike k.lab asked.lab made.lab k'.lab act reply (ap (λ x. x.lab) kept) (ap (λ x. x.lab) tells.same) makes.performs; last = ap (λ x. x.last) tells.same ∙ makes.last; debts = ap (λ x. x.debts) tells.same ∙ makes.debts ∙ ap (λ x. x.debts) kept } in
     let known = tells.status in
     record {
       done = λ h. inl (act, reply, asks', makes', (let P : Option Reply → Type 0 = λ o. MatchOption o (ran.len ≡ 0) (λ r. take ran.len new ≡ reply_line r) in subst P makes.last (tells.done h)));
       no_room = λ h. (act, reply, asks', makes', (let P : Option Reply → Type 0 = λ o. IfSome o (λ r. (ran.len ≡ length (reply_line r)) × (length old < ran.len)) in subst P makes.last (tells.no_room h)));
-      unprinted = λ h. (act, reply, asks', makes', tt);
+      unprinted = λ h. (act, reply, asks', makes', (let P : Option Reply → Type 0 = λ o. IfSome o IsTooLong in subst P makes.last (tells.unprinted h)));
       bad_line = λ h. absurd (elim known [ inl e ↦ omega (arith, e, h) | inr more ↦ elim more [ inl e ↦ omega (arith, e, h) | inr e ↦ omega (arith, e, h) ] ]);
       no_memory = λ h. absurd (elim known [ inl e ↦ omega (arith, e, h) | inr more ↦ elim more [ inl e ↦ omega (arith, e, h) | inr e ↦ omega (arith, e, h) ] ]);
       status = elim known [ inl e ↦ inl e | inr more ↦ elim more [ inl e ↦ inr (inl e) | inr e ↦ inr (inr (inl e)) ] ];

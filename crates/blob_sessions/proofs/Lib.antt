@@ -1,5 +1,6 @@
 pub mod Adding
 pub mod Answering
+pub mod Putting
 pub mod TextLines
 pub mod TypedCalls
 pub mod Values

@@ -5,6 +5,7 @@ pub mod Headers
 pub mod Owned
 pub mod Parts
 pub mod Preambles
+pub mod ReplyTexts
 pub mod Sessions
 pub mod Statuses
 pub mod Typed

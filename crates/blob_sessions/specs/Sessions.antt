@@ -1,5 +1,5 @@
 -- What a session holds, and what its calls do to that.
-use Rattle.std.specs.Prelude.{◌≡◌, ◌≢◌, ◌⊎◌, ◌<◌, ◌≤◌, ℕ, List, [], Bool, length, take, drop, Option, Some, None, IfSome, MatchOption}
+use Rattle.std.specs.Prelude.{◌≡◌, ◌≢◌, ◌⊎◌, ◌<◌, ◌≤◌, ◌^◌, ℕ, List, [], Bool, length, take, drop, Option, Some, None, IfSome, MatchOption}
 use Rattle.blob_faults.specs.declared.config.Config.{Config}
 use Rattle.blob_calls.specs.declared.script.setting.Setting.{Setting}
 use Rattle.blob_calls.specs.declared.reply.Reply.{Reply}
@@ -37,6 +37,10 @@ Calls k line k' P = (act : Act) × (reply : Reply) × SaysCall k.config line act
 abbrev pub PrintsReply : Kept → List ℕ → Kept → List ℕ → Type 0
 PrintsReply k line k' printed = Calls k line k' (λ reply. printed ≡ reply_line reply) ⊎ ((line_of line ≡ Some Blank) × (k' ≡ k) × (printed ≡ []))
 
+-- a reply whose line has a length that doesn't fit in 64 bits
+abbrev pub IsTooLong : Reply → Type 0
+IsTooLong reply = 2 ^ 64 ≤ length (reply_line reply)
+
 -- behind a call it is no line of a script
 abbrev pub IsNoCall : List ℕ → Type 0
 IsNoCall line = (s : Script) → s.calls ≢ [] → with_line s line ≡ None
@@ -47,7 +51,7 @@ IsNoCall line = (s : Script) → s.calls ≢ [] → with_line s line ≡ None
 pub record RunsLine (k k' : Kept) (line : List ℕ) (ran : Ran) (old new : List ℕ) : Type 0 where
   pub done : ran.status ≡ DONE → PrintsReply k line k' (take ran.len new)
   pub no_room : ran.status ≡ NO_ROOM → Calls k line k' (λ reply. (ran.len ≡ length (reply_line reply)) × (length old < ran.len))
-  pub unprinted : ran.status ≡ UNPRINTED → Calls k line k' (λ reply. Unit {0})
+  pub unprinted : ran.status ≡ UNPRINTED → Calls k line k' IsTooLong
   pub bad_line : ran.status ≡ BAD_LINE → IsNoCall line × (k' ≡ k)
   pub no_memory : ran.status ≡ NO_MEMORY → k' ≡ k
   pub status : (ran.status ≡ DONE) ⊎ (ran.status ≡ NO_ROOM) ⊎ (ran.status ≡ UNPRINTED) ⊎ (ran.status ≡ BAD_LINE) ⊎ (ran.status ≡ NO_MEMORY)
@@ -62,6 +66,7 @@ pub record RunsLine (k k' : Kept) (line : List ℕ) (ran : Ran) (old new : List 
 pub record TellsAgain (k k' : Kept) (ran : Ran) (old new : List ℕ) : Type 0 where
   pub done : ran.status ≡ DONE → MatchOption k.last (ran.len ≡ 0) (λ reply. take ran.len new ≡ reply_line reply)
   pub no_room : ran.status ≡ NO_ROOM → IfSome k.last (λ reply. (ran.len ≡ length (reply_line reply)) × (length old < ran.len))
+  pub unprinted : ran.status ≡ UNPRINTED → IfSome k.last IsTooLong
   pub status : (ran.status ≡ DONE) ⊎ (ran.status ≡ NO_ROOM) ⊎ (ran.status ≡ UNPRINTED)
   pub no_reply : (ran.status ≡ DONE) ⊎ (ran.status ≡ NO_ROOM) ⊎ (ran.len ≡ 0)
   -- a length beyond the room is told where room is wanted, and nowhere else
@@ -69,11 +74,7 @@ pub record TellsAgain (k k' : Kept) (ran : Ran) (old new : List ℕ) : Type 0 wh
   pub unwritten : (ran.status ≡ DONE) ⊎ (new ≡ old)
   -- behind the reply the caller's room is as it was
   pub behind : drop ran.len new ≡ drop ran.len old
-  -- nothing changes but the text that replies are printed into
-  pub lab : k'.lab ≡ k.lab
-  pub config : k'.config ≡ k.config
-  pub last : k'.last ≡ k.last
-  pub debts : k'.debts ≡ k.debts
+  pub same : k' ≡ k
 
 -- a write, which asks to be done
 pub record AnswersWrite (k k' : Kept) (handle offset : ℕ) (bytes : List ℕ) (sync : Bool) (status : ℕ) : Type 0 where

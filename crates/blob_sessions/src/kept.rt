@@ -9,11 +9,13 @@ ghost use Rattle.blob_sessions.specs.Typed.{last_reply};
 ghost use Rattle.blob_sessions.specs.Words.{TakesWords, TellsWordsLeft};
 
 use crate::debts::{DebtCall, DebtReply, Debts};
-use crate::parts::copied;
-use crate::ran::{BAD_CALL, BAD_LINE, DONE, ENDLESS, NO_MEMORY, OTHER_REPLY, Ran, UNPRINTED};
+use crate::ran::{
+    BAD_CALL, BAD_LINE, DONE, ENDLESS, NO_MEMORY, NO_ROOM, OTHER_REPLY, Ran, UNPRINTED,
+};
+use crate::reply_text::{line_len, write_line};
 use crate::typed::{TypedCall, TypedReply, typed_call};
 use blob_faulty::Config;
-use blob_lab::script::{Line, RefusedLine, Setting, print_reply, read_line};
+use blob_lab::script::{Line, RefusedLine, Setting, read_line};
 use blob_lab::{Call, Lab, Reply};
 use std::alloc::Global;
 
@@ -22,8 +24,6 @@ pub struct Kept {
     pub(crate) lab: Lab,
     config: Config,
     pub(crate) last: Option<Reply>,
-    /// Used again for each reply that is printed.
-    text: String,
     /// A registry that no call of the laboratory changes.
     pub(crate) debts: Debts,
 }
@@ -34,7 +34,6 @@ impl Drop for Kept {
             lab,
             config: _,
             last: _,
-            text: _,
             debts,
         } = self;
         debts.end();
@@ -52,7 +51,6 @@ impl Kept {
             lab,
             config,
             last: None,
-            text: String::new(alloc),
             debts: Debts::new(alloc),
         }
     }
@@ -85,18 +83,24 @@ impl Kept {
         }
     }
 
-    /// Prints the reply to the last call, or nothing where there was none.
+    /// Prints the reply to the last call, or nothing if there was none. Allocates nothing.
     pub fn tell(&mut self, reply: &mut [u8]) -> Ran
         ensures { TellsAgain self.old self.new result reply.old reply.new }
     {
         let Some(made) = &self.last else {
             return Ran::stopped(DONE);
         };
-        self.text.clear();
-        if print_reply(made, &mut self.text).is_err() {
+        let Some(len) = line_len(made) else {
             return Ran::stopped(UNPRINTED);
+        };
+        if len > reply.len() {
+            return Ran {
+                status: NO_ROOM,
+                len,
+            };
         }
-        copied(self.text.as_bytes(), reply)
+        write_line(made, reply);
+        Ran { status: DONE, len }
     }
 
     /// Makes a typed call, and returns the numbers of its reply.

@@ -12,6 +12,7 @@ pub mod parts;
 pub mod preamble;
 pub mod ran;
 pub mod refusals;
+mod reply_text;
 pub mod script;
 pub mod session;
 pub mod typed;

@@ -15,7 +15,7 @@ pub const NO_ROOM: u32 = 4;
 pub const CLOSED: u32 = 5;
 /// The call was made, and was given another reply than the one that it asks for. It is kept.
 pub const OTHER_REPLY: u32 = 6;
-/// The call was made, but no memory could be had to print its reply. It is kept.
+/// The call was made, but the length of its reply's line does not fit in 64 bits. It is kept.
 pub const UNPRINTED: u32 = 7;
 /// A typed call has an unknown kind, a version that doesn't fit in 16 bits or a partition that isn't UTF-8. No call was made.
 pub const BAD_CALL: u32 = 8;

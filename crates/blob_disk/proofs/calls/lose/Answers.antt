@@ -15,7 +15,7 @@ use Rattle.blob_model.specs.Draws.{Row}
 use Rattle.blob_disk.proofs.Outcomes.{at_place, here_so, keeps_all, openable_so, same_outcomes, whole_so}
 use Rattle.blob_disk.proofs.calls.lose.Goals as goal
 use Rattle.blob_faults.specs.Rows.{table_of}
-use Rattle.blob_faulty.specs.Wrapper.{config_of, inner_of, inside, pending_of, rng_of}
+use Rattle.blob_faulty.specs.Wrapper.{inner_of, inside, pending_of}
 use Rattle.blob_memory.specs.Store.{durable, live, place}
 
 pub reopen-requires : goal.reopen-requires
