@@ -65,7 +65,7 @@ def differs(store):
 
 
 def dies(store):
-    """Ends its process at one outcome, as long as a file is there."""
+    """Ends its process at one outcome, while a file exists."""
     if torn(store) == b"b" * 5 + b"a" * 3 and os.path.exists(os.environ["DIES"]):
         os._exit(1)
 
@@ -149,7 +149,7 @@ def test_the_power_fails_at_each_call():
     # The four calls, the open of the recovery, and no loss.
     visited = explore(synced, settings=["write 0 1 0 1 prefix"], power_losses=1)
     assert visited.runs == 6 and visited.outcomes == {(b"ab", True): 2, (b"", False): 4}, visited
-    # Each loss of the first four once more with one of the recovery, and two of the recovery behind the whole run.
+    # Each loss of the first four once more with one of the recovery, and two of the recovery after the whole run.
     visited = explore(synced, settings=["write 0 1 0 1 prefix"], power_losses=2)
     assert visited.runs == 6 + 4 + 1, visited
     # With the draws of the crash: nothing, one write or two are pending, of a byte each.
@@ -207,7 +207,7 @@ def test_a_body_that_is_not_deterministic():
     error = raises(NotDeterministic, explore, lambda store: torn(store, 8) if next(count) else store.choose(3), settings=PREFIX)
     count = itertools.count()
     error = raises(NotDeterministic, explore, lambda store: torn(store, 8 - 7 * (next(count) % 2)), settings=PREFIX)
-    # A failure that isn't there when the run is made again.
+    # A failure that doesn't occur when the run is repeated.
     count = itertools.count()
 
     def flaky(store):
