@@ -33,14 +33,14 @@ impl Chance {
         self.word() % bound
     }
 
-    /// True once in so many times.
+    /// Returns true once in `count` times.
     pub fn is_one_of(&mut self, count: u64) -> bool
         requires { 0 < count }
     {
         self.below(count) == 0
     }
 
-    /// So many bytes.
+    /// Returns `len` random bytes.
     pub fn bytes(&mut self, alloc: Global, len: u64) -> Result<Vec<u8>, Error> {
         let mut bytes = Vec::new(alloc);
         for _ in 0..len {
@@ -49,7 +49,8 @@ impl Chance {
         Ok(bytes)
     }
 
-    /// So many words: some are the ends of the range, where a rate decides as it likes.
+    /// Returns `len` random words. A quarter of them are 0 or the greatest word, at which a draw is true or false for
+    /// each rate.
     pub fn words(&mut self, alloc: Global, len: u64) -> Result<Vec<u64>, Error> {
         let mut words = Vec::new(alloc);
         for _ in 0..len {

@@ -17,7 +17,7 @@ pub struct Counts {
     /// Bytes of pending writes that crashes kept, and that they lost.
     kept: u64,
     lost: u64,
-    /// Calls of numbers that aren't there, opens for an empty range, and opens of a name that is open.
+    /// Calls with an unknown number, opens for an empty range of versions, and opens of a name that is open.
     unknown: u64,
     empty: u64,
     open: u64,
@@ -77,7 +77,7 @@ impl Counts {
         }
     }
 
-    /// A call was answered so, and so many fixed bytes were compared after it.
+    /// Counts a call with its reply, and the number of fixed bytes that were compared after it.
     pub fn count(&mut self, call: &Call, reply: &Reply, compared: u64) {
         add_at(&mut self.calls, kind_of(call));
         add(&mut self.compared, compared);
@@ -109,7 +109,7 @@ impl Counts {
         }
     }
 
-    /// Fails where a kind of call, a fault, a mode or what a crash does was met too seldom to mean anything, or too few
+    /// Fails if the walks had too few calls of a kind, faults of a kind, modes or effects of a crash, or if too few
     /// fixed bytes were compared.
     pub fn expect_enough(&self, rt: &impl Abort) {
         for count in self.calls.iter().chain(&self.modes) {

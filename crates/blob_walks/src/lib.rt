@@ -1,6 +1,6 @@
-//! Tests alone: long lists of calls of a laboratory, made by chance from fixed seeds. After each call every fixed byte has
-//! to have its value in the memory store. And a log over seeds of faults and crashes, which finds what it acknowledged; and
-//! how long a list with covered writes gets.
+//! Only tests. Long random lists of calls of a laboratory, from fixed seeds: after each call the memory store must
+//! have every fixed byte. A log, over seeds of faults and crashes and over every outcome of small runs, must find what
+//! it acknowledged. Covered writes must leave their list.
 #![tactic(auto)]
 
 #[cfg(test)]
@@ -16,6 +16,8 @@ mod fixed;
 #[cfg(test)]
 mod live;
 #[cfg(test)]
+mod log_explored;
+#[cfg(test)]
 mod log_seeds;
 #[cfg(test)]
 mod log_use;
@@ -25,3 +27,5 @@ mod modes;
 mod record;
 #[cfg(test)]
 mod walk;
+#[cfg(test)]
+mod wrong_log;

@@ -1,14 +1,14 @@
 // What is known of a handle's live bytes, from its calls and their replies.
 use std::alloc::AllocError;
 
-/// A front of the live bytes, and whether it is all of them.
+/// A prefix of the live bytes, and whether it is all of them.
 #[derive(Drop)]
 pub struct Live {
     front: Vec<u8>,
     is_whole: bool,
 }
 
-/// No walk reaches further, but where a call is refused.
+/// No call of a walk that succeeds reaches further.
 const LIMIT: u64 = 65536;
 
 impl Live {

@@ -1,9 +1,9 @@
-// The log over seeds, with faults of every kind, crashes and reopens: what is found is compared with what was acknowledged.
-// The same log with one line wrong loses some of that.
-use blob_base::{Blob, Error, IoBufs, Probability, ReadOptions, SectorSize, Storage, WriteOptions};
+// The log over seeds, with faults of every kind, crashes and reopens. Each recovery has to find what was acknowledged.
+// A log with one line wrong loses some of it.
+use crate::wrong_log::{Mistake, Tried};
+use blob_base::{Error, Probability, SectorSize};
 use blob_faulty::{Config, PartialWriteMode, ResizeConfig, WriteConfig};
-use blob_log::frame::{frame_of, scan};
-use blob_log::log::{Log, Store};
+use blob_log::log::Store;
 use rand_core::{Rng, SeedableRng};
 use rand_xoshiro::Xoshiro256PlusPlus;
 use std::alloc::Global;
@@ -13,119 +13,23 @@ const SEEDS: u64 = 3000;
 
 const CRASHES: u64 = 4;
 
-// The first seeds that show what a wrong line loses.
+// The first seeds at which a log with one line wrong loses a record.
 const FIRST_LOST_UNSYNCED: u64 = 0;
 
 const FIRST_LOST_UNADMITTED: u64 = 17;
 
-/// A log without one of its lines.
-#[derive(Clone, Copy)]
-enum Lacks {
-    Sync,
-    Admit,
-}
-
-/// The log with a line wrong, as short as it can be.
-#[derive(Drop)]
-struct WrongLog {
-    lacks: Lacks,
-    blob: blob_faulty::Blob<blob_memory::Blob>,
-    end: u64,
-}
-
-impl WrongLog {
-    fn append<R: Rng>(
-        &mut self,
-        alloc: Global,
-        store: &mut Store<R>,
-        entry: &[u8],
-    ) -> Result<(), Error> {
-        if entry.len() > 1000 {
-            return Err(Error::OffsetOverflow);
-        }
-        let bytes = IoBufs::from_vec(frame_of(alloc, entry)?)?;
-        let end = self.end.saturating_add(bytes.remaining() as u64);
-        let options = match self.lacks {
-            Lacks::Sync => WriteOptions::default(),
-            Lacks::Admit => WriteOptions::SYNC,
-        };
-        self.blob.write_at(store, self.end, bytes, options)?;
-        self.end = end;
-        Ok(())
-    }
-
-    fn recover<R: Rng>(
-        alloc: Global,
-        store: &mut Store<R>,
-        lacks: Lacks,
-    ) -> Result<(WrongLog, Vec<Vec<u8>>), Error> {
-        let (blob, size) = match lacks {
-            Lacks::Sync => store.open_admitted("wal", b"0")?,
-            Lacks::Admit => store.open("wal", b"0")?,
-        };
-        let bytes = blob
-            .read_at(store, 0, size as usize, ReadOptions::default())?
-            .coalesce();
-        let (records, end) = scan(alloc, &bytes)?;
-        let log = WrongLog {
-            lacks,
-            blob,
-            end: end as u64,
-        };
-        Ok((log, records))
-    }
-}
-
-/// The crate's log, or one that lacks a line.
-#[derive(Drop)]
-enum Tried {
-    Right(Log),
-    Wrong(WrongLog),
-}
-
-impl Tried {
-    fn append<R: Rng>(
-        &mut self,
-        alloc: Global,
-        store: &mut Store<R>,
-        entry: &[u8],
-    ) -> Result<(), Error> {
-        match self {
-            Tried::Right(log) => log.append(store, entry),
-            Tried::Wrong(log) => log.append(alloc, store, entry),
+/// Recovers, again if an open or a read was injected to fail.
+fn recover<R: Rng>(
+    alloc: Global,
+    store: &mut Store<R>,
+    mistake: Option<Mistake>,
+) -> Result<(Tried, Vec<Vec<u8>>), Error> {
+    for _ in 0..200 {
+        if let Ok(opened) = Tried::recover(alloc, store, mistake) {
+            return Ok(opened);
         }
     }
-
-    fn recover_once<R: Rng>(
-        alloc: Global,
-        store: &mut Store<R>,
-        lacks: Option<Lacks>,
-    ) -> Result<(Tried, Vec<Vec<u8>>), Error> {
-        match lacks {
-            None => {
-                let (log, found) = Log::recover(alloc, store, "wal", b"0")?;
-                Ok((Tried::Right(log), found))
-            }
-            Some(lacks) => {
-                let (log, found) = WrongLog::recover(alloc, store, lacks)?;
-                Ok((Tried::Wrong(log), found))
-            }
-        }
-    }
-
-    /// Again where an open or a read was injected to fail.
-    fn recover<R: Rng>(
-        alloc: Global,
-        store: &mut Store<R>,
-        lacks: Option<Lacks>,
-    ) -> Result<(Tried, Vec<Vec<u8>>), Error> {
-        for _ in 0..200 {
-            if let Ok(opened) = Tried::recover_once(alloc, store, lacks) {
-                return Ok(opened);
-            }
-        }
-        Err(Error::Injected)
-    }
+    Err(Error::Injected)
 }
 
 fn rate(percent: u64) -> Probability {
@@ -157,7 +61,7 @@ fn faults(seed: u64) -> Config {
         .scan(rate(10))
 }
 
-/// What a seed came to: records acknowledged and refused, and whether any that was acknowledged is gone.
+/// The number of appends of a seed that succeeded and that failed, and whether a record of the former was lost.
 #[derive(Clone, Copy)]
 struct Counts {
     acknowledged: u64,
@@ -193,8 +97,8 @@ fn append_some(
     Ok(())
 }
 
-/// Sessions with a reopen in the middle of each and a crash behind it.
-fn play(alloc: Global, seed: u64, lacks: Option<Lacks>) -> Result<Counts, Error> {
+/// Runs sessions, each with a reopen in the middle and a crash at the end.
+fn play(alloc: Global, seed: u64, mistake: Option<Mistake>) -> Result<Counts, Error> {
     let memory = blob_memory::Storage::new(alloc);
     let rng = Xoshiro256PlusPlus::seed_from_u64(seed);
     let mut chance = Xoshiro256PlusPlus::seed_from_u64(seed.wrapping_add(1 << 32));
@@ -204,7 +108,7 @@ fn play(alloc: Global, seed: u64, lacks: Option<Lacks>) -> Result<Counts, Error>
         refused: 0,
         lost: false,
     };
-    let (mut log, mut wanted) = Tried::recover(alloc, &mut store, lacks)?;
+    let (mut log, mut wanted) = recover(alloc, &mut store, mistake)?;
     for _ in 0..CRASHES {
         append_some(
             alloc,
@@ -214,7 +118,7 @@ fn play(alloc: Global, seed: u64, lacks: Option<Lacks>) -> Result<Counts, Error>
             &mut wanted,
             &mut counts,
         )?;
-        let (again, found) = Tried::recover(alloc, &mut store, lacks)?;
+        let (again, found) = recover(alloc, &mut store, mistake)?;
         counts.lost |= !begins_with(&found, &wanted);
         log = again;
         wanted = found;
@@ -227,7 +131,7 @@ fn play(alloc: Global, seed: u64, lacks: Option<Lacks>) -> Result<Counts, Error>
             &mut counts,
         )?;
         store.crash()?;
-        let (again, found) = Tried::recover(alloc, &mut store, lacks)?;
+        let (again, found) = recover(alloc, &mut store, mistake)?;
         counts.lost |= !begins_with(&found, &wanted);
         log = again;
         wanted = found;
@@ -250,10 +154,10 @@ fn no_seed_loses_an_acknowledged_record(rt: HostRuntime) -> Result<(), Fail> {
     Ok(())
 }
 
-/// The first seed that shows what a log without this line loses.
-fn first_lost(alloc: Global, lacks: Lacks) -> Result<Option<u64>, Error> {
+/// The first seed that shows what a log with this mistake loses.
+fn first_lost(alloc: Global, mistake: Mistake) -> Result<Option<u64>, Error> {
     for seed in 0..SEEDS {
-        if play(alloc, seed, Some(lacks))?.lost {
+        if play(alloc, seed, Some(mistake))?.lost {
             return Ok(Some(seed));
         }
     }
@@ -261,13 +165,13 @@ fn first_lost(alloc: Global, lacks: Lacks) -> Result<Option<u64>, Error> {
 }
 
 #[test]
-fn a_log_that_lacks_a_line_loses_some(rt: HostRuntime) -> Result<(), Fail> {
+fn a_log_with_a_mistake_loses_some(rt: HostRuntime) -> Result<(), Fail> {
     assert_eq!(rt;
-        first_lost(rt.alloc(), Lacks::Sync)?,
+        first_lost(rt.alloc(), Mistake::NoSync)?,
         Some(FIRST_LOST_UNSYNCED)
     );
     assert_eq!(rt;
-        first_lost(rt.alloc(), Lacks::Admit)?,
+        first_lost(rt.alloc(), Mistake::NoAdmit)?,
         Some(FIRST_LOST_UNADMITTED)
     );
     Ok(())

@@ -1,12 +1,12 @@
-// The modes that walks configure and count: all there are.
+// The modes that walks configure and count: all of them.
 use crate::chance::Chance;
 use blob_base::SectorSize;
 use blob_faulty::PartialWriteMode;
 
-/// How many there are.
+/// The number of modes.
 pub const MODES: usize = 3;
 
-/// One of them by chance, of sectors of a few bytes.
+/// Returns a random mode, with sectors of a few bytes.
 pub fn by_chance(chance: &mut Chance) -> PartialWriteMode {
     match chance.below(3) {
         0 => PartialWriteMode::Prefix,
@@ -18,7 +18,7 @@ pub fn by_chance(chance: &mut Chance) -> PartialWriteMode {
     }
 }
 
-/// Its number among them.
+/// Returns the index of a mode.
 pub fn number_of(mode: &PartialWriteMode) -> usize {
     match mode {
         PartialWriteMode::Prefix => 0,

@@ -1,5 +1,5 @@
-// What a walk knows of its laboratory from the calls and the replies alone: which bytes are fixed, and which handles and
-// started syncs there are.
+// What a walk knows of its laboratory from the calls and the replies alone: which bytes are fixed, and which handles
+// and started syncs there are.
 use crate::files::{FILES, file_of, has_file, name_of, partition_of};
 use crate::fixed::Fixed;
 use crate::live::Live;
@@ -16,8 +16,8 @@ struct Opened {
     live: Live,
 }
 
-/// A started sync of a current handle, and what it fixes where it succeeded: the bytes that no call has reached since. It fixed
-/// them from its start; whether it succeeded is told when it is finished.
+/// A started sync of a current handle, and the bytes that it fixes if it succeeded: those that no call has reached
+/// since. They are fixed from its start. Whether it succeeded is known when it is finished.
 #[derive(Drop)]
 struct Started {
     number: usize,
@@ -125,8 +125,9 @@ impl Record {
         }
     }
 
-    /// Takes note of a call and its reply. False where they contradict what is known: a stale handle did something durable,
-    /// a handle or an open doesn't have a fixed byte, or a read gives other bytes than those that are known.
+    /// Takes note of a call and its reply. Returns false if they contradict what is known: a stale handle made
+    /// something durable, a handle or an open doesn't have a fixed byte, or a read returns other bytes than those that
+    /// are known.
     pub fn note(&mut self, lab: &Lab, call: &Call, reply: &Reply) -> Result<bool, Error> {
         match call {
             Call::Configure(config) => {
@@ -163,7 +164,7 @@ impl Record {
         bytes: &[u8],
         (is_sync, is_done): (bool, bool),
     ) -> Result<bool, Error> {
-        // A SYNC write of no bytes does nothing.
+        // An empty SYNC write does nothing.
         if is_sync && bytes.is_empty() {
             return Ok(true);
         }
@@ -320,7 +321,7 @@ impl Record {
         }
     }
 
-    /// How many fixed bytes there are in all files, where the memory store has each at its value.
+    /// Returns the number of fixed bytes in all files, or `None` if the memory store has one with another value.
     pub fn compare(&self, lab: &Lab) -> Result<Option<u64>, Error> {
         let mut count: u64 = 0;
         for (file, fixed) in self.files.iter().enumerate() {

@@ -1,4 +1,4 @@
-// Walks: lists of calls that are made by chance, with no loose open among them.
+// Walks: random lists of calls, without loose opens.
 use crate::chance::Chance;
 use crate::counts::Counts;
 use crate::files::{FILES, admit, image, open, remove, scan};
@@ -45,7 +45,7 @@ impl Walk {
         self.chance.below(FILES as u64) as usize
     }
 
-    /// A current handle, where there is one.
+    /// Returns a current handle, if there is one.
     fn current(&mut self) -> Option<usize> {
         let first = self.file();
         for file in (first..FILES).chain(0..first) {
@@ -73,7 +73,7 @@ impl Walk {
         Ok(())
     }
 
-    /// An open of a file, and where it is accepted all that its handle reads.
+    /// Opens a file. If that succeeds, reads all bytes of the handle.
     fn open(&mut self, rt: &impl Abort, lab: &mut Lab, file: usize) -> Result<(), Error> {
         let (first, last) = match self.chance.below(16) {
             0 => (5, 3),
@@ -153,7 +153,7 @@ impl Walk {
         Ok(())
     }
 
-    /// A started sync, which is mostly finished at once.
+    /// Starts a sync, and mostly finishes it immediately.
     fn start_sync(&mut self, rt: &impl Abort, lab: &mut Lab) -> Result<(), Error> {
         let handle = self.handle();
         if self.chance.is_one_of(2) {
@@ -173,7 +173,7 @@ impl Walk {
         Ok(())
     }
 
-    /// A close, mostly with an open of the same file behind it.
+    /// Closes a handle, and mostly opens the same file again.
     fn close(&mut self, rt: &impl Abort, lab: &mut Lab) -> Result<(), Error> {
         let handle = self.handle();
         let file = self.record.file_behind(handle);
@@ -262,7 +262,7 @@ fn images(alloc: Global, chance: &mut Chance) -> Result<Vec<(String, Vec<u8>, Ve
     Ok(images)
 }
 
-/// Walks one list, with the counts of those before it, and answers the counts with its own.
+/// Walks one list, and returns the counts with its own added.
 fn walk_list(rt: &impl Abort, alloc: Global, list: u64, counts: Counts) -> Result<Counts, Error> {
     let mut chance = Chance::new(list);
     let images = images(alloc, &mut chance)?;
