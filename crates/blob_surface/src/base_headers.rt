@@ -4,7 +4,6 @@ use blob_base::{
     Layout, resolve, validate_partition_name,
 };
 use std::alloc::Global;
-use std::test::Fail;
 
 #[test]
 fn layouts(rt: HostRuntime) {
@@ -25,14 +24,19 @@ fn checksums(rt: HostRuntime) {
     assert!(rt; Crc32::checksum(b"123456789") == 0xe3069283);
 }
 
-#[test]
-fn a_created_header_parses(rt: HostRuntime) -> Result<(), Fail> {
-    let layouts = Layout::V0..=Layout::V0;
+pub fn create(alloc: Global) -> Result<(Vec<u8>, BlobVersion), Error> {
     let versions = BlobVersion::new(0)..=BlobVersion::new(7);
-    let (raw, version) = Header::create(rt.alloc(), &layouts, &versions)?;
-    assert!(rt; raw.as_slice() == b"CWIC\0\0\0\x07".as_slice() && version.get() == 7);
-    assert!(rt; Header::parse(&raw, 8, &layouts, &versions) == Ok((0, version, 8)));
-    Ok(())
+    Header::create(alloc, &(Layout::V0..=Layout::V0), &versions)
+}
+
+type Parsed = (u64, BlobVersion, u64);
+
+pub fn parse(raw: &[u8]) -> Result<Parsed, HeaderError> {
+    if raw.len() < 8 {
+        return Err(HeaderError::InvalidChecksum);
+    }
+    let versions = BlobVersion::new(0)..=BlobVersion::new(7);
+    Header::parse(raw, raw.len() as u64, &(Layout::V0..=Layout::V1), &versions)
 }
 
 #[test]
@@ -69,56 +73,41 @@ fn header_errors_tell_torn_creations(rt: HostRuntime) {
     assert!(rt; !HeaderError::InvalidPadding.may_be_torn_creation());
 }
 
-#[test]
-fn header_errors_become_errors(rt: HostRuntime) {
-    let layout = HeaderError::LayoutMismatch {
-        expected: Layout::V1..=Layout::V1,
-        found: Layout::V0,
-    };
-    let refused = Error::BlobLayoutMismatch {
-        expected: Layout::V1..=Layout::V1,
-        found: Layout::V0,
-    };
-    assert!(rt; layout.into_error(rt.alloc(), "p", b"b") == refused);
-    let version = HeaderError::VersionMismatch {
-        expected: DEFAULT_BLOB_VERSION..=DEFAULT_BLOB_VERSION,
-        found: BlobVersion::new(5),
-    };
-    let refused = Error::BlobVersionMismatch {
-        expected: DEFAULT_BLOB_VERSION..=DEFAULT_BLOB_VERSION,
-        found: BlobVersion::new(5),
-    };
-    assert!(rt; version.into_error(rt.alloc(), "p", b"b") == refused);
+/// Every error of a header by its name and fields.
+pub fn number(error: &HeaderError) -> u64 {
+    match error {
+        HeaderError::InvalidMagic { found: _ } => 0,
+        HeaderError::UnsupportedLayoutVersion {
+            expected: _,
+            found: _,
+        } => 1,
+        HeaderError::InvalidChecksum => 2,
+        HeaderError::InvalidPadding => 3,
+        HeaderError::Truncated {
+            required_len: _,
+            raw_len,
+        } => *raw_len,
+        HeaderError::LayoutMismatch {
+            expected: _,
+            found: _,
+        } => 5,
+        HeaderError::VersionMismatch {
+            expected: _,
+            found: _,
+        } => 6,
+    }
 }
 
-/// Resolves these bytes as a whole blob.
-fn resolved(alloc: Global, raw: &[u8]) -> Result<Option<(u64, BlobVersion, u64)>, Error> {
+pub fn into_error(alloc: Global, error: HeaderError) -> Error {
+    error.into_error(alloc, "p", b"b")
+}
+
+pub fn resolve_whole(alloc: Global, raw: &[u8]) -> Result<Option<Parsed>, Error> {
     let versions = BlobVersion::new(0)..=BlobVersion::new(u16::MAX);
     let len = raw.len() as u64;
     resolve(alloc, raw, len, &Layout::all(), &versions, "image", b"blob")
 }
 
-#[test]
-fn blobs_resolve(rt: HostRuntime) -> Result<(), Fail> {
-    let alloc = rt.alloc();
-    assert!(rt; resolved(alloc, b"seven b")?.is_none());
-    assert!(rt; resolved(alloc, b"CWIC\0\0\0\x05abc")? == Some((3, BlobVersion::new(5), 8)));
-    let refused = Error::BlobCorrupt(
-        String::from_str(alloc, "image")?,
-        String::from_str(alloc, "626c6f62")?,
-        String::from_str(alloc, "invalid magic: found [67, 87, 73, 0]")?,
-    );
-    assert!(rt; resolved(alloc, b"CWI\0\0\0\0\x05") == Err(refused));
-    Ok(())
-}
-
-#[test]
-fn partition_names(rt: HostRuntime) -> Result<(), Fail> {
-    let alloc = rt.alloc();
-    validate_partition_name(alloc, "a-b_1")?;
-    let empty = Error::PartitionNameInvalid(String::from_str(alloc, "")?);
-    assert!(rt; validate_partition_name(alloc, "") == Err(empty));
-    let slash = Error::PartitionNameInvalid(String::from_str(alloc, "a/b")?);
-    assert!(rt; validate_partition_name(alloc, "a/b") == Err(slash));
-    Ok(())
+pub fn validate(alloc: Global, partition: &str) -> Result<(), Error> {
+    validate_partition_name(alloc, partition)
 }

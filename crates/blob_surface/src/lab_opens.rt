@@ -1,20 +1,108 @@
-//! Exclusive opens and their handles; a generator of given words.
+//! Exclusive opens and their handles.
 use blob_base::{
-    Blob, DEFAULT_BLOB_VERSION, Error, IoBufs, IoBufsMut, ReadOptions, Storage, WriteOptions,
+    Blob, BlobVersion, DEFAULT_BLOB_VERSION, Error, Handle, IoBufs, IoBufsMut, ReadOptions,
+    WriteOptions,
 };
+use blob_faulty::{Config, Storage as Wrapper};
 use blob_lab::{Opens, ScriptedRng, open};
-use blob_memory::Storage as Memory;
-use rand_core::Rng;
+use blob_memory::{Origin, Storage as Memory};
 use std::alloc::Global;
 use std::test::Fail;
 
 type Held = open::Blob<blob_memory::Blob>;
 
-/// Opens the blob `1` of `a`. Returns whether the error is `BlobAlreadyOpen`. Closes a returned handle.
-fn refused(opens: &mut Opens, store: &mut Memory) -> bool {
+pub fn new(alloc: Global) -> Opens {
+    Opens::new(alloc)
+}
+
+pub fn open(opens: &mut Opens, store: &mut Memory) -> Result<(Held, u64, BlobVersion), Error> {
+    opens.open(
+        store,
+        "a",
+        b"1",
+        DEFAULT_BLOB_VERSION..=DEFAULT_BLOB_VERSION,
+    )
+}
+
+pub fn remove(opens: &mut Opens, store: &mut Memory) -> Result<(), Error> {
+    opens.remove(store, "a", None)
+}
+
+pub fn replace(opens: &mut Opens) -> Result<u64, Error> {
+    opens.replace("a", Some(b"1"), || Ok(7))
+}
+
+pub fn close(opens: &mut Opens, blob: Held) {
+    opens.close(blob);
+}
+
+pub fn release(opens: &mut Opens, blob: Held) -> blob_memory::Blob {
+    let (inner, registration) = blob.into_parts();
+    opens.release(registration);
+    inner
+}
+
+pub fn end_all(opens: &mut Opens) {
+    opens.end_all();
+}
+
+pub fn read_at(store: &mut Memory, blob: &Held) -> Result<IoBufsMut, Error> {
+    blob.read_at(store, 0, 2, ReadOptions::default())
+}
+
+pub fn read_at_buf(store: &mut Memory, blob: &Held, buf: IoBufsMut) -> Result<IoBufsMut, Error> {
+    if buf.capacity() < 3 {
+        return Ok(buf);
+    }
+    blob.read_at_buf(store, 2, 3, buf, ReadOptions::default())
+}
+
+pub fn write_at(store: &mut Memory, blob: &mut Held, bytes: IoBufs) -> Result<(), Error> {
+    blob.write_at(store, 0, bytes, WriteOptions::default())
+}
+
+pub fn resize(store: &mut Memory, blob: &mut Held) -> Result<(), Error> {
+    blob.resize(store, 6)
+}
+
+pub fn reserve(store: &mut Memory, blob: &mut Held) -> Result<(), Error> {
+    blob.reserve(store, 6)
+}
+
+pub fn sync(store: &mut Memory, blob: &mut Held) -> Result<(), Error> {
+    blob.sync(store)
+}
+
+pub fn start_sync(store: &mut Memory, blob: &mut Held) -> Handle {
+    blob.start_sync(store)
+}
+
+pub fn origin(blob: &Held) -> Result<Origin, Error> {
+    blob.origin()
+}
+
+pub fn origin_ref(blob: &Held) -> &Origin {
+    blob.origin_ref()
+}
+
+pub fn inner(blob: &Held) -> &blob_memory::Blob {
+    blob.inner()
+}
+
+type Faulty = Wrapper<Memory, ScriptedRng>;
+
+type Exclusive = open::Blob<blob_faulty::Blob<blob_memory::Blob>>;
+
+fn open_exclusive(store: &mut Faulty, opens: &mut Opens) -> Result<Exclusive, Error> {
     let versions = DEFAULT_BLOB_VERSION..=DEFAULT_BLOB_VERSION;
-    match opens.open(store, "a", b"1", versions) {
-        Ok((blob, _, _)) => {
+    let (blob, _, _) = store.open_exclusive(opens, "p", b"b", versions)?;
+    Ok(blob)
+}
+
+/// Whether the registry refuses an exclusive open of the blob. A handle is closed again.
+fn is_refused(store: &mut Faulty, opens: &mut Opens) -> bool {
+    match open_exclusive(store, opens) {
+        Ok(blob) => {
             opens.close(blob);
             false
         }
@@ -22,77 +110,15 @@ fn refused(opens: &mut Opens, store: &mut Memory) -> bool {
     }
 }
 
-/// Writes, and reads by both calls.
-fn writes(store: &mut Memory, blob: &mut Held, alloc: Global) -> Result<bool, Error> {
-    let saved = IoBufs::from_vec(Vec::from_slice(alloc, b"saved")?)?;
-    blob.write_at(store, 0, saved, WriteOptions::default())?;
-    let front = blob.read_at(store, 0, 2, ReadOptions::default())?;
-    let room = IoBufsMut::with_capacity(alloc, 3)?;
-    let back = blob.read_at_buf(store, 2, 3, room, ReadOptions::default())?;
-    Ok(
-        front.coalesce().as_slice() == b"sa".as_slice()
-            && back.coalesce().as_slice() == b"ved".as_slice(),
-    )
-}
-
-/// Syncs in one call and in two steps, and compares the origins.
-fn syncs(store: &mut Memory, blob: &mut Held) -> Result<bool, Error> {
-    blob.reserve(store, 6)?;
-    blob.sync(store)?;
-    blob.resize(store, 6)?;
-    let started = blob.start_sync(store);
-    store.finish(started)?;
-    let origin = blob.origin()?;
-    Ok(origin == *blob.origin_ref() && origin == *blob.inner().origin_ref())
-}
-
 #[test]
-fn an_open_is_exclusive(rt: HostRuntime) -> Result<(), Fail> {
+fn an_exclusive_open(rt: HostRuntime) -> Result<(), Fail> {
     let alloc = rt.alloc();
-    let mut store = Memory::new(alloc);
+    let rng = ScriptedRng::new(Vec::new(alloc));
+    let mut store = Wrapper::new(alloc, Memory::new(alloc), rng, Config::default());
     let mut opens = Opens::new(alloc);
-    let versions = DEFAULT_BLOB_VERSION..=DEFAULT_BLOB_VERSION;
-    let (mut blob, _, _) = opens.open(&mut store, "a", b"1", versions)?;
-    let wrote = writes(&mut store, &mut blob, alloc);
-    let synced = syncs(&mut store, &mut blob);
-    let held = refused(&mut opens, &mut store);
+    let blob = open_exclusive(&mut store, &mut opens)?;
+    let held = is_refused(&mut store, &mut opens);
     opens.close(blob);
-    assert!(rt; wrote? && synced?);
-    assert!(rt; held && !refused(&mut opens, &mut store));
-    let (_, size) = store.open("a", b"1")?;
-    assert!(rt; size == 6);
-    Ok(())
-}
-
-#[test]
-fn removals_and_replacements_end_opens(rt: HostRuntime) -> Result<(), Fail> {
-    let alloc = rt.alloc();
-    let mut store = Memory::new(alloc);
-    let mut opens = Opens::new(alloc);
-    let versions = DEFAULT_BLOB_VERSION..=DEFAULT_BLOB_VERSION;
-    let (blob, _, _) = opens.open(&mut store, "a", b"1", versions)?;
-    let failed: Result<(), Error> = opens.replace("a", None, || Err(Error::Closed));
-    let held = refused(&mut opens, &mut store);
-    let replaced = opens.replace("a", Some(b"1"), || Ok(7));
-    let freed = refused(&mut opens, &mut store);
-    opens.close(blob);
-    assert!(rt; failed == Err(Error::Closed) && replaced == Ok(7));
-    assert!(rt; held && !freed);
-    opens.remove(&mut store, "a", None)?;
-    assert!(rt; store.scan("a").is_err());
-    Ok(())
-}
-
-#[test]
-fn words_come_in_order(rt: HostRuntime) -> Result<(), Fail> {
-    let mut words = Vec::new(rt.alloc());
-    words.push(3 << 32 | 5)?;
-    words.push(u64::MAX)?;
-    words.push(0x0807060504030201)?;
-    let mut rng = ScriptedRng::new(words);
-    assert!(rt; rng.next_u32() == 5 && rng.next_u64() == u64::MAX);
-    let mut bytes = [0; 4];
-    rng.fill_bytes(&mut bytes);
-    assert!(rt; bytes == [1, 2, 3, 4] && rng.next_u64() == 0);
+    assert!(rt; held && !is_refused(&mut store, &mut opens));
     Ok(())
 }

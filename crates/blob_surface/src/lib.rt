@@ -1,5 +1,5 @@
-//! Tests that call each public item of `blob_base`, `blob_memory`, `blob_faulty` and `blob_lab` once, by its public
-//! path.
+//! Calls each public item of `blob_base`, `blob_memory`, `blob_faulty` and `blob_lab` by its public path. Most functions here make
+//! one call: that it compiles and is proved is the test. What the calls do is tested by rows of `blob_play` and by worked scripts.
 #![tactic(auto)]
 
 #[cfg(test)]
@@ -9,9 +9,7 @@ mod base_values;
 #[cfg(test)]
 mod faulty;
 #[cfg(test)]
-mod faulty_opens;
-#[cfg(test)]
-mod lab_calls;
+mod lab;
 #[cfg(test)]
 mod lab_opens;
 #[cfg(test)]
