@@ -25,8 +25,8 @@ wrong() {
 
 cc -shared -fPIC -O2 -o "$library" "$top/tests/refusals/refuse.c" || give_up "the library can't be built"
 need_program explain
-tried=$top/crates/blob_play/data/refusals.calls
-calls=$("$top/tools/built" blob_play) || give_up "blob_play can't be built"
+tried=$top/crates/test_rows/data/refusals.calls
+calls=$("$top/tools/built" test_rows) || give_up "test_rows can't be built"
 
 # under NAME=VALUE.. COMMAND..: runs it with the library, and leaves its status, what it printed and the library's counts.
 under() {

@@ -1,10 +1,10 @@
 #!/bin/sh
-# The player of rows (crates/blob_play) reports a wrong row by file, line, call, expected result and result, and a missing file;
+# The player of rows (crates/test_rows) reports a wrong row by file, line, call, expected result and result, and a missing file;
 # both with status 1. The last line is `N passed, M failed`.
 top=$(CDPATH='' cd -- "$(dirname -- "$0")/.." && pwd -P)
 # shellcheck source=tests/counting.sh
 . "$top/tests/counting.sh"
-program=$("$top/tools/built" blob_play) || give_up "blob_play can't be built"
+program=$("$top/tools/built" test_rows) || give_up "test_rows can't be built"
 
 # check NAME STATUS OUTPUT FILE..: plays files of tests/rows.
 check() {

@@ -17,10 +17,10 @@ import sys
 
 # The calls that users of the whole program rest on: the file and the function.
 CALLS = [
-    ("crates/blob_laboratory/src/lab.rt", "new"),
-    ("crates/blob_laboratory/src/lab.rt", "run"),
-    ("crates/blob_laboratory/src/lab/applying.rt", "apply"),
-    ("crates/blob_laboratory/src/lab/applying.rt", "wrapper"),
+    ("crates/blob_lab_store/src/lab.rt", "new"),
+    ("crates/blob_lab_store/src/lab.rt", "run"),
+    ("crates/blob_lab_store/src/lab/applying.rt", "apply"),
+    ("crates/blob_lab_store/src/lab/applying.rt", "wrapper"),
     ("crates/blob_lab/src/scripts.rt", "serve_script"),
     ("crates/blob_lab/src/resolutions.rt", "serve_resolve"),
 ]

@@ -9,15 +9,15 @@ use Rattle.blob_model.specs.Files.{after_crash, all_logged, all_needs, started}
 use Rattle.blob_model.specs.Rates.{Rate}
 use Rattle.blob_header.specs.Refusals.{Refusal, Injected, GenerationsExhausted, BlobAlreadyOpen}
 use Rattle.blob_memory.specs.Answers.{read_refusal, sync_refusal, open_refusal, partition_refusal, remove_refusal}
-use Rattle.blob_faults.specs.Changes.{Changes, lacks_number, resize_changes, write_changes}
-use Rattle.blob_faults.specs.Faults.{WriteFate, ResizeFate, draw, retention, write_fate, resize_fate}
-use Rattle.blob_calls.specs.Acts.{Ask, Read, Write, Resize, Size, Sync, StartSync, Act, Configure, Open, OpenLoose, Admit, Close, Through, Finish, Remove, Scan, Crash, Reopen}
-use Rattle.blob_calls.specs.Told as told
-use Rattle.blob_calls.specs.Told.{Told}
-use Rattle.blob_states.specs.After.{after, asked, held_after}
-use Rattle.blob_states.specs.Answers.{answer, kept_at, through, told_opened, unless_denied, unless_drawn}
-use Rattle.blob_states.specs.Denials.{fate_denial, reaching_denial, refused_if}
-use Rattle.blob_states.specs.States.{State, Held}
+use Rattle.blob_draws.specs.Changes.{Changes, lacks_number, resize_changes, write_changes}
+use Rattle.blob_draws.specs.Faults.{WriteFate, ResizeFate, draw, retention, write_fate, resize_fate}
+use Rattle.blob_script.specs.Acts.{Ask, Read, Write, Resize, Size, Sync, StartSync, Act, Configure, Open, OpenLoose, Admit, Close, Through, Finish, Remove, Scan, Crash, Reopen}
+use Rattle.blob_script.specs.Told as told
+use Rattle.blob_script.specs.Told.{Told}
+use Rattle.blob_lab_model.specs.After.{after, asked, held_after}
+use Rattle.blob_lab_model.specs.Answers.{answer, kept_at, through, told_opened, unless_denied, unless_drawn}
+use Rattle.blob_lab_model.specs.Denials.{fate_denial, reaching_denial, refused_if}
+use Rattle.blob_lab_model.specs.States.{State, Held}
 use Rattle.blob_choices.specs.Decided.{IsDecided}
 use Rattle.blob_choices.specs.Outcomes.{HasNoPartialResize, Outcome, outcome, with_stream}
 use Rattle.blob_choices.proofs.Deciding.{decided_none, decided_same, decided_map, decided_if}

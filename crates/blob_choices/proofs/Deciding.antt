@@ -3,7 +3,7 @@ use Rattle.std.proofs.Common.{◌≡◌, ℕ, Bool, true, false, cond, List, [],
 use Rattle.std.proofs.lemmas.List.{map-append}
 use Rattle.rand_core.specs.Stream.{Stream}
 use Rattle.blob_tree.specs.Trees.{DecisionTree, Leaf, Choice, IsLeaf, outcome_word, words_of}
-use Rattle.blob_states.specs.Scripted.{Left, scripted}
+use Rattle.blob_lab_model.specs.Scripted.{Left, scripted}
 use Rattle.blob_choices.specs.Decided.{HasU64Words, path_stream, zeros, Decides, IsDecided}
 
 -- Trees.

@@ -10,7 +10,7 @@ use Rattle.blob_model.specs.Rates.{Rate, sampled}
 use Rattle.blob_model.specs.declared.mode.PartialWriteMode.{PartialWriteMode}
 use Rattle.blob_model.specs.declared.mode.PartialWriteMode.TheVariants.{Prefix, Subset, Sectors}
 use Rattle.blob_tree.specs.Trees.{Leaf, Choice, IsLeaf}
-use Rattle.blob_states.specs.Scripted.{Left, scripted}
+use Rattle.blob_lab_model.specs.Scripted.{Left, scripted}
 use Rattle.blob_choices.specs.Decided.{HasU64Words, path_stream, zeros, IsDecided}
 use Rattle.blob_choices.proofs.Deciding.{decided_none, decided_then, decided_map, decided_if}
 

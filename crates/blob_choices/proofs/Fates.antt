@@ -7,9 +7,9 @@ use Rattle.blob_model.specs.Draws.{positions}
 use Rattle.blob_model.specs.Live.{is_idle}
 use Rattle.blob_model.specs.Rates.{Rate, sampled}
 use Rattle.blob_model.specs.declared.mode.PartialWriteMode.{PartialWriteMode}
-use Rattle.blob_faults.specs.declared.config.Config.{Config}
-use Rattle.blob_faults.specs.declared.config.ResizeConfig.{ResizeConfig}
-use Rattle.blob_faults.specs.Faults.{WriteFate, Idle, Uncounted, Done, Unsynced, Failed, ResizeFate, Resizes, Stays, draw, retention, failed, drawn_fate, write_fate, partly, resize_fate}
+use Rattle.blob_draws.specs.declared.config.Config.{Config}
+use Rattle.blob_draws.specs.declared.config.ResizeConfig.{ResizeConfig}
+use Rattle.blob_draws.specs.Faults.{WriteFate, Idle, Uncounted, Done, Unsynced, Failed, ResizeFate, Resizes, Stays, draw, retention, failed, drawn_fate, write_fate, partly, resize_fate}
 use Rattle.blob_choices.specs.Decided.{IsDecided}
 use Rattle.blob_choices.proofs.Deciding.{decided_none, decided_same, decided_then, decided_map, decided_if}
 use Rattle.blob_choices.proofs.Draws.{decided_sampled, decided_positions}

@@ -2,16 +2,16 @@
 use Rattle.std.proofs.Common.{◌≡◌, Bool, List, [], ◌∷◌, Option, Some, refl, sym, ap, ◌∙◌, subst, inl, inr}
 use Rattle.rand_core.specs.Stream.{Stream}
 use Rattle.blob_header.specs.Refusals.{Refusal}
-use Rattle.blob_calls.specs.declared.call.Call.{Call}
-use Rattle.blob_calls.specs.declared.reply.Reply.{Reply}
-use Rattle.blob_calls.specs.declared.reply.Reply.TheVariants as reply
-use Rattle.blob_calls.specs.Acts.{Act, act_of}
-use Rattle.blob_calls.specs.Told as told
-use Rattle.blob_calls.specs.Told.{Told, Tells, refused_by}
-use Rattle.blob_states.specs.After.{after}
-use Rattle.blob_states.specs.Runs.{LeadsTo}
-use Rattle.blob_states.specs.Scripted.{Left, scripted}
-use Rattle.blob_states.specs.States.{State}
+use Rattle.blob_script.specs.declared.call.Call.{Call}
+use Rattle.blob_script.specs.declared.reply.Reply.{Reply}
+use Rattle.blob_script.specs.declared.reply.Reply.TheVariants as reply
+use Rattle.blob_script.specs.Acts.{Act, act_of}
+use Rattle.blob_script.specs.Told as told
+use Rattle.blob_script.specs.Told.{Told, Tells, refused_by}
+use Rattle.blob_lab_model.specs.After.{after}
+use Rattle.blob_lab_model.specs.Runs.{LeadsTo}
+use Rattle.blob_lab_model.specs.Scripted.{Left, scripted}
+use Rattle.blob_lab_model.specs.States.{State}
 use Rattle.blob_tree.specs.Trees.{DecisionTree, IsLeaf}
 use Rattle.blob_choices.specs.Decided.{Decides, HasU64Words, path_stream}
 use Rattle.blob_choices.specs.Explored.{RepliesAre}

@@ -8,7 +8,7 @@ use Rattle.rand_core.specs.Stream.{Stream, next_u64}
 use Rattle.rand_core.specs.Steps.{stream_of}
 use Rattle.rand.specs.Uniform.{canon}
 use Rattle.rand.specs.Draw.{draw_map}
-use Rattle.blob_states.specs.Scripted.{Left, scripted}
+use Rattle.blob_lab_model.specs.Scripted.{Left, scripted}
 use Rattle.blob_choices.specs.Decided.{HasU64Words}
 use Rattle.blob_choices.specs.Sizes.{SizesHaveWords, size_word, size_words, sizes_between, takes_second}
 use Rattle.blob_choices.proofs.Draws.{next_fits, next_words}

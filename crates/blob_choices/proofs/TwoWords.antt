@@ -2,15 +2,15 @@
 use Rattle.std.proofs.Common.{ℕ, ◌≡◌, ◌++◌, List, [], ◌∷◌, Bool, Option, Some, None, refl, sym, ap, ◌∙◌, subst, inl, inr}
 use Rattle.rand_core.specs.Stream.{Stream}
 use Rattle.blob_header.specs.Refusals.{Refusal, BlobAlreadyOpen}
-use Rattle.blob_calls.specs.declared.call.Call.{Call}
-use Rattle.blob_calls.specs.declared.reply.Reply.{Reply}
-use Rattle.blob_calls.specs.Acts.{Act, Ask, Configure, Open, OpenLoose, Admit, Close, Through, Finish, Remove, Scan, Crash, Reopen, act_of}
-use Rattle.blob_calls.specs.Told.{Tells, refused_by}
-use Rattle.blob_states.specs.After.{after, asked}
-use Rattle.blob_states.specs.Answers.{answer, kept_at}
-use Rattle.blob_states.specs.Runs.{LeadsTo}
-use Rattle.blob_states.specs.Scripted.{Left, scripted}
-use Rattle.blob_states.specs.States.{State, Held}
+use Rattle.blob_script.specs.declared.call.Call.{Call}
+use Rattle.blob_script.specs.declared.reply.Reply.{Reply}
+use Rattle.blob_script.specs.Acts.{Act, Ask, Configure, Open, OpenLoose, Admit, Close, Through, Finish, Remove, Scan, Crash, Reopen, act_of}
+use Rattle.blob_script.specs.Told.{Tells, refused_by}
+use Rattle.blob_lab_model.specs.After.{after, asked}
+use Rattle.blob_lab_model.specs.Answers.{answer, kept_at}
+use Rattle.blob_lab_model.specs.Runs.{LeadsTo}
+use Rattle.blob_lab_model.specs.Scripted.{Left, scripted}
+use Rattle.blob_lab_model.specs.States.{State, Held}
 use Rattle.blob_tree.specs.Trees.{DecisionTree, IsLeaf, words_of}
 use Rattle.blob_choices.specs.Decided.{HasU64Words, Decides, IsDecided, path_stream, zeros}
 use Rattle.blob_choices.specs.Outcomes.{HasNoPartialResize, SetsNoPartialResize, SetNoPartialResize, NoneOutOfMemory, Outcome, acts_of, outcome, refusal_in, run_outcome, with_stream}

@@ -3,7 +3,7 @@ use Rattle.std.proofs.Common.{◌≡◌, ◌⊎◌, ℕ, zero, suc, List, [], �
 use Rattle.std.specs.Int.{w64, to_le_bytes}
 use Rattle.rand_core.specs.Stream.{Call, u32_call, u64_call, bytes_call}
 use Rattle.rand_core.specs.Steps.{Steps, stream_of, steps_u64_low, state_after, word_bytes}
-use Rattle.blob_states.specs.Scripted.{Left, scripted, next_of}
+use Rattle.blob_lab_model.specs.Scripted.{Left, scripted, next_of}
 
 -- the same words, except one zero at the end
 abbrev Same : Left → Left → Type 0

@@ -2,7 +2,7 @@
 use Rattle.std.specs.Prelude.{◌≡◌, ◌≤◌, ◌-◌, ◌^◌, Bool, List, [], ◌++◌, None}
 use Rattle.rand_core.specs.Stream.{Call, Stream}
 use Rattle.blob_tree.specs.Trees.{DecisionTree, IsLeaf, words_of}
-use Rattle.blob_states.specs.Scripted.{Left, scripted}
+use Rattle.blob_lab_model.specs.Scripted.{Left, scripted}
 
 -- each word of a stream fits in 64 bits
 pub record HasU64Words (s : Stream) : Type 0 where

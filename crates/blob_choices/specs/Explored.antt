@@ -1,13 +1,13 @@
 -- The leaves of a decision tree and the runs of some calls.
 use Rattle.std.specs.Prelude.{◌≡◌, ◌<◌, ◌≤◌, ◌+◌, ◌-◌, ◌^◌, ℕ, Bool, List, [], ◌∷◌, ◌++◌, replicate, length, slice_index_or, All, Option}
 use Rattle.rand_core.specs.Stream.{Stream}
-use Rattle.blob_calls.specs.declared.call.Call.{Call}
-use Rattle.blob_calls.specs.declared.reply.Reply.{Reply}
-use Rattle.blob_calls.specs.Told.{Told, Tells}
+use Rattle.blob_script.specs.declared.call.Call.{Call}
+use Rattle.blob_script.specs.declared.reply.Reply.{Reply}
+use Rattle.blob_script.specs.Told.{Told, Tells}
 use Rattle.blob_tree.specs.WordsLeft.{EndsAfter}
-use Rattle.blob_states.specs.Runs.{LeadsTo}
-use Rattle.blob_states.specs.Scripted.{Left, scripted}
-use Rattle.blob_states.specs.States.{State}
+use Rattle.blob_lab_model.specs.Runs.{LeadsTo}
+use Rattle.blob_lab_model.specs.Scripted.{Left, scripted}
+use Rattle.blob_lab_model.specs.States.{State}
 use Rattle.blob_tree.specs.Trees.{DecisionTree, IsLeaf, depth, extended, leaves, words_of}
 use Rattle.blob_choices.specs.Decided.{Decides, HasU64Words, path_stream, zeros}
 use Rattle.blob_choices.specs.Outcomes.{NoneOutOfMemory, acts_of, run_outcome, with_stream}

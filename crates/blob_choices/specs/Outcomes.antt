@@ -2,15 +2,15 @@
 use Rattle.std.specs.Prelude.{◌≡◌, ◌≢◌, List, [], ◌∷◌, Option, Some, None, IfSome}
 use Rattle.rand_core.specs.Stream.{Stream}
 use Rattle.blob_header.specs.Refusals.{Refusal, Memory}
-use Rattle.blob_faults.specs.declared.config.Config.{Config}
-use Rattle.blob_calls.specs.declared.call.Call.{Call}
-use Rattle.blob_calls.specs.declared.reply.Reply.{Reply}
-use Rattle.blob_calls.specs.Acts.{Act, Configure, act_of}
-use Rattle.blob_calls.specs.Told as told
-use Rattle.blob_calls.specs.Told.{Told, refused_by}
-use Rattle.blob_states.specs.After.{after}
-use Rattle.blob_states.specs.Answers.{answer}
-use Rattle.blob_states.specs.States.{State}
+use Rattle.blob_draws.specs.declared.config.Config.{Config}
+use Rattle.blob_script.specs.declared.call.Call.{Call}
+use Rattle.blob_script.specs.declared.reply.Reply.{Reply}
+use Rattle.blob_script.specs.Acts.{Act, Configure, act_of}
+use Rattle.blob_script.specs.Told as told
+use Rattle.blob_script.specs.Told.{Told, refused_by}
+use Rattle.blob_lab_model.specs.After.{after}
+use Rattle.blob_lab_model.specs.Answers.{answer}
+use Rattle.blob_lab_model.specs.States.{State}
 
 abbrev pub with_stream : State → Stream → State
 with_stream v s = record v { stream = s }

@@ -2,8 +2,8 @@
 use Rattle.std.specs.Prelude.{◌≡◌, ◌<◌, ◌≤◌, ◌+◌, ◌-◌, ◌*◌, ◌/◌, ◌%◌, ◌^◌, ℕ, Bool, nat_lt, if◌then◌else◌}
 use Rattle.std.specs.Prelude.{List, [], ◌∷◌, ◌++◌}
 use Rattle.rand_core.specs.Stream.{Stream}
-use Rattle.blob_faults.specs.Faults.{size_between}
-use Rattle.blob_states.specs.Scripted.{Left, scripted}
+use Rattle.blob_draws.specs.Faults.{size_between}
+use Rattle.blob_lab_model.specs.Scripted.{Left, scripted}
 use Rattle.blob_choices.specs.Decided.{HasU64Words}
 
 -- the number of sizes strictly between two others

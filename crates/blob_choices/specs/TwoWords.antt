@@ -1,11 +1,11 @@
 -- Two words suffice: 0 and the greatest word give every outcome of a run.
 use Rattle.std.specs.Prelude.{List, Bool}
-use Rattle.blob_calls.specs.declared.call.Call.{Call}
-use Rattle.blob_calls.specs.declared.reply.Reply.{Reply}
-use Rattle.blob_calls.specs.Acts.{Act}
-use Rattle.blob_states.specs.Runs.{LeadsTo}
-use Rattle.blob_states.specs.Scripted.{Left, scripted}
-use Rattle.blob_states.specs.States.{State}
+use Rattle.blob_script.specs.declared.call.Call.{Call}
+use Rattle.blob_script.specs.declared.reply.Reply.{Reply}
+use Rattle.blob_script.specs.Acts.{Act}
+use Rattle.blob_lab_model.specs.Runs.{LeadsTo}
+use Rattle.blob_lab_model.specs.Scripted.{Left, scripted}
+use Rattle.blob_lab_model.specs.States.{State}
 use Rattle.blob_choices.specs.Decided.{HasU64Words, IsDecided, path_stream}
 use Rattle.blob_choices.specs.Outcomes.{HasNoPartialResize, NoneOutOfMemory, SetNoPartialResize, acts_of, outcome, run_outcome, with_stream}
 

@@ -10,8 +10,8 @@ use Rattle.blob_model.specs.Draws.{Row}
 use Rattle.blob_model.specs.Files.{Files}
 use Rattle.blob_model.specs.Log.{Choices}
 use Rattle.blob_model.specs.Rates.{Rate}
-use Rattle.blob_faults.specs.Answers.{injected_or}
-use Rattle.blob_faults.specs.Faults.{draw}
+use Rattle.blob_draws.specs.Answers.{injected_or}
+use Rattle.blob_draws.specs.Faults.{draw}
 use Rattle.blob_memory.specs.Answers.{OrMemory}
 use Rattle.blob_model.specs.Pending.{Pending}
 use Rattle.blob_model.specs.Stands.{replayed_at}

@@ -13,7 +13,7 @@ use Rattle.blob_model.specs.Stands.{replayed_at}
 use Rattle.blob_model.specs.SamePlace.{same_self}
 use Rattle.blob_faulty.specs.Keeps.{OverMemory}
 use Rattle.blob_disk.specs.Outcomes.{MayLeave, Opened, KeepsOutcomes, LeavesDisk, IsTracked, IsCurrent, IsOpenable, IsWhole, outcomes}
-use Rattle.blob_faults.specs.declared.config.Config.{Config}
+use Rattle.blob_draws.specs.declared.config.Config.{Config}
 use Rattle.blob_faulty.specs.Certain.{IsNever, partial_resizes}
 use Rattle.blob_faulty.specs.Wrapper.{Stands, KeepsRecords, inner_of, config_of, pending_of, inside}
 use Rattle.blob_model.specs.Files.{Files, published}

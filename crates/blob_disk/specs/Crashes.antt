@@ -5,8 +5,8 @@ use Rattle.blob_header.specs.Refusals.{Refusal, Memory}
 use Rattle.blob_model.specs.Draws.{Row, drawn, chosen_by}
 use Rattle.blob_model.specs.Files.{Files, all_needs}
 use Rattle.blob_model.specs.Stands.{replayed_at}
-use Rattle.blob_faults.specs.Answers.{injected_or}
-use Rattle.blob_faults.specs.Faults.{draw}
+use Rattle.blob_draws.specs.Answers.{injected_or}
+use Rattle.blob_draws.specs.Faults.{draw}
 use Rattle.blob_faulty.specs.Keeps.{OverMemory, IsFor}
 use Rattle.blob_faulty.specs.Wrapper.{rng_of, config_of}
 use Rattle.blob_disk.specs.Outcomes.{Opened, durable_at, pending_at}

@@ -1,7 +1,7 @@
 -- What a crash of the machine may leave of a disk, and the rates of its faults.
 use Rattle.std.specs.Prelude.{ℕ, List}
 use Rattle.rand_core.specs.declared.Rng.{Ghosts}
-use Rattle.blob_faults.specs.declared.config.Config.{Config}
+use Rattle.blob_draws.specs.declared.config.Config.{Config}
 use Rattle.blob_faulty.specs.Wrapper.{config_of}
 use Rattle.blob_disk.specs.declared.BlobDisk.{BlobDisk}
 use Rattle.blob_disk.specs.Outcomes.{IsDrawn}

@@ -2,12 +2,12 @@
 use Rattle.std.proofs.Common.{◌≡◌, ℕ, Bool, true, false, cond, List, [], ◌∷◌, ◌++◌, Option, Some, None, refl, sym, ap, ◌∙◌, rules, if◌then◌else◌, inl, inr, ⊎_elim}
 use Rattle.std.specs.Prelude.{◌==◌, ◌⊎◌, option_and_then}
 use Rattle.std.specs.List.{onto_first, slice_split}
-use Rattle.blob_calls.specs.declared.call.Call.{Call}
-use Rattle.blob_calls.specs.Acts.{Act, act_of}
+use Rattle.blob_script.specs.declared.call.Call.{Call}
+use Rattle.blob_script.specs.Acts.{Act, act_of}
 use Rattle.std.proofs.lemmas.Str.{is_utf8-from_IsUtf8}
 use Rattle.std.specs.Str.{is_utf8}
-use Rattle.blob_calls.specs.Lines.{said_of}
-use Rattle.blob_calls.specs.Tokens.{tokens}
+use Rattle.blob_script.specs.Lines.{said_of}
+use Rattle.blob_script.specs.Tokens.{tokens}
 use Rattle.blob_choices.specs.Outcomes.{acts_of}
 use Rattle.blob_lab.specs.Scripts as lab
 use Rattle.blob_lab.specs.Scripts.{lines_of, with_line, with_lines, with_said}

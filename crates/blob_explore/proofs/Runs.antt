@@ -4,10 +4,10 @@ use Rattle.std.specs.Prelude.{Vec, String}
 use Rattle.std.specs.Global.{Global}
 use Rattle.std.proofs.lemmas.List.{length-map, map-append, take_all}
 use Rattle.blob_header.specs.Refusals.{Memory}
-use Rattle.blob_calls.specs.declared.reply.Reply.{Reply}
-use Rattle.blob_calls.specs.Told.{refused_by}
-use Rattle.blob_laboratory.specs.Tables.{images_of}
-use Rattle.blob_states.specs.States.{Image}
+use Rattle.blob_script.specs.declared.reply.Reply.{Reply}
+use Rattle.blob_script.specs.Told.{refused_by}
+use Rattle.blob_lab_store.specs.Tables.{images_of}
+use Rattle.blob_lab_model.specs.States.{Image}
 use Rattle.blob_tree.specs.Trees.{DecisionTree, depth, extended, outcome_word, words_of}
 use Rattle.blob_choices.specs.Decided.{Decides}
 use Rattle.blob_choices.specs.Explored.{LeftCountsTaken, RunsAlong, sentinel_words}

@@ -1,14 +1,14 @@
 -- An exploration of a script, and the leaves that it visits.
 use Rattle.std.specs.Prelude.{◌≡◌, ℕ, Bool, List, [], ◌∷◌, if◌then◌else◌, Option, Some, None, IfSome, Vec, String, string_bytes}
 use Rattle.std.specs.Global.{Global}
-use Rattle.blob_calls.specs.declared.call.Call.{Call}
-use Rattle.blob_calls.specs.declared.reply.Reply.{Reply}
-use Rattle.blob_calls.specs.Settings.{cleared}
-use Rattle.blob_laboratory.specs.Tables.{images_of}
+use Rattle.blob_script.specs.declared.call.Call.{Call}
+use Rattle.blob_script.specs.declared.reply.Reply.{Reply}
+use Rattle.blob_script.specs.Settings.{cleared}
+use Rattle.blob_lab_store.specs.Tables.{images_of}
 use Rattle.blob_tree.specs.WordsLeft.{EndsAfter}
-use Rattle.blob_states.specs.Runs.{LeadsTo}
-use Rattle.blob_states.specs.Scripted.{only}
-use Rattle.blob_states.specs.States.{Image, State, start}
+use Rattle.blob_lab_model.specs.Runs.{LeadsTo}
+use Rattle.blob_lab_model.specs.Scripted.{only}
+use Rattle.blob_lab_model.specs.States.{Image, State, start}
 use Rattle.blob_tree.specs.Trees.{DecisionTree, depth, extended, left_after, words_of}
 use Rattle.blob_choices.specs.Decided.{Decides}
 use Rattle.blob_choices.specs.Explored.{RunsAlong}

@@ -1,8 +1,8 @@
 -- What an exploration has found.
 use Rattle.std.specs.Prelude.{◌≡◌, ◌≤◌, ◌-◌, ℕ, Bool, true, false, List, ◌∷◌, [], ◌++◌, length, map, take, drop, if◌then◌else◌}
 use Rattle.std.specs.List.{AllByRecursion, flat_map}
-use Rattle.blob_calls.specs.declared.reply.Reply.{Reply}
-use Rattle.blob_calls.specs.Replies.{reply_line}
+use Rattle.blob_script.specs.declared.reply.Reply.{Reply}
+use Rattle.blob_script.specs.Replies.{reply_line}
 use Rattle.blob_tree.specs.Trees.{DecisionTree, leaves, words_of}
 use Rattle.blob_choices.specs.Decided.{Decides}
 use Rattle.blob_choices.specs.Explored.{HoldEveryRun, RunsAlong}

@@ -1,16 +1,16 @@
 -- The script that a text is.
 use Rattle.std.specs.Prelude.{◌≡◌, ℕ, List, [], Some, Vec, String, string_bytes}
 use Rattle.std.specs.Global.{Global}
-use Rattle.blob_faults.specs.declared.config.Config.{Config}
-use Rattle.blob_calls.specs.declared.call.Call.{Call}
-use Rattle.blob_calls.specs.Acts.{act_of}
-use Rattle.blob_calls.specs.Lines as says
-use Rattle.blob_calls.specs.Lines.{Said}
-use Rattle.blob_calls.specs.declared.script.setting.Setting.{Setting}
+use Rattle.blob_draws.specs.declared.config.Config.{Config}
+use Rattle.blob_script.specs.declared.call.Call.{Call}
+use Rattle.blob_script.specs.Acts.{act_of}
+use Rattle.blob_script.specs.Lines as says
+use Rattle.blob_script.specs.Lines.{Said}
+use Rattle.blob_script.specs.declared.script.setting.Setting.{Setting}
 use Rattle.blob_lab.specs.Scripts as lab
 use Rattle.blob_lab.specs.Scripts.{lines_of, script_of, with_line, with_said}
-use Rattle.blob_laboratory.specs.Tables.{images_of}
-use Rattle.blob_states.specs.Scripted.{only}
+use Rattle.blob_lab_store.specs.Tables.{images_of}
+use Rattle.blob_lab_model.specs.Scripted.{only}
 use Rattle.blob_choices.specs.Outcomes.{acts_of}
 use Rattle.blob_explore.specs.Explorations.{Images}
 use Rattle.blob_explore.specs.declared.script.Reading.{Reading}

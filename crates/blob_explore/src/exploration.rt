@@ -7,7 +7,7 @@ ghost use Rattle.blob_explore.specs.Explorations.{VisitsNext, explored_script, l
 use crate::run::visit;
 use crate::script::Script;
 use blob_base::Error;
-use blob_calls::Reply;
+use blob_script::Reply;
 use blob_tree::Explorer;
 use std::alloc::Global;
 

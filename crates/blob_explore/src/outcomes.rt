@@ -6,9 +6,9 @@ use crate::exploration::Exploration;
 use crate::script::Script;
 use crate::tally::{Outcome, tally};
 use blob_base::Error;
-use blob_calls::Reply;
-use blob_calls::script::print_reply;
 use blob_choices::laws::{every_run, outcomes};
+use blob_script::Reply;
+use blob_script::script::print_reply;
 use indexmap::IndexMap;
 use std::alloc::Global;
 

@@ -2,18 +2,18 @@
 ghost use Rattle.std.specs.Prelude.{◌≡◌, ◌≢◌, ◌-◌, ◌^◌, ◌++◌, ◌∷◌, [], Some, IfOk, IfSome};
 ghost use Rattle.std.specs.Bool.{OnTrue, OnFalse};
 ghost use Rattle.blob_header.specs.Refusals.{Memory};
-ghost use Rattle.blob_calls.specs.Told.{refused_by};
-ghost use Rattle.blob_laboratory.specs.Tables.{images_of};
+ghost use Rattle.blob_script.specs.Told.{refused_by};
+ghost use Rattle.blob_lab_store.specs.Tables.{images_of};
 ghost use Rattle.blob_choices.specs.Outcomes.{NoneOutOfMemory};
 ghost use Rattle.blob_explore.specs.Explorations.{Ran, TakesPath, image_of};
 
 use crate::exploration::Leaf;
 use crate::script::Script;
 use blob_base::Error;
-use blob_calls::{Call, Reply};
 use blob_choices::laws::taken_words;
 use blob_faulty::Config;
-use blob_laboratory::Lab;
+use blob_lab_store::Lab;
+use blob_script::{Call, Reply};
 use blob_tree::Explorer;
 use std::alloc::{AllocError, Global};
 

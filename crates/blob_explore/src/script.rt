@@ -1,17 +1,17 @@
 //! A script to be explored: what lies in the store, and the calls.
 ghost use Rattle.std.specs.Prelude.{◌≡◌, [], Some, IfOk, OnOk};
 ghost use Rattle.std.specs.Bool.{OnFalse};
-ghost use Rattle.blob_calls.specs.Acts.{act_of};
-ghost use Rattle.blob_calls.specs.Lines.{said_by};
-ghost use Rattle.blob_calls.specs.Settings.{cleared};
+ghost use Rattle.blob_script.specs.Acts.{act_of};
+ghost use Rattle.blob_script.specs.Lines.{said_by};
+ghost use Rattle.blob_script.specs.Settings.{cleared};
 ghost use Rattle.blob_choices.specs.Outcomes.{HasNoPartialResize, SetNoPartialResize, SetsNoPartialResize, acts_of};
 ghost use Rattle.blob_explore.specs.Explorations.{AddsNoPartialResize};
 ghost use Rattle.blob_explore.specs.ScriptTexts.{AddsCall, AddsImage, AddsLine, AddsSaid, AddsSetting, IsScriptOf};
 
-use blob_calls::Call;
-use blob_calls::script::setting::copy_of;
-use blob_calls::script::{Line, RefusedLine, Setting, read_line};
 use blob_faulty::Config;
+use blob_script::Call;
+use blob_script::script::setting::copy_of;
+use blob_script::script::{Line, RefusedLine, Setting, read_line};
 use std::alloc::{AllocError, Global};
 use std::fmt;
 

@@ -15,8 +15,8 @@ use Rattle.blob_model.specs.Stands.{StandsFor}
 use Rattle.blob_model.proofs.Bytes.{same_bytes, length-overlay_by, at_other}
 use Rattle.blob_model.proofs.FileSteps.{stands_same}
 use Rattle.blob_faulty.specs.declared.storage.Storage.{Storage}
-use Rattle.blob_faults.specs.Changes.{loose}
-use Rattle.blob_faults.specs.Recorded.{kept}
+use Rattle.blob_draws.specs.Changes.{loose}
+use Rattle.blob_draws.specs.Recorded.{kept}
 use Rattle.blob_faulty.specs.Wrapper.{pending_of, KeepsRecords, Stands}
 
 -- StandsFor at other numbers

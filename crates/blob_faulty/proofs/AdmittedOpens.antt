@@ -15,7 +15,7 @@ use Rattle.blob_model.specs.Places.{Place, same_place}
 use Rattle.blob_model.specs.Stands.{retired}
 use Rattle.blob_model.proofs.NameSteps.{read_by_open}
 use Rattle.blob_model.proofs.Opened.{current_opened, named_opened, goes_on}
-use Rattle.blob_faults.specs.Faults.{draw}
+use Rattle.blob_draws.specs.Faults.{draw}
 use Rattle.blob_faulty.specs.Admitted.{Admits, AdmittedOpenLeaves, FindsKept, OpensAdmitted, OpensAlone}
 use Rattle.blob_faulty.specs.declared.blob.Blob.{Blob}
 use Rattle.blob_faulty.specs.Keeps.{OverMemory, IsFor, Keeps}

@@ -5,11 +5,11 @@ use Rattle.rand_core.specs.Stream.{Stream}
 use Rattle.blob_model.specs.Live.{is_idle}
 use Rattle.blob_header.specs.Refusals.{Refusal, OffsetOverflow}
 use Rattle.blob_model.specs.Runs.{Run, runs}
-use Rattle.blob_faults.specs.declared.config.Config.{Config}
-use Rattle.blob_faults.specs.Changes.{lacks_number}
-use Rattle.blob_faults.specs.Answers.{Allowed, injected_for, or_memory, numbered, last_end, allows_laid, allows_runs, allows_fate, allows_write}
-use Rattle.blob_faults.specs.Fates.{has_uncounted_end}
-use Rattle.blob_faults.specs.Faults.{WriteFate, Done, Unsynced, Failed, drawn_fate, retention}
+use Rattle.blob_draws.specs.declared.config.Config.{Config}
+use Rattle.blob_draws.specs.Changes.{lacks_number}
+use Rattle.blob_draws.specs.Answers.{Allowed, injected_for, or_memory, numbered, last_end, allows_laid, allows_runs, allows_fate, allows_write}
+use Rattle.blob_draws.specs.Fates.{has_uncounted_end}
+use Rattle.blob_draws.specs.Faults.{WriteFate, Done, Unsynced, Failed, drawn_fate, retention}
 
 more_injected : (less more : Allowed) → ((a : Option Refusal) → less a → more a) → (a : Option Refusal) → injected_for less a → injected_for more a
 more_injected less more grow a (inl h) = inl (h.0, grow None h.1)

@@ -6,7 +6,7 @@ use Rattle.std.proofs.lemmas.List.{length-map, length-reverse}
 use Rattle.blob_base.specs.HandleCalls.{HandleCall, Reserve}
 use Rattle.blob_header.specs.Refusals.{Refusal, Injected}
 use Rattle.blob_model.specs.Runs.{Run}
-use Rattle.blob_faults.specs.Answers.{Allowed, injected_for, last_end}
+use Rattle.blob_draws.specs.Answers.{Allowed, injected_for, last_end}
 use Rattle.blob_faulty.specs.declared.write_runs.Piece.{Piece}
 use Rattle.blob_base.specs.declared.storage.Blob as handles
 use Rattle.blob_faulty.specs.declared.blob.Blob.{Blob}

@@ -9,14 +9,14 @@ use Rattle.blob_model.specs.declared.mode.PartialWriteMode.{PartialWriteMode}
 use Rattle.blob_model.specs.Rates.{Rate, sampled}
 use Rattle.blob_header.specs.Refusals.{Refusal, OffsetOverflow, Injected}
 use Rattle.blob_model.specs.Runs.{runs}
-use Rattle.blob_faults.specs.declared.config.Config.{Config}
-use Rattle.blob_faults.specs.declared.config.ResizeConfig.{ResizeConfig}
+use Rattle.blob_draws.specs.declared.config.Config.{Config}
+use Rattle.blob_draws.specs.declared.config.ResizeConfig.{ResizeConfig}
 use Rattle.blob_faulty.specs.AnswerLaws.{injected_none, numbered_none, memory_none, uncounted_none}
-use Rattle.blob_faults.specs.Changes.{lacks_number}
-use Rattle.blob_faults.specs.Answers.{Allowed, injected_or, injected_for, or_memory, numbered, allows_runs, allows_done, allows_fate, allows_write, allows_resize, allows_start}
+use Rattle.blob_draws.specs.Changes.{lacks_number}
+use Rattle.blob_draws.specs.Answers.{Allowed, injected_or, injected_for, or_memory, numbered, allows_runs, allows_done, allows_fate, allows_write, allows_resize, allows_start}
 use Rattle.blob_faulty.specs.Certain.{IsNever, IsAlways, resize_failure}
-use Rattle.blob_faults.specs.Fates.{write_failure, has_uncounted_end}
-use Rattle.blob_faults.specs.Faults.{draw, retention, WriteFate, Done, Unsynced, Failed, failed, drawn_fate, ResizeFate, Resizes, Stays, Reaches, partly, resize_fate, size_between}
+use Rattle.blob_draws.specs.Fates.{write_failure, has_uncounted_end}
+use Rattle.blob_draws.specs.Faults.{draw, retention, WriteFate, Done, Unsynced, Failed, failed, drawn_fate, ResizeFate, Resizes, Stays, Reaches, partly, resize_fate, size_between}
 
 -- The draws.
 

@@ -12,13 +12,13 @@ use Rattle.blob_model.specs.Pending.{Pending}
 use Rattle.blob_model.specs.Places.{Place}
 use Rattle.blob_model.specs.Stands.{StandsFor, replayed_at}
 use Rattle.blob_model.proofs.CrashSteps.{stands_crash}
-use Rattle.blob_faults.specs.declared.draw.Draw.{Draw}
+use Rattle.blob_draws.specs.declared.draw.Draw.{Draw}
 use Rattle.blob_faulty.specs.declared.storage.Storage.{Storage}
-use Rattle.blob_faults.specs.Drawings.{Drawing, drawings_of, drawings_in, rows_drawn}
-use Rattle.blob_faults.specs.Lists.{held}
+use Rattle.blob_draws.specs.Drawings.{Drawing, drawings_of, drawings_in, rows_drawn}
+use Rattle.blob_pending.specs.Lists.{held}
 use Rattle.blob_faulty.specs.Wrapper.{pending_of, next_write_of, next_marker_of, Stands}
-use Rattle.blob_faults.proofs.Distinct.{apart_of}
-use Rattle.blob_faults.proofs.Rowing.{gathered_needs, rows_same}
+use Rattle.blob_pending.proofs.Distinct.{apart_of}
+use Rattle.blob_draws.proofs.Rowing.{gathered_needs, rows_same}
 
 -- the rows and the stream, where they are those of what was gathered
 pub crash_rows : {S R O : Type 0} (place : O → Place) (names : Directory) (bytes : Durable) (old : Storage S R O) (ds : List Draw) (s : Stream) (drawn_rows : List Row × Stream) → ((a b : O) → place a ≡ place b → a ≡ b) →

@@ -7,10 +7,10 @@ use Rattle.blob_model.specs.Directory.{Directory, is_current}
 use Rattle.blob_model.specs.Places.{Place}
 use Rattle.blob_header.specs.Refusals.{Refusal, BlobMissing, OffsetOverflow}
 use Rattle.blob_model.specs.Runs.{Run, runs}
-use Rattle.blob_faults.specs.declared.config.Config.{Config}
-use Rattle.blob_faults.specs.Answers.{Allowed, or_memory, injected_for, numbered, one_then, allows_laid, allows_runs, allows_fate, allows_write}
-use Rattle.blob_faults.specs.Fates.{has_uncounted_end}
-use Rattle.blob_faults.specs.Faults.{WriteFate, Done, Unsynced, Failed, drawn_fate}
+use Rattle.blob_draws.specs.declared.config.Config.{Config}
+use Rattle.blob_draws.specs.Answers.{Allowed, or_memory, injected_for, numbered, one_then, allows_laid, allows_runs, allows_fate, allows_write}
+use Rattle.blob_draws.specs.Fates.{has_uncounted_end}
+use Rattle.blob_draws.specs.Faults.{WriteFate, Done, Unsynced, Failed, drawn_fate}
 use Rattle.blob_memory.specs.Answers as memory
 use Rattle.blob_memory.specs.Answers.{AllowsWrite, OrMemory, write_refusal, end_refusal, missing}
 

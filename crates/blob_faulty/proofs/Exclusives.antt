@@ -8,8 +8,8 @@ use Rattle.blob_model.specs.Opening.{IsOpened}
 use Rattle.blob_model.specs.Places.{Place}
 use Rattle.blob_opens.specs.OpenNames.{OpenNames, OpenAnswer, Accepted, Held, Declined, NoMemory, NoNumber}
 use Rattle.blob_opens.specs.Opens.{IsMade}
-use Rattle.blob_faults.specs.Answers.{injected_or}
-use Rattle.blob_faults.specs.Faults.{draw}
+use Rattle.blob_draws.specs.Answers.{injected_or}
+use Rattle.blob_draws.specs.Faults.{draw}
 use Rattle.blob_faulty.specs.Admitted.{AdmittedOpenLeaves, OpensAdmitted, OpensAlone, StaysSame}
 use Rattle.blob_faulty.specs.Exclusive.{ExclusiveAnswer}
 use Rattle.blob_faulty.specs.Keeps.{OverMemory, Keeps, LosesNothing}

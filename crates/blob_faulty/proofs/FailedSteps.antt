@@ -3,7 +3,7 @@ use Rattle.std.proofs.Common.{◌≡◌, ℕ, zero, suc, ◌+◌, ◌≤◌, Boo
 use Rattle.std.proofs.lemmas.List.{reverse-append, map-append}
 use Rattle.blob_model.specs.Runs.{Run, runs, AreRunsApart}
 use Rattle.blob_faulty.specs.declared.write_runs.Piece.{Piece}
-use Rattle.blob_faults.specs.Answers.{last_end}
+use Rattle.blob_draws.specs.Answers.{last_end}
 use Rattle.blob_faulty.specs.Pieces.{run_of, runs_in, EndsWithin}
 
 last_behind : (before : ℕ) (rs : List Run) (r : Run) → last_end before (rs ++ r ∷ []) ≡ r.0 + length r.1

@@ -5,8 +5,8 @@ use Rattle.blob_header.specs.Refusals.{Refusal, Injected, WriteFailed, refused}
 use Rattle.blob_header.specs.declared.error.Error.{Error}
 use Rattle.blob_model.specs.Log.{Entry}
 use Rattle.blob_model.specs.Runs.{Run, runs}
-use Rattle.blob_faults.specs.Answers.{Allowed, or_memory, allows_laid, allows_runs, last_end, numbered, injected_for}
-use Rattle.blob_faults.specs.Faults.{WriteFate, Done, Unsynced, Failed, retention}
+use Rattle.blob_draws.specs.Answers.{Allowed, or_memory, allows_laid, allows_runs, last_end, numbered, injected_for}
+use Rattle.blob_draws.specs.Faults.{WriteFate, Done, Unsynced, Failed, retention}
 use Rattle.blob_faulty.specs.Writes.{View, Logs, Recorded, WroteBy, plain, laid_runs}
 use Rattle.blob_faulty.proofs.Fating.{done_plainly, of_synced}
 use Rattle.blob_faulty.proofs.Writing.{same_logs}

@@ -8,12 +8,12 @@ use Rattle.blob_model.specs.declared.mode.PartialWriteMode.{PartialWriteMode}
 use Rattle.blob_model.specs.Rates.{Rate}
 use Rattle.blob_header.specs.Refusals.{Refusal, OffsetOverflow, BlobMissing, Injected, Memory}
 use Rattle.blob_model.specs.Runs.{Run, runs}
-use Rattle.blob_faults.specs.declared.config.Config.{Config}
-use Rattle.blob_faults.specs.Answers.{Allowed, or_memory, numbered, allows_laid, allows_runs, last_end}
-use Rattle.blob_faults.specs.Fates.{has_uncounted_end}
-use Rattle.blob_faults.specs.Faults.{WriteFate, Done, Unsynced, Failed, drawn_fate, write_fate, retention}
+use Rattle.blob_draws.specs.declared.config.Config.{Config}
+use Rattle.blob_draws.specs.Answers.{Allowed, or_memory, numbered, allows_laid, allows_runs, last_end}
+use Rattle.blob_draws.specs.Fates.{has_uncounted_end}
+use Rattle.blob_draws.specs.Faults.{WriteFate, Done, Unsynced, Failed, drawn_fate, write_fate, retention}
 use Rattle.blob_faulty.specs.Pieces.{first_after}
-use Rattle.blob_faults.specs.Changes.{write_changes}
+use Rattle.blob_draws.specs.Changes.{write_changes}
 use Rattle.blob_faulty.specs.Writes.{View, Effect, Logs, Recorded, WroteBy, plain, laid_runs, live_of_runs}
 use Rattle.blob_faulty.proofs.Adding.{nothing_not}
 use Rattle.blob_faulty.proofs.Writing.{same_logs}

@@ -11,8 +11,8 @@ use Rattle.blob_model.specs.Pending.{Pending, laid}
 use Rattle.blob_model.specs.Places.{Place, same_place}
 use Rattle.blob_model.specs.Runs.{Run, all_behind}
 use Rattle.blob_model.specs.SamePlace.{same_at, same_self}
-use Rattle.blob_faults.specs.Changes.{size_of_runs}
-use Rattle.blob_faults.specs.Answers.{last_end, or_memory}
+use Rattle.blob_draws.specs.Changes.{size_of_runs}
+use Rattle.blob_draws.specs.Answers.{last_end, or_memory}
 use Rattle.blob_faulty.specs.declared.blob.Blob.{Blob}
 use Rattle.blob_faulty.specs.declared.storage.Storage.{Storage}
 use Rattle.blob_faulty.specs.Asked.{Asks, Made, Then, RefusedBehind, run_calls}

@@ -22,7 +22,7 @@ use Rattle.blob_model.proofs.Persistence.{fixed_all, fixed_by_write, fixed_by_op
 use Rattle.blob_faulty.specs.declared.storage.Storage.{Storage}
 use Rattle.blob_faulty.specs.Keeps.{KeepsBytes}
 use Rattle.blob_faulty.specs.Names.{Steps}
-use Rattle.blob_faults.specs.Recorded.{kept}
+use Rattle.blob_draws.specs.Recorded.{kept}
 use Rattle.blob_faulty.specs.Wrapper.{Adds, Stands, inner_of}
 
 -- another name's incarnation

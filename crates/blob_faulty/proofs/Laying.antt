@@ -12,14 +12,14 @@ use Rattle.blob_header.specs.Refusals.{Refusal, BlobMissing, Injected}
 use Rattle.blob_model.specs.Runs.{Run, runs, kept_runs, all_laid, picked}
 use Rattle.blob_model.proofs.Bytes.{length-overlay_by, length-resized, reach_all, at_other, at_chosen, at_resized, past_resized, same_bytes, none_chosen, picks}
 use Rattle.blob_model.proofs.Runs.{AreSome, laid_runs, runs_some}
-use Rattle.blob_faults.specs.declared.config.Config.{Config}
-use Rattle.blob_faults.specs.declared.config.ResizeConfig.{ResizeConfig}
+use Rattle.blob_draws.specs.declared.config.Config.{Config}
+use Rattle.blob_draws.specs.declared.config.ResizeConfig.{ResizeConfig}
 use Rattle.blob_faulty.specs.Certain.{IsNever, partial_resizes}
-use Rattle.blob_faults.specs.Faults.{WriteFate, Done, Unsynced, Failed, ResizeFate, Resizes, Stays, Reaches, write_fate, resize_fate, partly, size_between, retention}
+use Rattle.blob_draws.specs.Faults.{WriteFate, Done, Unsynced, Failed, ResizeFate, Resizes, Stays, Reaches, write_fate, resize_fate, partly, size_between, retention}
 use Rattle.blob_faulty.specs.Outcomes.{LaysSome, WritesSome}
-use Rattle.blob_faults.specs.Changes.{loose, write_changes}
-use Rattle.blob_faults.specs.Recorded.{recorded_write, recorded_resize, live_of_write, live_of_resize}
-use Rattle.blob_faults.proofs.Sizes.{length-written}
+use Rattle.blob_draws.specs.Changes.{loose, write_changes}
+use Rattle.blob_draws.specs.Recorded.{recorded_write, recorded_resize, live_of_write, live_of_resize}
+use Rattle.blob_draws.proofs.Sizes.{length-written}
 use Rattle.blob_faulty.proofs.CertainAnswers.{never_drawn}
 
 -- What a crash lays of a recorded write.

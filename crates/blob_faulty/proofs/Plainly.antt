@@ -16,11 +16,11 @@ use Rattle.blob_model.specs.Rates.{Rate}
 use Rattle.blob_model.specs.Pending.{Waiting}
 use Rattle.blob_model.specs.Places.{Place}
 use Rattle.blob_model.specs.Runs.{Run}
-use Rattle.blob_faults.specs.declared.config.WriteConfig.{WriteConfig}
-use Rattle.blob_faults.specs.Changes.{lacks_number, loose}
-use Rattle.blob_faults.specs.Answers.{Allowed, numbered, or_memory}
-use Rattle.blob_faults.specs.Faults.{issued, retention}
-use Rattle.blob_faults.specs.Lists.{IsAt, SameLists, held, list_of}
+use Rattle.blob_draws.specs.declared.config.WriteConfig.{WriteConfig}
+use Rattle.blob_draws.specs.Changes.{lacks_number, loose}
+use Rattle.blob_draws.specs.Answers.{Allowed, numbered, or_memory}
+use Rattle.blob_draws.specs.Faults.{issued, retention}
+use Rattle.blob_pending.specs.Lists.{IsAt, SameLists, held, list_of}
 use Rattle.blob_faulty.specs.declared.blob.Blob.{Blob}
 use Rattle.blob_faulty.specs.declared.storage.Storage.{Storage}
 use Rattle.blob_faulty.specs.Allowed.{MayWritePlain}

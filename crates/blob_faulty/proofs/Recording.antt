@@ -8,12 +8,12 @@ use Rattle.blob_model.specs.declared.mode.PartialWriteMode.{PartialWriteMode}
 use Rattle.blob_model.specs.Rates.{Rate}
 use Rattle.blob_header.specs.Refusals.{OffsetOverflow}
 use Rattle.blob_model.specs.Runs.{runs}
-use Rattle.blob_faults.specs.declared.config.Config.{Config}
-use Rattle.blob_faults.specs.Changes.{lacks_number, write_changes}
-use Rattle.blob_faults.specs.Answers.{Allowed, allows_write, allows_fate, allows_runs, or_memory, numbered, injected_for}
-use Rattle.blob_faults.specs.Fates.{has_uncounted_end}
-use Rattle.blob_faults.specs.Faults.{WriteFate, Uncounted, Done, Unsynced, Failed, drawn_fate, retention}
-use Rattle.blob_faults.specs.Recorded.{kept, recorded_write}
+use Rattle.blob_draws.specs.declared.config.Config.{Config}
+use Rattle.blob_draws.specs.Changes.{lacks_number, write_changes}
+use Rattle.blob_draws.specs.Answers.{Allowed, allows_write, allows_fate, allows_runs, or_memory, numbered, injected_for}
+use Rattle.blob_draws.specs.Fates.{has_uncounted_end}
+use Rattle.blob_draws.specs.Faults.{WriteFate, Uncounted, Done, Unsynced, Failed, drawn_fate, retention}
+use Rattle.blob_draws.specs.Recorded.{kept, recorded_write}
 
 -- an Ok is no fault in place of one
 no_fault : (inner : Allowed) → injected_for inner None → ⊥

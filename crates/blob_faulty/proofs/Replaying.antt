@@ -18,12 +18,12 @@ use Rattle.blob_model.proofs.Agrees.{overlay_same}
 use Rattle.blob_model.proofs.Bytes.{lies_in, reach_below}
 use Rattle.blob_memory.specs.declared.storage.Storage.{Storage}
 use Rattle.blob_memory.specs.Store.{directory, HasCrashRoom}
-use Rattle.blob_faults.specs.declared.entry.Entry.{Entry}
-use Rattle.blob_faults.specs.declared.incarnation.Incarnation.{Incarnation}
-use Rattle.blob_faults.specs.Lists.{held, held_by}
-use Rattle.blob_faults.specs.Replays.{width, widest, widest_of_all, unmarked}
+use Rattle.blob_pending.specs.declared.entry.Entry.{Entry}
+use Rattle.blob_pending.specs.declared.incarnation.Incarnation.{Incarnation}
+use Rattle.blob_pending.specs.Lists.{held, held_by}
+use Rattle.blob_pending.specs.Replays.{width, widest, widest_of_all, unmarked}
 use Rattle.blob_faulty.specs.Ready.{IsReady}
-use Rattle.blob_faults.specs.Views.{view, is_left, left_in}
+use Rattle.blob_pending.specs.Views.{view, is_left, left_in}
 
 -- what a call ensures where it answered Ok
 pub ok_is : {T E P : Type 0} (r : Result T E) (x : T) → r ≡ Ok x → OnOk r P → P

@@ -7,9 +7,9 @@ use Rattle.blob_base.specs.declared.storage.Durable as stores
 use Rattle.blob_header.specs.Refusals.{Refusal, Injected, refused}
 use Rattle.blob_header.specs.declared.error.Error.{Error}
 use Rattle.blob_model.specs.Log.{Entry, Resized}
-use Rattle.blob_faults.specs.Answers.{Allowed, or_memory}
-use Rattle.blob_faults.specs.Faults.{ResizeFate, Resizes, Stays, Reaches}
-use Rattle.blob_faults.specs.Recorded.{live_of_resize, recorded_resize, size_of_resize}
+use Rattle.blob_draws.specs.Answers.{Allowed, or_memory}
+use Rattle.blob_draws.specs.Faults.{ResizeFate, Resizes, Stays, Reaches}
+use Rattle.blob_draws.specs.Recorded.{live_of_resize, recorded_resize, size_of_resize}
 use Rattle.blob_faulty.specs.declared.blob.Blob.{Blob}
 use Rattle.blob_faulty.specs.declared.storage.Storage.{Storage}
 use Rattle.blob_faulty.specs.Asked.{AsksResize}

@@ -3,9 +3,9 @@ use Rattle.std.proofs.Common.{◌≡◌, ◌++◌, ◌∷◌, [], ℕ, refl, sym
 use Rattle.blob_model.specs.Durable.{with_at}
 use Rattle.blob_model.specs.Pending.{Pending}
 use Rattle.blob_model.specs.Places.{Place}
-use Rattle.blob_faults.specs.declared.lists.Lists.{Lists}
+use Rattle.blob_pending.specs.declared.lists.Lists.{Lists}
 use Rattle.blob_faulty.specs.declared.storage.Storage.{Storage}
-use Rattle.blob_faults.specs.Lists.{held, list_of, IsAt}
+use Rattle.blob_pending.specs.Lists.{held, list_of, IsAt}
 use Rattle.blob_faulty.specs.Wrapper.{pending_of}
 use Rattle.blob_faulty.proofs.Pushing.{after_room}
 

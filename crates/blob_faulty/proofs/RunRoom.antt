@@ -4,10 +4,10 @@ use Rattle.std.proofs.lemmas.List.{length-map, length-reverse}
 use Rattle.blob_model.specs.Holes.{AreApart}
 use Rattle.blob_model.specs.Runs.{Run, AreRunsApart}
 use Rattle.blob_faulty.specs.declared.write_runs.Piece.{Piece}
-use Rattle.blob_faults.specs.Answers.{last_end}
+use Rattle.blob_draws.specs.Answers.{last_end}
 use Rattle.blob_faulty.specs.Pieces.{run_of, runs_in, extents, first_start, EndsWithin}
 use Rattle.blob_faulty.proofs.FailedSteps.{end_by_last}
-use Rattle.blob_faults.specs.Rooms.{AreWithin}
+use Rattle.blob_pending.specs.Rooms.{AreWithin}
 
 -- runs that are apart
 apart_within : (from end : ℕ) (rs : List Run) → AreRunsApart from rs → All (EndsWithin end) rs → AreApart from (extents rs) end

@@ -7,12 +7,12 @@ use Rattle.blob_base.specs.declared.storage.Blob as handles
 use Rattle.blob_base.specs.declared.storage.Durable as stores
 use Rattle.blob_header.specs.Refusals.{Refusal, Memory, Injected, OffsetOverflow, WriteFailed}
 use Rattle.blob_model.specs.Live.{is_idle}
-use Rattle.blob_faults.specs.declared.config.Config.{Config}
-use Rattle.blob_faults.specs.Fates.{has_uncounted_end}
-use Rattle.blob_faults.specs.Faults.{WriteFate, Uncounted, Failed, drawn_fate, write_fate, retention}
-use Rattle.blob_faults.specs.Changes.{Changes, laying, write_changes}
-use Rattle.blob_faults.specs.Recorded.{written_by, recorded_write, live_of_write, size_of_write}
-use Rattle.blob_faults.proofs.Unchanged.{memory_changes}
+use Rattle.blob_draws.specs.declared.config.Config.{Config}
+use Rattle.blob_draws.specs.Fates.{has_uncounted_end}
+use Rattle.blob_draws.specs.Faults.{WriteFate, Uncounted, Failed, drawn_fate, write_fate, retention}
+use Rattle.blob_draws.specs.Changes.{Changes, laying, write_changes}
+use Rattle.blob_draws.specs.Recorded.{written_by, recorded_write, live_of_write, size_of_write}
+use Rattle.blob_draws.proofs.Unchanged.{memory_changes}
 use Rattle.blob_faulty.specs.declared.blob.Blob.{Blob}
 use Rattle.blob_faulty.specs.declared.storage.Storage.{Storage}
 use Rattle.blob_faulty.specs.Asked.{InnerMade, Unasked, AsksWrite, AsksDrawn}

@@ -20,7 +20,7 @@ use Rattle.blob_model.proofs.FileSteps.{stands_plain, stands_cut, stands_range, 
 use Rattle.blob_faulty.proofs.Adding.{at_each}
 use Rattle.blob_faulty.specs.declared.blob.Blob.{Blob}
 use Rattle.blob_faulty.specs.declared.storage.Storage.{Storage}
-use Rattle.blob_faults.specs.Changes.{size_of_runs}
+use Rattle.blob_draws.specs.Changes.{size_of_runs}
 use Rattle.blob_faulty.specs.Wrapper.{pending_of, Stands, Adds}
 use Rattle.blob_faulty.specs.Writes.{View, seen, ViewFor, Logs, SameRecords, HasBytes, Unchanged, Effect, Recorded, LeavesRuns, durable_written, all_changed, live_of_runs, laid_runs}
 

@@ -15,8 +15,8 @@ use Rattle.blob_model.specs.Stands.{retired}
 use Rattle.blob_memory.specs.Answers.{OrMemory, open_refusal}
 use Rattle.blob_memory.specs.Store.{directory, durable, place, live}
 use Rattle.blob_memory.specs.declared.blob.Blob as memory_blob
-use Rattle.blob_faults.specs.Answers.{injected_or}
-use Rattle.blob_faults.specs.Faults.{draw}
+use Rattle.blob_draws.specs.Answers.{injected_or}
+use Rattle.blob_draws.specs.Faults.{draw}
 use Rattle.blob_faulty.specs.declared.blob.Blob.{Blob}
 use Rattle.blob_faulty.specs.declared.storage.Storage.{Storage}
 use Rattle.blob_faulty.specs.Keeps.{OverMemory, IsFor, Keeps, LosesNothing}

@@ -8,10 +8,10 @@ use Rattle.blob_model.specs.Directory.{is_current}
 use Rattle.blob_model.specs.Durable.{with_overlay}
 use Rattle.blob_model.specs.Holes.{Holes}
 use Rattle.blob_model.specs.Runs.{Run}
-use Rattle.blob_faults.specs.Changes.{lacks_number}
-use Rattle.blob_faults.specs.Answers.{Allowed, or_memory, numbered, allows_fate, allows_laid, allows_runs, allows_write}
-use Rattle.blob_faults.specs.Faults.{WriteFate, retention}
-use Rattle.blob_faults.specs.Lists.{HasRoomAt}
+use Rattle.blob_draws.specs.Changes.{lacks_number}
+use Rattle.blob_draws.specs.Answers.{Allowed, or_memory, numbered, allows_fate, allows_laid, allows_runs, allows_write}
+use Rattle.blob_draws.specs.Faults.{WriteFate, retention}
+use Rattle.blob_pending.specs.Lists.{HasRoomAt}
 use Rattle.blob_faulty.specs.declared.blob.Blob.{Blob}
 use Rattle.blob_faulty.specs.declared.storage.Storage.{Storage}
 use Rattle.blob_faulty.specs.Pieces.{EndsWithin}

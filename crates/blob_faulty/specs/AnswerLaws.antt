@@ -5,11 +5,11 @@ use Rattle.std.proofs.lemmas.Bool.{false≢true}
 use Rattle.rand_core.specs.Stream.{Stream}
 use Rattle.blob_header.specs.Refusals.{Refusal, OffsetOverflow, Memory}
 use Rattle.blob_model.specs.Runs.{runs}
-use Rattle.blob_faults.specs.declared.config.Config.{Config}
-use Rattle.blob_faults.specs.Changes.{lacks_number}
-use Rattle.blob_faults.specs.Answers.{Allowed, or_memory, injected_or, injected_for, numbered, allows_runs, allows_fate, allows_write}
-use Rattle.blob_faults.specs.Fates.{has_uncounted_end}
-use Rattle.blob_faults.specs.Faults.{WriteFate, Done, Unsynced, Failed, drawn_fate, retention}
+use Rattle.blob_draws.specs.declared.config.Config.{Config}
+use Rattle.blob_draws.specs.Changes.{lacks_number}
+use Rattle.blob_draws.specs.Answers.{Allowed, or_memory, injected_or, injected_for, numbered, allows_runs, allows_fate, allows_write}
+use Rattle.blob_draws.specs.Fates.{has_uncounted_end}
+use Rattle.blob_draws.specs.Faults.{WriteFate, Done, Unsynced, Failed, drawn_fate, retention}
 
 -- if the inner store may return no more, neither may the wrapper
 pub injected_alike : (drawn : Bool) (inner wider : Allowed) (answer : Option Refusal) → (inner answer → wider answer) → injected_or drawn inner answer → injected_or drawn wider answer

@@ -4,13 +4,13 @@ use Rattle.blob_model.specs.Live.{is_idle}
 use Rattle.blob_model.specs.Rates.{Rate}
 use Rattle.blob_header.specs.Refusals.{Refusal, Injected}
 use Rattle.blob_base.specs.declared.storage.Blob as handles
-use Rattle.blob_faults.specs.declared.config.ResizeConfig.{ResizeConfig}
-use Rattle.blob_faults.specs.Fates.{write_failure, has_uncounted_end}
-use Rattle.blob_faults.specs.Faults.{retention}
+use Rattle.blob_draws.specs.declared.config.ResizeConfig.{ResizeConfig}
+use Rattle.blob_draws.specs.Fates.{write_failure, has_uncounted_end}
+use Rattle.blob_draws.specs.Faults.{retention}
 use Rattle.blob_faulty.specs.declared.blob.Blob.{Blob}
 use Rattle.blob_faulty.specs.declared.storage.Storage.{Storage}
-use Rattle.blob_faults.specs.Changes.{lacks_number}
-use Rattle.blob_faults.specs.Answers.{or_memory}
+use Rattle.blob_draws.specs.Changes.{lacks_number}
+use Rattle.blob_draws.specs.Answers.{or_memory}
 use Rattle.blob_faulty.specs.Wrapper.{inner_of, config_of, next_write_of, next_marker_of, inside}
 
 -- not set, or zero

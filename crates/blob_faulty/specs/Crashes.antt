@@ -10,13 +10,13 @@ use Rattle.blob_model.specs.Order.{ArePlacesApart}
 use Rattle.blob_model.specs.Pending.{replay}
 use Rattle.blob_model.specs.Places.{Place}
 use Rattle.blob_model.specs.Stands.{replayed_at}
-use Rattle.blob_faults.specs.Lists.{held, list_of}
-use Rattle.blob_faults.specs.Ranges.{ranges}
-use Rattle.blob_faults.specs.Rows.{rows_in, table_of}
-use Rattle.blob_faults.specs.Views.{left_in}
-use Rattle.blob_faults.specs.declared.incarnation.Incarnation.{Incarnation}
-use Rattle.blob_faults.specs.declared.selections.Selections.{Selections}
-use Rattle.blob_faults.specs.declared.write.PendingWrite.{PendingWrite}
+use Rattle.blob_pending.specs.Lists.{held, list_of}
+use Rattle.blob_pending.specs.Ranges.{ranges}
+use Rattle.blob_draws.specs.Rows.{rows_in, table_of}
+use Rattle.blob_pending.specs.Views.{left_in}
+use Rattle.blob_pending.specs.declared.incarnation.Incarnation.{Incarnation}
+use Rattle.blob_draws.specs.declared.selections.Selections.{Selections}
+use Rattle.blob_pending.specs.declared.write.PendingWrite.{PendingWrite}
 use Rattle.blob_faulty.specs.Keeps.{OverMemory, IsFor}
 use Rattle.blob_faulty.specs.Wrapper.{inner_of, rng_of, pending_of}
 use Rattle.blob_memory.specs.Store.{durable}

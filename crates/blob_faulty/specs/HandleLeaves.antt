@@ -12,10 +12,10 @@ use Rattle.blob_header.specs.Refusals.{Refusal, Injected, Memory, WriteFailed}
 use Rattle.blob_model.specs.Runs.{Run, all_behind, runs}
 use Rattle.blob_faulty.specs.declared.storage.Storage.{Storage}
 use Rattle.blob_faulty.specs.declared.blob.Blob.{Blob}
-use Rattle.blob_faults.specs.Fates.{after_write}
-use Rattle.blob_faults.specs.Faults.{WriteFate, Done, Failed, draw, ResizeFate, resize_fate, drawn_fate}
-use Rattle.blob_faults.specs.Changes.{size_of_runs}
-use Rattle.blob_faults.specs.Recorded.{recorded_write, recorded_resize, live_of_write, live_of_resize, size_of_write, size_of_resize}
+use Rattle.blob_draws.specs.Fates.{after_write}
+use Rattle.blob_draws.specs.Faults.{WriteFate, Done, Failed, draw, ResizeFate, resize_fate, drawn_fate}
+use Rattle.blob_draws.specs.Changes.{size_of_runs}
+use Rattle.blob_draws.specs.Recorded.{recorded_write, recorded_resize, live_of_write, live_of_resize, size_of_write, size_of_resize}
 use Rattle.blob_faulty.specs.Asked.{AsksDrawn, AsksResize, InnerReached, InnerRefusedInRoom}
 use Rattle.blob_faulty.specs.Names.{Steps}
 use Rattle.blob_faulty.specs.Syncs.{Publishes, Starts}

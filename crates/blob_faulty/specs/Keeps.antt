@@ -5,7 +5,7 @@ use Rattle.blob_base.specs.declared.storage.Blob as handles
 use Rattle.blob_base.specs.declared.storage.Durable as stores
 use Rattle.blob_header.specs.Fronts.{BeginsWith}
 use Rattle.blob_header.specs.Refusals.{Refusal}
-use Rattle.blob_faults.specs.Recorded.{recorded_write}
+use Rattle.blob_draws.specs.Recorded.{recorded_write}
 use Rattle.blob_faulty.specs.declared.blob.Blob.{Blob}
 use Rattle.blob_model.specs.Directory.{Directory, current}
 use Rattle.blob_model.specs.Durable.{Durable}

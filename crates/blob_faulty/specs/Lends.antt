@@ -1,8 +1,8 @@
 -- A wrapper after its lent configuration was changed.
 use Rattle.std.specs.Borrow.{Lends, Fml, RattleType, MutBor}
-use Rattle.blob_faults.specs.declared.config.Config.{Config}
+use Rattle.blob_draws.specs.declared.config.Config.{Config}
 use Rattle.blob_faulty.specs.declared.storage.Storage.{Storage}
-use Rattle.blob_faults.specs.contracts.config.Config as config
+use Rattle.blob_draws.specs.contracts.config.Config as config
 use Rattle.blob_faulty.specs.contracts.storage.Storage as wrapper
 
 -- with another configuration; all else stays

@@ -14,8 +14,8 @@ use Rattle.blob_header.specs.Refusals.{Refusal}
 use Rattle.blob_header.specs.Versions.{lower, upper}
 use Rattle.blob_header.specs.declared.version.BlobVersion.{BlobVersion}
 use Rattle.blob_faulty.specs.declared.storage.Storage.{Storage}
-use Rattle.blob_faults.specs.Answers.{Allowed, injected_or}
-use Rattle.blob_faults.specs.Faults.{draw}
+use Rattle.blob_draws.specs.Answers.{Allowed, injected_or}
+use Rattle.blob_draws.specs.Faults.{draw}
 use Rattle.blob_faulty.specs.Wrapper.{inner_of, rng_of, config_of, pending_of, finished_by, KeepsNumbers, KeepsRecords, Stands}
 
 -- a range of some versions, not iterated to its end

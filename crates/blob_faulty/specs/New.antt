@@ -3,7 +3,7 @@ use Rattle.std.specs.Prelude.{◌≡◌, ℕ, List, [], Some}
 use Rattle.blob_base.specs.declared.storage.Durable as stores
 use Rattle.blob_model.specs.Files.{wrapped}
 use Rattle.blob_model.specs.Places.{Place}
-use Rattle.blob_faults.specs.declared.config.Config.{Config}
+use Rattle.blob_draws.specs.declared.config.Config.{Config}
 use Rattle.blob_faulty.specs.declared.storage.Storage.{Storage}
 use Rattle.blob_faulty.specs.Keeps.{bytes_found}
 use Rattle.blob_faulty.specs.Wrapper.{inner_of, rng_of, config_of, next_write_of, next_marker_of, pending_of, Stands}

@@ -15,10 +15,10 @@ use Rattle.blob_model.specs.Stands.{replayed_at}
 use Rattle.blob_memory.specs.Store.{directory, place}
 use Rattle.blob_memory.specs.declared.blob.Blob as memory_blob
 use Rattle.blob_memory.specs.declared.storage.Storage as memory
-use Rattle.blob_faults.specs.declared.config.Config.{Config}
-use Rattle.blob_faults.specs.declared.config.ResizeConfig.{ResizeConfig}
-use Rattle.blob_faults.specs.Faults.{ResizeFate, resize_fate}
-use Rattle.blob_faults.specs.Recorded.{kept, recorded_write, recorded_resize, live_of_write, live_of_resize, size_of_write, size_of_resize}
+use Rattle.blob_draws.specs.declared.config.Config.{Config}
+use Rattle.blob_draws.specs.declared.config.ResizeConfig.{ResizeConfig}
+use Rattle.blob_draws.specs.Faults.{ResizeFate, resize_fate}
+use Rattle.blob_draws.specs.Recorded.{kept, recorded_write, recorded_resize, live_of_write, live_of_resize, size_of_write, size_of_resize}
 use Rattle.blob_faulty.specs.declared.blob.Blob.{Blob}
 use Rattle.blob_faulty.specs.declared.storage.Storage.{Storage}
 use Rattle.blob_faulty.specs.Certain.{IsNever, partial_resizes}

@@ -12,8 +12,8 @@ use Rattle.blob_memory.specs.declared.blob.Blob as memory_blob
 use Rattle.blob_memory.specs.declared.storage.Storage as memory
 use Rattle.blob_memory.specs.Answers.{read_refusal}
 use Rattle.blob_memory.specs.Store.{durable, place, live}
-use Rattle.blob_faults.specs.Answers.{Allowed, injected_or}
-use Rattle.blob_faults.specs.Faults.{draw}
+use Rattle.blob_draws.specs.Answers.{Allowed, injected_or}
+use Rattle.blob_draws.specs.Faults.{draw}
 use Rattle.blob_faulty.specs.Allowed.{MayWrite, IsStale, WritesDurable}
 use Rattle.blob_faulty.specs.HandleLeaves.{WriteLeaves}
 use Rattle.blob_faulty.specs.Keeps.{OverMemory}

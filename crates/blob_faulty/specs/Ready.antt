@@ -8,7 +8,7 @@ use Rattle.blob_model.specs.Order.{ListAt}
 use Rattle.blob_model.specs.Pending.{ends}
 use Rattle.blob_memory.specs.Store.{directory, HasCrashRoom}
 use Rattle.blob_memory.specs.declared.storage.Storage.{Storage}
-use Rattle.blob_faults.specs.Replays.{unmarked}
+use Rattle.blob_pending.specs.Replays.{unmarked}
 
 -- if the incarnation is current, the store has capacity for all its entries
 abbrev pub IsReady : Storage → ListAt → Type 0

@@ -7,12 +7,12 @@ use Rattle.blob_model.specs.Log.{Entry, need_of}
 use Rattle.blob_model.specs.Pending.{Pending, Waiting, finished}
 use Rattle.blob_model.specs.Places.{Place}
 use Rattle.blob_model.specs.Stands.{StandsFor}
-use Rattle.blob_faults.specs.declared.config.Config.{Config}
-use Rattle.blob_faults.specs.declared.config.WriteConfig.{WriteConfig}
-use Rattle.blob_faults.specs.Faults.{issued}
+use Rattle.blob_draws.specs.declared.config.Config.{Config}
+use Rattle.blob_draws.specs.declared.config.WriteConfig.{WriteConfig}
+use Rattle.blob_draws.specs.Faults.{issued}
 use Rattle.blob_faulty.specs.declared.storage.Storage.{Storage}
 use Rattle.blob_faulty.specs.declared.blob.Blob.{Blob}
-use Rattle.blob_faults.specs.Lists.{list_of, ChangesAt}
+use Rattle.blob_pending.specs.Lists.{list_of, ChangesAt}
 
 abbrev pub inner_of : {S R O : Type 0} → Storage S R O → S
 inner_of w = w.inner

@@ -15,15 +15,15 @@ use Rattle.blob_model.specs.Stands.{StandsFor}
 use Rattle.blob_base.specs.declared.storage.Durable as stores
 use Rattle.blob_base.specs.declared.storage.Blob as handles
 use Rattle.blob_faulty.specs.declared.blob.Blob.{Blob}
-use Rattle.blob_faults.specs.declared.config.Config.{Config}
+use Rattle.blob_draws.specs.declared.config.Config.{Config}
 use Rattle.blob_faulty.specs.declared.storage.Storage.{Storage}
-use Rattle.blob_faults.specs.Lists.{held}
+use Rattle.blob_pending.specs.Lists.{held}
 use Rattle.blob_faulty.specs.Asked.{AsksLaid, InnerReached, InnerRefused, InnerRefusedInRoom}
 use Rattle.blob_faulty.specs.Pieces.{first_after}
 use Rattle.blob_faulty.specs.Wrapper.{pending_of}
-use Rattle.blob_faults.specs.Faults.{WriteFate, Done, Failed, ResizeFate, retention}
-use Rattle.blob_faults.specs.Changes.{Changes, loose, size_of_runs, write_changes}
-use Rattle.blob_faults.specs.Recorded.{recorded_resize, live_of_resize, size_of_resize}
+use Rattle.blob_draws.specs.Faults.{WriteFate, Done, Failed, ResizeFate, retention}
+use Rattle.blob_draws.specs.Changes.{Changes, loose, size_of_runs, write_changes}
+use Rattle.blob_draws.specs.Recorded.{recorded_resize, live_of_resize, size_of_resize}
 
 -- a handle and its wrapper, over an inner store
 pub record View (R : Type 0) : Type 0 where

@@ -7,8 +7,8 @@ ghost use Rattle.blob_memory.specs.Store.{directory};
 use crate::retired::Retired;
 use crate::storage::Storage;
 use blob_base::Durable;
-use blob_faults::incarnation::Incarnation;
 use blob_memory::Origin;
+use blob_pending::incarnation::Incarnation;
 
 /// Returns whether an origin is the current incarnation of the name.
 fn is_current_of(

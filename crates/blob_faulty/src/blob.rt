@@ -10,12 +10,12 @@ ghost use Rattle.blob_base.specs.Options.{is_sync};
 ghost use Rattle.blob_model.specs.Pending.{Marker};
 ghost use Rattle.blob_model.specs.Places.{Place};
 ghost use Rattle.blob_header.specs.Refusals.{Refusal, refused, Memory, IsMemory};
-ghost use Rattle.blob_faults.specs.Answers.{injected_or, allows_resize as answers_resize, allows_start};
+ghost use Rattle.blob_draws.specs.Answers.{injected_or, allows_resize as answers_resize, allows_start};
 ghost use Rattle.blob_faulty.specs.Allowed.{MayWrite};
-ghost use Rattle.blob_faults.specs.Fates.{after_write};
-ghost use Rattle.blob_faults.specs.Faults.{Done, draw, drawn_fate, resize_fate};
+ghost use Rattle.blob_draws.specs.Fates.{after_write};
+ghost use Rattle.blob_draws.specs.Faults.{Done, draw, drawn_fate, resize_fate};
 ghost use Rattle.blob_faulty.specs.HandleLeaves.{HandleLeaves};
-ghost use Rattle.blob_faults.specs.Recorded.{recorded_write, recorded_resize, live_of_write, live_of_resize, size_of_write, size_of_resize};
+ghost use Rattle.blob_draws.specs.Recorded.{recorded_write, recorded_resize, live_of_write, live_of_resize, size_of_write, size_of_resize};
 ghost use Rattle.blob_faulty.specs.Syncs.{Publishes, Starts};
 ghost use Rattle.blob_faulty.specs.Wrapper.{inner_of, rng_of, config_of, next_write_of, next_marker_of, pending_of, inside, size_of, KeepsRecords, KeepsNumbers, Adds};
 ghost use Rattle.blob_faulty.specs.AnswerLaws.{injected_alike, write_none, write_empty};
@@ -23,7 +23,7 @@ ghost use Rattle.blob_faulty.specs.AnswerLaws.{injected_alike, write_none, write
 use crate::payload::Payload;
 use crate::storage::Storage;
 use blob_base::{Error, Handle, IoBufs, IoBufsMut, ReadOptions, WriteOptions};
-use blob_faults::faults::{draw_resize, draw_write, draws};
+use blob_draws::faults::{draw_resize, draw_write, draws};
 use rand_core::Rng;
 
 /// A handle on a blob through the wrapper, which tracks the size that the wrapper last knew.
@@ -53,7 +53,7 @@ impl<B> Blob<B> {
     ghost use Rattle.blob_faulty.specs.HandleLeaves.{WriteLeaves};
 
     /// Performs `write_at` of owned pieces and `write_from` of a slice: draws the outcome, then carries it out.
-    #[tactic(auto, unfolding(blob_faults::specs::Answers::allows_write))]
+    #[tactic(auto, unfolding(blob_draws::specs::Answers::allows_write))]
     pub(crate) fn write<S: blob_base::Storage, R: Rng, P>(
         &mut self,
         store: &mut Storage<S, R>,

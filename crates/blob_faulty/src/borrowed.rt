@@ -13,7 +13,7 @@ ghost use Rattle.blob_memory.specs.Store.{directory, durable, place, live};
 use crate::blob::Blob;
 use crate::storage::Storage;
 use blob_base::{Error, WriteOptions};
-use blob_faults::faults::draws;
+use blob_draws::faults::draws;
 use rand_core::Rng;
 
 type Memory = blob_memory::Storage;

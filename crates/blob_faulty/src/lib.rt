@@ -19,10 +19,10 @@ mod write_runs;
 mod writes;
 
 pub use blob::Blob;
-pub use blob_faults::{
-    Config, PartialWriteMode, ResizeConfig, Selections, WriteConfig, cells, config, draw, entries,
-    entry, faults, holes, incarnation, lists, mode, runs, selection, selections, write,
-    write_config_from_cell,
+pub use blob_draws::{
+    Config, PartialWriteMode, ResizeConfig, Selections, WriteConfig, cells, config, draw, faults,
+    mode, runs, selection, selections, write_config_from_cell,
 };
+pub use blob_pending::{entries, entry, holes, incarnation, lists, write};
 pub use retired::Retired;
 pub use storage::Storage;

@@ -2,8 +2,8 @@
 ghost use Rattle.std.specs.Prelude.{◌≡◌, OnOk, OnErr, option_copied};
 ghost use Rattle.blob_base.specs.Handles.{outcome_of, marker_of};
 ghost use Rattle.blob_header.specs.Refusals.{refused};
-ghost use Rattle.blob_faults.specs.Answers.{injected_or};
-ghost use Rattle.blob_faults.specs.Faults.{draw};
+ghost use Rattle.blob_draws.specs.Answers.{injected_or};
+ghost use Rattle.blob_draws.specs.Faults.{draw};
 ghost use Rattle.blob_faulty.specs.Names.{OpenLeaves, MayRemove, Removes, RemovesNames, RemovesBytes, RemovesFiles, ScanLeaves, FinishLeaves, SameStore, Steps};
 ghost use Rattle.blob_faulty.specs.Wrapper.{inner_of, rng_of, config_of, inside, size_of};
 
@@ -11,7 +11,7 @@ use crate::blob::Blob;
 use crate::retired::Retired;
 use crate::storage::Storage;
 use blob_base::{BlobVersion, Error, Handle};
-use blob_faults::faults::draws;
+use blob_draws::faults::draws;
 use rand_core::Rng;
 use std::ops::RangeInclusive;
 

@@ -4,24 +4,24 @@ ghost use Rattle.blob_model.specs.Bytes.{between};
 ghost use Rattle.blob_model.specs.Draws.{chosen_by};
 ghost use Rattle.blob_model.specs.Holes.{in_holes};
 ghost use Rattle.blob_model.specs.Pending.{has_marker, replay, replayed, end_of, ends};
-ghost use Rattle.blob_faults.specs.Lists.{held, held_by};
-ghost use Rattle.blob_faults.specs.Ranges.{ranges};
-ghost use Rattle.blob_faults.specs.Replays.{width, widest, widest_of_all};
+ghost use Rattle.blob_pending.specs.Lists.{held, held_by};
+ghost use Rattle.blob_pending.specs.Ranges.{ranges};
+ghost use Rattle.blob_pending.specs.Replays.{width, widest, widest_of_all};
 ghost use Rattle.blob_faulty.specs.Crashes.{ChoosesUncovered, ReplaysList, ReplaysLists, StaysChosen};
 ghost use Rattle.blob_faulty.specs.Ready.{IsReady, CanReplay};
-ghost use Rattle.blob_faults.specs.Rows.{rows_in, AreNumbered};
-ghost use Rattle.blob_faults.specs.Views.{view, left_in};
+ghost use Rattle.blob_draws.specs.Rows.{rows_in, AreNumbered};
+ghost use Rattle.blob_pending.specs.Views.{view, left_in};
 ghost use Rattle.blob_pages.specs.Stored.{AreNow};
 ghost use Rattle.blob_memory.specs.Retained.{KeepsRoom};
 ghost use Rattle.blob_memory.specs.Store.{directory, durable};
 
-use blob_faults::entries::unmarked;
-use blob_faults::entry::Entry;
-use blob_faults::holes::Hole;
-use blob_faults::incarnation::Incarnation;
-use blob_faults::rows::choices_in;
-use blob_faults::write::PendingWrite;
+use blob_draws::rows::choices_in;
 use blob_memory::{Bytes, Origin, overlay};
+use blob_pending::entries::unmarked;
+use blob_pending::entry::Entry;
+use blob_pending::holes::Hole;
+use blob_pending::incarnation::Incarnation;
+use blob_pending::write::PendingWrite;
 
 /// Sets `chosen` to a row's choices for `len` bytes. Bytes past the row's end aren't chosen.
 fn put_row(chosen: &mut Vec<bool>, row: &[bool], len: usize)
@@ -68,12 +68,7 @@ fn put_choices(chosen: &mut Vec<bool>, write: &PendingWrite, row: &[bool])
 }
 
 /// Replays one entry over bytes with enough capacity. A write's row is found by the write's number.
-fn replay_entry(
-    bytes: &mut Bytes,
-    entry: &Entry,
-    rows: &[(u64, Vec<bool>)],
-    chosen: &mut Vec<bool>,
-)
+fn replay_entry(bytes: &mut Bytes, entry: &Entry, rows: &[(u64, Vec<bool>)], chosen: &mut Vec<bool>)
     requires numbered { AreNumbered rows.now }
     requires room { CanReplay bytes.old (end_of (view entry.now)) (width (view entry.now)) chosen.old }
     ensures bytes { AreNow bytes.old bytes.new (replayed bytes.old.items (view entry.now) (chosen_by (rows_in rows.now))) }

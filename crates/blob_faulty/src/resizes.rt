@@ -2,8 +2,8 @@
 ghost use Rattle.std.specs.Prelude.{◌≡◌, [], ◌∷◌, OnErr};
 ghost use Rattle.blob_model.specs.Log.{Resized};
 ghost use Rattle.blob_header.specs.Refusals.{refused};
-ghost use Rattle.blob_faults.specs.Answers.{or_memory, allows_resize};
-ghost use Rattle.blob_faults.specs.Fates.{resize_fate_of};
+ghost use Rattle.blob_draws.specs.Answers.{or_memory, allows_resize};
+ghost use Rattle.blob_draws.specs.Fates.{resize_fate_of};
 ghost use Rattle.blob_base.specs.HandleCalls.{Resize};
 ghost use Rattle.blob_faulty.specs.Asked.{Asks, AsksResize};
 ghost use Rattle.blob_faulty.specs.Wrapper.{KeepsDurable};
@@ -12,9 +12,9 @@ ghost use Rattle.blob_faulty.specs.Writes.{Writes, Records, ReachesBy, ResizesBy
 use crate::blob::Blob;
 use crate::storage::Storage;
 use blob_base::Error;
-use blob_faults::entry::Entry;
-use blob_faults::faults::ResizeFate;
-use blob_faults::room::Room;
+use blob_draws::faults::ResizeFate;
+use blob_pending::entry::Entry;
+use blob_pending::room::Room;
 
 impl<B> Blob<B> {
     /// Resizes the inner blob and records nothing.

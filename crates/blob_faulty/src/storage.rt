@@ -4,13 +4,13 @@ ghost use Rattle.std.specs.Borrow.{sem};
 ghost use Rattle.blob_faulty.specs.Lends.{LendsConfig, with_config, with_rng};
 ghost use Rattle.blob_faulty.specs.Names.{Steps};
 ghost use Rattle.blob_faulty.specs.New.{IsNew};
-ghost use Rattle.blob_faults.specs.Lists.{list_of};
+ghost use Rattle.blob_pending.specs.Lists.{list_of};
 ghost use Rattle.blob_faulty.specs.Wrapper.{inner_of, rng_of, config_of, pending_of};
 
 use blob_base::Durable;
-use blob_faults::config::Config;
-use blob_faults::incarnation::Incarnation;
-use blob_faults::lists::Lists;
+use blob_draws::config::Config;
+use blob_pending::incarnation::Incarnation;
+use blob_pending::lists::Lists;
 use rand_core::Rng;
 use std::alloc::Global;
 

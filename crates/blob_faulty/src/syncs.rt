@@ -1,14 +1,14 @@
 //! Syncs of the inner blob, and what they retire.
 ghost use Rattle.std.specs.Prelude.{◌≡◌, ◌<◌, ◌+◌, ◌-◌, ◌^◌, [], OnOk, IfOk};
 ghost use Rattle.blob_header.specs.Refusals.{refused};
-ghost use Rattle.blob_faults.specs.Answers.{or_memory};
+ghost use Rattle.blob_draws.specs.Answers.{or_memory};
 ghost use Rattle.blob_faulty.specs.HandleLeaves.{AsksSync, AsksStart};
 ghost use Rattle.blob_faulty.specs.Writes.{Syncs, Retires, Marks};
 
 use crate::blob::Blob;
 use crate::storage::Storage;
 use blob_base::Error;
-use blob_faults::room::Room;
+use blob_pending::room::Room;
 
 impl<B> Blob<B> {
     /// Syncs the inner blob and, on Ok, retires the pending list of its incarnation.

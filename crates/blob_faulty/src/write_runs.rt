@@ -6,8 +6,8 @@ use crate::payload::Payload;
 use crate::storage::Storage;
 use blob_base::laws::overlays::runs_are_choices;
 use blob_base::{Error, IoBufs};
-use blob_faults::room::Room;
-use blob_faults::runs::Span;
+use blob_draws::runs::Span;
+use blob_pending::room::Room;
 
 /// A run of a write's bytes, and their copy for the pending list.
 #[derive(Drop)]
@@ -24,9 +24,9 @@ impl Piece {
     ghost use Rattle.std.specs.Prelude.{◌≤◌, List, ℕ, [], All, IfOk, OnErr};
     ghost use Rattle.blob_header.specs.Refusals.{IsMemory};
     ghost use Rattle.blob_model.specs.Runs.{runs};
-    ghost use Rattle.blob_faults.specs.Answers.{last_end};
+    ghost use Rattle.blob_draws.specs.Answers.{last_end};
     ghost use Rattle.blob_faulty.specs.Pieces.{run_of, runs_in, first_start};
-    ghost use Rattle.blob_faults.specs.Spans.{piece, pieces, ends_by};
+    ghost use Rattle.blob_draws.specs.Spans.{piece, pieces, ends_by};
 
     /// Copies a span of the bytes of a write at `offset`.
     fn of(offset: u64, bytes: &Vec<u8>, span: Span) -> Result<Piece, Error>
@@ -95,12 +95,12 @@ impl<B> Blob<B> {
     ghost use Rattle.blob_model.specs.Directory.{is_current};
     ghost use Rattle.blob_header.specs.Refusals.{refused, WriteFailed};
     ghost use Rattle.blob_model.specs.Runs.{runs, AreRunsApart};
-    ghost use Rattle.blob_faults.specs.Answers.{or_memory, last_end};
+    ghost use Rattle.blob_draws.specs.Answers.{or_memory, last_end};
     ghost use Rattle.blob_faulty.specs.Allowed.{MayLay, MayLayKept, AllowsAsMuch, HasListRoom, IfRoomIsKept, HasInnerRoom};
     ghost use Rattle.blob_base.specs.HandleCalls.{Reserve};
     ghost use Rattle.blob_faulty.specs.Asked.{Asks, AsksRuns};
     ghost use Rattle.blob_faulty.specs.Pieces.{run_of, runs_in, extents, EndsWithin};
-    ghost use Rattle.blob_faults.specs.Faults.{Failed};
+    ghost use Rattle.blob_draws.specs.Faults.{Failed};
     ghost use Rattle.blob_faulty.specs.Writes.{LaysAll, RecordsRuns, FailsBy, StaysUnchanged};
 
     /// Writes the runs after the first, lowest first. Returns `WriteFailed` if the inner blob rejects one. Those before it stay.

@@ -1,25 +1,25 @@
 //! Writes of the inner blob, and what they record.
 ghost use Rattle.std.specs.Prelude.{◌≡◌, ◌≢◌, ◌≤◌, ◌<◌, ◌+◌, ◌-◌, ◌^◌, ◌∷◌, [], true, false, OnOk, OnErr, IfOk, length};
 ghost use Rattle.blob_header.specs.Refusals.{refused, IsMemory};
-ghost use Rattle.blob_faults.specs.Answers.{or_memory};
+ghost use Rattle.blob_draws.specs.Answers.{or_memory};
 ghost use Rattle.blob_model.specs.Pending.{has_barrier};
-ghost use Rattle.blob_faults.specs.Lists.{HasRoomIn, IsRoomAt, SameLists};
+ghost use Rattle.blob_pending.specs.Lists.{HasRoomIn, IsRoomAt, SameLists};
 ghost use Rattle.blob_base.specs.HandleCalls.{Write};
 ghost use Rattle.blob_faulty.specs.Allowed.{MayWritePlain, MayWriteBy, HasListRoom, LeavesListRoom};
 ghost use Rattle.blob_faulty.specs.Asked.{Asks, AsksWrite};
 ghost use Rattle.blob_faulty.specs.Wrapper.{pending_of, GainsWrite};
 ghost use Rattle.blob_faulty.specs.Writes.{Writes, Records, LaidRuns, FailsBy, WritesBy, unrecorded, plain, laid_runs};
-ghost use Rattle.blob_faults.specs.Fates.{write_fate_of, IsSized};
+ghost use Rattle.blob_draws.specs.Fates.{write_fate_of, IsSized};
 
 use crate::blob::Blob;
 use crate::payload::Payload;
 use crate::storage::Storage;
 use blob_base::{Error, IoBufs, WriteOptions};
-use blob_faults::config::WriteConfig;
-use blob_faults::entry::Entry;
-use blob_faults::faults::{WriteFate, retained};
-use blob_faults::room::Room;
-use blob_faults::write::PendingWrite;
+use blob_draws::config::WriteConfig;
+use blob_draws::faults::{WriteFate, retained};
+use blob_pending::entry::Entry;
+use blob_pending::room::Room;
+use blob_pending::write::PendingWrite;
 
 impl<S: blob_base::Storage, R> Storage<S, R> {
     /// Adds a write that a crash may lose to the list at `list`, which has capacity for it. The write takes the next number.

@@ -5,7 +5,7 @@ use Rattle.std.proofs.lemmas.Bool.{eqb-true, lt-ltb}
 use Rattle.std.specs.Io.BufRead.{DropsThrough, take_through, drop_through, strip_last, first_piece}
 use Rattle.std.specs.Io.{StopsAt}
 use Rattle.std.specs.Io.KnownBytes.{Consumes}
-use Rattle.blob_calls.specs.Lines.{Said, line_of}
+use Rattle.blob_script.specs.Lines.{Said, line_of}
 use Rattle.blob_lab.specs.ScriptReading.{OfLines, TakesLine, TakesOne, behind_part}
 use Rattle.blob_lab.specs.Scripts.{lines_of}
 use Rattle.std.specs.List.{onto_first}

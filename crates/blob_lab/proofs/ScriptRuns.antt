@@ -5,20 +5,20 @@ use Rattle.std.proofs.lemmas.List.{append-nil, flat_map_more, map-append}
 use Rattle.std.proofs.Math.ListN.{length-append}
 use Rattle.std.specs.Io.Iter.{u64_saturate}
 use Rattle.std.specs.Io.KnownBytes.{Appends, Keeps}
-use Rattle.blob_faults.specs.declared.config.Config.{Config}
-use Rattle.blob_calls.specs.declared.call.Call.{Call}
+use Rattle.blob_draws.specs.declared.config.Config.{Config}
+use Rattle.blob_script.specs.declared.call.Call.{Call}
 use Rattle.blob_lab.specs.declared.ending.Ending.{Ending}
 use Rattle.blob_lab.specs.declared.ending.Ending.TheVariants.{Done, InputFailed, OutputFailed, BadCall, BadImage, Usage, NoMemory}
-use Rattle.blob_laboratory.specs.declared.lab.Lab.{Lab}
-use Rattle.blob_calls.specs.declared.reply.Reply.{Reply}
-use Rattle.blob_calls.specs.Acts.{Act, act_of}
-use Rattle.blob_laboratory.specs.LabStands.{LabStandsFor, Performs}
+use Rattle.blob_lab_store.specs.declared.lab.Lab.{Lab}
+use Rattle.blob_script.specs.declared.reply.Reply.{Reply}
+use Rattle.blob_script.specs.Acts.{Act, act_of}
+use Rattle.blob_lab_store.specs.LabStands.{LabStandsFor, Performs}
 use Rattle.blob_lab.specs.ScriptReading.{OfLines, AddsCall, TakesCall, TakesBadCall, TakesPart, Begins, Answered, PrintsFront, PrintsBefore, PrintsUpTo, printed_reply, with_call}
 use Rattle.blob_lab.specs.Scripts.{Script, IsPrinted, Prints, lines_of, with_lines}
-use Rattle.blob_calls.specs.Settings.{cleared}
-use Rattle.blob_states.specs.States.{State, start}
+use Rattle.blob_script.specs.Settings.{cleared}
+use Rattle.blob_lab_model.specs.States.{State, start}
 use Rattle.blob_lab.specs.Streams.{AppendsPart}
-use Rattle.blob_states.proofs.RunSteps.{run_more}
+use Rattle.blob_lab_model.proofs.RunSteps.{run_more}
 use Rattle.blob_lab.proofs.ScriptLines.{part_nil}
 use Rattle.blob_lab.proofs.ScriptSteps.{TakesFront, more_lines, one_line}
 

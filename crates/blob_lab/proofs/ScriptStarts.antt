@@ -4,20 +4,20 @@ use Rattle.std.proofs.KnownBytes.{Appends-kept, Appends-nil}
 use Rattle.std.proofs.Math.ListN.{length-append}
 use Rattle.std.specs.Io.Iter.{u64_saturate}
 use Rattle.std.specs.Io.KnownBytes.{Appends, Keeps}
-use Rattle.blob_faults.specs.declared.config.Config.{Config}
+use Rattle.blob_draws.specs.declared.config.Config.{Config}
 use Rattle.blob_lab.specs.declared.ending.Ending.{Ending}
 use Rattle.blob_lab.specs.declared.ending.Ending.TheVariants.{Done, InputFailed, OutputFailed, BadCall, BadImage, Usage, NoMemory}
-use Rattle.blob_laboratory.specs.declared.lab.Lab.{Lab}
+use Rattle.blob_lab_store.specs.declared.lab.Lab.{Lab}
 use Rattle.blob_lab.specs.declared.scripts.lines.Preamble.{Preamble}
-use Rattle.blob_calls.specs.Acts.{Act}
-use Rattle.blob_laboratory.specs.LabStands.{LabStandsFor}
+use Rattle.blob_script.specs.Acts.{Act}
+use Rattle.blob_lab_store.specs.LabStands.{LabStandsFor}
 use Rattle.blob_lab.specs.ScriptReading.{OfLines, TakesCall, TakesBadCall, TakesOne, TakesPart, Begins, PrintsFront, PrintsBefore, PrintsUpTo, preamble_of}
 use Rattle.blob_lab.specs.Scripts.{Script, IsPrinted, Prints, lines_of, no_script, script_of, with_lines}
 use Rattle.blob_lab.specs.Streams.{AppendsPart}
-use Rattle.blob_states.specs.Scripted.{only}
-use Rattle.blob_calls.specs.Settings.{cleared}
-use Rattle.blob_states.specs.States.{start}
-use Rattle.blob_laboratory.specs.Tables.{images_of}
+use Rattle.blob_lab_model.specs.Scripted.{only}
+use Rattle.blob_script.specs.Settings.{cleared}
+use Rattle.blob_lab_model.specs.States.{start}
+use Rattle.blob_lab_store.specs.Tables.{images_of}
 use Rattle.blob_lab.proofs.ScriptRuns.{kept_Appends, part_of_taken, printed_of}
 use Rattle.blob_lab.proofs.ScriptSteps.{more_lines, one_line}
 

@@ -4,21 +4,21 @@ use Rattle.std.proofs.lemmas.List.{append-nil, map-append}
 use Rattle.std.proofs.Math.ListN.{length-append}
 use Rattle.std.specs.Global.{Global}
 use Rattle.std.specs.Io.Iter.{u64_saturate}
-use Rattle.blob_faults.specs.declared.config.Config.{Config}
-use Rattle.blob_calls.specs.declared.call.Call.{Call as LabCall}
-use Rattle.blob_calls.specs.declared.call.Call.TheVariants as call
+use Rattle.blob_draws.specs.declared.config.Config.{Config}
+use Rattle.blob_script.specs.declared.call.Call.{Call as LabCall}
+use Rattle.blob_script.specs.declared.call.Call.TheVariants as call
 use Rattle.blob_lab.specs.declared.scripts.lines.Preamble.{Preamble}
-use Rattle.blob_calls.specs.declared.script.line.Line.TheVariants as line
-use Rattle.blob_calls.specs.declared.script.setting.Setting.{Setting}
-use Rattle.blob_calls.specs.Acts as acts
-use Rattle.blob_calls.specs.Acts.{Act, act_of}
-use Rattle.blob_calls.specs.Lines.{Said, Configure, Call, line_of, said_by}
+use Rattle.blob_script.specs.declared.script.line.Line.TheVariants as line
+use Rattle.blob_script.specs.declared.script.setting.Setting.{Setting}
+use Rattle.blob_script.specs.Acts as acts
+use Rattle.blob_script.specs.Acts.{Act, act_of}
+use Rattle.blob_script.specs.Lines.{Said, Configure, Call, line_of, said_by}
 use Rattle.blob_lab.specs.ScriptReading.{OfLines, TakesLine, TakesOne, TakesCall, TakesBadCall, TakesPart, preamble_of, with_call}
 use Rattle.blob_lab.specs.Scripts.{Script, lines_of, with_said, with_line, with_lines}
-use Rattle.blob_calls.specs.Tokens.{is_empty}
-use Rattle.blob_states.specs.Scripted.{behind_seeded}
-use Rattle.blob_calls.specs.Settings.{configured}
-use Rattle.blob_laboratory.specs.Tables.{images_of}
+use Rattle.blob_script.specs.Tokens.{is_empty}
+use Rattle.blob_lab_model.specs.Scripted.{behind_seeded}
+use Rattle.blob_script.specs.Settings.{configured}
+use Rattle.blob_lab_store.specs.Tables.{images_of}
 
 -- One line.
 

@@ -4,10 +4,10 @@ use Rattle.std.specs.Prelude.{codes}
 use Rattle.std.specs.Str.{is_utf8, chars}
 use Rattle.hex.specs.Hex.{decode_pairs}
 use lib.Utf8.{encode}
-use Rattle.blob_calls.specs.Acts.{Close, Configure, Reopen}
+use Rattle.blob_script.specs.Acts.{Close, Configure, Reopen}
 use Rattle.blob_lab.specs.Scripts.{lines_of, no_script, script_of}
-use Rattle.blob_states.specs.Scripted.{only, behind_seeded}
-use Rattle.blob_calls.specs.Settings.{cleared}
+use Rattle.blob_lab_model.specs.Scripted.{only, behind_seeded}
+use Rattle.blob_script.specs.Settings.{cleared}
 
 no_line : lines_of [] ≡ []
 no_line = refl

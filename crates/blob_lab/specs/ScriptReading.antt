@@ -3,26 +3,26 @@ use Rattle.std.specs.Prelude.{◌≡◌, ◌≢◌, ◌⊎◌, ℕ, ◌+◌, Lis
 use Rattle.std.specs.List.{flat_map}
 use Rattle.std.specs.Io.Iter.{u64_saturate}
 use Rattle.std.specs.Io.KnownBytes.{Appends}
-use Rattle.blob_faults.specs.declared.config.Config.{Config}
-use Rattle.blob_laboratory.specs.declared.lab.Lab.{Lab}
+use Rattle.blob_draws.specs.declared.config.Config.{Config}
+use Rattle.blob_lab_store.specs.declared.lab.Lab.{Lab}
 use Rattle.blob_lab.specs.declared.scripts.lines.Lines.{Lines}
 use Rattle.blob_lab.specs.declared.scripts.lines.Preamble.{Preamble}
 use Rattle.blob_lab.specs.declared.ending.Ending.{Ending}
 use Rattle.blob_lab.specs.declared.ending.Ending.TheVariants.{BadCall, InputFailed, OutputFailed, NoMemory}
 use Rattle.blob_lab.specs.declared.streams.Input.{Input}
 use Rattle.blob_lab.specs.declared.streams.Output.{Output}
-use Rattle.blob_calls.specs.declared.call.Call.{Call}
-use Rattle.blob_calls.specs.declared.reply.Reply.{Reply}
-use Rattle.blob_calls.specs.Acts.{Act, act_of}
-use Rattle.blob_laboratory.specs.LabStands.{LabStandsFor, Performs}
-use Rattle.blob_calls.specs.Lines.{Said, line_of}
-use Rattle.blob_calls.specs.Replies.{reply_line}
+use Rattle.blob_script.specs.declared.call.Call.{Call}
+use Rattle.blob_script.specs.declared.reply.Reply.{Reply}
+use Rattle.blob_script.specs.Acts.{Act, act_of}
+use Rattle.blob_lab_store.specs.LabStands.{LabStandsFor, Performs}
+use Rattle.blob_script.specs.Lines.{Said, line_of}
+use Rattle.blob_script.specs.Replies.{reply_line}
 use Rattle.blob_lab.specs.Scripts.{IsPrinted, OfRun, Prints, Script, lines_of, no_script, with_line, with_lines}
 use Rattle.blob_lab.specs.Streams.{AppendsPart, OfBytes, reader_of, writer_of}
-use Rattle.blob_calls.specs.Settings.{cleared}
-use Rattle.blob_states.specs.Runs.{LeadsTo}
-use Rattle.blob_states.specs.States.{State, start}
-use Rattle.blob_laboratory.specs.Tables.{images_of}
+use Rattle.blob_script.specs.Settings.{cleared}
+use Rattle.blob_lab_model.specs.Runs.{LeadsTo}
+use Rattle.blob_lab_model.specs.States.{State, start}
+use Rattle.blob_lab_store.specs.Tables.{images_of}
 
 -- if a reader's bytes before are known, they are known afterwards, and P holds of the lines of both
 abbrev pub OfLines : Option (List ℕ) → Option (List ℕ) → (List (List ℕ) → List (List ℕ) → Type 0) → Type 0

@@ -4,22 +4,22 @@ use Rattle.std.specs.List.{flat_map, onto_first}
 use Rattle.std.specs.Io.{StopsAt}
 use Rattle.std.specs.Io.Iter.{u64_saturate}
 use Rattle.std.specs.Io.KnownBytes.{Appends}
-use Rattle.blob_faults.specs.declared.config.Config.{Config}
-use Rattle.blob_calls.specs.declared.call.Call.{Call as LabCall}
+use Rattle.blob_draws.specs.declared.config.Config.{Config}
+use Rattle.blob_script.specs.declared.call.Call.{Call as LabCall}
 use Rattle.blob_lab.specs.declared.streams.Input.{Input}
 use Rattle.blob_lab.specs.declared.streams.Output.{Output}
 use Rattle.blob_lab.specs.Streams.{reader_of, writer_of, OfKnown}
-use Rattle.blob_calls.specs.declared.reply.Reply.{Reply}
-use Rattle.blob_calls.specs.Acts as acts
-use Rattle.blob_calls.specs.Acts.{Act, act_of}
-use Rattle.blob_calls.specs.Lines.{Said, Blank, Image, Given, Seed, Configure, Call, line_of}
-use Rattle.blob_calls.specs.Replies.{reply_line}
-use Rattle.blob_calls.specs.Tokens.{is_empty}
-use Rattle.blob_states.specs.Runs.{LeadsTo}
-use Rattle.blob_states.specs.Scripted.{Words, only, behind_seeded}
-use Rattle.blob_calls.specs.Settings.{cleared, configured}
-use Rattle.blob_states.specs.States as states
-use Rattle.blob_states.specs.States.{State, start}
+use Rattle.blob_script.specs.declared.reply.Reply.{Reply}
+use Rattle.blob_script.specs.Acts as acts
+use Rattle.blob_script.specs.Acts.{Act, act_of}
+use Rattle.blob_script.specs.Lines.{Said, Blank, Image, Given, Seed, Configure, Call, line_of}
+use Rattle.blob_script.specs.Replies.{reply_line}
+use Rattle.blob_script.specs.Tokens.{is_empty}
+use Rattle.blob_lab_model.specs.Runs.{LeadsTo}
+use Rattle.blob_lab_model.specs.Scripted.{Words, only, behind_seeded}
+use Rattle.blob_script.specs.Settings.{cleared, configured}
+use Rattle.blob_lab_model.specs.States as states
+use Rattle.blob_lab_model.specs.States.{State, start}
 
 -- The meaning of its lines.
 

@@ -7,11 +7,11 @@ pub mod resolutions;
 pub mod scripts;
 pub mod streams;
 
-pub use blob_calls::{Call, Reply, call, reply, script};
 pub use blob_debt::{Generation, GenerationId, Pending, Receiver, Sender, pending};
-pub use blob_laboratory::{Lab, ScriptedRng, lab, scripted_rng};
+pub use blob_lab_model::laws;
+pub use blob_lab_store::{Lab, ScriptedRng, lab, scripted_rng};
 pub use blob_opens::{Opens, open, opens};
-pub use blob_states::laws;
+pub use blob_script::{Call, Reply, call, reply, script};
 pub use ending::Ending;
 pub use resolution_line::ResolutionLine;
 pub use resolutions::{run_resolve, serve_resolve};

@@ -8,7 +8,7 @@ ghost use Rattle.blob_lab.specs.Streams.{reader_of, lines_left, read_failed, wri
 
 use crate::Ending;
 use crate::scripts::Ahead;
-use blob_calls::script::read_through;
+use blob_script::script::read_through;
 use memchr::memchr;
 use std::fmt::Display;
 use std::io::{BufRead, ErrorKind, Write};

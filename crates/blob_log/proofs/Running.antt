@@ -8,7 +8,7 @@ use Rattle.blob_header.specs.Refusals.{refused}
 use Rattle.blob_header.specs.declared.error.Error.{Error}
 use Rattle.blob_model.specs.Draws.{Row, chosen_by}
 use Rattle.blob_model.specs.Files.{after_crash}
-use Rattle.blob_faults.specs.declared.selections.Selections.{Selections}
+use Rattle.blob_draws.specs.declared.selections.Selections.{Selections}
 use Rattle.blob_faulty.specs.Crashes.{CrashDraws, CrashLeaves}
 use Rattle.blob_faulty.specs.Keeps.{OverMemory, IsFor}
 use Rattle.blob_faulty.specs.Wrapper.{config_of}

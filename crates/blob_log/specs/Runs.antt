@@ -13,7 +13,7 @@ use Rattle.blob_faulty.specs.Wrapper.{inner_of, inside, rng_of, config_of, next_
 use Rattle.blob_faulty.specs.declared.blob.Blob.{Blob}
 use Rattle.blob_memory.specs.Store.{durable}
 use Rattle.blob_memory.specs.declared.blob.Blob as memory_blob
-use Rattle.blob_faults.specs.declared.config.Config.{Config}
+use Rattle.blob_draws.specs.declared.config.Config.{Config}
 use Rattle.blob_log.specs.declared.log.Log.{Log}
 use Rattle.blob_log.specs.declared.sessions.Session.{Session}
 use Rattle.blob_log.specs.Held.{HoldsRecords, log_blob, log_end, record_bytes}

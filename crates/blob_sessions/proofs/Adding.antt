@@ -3,16 +3,16 @@ use Rattle.std.proofs.Common.{◌≡◌, ℕ, ◌+◌, ◌≤◌, List, [], ◌�
 use Rattle.std.proofs.lemmas.List.{length_push, map-append}
 use Rattle.std.proofs.lemmas.List.Elements.{All-push}
 use Rattle.std.specs.Global.{Global}
-use Rattle.blob_calls.specs.declared.script.setting.Setting.{Setting}
-use Rattle.blob_calls.specs.Acts as acts
-use Rattle.blob_calls.specs.Acts.{Act}
-use Rattle.blob_calls.specs.Lines.{Image, Given, Seed, Configure, line_of}
-use Rattle.blob_calls.specs.Tokens.{is_empty}
+use Rattle.blob_script.specs.declared.script.setting.Setting.{Setting}
+use Rattle.blob_script.specs.Acts as acts
+use Rattle.blob_script.specs.Acts.{Act}
+use Rattle.blob_script.specs.Lines.{Image, Given, Seed, Configure, line_of}
+use Rattle.blob_script.specs.Tokens.{is_empty}
 use Rattle.blob_lab.specs.Scripts.{Script, no_script, lines_of, with_said, with_line}
-use Rattle.blob_states.specs.Scripted.{behind_seeded}
-use Rattle.blob_calls.specs.Settings.{configured}
-use Rattle.blob_states.specs.States as states
-use Rattle.blob_laboratory.specs.Tables.{images_of}
+use Rattle.blob_lab_model.specs.Scripted.{behind_seeded}
+use Rattle.blob_script.specs.Settings.{configured}
+use Rattle.blob_lab_model.specs.States as states
+use Rattle.blob_lab_store.specs.Tables.{images_of}
 use Rattle.blob_lab.proofs.ScriptSteps.{more_lines, one_line}
 use Rattle.blob_sessions.specs.declared.preamble.Preamble.{Preamble}
 use Rattle.blob_sessions.specs.Preambles.{IsSetting, IsNoSetting, BreaksAt, Says, IsReadTo}

@@ -1,12 +1,12 @@
 -- How a line is answered, by how its call is made and its reply told.
 use Rattle.std.proofs.Common.{◌≡◌, ◌≢◌, ◌<◌, ℕ, List, Option, Some, None, IfSome, MatchOption, length, take, refl, sym, ap, ◌∙◌, subst, inl, inr, arith}
-use Rattle.blob_calls.specs.declared.call.Call.{Call as LabCall}
-use Rattle.blob_laboratory.specs.declared.lab.Lab.{Lab}
-use Rattle.blob_calls.specs.declared.reply.Reply.{Reply}
-use Rattle.blob_calls.specs.Acts.{Act}
-use Rattle.blob_laboratory.specs.LabStands.{Performs}
-use Rattle.blob_calls.specs.Replies.{reply_line}
-use Rattle.blob_faults.specs.declared.config.Config.{Config}
+use Rattle.blob_script.specs.declared.call.Call.{Call as LabCall}
+use Rattle.blob_lab_store.specs.declared.lab.Lab.{Lab}
+use Rattle.blob_script.specs.declared.reply.Reply.{Reply}
+use Rattle.blob_script.specs.Acts.{Act}
+use Rattle.blob_lab_store.specs.LabStands.{Performs}
+use Rattle.blob_script.specs.Replies.{reply_line}
+use Rattle.blob_draws.specs.declared.config.Config.{Config}
 use Rattle.blob_sessions.specs.declared.kept.Kept.{Kept}
 use Rattle.blob_sessions.specs.declared.ran.Ran.{Ran}
 use Rattle.blob_sessions.specs.declared.ran.TheConstants.{BAD_LINE}

@@ -11,12 +11,12 @@ use Rattle.std.proofs.lemmas.Slice.{take-put_mid, drop-put_mid}
 use borrow.Rule.Slice.PartMut.{put_mid, same_len_mid}
 use Rattle.hex.specs.Hex.{encode_lower, lower_digits}
 use Rattle.hex.proofs.HexLemmas.{length-encode_with}
-use Rattle.blob_calls.proofs.HexFields.{none, some}
-use Rattle.blob_calls.specs.Replies.{hex_field, reply_line, row_field}
-use Rattle.blob_calls.specs.declared.reply.Reply.{Reply}
-use Rattle.blob_calls.specs.declared.reply.Reply.TheVariants.{Crashed}
-use Rattle.blob_faults.specs.Rows.{row_in, rows_of, table_of}
-use Rattle.blob_faults.specs.declared.selections.Selections.{Selections}
+use Rattle.blob_script.proofs.HexFields.{none, some}
+use Rattle.blob_script.specs.Replies.{hex_field, reply_line, row_field}
+use Rattle.blob_script.specs.declared.reply.Reply.{Reply}
+use Rattle.blob_script.specs.declared.reply.Reply.TheVariants.{Crashed}
+use Rattle.blob_draws.specs.Rows.{row_in, rows_of, table_of}
+use Rattle.blob_draws.specs.declared.selections.Selections.{Selections}
 use Rattle.blob_sessions.specs.ReplyTexts.{Puts, PutsTo}
 
 drop_further : (m e : ℕ) (xs ys : List ℕ) → m ≤ e → drop m xs ≡ drop m ys → drop e xs ≡ drop e ys

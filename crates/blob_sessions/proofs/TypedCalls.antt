@@ -1,8 +1,8 @@
 -- How a typed call ends, by how its call is built and made.
 use Rattle.std.proofs.Common.{◌≡◌, ◌<◌, ℕ, List, Option, Some, refl, ap, ◌∙◌, subst, sym, arith}
-use Rattle.blob_calls.specs.Acts.{Act}
-use Rattle.blob_calls.specs.declared.reply.Reply.{Reply}
-use Rattle.blob_calls.specs.declared.reply.Reply.TheVariants.{Done, Opened, Bytes, Size, Names, Started, Crashed, Failed, NoHandle, EmptyRange}
+use Rattle.blob_script.specs.Acts.{Act}
+use Rattle.blob_script.specs.declared.reply.Reply.{Reply}
+use Rattle.blob_script.specs.declared.reply.Reply.TheVariants.{Done, Opened, Bytes, Size, Names, Started, Crashed, Failed, NoHandle, EmptyRange}
 use Rattle.blob_header.specs.Refusals as refusals
 use Rattle.blob_header.specs.Refusals.{Refusal, refusal_of}
 use Rattle.blob_sessions.specs.Applying.{Applies}

@@ -1,7 +1,7 @@
 -- What a typed call does to a session.
 use Rattle.std.specs.Prelude.{◌≡◌, ℕ, List, Some}
-use Rattle.blob_calls.specs.Acts.{Act}
-use Rattle.blob_calls.specs.declared.reply.Reply.{Reply}
+use Rattle.blob_script.specs.Acts.{Act}
+use Rattle.blob_script.specs.declared.reply.Reply.{Reply}
 use Rattle.blob_sessions.specs.Sessions.{Makes, OnHeld, kept_of}
 use Rattle.blob_sessions.specs.Typed.{IsNoTypedCall, typed_act, typed_reply, without_reply}
 use Rattle.blob_sessions.specs.declared.kept.Kept.{Kept}

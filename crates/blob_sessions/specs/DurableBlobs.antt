@@ -2,7 +2,7 @@
 use Rattle.std.specs.Prelude.{◌≡◌, ◌⊎◌, ℕ, List, Bool, true, false, Option, MatchOption, IsUtf8}
 use Rattle.blob_faulty.specs.Wrapper.{inner_of}
 use Rattle.blob_header.specs.Checksum.{crc32c}
-use Rattle.blob_laboratory.specs.LabStands.{wrapper_of}
+use Rattle.blob_lab_store.specs.LabStands.{wrapper_of}
 use Rattle.blob_memory.specs.Audit.{audit}
 use Rattle.blob_memory.specs.Listing.{logical_blob_of, raw_blob_of}
 use Rattle.blob_memory.specs.Store.{directory, durable, listing}

@@ -2,9 +2,9 @@
 use Rattle.std.specs.Prelude.{◌≡◌, ◌⊎◌, ◌<◌, ◌+◌, ℕ, List, [], Bool, not, min, length, take, drop, position, unwrap_or, slice_get, Option, Some, None, option_map, MatchOption, Vec}
 use Rattle.std.specs.Global.{Global}
 use Rattle.std.specs.Str.{bytes_eq}
-use Rattle.blob_calls.specs.declared.reply.Reply.{Reply}
-use Rattle.blob_calls.specs.declared.reply.Reply.TheVariants.{Crashed, Names}
-use Rattle.blob_faults.specs.Rows.{row_in, rows_of}
+use Rattle.blob_script.specs.declared.reply.Reply.{Reply}
+use Rattle.blob_script.specs.declared.reply.Reply.TheVariants.{Crashed, Names}
+use Rattle.blob_draws.specs.Rows.{row_in, rows_of}
 use Rattle.blob_model.specs.Draws.{Row}
 use Rattle.blob_sessions.specs.Sessions.{Inspects, IsClosed, stopped}
 use Rattle.blob_sessions.specs.declared.parts.KeptRun.{KeptRun}

@@ -1,12 +1,12 @@
 -- What a session is opened with: a script that makes no call but settings.
 use Rattle.std.specs.Prelude.{◌≡◌, ◌≢◌, ◌⊎◌, ℕ, suc, List, [], ◌∷◌, ◌++◌, All, true, length, Some, None}
-use Rattle.blob_calls.specs.Acts as acts
-use Rattle.blob_calls.specs.Acts.{Act}
-use Rattle.blob_laboratory.specs.LabStands.{LabStandsFor}
-use Rattle.blob_calls.specs.Lines.{Call, line_of}
+use Rattle.blob_script.specs.Acts as acts
+use Rattle.blob_script.specs.Acts.{Act}
+use Rattle.blob_lab_store.specs.LabStands.{LabStandsFor}
+use Rattle.blob_script.specs.Lines.{Call, line_of}
 use Rattle.blob_lab.specs.Scripts.{Script, lines_of, script_of, with_line}
-use Rattle.blob_states.specs.States.{start}
-use Rattle.blob_laboratory.specs.Tables.{images_of}
+use Rattle.blob_lab_model.specs.States.{start}
+use Rattle.blob_lab_store.specs.Tables.{images_of}
 use Rattle.blob_sessions.specs.declared.kept.Kept.{Kept}
 use Rattle.blob_sessions.specs.declared.preamble.Preamble.{Preamble}
 

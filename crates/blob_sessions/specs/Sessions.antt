@@ -1,16 +1,16 @@
 -- What a session holds, and what its calls do to that.
 use Rattle.std.specs.Prelude.{◌≡◌, ◌≢◌, ◌⊎◌, ◌<◌, ◌≤◌, ◌^◌, ℕ, List, [], Bool, length, take, drop, Option, Some, None, IfSome, MatchOption}
-use Rattle.blob_faults.specs.declared.config.Config.{Config}
-use Rattle.blob_calls.specs.declared.script.setting.Setting.{Setting}
-use Rattle.blob_calls.specs.declared.reply.Reply.{Reply}
-use Rattle.blob_calls.specs.declared.reply.Reply.TheVariants as replies
-use Rattle.blob_calls.specs.Acts as acts
-use Rattle.blob_calls.specs.Acts.{Act, Through, Read, Write}
-use Rattle.blob_laboratory.specs.LabStands.{Performs}
-use Rattle.blob_calls.specs.Lines.{Blank, Configure, Call, line_of}
-use Rattle.blob_calls.specs.Replies.{reply_line}
+use Rattle.blob_draws.specs.declared.config.Config.{Config}
+use Rattle.blob_script.specs.declared.script.setting.Setting.{Setting}
+use Rattle.blob_script.specs.declared.reply.Reply.{Reply}
+use Rattle.blob_script.specs.declared.reply.Reply.TheVariants as replies
+use Rattle.blob_script.specs.Acts as acts
+use Rattle.blob_script.specs.Acts.{Act, Through, Read, Write}
+use Rattle.blob_lab_store.specs.LabStands.{Performs}
+use Rattle.blob_script.specs.Lines.{Blank, Configure, Call, line_of}
+use Rattle.blob_script.specs.Replies.{reply_line}
 use Rattle.blob_lab.specs.Scripts.{Script, with_line}
-use Rattle.blob_calls.specs.Settings.{configured}
+use Rattle.blob_script.specs.Settings.{configured}
 use Rattle.blob_sessions.specs.declared.kept.Kept.{Kept}
 use Rattle.blob_sessions.specs.declared.session.Session.{Session}
 use Rattle.blob_sessions.specs.declared.ran.Ran.{Ran}

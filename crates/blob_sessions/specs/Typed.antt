@@ -1,10 +1,10 @@
 -- Calls and replies in numbers.
 use Rattle.std.specs.Prelude.{◌≡◌, ◌⊎◌, ◌==◌, ◌&&◌, ◌∷◌, [], ℕ, List, false, nat_lt, if◌then◌else◌, Option, Some, None, option_map, IsUtf8, length}
-use Rattle.blob_calls.specs.Acts as acts
-use Rattle.blob_calls.specs.Acts.{AcceptedVersions, Act, Through, accepted_versions}
-use Rattle.blob_calls.specs.declared.reply.Reply.{Reply}
-use Rattle.blob_calls.specs.declared.reply.Reply.TheVariants.{Done, Opened, Bytes, Size, Names, Started, Crashed, Failed, NoHandle, EmptyRange}
-use Rattle.blob_faults.specs.Rows.{rows_of}
+use Rattle.blob_script.specs.Acts as acts
+use Rattle.blob_script.specs.Acts.{AcceptedVersions, Act, Through, accepted_versions}
+use Rattle.blob_script.specs.declared.reply.Reply.{Reply}
+use Rattle.blob_script.specs.declared.reply.Reply.TheVariants.{Done, Opened, Bytes, Size, Names, Started, Crashed, Failed, NoHandle, EmptyRange}
+use Rattle.blob_draws.specs.Rows.{rows_of}
 use Rattle.blob_header.specs.Refusals.{refusal_of}
 use Rattle.blob_sessions.specs.Statuses.{refusal_status}
 use Rattle.blob_sessions.specs.declared.kinds.TheConstants.{OPEN, OPEN_LOOSE, ADMIT, CLOSE, RESIZE, SIZE, SYNC, START_SYNC, FINISH, REMOVE_BLOB, REMOVE_PARTITION, SCAN, CRASH, REOPEN}

@@ -1,9 +1,9 @@
 -- The words of a session's generator: how many are left, and words that are inserted before them.
 use Rattle.std.specs.Prelude.{◌≡◌, ◌⊎◌, ℕ, List, true, is_some}
-use Rattle.blob_laboratory.specs.Generators.{PushesWords, generator_of}
-use Rattle.blob_laboratory.specs.LabStands.{LabStandsFor}
+use Rattle.blob_lab_store.specs.Generators.{PushesWords, generator_of}
+use Rattle.blob_lab_store.specs.LabStands.{LabStandsFor}
 use Rattle.blob_tree.specs.WordsLeft.{EndsAfter}
-use Rattle.blob_states.specs.States.{State}
+use Rattle.blob_lab_model.specs.States.{State}
 use Rattle.blob_sessions.specs.declared.kept.Kept.{Kept}
 use Rattle.blob_sessions.specs.declared.ran.Ran.{Ran}
 use Rattle.blob_sessions.specs.declared.ran.TheConstants.{DONE, ENDLESS, NO_MEMORY}

@@ -1,8 +1,8 @@
 // A laboratory with what its lines need beside it.
 ghost use Rattle.std.specs.Prelude.{◌≡◌, Some, None, IfSome, IfNone, IfOk, OnErr};
-ghost use Rattle.blob_calls.specs.Acts.{act_of};
-ghost use Rattle.blob_calls.specs.Lines.{Blank, line_of};
-ghost use Rattle.blob_calls.specs.Settings.{configured};
+ghost use Rattle.blob_script.specs.Acts.{act_of};
+ghost use Rattle.blob_script.specs.Lines.{Blank, line_of};
+ghost use Rattle.blob_script.specs.Settings.{configured};
 ghost use Rattle.blob_sessions.specs.Applying.{Applies};
 ghost use Rattle.blob_sessions.specs.Sessions.{RunsLine, AnswersRead, AnswersWrite, SaysCall, IsNoCall, Makes, TellsAgain};
 ghost use Rattle.blob_sessions.specs.Typed.{last_reply};

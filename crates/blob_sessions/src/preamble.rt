@@ -1,9 +1,9 @@
 // What a session is opened with: the lines of a script before its calls, and settings.
 ghost use Rattle.std.specs.Prelude.{◌≡◌, ◌==◌, ◌<◌, ℕ, ◌∷◌, [], Some, IfSome, IfNone, IfOk, OnOk, All, length, position};
-ghost use Rattle.blob_laboratory.specs.LabStands.{LabStandsFor};
+ghost use Rattle.blob_lab_store.specs.LabStands.{LabStandsFor};
 ghost use Rattle.blob_lab.specs.Scripts.{Script, lines_of, no_script, with_line};
-ghost use Rattle.blob_states.specs.States.{start};
-ghost use Rattle.blob_laboratory.specs.Tables.{images_of};
+ghost use Rattle.blob_lab_model.specs.States.{start};
+ghost use Rattle.blob_lab_store.specs.Tables.{images_of};
 ghost use Rattle.blob_sessions.specs.Preambles.{AreSettings, BreaksAt, IsMadeOf, IsNoSetting, IsSetting, Says, SaysOneMore};
 
 use crate::kept::{Kept, copy_of};

@@ -3,8 +3,8 @@ ghost use Rattle.std.specs.Prelude.{◌≡◌, ◌≤◌, ◌^◌, ◌++◌, ◌
 ghost use Rattle.std.specs.Fmt.{decimal};
 ghost use Rattle.std.specs.List.{flat_map};
 ghost use Rattle.hex.specs.Hex.{encode_lower};
-ghost use Rattle.blob_calls.specs.Replies.{hex_field, reply_line, row_field};
-ghost use Rattle.blob_faults.specs.Rows.{row_in};
+ghost use Rattle.blob_script.specs.Replies.{hex_field, reply_line, row_field};
+ghost use Rattle.blob_draws.specs.Rows.{row_in};
 ghost use Rattle.blob_header.specs.Refusals.{refusal_of};
 ghost use Rattle.blob_header.specs.ReplyLines.{field_of, layout_name, refusal_line};
 ghost use Rattle.blob_sessions.specs.ReplyTexts.{Puts};

@@ -1,6 +1,6 @@
 // Calls and replies without text.
 ghost use Rattle.std.specs.Prelude.{◌≡◌, Some, None, IfOk, IsUtf8, string_bytes};
-ghost use Rattle.blob_calls.specs.Acts.{act_of, versions_of};
+ghost use Rattle.blob_script.specs.Acts.{act_of, versions_of};
 ghost use Rattle.blob_sessions.specs.Typed.{IsNoTypedCall, sized, typed_act, typed_reply, typed_versions, without_reply};
 
 use crate::kinds::{

@@ -1,8 +1,8 @@
 // The program of `blobcrash explain`: a script's replies, with pictures of its crashes.
 #![tactic(auto)]
 
+use blob_explain::explain_script;
 use blob_lab::{Ending, streams};
-use blob_pictures::explain_script;
 use std::env;
 use std::io::{self, BufReader, BufWriter, ErrorKind};
 use std::process::ExitCode;

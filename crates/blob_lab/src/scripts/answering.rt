@@ -10,9 +10,9 @@ ghost use Rattle.blob_lab.specs.Streams.{reader_of, AppendsPart, OfBytes, ToldEn
 use super::Ahead;
 use super::lines::{Lines, Preamble};
 use crate::{Ending, Input, Output};
-use blob_calls::Call;
-use blob_calls::script::print_reply;
-use blob_laboratory::Lab;
+use blob_lab_store::Lab;
+use blob_script::Call;
+use blob_script::script::print_reply;
 use std::alloc::Global;
 use std::io::Write;
 

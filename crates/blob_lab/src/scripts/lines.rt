@@ -3,26 +3,26 @@ ghost use Rattle.std.specs.Prelude.{◌≡◌, ℕ, ◌+◌, ◌<◌, [], true, 
 ghost use Rattle.std.specs.Io.Iter.{u64_saturate};
 ghost use Rattle.std.specs.Io.KnownBytes.{Keeps};
 ghost use Rattle.blob_lab.specs.Endings.{is_cut};
-ghost use Rattle.blob_laboratory.specs.LabStands.{LabStandsFor};
-ghost use Rattle.blob_calls.specs.Lines.{said_by};
+ghost use Rattle.blob_lab_store.specs.LabStands.{LabStandsFor};
+ghost use Rattle.blob_script.specs.Lines.{said_by};
 ghost use Rattle.blob_lab.specs.Reading.{StaysKnown, IsReadOut};
 ghost use Rattle.blob_lab.specs.ScriptReading.{OfRead, TakesLine, TakesOne, TakesPart, ReadsFirstCall, ReadsPreamble, ReadsBadStart, ReadsPreamblePart};
 ghost use Rattle.blob_lab.specs.ScriptReading.{ReadsNextCall, ReadsBadCall, ReadsBadLine};
 ghost use Rattle.blob_lab.specs.Scripts.{Script, with_lines};
-ghost use Rattle.blob_calls.specs.Settings.{cleared, configured};
-ghost use Rattle.blob_states.specs.States.{start};
+ghost use Rattle.blob_script.specs.Settings.{cleared, configured};
+ghost use Rattle.blob_lab_model.specs.States.{start};
 ghost use Rattle.blob_lab.specs.Streams.{reader_of, lines_left, writer_of, ToldEnding};
-ghost use Rattle.blob_laboratory.specs.Tables.{images_of};
+ghost use Rattle.blob_lab_store.specs.Tables.{images_of};
 
 use super::Ahead;
 use crate::streams::drop_line_feed;
 use crate::{Ending, Input, Output};
 use blob_base::Error;
-use blob_calls::Call;
-use blob_calls::script::setting::copy_of;
-use blob_calls::script::{Line, RefusedLine, Setting, read_line};
 use blob_faulty::Config;
-use blob_laboratory::Lab;
+use blob_lab_store::Lab;
+use blob_script::Call;
+use blob_script::script::setting::copy_of;
+use blob_script::script::{Line, RefusedLine, Setting, read_line};
 use std::alloc::Global;
 use std::io::Write;
 

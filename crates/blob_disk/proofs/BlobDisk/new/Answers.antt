@@ -12,7 +12,7 @@ use Rattle.blob_disk.proofs.BlobDisk.new.Goals as goal
 use Rattle.blob_disk.proofs.Opening.{memory_alone, opens_again, refused_alone}
 use Rattle.blob_disk.proofs.Outcomes.{configured_here, configured_openable, configured_whole}
 use Rattle.blob_faulty.specs.Certain.{IsNever}
-use Rattle.blob_faults.specs.Faults.{draw}
+use Rattle.blob_draws.specs.Faults.{draw}
 use Rattle.blob_faulty.specs.Keeps.{OverMemory}
 use Rattle.blob_faulty.specs.Wrapper.{config_of, inner_of, rng_of, Stands}
 use Rattle.blob_memory.specs.Store.{directory, durable}

@@ -9,12 +9,12 @@ use Rattle.blob_model.specs.Stands.{replayed_at}
 use Rattle.rand_core.specs.Stream.{Stream}
 use Rattle.blob_disk.proofs.Crashes.{draw_so, left_by_crash, left_so, may_crash, no_more}
 use Rattle.blob_disk.specs.Crashes.{crash_draws, open_fails}
-use Rattle.blob_faults.specs.declared.config.Config.{Config}
+use Rattle.blob_draws.specs.declared.config.Config.{Config}
 use Rattle.blob_faulty.specs.Keeps.{IsFor}
 use Rattle.blob_model.specs.Draws.{Row}
 use Rattle.blob_disk.proofs.Outcomes.{at_place, here_so, keeps_all, openable_so, same_outcomes, whole_so}
 use Rattle.blob_disk.proofs.calls.lose.Goals as goal
-use Rattle.blob_faults.specs.Rows.{table_of}
+use Rattle.blob_draws.specs.Rows.{table_of}
 use Rattle.blob_faulty.specs.Wrapper.{inner_of, inside, pending_of}
 use Rattle.blob_memory.specs.Store.{durable, live, place}
 

@@ -6,8 +6,8 @@ use Rattle.blob_header.specs.Refusals.{refused}
 use Rattle.blob_disk.proofs.Adding.{current_now, cut_so}
 use Rattle.blob_disk.proofs.Outcomes.{at_place}
 use Rattle.blob_disk.proofs.calls.resize.Goals as goal
-use Rattle.blob_faults.specs.Faults.{resize_fate}
-use Rattle.blob_faults.specs.Recorded.{recorded_resize}
+use Rattle.blob_draws.specs.Faults.{resize_fate}
+use Rattle.blob_draws.specs.Recorded.{recorded_resize}
 use Rattle.blob_faulty.specs.Wrapper.{config_of, inner_of, inside, rng_of, size_of}
 use Rattle.blob_memory.specs.Store.{durable, live, place}
 

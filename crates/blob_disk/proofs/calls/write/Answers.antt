@@ -3,14 +3,14 @@ use Rattle.std.proofs.lemmas.Result.{on_ok_weaker}
 use Rattle.blob_base.specs.Options.{is_sync}
 use Rattle.blob_header.specs.Refusals.{refused}
 use Rattle.blob_model.specs.Live.{live_written}
-use Rattle.blob_faults.specs.Answers.{allows_write}
+use Rattle.blob_draws.specs.Answers.{allows_write}
 use Rattle.blob_faulty.specs.OverMemory.{memory_handle}
 use Rattle.blob_disk.proofs.Adding.{current_now, torn_follows, wrote}
 use Rattle.blob_disk.proofs.Laying.{holds_written}
 use Rattle.blob_disk.proofs.Outcomes.{at_place}
 use Rattle.blob_disk.proofs.calls.write.Goals as goal
 use Rattle.blob_faulty.specs.Outcomes.{WritesSome}
-use Rattle.blob_faults.specs.Recorded.{recorded_write}
+use Rattle.blob_draws.specs.Recorded.{recorded_write}
 use Rattle.blob_faulty.specs.Wrapper.{config_of, inner_of, inside, next_write_of, rng_of, size_of}
 use Rattle.blob_memory.specs.Store.{durable, live, place}
 use Rattle.sqlite_disk.specs.Disk.{Holds}

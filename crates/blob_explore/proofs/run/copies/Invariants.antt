@@ -1,5 +1,5 @@
 use Rattle.std.proofs.Common.{◌≡◌, take}
-use Rattle.blob_laboratory.specs.Tables.{images_of}
+use Rattle.blob_lab_store.specs.Tables.{images_of}
 use Rattle.blob_explore.proofs.run.copies.Given as goal
 
 abbrev pub invariant-loop-image : goal.invariant-loop-image

@@ -1,13 +1,13 @@
 use Rattle.std.proofs.Common.{rules, ◌≡◌, subst, List}
 use Rattle.std.proofs.lemmas.Option.{IfSome_then}
-use Rattle.blob_calls.specs.declared.call.Call.{Call}
-use Rattle.blob_calls.specs.Settings.{cleared}
-use Rattle.blob_faults.specs.declared.config.Config.{Config}
-use Rattle.blob_laboratory.specs.LabStands.{LabStandsFor}
-use Rattle.blob_laboratory.specs.Tables.{images_of}
-use Rattle.blob_states.specs.Runs.{LeadsTo}
-use Rattle.blob_states.specs.Scripted.{only}
-use Rattle.blob_states.specs.States.{Image, State, start}
+use Rattle.blob_script.specs.declared.call.Call.{Call}
+use Rattle.blob_script.specs.Settings.{cleared}
+use Rattle.blob_draws.specs.declared.config.Config.{Config}
+use Rattle.blob_lab_store.specs.LabStands.{LabStandsFor}
+use Rattle.blob_lab_store.specs.Tables.{images_of}
+use Rattle.blob_lab_model.specs.Runs.{LeadsTo}
+use Rattle.blob_lab_model.specs.Scripted.{only}
+use Rattle.blob_lab_model.specs.States.{Image, State, start}
 use Rattle.blob_explore.proofs.run.run.Goals as goal
 
 pub returns-in-Ok : goal.returns-in-Ok

@@ -1,7 +1,7 @@
 use Rattle.std.proofs.Common.{◌≡◌, ℕ, ◌<◌, get_or}
 use Rattle.blob_model.specs.Places.{Place}
-use Rattle.blob_faults.specs.declared.incarnation.Incarnation.{Incarnation}
-use Rattle.blob_faults.specs.Lists.{held_by}
+use Rattle.blob_pending.specs.declared.incarnation.Incarnation.{Incarnation}
+use Rattle.blob_pending.specs.Lists.{held_by}
 use Rattle.blob_faulty.specs.Ready.{IsReady}
 use Rattle.blob_memory.specs.Store.{directory, durable}
 use Rattle.blob_faulty.proofs.crash.reserve_all.Given as goal

@@ -1,7 +1,7 @@
 use Rattle.std.proofs.Common.{◌≡◌, max, drop}
 use Rattle.blob_model.specs.Places.{Place}
-use Rattle.blob_faults.specs.Lists.{held}
-use Rattle.blob_faults.specs.Replays.{widest_of_all}
+use Rattle.blob_pending.specs.Lists.{held}
+use Rattle.blob_pending.specs.Replays.{widest_of_all}
 use Rattle.blob_faulty.proofs.crash.widest_of_all.Given as goal
 
 abbrev pub invariant-loop-list : goal.invariant-loop-list

@@ -1,6 +1,6 @@
 use Rattle.std.proofs.Common.{◌≡◌, ◌<◌, ◌+◌, ℕ, length, drop, get_or, not, ◌&&◌, false}
 use Rattle.blob_model.specs.Holes.{in_holes}
-use Rattle.blob_faults.specs.Ranges.{ranges}
+use Rattle.blob_pending.specs.Ranges.{ranges}
 use Rattle.blob_faulty.proofs.replay.deselect_covered.Given as goal
 
 abbrev pub invariant-loop-hole : goal.invariant-loop-hole

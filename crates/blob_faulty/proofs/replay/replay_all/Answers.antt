@@ -5,8 +5,8 @@ use Rattle.blob_model.specs.Order.{ListAt, held_at, ArePlacesApart}
 use Rattle.blob_model.specs.Places.{Place}
 use Rattle.blob_model.specs.Stands.{replayed_at}
 use Rattle.blob_memory.specs.Store.{durable}
-use Rattle.blob_faults.specs.Lists.{held, held_by}
-use Rattle.blob_faults.specs.Rows.{rows_in}
+use Rattle.blob_pending.specs.Lists.{held, held_by}
+use Rattle.blob_draws.specs.Rows.{rows_in}
 use Rattle.blob_faulty.proofs.Replaying.{replay_first, widest_in, held_more}
 use Rattle.blob_faulty.proofs.replay.replay_all.Goals as goal
 

@@ -3,10 +3,10 @@ use Rattle.blob_model.specs.Draws.{chosen_by}
 use Rattle.blob_model.specs.Order.{ArePlacesApart}
 use Rattle.blob_model.specs.Places.{Place}
 use Rattle.blob_model.specs.Stands.{replayed_at}
-use Rattle.blob_faults.specs.Lists.{held, list_of}
+use Rattle.blob_pending.specs.Lists.{held, list_of}
 use Rattle.std.specs.Prelude.{◌≤◌, vec_capacity}
 use Rattle.blob_memory.specs.Retained.{KeepsRoom}
-use Rattle.blob_faults.specs.Rows.{rows_in}
+use Rattle.blob_draws.specs.Rows.{rows_in}
 use Rattle.blob_memory.specs.Store.{durable}
 use Rattle.blob_faulty.proofs.replay.replay_all.Given as goal
 

@@ -1,8 +1,8 @@
 use Rattle.std.proofs.Common.{◌≡◌, ◌<◌, ◌≤◌, ◌∙◌, ap, sym, true, length, get_or, arith}
 use Rattle.blob_model.specs.Pending.{end_of, ends}
-use Rattle.blob_faults.specs.declared.entry.Entry.{Entry}
-use Rattle.blob_faults.specs.Replays.{width}
-use Rattle.blob_faults.specs.Views.{view, is_left, left_in}
+use Rattle.blob_pending.specs.declared.entry.Entry.{Entry}
+use Rattle.blob_pending.specs.Replays.{width}
+use Rattle.blob_pending.specs.Views.{view, is_left, left_in}
 use Rattle.blob_faulty.proofs.Replaying.{end_in, width_in}
 use Rattle.blob_faulty.proofs.replay.replay_entries.Goals as goal
 

@@ -2,8 +2,8 @@ use Rattle.std.proofs.Common.{◌≡◌, ◌≤◌, drop, false}
 use Rattle.std.specs.Prelude.{vec_capacity}
 use Rattle.blob_model.specs.Draws.{chosen_by}
 use Rattle.blob_model.specs.Pending.{has_marker, replay}
-use Rattle.blob_faults.specs.Rows.{rows_in}
-use Rattle.blob_faults.specs.Views.{left_in}
+use Rattle.blob_draws.specs.Rows.{rows_in}
+use Rattle.blob_pending.specs.Views.{left_in}
 use Rattle.blob_faulty.proofs.replay.replay_entries.Given as goal
 
 abbrev pub invariant-loop-entry : goal.invariant-loop-entry

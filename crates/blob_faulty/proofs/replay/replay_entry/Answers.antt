@@ -5,10 +5,10 @@ use Rattle.blob_model.specs.Holes.{in_holes}
 use Rattle.blob_model.specs.Log.{Choices}
 use Rattle.blob_model.specs.Pending.{replayed, end_of}
 use Rattle.blob_model.specs.Runs.{picked}
-use Rattle.blob_faults.specs.declared.entry.Entry.{Entry}
-use Rattle.blob_faults.specs.Ranges.{ranges}
-use Rattle.blob_faults.specs.Rows.{rows_in}
-use Rattle.blob_faults.specs.Views.{view, write_of}
+use Rattle.blob_pending.specs.declared.entry.Entry.{Entry}
+use Rattle.blob_pending.specs.Ranges.{ranges}
+use Rattle.blob_draws.specs.Rows.{rows_in}
+use Rattle.blob_pending.specs.Views.{view, write_of}
 use Rattle.blob_faulty.proofs.Replaying.{masked, reach_within, ok_is}
 use Rattle.blob_faulty.proofs.replay.replay_entry.Goals as goal
 

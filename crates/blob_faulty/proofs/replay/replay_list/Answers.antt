@@ -6,12 +6,12 @@ use Rattle.blob_model.specs.Log.{Choices}
 use Rattle.blob_model.specs.Pending.{Pending, has_marker, replay, ends}
 use Rattle.blob_memory.specs.Contents.{bytes_of}
 use Rattle.blob_memory.specs.Store.{durable}
-use Rattle.blob_faults.specs.declared.entry.Entry.{Entry}
-use Rattle.blob_faults.specs.Replays.{unmarked, widest}
-use Rattle.blob_faults.specs.Rows.{rows_in}
-use Rattle.blob_faults.specs.Views.{left_in}
+use Rattle.blob_pending.specs.declared.entry.Entry.{Entry}
+use Rattle.blob_pending.specs.Replays.{unmarked, widest}
+use Rattle.blob_draws.specs.Rows.{rows_in}
+use Rattle.blob_pending.specs.Views.{left_in}
 use Rattle.blob_faulty.proofs.Replaying.{changed_ended, widest_unmarked, if_some}
-use Rattle.blob_faults.proofs.Unmarked.{unmarked_none, unmarked_replays}
+use Rattle.blob_pending.proofs.Unmarked.{unmarked_none, unmarked_replays}
 use Rattle.blob_faulty.proofs.replay.replay_list.Goals as goal
 
 pub replay_entries-requires-clause-unmarked : goal.replay_entries-requires-clause-unmarked

@@ -1,5 +1,5 @@
 use Rattle.std.specs.Prelude.{codes}
-use Rattle.blob_calls.specs.Replies.{hex_field}
+use Rattle.blob_script.specs.Replies.{hex_field}
 use Rattle.blob_sessions.proofs.Putting.{puts_then}
 use Rattle.blob_sessions.proofs.reply_text.put_name.Goals as goal
 

@@ -1,6 +1,6 @@
 use Rattle.std.proofs.Common.{rules}
 use Rattle.std.specs.Prelude.{◌++◌, codes}
-use Rattle.blob_calls.specs.Replies.{hex_field}
+use Rattle.blob_script.specs.Replies.{hex_field}
 use Rattle.blob_sessions.proofs.Putting.{puts_item, overflows_at_item}
 use Rattle.blob_sessions.proofs.reply_text.put_names.Goals as goal
 

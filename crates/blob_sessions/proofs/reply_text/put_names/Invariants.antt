@@ -1,7 +1,7 @@
 use Rattle.std.proofs.Common.{take, ◌++◌}
 use Rattle.std.specs.Prelude.{codes}
 use Rattle.std.specs.List.{flat_map}
-use Rattle.blob_calls.specs.Replies.{hex_field}
+use Rattle.blob_script.specs.Replies.{hex_field}
 use Rattle.blob_sessions.specs.ReplyTexts.{PutsTo}
 use Rattle.blob_sessions.proofs.reply_text.put_names.Given as goal
 

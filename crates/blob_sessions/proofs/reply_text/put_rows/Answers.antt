@@ -1,6 +1,6 @@
 use Rattle.std.proofs.Common.{rules}
-use Rattle.blob_calls.specs.Replies.{row_field}
-use Rattle.blob_faults.specs.Rows.{row_in}
+use Rattle.blob_script.specs.Replies.{row_field}
+use Rattle.blob_draws.specs.Rows.{row_in}
 use Rattle.blob_sessions.proofs.Putting.{puts_item, overflows_at_item}
 use Rattle.blob_sessions.proofs.reply_text.put_rows.Goals as goal
 

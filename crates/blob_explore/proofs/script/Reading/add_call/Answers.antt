@@ -1,7 +1,7 @@
 use Rattle.std.proofs.Common.{rules, ◌≡◌, List, [], ◌∷◌, ◌++◌, Some, sym, ap, ◌∙◌, subst}
-use Rattle.blob_calls.specs.declared.call.Call.{Call}
+use Rattle.blob_script.specs.declared.call.Call.{Call}
 use Rattle.blob_choices.specs.Outcomes.{SetNoPartialResize, acts_of}
-use Rattle.blob_calls.specs.Acts.{Act}
+use Rattle.blob_script.specs.Acts.{Act}
 use Rattle.blob_explore.specs.ScriptTexts.{script_so_far}
 use Rattle.blob_explore.proofs.Reading.{acts_more}
 use Rattle.blob_explore.proofs.Adding.{one_more_call}

@@ -8,11 +8,11 @@ use Rattle.blob_model.specs.Places.{Place}
 use Rattle.blob_model.specs.Stands.{retired}
 use Rattle.blob_model.proofs.FileSteps.{stands_admitted}
 use Rattle.blob_memory.specs.Store.{directory, durable}
-use Rattle.blob_faults.specs.declared.incarnation.Incarnation.{Incarnation}
-use Rattle.blob_faults.specs.Lists.{held, AreDistinct}
+use Rattle.blob_pending.specs.declared.incarnation.Incarnation.{Incarnation}
+use Rattle.blob_pending.specs.Lists.{held, AreDistinct}
 use Rattle.blob_faulty.proofs.Admitting.{admits_current}
 use Rattle.blob_faulty.proofs.Keeping.{keeps_admitted}
-use Rattle.blob_faults.proofs.ListSteps.{held_filter, held_at_filter}
+use Rattle.blob_pending.proofs.ListSteps.{held_filter, held_at_filter}
 use Rattle.blob_faulty.proofs.admit.Storage+blob_memory+Storage+R.admit.Given.{Over}
 use Rattle.blob_faulty.proofs.admit.Storage+blob_memory+Storage+R.admit.Goals as goal
 

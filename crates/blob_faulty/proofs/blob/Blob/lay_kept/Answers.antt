@@ -9,7 +9,7 @@ use Rattle.blob_faulty.specs.Asked.{Asks, AsksRuns, InnerRefusedInRoom}
 use Rattle.blob_faulty.proofs.Asking.{no_pieces, refused_room, laid_behind}
 use Rattle.blob_model.specs.Runs.{Run, runs, AreRunsApart}
 use Rattle.blob_faulty.specs.declared.write_runs.Piece.{Piece}
-use Rattle.blob_faults.specs.Answers.{or_memory, allows_runs, last_end}
+use Rattle.blob_draws.specs.Answers.{or_memory, allows_runs, last_end}
 use Rattle.blob_faulty.specs.Pieces.{runs_in}
 use Rattle.blob_faulty.specs.Writes.{View, Recorded, LaysFront, seen, laid_runs}
 use Rattle.blob_faulty.proofs.Plainly.{of_room_refused}

@@ -6,9 +6,9 @@ use Rattle.std.proofs.lemmas.Option.{none-some}
 use Rattle.blob_model.specs.Directory.{is_current}
 use Rattle.blob_header.specs.Refusals.{Refusal, WriteFailed, refused}
 use Rattle.blob_model.specs.Runs.{Run}
-use Rattle.blob_faults.specs.Lists.{HasRoomAt}
+use Rattle.blob_pending.specs.Lists.{HasRoomAt}
 use Rattle.blob_faulty.specs.Pieces.{run_of, runs_in, extents, EndsWithin}
-use Rattle.blob_faults.proofs.HoleRoom.{first_at}
+use Rattle.blob_pending.proofs.HoleRoom.{first_at}
 use Rattle.blob_faulty.proofs.RunSteps.{ok_holds, is_refused, is_done, popped, later_within, first_within}
 use Rattle.blob_base.specs.HandleCalls.{Write}
 use Rattle.blob_faulty.specs.Asked.{Made, run_calls}

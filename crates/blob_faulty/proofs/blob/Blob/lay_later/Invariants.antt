@@ -1,7 +1,7 @@
 use Rattle.std.proofs.Common.{◌≡◌, true, vec_len, All, [], Option, None}
 use Rattle.blob_header.specs.Refusals.{Refusal}
 use Rattle.blob_faulty.specs.Asked.{Made, run_calls}
-use Rattle.blob_faults.specs.Lists.{HasRoomAt}
+use Rattle.blob_pending.specs.Lists.{HasRoomAt}
 use Rattle.blob_faulty.specs.Pieces.{runs_in, extents, EndsWithin}
 use Rattle.blob_faulty.specs.Writes.{seen, LaysUpTo, LeavesRuns}
 use Rattle.blob_faulty.proofs.blob.Blob.lay_later.Given as goal

@@ -5,9 +5,9 @@ use Rattle.blob_model.specs.Log.{Kept}
 use Rattle.blob_model.specs.Order.{held_at}
 use Rattle.blob_model.specs.Pending.{laid}
 use Rattle.blob_model.specs.Places.{Place}
-use Rattle.blob_faults.specs.Lists.{held, IsAt}
+use Rattle.blob_pending.specs.Lists.{held, IsAt}
 use Rattle.blob_faulty.specs.Writes.{View, Logs, seen}
-use Rattle.blob_faults.proofs.HoleRoom.{room_stays}
+use Rattle.blob_pending.proofs.HoleRoom.{room_stays}
 use Rattle.blob_faulty.proofs.Writing.{kept_logs, some_written}
 use Rattle.blob_faulty.proofs.blob.Blob.lay_range.Given.{Over}
 use Rattle.blob_faulty.proofs.blob.Blob.lay_range.Goals as goal

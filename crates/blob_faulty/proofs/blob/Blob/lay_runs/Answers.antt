@@ -5,11 +5,11 @@ use Rattle.std.proofs.lemmas.Option.{none-some}
 use Rattle.blob_model.specs.Directory.{is_current}
 use Rattle.blob_header.specs.Refusals.{Refusal, WriteFailed, refused}
 use Rattle.blob_model.specs.Runs.{Run}
-use Rattle.blob_faults.specs.Lists.{HasRoomAt}
+use Rattle.blob_pending.specs.Lists.{HasRoomAt}
 use Rattle.blob_faulty.specs.Pieces.{run_of, runs_in, extents, EndsWithin}
 use Rattle.blob_faulty.specs.Writes.{View, LaidFront, Recorded, seen, laid_runs}
 use Rattle.blob_faulty.proofs.Adding.{bytes_some}
-use Rattle.blob_faults.proofs.HoleRoom.{first_at}
+use Rattle.blob_pending.proofs.HoleRoom.{first_at}
 use Rattle.blob_faulty.proofs.RunSteps.{not_stale, popped, later_within}
 use Rattle.blob_base.specs.HandleCalls.{Write}
 use Rattle.blob_faulty.specs.Asked.{Made, InnerMade, run_calls, or_failed}

@@ -1,8 +1,8 @@
 use Rattle.std.proofs.Common.{rules, ℕ, length, sym, subst, arith}
 use Rattle.std.proofs.lemmas.Grind.{common_steps}
-use Rattle.blob_faults.specs.Answers.{last_end}
+use Rattle.blob_draws.specs.Answers.{last_end}
 use Rattle.blob_faulty.specs.Pieces.{runs_in, extents}
-use Rattle.blob_faults.specs.Rooms.{AreWithin}
+use Rattle.blob_pending.specs.Rooms.{AreWithin}
 use Rattle.blob_faulty.proofs.RunRoom.{runs_within}
 use Rattle.blob_faulty.proofs.blob.Blob.reserve_runs.Goals as goal
 

@@ -3,9 +3,9 @@ use Rattle.std.specs.Prelude.{◌⊎◌, IsSome}
 use Rattle.std.proofs.lemmas.Grind.{common_steps}
 use Rattle.blob_base.specs.HandleCalls.{Resize}
 use Rattle.blob_header.specs.Refusals.{Refusal, Injected, refused, refusal_of}
-use Rattle.blob_faults.specs.Answers.{injected_for}
-use Rattle.blob_faults.specs.Fates.{resize_fate_of}
-use Rattle.blob_faults.specs.Faults.{ResizeFate, Resizes, Stays, Reaches}
+use Rattle.blob_draws.specs.Answers.{injected_for}
+use Rattle.blob_draws.specs.Fates.{resize_fate_of}
+use Rattle.blob_draws.specs.Faults.{ResizeFate, Resizes, Stays, Reaches}
 use Rattle.blob_faulty.specs.Asked.{Unasked, InnerMade, InnerReached, AsksResize}
 use Rattle.blob_faulty.proofs.Asking.{once, asked_once, faulted, refused_too}
 use Rattle.blob_faulty.proofs.Fronts.{asked_of, some_refusal}

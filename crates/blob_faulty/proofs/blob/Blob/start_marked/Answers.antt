@@ -3,7 +3,7 @@ use Rattle.blob_model.specs.Durable.{with_at}
 use Rattle.blob_model.specs.Pending.{Marker}
 use Rattle.blob_model.specs.Places.{Place}
 use Rattle.blob_faulty.specs.declared.storage.Storage.{Storage}
-use Rattle.blob_faults.specs.Lists.{list_of}
+use Rattle.blob_pending.specs.Lists.{list_of}
 use Rattle.blob_faulty.specs.Wrapper.{pending_of, next_marker_of}
 use Rattle.blob_faulty.proofs.Pushing.{after_room}
 use Rattle.blob_faulty.proofs.blob.Blob.start_marked.Goals as goal

@@ -1,7 +1,7 @@
 use Rattle.std.proofs.Common.{◌≡◌, ◌∙◌, [], subst}
 use Rattle.blob_model.specs.Durable.{with_at}
 use Rattle.blob_model.specs.Places.{Place}
-use Rattle.blob_faults.specs.Lists.{list_of}
+use Rattle.blob_pending.specs.Lists.{list_of}
 use Rattle.blob_faulty.proofs.blob.Blob.sync_inner.Goals as goal
 
 pub returns-clause-retired : goal.returns-clause-retired

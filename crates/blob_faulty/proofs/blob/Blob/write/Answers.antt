@@ -3,8 +3,8 @@ use Rattle.std.proofs.lemmas.Grind.{common_steps}
 use Rattle.rand_core.specs.Stream.{Stream}
 use Rattle.blob_faulty.proofs.Adding.{nothing_changed}
 use Rattle.blob_header.specs.Refusals.{refused, Memory}
-use Rattle.blob_faults.specs.Fates.{has_uncounted_end, write_fate_of}
-use Rattle.blob_faults.specs.Faults.{WriteFate, drawn_fate}
+use Rattle.blob_draws.specs.Fates.{has_uncounted_end, write_fate_of}
+use Rattle.blob_draws.specs.Faults.{WriteFate, drawn_fate}
 use Rattle.blob_faulty.proofs.WriteLeaving.{write_idle, write_leaves, write_uncounted, write_undrawn}
 use Rattle.blob_faulty.proofs.blob.Blob.write.Given.{Over}
 use Rattle.blob_faulty.proofs.blob.Blob.write.Goals as goal

@@ -3,10 +3,10 @@ use Rattle.std.specs.Prelude.{◌⊎◌, is_some, IsSome}
 use Rattle.std.proofs.lemmas.Grind.{common_steps}
 use Rattle.blob_header.specs.Refusals.{Refusal, refused, refusal_of}
 use Rattle.blob_model.specs.Runs.{runs}
-use Rattle.blob_faults.specs.Changes.{lacks_number}
-use Rattle.blob_faults.specs.Answers.{or_memory, injected_for, allows_runs}
-use Rattle.blob_faults.specs.Faults.{WriteFate, Done, Unsynced, Failed, retention}
-use Rattle.blob_faults.specs.Fates.{write_fate_of}
+use Rattle.blob_draws.specs.Changes.{lacks_number}
+use Rattle.blob_draws.specs.Answers.{or_memory, injected_for, allows_runs}
+use Rattle.blob_draws.specs.Faults.{WriteFate, Done, Unsynced, Failed, retention}
+use Rattle.blob_draws.specs.Fates.{write_fate_of}
 use Rattle.blob_base.specs.HandleCalls.{Write}
 use Rattle.blob_faulty.specs.Writes.{FailedBy}
 use Rattle.blob_faulty.specs.Asked.{Unasked, InnerMade, AsksWrite, or_failed, kept_calls}

@@ -3,7 +3,7 @@ use Rattle.std.specs.Prelude.{IsSome, None, Some, ◌==◌, ◌-◌, false}
 use Rattle.blob_header.specs.Refusals.{refused}
 use Rattle.blob_faulty.specs.declared.storage.Storage.{Storage}
 use Rattle.std.proofs.lemmas.Grind.{common_steps}
-use Rattle.blob_faults.specs.Faults.{retention}
+use Rattle.blob_draws.specs.Faults.{retention}
 use Rattle.blob_faulty.specs.Wrapper.{GainsWrite}
 use Rattle.blob_faulty.proofs.Plainly.{allowed_behind, asked_behind, same_view, no_byte, pushed, refused_behind, relisted, same_rest, unasked, unrecorded_plain, unretained, unwritten}
 use Rattle.blob_faulty.proofs.blob.Blob.write_plain.Goals as goal

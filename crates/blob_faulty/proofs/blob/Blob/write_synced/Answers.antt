@@ -1,10 +1,10 @@
 use Rattle.std.proofs.Common.{rules, ℕ, List, ◌≢◌, ◌∙◌, true, ◌+◌, ◌∷◌, [], length, sym, subst, arith}
 use Rattle.std.proofs.lemmas.Grind.{common_steps}
 use Rattle.blob_header.specs.Refusals.{refused}
-use Rattle.blob_faults.specs.Rooms.{AreWithin}
+use Rattle.blob_pending.specs.Rooms.{AreWithin}
 use Rattle.blob_faulty.specs.Writes.{View, Recorded, Unchanged, seen, laid_runs}
 use Rattle.blob_faulty.proofs.Adding.{some_byte}
-use Rattle.blob_faults.proofs.HoleRoom.{one_within}
+use Rattle.blob_pending.proofs.HoleRoom.{one_within}
 use Rattle.blob_faulty.proofs.Writing.{runs_after}
 use Rattle.blob_faulty.proofs.blob.Blob.write_synced.Goals as goal
 

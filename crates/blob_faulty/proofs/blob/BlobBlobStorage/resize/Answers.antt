@@ -1,5 +1,5 @@
 use Rattle.blob_header.specs.Refusals.{refused}
-use Rattle.blob_faults.specs.Fates.{resize_fate_of}
+use Rattle.blob_draws.specs.Fates.{resize_fate_of}
 use Rattle.blob_faulty.proofs.Resizing.{resize_leaves}
 use Rattle.blob_faulty.proofs.blob.BlobBlobStorage.resize.Goals as goal
 

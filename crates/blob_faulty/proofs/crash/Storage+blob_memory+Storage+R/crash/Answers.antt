@@ -11,17 +11,17 @@ use Rattle.blob_model.specs.Places.{Place}
 use Rattle.blob_model.specs.Stands.{replayed_at}
 use Rattle.blob_model.proofs.FileSteps.{stands_same}
 use Rattle.blob_memory.specs.Store.{directory, durable}
-use Rattle.blob_faults.specs.declared.draw.Draw.{Draw}
-use Rattle.blob_faults.specs.declared.incarnation.Incarnation.{Incarnation}
-use Rattle.blob_faults.specs.Drawings.{drawings_of, drawings_in, rows_drawn}
-use Rattle.blob_faults.specs.Lists.{held, held_by, list_of}
+use Rattle.blob_draws.specs.declared.draw.Draw.{Draw}
+use Rattle.blob_pending.specs.declared.incarnation.Incarnation.{Incarnation}
+use Rattle.blob_draws.specs.Drawings.{drawings_of, drawings_in, rows_drawn}
+use Rattle.blob_pending.specs.Lists.{held, held_by, list_of}
 use Rattle.blob_faulty.specs.Ready.{IsReady}
-use Rattle.blob_faults.specs.Rows.{rows_in, table_of, AreNumbered}
-use Rattle.blob_faults.proofs.Distinct.{apart_of}
+use Rattle.blob_draws.specs.Rows.{rows_in, table_of, AreNumbered}
+use Rattle.blob_pending.proofs.Distinct.{apart_of}
 use Rattle.blob_faulty.proofs.Crashing.{crash_rows, crash_stands}
 use Rattle.blob_faulty.proofs.SyncSteps.{err_by}
 use Rattle.blob_faulty.proofs.Keeping.{keeps_crashed}
-use Rattle.blob_faults.proofs.Rowing.{rows_rise}
+use Rattle.blob_draws.proofs.Rowing.{rows_rise}
 use Rattle.blob_faulty.proofs.crash.Storage+blob_memory+Storage+R.crash.Goals as goal
 
 pub replay_all-requires-clause-numbered : goal.replay_all-requires-clause-numbered

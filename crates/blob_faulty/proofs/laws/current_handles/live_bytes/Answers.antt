@@ -1,4 +1,4 @@
-use Rattle.blob_faults.proofs.Unreached.{write_has}
+use Rattle.blob_draws.proofs.Unreached.{write_has}
 use Rattle.blob_faulty.proofs.Laying.{live_laid, resize_live}
 use Rattle.blob_faulty.proofs.laws.current_handles.live_bytes.Goals as goal
 

@@ -1,4 +1,4 @@
-use Rattle.blob_faults.proofs.Sizes.{sized_after_write, sized_after_resize}
+use Rattle.blob_draws.proofs.Sizes.{sized_after_write, sized_after_resize}
 use Rattle.blob_faulty.proofs.laws.current_handles.sizes.Goals as goal
 
 pub returns-clause-writes : goal.returns-clause-writes

@@ -1,7 +1,7 @@
 use Rattle.std.proofs.Common.{◌∙◌, List, ap, arith, length, subst, ℕ}
 use Rattle.blob_model.specs.Log.{Entry}
 use Rattle.blob_model.proofs.Bytes.{lies_below}
-use Rattle.blob_faults.specs.Recorded.{kept}
+use Rattle.blob_draws.specs.Recorded.{kept}
 use Rattle.blob_faulty.specs.Wrapper.{Adds, inner_of, rng_of, config_of, next_write_of}
 use Rattle.blob_faulty.proofs.Keeping.{keeps_beside, keeps_more}
 use Rattle.blob_faulty.proofs.Recording.{recorded_whole}

@@ -1,4 +1,4 @@
-use Rattle.blob_faults.proofs.Unreached.{write_out}
+use Rattle.blob_draws.proofs.Unreached.{write_out}
 use Rattle.blob_faulty.proofs.Laying.{write_laid, resize_laid}
 use Rattle.blob_faulty.proofs.laws.outcomes.entries.Goals as goal
 

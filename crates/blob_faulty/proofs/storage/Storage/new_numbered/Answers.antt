@@ -4,9 +4,9 @@ use Rattle.blob_model.specs.Files.{wrapped}
 use Rattle.blob_model.specs.Places.{Place}
 use Rattle.blob_model.specs.Stands.{StandsFor}
 use Rattle.blob_model.proofs.FileSteps.{stands_wrapped}
-use Rattle.blob_faults.specs.declared.incarnation.Incarnation.{Incarnation}
+use Rattle.blob_pending.specs.declared.incarnation.Incarnation.{Incarnation}
 use Rattle.blob_faulty.specs.Keeps.{bytes_found}
-use Rattle.blob_faults.specs.Lists.{list_of}
+use Rattle.blob_pending.specs.Lists.{list_of}
 use Rattle.blob_faulty.proofs.storage.Storage.new_numbered.Given.{Over}
 use Rattle.blob_faulty.proofs.storage.Storage.new_numbered.Goals as goal
 

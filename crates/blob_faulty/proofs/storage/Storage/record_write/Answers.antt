@@ -5,10 +5,10 @@ use Rattle.blob_model.specs.Holes.{need_in}
 use Rattle.blob_model.specs.Log.{Write, has_bare, need_of}
 use Rattle.blob_model.specs.Pending.{Pending, Waiting}
 use Rattle.blob_model.proofs.Steps.{new_has_bare}
-use Rattle.blob_faults.specs.Faults.{issued}
-use Rattle.blob_faults.specs.Lists.{list_of}
-use Rattle.blob_faults.specs.Ranges.{ranges}
-use Rattle.blob_faults.specs.declared.holes.Hole.{Hole}
+use Rattle.blob_draws.specs.Faults.{issued}
+use Rattle.blob_pending.specs.Lists.{list_of}
+use Rattle.blob_pending.specs.Ranges.{ranges}
+use Rattle.blob_pending.specs.declared.holes.Hole.{Hole}
 use Rattle.blob_faulty.proofs.storage.Storage.record_write.Goals as goal
 
 -- of a write that nothing covers yet something is left

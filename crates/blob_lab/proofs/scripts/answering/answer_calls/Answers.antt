@@ -1,5 +1,5 @@
 use Rattle.std.proofs.Common.{rules, ◌≡◌, ◌+◌, ◌∷◌, ◌∙◌, ℕ, List, ap, refl, Err}
-use Rattle.blob_calls.specs.Acts.{act_of}
+use Rattle.blob_script.specs.Acts.{act_of}
 use Rattle.blob_lab.specs.ScriptReading.{Begins, OfLines}
 use Rattle.blob_lab.specs.Scripts.{Script}
 use Rattle.blob_lab.specs.Streams.{reader_of, writer_of, StaySound}

@@ -1,5 +1,5 @@
 use Rattle.std.proofs.Common.{List, ℕ, ◌∷◌}
-use Rattle.blob_calls.specs.Acts.{act_of}
+use Rattle.blob_script.specs.Acts.{act_of}
 use Rattle.blob_lab.specs.Reading.{StaysKnown}
 use Rattle.blob_lab.specs.ScriptReading.{Begins, OfLines}
 use Rattle.blob_lab.specs.Scripts.{Script}

@@ -1,12 +1,12 @@
 use Rattle.std.proofs.Common.{rules, ◌≡◌, ◌+◌, refl, ap, Err, arith}
 use Rattle.std.proofs.lemmas.Result.{on_ok_weaker, IfErr-weaker}
-use Rattle.blob_calls.specs.Acts.{act_of}
-use Rattle.blob_laboratory.specs.LabStands.{LabStandsFor}
+use Rattle.blob_script.specs.Acts.{act_of}
+use Rattle.blob_lab_store.specs.LabStands.{LabStandsFor}
 use Rattle.blob_lab.specs.ScriptReading.{preamble_of}
 use Rattle.blob_lab.specs.Scripts.{no_script}
 use Rattle.blob_lab.specs.Streams.{reader_of, writer_of}
-use Rattle.blob_calls.specs.Settings.{cleared}
-use Rattle.blob_states.specs.States.{start}
+use Rattle.blob_script.specs.Settings.{cleared}
+use Rattle.blob_lab_model.specs.States.{start}
 use Rattle.blob_lab.proofs.ScriptStarts.{empty_preamble, no_laboratory, no_call, no_first, all_lines, front_lines}
 use Rattle.blob_lab.proofs.StreamSteps.{told_behind}
 use Rattle.blob_lab.proofs.scripts.answering.run_lines.Goals as goal

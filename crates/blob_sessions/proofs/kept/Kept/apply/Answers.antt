@@ -1,5 +1,5 @@
 use Rattle.std.proofs.Common.{rules, ◌≡◌, Err, ap, refl}
-use Rattle.blob_calls.specs.Acts.{act_of}
+use Rattle.blob_script.specs.Acts.{act_of}
 use Rattle.blob_sessions.proofs.TypedCalls.{applied, not_applied, out_of_memory}
 use Rattle.blob_sessions.proofs.kept.Kept.apply.Goals as goal
 

@@ -2,10 +2,10 @@ use Rattle.std.proofs.Common.{rules, ◌≡◌, ℕ, Bool, List, Option, Some, V
 use Rattle.std.specs.Global.{Global}
 use Rattle.std.specs.Prelude.{slice_get}
 use Rattle.std.proofs.lemmas.Option.{slice_get-get_or}
-use Rattle.blob_calls.specs.declared.reply.Reply.{Reply}
-use Rattle.blob_calls.specs.declared.reply.Reply.TheVariants.{Crashed}
-use Rattle.blob_faults.specs.Rows.{row_in, rows_of}
-use Rattle.blob_faults.specs.declared.selections.Selections.{Selections}
+use Rattle.blob_script.specs.declared.reply.Reply.{Reply}
+use Rattle.blob_script.specs.declared.reply.Reply.TheVariants.{Crashed}
+use Rattle.blob_draws.specs.Rows.{row_in, rows_of}
+use Rattle.blob_draws.specs.declared.selections.Selections.{Selections}
 use Rattle.blob_model.specs.Draws.{Row}
 use Rattle.blob_sessions.specs.Parts.{FindsRun, no_run, row_at, run_from}
 use Rattle.blob_sessions.specs.declared.parts.KeptRun.{KeptRun}

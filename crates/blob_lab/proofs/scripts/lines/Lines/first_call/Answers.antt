@@ -1,10 +1,10 @@
 use Rattle.std.proofs.Common.{rules, Err, [], ◌≡◌, ◌≢◌, ◌+◌, Some, None, refl, ap, ◌∙◌}
 use Rattle.std.proofs.KnownBytes.{Keeps-trans}
 use Rattle.blob_lab.specs.declared.scripts.lines.Preamble.{Preamble}
-use Rattle.blob_calls.specs.Acts.{act_of}
-use Rattle.blob_calls.specs.Lines.{Configure, Call, said_by}
+use Rattle.blob_script.specs.Acts.{act_of}
+use Rattle.blob_script.specs.Lines.{Configure, Call, said_by}
 use Rattle.blob_lab.specs.ScriptReading.{OfLines, TakesPart, preamble_of}
-use Rattle.blob_states.specs.Scripted.{behind_seeded}
+use Rattle.blob_lab_model.specs.Scripted.{behind_seeded}
 use Rattle.blob_lab.specs.Scripts.{Script, with_said}
 use Rattle.blob_lab.specs.Streams.{reader_of}
 use Rattle.blob_lab.proofs.ScriptLines.{taken_whole}

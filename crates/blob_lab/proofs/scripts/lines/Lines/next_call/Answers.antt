@@ -1,7 +1,7 @@
 use Rattle.std.proofs.Common.{rules, Err, ◌≡◌, ◌+◌, Some, None, inl, inr, refl, ap, ◌∙◌}
 use Rattle.std.proofs.KnownBytes.{Keeps-trans}
-use Rattle.blob_calls.specs.Acts.{act_of}
-use Rattle.blob_calls.specs.Lines.{Blank, Configure, Call, said_by}
+use Rattle.blob_script.specs.Acts.{act_of}
+use Rattle.blob_script.specs.Lines.{Blank, Configure, Call, said_by}
 use Rattle.blob_lab.specs.Scripts.{with_said}
 use Rattle.blob_lab.specs.Streams.{reader_of}
 use Rattle.blob_lab.proofs.ScriptLines.{taken_whole}

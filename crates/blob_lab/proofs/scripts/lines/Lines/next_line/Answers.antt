@@ -1,5 +1,5 @@
 use Rattle.std.proofs.Common.{rules, ◌≡◌, ◌∙◌, [], Option, None, Err, length, refl, ap, arith}
-use Rattle.blob_calls.specs.Lines.{Said, line_of}
+use Rattle.blob_script.specs.Lines.{Said, line_of}
 use Rattle.blob_lab.specs.ScriptReading.{OfLines, TakesLine, TakesOne}
 use Rattle.blob_lab.specs.Streams.{reader_of}
 use Rattle.blob_lab.proofs.ScriptLines.{takes_line, takes_one, taken_whole}

@@ -1,8 +1,0 @@
-use Rattle.std.proofs.Common.{◌≡◌, ◌++◌, take, string_bytes}
-use Rattle.std.specs.List.{flat_map}
-use Rattle.blob_faults.specs.Rows.{rows_in}
-use Rattle.blob_calls.specs.Replies.{row_field}
-use Rattle.blob_calls.proofs.script.reply_line.print_rows.Given as goal
-
-abbrev pub invariant-loop-number : goal.invariant-loop-number
-invariant-loop-number l = string_bytes l.line ≡ string_bytes l.initial.line ++ flat_map row_field (rows_in (take l.number-index l.rows))

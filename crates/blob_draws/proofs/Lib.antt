@@ -1,0 +1,9 @@
+pub mod CellLaws
+pub mod DrawSteps
+pub mod EqualConfigs
+pub mod Rowing
+pub mod Sizes
+pub mod Sorting
+pub mod SpanSteps
+pub mod Unchanged
+pub mod Unreached

@@ -1,0 +1,9 @@
+pub mod Answers
+pub mod Cells
+pub mod Changes
+pub mod Drawings
+pub mod Fates
+pub mod Faults
+pub mod Recorded
+pub mod Rows
+pub mod Spans

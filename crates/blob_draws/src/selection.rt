@@ -1,0 +1,111 @@
+//! Draws of the bytes of a write that are kept.
+ghost use Rattle.std.specs.Prelude.{◌≡◌, ◌<◌, ◌≤◌, ◌+◌, ◌%◌, ◌^◌, ◌||◌, ◌==◌, ◌++◌, List, [], true, false, length, replicate, if◌then◌else◌, IfOk, OnErr, vec_len, vec_capacity};
+ghost use Rattle.blob_model.specs.Draws.{front, each, sectors, positions};
+ghost use Rattle.blob_model.specs.Rates.{sampled};
+ghost use Rattle.blob_draws.specs.Drawings.{IsBlank};
+
+use crate::mode::PartialWriteMode;
+use blob_base::Probability;
+use rand_core::Rng;
+use std::alloc::{AllocError, Global};
+
+/// Draws each byte.
+fn draw_each<R: Rng>(chosen: &mut Vec<bool>, rate: Probability, len: usize, rng: &mut R)
+    requires blank { IsBlank len chosen.old }
+    ensures { (chosen.new.items, R.stream rng.new) ≡ each rate len (R.stream rng.old) }
+{
+    for i in 0..len {
+        let _ = i;
+        chosen.push(rate.sample(rng)).unwrap();
+    }
+}
+
+/// Adds `count` lost bytes.
+fn lose(chosen: &mut Vec<bool>, count: usize)
+    requires { vec_len chosen.old + count ≤ vec_capacity chosen.old }
+    ensures { chosen.new.items ≡ chosen.old.items ++ replicate count false }
+{
+    for i in 0..count {
+        let _ = i;
+        chosen.push(false).unwrap();
+    }
+}
+
+/// Draws byte by byte until one is lost. The bytes after it are lost too.
+fn draw_front<R: Rng>(chosen: &mut Vec<bool>, rate: Probability, len: usize, rng: &mut R)
+    requires blank { IsBlank len chosen.old }
+    ensures { (chosen.new.items, R.stream rng.new) ≡ front rate len (R.stream rng.old) }
+{
+    for i in 0..len {
+        if !rate.sample(rng) {
+            lose(chosen, len - i);
+            return;
+        }
+        chosen.push(true).unwrap();
+    }
+}
+
+/// Returns the choice of the byte at `position`. Draws at the first byte of the write or of a sector. Otherwise returns `last`.
+fn draw_sector<R: Rng>(
+    rate: Probability,
+    size: u64,
+    position: u64,
+    first: bool,
+    last: bool,
+    rng: &mut R,
+) -> bool
+    requires { 0 < size }
+    ensures { (result, R.stream rng.new) ≡ (if first || (position % size == 0) then sampled rate (R.stream rng.old) else (last, R.stream rng.old)) }
+{
+    if first || position % size == 0 {
+        rate.sample(rng)
+    } else {
+        last
+    }
+}
+
+/// Draws each sector of the blob.
+fn draw_sectors<R: Rng>(
+    chosen: &mut Vec<bool>,
+    rate: Probability,
+    size: u64,
+    offset: u64,
+    len: usize,
+    rng: &mut R,
+)
+    requires some { 0 < size }
+    requires fits { offset + len < 2 ^ 64 }
+    requires blank { IsBlank len chosen.old }
+    ensures { (chosen.new.items, R.stream rng.new) ≡ sectors rate size offset true false len (R.stream rng.old) }
+{
+    let mut last = false;
+    for i in 0..len {
+        last = draw_sector(rate, size, offset + i as u64, i == 0, last, rng);
+        chosen.push(last).unwrap();
+    }
+}
+
+/// Draws the choices of `len` bytes at the logical `offset`, one per byte. Allocates before the first draw, so that an error leaves
+/// the generator unchanged.
+pub fn draw_positions<R: Rng>(
+    alloc: Global,
+    mode: PartialWriteMode,
+    rate: Probability,
+    offset: u64,
+    len: usize,
+    rng: &mut R,
+) -> Result<Vec<bool>, AllocError>
+    requires { offset + len < 2 ^ 64 }
+    ensures ok { IfOk result (λ chosen. (chosen.items, R.stream rng.new) ≡ positions mode rate offset len (R.stream rng.old)) }
+    ensures err { OnErr result (R.stream rng.new ≡ R.stream rng.old) }
+{
+    let mut chosen = Vec::with_capacity(alloc, len)?;
+    match mode {
+        PartialWriteMode::Prefix => draw_front(&mut chosen, rate, len, rng),
+        PartialWriteMode::Subset => draw_each(&mut chosen, rate, len, rng),
+        PartialWriteMode::Sectors(size) => {
+            draw_sectors(&mut chosen, rate, size.get(), offset, len, rng);
+        }
+    }
+    Ok(chosen)
+}

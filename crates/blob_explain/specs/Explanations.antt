@@ -1,0 +1,28 @@
+-- What is written of a script, by how its run ends.
+use Rattle.std.specs.Prelude.{◌≡◌, ℕ, List, [], Option, Some}
+use Rattle.std.specs.Io.KnownBytes.{Appends}
+use Rattle.blob_lab.specs.declared.ending.Ending.{Ending}
+use Rattle.blob_lab.specs.declared.ending.Ending.TheVariants.{Done, BadCall}
+use Rattle.blob_lab.specs.Scripts.{Prints, PrintsBeforeLine, lines_of, script_of}
+use Rattle.blob_explain.specs.Explained.{Explains, IsExplained}
+
+-- a text explains what a run of a script of these bytes prints that ends so
+pub record IsExplanation (bytes : List ℕ) (ending : Ending) (text : List ℕ) : Type 0 where
+  pub printed : List ℕ
+  pub explained : IsExplained printed text
+  pub done : ending ≡ Done → Prints (script_of (lines_of bytes)) (Some []) (Some printed)
+  pub bad_call : (number : ℕ) → ending ≡ BadCall number → PrintsBeforeLine number bytes (Some []) (Some printed)
+
+-- it was written
+pub record WritesExplanation (bytes : List ℕ) (ending : Ending) (old new : Option (List ℕ)) : Type 0 where
+  pub text : List ℕ
+  pub explains : IsExplanation bytes ending text
+  pub added : Appends old new text
+
+-- what the run of a whole script has written, explained
+abbrev pub ExplainsScript : List ℕ → Option (List ℕ) → Option (List ℕ) → Type 0
+ExplainsScript bytes old new = Explains (Prints (script_of (lines_of bytes))) old new
+
+-- what a run that prints so before a line of this number has written, explained
+abbrev pub ExplainsBefore : ℕ → List ℕ → Option (List ℕ) → Option (List ℕ) → Type 0
+ExplainsBefore number bytes old new = Explains (PrintsBeforeLine number bytes) old new

@@ -1,0 +1,146 @@
+// A script's replies with the pictures between them.
+ghost use Rattle.std.specs.Prelude.{◌≡◌, ◌≢◌, ◌⊎◌, ◌<◌, ◌++◌, ◌∷◌, ℕ, true, IfSome, IfOk, IfErr, OnOk, length};
+ghost use Rattle.std.specs.Io.KnownBytes.{Keeps};
+ghost use Rattle.blob_lab.specs.Endings.{is_of_script};
+ghost use Rattle.blob_lab.specs.Streams.{OfBytes, reader_of, read_failed, writer_of, write_failed, is_flushed};
+ghost use Rattle.blob_explain.specs.Explained.{IsExplained, Remarks};
+ghost use Rattle.blob_explain.specs.Explanations.{ExplainsBefore, ExplainsScript, IsExplanation, WritesExplanation};
+
+use crate::play::remarks_of;
+use crate::remarks::push_remarks;
+use crate::watch::Remark;
+use blob_lab::{Ending, Input, Output, serve_script};
+use std::alloc::{AllocError, Global};
+use std::io::{BufRead, Write};
+
+/// Runs a script to its end and writes what `run_script` writes, with remarks between the replies: lines that begin with `# `.
+/// After a crash they show each file that had something pending. After a write, a resize or a started sync they show its outcome,
+/// if the reply doesn't report it.
+///
+/// All of it is written at the end. The script is run twice, once for its replies and once for the pictures. If memory is refused
+/// to a call in one of the runs alone, it ends as `NoMemory`. If it ends as `InputFailed`, nothing was written, and nothing may have
+/// been written if it ends as `NoMemory`. The writer is flushed at the end in any case; if that fails, it ends as `OutputFailed`.
+pub fn explain_script<R: BufRead, W: Write>(
+    alloc: Global,
+    input: &mut Input<R>,
+    output: &mut Output<W>,
+) -> Ending
+    ensures ending { (result ≢ Ending.BadImage) × (result ≢ Ending.Usage) }
+    ensures done { result ≡ Ending.Done
+        → OfBytes R.remaining W.contents input.old output.old output.new ExplainsScript }
+    ensures bad_call { (number : ℕ) → result ≡ Ending.BadCall number
+        → OfBytes R.remaining W.contents input.old output.old output.new (ExplainsBefore number) }
+    ensures unwritten { result ≡ Ending.InputFailed → Keeps (W.contents (writer_of output.old)) (W.contents (writer_of output.new)) }
+    ensures handed_on { result ≢ Ending.OutputFailed → is_flushed output.new ≡ true }
+    ensures input_failed { result ≡ Ending.InputFailed → read_failed input.new ≡ true }
+    ensures output_failed { result ≡ Ending.OutputFailed → write_failed output.new ≡ true }
+    ensures input_sound { result ≢ Ending.InputFailed → result ≢ Ending.OutputFailed → read_failed input.new ≡ read_failed input.old }
+    ensures output_sound { result ≢ Ending.OutputFailed → write_failed output.new ≡ write_failed output.old }
+{
+    let ran = write_explanation(alloc, input, output);
+    match (output.flush(), ran) {
+        (Err(failed), _) => failed,
+        (Ok(()), Ok(ending)) => ending,
+        (Ok(()), Err(ending)) => ending,
+    }
+}
+
+/// Writes the explanation, and answers how the script ended.
+fn write_explanation<R: BufRead, W: Write>(
+    alloc: Global,
+    input: &mut Input<R>,
+    output: &mut Output<W>,
+) -> Result<Ending, Ending>
+    ensures ended { IfOk result (λ ending. (is_of_script ending ≡ true) × (ending ≢ Ending.InputFailed) × (ending ≢ Ending.OutputFailed)) }
+    ensures cut { IfErr result (λ ending. (ending ≡ Ending.InputFailed) ⊎ (ending ≡ Ending.NoMemory) ⊎ (ending ≡ Ending.OutputFailed)) }
+    ensures text { IfOk result (λ ending.
+        OfBytes R.remaining W.contents input.old output.old output.new (λ bytes. WritesExplanation bytes ending)) }
+    ensures unwritten { result ≡ Err Ending.InputFailed → Keeps (W.contents (writer_of output.old)) (W.contents (writer_of output.new)) }
+    ensures input_failed { result ≡ Err Ending.InputFailed → read_failed input.new ≡ true }
+    ensures input_sound { result ≢ Err Ending.InputFailed → read_failed input.new ≡ read_failed input.old }
+    ensures output_failed { result ≡ Err Ending.OutputFailed → write_failed output.new ≡ true }
+    ensures output_sound { result ≢ Err Ending.OutputFailed → write_failed output.new ≡ write_failed output.old }
+{
+    let (text, ending) = explanation(alloc, input)?;
+    output.write_all(&text)?;
+    Ok(ending)
+}
+
+/// What is to be written, and how the script ended.
+fn explanation<R: BufRead>(alloc: Global, input: &mut Input<R>) -> Result<(Vec<u8>, Ending), Ending>
+    ensures ended { IfOk result (λ ran. (is_of_script ran.1 ≡ true) × (ran.1 ≢ Ending.InputFailed) × (ran.1 ≢ Ending.OutputFailed)) }
+    ensures cut { IfErr result (λ ending. (ending ≡ Ending.InputFailed) ⊎ (ending ≡ Ending.NoMemory)) }
+    ensures text { IfOk result (λ ran. IfSome (R.remaining (reader_of input.old)) (λ bytes. IsExplanation bytes ran.1 ran.0.items)) }
+    ensures failed { result ≡ Err Ending.InputFailed → read_failed input.new ≡ true }
+    ensures sound { result ≢ Err Ending.InputFailed → read_failed input.new ≡ read_failed input.old }
+{
+    let mut script = Vec::new(alloc);
+    input.read_all(&mut script)?;
+    let mut lines = Input::new(script.as_slice());
+    let mut replies = Output::new(Vec::new(alloc));
+    let ending = serve_script(alloc, &mut lines, &mut replies);
+    // A list is a reader that doesn't fail, and a writer that fails for want of memory alone.
+    if ending == Ending::InputFailed || ending == Ending::OutputFailed {
+        return Err(Ending::NoMemory);
+    }
+    let Ok(remarks) = remarks_of(alloc, &script) else {
+        return Err(Ending::NoMemory);
+    };
+    let printed = replies.into_writer();
+    let Ok(text) = explained(alloc, &printed, &remarks) else {
+        return Err(Ending::NoMemory);
+    };
+    Ok((text, ending))
+}
+
+/// Returns the replies, each followed by its text. It is an error if memory was refused to a call in one of the two runs alone.
+#[tactic(auto, using(crate::proofs::Explaining::goes_on, crate::proofs::Explaining::explained))]
+fn explained(alloc: Global, replies: &[u8], remarks: &[Remark]) -> Result<Vec<u8>, AllocError>
+    ensures { IfOk result (λ text. IsExplained replies.now text.items) }
+{
+    let mut text = Vec::new(alloc);
+    let mut rest = replies;
+    let mut shown = 0;
+    'lines: while let Some((line, others)) = first_line(rest) {
+        text.extend_from_slice(line)?;
+        text.push(b'\n')?;
+        push_remarks_after(remarks, &mut shown, line, &mut text)?;
+        rest = others;
+    }
+    text.extend_from_slice(rest)?;
+    Ok(text)
+}
+
+/// Adds what follows the next reply, which is `line`.
+#[tactic(auto, using(crate::proofs::Explaining::none))]
+fn push_remarks_after(
+    remarks: &[Remark],
+    shown: &mut usize,
+    line: &[u8],
+    text: &mut Vec<u8>,
+) -> Result<(), AllocError>
+    ensures { OnOk result (Remarks text.old.items text.new.items) }
+{
+    if *shown >= remarks.len() {
+        return Ok(());
+    }
+    let remark = &remarks[*shown];
+    *shown += 1;
+    if remark.is_without_memory != (line == b"error Memory".as_slice()) {
+        return Err(AllocError);
+    }
+    push_remarks(&remark.text, text)
+}
+
+/// What stands before the first line feed, and what behind it.
+fn first_line(text: &[u8]) -> Option<(&[u8], &[u8])>
+    ensures parts { IfSome result (λ parts. text.now ≡ parts.0.now ++ 10 ∷ parts.1.now) }
+    ensures shorter { IfSome result (λ parts. length parts.1.now < length text.now) }
+{
+    let at = text.iter().position(|byte| *byte == b'\n')?;
+    let (line, end) = text.split_at(at);
+    match end.split_first() {
+        Some((b'\n', others)) => Some((line, others)),
+        _ => None,
+    }
+}

@@ -1,0 +1,331 @@
+// A run that is watched, call by call.
+use crate::bases::Bases;
+use crate::draws::{Drawn, Draws};
+use crate::files::{File, Write, choose, pending_files};
+use crate::handles::{Handles, Opened};
+use crate::outcomes::{
+    push_failed_sync, push_failed_write, push_resize, push_stale_write, push_unsynced_write,
+};
+use crate::picture::draw;
+use blob_base::Error;
+use blob_draws::faults::WriteFate;
+use blob_draws::runs::Span;
+use blob_lab::lab::Wrapper;
+use blob_lab::{Call, Lab, Reply, ScriptedRng};
+use blob_pending::entry::Entry;
+use std::alloc::Global;
+
+/// Everything a picture needs that neither the replies nor the store report.
+#[derive(Drop)]
+pub(crate) struct Watch {
+    alloc: Global,
+    draws: Draws,
+    handles: Handles,
+    bases: Bases,
+}
+
+/// What follows a reply.
+#[derive(Drop)]
+pub(crate) struct Remark {
+    pub(crate) text: String,
+    /// Whether the reply is that memory was refused to the call.
+    pub(crate) is_without_memory: bool,
+}
+
+/// A call with its reply and what was drawn for it.
+#[derive(Drop)]
+struct Step<'a> {
+    call: &'a Call,
+    reply: Reply,
+    drawn: Drawn,
+    /// The durable bytes before a write that keeps bytes although it fails.
+    before: Vec<u8>,
+    /// What was pending before a crash.
+    files: Vec<File>,
+}
+
+impl Watch {
+    /// Watches a laboratory whose generator has the same words as this one.
+    pub(crate) fn new(alloc: Global, rng: ScriptedRng) -> Watch {
+        Watch {
+            alloc,
+            draws: Draws::new(rng),
+            handles: Handles::new(alloc),
+            bases: Bases::new(alloc),
+        }
+    }
+
+    /// Makes a call and returns what follows its reply. The only error is `Memory`.
+    pub(crate) fn step(&mut self, lab: &mut Lab, call: &Call) -> Result<Remark, Error> {
+        let alloc = self.alloc;
+        let mut files = Vec::new(alloc);
+        if let Call::Crash = call {
+            files = pending_files(alloc, lab.wrapper(), &self.bases)?;
+        }
+        let drawn = self.draws.ahead(alloc, lab, call)?;
+        let before = self.before(lab.wrapper(), call, &drawn)?;
+        let reply = lab.apply(call);
+        if let Reply::Crashed(kept) = &reply {
+            choose(alloc, &mut files, kept.rows())?;
+        }
+        self.handles.note(alloc, call, &reply)?;
+        let step = Step {
+            call,
+            reply,
+            drawn,
+            before,
+            files,
+        };
+        self.note(lab.wrapper(), &step)?;
+        Ok(Remark {
+            text: self.text(lab.wrapper(), &step)?,
+            is_without_memory: is_without_memory(&step.reply),
+        })
+    }
+
+    /// Returns the durable bytes before a write that keeps bytes although it fails; no bytes for any other call.
+    fn before(&self, wrapper: &Wrapper, call: &Call, drawn: &Drawn) -> Result<Vec<u8>, Error> {
+        if let Call::Write { handle, .. } = call {
+            if let Drawn::Write(WriteFate::Failed(kept)) = drawn {
+                if kept.contains(&true) {
+                    return self.durable_bytes(wrapper, *handle);
+                }
+            }
+        }
+        Ok(Vec::new(self.alloc))
+    }
+
+    fn durable_bytes(&self, wrapper: &Wrapper, handle: usize) -> Result<Vec<u8>, Error> {
+        let bytes = match self.handles.get(handle) {
+            None => None,
+            Some(opened) => wrapper
+                .inner()
+                .logical_blob(&opened.partition, &opened.name)?,
+        };
+        Ok(bytes.unwrap_or(Vec::new(self.alloc)))
+    }
+
+    /// Records what a call left pending, and what it made durable over pending writes.
+    fn note(&mut self, wrapper: &Wrapper, step: &Step) -> Result<(), Error> {
+        let handle = match step.call {
+            Call::Write { handle, .. } | Call::Resize { handle, .. } => *handle,
+            Call::Configure(_) | Call::Read { .. } | Call::Size(_) | Call::Scan { .. } => {
+                return Ok(());
+            }
+            _ => {
+                self.bases.forget(wrapper);
+                return Ok(());
+            }
+        };
+        match self.handles.get(handle) {
+            Some(opened) if !opened.is_stale => {
+                let ranges = durable_ranges(self.alloc, step)?;
+                self.bases.note(self.alloc, wrapper, opened, ranges)
+            }
+            _ => Ok(()),
+        }
+    }
+
+    fn text(&self, wrapper: &Wrapper, step: &Step) -> Result<String, Error> {
+        let alloc = self.alloc;
+        let mut text = String::new(alloc);
+        match step.call {
+            Call::Crash => push_crash(wrapper, &step.files, &mut text)?,
+            Call::Resize { handle, len } => {
+                self.push_resize(*handle, *len, &step.reply, &step.drawn, &mut text)?
+            }
+            Call::StartSync(handle) => {
+                self.push_sync(*handle, &step.reply, &step.drawn, &mut text)?
+            }
+            Call::Write {
+                handle,
+                offset,
+                bytes,
+                ..
+            } => {
+                let write = Write {
+                    number: None,
+                    offset: *offset,
+                    bytes: Vec::from_slice(alloc, bytes)?,
+                    holes: Vec::new(alloc),
+                    kept: Vec::new(alloc),
+                };
+                self.push_write(wrapper, *handle, write, step, &mut text)?;
+            }
+            _ => {}
+        }
+        Ok(text)
+    }
+
+    /// Adds a resize that was done or failed by its draws.
+    fn push_resize(
+        &self,
+        handle: usize,
+        len: u64,
+        reply: &Reply,
+        drawn: &Drawn,
+        text: &mut String,
+    ) -> Result<(), Error> {
+        let is_told = match reply {
+            Reply::Done => true,
+            Reply::Failed(error) => is_injected(error),
+            _ => false,
+        };
+        let Some(opened) = self.handles.get(handle) else {
+            return Ok(());
+        };
+        if let Drawn::Resize(fate) = drawn {
+            if is_told {
+                push_resize(opened, *fate, len, text)?;
+            }
+        }
+        Ok(())
+    }
+
+    /// Adds a started sync that failed.
+    fn push_sync(
+        &self,
+        handle: usize,
+        reply: &Reply,
+        drawn: &Drawn,
+        text: &mut String,
+    ) -> Result<(), Error> {
+        let Some(opened) = self.handles.get(handle) else {
+            return Ok(());
+        };
+        if let Reply::Started(number) = reply {
+            if let Drawn::Sync(fails) = drawn {
+                if *fails || opened.is_stale {
+                    push_failed_sync(opened, *number, *fails, text)?;
+                }
+            }
+        }
+        Ok(())
+    }
+
+    /// Adds the outcome of a refused write, if the reply doesn't report it.
+    fn push_write(
+        &self,
+        wrapper: &Wrapper,
+        handle: usize,
+        mut write: Write,
+        step: &Step,
+        text: &mut String,
+    ) -> Result<(), Error> {
+        let alloc = self.alloc;
+        let Some(opened) = self.handles.get(handle) else {
+            return Ok(());
+        };
+        let Reply::Failed(error) = &step.reply else {
+            return Ok(());
+        };
+        let Drawn::Write(fate) = &step.drawn else {
+            return Ok(());
+        };
+        match fate {
+            WriteFate::Done => {}
+            WriteFate::Failed(kept) => {
+                write.kept = Vec::from_slice(alloc, kept)?;
+                if is_injected(error) {
+                    let before = Vec::from_slice(alloc, &step.before)?;
+                    let after = self.durable_bytes(wrapper, handle)?;
+                    push_failed_write(alloc, opened, write, before, &after, text)?;
+                } else if is_missing(error) {
+                    push_stale_write(alloc, opened, &write, text)?;
+                }
+            }
+            WriteFate::Unsynced => {
+                if is_injected(error) {
+                    let number = if self.draws.retains() {
+                        newest_write(wrapper)
+                    } else {
+                        None
+                    };
+                    push_unsynced_write(opened, number, write.offset, write.bytes.len(), text)?;
+                }
+            }
+        }
+        Ok(())
+    }
+}
+
+fn is_without_memory(reply: &Reply) -> bool {
+    match reply {
+        Reply::Failed(Error::Memory(_)) => true,
+        _ => false,
+    }
+}
+
+fn is_injected(error: &Error) -> bool {
+    match error {
+        Error::Injected => true,
+        _ => false,
+    }
+}
+
+fn is_missing(error: &Error) -> bool {
+    match error {
+        Error::BlobMissing(..) => true,
+        _ => false,
+    }
+}
+
+/// The ranges that a write made durable.
+fn durable_ranges(alloc: Global, step: &Step) -> Result<Vec<(u64, Vec<u8>)>, Error> {
+    let mut ranges = Vec::new(alloc);
+    let Call::Write {
+        offset,
+        bytes,
+        sync,
+        ..
+    } = step.call
+    else {
+        return Ok(ranges);
+    };
+    match &step.reply {
+        Reply::Done => {
+            if *sync && !bytes.is_empty() {
+                ranges.push((*offset, Vec::from_slice(alloc, bytes)?))?;
+            }
+        }
+        Reply::Failed(error) => {
+            if let Drawn::Write(WriteFate::Failed(kept)) = &step.drawn {
+                if is_injected(error) {
+                    for run in &Span::of(alloc, kept)? {
+                        let piece = bytes.get(run.start..run.end).unwrap_or(&[]);
+                        let start = offset.saturating_add(run.start as u64);
+                        ranges.push((start, Vec::from_slice(alloc, piece)?))?;
+                    }
+                }
+            }
+        }
+        _ => {}
+    }
+    Ok(ranges)
+}
+
+/// The number of the write that was recorded last.
+fn newest_write(wrapper: &Wrapper) -> Option<u64> {
+    let mut newest = None;
+    for list in wrapper.pending() {
+        if let Some(Entry::Write(write)) = list.entries.last() {
+            newest = match newest {
+                Some(number) if number > write.number => newest,
+                _ => Some(write.number),
+            };
+        }
+    }
+    newest
+}
+
+/// Adds a picture of each file that had something pending before a crash.
+fn push_crash(wrapper: &Wrapper, files: &[File], text: &mut String) -> Result<(), Error> {
+    for file in files {
+        let after = wrapper.inner().logical_blob(&file.partition, &file.name)?;
+        match after {
+            Some(after) if file.is_current => draw(file, &after, text)?,
+            _ => draw(file, &file.before, text)?,
+        }
+    }
+    Ok(())
+}

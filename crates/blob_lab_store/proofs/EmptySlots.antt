@@ -1,0 +1,22 @@
+-- Slots that are empty.
+use Rattle.std.proofs.Common.{◌≡◌, ℕ, ◌<◌, zero, suc, List, [], ◌∷◌, map, set, Option, Some, None, is_some, refl, sym, ap, ◌∙◌, length, slice_index_or}
+use Rattle.std.specs.Prelude.{option_map, option_and_then}
+use Rattle.std.proofs.lemmas.Bool.{false≢true}
+use Rattle.std.proofs.lemmas.Option.{slice_get-get_or}
+use Rattle.blob_lab_model.specs.Answers.{kept_at}
+use Rattle.blob_lab_model.proofs.TableSteps.{kept_seen}
+
+empty_at : {A : Type 0} (slots : List (Option A)) (k : ℕ) → kept_at (set slots k None) k ≡ None
+empty_at [] k = refl
+empty_at (x ∷ xs) zero = refl
+empty_at (x ∷ xs) (suc k) = empty_at xs k
+
+-- a slot that was emptied
+pub emptied : {A B : Type 0} (g : A → B) (slots after : List (Option A)) (k : ℕ) → after ≡ set slots k None → kept_at (map (option_map g) after) k ≡ None
+emptied g slots after k e = kept_seen g after k ∙ ap (λ s. option_map g (kept_at s k)) e ∙ ap (option_map g) (empty_at slots k)
+
+-- an empty slot holds nothing
+pub holds_nothing : {A B : Type 0} (g : A → B) (slots : List (Option A)) (k : ℕ) (d : Option A) (h : A) → k < length slots → slice_index_or slots k d ≡ Some h → kept_at (map (option_map g) slots) k ≡ None → ⊥
+holds_nothing g slots k d h there held empty =
+    let at : kept_at slots k ≡ Some h = ap (option_and_then (λ s. s)) (slice_get-get_or slots k d there) ∙ held in
+    false≢true (ap is_some (sym empty ∙ kept_seen g slots k ∙ ap (option_map g) at))

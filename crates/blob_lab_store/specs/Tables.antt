@@ -1,0 +1,35 @@
+-- The tables of a laboratory, as its states see them.
+use Rattle.std.specs.Prelude.{ℕ, ◌+◌, ◌≤◌, List, map, Option, option_map, Vec, String, vec_len, vec_capacity, string_bytes}
+use Rattle.std.specs.Global.{Global}
+use Rattle.blob_base.specs.Handles.{outcome_of}
+use Rattle.blob_header.specs.Refusals.{refused}
+use Rattle.blob_base.specs.declared.handle.Handle as base
+use Rattle.blob_faulty.specs.Wrapper.{inside, size_of}
+use Rattle.blob_memory.specs.Store.{place, live}
+use Rattle.blob_lab_store.specs.declared.lab.handles.Handle.{Handle}
+use Rattle.blob_lab_store.specs.declared.lab.handles.Handles.{Handles}
+use Rattle.blob_lab_store.specs.declared.lab.syncs.Syncs.{Syncs}
+use Rattle.blob_lab_model.specs.States.{Held, Started, Image}
+
+abbrev pub as_held : Handle → Held
+as_held h = record { place = place (inside h.blob); live = live (inside h.blob); size = size_of h.blob; registration = h.registration }
+
+abbrev pub handles_of : Handles → List (Option Held)
+handles_of handles = map (option_map as_held) handles.slots.items
+
+abbrev pub started_by : base.Handle → Started
+started_by h = record { outcome = refused (outcome_of h) }
+
+abbrev pub syncs_of : Syncs → List (Option Started)
+syncs_of syncs = map (option_map started_by) syncs.slots.items
+
+-- images that a laboratory is made of
+abbrev pub images_of : List (String Global × Vec ℕ Global × Vec ℕ Global) → List Image
+images_of images = map (λ i. (string_bytes i.0, i.1.items, i.2.items)) images
+
+-- capacity for one more
+abbrev pub HasFreeSlot : Handles → Type 0
+HasFreeSlot handles = vec_len handles.slots + 1 ≤ vec_capacity handles.slots
+
+abbrev pub HasSyncRoom : Syncs → Type 0
+HasSyncRoom syncs = vec_len syncs.slots + 1 ≤ vec_capacity syncs.slots

@@ -1,0 +1,174 @@
+// Calls through a handle, and the end of a started sync.
+ghost use Rattle.std.specs.Prelude.{◌≡◌, ◌≢◌, Some};
+ghost use Rattle.std.specs.Bool.{OnTrue, OnFalse};
+ghost use Rattle.blob_base.specs.Options.{is_sync};
+ghost use Rattle.blob_header.specs.Refusals.{Memory, refused};
+ghost use Rattle.blob_script.specs.Acts.{Read, Write, Resize, Size, Sync, StartSync, Through, Finish};
+ghost use Rattle.blob_lab_store.specs.LabStands.{PerformsAsk, StartsSync, Performs};
+ghost use Rattle.blob_lab_store.specs.Tables.{as_held, syncs_of};
+
+use crate::lab::handles::Handle;
+use crate::lab::syncs::Syncs;
+use crate::lab::{Lab, Wrapper};
+use blob_base::laws::overlays::runs_are_choices;
+use blob_base::{Blob, Error, ReadOptions, Storage, WriteOptions};
+use blob_script::Reply;
+use std::alloc::AllocError;
+
+/// Returns `SYNC` for a durable write, otherwise no option.
+fn write_options(sync: bool) -> WriteOptions
+    ensures { is_sync result ≡ sync }
+{
+    if sync {
+        WriteOptions::SYNC
+    } else {
+        WriteOptions::default()
+    }
+}
+
+/// Returns whether the error is `Memory`.
+fn is_memory(outcome: &Result<(), Error>) -> bool
+    ensures is { OnTrue result (refused outcome.now ≡ Some Memory) }
+    ensures not { OnFalse result (refused outcome.now ≢ Some Memory) }
+{
+    match outcome {
+        Err(Error::Memory(_)) => true,
+        _ => false,
+    }
+}
+
+impl Handle {
+    fn read(&self, wrapper: &mut Wrapper, offset: u64, len: usize) -> Reply
+        ensures { PerformsAsk wrapper.old (as_held self.now) (Read offset len) result wrapper.new (as_held self.now) }
+    {
+        match self
+            .blob
+            .read_at(wrapper, offset, len, ReadOptions::default())
+        {
+            Ok(bytes) => Reply::Bytes(bytes.coalesce()),
+            Err(e) => Reply::Failed(e),
+        }
+    }
+
+    fn write(&mut self, wrapper: &mut Wrapper, offset: u64, bytes: &[u8], sync: bool) -> Reply
+        ensures { PerformsAsk wrapper.old (as_held self.old) (Write offset bytes.now sync) result wrapper.new (as_held self.new) }
+    {
+        let options = write_options(sync);
+        runs_are_choices();
+        match self.blob.write_from(wrapper, offset, bytes, options) {
+            Ok(()) => Reply::Done,
+            Err(e) => Reply::Failed(e),
+        }
+    }
+
+    fn resize(&mut self, wrapper: &mut Wrapper, len: u64) -> Reply
+        ensures { PerformsAsk wrapper.old (as_held self.old) (Resize len) result wrapper.new (as_held self.new) }
+    {
+        match self.blob.resize(wrapper, len) {
+            Ok(()) => Reply::Done,
+            Err(e) => Reply::Failed(e),
+        }
+    }
+
+    fn sync(&mut self, wrapper: &mut Wrapper) -> Reply
+        ensures { PerformsAsk wrapper.old (as_held self.old) Sync result wrapper.new (as_held self.new) }
+    {
+        match self.blob.sync(wrapper) {
+            Ok(()) => Reply::Done,
+            Err(e) => Reply::Failed(e),
+        }
+    }
+
+    /// Starts a sync. It takes a number, even if it fails, unless the error is `Memory`.
+    fn start_sync(&mut self, wrapper: &mut Wrapper, syncs: &mut Syncs) -> Reply
+        ensures { StartsSync wrapper.old (as_held self.old) (syncs_of syncs.old) result wrapper.new (as_held self.new) (syncs_of syncs.new) }
+    {
+        if let Err(e) = syncs.reserve() {
+            return Reply::Failed(e);
+        }
+        let started = self.blob.start_sync(wrapper);
+        if is_memory(started.outcome()) {
+            return Reply::Failed(Error::Memory(AllocError));
+        }
+        Reply::Started(syncs.add(started))
+    }
+}
+
+impl Lab {
+    pub(crate) fn read(&mut self, number: usize, offset: u64, len: usize) -> Reply
+        ensures { Performs self.old (Through number (Read offset len)) result self.new }
+    {
+        let Some(handle) = self.handles.take(number) else {
+            return Reply::NoHandle;
+        };
+        let reply = handle.read(&mut self.wrapper, offset, len);
+        self.handles.put(number, handle);
+        reply
+    }
+
+    pub(crate) fn write(&mut self, number: usize, offset: u64, bytes: &[u8], sync: bool) -> Reply
+        ensures { Performs self.old (Through number (Write offset bytes.now sync)) result self.new }
+    {
+        let Some(mut handle) = self.handles.take(number) else {
+            return Reply::NoHandle;
+        };
+        let reply = handle.write(&mut self.wrapper, offset, bytes, sync);
+        self.handles.put(number, handle);
+        reply
+    }
+
+    pub(crate) fn resize(&mut self, number: usize, len: u64) -> Reply
+        ensures { Performs self.old (Through number (Resize len)) result self.new }
+    {
+        let Some(mut handle) = self.handles.take(number) else {
+            return Reply::NoHandle;
+        };
+        let reply = handle.resize(&mut self.wrapper, len);
+        self.handles.put(number, handle);
+        reply
+    }
+
+    pub(crate) fn size(&self, number: usize) -> Reply
+        ensures { Performs self.now (Through number Size) result self.now }
+    {
+        match self.handles.get(number) {
+            Some(handle) => Reply::Size(handle.blob.size()),
+            None => Reply::NoHandle,
+        }
+    }
+
+    pub(crate) fn sync(&mut self, number: usize) -> Reply
+        ensures { Performs self.old (Through number Sync) result self.new }
+    {
+        let Some(mut handle) = self.handles.take(number) else {
+            return Reply::NoHandle;
+        };
+        let reply = handle.sync(&mut self.wrapper);
+        self.handles.put(number, handle);
+        reply
+    }
+
+    pub(crate) fn start_sync(&mut self, number: usize) -> Reply
+        ensures { Performs self.old (Through number StartSync) result self.new }
+    {
+        let Some(mut handle) = self.handles.take(number) else {
+            return Reply::NoHandle;
+        };
+        let reply = handle.start_sync(&mut self.wrapper, &mut self.syncs);
+        self.handles.put(number, handle);
+        reply
+    }
+
+    /// Completes a started sync and returns its outcome.
+    pub(crate) fn finish(&mut self, number: usize) -> Reply
+        ensures { Performs self.old (Finish number) result self.new }
+    {
+        let Some(started) = self.syncs.take(number) else {
+            return Reply::NoHandle;
+        };
+        match self.wrapper.finish(started) {
+            Ok(()) => Reply::Done,
+            Err(e) => Reply::Failed(e),
+        }
+    }
+}

@@ -1,0 +1,13 @@
+pub mod Bounded
+pub mod Covered
+pub mod CutSteps
+pub mod Distinct
+pub mod Finishing
+pub mod Gathering
+pub mod HoleRoom
+pub mod Left
+pub mod ListSteps
+pub mod Marking
+pub mod Queued
+pub mod Taking
+pub mod Unmarked

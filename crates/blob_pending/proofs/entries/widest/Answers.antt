@@ -1,0 +1,16 @@
+use Rattle.std.proofs.Common.{rules, ◌≡◌, ◌∙◌, ◌∷◌, [], List, get_or, max, refl, ap, arith}
+use Rattle.std.proofs.lemmas.List.{at_drop_all}
+use Rattle.blob_pending.specs.Replays.{width, widest}
+use Rattle.blob_pending.specs.Views.{left_in}
+use Rattle.blob_pending.specs.declared.entry.Entry.{Entry}
+use Rattle.blob_pending.proofs.Left.{greatest_more, greatest}
+use Rattle.blob_pending.proofs.entries.widest.Goals as goal
+
+pub loop-entry-preserved : goal.loop-entry-preserved
+loop-entry-preserved c =
+    let one : c.width.result ≡ widest (left_in (get_or c.args.entries.now c.loop-entry.entry-index c.entry-item.result ∷ [])) = c.width.ensures ∙ ap (λ (x : Entry). widest (left_in (x ∷ []))) c.entry-item.is in
+    let is : c.max-most.result ≡ max c.loop-entry.most c.width.result = search rules in
+    greatest c.loop-entry.most _ c.max-most.result _ _ _ (is ∙ ap (max c.loop-entry.most) one) (greatest_more width widest refl (λ e r. refl) c.args.entries.now c.loop-entry.entry-index c.entry-item.result (omega arith)) c.loop-entry.invariant
+
+pub returns : goal.returns
+returns c = omega (arith, c.loop-entry.invariant, at_drop_all (λ (l : List Entry). widest (left_in l)) c.args.entries.now c.loop-entry.entry-index (omega arith))

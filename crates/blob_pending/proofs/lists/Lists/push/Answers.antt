@@ -1,0 +1,12 @@
+use Rattle.std.proofs.Common.{rules, ◌≡◌, ◌∙◌, ◌++◌, ◌∷◌, [], ap, List, get_or}
+use Rattle.blob_model.specs.Pending.{Pending}
+use Rattle.blob_pending.specs.Views.{left_in}
+use Rattle.blob_pending.proofs.ListSteps.{changed_list, found}
+use Rattle.blob_pending.proofs.lists.Lists.push.Goals as goal
+
+pub returns : goal.returns
+returns g c o i a =
+    let is = c.args.self.now.all.lists.items in
+    let at : c.index_mut.result.now ≡ get_or is c.args.i c.index_mut.result.now = search rules in
+    changed_list g.S.Durable.place is c.args.i c.index_mut.result.now c.push.new.self o _ a (search rules) at c.push.ensures.origin i
+    (c.push.ensures.entries ∙ ap (λ (q : List Pending). q ++ left_in (c.args.entry ∷ [])) (found g.S.Durable.place is c.args.i c.index_mut.result.now o (search rules) at i))

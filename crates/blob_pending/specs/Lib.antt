@@ -1,0 +1,7 @@
+pub mod Blocks
+pub mod Lists
+pub mod Marks
+pub mod Ranges
+pub mod Replays
+pub mod Rooms
+pub mod Views

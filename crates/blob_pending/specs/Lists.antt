@@ -1,0 +1,114 @@
+-- The pending lists of the incarnations, each by its place.
+use Rattle.std.specs.Prelude.{◌≡◌, ◌≢◌, AllPairs, ℕ, ◌<◌, List, [], cond, Bool, true, false, not, ◌&&◌, All, length, map, vec_len, vec_capacity}
+use Rattle.std.proofs.Common.{get_or}
+use Rattle.blob_model.specs.Directory.{Directory, is_current}
+use Rattle.blob_model.specs.Durable.{with_at}
+use Rattle.blob_model.specs.Places.{Place, same_place}
+use Rattle.blob_model.specs.Pending.{Pending, finished, has_barrier, laid}
+use Rattle.blob_model.specs.Order.{ListAt, held_at}
+use Rattle.blob_model.specs.Holes.{Holes}
+use Rattle.blob_pending.specs.Rooms.{AreWithin, HasRoomsFor}
+use Rattle.blob_pending.specs.Views.{left_in}
+use Rattle.blob_pending.specs.declared.incarnation.Incarnation.{Incarnation}
+use Rattle.blob_pending.specs.declared.room.Room.{Room}
+use Rattle.blob_pending.specs.declared.room.Room.TheVariants as room
+
+abbrev pub held_by : {O : Type 0} → (O → Place) → Incarnation O → ListAt
+held_by place i = (place i.origin, left_in i.entries.items)
+
+abbrev pub held : {O : Type 0} → (O → Place) → List (Incarnation O) → List ListAt
+held place is = map (held_by place) is
+
+-- the pending list of an incarnation, empty if it has none
+abbrev pub list_of : {O : Type 0} → (O → Place) → List (Incarnation O) → Place → List Pending
+list_of place is = held_at (held place is)
+
+abbrev pub is_list_of : Place → ListAt → Bool
+is_list_of o h = same_place h.0 o
+
+-- a list that queues a durable range of these bytes is handed them
+abbrev pub IsCopyFor : List ℕ → List Pending → List ℕ → Type 0
+IsCopyFor copy list bytes = has_barrier list ≡ true → copy ≡ bytes
+
+-- a list after a durable range of n bytes; `copy` has its bytes if it is queued
+abbrev pub LaysRange : ℕ → ℕ → List ℕ → List Pending → List Pending → Type 0
+LaysRange offset n copy old new = (bytes : List ℕ) → length bytes ≡ n → IsCopyFor copy old bytes → new ≡ laid offset bytes old
+
+-- the list at i is the first of an incarnation
+pub record IsAt (hs : List ListAt) (i : ℕ) (o : Place) : Type 0 where
+  pub inside : i < length hs
+  pub here : (d : ListAt) → is_list_of o (get_or hs i d) ≡ true
+  pub before : (k : ℕ) (d : ListAt) → k < i → is_list_of o (get_or hs k d) ≡ false
+
+-- no two lists have one origin
+abbrev pub AreDistinct : {O : Type 0} → List (Incarnation O) → Type 0
+AreDistinct is = AllPairs (λ a b. a.origin ≢ b.origin) is
+
+-- an incarnation's list can take this
+abbrev pub HasRoom : {O : Type 0} → Room → Incarnation O → Type 0
+HasRoom room.Entry i = vec_len i.entries < vec_capacity i.entries
+HasRoom room.Mark i = (vec_len i.entries < vec_capacity i.entries) × (vec_len i.marks < vec_capacity i.marks)
+HasRoom (room.Ranges start end count) i = (hs : Holes) → AreWithin start end count hs → HasRoomsFor hs i.entries
+
+-- this is left in it, and it is of the same incarnation
+pub record Becomes {O : Type 0} (old new : Incarnation O) (q : List Pending) : Type 0 where
+  pub origin : new.origin ≡ old.origin
+  pub noted : new.was_current ≡ old.was_current
+  pub entries : left_in new.entries.items ≡ q
+
+-- the same of an incarnation's list
+abbrev pub LaysInto : {O : Type 0} → ℕ → ℕ → List ℕ → Incarnation O → Incarnation O → Type 0
+LaysInto offset n copy old new = (bytes : List ℕ) → length bytes ≡ n → IsCopyFor copy (left_in old.entries.items) bytes → Becomes old new (laid offset bytes (left_in old.entries.items))
+
+-- there is a list at i, and it has this capacity
+pub record HasRoomIn {O : Type 0} (is : List (Incarnation O)) (i : ℕ) (what : Room) : Type 0 where
+  pub inside : i < length is
+  pub room : (d : Incarnation O) → HasRoom what (get_or is i d)
+
+-- it is that of an incarnation
+pub record IsRoomAt {O : Type 0} (place : O → Place) (is : List (Incarnation O)) (i : ℕ) (o : Place) (what : Room) : Type 0 where
+  pub at : IsAt (held place is) i o
+  pub here : HasRoomIn is i what
+
+-- what is pending of each incarnation stays
+abbrev pub SameLists : {O : Type 0} → (O → Place) → List (Incarnation O) → List (Incarnation O) → Type 0
+SameLists place old new = (o : Place) → list_of place new o ≡ list_of place old o
+
+-- the list at i alone is another, by whichever incarnation it is of
+abbrev pub ChangesAt : {O : Type 0} → (O → Place) → List (Incarnation O) → List (Incarnation O) → ℕ → (List Pending → List Pending) → Type 0
+ChangesAt place old new i change = (o : Place) → IsAt (held place old) i o → (a : Place) → list_of place new a ≡ with_at (list_of place old) o (change (list_of place old o)) a
+
+-- the list at i, of any incarnation, gets these bytes if it queues a durable range of them
+abbrev pub IsCopyAt : {O : Type 0} → (O → Place) → List (Incarnation O) → ℕ → List ℕ → List ℕ → Type 0
+IsCopyAt place is i bytes copy = (o : Place) → IsAt (held place is) i o → IsCopyFor copy (list_of place is o) bytes
+
+-- the lists after a durable range in the list at i; `copy` has its bytes if it is queued there
+abbrev pub LaysAt : {O : Type 0} → (O → Place) → List (Incarnation O) → List (Incarnation O) → ℕ → ℕ → ℕ → List ℕ → Type 0
+LaysAt place old new i offset len copy = (o : Place) → IsAt (held place old) i o → (bytes : List ℕ) → length bytes ≡ len → IsCopyFor copy (list_of place old o) bytes
+    → (a : Place) → list_of place new a ≡ with_at (list_of place old) o (laid offset bytes (list_of place old o)) a
+
+-- the list at i can take these durable ranges
+abbrev pub HasRangesAt : {O : Type 0} → List (Incarnation O) → ℕ → Holes → Type 0
+HasRangesAt {O} is i hs = (d : Incarnation O) → HasRoomsFor hs (get_or is i d).entries
+
+-- one list after a started sync is finished
+abbrev pub finished_in : ℕ → ListAt → ListAt
+finished_in marker h = (h.0, finished marker h.1)
+
+-- of each list it is noted whether its incarnation was current
+abbrev pub AreNoted : {O : Type 0} → (O → Place) → Directory → List (Incarnation O) → Type 0
+AreNoted place d is = All (λ i. i.was_current ≡ is_current d (place i.origin)) is
+
+-- whether an incarnation was current and isn't any more
+abbrev pub has_ended : Directory → Directory → Place → Bool
+has_ended before after o = is_current before o && not (is_current after o)
+
+-- of incarnations that were current when this was noted and aren't any more nothing is pending, of others the same
+abbrev pub RetiresEnded : {O : Type 0} → (O → Place) → Directory → List (Incarnation O) → List (Incarnation O) → Type 0
+RetiresEnded place now old new = (noted : Directory) → AreNoted place noted old → (a : Place) → list_of place new a ≡ cond (has_ended noted now a) [] (list_of place old a)
+
+-- the list at i is of an incarnation and can take these durable ranges
+pub record HasRoomAt {O : Type 0} (place : O → Place) (is : List (Incarnation O)) (i : ℕ) (o : Place) (hs : Holes) : Type 0 where
+  pub at : IsAt (held place is) i o
+  pub inside : i < length is
+  pub ranges : HasRangesAt is i hs

@@ -1,0 +1,147 @@
+//! The positions of a pending list's entries, by blocks and by groups of blocks. A durable range only visits the blocks that
+//! it may overlap.
+ghost use Rattle.std.specs.Prelude.{◌≡◌, ◌<◌, ◌≤◌, ℕ, true, All};
+ghost use Rattle.blob_pending.specs.Blocks.{AreBoundedBy, LiesApart, is_within};
+ghost use Rattle.blob_pending.specs.Views.{view, views};
+
+use crate::entry::Entry;
+use std::alloc::{AllocError, Global};
+
+/// The number of entries in a block.
+const BLOCK: usize = 64;
+
+/// The number of entries in a group of blocks.
+const GROUP: usize = 64 * BLOCK;
+
+/// A range from `start` up to `end` that has all writes of a block or a group.
+#[derive(Clone, Copy)]
+pub struct Bounds {
+    pub start: u64,
+    pub end: u64,
+}
+
+impl Bounds {
+    /// Returns the bounds, widened to contain an entry.
+    fn with(self, entry: &Entry) -> Bounds
+        ensures start { result.start ≤ self.start }
+        ensures end { self.end ≤ result.end }
+        ensures entry { is_within result (view entry.now) ≡ true }
+    {
+        match entry {
+            Entry::Write(write) => Bounds {
+                start: self.start.min(write.offset),
+                end: self.end.max(write.end()),
+            },
+            _ => self,
+        }
+    }
+
+    /// Returns the bounds of a block's entries.
+    fn of(entries: &[Entry]) -> Bounds
+        ensures { All (λ entry. is_within result (view entry) ≡ true) entries.now }
+    {
+        let mut bounds = Bounds {
+            start: u64::MAX,
+            end: 0,
+        };
+        for entry in entries {
+            bounds = bounds.with(entry);
+        }
+        bounds
+    }
+}
+
+/// Adds the missing bounds of whole parts of `size` entries. After an error, those added before it stay.
+fn add_bounds(bounds: &mut Vec<Bounds>, size: usize, entries: &[Entry]) -> Result<(), AllocError>
+    requires size { 0 < size }
+    requires bounded { AreBoundedBy size bounds.old.items (views entries.now) }
+    ensures { AreBoundedBy size bounds.new.items (views entries.now) }
+{
+    while bounds.len() < entries.len() / size {
+        let start = bounds.len() * size;
+        bounds.push(Bounds::of(&entries[start..start + size]))?;
+    }
+    Ok(())
+}
+
+/// Returns whether there are bounds at an index and they don't overlap the range from `start` up to `end`.
+fn is_apart(bounds: &[Bounds], index: usize, start: u64, end: u64) -> bool
+    ensures { result ≡ true → LiesApart bounds.now index start end }
+{
+    match bounds.get(index) {
+        Some(bounds) => bounds.end <= start || end <= bounds.start,
+        None => false,
+    }
+}
+
+/// The bounds of a list's whole blocks and of its whole groups of blocks.
+#[derive(Drop)]
+pub struct BlockBounds {
+    pub blocks: Vec<Bounds>,
+    pub groups: Vec<Bounds>,
+}
+
+impl BlockBounds {
+    ghost use Rattle.std.specs.Prelude.{◌+◌, List};
+    ghost use Rattle.blob_model.specs.Pending.{Pending};
+    ghost use Rattle.blob_pending.specs.Blocks.{AreBounded, IsPassed};
+
+    /// Returns the bounds of an empty list.
+    pub fn new(alloc: Global) -> BlockBounds
+        ensures { (entries : List Pending) → AreBounded result entries }
+    {
+        BlockBounds {
+            blocks: Vec::new(alloc),
+            groups: Vec::new(alloc),
+        }
+    }
+
+    /// Adds the missing bounds of whole blocks and groups. After an error, those added before it stay.
+    pub fn add(&mut self, entries: &[Entry]) -> Result<(), AllocError>
+        requires { AreBounded self.old (views entries.now) }
+        ensures { AreBounded self.new (views entries.now) }
+    {
+        add_bounds(&mut self.blocks, BLOCK, entries)?;
+        add_bounds(&mut self.groups, GROUP, entries)
+    }
+
+    /// Drops all bounds. Call this when entries are removed.
+    pub fn clear(&mut self)
+        ensures { (entries : List Pending) → AreBounded self.new entries }
+    {
+        self.blocks.clear();
+        self.groups.clear();
+    }
+
+    /// Returns how many entries from the index `at` on don't overlap the range, by the bounds of a group or a block that begins
+    /// at `at`.
+    fn passed(&self, at: usize, start: u64, end: u64) -> usize
+        ensures { (k : ℕ) → at ≤ k → k < at + result → IsPassed self.now k start end }
+    {
+        if at % GROUP == 0 && is_apart(&self.groups, at / GROUP, start, end) {
+            GROUP
+        } else if at % BLOCK == 0 && is_apart(&self.blocks, at / BLOCK, start, end) {
+            BLOCK
+        } else {
+            0
+        }
+    }
+
+    /// Returns the first index from `from` on at which an entry may overlap the range, or `len` if there is none.
+    pub fn next_near(&self, from: usize, len: usize, start: u64, end: u64) -> usize
+        requires { from ≤ len }
+        ensures from { from ≤ result }
+        ensures len { result ≤ len }
+        ensures passed { (k : ℕ) → from ≤ k → k < result → IsPassed self.now k start end }
+    {
+        let mut i = from;
+        while i < len {
+            let passed = self.passed(i, start, end);
+            if passed == 0 || len - i < passed {
+                break;
+            }
+            i += passed;
+        }
+        i
+    }
+}

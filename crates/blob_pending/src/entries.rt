@@ -1,0 +1,233 @@
+//! The pending entries of one incarnation, in issue order.
+ghost use Rattle.std.specs.Prelude.{◌≡◌, ◌<◌, ◌≤◌, ◌+◌, ◌*◌, ◌^◌, ℕ, List, ◌++◌, ◌∷◌, [], All, OnOk, map, filter, drop, length, vec_len, vec_capacity, true};
+ghost use Rattle.blob_model.specs.Holes.{Holes};
+ghost use Rattle.blob_model.specs.Pending.{has_barrier, finished, ends};
+ghost use Rattle.blob_pending.specs.Blocks.{AreBounded};
+ghost use Rattle.blob_pending.specs.Lists.{LaysRange};
+ghost use Rattle.blob_pending.specs.Marks.{marks_of};
+ghost use Rattle.blob_pending.specs.Replays.{unmarked, widest};
+ghost use Rattle.blob_pending.specs.Rooms.{AreWithin, HasRoomFor, HasRoomsFor, CanCut, KeepsRest};
+ghost use Rattle.blob_pending.specs.Views.{view, views, pared_by, is_left, left_in, CountsCovered};
+
+use crate::bounds::BlockBounds;
+use crate::entry::{DurableRange, Entry};
+use blob_base::IoBufs;
+use std::alloc::AllocError;
+
+/// Reserves capacity in the writes for the holes of `count` ranges between `start` and `end`.
+fn reserve_holes(
+    entries: &mut [Entry],
+    bounds: &BlockBounds,
+    start: u64,
+    end: u64,
+    count: usize,
+) -> Result<(), AllocError>
+    requires { AreBounded bounds.now (views entries.old) }
+    ensures views { views entries.new ≡ views entries.old }
+    ensures ok { OnOk result ((ranges : Holes) → AreWithin start end count ranges → All (HasRoomFor ranges) entries.new) }
+{
+    let len = entries.len();
+    let mut i = bounds.next_near(0, len, start, end);
+    while i < len {
+        entries[i].reserve(start, end, count)?;
+        i = bounds.next_near(i + 1, len, start, end);
+    }
+    Ok(())
+}
+
+/// Reserves capacity for `count` more durable ranges between `start` and `end`. Only writes that overlap that range need some.
+/// Blocks whose bounds don't overlap it are skipped. After an error the list is unchanged.
+pub(crate) fn reserve_ranges(
+    entries: &mut Vec<Entry>,
+    bounds: &BlockBounds,
+    start: u64,
+    end: u64,
+    count: usize,
+) -> Result<(), AllocError>
+    requires { AreBounded bounds.now (views entries.old.items) }
+    ensures views { views entries.new.items ≡ views entries.old.items }
+    ensures ok { OnOk result ((ranges : Holes) → AreWithin start end count ranges → HasRoomsFor ranges entries.new) }
+{
+    entries.reserve(count)?;
+    reserve_holes(entries.as_mut_slice(), bounds, start, end, count)
+}
+
+/// Adds a durable range to the holes of each write that it overlaps. Returns how many writes became fully covered.
+fn cover_each(entries: &mut [Entry], bounds: &BlockBounds, start: u64, len: u64) -> usize
+    requires bounded { AreBounded bounds.now (views entries.old) }
+    requires room { CanCut start len (λ hs. All (HasRoomFor hs) entries.old) }
+    ensures views { views entries.new ≡ map (pared_by start len) (views entries.old) }
+    ensures room { KeepsRest start len (λ hs. All (HasRoomFor hs) entries.old) (λ hs. All (HasRoomFor hs) entries.new) }
+    ensures left { length (left_in entries.old) ≤ length (left_in entries.new) + result }
+{
+    let count = entries.len();
+    let mut covered = 0;
+    let mut i = bounds.next_near(0, count, start, start + len);
+    while i < count {
+        if entries[i].cover(start, len) {
+            covered += 1;
+        }
+        i = bounds.next_near(i + 1, count, start, start + len);
+    }
+    covered
+}
+
+/// Does `cover_each` for the entries of a vector.
+fn cover_all(entries: &mut Vec<Entry>, bounds: &BlockBounds, start: u64, len: u64) -> usize
+    requires bounded { AreBounded bounds.now (views entries.old.items) }
+    requires room { CanCut start len (λ hs. All (HasRoomFor hs) entries.old.items) }
+    ensures views { views entries.new.items ≡ map (pared_by start len) (views entries.old.items) }
+    ensures room { KeepsRest start len (λ hs. All (HasRoomFor hs) entries.old.items) (λ hs. All (HasRoomFor hs) entries.new.items) }
+    ensures left { length (left_in entries.old.items) ≤ length (left_in entries.new.items) + result }
+    ensures capacity { vec_capacity entries.new ≡ vec_capacity entries.old }
+    ensures len { vec_len entries.new ≡ vec_len entries.old }
+{
+    cover_each(entries.as_mut_slice(), bounds, start, len)
+}
+
+/// Drops the fully covered writes.
+fn drop_covered(entries: &mut Vec<Entry>)
+    ensures items { entries.new.items ≡ filter (λ entry. is_left (view entry)) entries.old.items }
+    ensures capacity { vec_capacity entries.old ≤ vec_capacity entries.new }
+    ensures len { vec_len entries.new ≤ vec_len entries.old }
+{
+    entries.retain(|entry| entry.is_left());
+}
+
+/// Drops the fully covered writes and all bounds, once more than half of the list may be covered, so that the cost of one covered
+/// write doesn't grow with the list. There are at most `covered` of them.
+fn compact(entries: &mut Vec<Entry>, bounds: &mut BlockBounds, covered: &mut usize)
+    requires bounded { AreBounded bounds.old (views entries.old.items) }
+    requires counted { CountsCovered covered.old (views entries.old.items) }
+    ensures left { left_in entries.new.items ≡ left_in entries.old.items }
+    ensures bounded { AreBounded bounds.new (views entries.new.items) }
+    ensures holes { (later : Holes) → All (HasRoomFor later) entries.old.items → All (HasRoomFor later) entries.new.items }
+    ensures capacity { vec_capacity entries.old ≤ vec_capacity entries.new }
+    ensures len { vec_len entries.new ≤ vec_len entries.old }
+    ensures counted { CountsCovered covered.new (views entries.new.items) }
+    ensures half { vec_len entries.new ≤ 2 * length (left_in entries.new.items) }
+{
+    if *covered <= entries.len() / 2 {
+        return;
+    }
+    drop_covered(entries);
+    bounds.clear();
+    *covered = 0;
+}
+
+/// Returns whether a resize or a queued range is pending.
+pub fn has_barrier(entries: &[Entry]) -> bool
+    ensures { result ≡ has_barrier (views entries.now) }
+{
+    for entry in entries {
+        if entry.is_barrier() {
+            return true;
+        }
+    }
+    false
+}
+
+/// Appends an entry. The list has capacity for it.
+pub fn push(entries: &mut Vec<Entry>, entry: Entry)
+    requires { vec_len entries.old < vec_capacity entries.old }
+    ensures views { views entries.new.items ≡ views entries.old.items ++ view entry ∷ [] }
+    ensures holes { (later : Holes) → All (HasRoomFor later) entries.old.items → HasRoomFor later entry → All (HasRoomFor later) entries.new.items }
+    ensures len { vec_len entries.new ≡ vec_len entries.old + 1 }
+    ensures capacity { vec_capacity entries.old ≤ vec_capacity entries.new }
+{
+    entries.push(entry).unwrap();
+}
+
+/// Updates the list for a durable range: the range joins the holes of the writes, and if `queues` is set, it is queued, since a
+/// crash that replays an earlier resize would undo it. `copy` has the range's bytes if it is queued.
+pub(crate) fn lay(
+    entries: &mut Vec<Entry>,
+    bounds: &mut BlockBounds,
+    covered: &mut usize,
+    queues: bool,
+    offset: u64,
+    len: u64,
+    copy: IoBufs,
+)
+    requires queued { queues ≡ has_barrier (views entries.old.items) }
+    requires bounded { AreBounded bounds.old (views entries.old.items) }
+    requires counted { CountsCovered covered.old (views entries.old.items) }
+    requires room { CanCut offset len (λ hs. HasRoomsFor hs entries.old) }
+    requires copied { length copy ≤ len }
+    ensures left { LaysRange offset len copy (left_in entries.old.items) (left_in entries.new.items) }
+    ensures marks { marks_of (views entries.new.items) ≡ marks_of (views entries.old.items) }
+    ensures queued { has_barrier (views entries.new.items) ≡ queues }
+    ensures bounded { AreBounded bounds.new (views entries.new.items) }
+    ensures counted { CountsCovered covered.new (views entries.new.items) }
+    ensures half { vec_len entries.new ≤ 2 * length (left_in entries.new.items) }
+    ensures room { KeepsRest offset len (λ hs. HasRoomsFor hs entries.old) (λ hs. HasRoomsFor hs entries.new) }
+{
+    let more = cover_all(entries, bounds, offset, len);
+    *covered = covered.saturating_add(more);
+    compact(entries, bounds, covered);
+    if queues {
+        push(
+            entries,
+            Entry::Range(DurableRange {
+                offset,
+                bytes: copy,
+            }),
+        );
+    }
+}
+
+/// Drops the first `count` entries.
+fn drop_front(entries: &mut Vec<Entry>, count: usize)
+    requires { count ≤ vec_len entries.old }
+    ensures { entries.new.items ≡ drop count entries.old.items }
+{
+    entries.drain(..count);
+}
+
+/// Completes a started sync: drops its marker, if it exists, and all entries before it.
+pub fn finish(entries: &mut Vec<Entry>, marker: u64)
+    ensures { views entries.new.items ≡ finished marker (views entries.old.items) }
+{
+    for i in 0..entries.len() {
+        if entries[i].is_mark(marker) {
+            drop_front(entries, i + 1);
+            return;
+        }
+    }
+}
+
+/// Returns the entries after the last marker.
+pub fn unmarked(entries: &[Entry]) -> &[Entry]
+    ensures { left_in result.now ≡ unmarked (left_in entries.now) }
+{
+    let mut start = entries.len();
+    while start > 0 {
+        if entries[start - 1].is_marker() {
+            return &entries[start..];
+        }
+        start -= 1;
+    }
+    entries
+}
+
+/// Returns the greatest end of an entry: the logical length that a replay may need.
+pub fn end(entries: &[Entry]) -> u64
+    ensures { result ≡ ends (left_in entries.now) }
+{
+    let mut end = 0;
+    for entry in entries {
+        end = end.max(entry.end());
+    }
+    end
+}
+
+/// Returns the length of the longest write or range.
+pub fn widest(entries: &[Entry]) -> usize
+    ensures { result ≡ widest (left_in entries.now) }
+{
+    let mut most = 0;
+    for entry in entries {
+        most = most.max(entry.width());
+    }
+    most
+}

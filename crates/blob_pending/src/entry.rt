@@ -1,0 +1,122 @@
+//! One pending mutation of a blob.
+ghost use Rattle.std.specs.Prelude.{◌<◌, ◌+◌, ◌^◌, length};
+
+use crate::write::PendingWrite;
+use blob_base::IoBufs;
+use std::alloc::AllocError;
+
+/// A range that is already durable. A crash that replays an earlier resize must apply it again.
+#[derive(Drop)]
+pub struct DurableRange {
+    pub offset: u64,
+    pub bytes: IoBufs,
+    ghost fits: { offset + length bytes < 2 ^ 64 },
+}
+
+/// A pending mutation of an incarnation.
+#[derive(Drop)]
+pub enum Entry {
+    Write(PendingWrite),
+    /// A resize that survives a crash, to this logical length.
+    Resize(u64),
+    Range(DurableRange),
+    /// A started sync, by its number. The entries before it are durable.
+    Marker(u64),
+}
+
+impl Entry {
+    ghost use Rattle.std.specs.Prelude.{◌≡◌, ◌&&◌, ◌∷◌, [], OnOk, not};
+    ghost use Rattle.blob_model.specs.Holes.{Holes};
+    ghost use Rattle.blob_model.specs.Pending.{is_marker, is_barrier, is_mark, ends};
+    ghost use Rattle.blob_pending.specs.Replays.{widest};
+    ghost use Rattle.blob_pending.specs.Rooms.{AreWithin, HasRoomFor, CanCut, KeepsRest};
+    ghost use Rattle.blob_pending.specs.Views.{view, pared_by, is_left, left_in};
+
+    /// Adds a durable range to the holes of a write. Returns whether the write became fully covered by it.
+    pub fn cover(&mut self, start: u64, len: u64) -> bool
+        requires { CanCut start len (λ hs. HasRoomFor hs self.old) }
+        ensures view { view self.new ≡ pared_by start len (view self.old) }
+        ensures room { KeepsRest start len (λ hs. HasRoomFor hs self.old) (λ hs. HasRoomFor hs self.new) }
+        ensures covered { result ≡ (is_left (view self.old) && not (is_left (view self.new))) }
+    {
+        let Entry::Write(write) = self else {
+            return false;
+        };
+        let was_covered = write.is_covered();
+        write.cover(start, len);
+        write.is_covered() != was_covered
+    }
+
+    /// Reserves capacity in a write for the holes of `count` ranges between `start` and `end`. After an error it is unchanged.
+    pub fn reserve(&mut self, start: u64, end: u64, count: usize) -> Result<(), AllocError>
+        ensures view { view self.new ≡ view self.old }
+        ensures ok { OnOk result ((ranges : Holes) → AreWithin start end count ranges → HasRoomFor ranges self.new) }
+    {
+        match self {
+            Entry::Write(write) => write.reserve(start, end, count),
+            _ => Ok(()),
+        }
+    }
+
+    /// Returns whether a crash still draws for it or applies it. False for a fully covered write.
+    pub fn is_left(&self) -> bool
+        ensures { result ≡ is_left (view self.now) }
+    {
+        match self {
+            Entry::Write(write) => !write.is_covered(),
+            _ => true,
+        }
+    }
+
+    /// Returns whether a later durable range must be queued after it.
+    pub fn is_barrier(&self) -> bool
+        ensures { result ≡ is_barrier (view self.now) }
+    {
+        match self {
+            Entry::Resize(_) | Entry::Range(_) => true,
+            _ => false,
+        }
+    }
+
+    pub fn is_marker(&self) -> bool
+        ensures { result ≡ is_marker (view self.now) }
+    {
+        match self {
+            Entry::Marker(_) => true,
+            _ => false,
+        }
+    }
+
+    /// Returns whether it is the marker with this number.
+    pub fn is_mark(&self, marker: u64) -> bool
+        ensures { result ≡ is_mark marker (view self.now) }
+    {
+        match self {
+            Entry::Marker(number) => *number == marker,
+            _ => false,
+        }
+    }
+
+    /// Returns its end, or 0 for a fully covered write and for a marker.
+    pub fn end(&self) -> u64
+        ensures { result ≡ ends (left_in (self.now ∷ [])) }
+    {
+        match self {
+            Entry::Write(write) if !write.is_covered() => write.end(),
+            Entry::Resize(len) => *len,
+            Entry::Range(range) => range.offset + range.bytes.remaining() as u64,
+            _ => 0,
+        }
+    }
+
+    /// Returns how many bytes it applies. 0 for a fully covered write, a resize and a marker.
+    pub fn width(&self) -> usize
+        ensures { result ≡ widest (left_in (self.now ∷ [])) }
+    {
+        match self {
+            Entry::Write(write) if !write.is_covered() => write.bytes.remaining(),
+            Entry::Range(range) => range.bytes.remaining(),
+            _ => 0,
+        }
+    }
+}

@@ -1,0 +1,157 @@
+//! The pending list of one incarnation, with its markers.
+ghost use Rattle.std.specs.Prelude.{◌≡◌, ◌≤◌, ◌==◌, drop, position, vec_len};
+ghost use Rattle.blob_model.specs.Pending.{has_barrier};
+ghost use Rattle.blob_pending.specs.Blocks.{AreBounded};
+ghost use Rattle.blob_pending.specs.Marks.{marks_of};
+ghost use Rattle.blob_pending.specs.Views.{views, left_in, CountsCovered};
+
+use crate::bounds::BlockBounds;
+use crate::entries;
+use crate::entry::Entry;
+use crate::room::Room;
+use blob_base::IoBufs;
+use std::alloc::{AllocError, Global};
+
+/// The pending list of one incarnation.
+#[derive(Drop)]
+pub struct Incarnation<O> {
+    pub origin: O,
+    /// Whether it was its name's current incarnation when `note` was last called.
+    pub was_current: bool,
+    /// The pending entries, and fully covered writes, which are dropped in bulk.
+    pub entries: Vec<Entry>,
+    /// An upper bound on the number of fully covered writes.
+    pub covered: usize,
+    /// The numbers of the markers among the entries, in their order. A sync without a marker is completed without a search of
+    /// the entries.
+    pub marks: Vec<u64>,
+    /// Whether the entries have a resize or a queued range.
+    pub queues: bool,
+    /// The bounds of the first blocks of entries.
+    pub bounds: BlockBounds,
+    ghost marked: { marks.items ≡ marks_of (views entries.items) },
+    ghost queued: { queues ≡ has_barrier (views entries.items) },
+    ghost bounded: { AreBounded bounds (views entries.items) },
+    ghost counted: { CountsCovered covered (views entries.items) },
+}
+
+/// Returns the index of a marker's number.
+fn place_of(marks: &[u64], marker: u64) -> Option<usize>
+    ensures { result ≡ position (λ mark. mark == marker) marks.now }
+{
+    marks.iter().position(|mark| *mark == marker)
+}
+
+/// Drops the first `count` numbers.
+fn drop_front(marks: &mut Vec<u64>, count: usize)
+    requires { count ≤ vec_len marks.old }
+    ensures { marks.new.items ≡ drop count marks.old.items }
+{
+    marks.drain(..count);
+}
+
+impl<O> Incarnation<O> {
+    ghost use Rattle.std.specs.Prelude.{◌<◌, ◌+◌, ◌*◌, ◌^◌, ◌++◌, ◌∷◌, ℕ, List, [], OnOk, false, true, length};
+    ghost use Rattle.blob_model.specs.Holes.{Holes};
+    ghost use Rattle.blob_model.specs.Pending.{Marker, finished, is_marker};
+    ghost use Rattle.blob_pending.specs.Lists.{Becomes, HasRoom, LaysInto};
+    ghost use Rattle.blob_pending.specs.Rooms.{HasRoomsFor, CanCut, KeepsRest};
+    ghost use Rattle.blob_pending.specs.Views.{view};
+
+    /// Returns an empty list.
+    pub fn new(alloc: Global, origin: O) -> Incarnation<O>
+        ensures origin { result.origin ≡ origin }
+        ensures entries { result.entries.items ≡ [] }
+    {
+        Incarnation {
+            origin,
+            was_current: false,
+            entries: Vec::new(alloc),
+            covered: 0,
+            marks: Vec::new(alloc),
+            queues: false,
+            bounds: BlockBounds::new(alloc),
+        }
+    }
+
+    /// Notes whether it is its name's current incarnation.
+    pub fn note(&mut self, is_current: bool)
+        ensures origin { self.new.origin ≡ self.old.origin }
+        ensures entries { self.new.entries.items ≡ self.old.entries.items }
+        ensures noted { self.new.was_current ≡ is_current }
+    {
+        self.was_current = is_current;
+    }
+
+    /// Reserves capacity. After an error the list is unchanged.
+    pub fn reserve(&mut self, room: Room) -> Result<(), AllocError>
+        ensures same { Becomes self.old self.new (left_in self.old.entries.items) }
+        ensures ok { OnOk result (HasRoom room self.new) }
+    {
+        match room {
+            Room::Entry => self.entries.reserve(1),
+            Room::Mark => {
+                self.marks.reserve(1)?;
+                self.entries.reserve(1)
+            }
+            Room::Ranges(start, end, count) => {
+                self.bounds.add(&self.entries)?;
+                entries::reserve_ranges(&mut self.entries, &self.bounds, start, end, count)
+            }
+        }
+    }
+
+    /// Appends an entry that isn't a marker. The list has capacity for it. A fully covered write is dropped instead.
+    pub fn push(&mut self, entry: Entry)
+        requires room { HasRoom Room.Entry self.old }
+        requires unmarked { is_marker (view entry) ≡ false }
+        ensures { Becomes self.old self.new (left_in self.old.entries.items ++ left_in (entry ∷ [])) }
+    {
+        if !entry.is_left() {
+            return;
+        }
+        self.queues = self.queues || entry.is_barrier();
+        entries::push(&mut self.entries, entry);
+    }
+
+    /// Appends a marker. The list has capacity for it.
+    pub fn mark(&mut self, number: u64)
+        requires { HasRoom Room.Mark self.old }
+        ensures { Becomes self.old self.new (left_in self.old.entries.items ++ Marker number ∷ []) }
+    {
+        self.marks.push(number).unwrap();
+        entries::push(&mut self.entries, Entry::Marker(number));
+    }
+
+    /// Updates the list for a durable range. The list has capacity for it. `copy` has the range's bytes if it is queued.
+    pub fn lay(&mut self, offset: u64, len: u64, copy: IoBufs)
+        requires room { CanCut offset len (λ hs. HasRoomsFor hs self.old.entries) }
+        requires copied { length copy ≤ len }
+        ensures laid { LaysInto offset len copy self.old self.new }
+        ensures origin { self.new.origin ≡ self.old.origin }
+        ensures room { KeepsRest offset len (λ hs. HasRoomsFor hs self.old.entries) (λ hs. HasRoomsFor hs self.new.entries) }
+        ensures half { vec_len self.new.entries ≤ 2 * length (left_in self.new.entries.items) }
+    {
+        entries::lay(
+            &mut self.entries,
+            &mut self.bounds,
+            &mut self.covered,
+            self.queues,
+            offset,
+            len,
+            copy,
+        );
+    }
+
+    /// Completes a started sync: drops its marker, if it exists, and all entries before it.
+    pub fn finish(&mut self, marker: u64)
+        ensures { Becomes self.old self.new (finished marker (left_in self.old.entries.items)) }
+    {
+        if let Some(i) = place_of(&self.marks, marker) {
+            drop_front(&mut self.marks, i + 1);
+            self.bounds.clear();
+            entries::finish(&mut self.entries, marker);
+            self.queues = entries::has_barrier(&self.entries);
+        }
+    }
+}

@@ -1,0 +1,12 @@
+//! The pending list of each incarnation: what a crash may lose, in issue order.
+#![tactic(auto)]
+
+pub mod bounds;
+pub mod entries;
+pub mod entry;
+pub mod gather;
+pub mod holes;
+pub mod incarnation;
+pub mod lists;
+pub mod room;
+pub mod write;

@@ -1,6 +1,0 @@
-use Rattle.std.proofs.Common.{rules}
-use Rattle.blob_pictures.proofs.Explaining.{begins}
-use Rattle.blob_pictures.proofs.explain.explained.Goals as goal
-
-pub lines-init : goal.lines-init
-lines-init c = begins _ _ (search rules)

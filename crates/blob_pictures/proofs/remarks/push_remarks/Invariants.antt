@@ -1,5 +1,0 @@
-use Rattle.blob_pictures.specs.Explained.{IsRemarking}
-use Rattle.blob_pictures.proofs.remarks.push_remarks.Given as goal
-
-abbrev pub invariant-loop-byte : goal.invariant-loop-byte
-invariant-loop-byte l = IsRemarking l.initial.to.items l.to.items l.line.items

@@ -1,0 +1,195 @@
+// The lines of calls.
+ghost use Rattle.std.specs.Prelude.{◌≡◌, IfOk, Some, None, string_bytes, option_map, codes};
+ghost use Rattle.std.specs.Range.{range_inclusive_start, range_inclusive_end, range_inclusive_exhausted};
+ghost use Rattle.blob_script.specs.Acts.{Open, OpenLoose, act_of, versions_of};
+ghost use Rattle.blob_script.specs.CallLines.{call, open_form, writing};
+ghost use Rattle.blob_script.specs.Forms.{text, hex, name, digits, versions};
+ghost use Rattle.blob_script.specs.Tokens.{version_of};
+
+use crate::Call;
+use crate::script::RefusedLine;
+use crate::script::token::{Tokens, bytes, number};
+use blob_base::{BlobVersion, DEFAULT_BLOB_VERSION};
+use std::alloc::Global;
+use std::ops::RangeInclusive;
+
+/// Parses a call. `word` is its first token. Leaves the tokens after the call.
+pub(crate) fn call(alloc: Global, word: &str, tokens: &mut Tokens) -> Result<Call, RefusedLine>
+    ensures ok { IfOk result (λ asked. call word.now tokens.old ≡ Some (act_of asked, tokens.new)) }
+    ensures bad { result ≡ Err RefusedLine.BadCall → call word.now tokens.old ≡ None }
+{
+    match word {
+        "open" => open(alloc, tokens),
+        "loose" => loose(alloc, tokens),
+        "admit" => admit(alloc, tokens),
+        "close" => Ok(Call::Close(index(tokens)?)),
+        "read" => read(tokens),
+        "write" => write(alloc, tokens, false),
+        "writes" => write(alloc, tokens, true),
+        "resize" => resize(tokens),
+        "size" => Ok(Call::Size(index(tokens)?)),
+        "sync" => Ok(Call::Sync(index(tokens)?)),
+        "startsync" => Ok(Call::StartSync(index(tokens)?)),
+        "finish" => Ok(Call::Finish(index(tokens)?)),
+        "remove" => remove(alloc, tokens),
+        "scan" => scan(alloc, tokens),
+        "crash" => Ok(Call::Crash),
+        "reopen" => Ok(Call::Reopen),
+        _ => Err(RefusedLine::BadCall),
+    }
+}
+
+fn open(alloc: Global, tokens: &mut Tokens) -> Result<Call, RefusedLine>
+    ensures ok { IfOk result (λ asked. open_form Open tokens.old ≡ Some (act_of asked, tokens.new)) }
+    ensures bad { result ≡ Err RefusedLine.BadCall → open_form Open tokens.old ≡ None }
+{
+    let (partition, name) = (text(alloc, tokens)?, hex(alloc, tokens)?);
+    let versions = versions(tokens)?;
+    Ok(Call::Open {
+        partition,
+        name,
+        versions,
+    })
+}
+
+fn loose(alloc: Global, tokens: &mut Tokens) -> Result<Call, RefusedLine>
+    ensures ok { IfOk result (λ asked. open_form OpenLoose tokens.old ≡ Some (act_of asked, tokens.new)) }
+    ensures bad { result ≡ Err RefusedLine.BadCall → open_form OpenLoose tokens.old ≡ None }
+{
+    let (partition, name) = (text(alloc, tokens)?, hex(alloc, tokens)?);
+    let versions = versions(tokens)?;
+    Ok(Call::OpenLoose {
+        partition,
+        name,
+        versions,
+    })
+}
+
+fn admit(alloc: Global, tokens: &mut Tokens) -> Result<Call, RefusedLine>
+    ensures ok { IfOk result (λ asked. call (codes "admit") tokens.old ≡ Some (act_of asked, tokens.new)) }
+    ensures bad { result ≡ Err RefusedLine.BadCall → call (codes "admit") tokens.old ≡ None }
+{
+    Ok(Call::Admit {
+        partition: text(alloc, tokens)?,
+        name: hex(alloc, tokens)?,
+    })
+}
+
+fn read(tokens: &mut Tokens) -> Result<Call, RefusedLine>
+    ensures ok { IfOk result (λ asked. call (codes "read") tokens.old ≡ Some (act_of asked, tokens.new)) }
+    ensures bad { result ≡ Err RefusedLine.BadCall → call (codes "read") tokens.old ≡ None }
+{
+    Ok(Call::Read {
+        handle: index(tokens)?,
+        offset: digits(tokens)?,
+        len: index(tokens)?,
+    })
+}
+
+fn resize(tokens: &mut Tokens) -> Result<Call, RefusedLine>
+    ensures ok { IfOk result (λ asked. call (codes "resize") tokens.old ≡ Some (act_of asked, tokens.new)) }
+    ensures bad { result ≡ Err RefusedLine.BadCall → call (codes "resize") tokens.old ≡ None }
+{
+    Ok(Call::Resize {
+        handle: index(tokens)?,
+        len: digits(tokens)?,
+    })
+}
+
+fn remove(alloc: Global, tokens: &mut Tokens) -> Result<Call, RefusedLine>
+    ensures ok { IfOk result (λ asked. call (codes "remove") tokens.old ≡ Some (act_of asked, tokens.new)) }
+    ensures bad { result ≡ Err RefusedLine.BadCall → call (codes "remove") tokens.old ≡ None }
+{
+    Ok(Call::Remove {
+        partition: text(alloc, tokens)?,
+        name: name(alloc, tokens)?,
+    })
+}
+
+fn scan(alloc: Global, tokens: &mut Tokens) -> Result<Call, RefusedLine>
+    ensures ok { IfOk result (λ asked. call (codes "scan") tokens.old ≡ Some (act_of asked, tokens.new)) }
+    ensures bad { result ≡ Err RefusedLine.BadCall → call (codes "scan") tokens.old ≡ None }
+{
+    Ok(Call::Scan {
+        partition: text(alloc, tokens)?,
+    })
+}
+
+fn write(alloc: Global, tokens: &mut Tokens, sync: bool) -> Result<Call, RefusedLine>
+    ensures ok { IfOk result (λ asked. writing sync tokens.old ≡ Some (act_of asked, tokens.new)) }
+    ensures bad { result ≡ Err RefusedLine.BadCall → writing sync tokens.old ≡ None }
+{
+    Ok(Call::Write {
+        handle: index(tokens)?,
+        offset: digits(tokens)?,
+        bytes: hex(alloc, tokens)?,
+        sync,
+    })
+}
+
+/// Returns the next token.
+pub(crate) fn text(alloc: Global, tokens: &mut Tokens) -> Result<String, RefusedLine>
+    ensures ok { IfOk result (λ read. text tokens.old ≡ Some (string_bytes read, tokens.new)) }
+    ensures bad { result ≡ Err RefusedLine.BadCall → text tokens.old ≡ None }
+{
+    let token = tokens.next().ok_or(RefusedLine::BadCall)?;
+    Ok(String::from_str(alloc, token)?)
+}
+
+/// Parses the next token as bytes.
+pub(crate) fn hex(alloc: Global, tokens: &mut Tokens) -> Result<Vec<u8>, RefusedLine>
+    ensures ok { IfOk result (λ read. hex tokens.old ≡ Some (read.items, tokens.new)) }
+    ensures bad { result ≡ Err RefusedLine.BadCall → hex tokens.old ≡ None }
+{
+    bytes(alloc, tokens.next().ok_or(RefusedLine::BadCall)?)
+}
+
+/// Parses the next token as bytes, if there is one.
+fn name(alloc: Global, tokens: &mut Tokens) -> Result<Option<Vec<u8>>, RefusedLine>
+    ensures ok { IfOk result (λ read. name tokens.old ≡ Some (option_map (λ bytes. bytes.items) read, tokens.new)) }
+    ensures bad { result ≡ Err RefusedLine.BadCall → name tokens.old ≡ None }
+{
+    match tokens.next() {
+        Some(token) => Ok(Some(bytes(alloc, token)?)),
+        None => Ok(None),
+    }
+}
+
+/// Parses the next token as a number.
+pub(crate) fn digits(tokens: &mut Tokens) -> Result<u64, RefusedLine>
+    ensures ok { IfOk result (λ read. digits tokens.old ≡ Some (read, tokens.new)) }
+    ensures bad { result ≡ Err RefusedLine.BadCall → digits tokens.old ≡ None }
+{
+    let token = tokens.next().ok_or(RefusedLine::BadCall)?;
+    number(token).ok_or(RefusedLine::BadCall)
+}
+
+fn index(tokens: &mut Tokens) -> Result<usize, RefusedLine>
+    ensures ok { IfOk result (λ read. digits tokens.old ≡ Some (read, tokens.new)) }
+    ensures bad { result ≡ Err RefusedLine.BadCall → digits tokens.old ≡ None }
+{
+    Ok(digits(tokens)? as usize)
+}
+
+/// Parses the next two tokens as versions. If there are no tokens, returns the default version only.
+fn versions(tokens: &mut Tokens) -> Result<RangeInclusive<BlobVersion>, RefusedLine>
+    ensures ok { IfOk result (λ read. versions tokens.old ≡ Some (versions_of read, tokens.new)) }
+    ensures bad { result ≡ Err RefusedLine.BadCall → versions tokens.old ≡ None }
+{
+    let Some(first) = tokens.next() else {
+        return Ok(DEFAULT_BLOB_VERSION..=DEFAULT_BLOB_VERSION);
+    };
+    let last = tokens.next().ok_or(RefusedLine::BadCall)?;
+    Ok(version(first)?..=version(last)?)
+}
+
+fn version(token: &str) -> Result<BlobVersion, RefusedLine>
+    ensures ok { IfOk result (λ read. version_of token.now ≡ Some read.0) }
+    ensures bad { result ≡ Err RefusedLine.BadCall → version_of token.now ≡ None }
+{
+    let number = number(token).ok_or(RefusedLine::BadCall)?;
+    match u16::try_from(number) {
+        Ok(number) => Ok(BlobVersion::new(number)),
+        Err(_) => Err(RefusedLine::BadCall),
+    }
+}

@@ -1,0 +1,88 @@
+// Replies as lines.
+ghost use Rattle.std.specs.Prelude.{◌≡◌, ◌++◌, ◌∷◌, OnOk, map, string_bytes, codes, if◌then◌else◌};
+ghost use Rattle.std.specs.List.{flat_map};
+ghost use Rattle.std.specs.Fmt.{decimal};
+ghost use Rattle.blob_draws.specs.Rows.{row_in, rows_in};
+ghost use Rattle.blob_script.specs.Replies.{reply_line, hex_field, row_field};
+
+use crate::Reply;
+use blob_base::RefusalLine;
+use std::alloc::{AllocError, Global};
+
+/// Appends a reply's line to `line`, without the line feed. After an error, a part of it may have been appended.
+pub fn print_reply(reply: &Reply, line: &mut String) -> Result<(), AllocError>
+    ensures { OnOk result (string_bytes line.new ≡ string_bytes line.old ++ reply_line reply.now) }
+{
+    match reply {
+        Reply::Done => line.push_str("ok"),
+        Reply::Opened {
+            handle,
+            size,
+            version,
+        } => {
+            let version = version.get();
+            write!(line, "opened {handle} {size} {version}")
+        }
+        Reply::Bytes(bytes) => {
+            line.push_str("bytes ")?;
+            print_hex(bytes, line)
+        }
+        Reply::Size(size) => write!(line, "size {size}"),
+        Reply::Names(names) => {
+            line.push_str("names")?;
+            print_names(names, line)
+        }
+        Reply::Started(number) => write!(line, "started {number}"),
+        Reply::Crashed(selections) => {
+            line.push_str("crashed")?;
+            print_rows(selections.rows(), line)
+        }
+        Reply::Failed(e) => {
+            let refusal = RefusalLine(e);
+            write!(line, "{refusal}")
+        }
+        Reply::NoHandle => line.push_str("error NoHandle"),
+        Reply::EmptyRange => line.push_str("error EmptyRange"),
+    }
+}
+
+/// Appends bytes in lower-case hex, or `-` if there are none.
+#[tactic(auto, using(crate::proofs::HexFields::none, crate::proofs::HexFields::some))]
+fn print_hex(bytes: &[u8], line: &mut String) -> Result<(), AllocError>
+    ensures { OnOk result (string_bytes line.new ≡ string_bytes line.old ++ hex_field bytes.now) }
+{
+    if bytes.is_empty() {
+        return line.push_str("-");
+    }
+    let digits = hex::encode(*line.allocator(), bytes)?;
+    line.push_str(&digits)
+}
+
+fn print_names(names: &[Vec<u8>], line: &mut String) -> Result<(), AllocError>
+    ensures { OnOk result (string_bytes line.new ≡ string_bytes line.old ++ flat_map (λ name. codes " " ++ hex_field name.items) names.now) }
+{
+    for name in names {
+        line.push(' ')?;
+        print_hex(name, line)?;
+    }
+    Ok(())
+}
+
+fn print_rows(rows: &[(u64, Vec<bool>)], line: &mut String) -> Result<(), AllocError>
+    ensures { OnOk result (string_bytes line.new ≡ string_bytes line.old ++ flat_map row_field (rows_in rows.now)) }
+{
+    for (number, choices) in rows {
+        write!(line, " {number}:")?;
+        print_choices(choices, line)?;
+    }
+    Ok(())
+}
+
+fn print_choices(choices: &[bool], line: &mut String) -> Result<(), AllocError>
+    ensures { OnOk result (string_bytes line.new ≡ string_bytes line.old ++ map (λ kept. if kept then 49 else 48) choices.now) }
+{
+    for kept in choices {
+        line.push(if *kept { '1' } else { '0' })?;
+    }
+    Ok(())
+}

@@ -1,8 +1,0 @@
-use Rattle.blob_states.proofs.Exclusive.{handles_open, handles_sole}
-use Rattle.blob_states.proofs.laws.opens_are_exclusive.Goals as goal
-
-pub returns-clause-sole : goal.returns-clause-sole
-returns-clause-sole c = handles_sole
-
-pub returns-clause-names : goal.returns-clause-names
-returns-clause-names c = handles_open

@@ -1,0 +1,183 @@
+//! The calls of a wrapper, and those of a wrapper over the memory store only.
+
+use crate::args::Args;
+use crate::calls::Own;
+use crate::found::{Found, bytes, done};
+use crate::place::Place;
+use crate::words;
+use blob_base::{DEFAULT_BLOB_VERSION, Error, Storage, WriteOptions};
+use blob_faulty::Config;
+use blob_lab_store::ScriptedRng;
+use blob_memory::Storage as Memory;
+use blob_script::Reply;
+use std::alloc::Global;
+use std::mem;
+
+/// The wrapper of a store.
+pub type Wrapper<S> = blob_faulty::Storage<S, ScriptedRng>;
+
+impl<S: Storage + Drop> Place<Wrapper<S>> {
+    // Changes one setting.
+    fn configure(&mut self, args: &Args<'_>) -> Result<Found, Error> {
+        let setting = args.setting.ok_or(Error::Closed)?;
+        let config = mem::take(self.store.config());
+        *self.store.config() = setting.apply(config);
+        Ok(done(()))
+    }
+
+    // Returns the size that a handle tracks.
+    fn size(&self, handle: usize) -> Result<Found, Error> {
+        let blob = self.blobs.get(handle).ok_or(Error::Closed)?;
+        Ok(Found::Told(Reply::Size(blob.size())))
+    }
+
+    // Removes through `remove_retired`.
+    fn remove_retired(&mut self, partition: &str, name: Option<&[u8]>) -> Result<Found, Error> {
+        let _retired = self.store.remove_retired(partition, name)?;
+        Ok(done(()))
+    }
+
+    /// Runs a call of every wrapper.
+    pub fn call_wrapper(&mut self, own: Own, args: &mut Args<'_>) -> Result<Found, Error> {
+        match own {
+            Own::Config => self.configure(args),
+            Own::Size => self.size(args.handle()),
+            Own::RemovePartitionRetired => self.remove_retired(&args.partition, None),
+            Own::RemoveRetired => self.remove_retired(&args.partition, Some(&args.name)),
+            _ => self.call(own, args),
+        }
+    }
+}
+
+/// A wrapper with its handles and the number of its remaining words.
+#[derive(Drop)]
+pub struct WrapperPlace<S: Storage + Drop> {
+    pub place: Place<Wrapper<S>>,
+    alloc: Global,
+    given: usize,
+    left: usize,
+}
+
+impl<S: Storage + Drop> WrapperPlace<S> {
+    /// Wraps a store, with these words and first numbers.
+    pub fn new(
+        alloc: Global,
+        store: S,
+        words: Vec<u64>,
+        (next_write, next_marker): (u64, u64),
+    ) -> Result<WrapperPlace<S>, Error> {
+        let given = words.len();
+        let (rng, config) = (words::generator(words)?, Config::default());
+        let wrapper = Wrapper::new_numbered(alloc, store, rng, config, next_write, next_marker);
+        Ok(WrapperPlace {
+            place: Place::new(alloc, wrapper),
+            alloc,
+            given,
+            left: given,
+        })
+    }
+
+    /// Returns the store, and how many words were taken; if more than all were taken, one more than given.
+    pub fn into_inner(self) -> Result<(S, usize), Error> {
+        let WrapperPlace {
+            place,
+            alloc,
+            given,
+            left,
+        } = self;
+        let (store, rng, _config) = place.store.into_inner();
+        let taken = words::taken(alloc, rng, given, left)?;
+        Ok((store, taken))
+    }
+}
+
+impl WrapperPlace<Memory> {
+    /// Takes the wrapper and leaves an empty one.
+    pub fn take(&mut self) -> Wrapper<Memory> {
+        let rng = ScriptedRng::new(Vec::new(self.alloc));
+        let empty = Wrapper::new(self.alloc, Memory::new(self.alloc), rng, Config::default());
+        mem::replace(&mut self.place.store, empty)
+    }
+
+    /// Sets the wrapper that the handles use from now on.
+    pub fn put_back(&mut self, wrapper: Wrapper<Memory>) {
+        self.place.store = wrapper;
+    }
+
+    // Takes the store out of its wrapper and wraps it again, with the same generator and configuration. If
+    // `is_rebuilt`, rebuilds the store from a snapshot first. Handles stay. Returns how many words were taken so far.
+    fn rewrap(&mut self, is_rebuilt: bool) -> Result<Found, Error> {
+        let (mut memory, rng, config) = self.take().into_inner();
+        if is_rebuilt {
+            memory = Memory::from_snapshot(memory.take_snapshot());
+        }
+        let left = words::left(self.alloc, rng, self.left)?.ok_or(Error::Closed)?;
+        self.left = left.len();
+        let rng = words::generator(left)?;
+        self.place.store = Wrapper::new(self.alloc, memory, rng, config);
+        Ok(Found::Taken(self.given.wrapping_sub(self.left)))
+    }
+
+    // Admits a name, which retires its pending entries.
+    fn admit(&mut self, args: &Args<'_>) -> Result<Found, Error> {
+        let _retired = self.place.store.admit(&args.partition, &args.name);
+        Ok(done(()))
+    }
+
+    // Opens and admits a name.
+    fn open_admitted(&mut self, args: &Args<'_>) -> Result<Found, Error> {
+        let (blob, size) = self.place.store.open_admitted(&args.partition, &args.name)?;
+        self.place.opened(blob, size, DEFAULT_BLOB_VERSION)
+    }
+
+    fn open_versioned_admitted(&mut self, args: &Args<'_>) -> Result<Found, Error> {
+        let [first, last] = args.versions;
+        if first > last {
+            return Ok(Found::Told(Reply::EmptyRange));
+        }
+        let (blob, size, version) = self
+            .place
+            .store
+            .open_versioned_admitted(&args.partition, &args.name, first..=last)?;
+        self.place.opened(blob, size, version)
+    }
+
+    // Reads into a slice, or writes from one.
+    fn borrow(&mut self, own: Own, args: &mut Args<'_>) -> Result<Found, Error> {
+        let [_, at, _, _] = args.numbers;
+        let mut slice = args.take_bytes();
+        let number = args.handle();
+        let blob = self.place.blobs.get_mut(number).ok_or(Error::Closed)?;
+        if let Own::WriteFrom = own {
+            let plain = WriteOptions::default();
+            let store = &mut self.place.store;
+            return blob.write_from(store, at, &slice, plain).map(done);
+        }
+        blob.read_into(&mut self.place.store, at, &mut slice)?;
+        Ok(bytes(slice))
+    }
+
+    fn crash(&mut self) -> Result<Found, Error> {
+        Ok(Found::Told(Reply::Crashed(self.place.store.crash()?)))
+    }
+
+    /// Runs a call of the wrapper over the memory store.
+    pub fn call(&mut self, own: Own, args: &mut Args<'_>) -> Result<Found, Error> {
+        match own {
+            Own::Admit => self.admit(args),
+            Own::OpenAdmitted => self.open_admitted(args),
+            Own::OpenVersionedAdmitted => self.open_versioned_admitted(args),
+            Own::ReadSlice | Own::WriteFrom => self.borrow(own, args),
+            Own::Crash => self.crash(),
+            Own::Rewrap => self.rewrap(false),
+            Own::Rebuild => self.rewrap(true),
+            _ => self.place.call_wrapper(own, args),
+        }
+    }
+
+    /// Returns how many words were taken, at the end of a case.
+    pub fn taken(&mut self) -> Result<Found, Error> {
+        let (_memory, rng, _config) = self.take().into_inner();
+        Ok(Found::Taken(words::taken(self.alloc, rng, self.given, self.left)?))
+    }
+}

@@ -1,0 +1,327 @@
+// The log over every outcome of small runs, without seeds: which writes and syncs fail and what they leave, what each
+// crash keeps, and after which append the power fails. It loses no acknowledged record and finds none that wasn't
+// appended. Each mistake of `WrongLog` is found.
+use crate::wrong_log::{Mistake, Tried};
+use blob_base::{Error, Probability, SectorSize};
+use blob_faulty::{Config, PartialWriteMode, WriteConfig};
+use blob_lab_store::ScriptedRng;
+use blob_log::log::Store;
+use blob_tree::Explorer;
+use std::alloc::Global;
+use std::test::Fail;
+
+/// The records of a run, in order. Their frames have 16, 16 and 9 bytes.
+const RECORDS: [&[u8]; 3] = [b"record 1", b"record 2", b"3"];
+
+/// The zeros after the words of a path. No run draws as many.
+const SPARE: usize = 200;
+
+/// More leaves than any of these explorations has.
+const LIMIT: u64 = 100_000;
+
+/// Two sessions of a log append the first `records` records between them. Each session ends in a crash and a recovery,
+/// and then in another crash and recovery.
+#[derive(Clone, Copy)]
+struct Case {
+    mistake: Option<Mistake>,
+    records: usize,
+    mode: PartialWriteMode,
+    writes_fail: bool,
+    syncs_fail: bool,
+    recoveries_fail: bool,
+    /// The first session ends in a reopen, without a crash.
+    reopens: bool,
+}
+
+impl Case {
+    /// A case in which nothing fails but the power.
+    fn new(mode: PartialWriteMode, records: usize) -> Case {
+        Case {
+            mistake: None,
+            records,
+            mode,
+            writes_fail: false,
+            syncs_fail: false,
+            recoveries_fail: false,
+            reopens: false,
+        }
+    }
+
+    fn config(&self) -> Config {
+        Config::default()
+            .write(WriteConfig {
+                failure_rate: half_if(self.writes_fail),
+                retention_rate: half_if(true),
+                mode: self.mode,
+            })
+            .sync(half_if(self.syncs_fail))
+            .open(half_if(self.recoveries_fail))
+            .read(half_if(self.recoveries_fail))
+    }
+}
+
+/// Draws with two outcomes, or none.
+fn half_if(draws: bool) -> Probability {
+    if draws {
+        Probability::new(1, 2).unwrap_or(Probability::ZERO)
+    } else {
+        Probability::ZERO
+    }
+}
+
+fn sectors() -> PartialWriteMode {
+    SectorSize::new(8).map_or(PartialWriteMode::Subset, PartialWriteMode::Sectors)
+}
+
+/// What a recovery has to find: `records`, and after them at most one of `failed`, which are those with a failed
+/// append.
+#[derive(Drop)]
+struct Promised {
+    records: Vec<Vec<u8>>,
+    failed: Vec<Vec<u8>>,
+}
+
+impl Promised {
+    fn new(alloc: Global, records: Vec<Vec<u8>>) -> Promised {
+        Promised {
+            records,
+            failed: Vec::new(alloc),
+        }
+    }
+
+    fn is_kept(&self, found: &[Vec<u8>]) -> bool {
+        let count = self.records.len();
+        if found.len() < count || !self.records.iter().zip(found).all(|(a, b)| a == b) {
+            return false;
+        }
+        match found.get(count) {
+            None => true,
+            Some(more) => found.len() == count + 1
+                && self.failed.iter().any(|failed| failed == more),
+        }
+    }
+}
+
+fn append_each(
+    alloc: Global,
+    store: &mut Store<ScriptedRng>,
+    log: &mut Tried,
+    entries: &[&[u8]],
+    promised: &mut Promised,
+) -> Result<(), Error> {
+    for entry in entries {
+        let record = Vec::from_slice(alloc, entry)?;
+        if log.append(alloc, store, entry).is_ok() {
+            promised.records.push(record)?;
+        } else {
+            promised.failed.push(record)?;
+        }
+    }
+    Ok(())
+}
+
+/// Recovers. If the open or the read fails, the power does, and the next recovery meets no fault.
+fn recover(
+    alloc: Global,
+    store: &mut Store<ScriptedRng>,
+    mistake: Option<Mistake>,
+) -> Result<(Tried, Vec<Vec<u8>>), Error> {
+    if let Ok(recovered) = Tried::recover(alloc, store, mistake) {
+        return Ok(recovered);
+    }
+    store.crash()?;
+    store.set_config(Config::default());
+    Tried::recover(alloc, store, mistake)
+}
+
+/// Returns whether two recoveries, with a crash between them, find what they have to, and the same.
+fn recover_twice(
+    alloc: Global,
+    store: &mut Store<ScriptedRng>,
+    mistake: Option<Mistake>,
+    promised: &mut Promised,
+) -> Result<(Tried, bool), Error> {
+    let (_, found) = recover(alloc, store, mistake)?;
+    let is_kept = promised.is_kept(&found);
+    *promised = Promised::new(alloc, found);
+    store.crash()?;
+    let (log, again) = recover(alloc, store, mistake)?;
+    let is_same = promised.is_kept(&again);
+    Ok((log, is_kept && is_same))
+}
+
+/// Appends these records, ends the session by a crash or a reopen, and recovers. Returns whether the recoveries find
+/// what they have to.
+fn session(
+    alloc: Global,
+    store: &mut Store<ScriptedRng>,
+    case: &Case,
+    log: &mut Tried,
+    promised: &mut Promised,
+    (entries, crashes): (&[&[u8]], bool),
+) -> Result<bool, Error> {
+    store.set_config(case.config());
+    append_each(alloc, store, log, entries, promised)?;
+    if crashes {
+        store.crash()?;
+    }
+    let (again, holds) = recover_twice(alloc, store, case.mistake, promised)?;
+    *log = again;
+    Ok(holds)
+}
+
+/// Two sessions, the first with the first `at` records. Returns whether each recovery finds what it has to.
+fn run(
+    alloc: Global,
+    store: &mut Store<ScriptedRng>,
+    case: &Case,
+    at: usize,
+) -> Result<bool, Error> {
+    let (first, second) = RECORDS.split_at(at.min(3));
+    let second = &second[..case.records.saturating_sub(at).min(second.len())];
+    let mut promised = Promised::new(alloc, Vec::new(alloc));
+    let (mut log, _) = Tried::recover(alloc, store, case.mistake)?;
+    let ends = (first, !case.reopens);
+    let holds = session(alloc, store, case, &mut log, &mut promised, ends)?;
+    let still_holds = session(alloc, store, case, &mut log, &mut promised, (second, true))?;
+    Ok(holds && still_holds)
+}
+
+/// Runs along the explorer's path. Returns the number of draws, and whether the run held.
+fn visit(
+    alloc: Global,
+    explorer: &Explorer,
+    case: &Case,
+    at: usize,
+) -> Result<(usize, bool), Error> {
+    let mut words = explorer.words()?;
+    let given = words.len().saturating_add(SPARE);
+    words.resize(given, 0)?;
+    words.push(u64::MAX)?;
+    let memory = blob_memory::Storage::new(alloc);
+    let rng = ScriptedRng::new(words);
+    let mut store = blob_faulty::Storage::new(alloc, memory, rng, Config::default());
+    let holds = run(alloc, &mut store, case, at)?;
+    match store.rng().left() {
+        Some(left) if left > 0 => Ok((given.saturating_sub(left - 1), holds)),
+        _ => Err(Error::GenerationsExhausted),
+    }
+}
+
+/// The leaves of all runs of a case, and the number of those that don't hold.
+#[derive(Clone, Copy, Debug, PartialEq, Eq)]
+struct Explored {
+    leaves: u64,
+    broken: u64,
+}
+
+/// Visits each leaf. The power fails after each number of appends.
+fn explore(alloc: Global, case: Case) -> Result<Explored, Error> {
+    let mut explored = Explored {
+        leaves: 0,
+        broken: 0,
+    };
+    for at in 0..=case.records {
+        let mut explorer = Explorer::new(alloc);
+        let mut is_done = false;
+        for _ in 0..LIMIT {
+            let (taken, holds) = visit(alloc, &explorer, &case, at)?;
+            explored.leaves = explored.leaves.saturating_add(1);
+            explored.broken = explored.broken.saturating_add(u64::from(!holds));
+            if !explorer.advance(taken)? {
+                is_done = true;
+                break;
+            }
+        }
+        if !is_done {
+            return Err(Error::GenerationsExhausted);
+        }
+    }
+    Ok(explored)
+}
+
+/// All of these leaves hold.
+fn all_hold(leaves: u64) -> Explored {
+    Explored { leaves, broken: 0 }
+}
+
+// The leaves are counted by hand. In prefix mode a crash or a failed write has n + 1 outcomes for a frame of n bytes.
+// With sectors it has 4, since each of these frames touches two sectors.
+
+/// One more outcome for each write that succeeds: 18, 18 and 11, whichever session has which record.
+#[test]
+fn failing_writes_lose_nothing(rt: HostRuntime) -> Result<(), Fail> {
+    let mut case = Case::new(PartialWriteMode::Prefix, 2);
+    case.writes_fail = true;
+    assert_eq!(rt; explore(rt.alloc(), case)?, all_hold(3 * 324));
+    case.records = 3;
+    assert_eq!(rt; explore(rt.alloc(), case)?, all_hold(4 * 324 * 11));
+    Ok(())
+}
+
+/// A record has 1 + 17 + 17 outcomes: Ok, a failed write, and a failed sync, after which the crash keeps a part. If
+/// one session has both records and the first one's sync fails, the second is written over it, and a crash makes no
+/// draw for it if it is covered: 35 + 17 * 35 + (1 + (16 * 17 + 1) + 17 * 17).
+#[test]
+fn failing_syncs_lose_nothing(rt: HostRuntime) -> Result<(), Fail> {
+    let mut case = Case::new(PartialWriteMode::Prefix, 2);
+    case.writes_fail = true;
+    case.syncs_fail = true;
+    assert_eq!(rt; explore(rt.alloc(), case)?, all_hold(1193 + 35 * 35 + 1193));
+    // A reopen discards what is pending, so that in the first session a failed sync has one outcome.
+    case.reopens = true;
+    assert_eq!(rt;
+        explore(rt.alloc(), case)?,
+        all_hold(1193 + 19 * 35 + 19 * 19)
+    );
+    Ok(())
+}
+
+/// A record has 1 + 4 + 4 outcomes. Two records of one session have 75, or 81 if the second is shorter. All three have
+/// 666.
+#[test]
+fn failing_sectors_lose_nothing(rt: HostRuntime) -> Result<(), Fail> {
+    let mut case = Case::new(sectors(), 3);
+    case.writes_fail = true;
+    case.syncs_fail = true;
+    assert_eq!(rt;
+        explore(rt.alloc(), case)?,
+        all_hold(666 + 9 * 81 + 75 * 9 + 666)
+    );
+    Ok(())
+}
+
+/// A session's two recoveries have 5 outcomes: the open or the read of one fails, or none does.
+#[test]
+fn failing_recoveries_lose_nothing(rt: HostRuntime) -> Result<(), Fail> {
+    let mut case = Case::new(PartialWriteMode::Prefix, 1);
+    case.writes_fail = true;
+    case.syncs_fail = true;
+    case.recoveries_fail = true;
+    assert_eq!(rt; explore(rt.alloc(), case)?, all_hold(2 * 5 * 5 * 35));
+    Ok(())
+}
+
+/// Returns whether a leaf shows the mistake.
+fn is_found(alloc: Global, mut case: Case, mistake: Mistake) -> Result<bool, Error> {
+    case.mistake = Some(mistake);
+    Ok(explore(alloc, case)?.broken > 0)
+}
+
+#[test]
+fn each_mistake_is_found(rt: HostRuntime) -> Result<(), Fail> {
+    let mut case = Case::new(PartialWriteMode::Prefix, 1);
+    assert!(rt; is_found(rt.alloc(), case, Mistake::NoSync)?);
+    assert!(rt; !is_found(rt.alloc(), case, Mistake::EarlyOk)?);
+    case.syncs_fail = true;
+    assert!(rt; is_found(rt.alloc(), case, Mistake::EarlyOk)?);
+    case.mode = sectors();
+    assert!(rt; is_found(rt.alloc(), case, Mistake::ZerosPass)?);
+    let mut case = Case::new(PartialWriteMode::Prefix, 2);
+    case.writes_fail = true;
+    case.syncs_fail = true;
+    assert!(rt; !is_found(rt.alloc(), case, Mistake::NoAdmit)?);
+    case.reopens = true;
+    assert!(rt; is_found(rt.alloc(), case, Mistake::NoAdmit)?);
+    Ok(())
+}
