@@ -1,4 +1,6 @@
 use Rattle.std.proofs.Common.{◌≡◌, ◌<◌, ◌+◌, ◌∙◌, ap, sym, subst, List, ◌∷◌, drop, length, arith}
+use Rattle.std.proofs.lemmas.List.Elements.{All-get_or}
+use Rattle.blob_model.specs.Directory.{Directory, is_current}
 use Rattle.blob_model.specs.Draws.{chosen_by}
 use Rattle.blob_model.specs.Log.{Choices}
 use Rattle.blob_model.specs.Order.{ListAt, held_at, ArePlacesApart}
@@ -7,8 +9,18 @@ use Rattle.blob_model.specs.Stands.{replayed_at}
 use Rattle.blob_memory.specs.Store.{durable}
 use Rattle.blob_pending.specs.Lists.{held, held_by}
 use Rattle.blob_draws.specs.Rows.{rows_in}
+use Rattle.blob_faulty.specs.Ready.{IsReady}
 use Rattle.blob_faulty.proofs.Replaying.{replay_first, widest_in, held_more}
 use Rattle.blob_faulty.proofs.replay.replay_all.Goals as goal
+
+pub replay_list-requires-clause-ready : goal.replay_list-requires-clause-ready
+replay_list-requires-clause-ready c = λ now.
+    let h : c.loop-list.list-index < length c.args.lists.now = omega arith in
+    let k = c.loop-list.invariant.kept in
+    let all = All-get_or (λ x. IsReady c.args.inner.now (held_by (λ (o : Place). o) x)) c.args.lists.now c.loop-list.list-index c.list-item.result h c.requires.ready in
+    let ready : IsReady c.args.inner.now (held_by (λ (o : Place). o) c.list-item.result) = subst (λ x. IsReady c.args.inner.now (held_by (λ (o : Place). o) x)) (sym c.list-item.is) all in
+    let r = ready (ap (λ (d : Directory). is_current d c.list-item.result.origin) (sym k.directory) ∙ now) in
+    (r.0, k.room c.list-item.result.origin _ r.1)
 
 pub replay_list-requires-clause-width : goal.replay_list-requires-clause-width
 replay_list-requires-clause-width c =
