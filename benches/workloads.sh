@@ -1,6 +1,7 @@
 #!/bin/sh
 # Times scripts of one kind of call each from end to end: reading, running, printing. For each workload it prints the
-# fastest of three runs in milliseconds at N, 2N and 4N calls, to standard error. N is $CALLS, or 10000. The arguments are
+# fastest of three runs in milliseconds at N, 2N and 4N calls, to standard error. N is $CALLS, or 10000. `bigsync` and `bigopen` make
+# a hundred calls on a file of 1600 N bytes, and print the peak memory too if there is a /usr/bin/time. The arguments are
 # programs to time in place of ./blobcrash, as those of earlier versions: each runs the same scripts, in turn, and must print the
 # same. A test runs it, and compares no time.
 set -eu
@@ -67,6 +68,14 @@ script() {
                     print "read 0 " below(100000) " 256"
                 }
             }
+            # A byte and a sync, or a close and an open, of a large file.
+            if (workload ~ /^big/) {
+                print "open p 62"; print "resize 0 " 1600 * calls; print "sync 0"
+                for (i = 0; i < 100; i++) {
+                    if (workload == "bigsync") { print "write 0 " below(1600 * calls) " 61"; print "sync 0" }
+                    else { print "close " i; print "open p 62" }
+                }
+            }
         }' >"$work/script"
 }
 
@@ -84,13 +93,20 @@ fastest() {
     done
 }
 
+# peak PROGRAM: prints its peak memory on the script, in MB, or nothing if there is no /usr/bin/time.
+peak() {
+    [ -x /usr/bin/time ] || return 0
+    /usr/bin/time -f %M -o "$work/peak" "$1" <"$work/script" >/dev/null
+    echo " ($(($(tail -n 1 "$work/peak") / 1024)) MB)"
+}
+
 if [ "$#" -eq 0 ]; then
     # Builds the program before anything is timed.
     "$top/blobcrash" resolve </dev/null >/dev/null
     set -- "$top/out/blobcrash"
 fi
 calls=${CALLS:-10000}
-for workload in opens others queued synced crash live resolve; do
+for workload in opens others queued synced crash live bigsync bigopen resolve; do
     number=0
     for program; do
         number=$((number + 1))
@@ -110,6 +126,7 @@ for workload in opens others queued synced crash live resolve; do
                 exit 1
             fi
             line="$line $((best / 1000000)).$(printf %02d $((best / 10000 % 100)))"
+            case $workload in big*) line="$line$(peak "$program")" ;; esac
         done
         echo "$workload $number:$line ms" >&2
     done
