@@ -1,4 +1,4 @@
--- What a wrapper's calls add to the logs of the files that it stands for.
+-- What a wrapper's calls add to the logs of the files that it represents.
 use Rattle.std.proofs.Common.{◌≡◌, ◌≢◌, ℕ, ◌<◌, Bool, true, false, List, [], ◌∷◌, length, Option, Some, None, cond, refl, sym, ap, subst, arith}
 use Rattle.std.specs.Prelude.{option_map}
 use Rattle.blob_model.specs.Live.{is_idle}
@@ -56,7 +56,7 @@ nothing_not true [] some = absurd (some refl refl)
 nothing_not true (x ∷ b) some = refl
 nothing_not false b some = refl
 
--- a range of no bytes
+-- an empty range
 pub nothing_changed : (f : Durable) (o : Place) (p : ℕ) (b : List ℕ) → length b ≡ 0 → f ≡ with_changed f o (λ x. overlay x p b)
 nothing_changed f o p b none = sym (λ i a. push (same_place o a) (f a) i)
   where

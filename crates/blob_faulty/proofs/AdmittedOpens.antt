@@ -1,4 +1,4 @@
--- An open of a wrapper over the memory store that is admitted behind it.
+-- An open of a wrapper over the memory store, followed by an admission of the name.
 use Rattle.std.proofs.Common.{◌≡◌, ℕ, ◌<◌, List, [], length, Option, Some, None, sym, ◌∙◌, ap, subst, cond}
 use Rattle.std.proofs.lemmas.Bool.{false≢true}
 use Rattle.std.proofs.lemmas.Option.{none-some}
@@ -48,7 +48,7 @@ leaves_admitted stream p n before mid after w now = record {
   };
 }
 
--- an open that isn't admitted behind it
+-- an open that no admission follows
 pub leaves_alone : {R : Type 0} (stream : R → Stream) (p n : List ℕ) (before after : OverMemory R) (r : Refusal) → OpenLeaves (λ o. o) stream (λ _. Unit {0}) before after →
     AdmittedOpenLeaves (λ o. o) directory stream (λ _. Unit {0}) p n (Some r) before after
 leaves_alone stream p n before after r w = record {

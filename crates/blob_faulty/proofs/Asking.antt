@@ -20,7 +20,7 @@ pub once : {B S : Type 0} (leaves : HandleCall → B → S → Option Refusal �
 once leaves call None b s c t h = inr (record { blob = c; store = t; done = h; behind = (refl, refl, refl) })
 once leaves call (Some r) b s c t h = inl (refl, h)
 
--- a call that was answered Ok, and those behind it
+-- a call that returned Ok, and those after it
 pub then_made : {B S : Type 0} (leaves : HandleCall → B → S → Option Refusal → B → S → Type 0) (call : HandleCall) (calls : List HandleCall) (answer : Option Refusal) (b : B) (s : S) (x : B) (y : S) (c : B) (t : S) →
     leaves call b s None x y → Made leaves calls answer x y c t → Made leaves (call ∷ calls) answer b s c t
 then_made leaves call calls answer b s x y c t h m = inr (record { blob = x; store = y; done = h; behind = m })
@@ -30,13 +30,13 @@ pub then_failed : {B S : Type 0} (leaves : HandleCall → B → S → Option Ref
 then_failed leaves call calls answer b s x y c t h (inl m) = inl (then_made leaves call calls answer b s x y c t h m)
 then_failed leaves call calls answer b s x y c t h (inr m) = inr (m.0, record { refusal = m.1.refusal; is = then_made leaves call calls _ b s x y c t h m.1.is })
 
--- room, and then the runs
+-- a reservation, and then the runs
 pub behind_room : {B S : Type 0} (leaves : HandleCall → B → S → Option Refusal → B → S → Type 0) (rs : List Run) (answer : Option Refusal) (b : B) (s : S) (x : B) (y : S) (c : B) (t : S) → rs ≢ [] →
     leaves (Reserve (last_end 0 rs)) b s None x y → or_failed (λ a. Made leaves (run_calls rs) a x y c t) answer → or_failed (λ a. Made leaves (kept_calls rs) a b s c t) answer
 behind_room leaves [] answer b s x y c t some h m = absurd (some refl)
 behind_room leaves (r ∷ rs) answer b s x y c t some h m = then_failed leaves (Reserve (last_end 0 (r ∷ rs))) (run_calls (r ∷ rs)) answer b s x y c t h m
 
--- refused room
+-- a refused reservation
 pub without_room : {B S : Type 0} (leaves : HandleCall → B → S → Option Refusal → B → S → Type 0) (rs : List Run) (answer : Option Refusal) (b : B) (s : S) (c : B) (t : S) → rs ≢ [] → IsSome answer →
     leaves (Reserve (last_end 0 rs)) b s answer c t → Made leaves (kept_calls rs) answer b s c t
 without_room leaves [] answer b s c t some refusal h = absurd (some refl)
@@ -57,7 +57,7 @@ module _ {S R O B : Type 0} (handle : handles.Ghosts B S O) (b : Blob B) (w : St
   refused_too made answer some (inl u) = inl u
   refused_too made answer some (inr m) = inr (inr (some, m))
 
-  -- runs, where room for them was asked for
+  -- runs, after a reservation for them was asked for
   pub laid_behind : (x : Blob B) (y : Storage S R O) (rs : List Run) (answer : Option Refusal) → rs ≢ [] → Asks handle b w x y (Reserve (last_end 0 rs)) None → or_failed (InnerMade handle x y c w' (run_calls rs)) answer → AsksRuns handle b w c w' rs answer
   laid_behind x y rs answer some (inl u) m = absurd (false≢true u.0)
   laid_behind x y rs answer some (inr h) m = inr (behind_room handle.leaves rs answer b.inner w.inner x.inner y.inner c.inner w'.inner some h m)

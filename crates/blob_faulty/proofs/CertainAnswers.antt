@@ -1,4 +1,4 @@
--- What a wrapper may answer where its draws are certain.
+-- What a wrapper may return if its draws are certain.
 use Rattle.std.proofs.Common.{◌≡◌, inl, inr, ℕ, ◌-◌, ◌^◌, ◌<◌, Bool, true, false, ◌==◌, ◌&&◌, min, max, nat_lt, List, length, cond, Option, Some, None, refl, sym, ◌∙◌, ap, subst, arith}
 use Rattle.std.specs.Prelude.{is_some, MatchBool, ◌↔◌, if◌then◌else◌}
 use Rattle.std.proofs.lemmas.Bool.{cond-true, cond-false}
@@ -61,7 +61,7 @@ always_unresized (Some c) size len stream always =
     ap (λ (d : Bool × Stream). is_resized (cond d.0 (partly size len (sampled c.partial_rate d.1)) (Resizes (sampled c.failure_rate d.1).0, (sampled c.failure_rate d.1).1)).0) (always_drawn (Some c.failure_rate) stream always)
     ∙ either_fails (d.0 && nat_lt 1 (max size len - min size len)) (size_between (min size len) (max size len) d.1) d.1
 
--- what the draws of a write that doesn't fail come to
+-- the outcome and the rest of the stream after the draws of a write that doesn't fail
 abbrev synced_or_not : Bool × Stream → WriteFate × Stream
 synced_or_not d = (if d.0 then Unsynced else Done, d.1)
 
@@ -142,7 +142,7 @@ quiet_write writes reserves direct config next stream offset bytes sync answer n
     (subst (λ (f : WriteFate). or_memory (allows_fate f writes reserves direct retained next sync offset bytes) answer ↔ told) (sym (never_failed config sync offset (length bytes) stream no_write no_sync))
     (either_memory (allows_done writes retained next sync offset bytes) (writes offset bytes sync) answer (done_same writes retained next sync offset bytes answer left))))
 
--- Where a call without faults answers an injected one.
+-- A call without faults returns Injected only if the inner one may return it.
 
 memory_injected : (inner : Allowed) → or_memory inner (Some Injected) → inner (Some Injected)
 memory_injected inner (inl e) = cc
@@ -182,7 +182,7 @@ write_injected writes reserves direct config next stream offset bytes sync no_wr
     done_injected writes retained next sync offset bytes (memory_injected (allows_done writes retained next sync offset bytes)
     (subst (λ (f : WriteFate). or_memory (allows_fate f writes reserves direct retained next sync offset bytes) (Some Injected)) (never_failed config sync offset (length bytes) stream no_write no_sync) allowed))
 
--- No call whose draw is certain to fail is answered Ok.
+-- No call returns Ok if its draw is certain to fail.
 
 pub draw_fails : (rate : Option Rate) (stream : Stream) (inner : Allowed) → IsAlways rate → injected_or (draw rate stream).0 inner None → ⊥
 draw_fails rate stream inner always h = never (subst (λ (d : Bool × Stream). injected_or d.0 inner None) (always_drawn rate stream always) h)

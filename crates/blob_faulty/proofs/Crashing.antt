@@ -27,7 +27,7 @@ pub crash_rows : {S R O : Type 0} (place : O → Place) (names : Directory) (byt
 crash_rows place names bytes old ds s rows one moved up e files f =
     e ∙ ap (λ (l : List Drawing). rows_drawn s l) (gathered_needs names bytes (held place old.lists.all.lists.items) old.next_write old.next_marker files ds moved up (apart_of place old.lists.all.lists.items one old.lists.all.distinct) f) ∙ rows_same s (all_needs files.log)
 
--- what the wrapper stands for once its lists are replayed and empty
+-- what the wrapper represents once its lists are replayed and empty
 pub crash_stands : {S R O : Type 0} (place : O → Place) (names names' : Directory) (bytes bytes' : Durable) (old : Storage S R O) (lists : Place → List Pending) (t : Choices) →
     names' ≡ names → ((a : Place) → lists a ≡ []) → ((o : Place) → bytes' o ≡ replayed_at t (pending_of place old o) (bytes o)) →
     (files : Files) → Stands place names bytes old files → StandsFor names' bytes' lists (next_write_of old) (next_marker_of old) (after_crash files t)

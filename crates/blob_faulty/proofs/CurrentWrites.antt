@@ -42,7 +42,7 @@ module _ (p n : List ℕ) where
   not_beyond true r P first never h = first h
   not_beyond false r P first never h = never h
 
-  -- where none of the inner store's writes is answered so, and no reservation
+  -- if no write of the inner store may return this error, and no reservation
   module _ (writes : ℕ → List ℕ → Bool → Allowed) (reserves : ℕ → Allowed) (found : (offset : ℕ) (bytes : List ℕ) (sync : Bool) → writes offset bytes sync gone → ⊥) (room : (end : ℕ) → reserves end gone → ⊥) where
     not_laid : (direct : Bool) (rs : List Run) → allows_laid writes direct rs gone → ⊥
     not_laid direct [] e = cc

@@ -1,4 +1,4 @@
--- What the registry of open names answers an exclusive open, as a wrapper over the memory store leaves it.
+-- What the registry of open names returns from an exclusive open, as a wrapper over the memory store leaves it.
 use Rattle.std.proofs.Common.{◌≡◌, ℕ, List, Option, None, sym, subst}
 use Rattle.std.proofs.lemmas.Bool.{false≢true}
 use Rattle.std.specs.Prelude.{IsSome}
@@ -21,7 +21,7 @@ use Rattle.blob_memory.specs.declared.storage.Storage as memory
 use Rattle.blob_faulty.proofs.AdmittedOpens.{leaves_alone}
 use Rattle.blob_faulty.proofs.Keeping.{keeps_same, keeps_open}
 
--- What the registry was answered by the wrapper's own open.
+-- What the wrapper's own open returned to the registry.
 
 module _ {R : Type 0} (stream : R → Stream) (s : OpenNames) (p n : List ℕ) (first last : ℕ) (before mid : OverMemory R) where
   abbrev Leaves : Type 0
@@ -54,7 +54,7 @@ module _ {R : Type 0} (stream : R → Stream) (s : OpenNames) (p n : List ℕ) (
   told_admitted after answer (NoMemory u) e leaves inner files = cc
   told_admitted after answer (NoNumber out u) e leaves inner files = cc
 
-  -- refused: the laws say what is left of the files
+  -- refused: the laws say what the files are then
   module _ (accepts : (o : Place) (live : List ℕ) (version : ℕ) → IsOpened (directory (inner_of before)) (durable (inner_of before)) (directory (inner_of mid)) (durable (inner_of mid)) p n first last o live version →
       Leaves → OpensAlone before mid p n first last)
       (declines : (r : Refusal) → directory (inner_of mid) ≡ directory (inner_of before) → durable (inner_of mid) ≡ durable (inner_of before) → Leaves → StaysSame before mid) where

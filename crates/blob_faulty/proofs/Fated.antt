@@ -1,4 +1,4 @@
--- What a write leaves that is done by the fate that was drawn for it, and what it may then be answered.
+-- What a write with a drawn outcome leaves, and what it may then return.
 use Rattle.std.proofs.Common.{◌≡◌, ◌≢◌, ℕ, Bool, true, false, List, [], ◌∷◌, Option, Some, None, inl, inr, refl, sym, ◌∙◌, subst}
 use Rattle.std.specs.Prelude.{Result, Ok, Err, OnErr, IsSome}
 use Rattle.blob_header.specs.Refusals.{Refusal, Injected, WriteFailed, refused}
@@ -59,7 +59,7 @@ module _ {R : Type 0} (fate : WriteFate) (direct : Bool) (old new : View R) (syn
       subst (λ (x : WriteFate). WroteBy x direct old new sync offset bytes answer) (sym f)
       (subst (λ (x : Bool). WroteBy Done direct old new x offset bytes answer) (sym s) (done_plainly direct old new offset bytes answer w))
 
--- a write whose sync failed
+-- a write with a failed sync
 pub done_unsynced : {R : Type 0} (direct : Bool) (old new : View R) (sync : Bool) (offset : ℕ) (bytes : List ℕ) → Recorded direct true old new (plain offset bytes) None → WroteBy Unsynced direct old new sync offset bytes (Some Injected)
 done_unsynced direct old new sync offset bytes w = record {
   done = λ ok. absurd (cc);
@@ -119,7 +119,7 @@ laid_allowed {T} writes direct all r rs (Ok x) e h failed indirect some = first_
 laid_allowed {T} writes direct all r rs (Err x) e h failed indirect some =
     subst (λ (runs : List Run). allows_laid writes direct runs (refused {T = T} (Err x))) (sym e) (inr (failed, indirect, some, h))
 
--- room for them is refused
+-- the reservation for them is refused
 pub room_allowed : (writes : ℕ → List ℕ → Bool → Allowed) (reserves : ℕ → Allowed) (direct : Bool) (all rs : List Run) (answer : Option Refusal) → rs ≡ all → rs ≢ [] → IsSome answer → or_memory (reserves (last_end 0 rs)) answer → or_memory (allows_runs writes reserves direct all) answer
 room_allowed writes reserves direct all rs answer e some refusal h = subst (λ (x : List Run). or_memory (allows_runs writes reserves direct x) answer) e (go rs some h)
   where

@@ -1,4 +1,4 @@
--- What a refused write leaves, by the fate that was drawn for it.
+-- What a refused write leaves, by its drawn outcome.
 use Rattle.std.proofs.Common.{◌≡◌, ◌≢◌, ◌⊎◌, ⊎_elim, ℕ, ◌+◌, ◌^◌, ◌<◌, Bool, true, false, List, [], ◌∷◌, length, take, Option, Some, None, inl, inr, refl, sym, ◌∙◌, subst, arith}
 use Rattle.std.proofs.lemmas.Bool.{cond-false, le-ltb}
 use Rattle.rand_core.specs.Stream.{Stream}
@@ -104,12 +104,12 @@ runs_uninjected writes reserves direct (r ∷ rs) refusal never none (inr (inr a
 pub reserve_uninjected : (P : Type 0) → (P → (Injected ≡ OffsetOverflow) ⊎ (Injected ≡ Memory)) → P → ⊥
 reserve_uninjected P only a = ⊎_elim (λ o. cc) (λ m. cc) (only a)
 
--- by the fate and the answer as the code has them
+-- by the outcome and the result as the code has them
 pub of_fate : {R : Type 0} (fate fate' : WriteFate) (direct : Bool) (old new : View R) (sync : Bool) (offset : ℕ) (bytes : List ℕ) (answer answer' : Option Refusal) → fate ≡ fate' → answer ≡ answer' → WroteBy fate' direct old new sync offset bytes answer' → WroteBy fate direct old new sync offset bytes answer
 of_fate fate fate' direct old new sync offset bytes answer answer' f a w =
     subst (λ (x : WriteFate). WroteBy x direct old new sync offset bytes answer) (sym f) (subst (λ (x : Option Refusal). WroteBy fate' direct old new sync offset bytes x) (sym a) w)
 
--- a write of some bytes whose end can be counted is drawn
+-- a write of some bytes is drawn if its end doesn't overflow
 pub drawn_so : (config : Config) (sync : Bool) (offset : ℕ) (bytes : List ℕ) (stream : Stream) → (sync ≡ true → bytes ≢ []) → offset + length bytes < 2 ^ 64 →
     write_fate config sync offset bytes stream ≡ drawn_fate config sync offset (length bytes) stream
 drawn_so config sync offset bytes stream some fits =

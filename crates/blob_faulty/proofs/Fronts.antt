@@ -1,4 +1,4 @@
--- Runs that were laid up to one that was refused.
+-- Runs that were written up to one that was refused.
 use Rattle.std.proofs.Common.{◌≡◌, ◌⊎◌, ⊎_elim, ℕ, Bool, true, false, List, [], ◌∷◌, ◌++◌, Option, Some, None, cond, inl, inr, refl, sym, ◌∙◌, ap, ap₂, subst, append_assoc}
 use Rattle.std.specs.Prelude.{IsSome}
 use Rattle.std.proofs.lemmas.Bool.{cond-true, false≢true}
@@ -67,7 +67,7 @@ lays_then_same old mid new rs l k = record {
 
 -- The calls of the inner blob.
 
--- a call behind others that were all answered Ok
+-- a call after others that all returned Ok
 made_more : {B S : Type 0} (leaves : HandleCall → B → S → Option Refusal → B → S → Type 0) (rs : List Run) (r : Run) (b : B) (s : S) (x : B) (y : S) (c : B) (t : S) →
     Made leaves (run_calls rs) None b s x y → leaves (Write r.0 r.1 true) x y None c t → Made leaves (run_calls (rs ++ (r ∷ []))) None b s c t
 made_more {B} {S} leaves [] r b s x y c t m h =
@@ -86,7 +86,7 @@ refused_later : {B S : Type 0} (leaves : HandleCall → B → S → Option Refus
 refused_later leaves r front [] b s x y c t h k = absurd k
 refused_later leaves r front (q ∷ left) b s x y c t h k = record { blob = k.blob; store = k.store; done = then_made leaves (Write r.0 r.1 true) (run_calls front) None b s x y k.blob k.store h k.done; behind = k.behind }
 
--- The runs that were laid.
+-- The runs that were written.
 
 -- before the first run
 pub up_to_first : {R B S : Type 0} (leaves : HandleCall → B → S → Option Refusal → B → S → Type 0) (b : B) (s : S) (old : View R) (all : List Run) →
@@ -111,13 +111,13 @@ pub front_refused : {R B S : Type 0} (leaves : HandleCall → B → S → Option
 front_refused leaves b s x y c t old mid new all r left refusal u k h =
     (r ∷ left, record { front = u.front; parts = u.parts; lays = lays_then_same old mid new u.front u.lays k; is = record { blob = x; store = y; done = u.is; behind = record { refusal = refusal; is = h } } })
 
--- nothing was laid
+-- no run was written
 pub front_none : {R B S : Type 0} (leaves : HandleCall → B → S → Option Refusal → B → S → Type 0) (b : B) (s : S) (c : B) (t : S) (old new : View R) (r : Run) (left : List Run) (refusal : Refusal) → SameRecords old new → leaves (Write r.0 r.1 true) b s (Some refusal) c t →
     LaysFront (λ front left. RefusedBehind leaves front left b s c t) old new (r ∷ left)
 front_none leaves b s c t old new r left refusal k h =
     (r ∷ left, record { front = []; parts = refl; lays = lays_none old new k; is = refused_first leaves r left refusal b s c t h })
 
--- behind a run that was laid
+-- after a run that was written
 pub front_behind : {R B S : Type 0} (leaves : HandleCall → B → S → Option Refusal → B → S → Type 0) (b : B) (s : S) (x : B) (y : S) (c : B) (t : S) (old mid new : View R) (r : Run) (rs : List Run) → mid.place ≡ old.place → Lays old mid (r ∷ []) →
     leaves (Write r.0 r.1 true) b s None x y → LaysFront (λ front left. RefusedBehind leaves front left x y c t) mid new rs → LaysFront (λ front left. RefusedBehind leaves front left b s c t) old new (r ∷ rs)
 front_behind leaves b s x y c t old mid new r rs place l h f = (
@@ -130,7 +130,7 @@ front_behind leaves b s x y c t old mid new r rs place l h f = (
   },
 )
 
--- behind room, which changes nothing
+-- after a reservation, which changes nothing
 pub front_in_room : {R B S : Type 0} (leaves : HandleCall → B → S → Option Refusal → B → S → Type 0) (b : B) (s : S) (x : B) (y : S) (c : B) (t : S) (old mid new : View R) (rs : List Run) → Unchanged old mid → leaves (Reserve (last_end 0 rs)) b s None x y →
     LaysFront (λ front left. RefusedBehind leaves front left x y c t) mid new rs →
     LaysFront (λ front left. Then (leaves (Reserve (last_end 0 rs)) b s None) (λ u v. RefusedBehind leaves front left u v c t)) old new rs
@@ -148,12 +148,12 @@ pub some_refusal : (answer : Option Refusal) (refusal : Refusal) → answer ≡ 
 some_refusal None refusal is = absurd (cc)
 some_refusal (Some other) refusal is = refl
 
--- room is never refused so
+-- a reservation never returns WriteFailed
 pub never_failed : (P : Option Refusal → Type 0) (answer : Option Refusal) → ((refusal : Refusal) → P (Some refusal) → (refusal ≡ OffsetOverflow) ⊎ (refusal ≡ Memory)) → answer ≡ Some WriteFailed → or_memory P answer → ⊥
 never_failed P answer only is (inl memory) = cc
 never_failed P answer only is (inr h) = ⊎_elim (λ e. cc) (λ e. cc) (only WriteFailed (subst P is h))
 
--- a call that was answered Ok was asked
+-- a call that returned Ok was asked
 pub asked_of : {S R O B : Type 0} (handle : handles.Ghosts B S O) (b : Blob B) (w : Storage S R O) (c : Blob B) (w' : Storage S R O) {call : HandleCall} → Asks handle b w c w' call None → handle.leaves call b.inner w.inner None c.inner w'.inner
 asked_of handle b w c w' (inl u) = absurd (false≢true u.0)
 asked_of handle b w c w' (inr h) = h

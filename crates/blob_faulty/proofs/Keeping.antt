@@ -36,7 +36,7 @@ here_beside d p n file o other here =
     (λ no. ap (place_in o.partition o.name) (cond-false (bytes_eq p o.partition) _ (d.file o.partition o.name) no) ∙ here)
     (cases_Bool (bytes_eq p o.partition))
 
--- Bytes that are each there are a front.
+-- Bytes that are each at their index in the live bytes are a prefix of them.
 front_of : (front live : List ℕ) → ((q : ℕ) → q < length front → HasByte q (get_or front q 0) live) → BeginsWith front live
 front_of front live has = (drop (length front) live, sym (front_from_reads 0 live front (fits front has) (λ q lt. (has q lt).1)))
   where
@@ -82,11 +82,11 @@ module _ {S R O : Type 0} (place : O → Place) (names : S → Directory) (bytes
       added : IsFor new (all_logged k.files o es)
       added = subst (λ (d : Directory). Stands place d (bytes_of (inner_of new)) new (all_logged k.files o es)) (sym same) (adds k.files k.given k.stands)
 
-      -- beside the bytes
+      -- that touch none of the bytes
       pub keeps_beside : ((q : ℕ) → q < length bytes → any_touches q es ≡ false) → Keeps new o bytes
       keeps_beside out = stepped bytes (all_logged k.files o es) added (λ q lt. fixed_all k.files o o q (get_or bytes q 0) es (λ _. out q lt) (k.fixed q lt))
 
-    -- one write that is kept, right behind the bytes
+    -- one write that is kept, right after the bytes
     pub keeps_more : (more : List ℕ) → Adds place (names (inner_of old)) (bytes_of (inner_of old)) (bytes_of (inner_of new)) old new o (kept (length bytes) more) → Keeps new o (bytes ++ more)
     keeps_more [] adds = subst (λ (b : List ℕ). Keeps new o b) (sym (append-nil bytes)) (keeps_beside [] adds (λ q lt. refl))
     keeps_more (y ∷ ys) adds = stepped (bytes ++ y ∷ ys) (all_logged k.files o (Kept (length bytes) (y ∷ ys) ∷ [])) (added (Kept (length bytes) (y ∷ ys) ∷ []) adds) (λ q lt.
@@ -149,7 +149,7 @@ module _ {S R O : Type 0} (place : O → Place) (names : S → Directory) (bytes
             (fixed_by_open f o q (get_or live q 0) (subst (λ (x : List ℕ). HasByte q (get_or live q 0) x) is (lt, refl)));
       }
 
-  -- the front of what is kept
+  -- a prefix of what is kept
   pub keeps_front : (w : Storage S R O) (o : Place) (front bytes : List ℕ) → BeginsWith front bytes → Keeps w o bytes → Keeps w o front
   keeps_front w o front bytes (rest, is) k = record {
     files = k.files;

@@ -1,4 +1,4 @@
--- What a write or a resize that is recorded lays, and what a write makes of live bytes.
+-- What a crash applies of a recorded write or resize, and how a write changes live bytes.
 use Rattle.std.proofs.Common.{◌≡◌, ◌⊎◌, ⊎_elim, ℕ, ◌+◌, ◌-◌, ◌<◌, ◌≤◌, max, min, nat_lt, ◌&&◌, Bool, true, false, List, [], ◌∷◌, length, get_or, Option, Some, None, cond, refl, sym, ◌∙◌, ap, subst, inl, inr, arith}
 use Rattle.std.proofs.lemmas.Bool.{cond_both, cases_lt}
 use Rattle.std.proofs.lemmas.List.{get_or_past}
@@ -22,7 +22,7 @@ use Rattle.blob_draws.specs.Recorded.{recorded_write, recorded_resize, live_of_w
 use Rattle.blob_draws.proofs.Sizes.{length-written}
 use Rattle.blob_faulty.proofs.CertainAnswers.{never_drawn}
 
--- What a crash lays of a recorded write.
+-- What a crash applies of a recorded write.
 
 module _ (o : ℕ) (b : List ℕ) (t : Choices) where
   none_laid : LaysSome o b [] t

@@ -1,4 +1,4 @@
--- What a mutation that is recorded makes of what a crash may leave.
+-- How a recorded mutation changes what a crash may leave.
 use Rattle.std.proofs.Common.{◌≡◌, ℕ, ◌<◌, List, [], ◌∷◌, Option, Some, None, refl, sym, ◌∙◌, ap}
 use Rattle.std.specs.Prelude.{option_map, is_some}
 use Rattle.std.proofs.lemmas.Bool.{cond-true}

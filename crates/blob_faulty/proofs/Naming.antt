@@ -1,4 +1,4 @@
--- What opens, removals and finished syncs make of the files that a wrapper stands for.
+-- How opens, removals and finished syncs change the files that a wrapper represents.
 use Rattle.std.proofs.Common.{◌≡◌, ℕ, List, Option, Some, None, sym, subst, refl}
 use Rattle.std.specs.Prelude.{is_some}
 use Rattle.blob_model.specs.Places.{Place}
@@ -28,7 +28,7 @@ opened_steps place directory durable before after p n first last o live version 
     keeps_stands place (directory (inner_of after)) (directory (inner_of after)) (durable (inner_of after)) (durable (inner_of after)) before after (after_open files p n first last) refl refl k
     (stands_opened (directory (inner_of before)) (directory (inner_of after)) (durable (inner_of before)) (durable (inner_of after)) (pending_of place before) _ _ files p n first last o live version is s)
 
--- a removal that was answered Ok
+-- a removal that returned Ok
 pub removed_steps : {S R O : Type 0} (place : O → Place) (directory : S → Directory) (durable : S → Durable) (before after : Storage S R O) (p : List ℕ) (n : Option (List ℕ)) →
     ((o : Place) → is_some (durable (inner_of before) o) ≡ is_current (directory (inner_of before)) o) →
     directory (inner_of after) ≡ removed (directory (inner_of before)) p n → durable (inner_of after) ≡ durable_without (durable (inner_of before)) p n →

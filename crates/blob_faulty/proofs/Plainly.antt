@@ -1,4 +1,4 @@
--- What a write leaves of which nothing is recorded, that is refused, or that is recorded behind room for its entry.
+-- What a write leaves that isn't recorded, is refused, or is recorded after capacity for its entry was reserved.
 use Rattle.std.proofs.Common.{◌≡◌, ℕ, ◌+◌, max, Bool, true, false, List, [], ◌∷◌, length, Option, Some, None, refl, sym, ◌∙◌, ap, ap₂, subst, ◌<◌, ◌++◌, ◌⊎◌, inl, inr, ◌-◌, ◌^◌}
 use Rattle.std.specs.Prelude.{Result, Ok, Err, OnErr, IsSome, is_some, ◌==◌}
 use Rattle.blob_base.specs.HandleCalls as call
@@ -31,7 +31,7 @@ use Rattle.blob_faulty.proofs.Adding.{loose_some}
 use Rattle.blob_faulty.proofs.RoomSteps.{pushed_at}
 use Rattle.blob_faulty.proofs.Writing.{same_logs, loose_logs}
 
--- what is seen beside the inner store and the size stayed
+-- all that is seen except the inner store and the size stayed
 pub record SameRest {R : Type 0} (old new : View R) : Type 0 where
   pub pending : (o : Place) → held_at new.held o ≡ held_at old.held o
   pub next_write : new.next_write ≡ old.next_write
@@ -90,7 +90,7 @@ unasked direct whole old new effect (Some refusal) some same u = record {
   rng = u.rng;
 }
 
--- a plain write leaves the live bytes where it is refused
+-- a plain write that is refused leaves the live bytes
 pub unwritten : (live : List ℕ) (offset : ℕ) (bytes : List ℕ) (answer : Option Refusal) → IsSome answer → live_after false live offset bytes answer ≡ live
 unwritten live offset bytes None some = absurd (cc)
 unwritten live offset bytes (Some refusal) some = refl
@@ -110,7 +110,7 @@ first_refused direct old new r rs (Some refusal) some w = record {
 memory_is : (refusal : Refusal) → Some refusal ≡ Some Memory → refusal ≡ Memory
 memory_is refusal is = cc
 
--- room for runs was refused, which leaves the live bytes
+-- the reservation for runs was refused, which leaves the live bytes
 spared : (live : List ℕ) (rs : List Run) (refusal : Refusal) → (refusal ≡ OffsetOverflow) ⊎ (refusal ≡ Memory) → live_of_runs live rs (Some refusal) ≡ live
 spared live [] refusal is = refl
 spared live (r ∷ rs) refusal (inl is) = ap (λ (x : Refusal). live_of_runs live (r ∷ rs) (Some x)) is
@@ -122,7 +122,7 @@ of_room_refused direct old new rs reserves None some only allowed u = absurd (cc
 of_room_refused direct old new rs reserves (Some refusal) some only (inl is) u = unasked direct direct old new (laid_runs rs) (Some refusal) refl (spared old.live rs refusal (inr (memory_is refusal is))) u
 of_room_refused direct old new rs reserves (Some refusal) some only (inr h) u = unasked direct direct old new (laid_runs rs) (Some refusal) refl (spared old.live rs refusal (only refusal h)) u
 
--- of which nothing is to be recorded
+-- a write of which nothing must be recorded
 pub unrecorded_plain : {R T : Type 0} (direct sync : Bool) (old new : View R) (offset : ℕ) (bytes : List ℕ) (result : Result T Error) → sync ≡ false → loose (retention old.config.write_rate) old.next_write offset bytes ≡ [] →
     Wrote direct old new (unrecorded sync offset bytes) (refused result) → OnErr result (new.size ≡ old.size) → SameRest old new → Recorded direct true old new (plain offset bytes) (refused result)
 unrecorded_plain {R} {T} direct sync old new offset bytes result is none w size rest =
@@ -147,7 +147,7 @@ unrecorded_plain {R} {T} direct sync old new offset bytes result is none w size 
       rng = rest.rng;
     }
 
--- Behind room for its entry: `m` has the room, `d` is what the inner blob made of it.
+-- After a reservation for its entry: `m` has that capacity, `d` is `m` after the inner blob's write.
 module _ {S R O B : Type 0} (store : stores.Ghosts S O) (handle : handles.Ghosts B S O) (b c : Blob B) (w m d : Storage S R O) (offset : ℕ) (bytes : List ℕ) where
   -- refused by the inner blob
   pub refused_behind : (sync : Bool) (answer : Option Refusal) → sync ≡ false → IsSome answer → Unchanged (seen store handle b w) (seen store handle b m) → SameRest (seen store handle b m) (seen store handle c d) → c.size ≡ b.size →
@@ -173,7 +173,7 @@ module _ {S R O B : Type 0} (store : stores.Ghosts S O) (handle : handles.Ghosts
       same : SameRecords (seen store handle b w) (seen store handle c d)
       same = record { size = size; pending = λ o. rest.pending o ∙ u.records.pending o; next_write = rest.next_write ∙ u.records.next_write; next_marker = rest.next_marker ∙ u.records.next_marker }
 
-  -- done, and recorded in that room
+  -- done, and recorded in that capacity
   pub pushed : (n : Storage S R O) (sync : Bool) (list : ℕ) (config : WriteConfig) → sync ≡ false → 0 < length bytes → retention w.config.write_rate ≡ Some (config.mode, config.retention_rate) →
       m ≡ record w { lists = m.lists } → SameLists store.place w.lists.all.lists.items m.lists.all.lists.items → IsAt (held store.place m.lists.all.lists.items) list (handle.place b.inner) →
       d ≡ record m { inner = d.inner } → Wrote handle.is_direct (seen store handle b m) (seen store handle c d) (unrecorded sync offset bytes) None →
@@ -220,7 +220,7 @@ module _ {S R O B : Type 0} (store : stores.Ghosts S O) (handle : handles.Ghosts
       lists = subst (λ (k : ℕ). (a : Place) → list_of store.place n.lists.all.lists.items a ≡ with_at (pending_of store.place w) (handle.place b.inner) (pending_of store.place w (handle.place b.inner) ++ Waiting (need_of (issued k offset bytes config) []) ∷ []) a) number
           (pushed_at store.place w m d d.inner n.lists list (handle.place b.inner) (Waiting (need_of (issued d.next_write offset bytes config) [])) same at rest gains)
 
--- What it may be answered.
+-- What it may return.
 
 pub has_number : (retained : Bool) (next : ℕ) (bytes : List ℕ) → (next == 2 ^ 64 - 1) ≡ false → lacks_number retained next bytes ≡ false
 has_number retained next [] left = refl
@@ -232,7 +232,7 @@ with_number true inner answer is h = absurd (cc)
 with_number false inner answer is h = inr h
 
 module _ {S R O B : Type 0} (handle : handles.Ghosts B S O) (b : Blob B) (w m : Storage S R O) (offset : ℕ) (bytes : List ℕ) (sync : Bool) (answer : Option Refusal) where
-  -- by the inner blob, which is as it was behind the room
+  -- by the inner blob, which the reservation didn't change
   pub allowed_behind : sync ≡ false → m ≡ record w { lists = m.lists } → (w.next_write == 2 ^ 64 - 1) ≡ false → handle.allows_write b.inner m.inner offset bytes sync answer → MayWritePlain handle b w offset bytes answer
   allowed_behind is room left h =
       with_number (lacks_number (is_some (retention w.config.write_rate)) w.next_write bytes) (handle.allows_write b.inner w.inner offset bytes false) answer (has_number (is_some (retention w.config.write_rate)) w.next_write bytes left)

@@ -1,4 +1,4 @@
--- Lists that are changed at one place, after room was made for it.
+-- Lists that are changed at one place, after capacity was reserved for it.
 use Rattle.std.proofs.Common.{◌≡◌, List, cond, ◌∙◌, ap, ap₂}
 use Rattle.blob_model.specs.Durable.{with_at}
 use Rattle.blob_model.specs.Pending.{Pending}

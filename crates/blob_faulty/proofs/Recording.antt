@@ -1,4 +1,4 @@
--- What a SYNC write that is answered Ok records: itself, whole.
+-- What a SYNC write that returns Ok records: itself, whole.
 use Rattle.std.proofs.Common.{◌≡◌, inl, inr, ℕ, List, [], ◌∷◌, Bool, true, false, Option, Some, None, refl, length, if◌then◌else◌}
 use Rattle.std.specs.Prelude.{is_some, MatchBool}
 use Rattle.std.proofs.lemmas.Bool.{false≢true}

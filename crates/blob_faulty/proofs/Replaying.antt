@@ -25,11 +25,11 @@ use Rattle.blob_pending.specs.Replays.{width, widest, widest_of_all, unmarked}
 use Rattle.blob_faulty.specs.Ready.{IsReady}
 use Rattle.blob_pending.specs.Views.{view, is_left, left_in}
 
--- what a call ensures where it answered Ok
+-- what a call ensures if it returned Ok
 pub ok_is : {T E P : Type 0} (r : Result T E) (x : T) → r ≡ Ok x → OnOk r P → P
 ok_is {T} {E} {P} r x e h = subst (λ (q : Result T E). OnOk q P) e h
 
--- what holds of a value, where it is there
+-- what holds of a value, if it exists
 pub if_some : {T : Type 0} (r : Option T) (x : T) (P : T → Type 0) → r ≡ Some x → IfSome r P → P x
 if_some {T} r x P e h = subst (λ (q : Option T). IfSome q P) e h
 
@@ -69,7 +69,7 @@ covered_at start end o len s e i k is_s is_e h a b c = same_test (between s i k)
     (λ y. let r : (s ≤ k) × (k < i) = in_between s i k y in between_in start end (o + k) (omega arith) (omega arith))
     (λ y. let r : (start ≤ o + k) × (o + k < end) = in_between start end (o + k) y in between_in s i k (omega arith) (omega arith))
 
--- the choices that are laid are those of the bare bytes
+-- the choices that are applied are those of the bare bytes
 pub masked : (w : Write) (hs : Holes) (t : Choices) (kept : List Bool) (x : List ℕ) → ((i : ℕ) → i < length w.bytes → get_or kept i false ≡ (not (in_holes hs (w.offset + i)) && t w.number i)) →
     overlay_by x w.offset w.bytes (picked kept) ≡ overlay_by x w.offset w.bytes (taken (need_in w hs) t)
 masked w hs t kept x h = overlay_same x w.offset w.bytes _ _ (λ i l. h i l ∙ sym (ap (λ (b : Bool). (b && not (in_holes hs (w.offset + i))) && t w.number i) (lies_in w.offset (length w.bytes) (w.offset + i) (omega arith) (omega arith))))
@@ -117,7 +117,7 @@ widest_unmarked (e ∷ q) = ⊎_elim
     (λ n. omega (arith, ap widest (cond-false (has_marker (e ∷ q)) (unmarked q) (e ∷ q) n)))
     (cases_Bool (has_marker (e ∷ q)))
 
--- a store that keeps its directory and lowers no room stays ready
+-- a store that keeps its directory and lowers no capacity stays ready
 pub still_ready : (s s' : Storage) (h : ListAt) → directory s' ≡ directory s → ((o : Place) (n : ℕ) → HasCrashRoom s o n → HasCrashRoom s' o n) → IsReady s h → IsReady s' h
 still_ready s s' h same room ready current = let r = ready (sym (ap (λ (d : Directory). is_current d h.0) same) ∙ current) in (r.0, room h.0 (ends (unmarked h.1)) r.1)
 
@@ -133,7 +133,7 @@ ready_more s s' is i x h e same room before here k d l = ⊎_elim
 pub held_more : (is : List (Incarnation Place)) (i : ℕ) (x : Incarnation Place) → i < length is → x ≡ get_or is i x → held (λ (o : Place). o) (drop i is) ≡ held_by (λ (o : Place). o) x ∷ held (λ (o : Place). o) (drop (i + 1) is)
 held_more is i x h e = at_drop_more (λ (l : List (Incarnation Place)). held (λ (o : Place). o) l) is i x h ∙ ap (λ (y : Incarnation Place). held_by (λ (o : Place). o) y ∷ held (λ (o : Place). o) (drop (i + 1) is)) (sym e)
 
--- the front of a row, and nothing behind it
+-- a prefix of a row, and false after it
 pub padded : (row xs ys : List Bool) (count len : ℕ) → count ≡ min (length row) len → xs ≡ take count row → ys ≡ take len xs ++ replicate (len - length xs) false → (i : ℕ) → i < len → get_or ys i false ≡ get_or row i false
 padded row xs ys count len are front all i h =
     let short : length xs ≡ count = omega (arith, ap (λ (x : List Bool). length x) front, length-take count row, are) in

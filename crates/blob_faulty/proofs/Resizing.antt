@@ -1,4 +1,4 @@
--- What a resize leaves, by the fate that was drawn for it.
+-- What a resize leaves, by its drawn outcome.
 use Rattle.std.proofs.Common.{◌≡◌, ◌≢◌, ⊎_elim, ℕ, Bool, true, false, List, [], ◌∷◌, Option, Some, None, inl, inr, refl, sym, ◌∙◌, ap, subst}
 use Rattle.std.specs.Prelude.{Result, Ok, Err, OnErr}
 use Rattle.rand_core.specs.Stream.{Stream}
@@ -120,7 +120,7 @@ reaches size direct old new len w = record {
   rng = w.rng;
 }
 
--- what the tables say where that is refused
+-- what the tables say if that is refused
 record Unreached (size : ℕ) (live : List ℕ) (tracked len : ℕ) (refusal : Refusal) : Type 0 where
   live_left : live_of_resize (Reaches size) live len (Some refusal) ≡ live
   size_left : size_of_resize (Reaches size) tracked len (Some refusal) ≡ tracked
@@ -154,7 +154,7 @@ reaches_none {R} size direct old new len inner (Some other) refusal is never all
     table : direct ≡ true → Unreached size old.live old.size len other
     table d = unreached size old.live old.size len other (refused_by_inner inner other (never d) allowed)
 
--- By the fate as the code has it.
+-- By the outcome as the code has it.
 module _ {R : Type 0} (fate : ResizeFate) (direct : Bool) (old new : View R) (len : ℕ) (answer : Option Refusal) where
   pub of_fate : (known : ResizeFate) → fate ≡ known → ResizedBy known direct old new len answer → ResizedBy fate direct old new len answer
   of_fate known is r = subst (λ (f : ResizeFate). ResizedBy f direct old new len answer) (sym is) r

@@ -1,4 +1,4 @@
--- Room is made in a list, the inner store does the call, and an entry goes into the room.
+-- Capacity is reserved in a list, the inner store does the call, and an entry is pushed into that capacity.
 use Rattle.std.proofs.Common.{◌≡◌, ◌++◌, ◌∷◌, [], ℕ, refl, sym, subst}
 use Rattle.blob_model.specs.Durable.{with_at}
 use Rattle.blob_model.specs.Pending.{Pending}
@@ -9,7 +9,7 @@ use Rattle.blob_pending.specs.Lists.{held, list_of, IsAt}
 use Rattle.blob_faulty.specs.Wrapper.{pending_of}
 use Rattle.blob_faulty.proofs.Pushing.{after_room}
 
--- an entry that goes into the room
+-- an entry that is pushed into reserved capacity
 pub pushed_at : {S R O : Type 0} (place : O → Place) (old mid done : Storage S R O) (inner : S) (new : Lists S O) (i : ℕ) (o : Place) (e : Pending) →
     ((a : Place) → pending_of place mid a ≡ pending_of place old a) → IsAt (held place mid.lists.all.lists.items) i o → done ≡ record mid { inner = inner } →
     ((p : Place) → IsAt (held place done.lists.all.lists.items) i p → (a : Place) → list_of place new.all.lists.items a ≡ with_at (list_of place done.lists.all.lists.items) p (list_of place done.lists.all.lists.items p ++ e ∷ []) a) →

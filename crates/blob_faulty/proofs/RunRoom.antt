@@ -1,4 +1,4 @@
--- Room for the runs of a failed write.
+-- Capacity for the runs of a failed write.
 use Rattle.std.proofs.Common.{◌≡◌, ℕ, suc, ◌+◌, List, [], ◌∷◌, length, reverse, All, ◌∙◌, arith}
 use Rattle.std.proofs.lemmas.List.{length-map, length-reverse}
 use Rattle.blob_model.specs.Holes.{AreApart}

@@ -1,4 +1,4 @@
--- What a sync, and a started one, make of the files that a wrapper stands for.
+-- How a sync, and a started one, change the files that a wrapper represents.
 use Rattle.std.proofs.Common.{◌≡◌, ◌++◌, ◌∷◌, [], ℕ, ◌+◌, List, refl}
 use Rattle.std.specs.Prelude.{Option, Result, Ok, Err, OnOk, OnErr, IsSome, None}
 use Rattle.blob_base.specs.declared.storage.Blob as handles

@@ -1,4 +1,4 @@
--- What a write leaves, from what its fate makes of a handle and its wrapper.
+-- What a write leaves, from what its outcome does to a handle and its wrapper.
 use Rattle.std.specs.Prelude.{max, is_some, MatchBool}
 use Rattle.std.proofs.Common.{◌≡◌, ◌≢◌, ⊎_elim, ℕ, ◌+◌, ◌^◌, ◌<◌, Bool, true, false, true≢false, List, [], ◌∷◌, length, Option, Some, None, inl, inr, refl, sym, ◌∙◌, ap, subst, arith}
 use Rattle.std.proofs.lemmas.Bool.{cond-false, cond-true, le-ltb}
@@ -26,7 +26,7 @@ use Rattle.blob_faulty.proofs.Writing.{adds_of, drawn_adds}
 none_changed : (config : Config) (stream : Stream) (sync : Bool) (offset : ℕ) (bytes : List ℕ) → written_by config stream sync offset bytes (Some Memory) ≡ laying [] (λ number. [])
 none_changed config stream sync offset bytes = memory_changes (write_fate config sync offset bytes stream).0 (retention config.write_rate) sync offset bytes
 
--- the size behind a write with something to do
+-- the size after a write with something to do
 size_some : (sync : Bool) (size offset : ℕ) (bytes : List ℕ) → (sync ≡ true → bytes ≢ []) → size_written sync size offset bytes ≡ max size (offset + length bytes)
 size_some true size offset [] some = absurd (some refl refl)
 size_some true size offset (x ∷ bytes) some = refl
@@ -45,7 +45,7 @@ match_any : (t : Bool) (A B : Type 0) → A → B → MatchBool t A B
 match_any true A B a b = a
 match_any false A B a b = b
 
--- of a write with something to do whose end can be counted
+-- of a write with something to do and an end that doesn't overflow
 counted : (offset : ℕ) (bytes : List ℕ) → offset + length bytes < 2 ^ 64 → has_uncounted_end offset bytes ≡ false
 counted offset bytes fits = le-ltb _ _ (omega (arith, fits))
 
@@ -54,7 +54,7 @@ changes_so : (config : Config) (stream : Stream) (sync : Bool) (offset : ℕ) (b
 changes_so config stream sync offset bytes answer fate some fits is =
     ap (λ (f : WriteFate). write_changes f (retention config.write_rate) sync offset bytes answer) (ap (λ (d : WriteFate × Stream). d.0) (drawn_so config sync offset bytes stream some fits) ∙ sym is)
 
--- what was asked by the fate was asked by the draws
+-- what was asked by the outcome was asked by the draws
 asked_so : {S R O B : Type 0} (handle : handles.Ghosts B S O) (b c : Blob B) (w w' : Storage S R O) (stream : Stream) (sync : Bool) (offset : ℕ) (bytes : List ℕ) (answer : Option Refusal) (fate : WriteFate) → (sync ≡ true → bytes ≢ []) → offset + length bytes < 2 ^ 64 →
     fate ≡ (drawn_fate w.config sync offset (length bytes) stream).0 → AsksWrite handle b w c w' fate sync offset bytes answer → AsksDrawn handle b w c w' w.config stream sync offset bytes answer
 asked_so {S} {R} {O} {B} handle b c w w' stream sync offset bytes answer fate some fits is asked =
@@ -74,7 +74,7 @@ unasked_so {S} {R} {O} {B} handle b w w' stream sync offset bytes answer some me
     unasked : Unasked handle b w b w' answer
     unasked = (ap is_some memory, refl, same)
 
--- by its fate
+-- by its outcome
 pub write_leaves : {S R O B : Type 0} (store : stores.Ghosts S O) (handle : handles.Ghosts B S O) (stream : R → Stream) (b c : Blob B) (w w' : Storage S R O) (rng : R) (sync : Bool) (offset : ℕ) (bytes : List ℕ) (answer : Option Refusal) (fate : WriteFate) →
     (sync ≡ true → bytes ≢ []) → offset + length bytes < 2 ^ 64 →
     fate ≡ (drawn_fate w.config sync offset (length bytes) (stream w.rng)).0 → stream rng ≡ (drawn_fate w.config sync offset (length bytes) (stream w.rng)).1 →
@@ -116,7 +116,7 @@ write_leaves {S} {R} {O} {B} store handle stream b c w w' rng sync offset bytes 
     }
     left_by fate k = untouched k
 
--- refused for memory before its fate was drawn
+-- refused for memory before its outcome was drawn
 pub write_undrawn : {S R O B : Type 0} (store : stores.Ghosts S O) (handle : handles.Ghosts B S O) (stream : R → Stream) (b : Blob B) (w : Storage S R O) (rng : R) (sync : Bool) (offset : ℕ) (bytes : List ℕ) (answer : Option Refusal) → (sync ≡ true → bytes ≢ []) →
     answer ≡ Some Memory → WriteLeaves store handle stream offset bytes sync b w answer b (record w { rng = rng })
 write_undrawn {S} {R} {O} {B} store handle stream b w rng sync offset bytes answer some memory = record {
@@ -158,7 +158,7 @@ write_idle store handle stream b w true offset [] s e = record {
   failed = λ early. absurd (cc);
 }
 
--- one whose end can't be counted
+-- one with an end that overflows
 pub write_uncounted : {S R O B : Type 0} (store : stores.Ghosts S O) (handle : handles.Ghosts B S O) (stream : R → Stream) (b : Blob B) (w : Storage S R O) (sync : Bool) (offset : ℕ) (bytes : List ℕ) → (sync ≡ true → bytes ≢ []) → has_uncounted_end offset bytes ≡ true →
     WriteLeaves store handle stream offset bytes sync b w (Some OffsetOverflow) b w
 write_uncounted {S} {R} {O} {B} store handle stream b w sync offset bytes some over = record {

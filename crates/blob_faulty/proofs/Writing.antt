@@ -29,7 +29,7 @@ pub durable_by : (sync : Bool) (x f : Durable) (o : Place) (p : ℕ) (b : List �
 durable_by true x f o p b at_once as_was = at_once refl
 durable_by false x f o p b at_once as_was = as_was refl
 
--- a wrapper after a step, from what the step left of each part
+-- a wrapper after a step, from each part as the step left it
 told : {R : Type 0} (new : View R) (files : Files) (names : Directory) (write marker : ℕ) → new.directory ≡ names → new.next_write ≡ write → new.next_marker ≡ marker →
     StandsFor names new.durable (held_at new.held) write marker files → StandsFor new.directory new.durable (held_at new.held) new.next_write new.next_marker files
 told {R} new files names write marker d w m s =
@@ -94,7 +94,7 @@ one_less direct old mid new all r left answer ok l w =
       rng = w.rng ∙ l.rng;
     }
 
--- answered Ok, by the handle of a current incarnation
+-- returned Ok, by the handle of a current incarnation
 done_now : {R : Type 0} (direct : Bool) (old new : View R) (effect : View R → Effect) → is_current old.directory old.place ≡ true →
     HasBytes new ((effect old).live None) (effect old).durable (effect old).size → Logs old new (effect old).entries →
     new.directory ≡ old.directory → new.place ≡ old.place → new.config ≡ old.config → new.rng ≡ old.rng → Recorded direct direct old new effect None
@@ -157,7 +157,7 @@ no_runs direct old rs none = subst (λ (x : List Run). Recorded direct direct ol
   rng = refl;
 })
 
--- a run and those behind it
+-- a run and those after it
 pub then_runs : {R T : Type 0} (direct : Bool) (old mid new : View R) (r : Run) (rs : List Run) (answer : Option Refusal) (result : Result T Error) → answer ≡ None →
     OnErr result (refused result ≡ Some WriteFailed) → OnErr result (direct ≡ false) → is_current old.directory old.place ≡ true →
     Recorded direct true old mid (laid_runs (r ∷ [])) answer → Recorded direct direct mid new (laid_runs rs) (refused result) → Recorded direct direct old new (laid_runs (r ∷ rs)) (refused result)

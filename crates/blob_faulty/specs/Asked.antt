@@ -1,4 +1,4 @@
--- The calls that a wrapper's write or resize makes of its inner blob, by its drawn outcome.
+-- The calls that a wrapper's write or resize makes on its inner blob, by its drawn outcome.
 use Rattle.std.specs.Prelude.{◌≡◌, ◌⊎◌, ℕ, Bool, true, false, List, [], ◌∷◌, map, length, Option, Some, None, IsSome, MatchBool}
 use Rattle.rand_core.specs.Stream.{Stream}
 use Rattle.blob_base.specs.HandleCalls.{HandleCall, Write, Resize, Reserve}
@@ -44,7 +44,7 @@ pub record Refuses (inner : Allowed) : Type 0 where
 abbrev pub or_failed : Allowed → Allowed
 or_failed inner answer = inner answer ⊎ ((answer ≡ Some WriteFailed) × Refuses inner)
 
--- a SYNC write was done for each run of `front`, in order, and then the first run left was rejected
+-- a SYNC write was done for each run of the first list, in order, and then the first run of the second was rejected
 abbrev pub RefusedBehind : {B S : Type 0} → (HandleCall → B → S → Option Refusal → B → S → Type 0) → List Run → List Run → B → S → B → S → Type 0
 RefusedBehind leaves front [] b s c t = ⊥
 RefusedBehind leaves front (r ∷ left) b s c t = Then (Made leaves (run_calls front) None b s) (λ x y. Refuses (λ answer. leaves (Write r.0 r.1 true) x y answer c t))
@@ -74,7 +74,7 @@ module _ {S R O B : Type 0} (handle : handles.Ghosts B S O) (b : Blob B) (before
   abbrev pub InnerMade : List HandleCall → Allowed
   InnerMade calls answer = Made handle.leaves calls answer (inside b) (inner_of before) (inside c) (inner_of after)
 
-  -- the inner blob did the runs of `front` and rejected the first that is left; `InRoom` if capacity for all was reserved before
+  -- the inner blob did the first list's runs and rejected the second's first; `InRoom`: with capacity for all reserved
   abbrev pub InnerRefused : List Run → List Run → Type 0
   InnerRefused front left = RefusedBehind handle.leaves front left (inside b) (inner_of before) (inside c) (inner_of after)
 

@@ -21,7 +21,7 @@ use Rattle.blob_faulty.specs.Keeps.{OverMemory, IsFor}
 use Rattle.blob_faulty.specs.Wrapper.{inner_of, rng_of, pending_of}
 use Rattle.blob_memory.specs.Store.{durable}
 
--- if the wrapper represented files, these rows are drawn for the writes that need a draw in their logs
+-- if the wrapper represented files, the generator drew these rows, for the writes that need a draw in their logs
 abbrev pub CrashDraws : {R : Type 0} → (R → Stream) → OverMemory R → OverMemory R → Selections → Type 0
 CrashDraws stream before after kept = (files : Files) → IsFor before files → (table_of kept, stream (rng_of after)) ≡ drawn (stream (rng_of before)) (all_needs files.log)
 

@@ -38,7 +38,7 @@ pub record Untouched {S R O B : Type 0} (store : stores.Ghosts S O) (b : Blob B)
   pub size : size_of c ≡ size_of b
 
 -- runs were written up to one that the inner blob rejected, each as a durable range in the list of the handle's incarnation and in the tracked size.
--- Nothing else was recorded
+-- No other entry was recorded
 pub record LaidSome {S R O B : Type 0} (store : stores.Ghosts S O) (handle : handles.Ghosts B S O) (rs : List Run) (b : Blob B) (before : Storage S R O) (c : Blob B) (after : Storage S R O) : Type 0 where
   pub front : List Run
   pub left : List Run

@@ -1,4 +1,4 @@
--- A wrapper after its lent configuration was changed.
+-- A wrapper after its configuration was changed through a borrowed reference.
 use Rattle.std.specs.Borrow.{Lends, Fml, RattleType, MutBor}
 use Rattle.blob_draws.specs.declared.config.Config.{Config}
 use Rattle.blob_faulty.specs.declared.storage.Storage.{Storage}

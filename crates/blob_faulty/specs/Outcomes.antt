@@ -28,7 +28,7 @@ use Rattle.blob_faulty.specs.Wrapper.{inner_of, rng_of, config_of, next_write_of
 abbrev pub left_of : {S R O : Type 0} → (O → Place) → (S → Durable) → Storage S R O → Choices → Place → Option (List ℕ)
 left_of place durable w t o = replayed_at t (pending_of place w o) (durable (inner_of w) o)
 
--- entries of which a crash applies some of these bytes at this offset, and nothing else
+-- entries of which a crash applies some of these bytes at this offset, and makes no other change
 abbrev pub LaysSome : ℕ → List ℕ → List Entry → Choices → Type 0
 LaysSome offset bytes entries t = (chosen : ℕ → Bool) × ((x : List ℕ) → crashed x entries t ≡ overlay_by x offset bytes chosen)
 

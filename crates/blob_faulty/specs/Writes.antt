@@ -68,7 +68,7 @@ pub record SameRecords {R : Type 0} (old new : View R) : Type 0 where
   pub next_write : new.next_write ≡ old.next_write
   pub next_marker : new.next_marker ≡ old.next_marker
 
--- these runs were written, each as a durable range in the list of the handle's incarnation, and nothing else was recorded
+-- these runs were written, each as a durable range in the list of the handle's incarnation; no other entry was added
 pub record Lays {R : Type 0} (old new : View R) (rs : List Run) : Type 0 where
   pub size : new.size ≡ size_of_runs old.size rs
   pub pending : (o : Place) → held_at new.held o ≡ with_at (held_at old.held) old.place (all_behind (held_at old.held old.place) rs) o
@@ -175,7 +175,7 @@ pub record WroteBy {R : Type 0} (fate : WriteFate) (direct : Bool) (old new : Vi
   pub live : direct ≡ true → new.live ≡ (changes_by fate old sync offset bytes answer).live old.live
   pub size : direct ≡ true → new.size ≡ (changes_by fate old sync offset bytes answer).size old.size
   pub logs : direct ≡ true → Logs old new ((changes_by fate old sync offset bytes answer).entries old.next_write)
-  -- by any store, what was done is recorded, and nothing else for a write that no draw fails
+  -- by any store: what was done is recorded; a write that no draw fails records no more than that
   pub recorded : answer ≡ None → Logs old new ((changes_by fate old sync offset bytes None).entries old.next_write)
   pub undone : fate ≡ Done → IsSome answer → SameRecords old new
   pub unrecorded : IsSome answer → answer ≢ Some Injected → answer ≢ Some WriteFailed → SameRecords old new

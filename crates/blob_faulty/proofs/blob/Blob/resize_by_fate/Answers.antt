@@ -40,7 +40,7 @@ returns-in_ok-resize_pending-in-Reaches-clause-asked g c =
     rw fate (faulted g.B.Blob c.args.self.now c.args.store.now r.new.self r.new.store (InnerMade g.B.Blob c.args.self.now c.args.store.now r.new.self r.new.store (Resize c.in-Reaches.size ∷ []))
     (asked_once g.B.Blob c.args.self.now c.args.store.now r.new.self r.new.store (Resize c.in-Reaches.size) None c.in_ok-resize_pending-in-Reaches.ensures.asked))
 
--- where that is refused, the resize is answered so
+-- if that is refused, the resize returns the same error
 same_answer : (g : Over) (c : goal.After-from_residual g) → refused c.resize_pending-in-Reaches.result ≡ refused c.from_residual.result
 same_answer g c = first_of (search rules, cc, grind (arith, common_steps))
 

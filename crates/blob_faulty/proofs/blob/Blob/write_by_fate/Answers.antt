@@ -17,7 +17,7 @@ use Rattle.blob_faulty.proofs.Fating.{unsynced_refused, failed_refused, runs_uni
 use Rattle.blob_faulty.proofs.blob.Blob.write_by_fate.Given.{Over}
 use Rattle.blob_faulty.proofs.blob.Blob.write_by_fate.Goals as goal
 
--- what the step in the place of a write answered, where the write passes it on
+-- what the step in the place of a write returned, if the write passes it on
 same_unsynced : (g : Over) (c : goal.After-from_residual g) → refused c.write_plain-in-Unsynced.result ≡ refused c.from_residual.result
 same_unsynced g c = first_of (search rules, cc, grind (arith, common_steps))
 
@@ -138,7 +138,7 @@ returns-in_err-lay_kept-in-Failed-clause-failed g c is =
     let same : refused r.result ≡ refused c.from_residual-in_err-lay_kept-in-Failed.result = same_failed g c in
     subst (λ (f : WriteFate). FailedBy g.S.Durable g.B.Blob c.args.self.now c.args.store.now r.new.self r.new.store f c.args.offset (g.P.Payload.bytes c.args.bytes)) (sym fate) (r.ensures.front (same ∙ is))
 
--- What was done is recorded by the fate.
+-- What was done is recorded by the outcome.
 
 pub returns-then-sync-clause-wrote : goal.returns-then-sync-clause-wrote
 returns-then-sync-clause-wrote g c =
@@ -160,7 +160,7 @@ returns-in_ok-write_plain-in-Unsynced-clause-failed g c is = injected_not_failed
 pub returns-in_ok-lay_kept-in-Failed-clause-failed : goal.returns-in_ok-lay_kept-in-Failed-clause-failed
 returns-in_ok-lay_kept-in-Failed-clause-failed g c is = injected_not_failed is
 
--- And is answered as the fate allows.
+-- And it returns what the outcome allows.
 
 pub returns-then-sync-clause-allowed : goal.returns-then-sync-clause-allowed
 returns-then-sync-clause-allowed g c =

@@ -24,7 +24,7 @@ returns-in_err-write_unrecorded-clause-recorded g c =
     rw (sym same) (refused_behind g.S.Durable g.B.Blob c.args.self.now r.new.self c.args.store.now c.room_for.new.store r.new.store c.args.offset (g.P.Payload.bytes c.args.bytes) _ (refused r.result) refl some
     (relisted g.S.Durable g.B.Blob c.args.self.now c.args.self.now c.args.store.now c.room_for.new.store refl refl c.room_for.ensures.rest c.room_for.ensures.same) (same_rest g.S.Durable g.B.Blob c.args.self.now r.new.self c.room_for.new.store r.new.store r.ensures.rest) (first_of (search rules, cc)) r.ensures.wrote)
 
--- Where nothing is to be recorded.
+-- If nothing must be recorded.
 
 pub returns-in_default-clause-recorded : goal.returns-in_default-clause-recorded
 returns-in_default-clause-recorded g c =
@@ -52,7 +52,7 @@ returns-in_err-list-clause-recorded g c =
     let some : IsSome (refused c.from_residual-in_err-list.result) = first_of (search rules, grind (arith, common_steps)) in
     unasked _ _ _ _ _ _ some (unwritten _ _ _ _ some) (relisted g.S.Durable g.B.Blob c.args.self.now c.args.self.now c.args.store.now c.room_for.new.store refl refl c.room_for.ensures.rest c.room_for.ensures.same)
 
--- What it may be answered, and what was asked.
+-- What it may return, and what was asked.
 
 pub returns-clause-allowed : goal.returns-clause-allowed
 returns-clause-allowed g c =
