@@ -35,8 +35,9 @@ fn drop_current(
 }
 
 impl<R> Storage<blob_memory::Storage, R> {
-    /// Retires the pending list of the name's current incarnation: a crash then leaves its durable bytes as they are. Call it
-    /// after an open whose bytes must last. Lists of ended incarnations stay, and change no byte. An unknown name changes nothing.
+    /// Retires the pending list of the name's current incarnation: a crash then leaves its durable bytes as they are.
+    /// Call it after an open if the durable bytes must survive a crash. Lists of ended incarnations stay, and change no
+    /// byte. An unknown name changes nothing.
     ///
     /// Can't fail. Makes no draw and allocates nothing.
     pub fn admit(&mut self, partition: &str, name: &[u8]) -> Retired

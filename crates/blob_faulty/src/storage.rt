@@ -92,7 +92,7 @@ impl<S: Durable, R> Storage<S, R> {
         &mut self.config
     }
 
-    /// Replaces the fault rates and nothing else. For a type with an invariant, which can't lend `config`.
+    /// Replaces only the fault rates. For a type with an invariant, which can't lend `config`.
     pub fn set_config(&mut self, config: Config)
         ensures set { self.new ≡ with_config self.old config }
         ensures files { Steps S.place S.directory S.durable self.old self.new (λ files. files) }

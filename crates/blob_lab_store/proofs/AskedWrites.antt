@@ -29,7 +29,7 @@ use Rattle.blob_lab_store.proofs.AskSteps.{as_of, asks_by}
 use Rattle.blob_lab_model.proofs.Denying.{counted_denial, fate_denied, injected_denial, memory_denial, not_memory}
 use Rattle.blob_lab_model.proofs.Telling.{done_answers, failed_answers}
 
--- what is added to a log is added to that of the files that the wrapper stands for
+-- what is added to a log of the wrapper is added to the same log of the files that the wrapper represents
 added : (w w' : Wrapper) (f : Files) (o : Place) (entries : ℕ → List Entry) → directory (store_of w') ≡ directory (store_of w) → Adds (λ a. a) (directory (store_of w)) (durable (store_of w)) (durable (store_of w')) w w' o (entries (next_write_of w)) → o.number < f.directory.next → IsFor w f → IsFor w' (all_logged f o (entries f.next_write))
 added w w' f o entries names adds below s =
     let now = adds f (subst (λ (d : Directory). o.number < d.next) (sym s.directory) below) s in

@@ -24,7 +24,7 @@ use Rattle.blob_lab_store.proofs.Performing.{state_of, performs, stands_same}
 use Rattle.blob_lab_model.proofs.GivenHandles.{filled}
 use Rattle.blob_lab_model.proofs.Slots.{emptied_again}
 
--- what is told of a slot by a close, and by the end of a started sync
+-- what a close reports for a slot, and what the end of a started sync reports
 abbrev closed_told : Option Held → Told
 closed_told None = told.NoHandle
 closed_told (Some h) = told.Done
@@ -78,7 +78,7 @@ module _ (lab lab' : Lab) (names : names_of lab'.opens ≡ names_of lab.opens) (
       (λ f s. inr (subst (λ (o : Option Started). Tells reply.NoHandle (finished_told o)) (sym gone) tt, ap stream_of same))
       (λ f s. subst (λ ss. LabStandsFor lab' (record (state_of lab f) { syncs = ss; stream = stream_of lab'.wrapper })) (sym (emptied_again (syncs_of lab.syncs) number gone)) (stands_same lab lab' f same names handles syncs s))
 
-  -- a started sync, whose outcome is told
+  -- a started sync; the reply reports its outcome
   pub finish_some : (number : ℕ) (started : Started) (answered : Reply) → kept_at (syncs_of lab.syncs) number ≡ Some started → Tells answered (unless_denied started.outcome told.Done) → syncs_of lab'.syncs ≡ set (syncs_of lab.syncs) number None
       → config_of lab'.wrapper ≡ config_of lab.wrapper → stream_of lab'.wrapper ≡ stream_of lab.wrapper → ((f : Files) → IsFor lab.wrapper f → IsFor lab'.wrapper f) → Performs lab (Finish number) answered lab'
   finish_some number started answered here tells syncs config stream stands = performs lab lab' (Finish number) answered

@@ -1,4 +1,4 @@
--- Exclusive opens, by what the registry of open names answers.
+-- Exclusive opens, by what the registry of open names returns.
 use Rattle.std.proofs.Common.{◌≡◌, ◌≢◌, ℕ, ◌<◌, ◌-◌, ◌^◌, ◌==◌, ◌&&◌, ◌++◌, inl, inr, List, [], ◌∷◌, Bool, true, false, Option, Some, None, refl, sym, ap, ◌∙◌, subst, length, if◌then◌else◌, arith, ⊎_elim}
 use Rattle.std.specs.Prelude.{is_none, is_some, not}
 use Rattle.std.proofs.lemmas.Bool.Decides.{nat_tests}
@@ -121,7 +121,7 @@ unexhausted s p n some = by_held (s.registered p n) refl where
   by_held None e = by_number (s.next == 2 ^ 64 - 1) refl e
   by_held (Some k) e = refl
 
--- What an exclusive open is told.
+-- The reply to an exclusive open.
 
 module _ (lab lab' : Lab) (p n : List ℕ) (first last : ℕ) where
   abbrev drawn_left : Stream

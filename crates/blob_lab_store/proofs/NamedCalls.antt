@@ -140,7 +140,7 @@ module _ (lab lab' : Lab) (handles : handles_of lab'.handles ≡ handles_of lab.
         (subst (λ (x : Option Refusal). OrMemory x (Some (refusal_of e))) (ap remove_denied_by s.wrapper.files.directory) (remove_denied (Some (refusal_of e)) a)) (λ no. stream))
         (λ f s. record { wrapper = record { files = stands f s.wrapper.files; config = config; stream = refl }; names = names; handles = handles; syncs = syncs; given = s.given })
 
-  -- a store that is rebuilt, and wrapped anew
+  -- a store that is rebuilt, and wrapped again
   pub reopen_done : names_of lab'.opens ≡ none_open (names_of lab.opens).next → syncs_of lab'.syncs ≡ map (λ slot. None) (syncs_of lab.syncs) → config_of lab'.wrapper ≡ config_of lab.wrapper → stream_of lab'.wrapper ≡ stream_of lab.wrapper
       → ((f : Files) → IsFor lab.wrapper f → IsFor lab'.wrapper (reopened f)) → Performs lab Reopen reply.Done lab'
   reopen_done names syncs config stream stands = performs lab lab' Reopen reply.Done

@@ -1,4 +1,4 @@
--- Opens that the wrapper isn't asked for, and what an accepted one was answered.
+-- Opens that the wrapper isn't asked for, and what is known of an accepted exclusive one.
 use Rattle.std.proofs.Common.{◌≡◌, ℕ, ◌<◌, ◌-◌, ◌^◌, inl, inr, List, Option, Some, None, refl, sym, ap, subst}
 use Rattle.blob_header.specs.Refusals.{Refusal, Memory, refusal_of}
 use Rattle.blob_header.specs.declared.error.Error.{Error}
@@ -28,7 +28,7 @@ module _ (lab : Lab) (p n : List ℕ) (versions : Option AcceptedVersions) (empt
 
 module _ (lab lab' : Lab) (p n : List ℕ) (versions : Option AcceptedVersions) (first last : ℕ) (some : versions ≡ Some (first, last)) (e : Error) (memory : Some (refusal_of e) ≡ Some Memory)
     (wrapper : lab'.wrapper ≡ lab.wrapper) (names : names_of lab'.opens ≡ names_of lab.opens) (handles : handles_of lab'.handles ≡ handles_of lab.handles) (syncs : syncs_of lab'.syncs ≡ syncs_of lab.syncs) where
-  -- there is no room for one more handle
+  -- there is no memory for one more handle
   pub loose_unasked : Performs lab (OpenLoose p n versions) (reply.Failed e) lab'
   loose_unasked = subst (λ (x : Option AcceptedVersions). Performs lab (OpenLoose p n x) (reply.Failed e) lab') (sym some)
       (performs lab lab' (OpenLoose p n (Some (first, last))) (reply.Failed e) (λ f s. inl (refl, memory)) (λ f s. stands_same lab lab' f wrapper names handles syncs s))

@@ -60,7 +60,7 @@ given_opened w w' p n first last o live version handles h opens place before =
     weaker None i = tt
     weaker (Some g) i = omega (arith, i, next_opened (directory (store_of w)) (directory (store_of w')) (durable (store_of w)) (durable (store_of w')) p n first last o live version opens)
 
--- handles that were there stay on incarnations that were made
+-- existing handles stay on incarnations that were made
 pub given_kept : (d d' : Directory) (bytes bytes' : Durable) (p n : List ℕ) (first last : ℕ) (o : Place) (live : List ℕ) (version : ℕ) (handles : List (Option Held)) → IsOpened d bytes d' bytes' p n first last o live version → AreGiven d.next handles → AreGiven d'.next handles
 given_kept d d' bytes bytes' p n first last o live version handles opens before =
     All-weaker (λ slot. IfSome slot (λ g. g.place.number < d.next)) (λ slot. IfSome slot (λ g. g.place.number < d'.next)) weaker handles before

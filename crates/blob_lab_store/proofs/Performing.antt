@@ -30,7 +30,7 @@ performs lab lab' act reply a s = record {
   stands = λ v h. subst (λ (w : State). LabStandsFor lab' (after w act (refused_by reply) (stream_of lab'.wrapper))) (seen lab v h) (s v.files (subst (LabStandsFor lab) (sym (seen lab v h)) h));
 }
 
--- a laboratory whose wrapper, names and tables are seen as before
+-- a laboratory with the same wrapper, and the same names and tables as seen through their views
 pub stands_same : (lab lab' : Lab) (f : Files) → lab'.wrapper ≡ lab.wrapper → names_of lab'.opens ≡ names_of lab.opens → handles_of lab'.handles ≡ handles_of lab.handles → syncs_of lab'.syncs ≡ syncs_of lab.syncs
     → LabStandsFor lab (state_of lab f) → LabStandsFor lab' (record (state_of lab f) { stream = stream_of lab'.wrapper })
 stands_same lab lab' f w n hs ss h = record {

@@ -1,4 +1,4 @@
--- A store that is rebuilt from a snapshot, and wrapped anew.
+-- A store that is rebuilt from a snapshot, and wrapped again.
 use Rattle.std.proofs.Common.{◌≡◌, ℕ, List, [], true, Some, None, Option, refl, sym, ◌∙◌, subst}
 use Rattle.std.specs.Prelude.{unwrap_or, is_some}
 use Rattle.blob_model.specs.Directory.{Directory, is_current}

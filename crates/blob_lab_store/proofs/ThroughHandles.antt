@@ -20,7 +20,7 @@ use Rattle.blob_lab_store.proofs.Performing.{state_of, performs, stands_same}
 use Rattle.blob_lab_model.proofs.GivenHandles.{given_at}
 use Rattle.blob_lab_model.proofs.Stale.{asked_directory, place_after}
 
--- the numbers that were given, where one handle is made new on the same incarnation
+-- all handles stay on numbers that were given if one is replaced by another on the same incarnation
 given_after : (d d' : Directory) (handles : List (Option Held)) (number : ℕ) (h h' : Held) → d' ≡ d → h'.place ≡ h.place → h.place.number < d.next → AreGiven d.next handles → AreGiven d'.next (set handles number (Some h'))
 given_after d d' handles number h h' same place below given =
     subst (λ (e : Directory). AreGiven e.next (set handles number (Some h'))) (sym same)

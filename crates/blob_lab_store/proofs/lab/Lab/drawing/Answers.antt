@@ -30,7 +30,7 @@ still_none false x e = e
 nothing_durable : (f : Durable) → ((o : Place) → f o ≡ None) → (o : Place) (x : List ℕ) → f o ≡ Some x → [] ≡ x
 nothing_durable f none o x e = let n = none o in absurd (cc)
 
--- a made wrapper stands for the files of its store's directory
+-- a newly made wrapper represents the files of its store's directory
 made_for : (w : Wrapper) (s : memory.Storage) (d : Directory) → store_of w ≡ s → directory s ≡ d → Stands (λ o. o) (directory s) (durable s) w (wrapped (directory s) (λ o. []) 0 0) → IsFor w (wrapped d (λ o. []) 0 0)
 made_for w s d store names h = subst (λ (e : Directory). IsFor w (wrapped e (λ o. []) 0 0)) names (subst (λ (q : memory.Storage). Stands (λ o. o) (directory q) (durable q) w (wrapped (directory s) (λ o. []) 0 0)) (sym store) h)
 
