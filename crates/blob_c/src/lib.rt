@@ -1,4 +1,4 @@
-//! The laboratory for programs in other languages: a whole script at once, or a session and one call after another.
+//! The laboratory for programs in other languages: a whole script in one call, or a session and one call after another.
 //!
 //! What a session is and does is `blob_sessions`. The header `bindings/c/blobcrash.h` says what callers owe: no check reaches them.
 #![tactic(auto)]
@@ -25,10 +25,11 @@ use blob_sessions::{
 };
 use std::alloc::Global;
 
-/// Runs a script, and writes its replies to the front of `replies`, a line each. What is behind them stays as it was.
+/// Runs a script, and writes its replies to the start of `replies`, a line each. The bytes after them don't change.
 ///
-/// `BAD_LINE` tells the line's number, and writes the replies before it. `NO_ROOM` writes nothing and tells how much room
-/// is wanted, and of a bad line, before which that is, the number; `NO_MEMORY` and `ENDLESS` write nothing.
+/// `BAD_LINE` returns the line's number, and writes the replies before it. `NO_ROOM` writes nothing and returns the
+/// capacity that is needed, and the number of the bad line if the run stops before one; `NO_MEMORY` and `ENDLESS` write
+/// nothing.
 #[unsafe(no_mangle)]
 pub extern "C" fn blobcrash_run(alloc: Global, script: &[u8], replies: &mut [u8]) -> ScriptRan
     ensures done { result.status ≡ DONE → Prints (script_of (lines_of script.now)) (Some []) (Some (take result.len replies.new)) }
@@ -48,7 +49,7 @@ pub extern "C" fn blobcrash_run(alloc: Global, script: &[u8], replies: &mut [u8]
 /// Opens a session with a preamble: the lines of a script that are images, words, a seed and settings, the settings last. What the
 /// session held before is ended.
 ///
-/// `BAD_LINE` tells the number of a line that may not stand there. It and `NO_MEMORY` change nothing.
+/// `BAD_LINE` returns the number of a line that isn't allowed there. It and `NO_MEMORY` change nothing.
 #[unsafe(no_mangle)]
 pub extern "C" fn blobcrash_open(alloc: Global, session: &mut Session, preamble: &[u8]) -> ScriptRan
     ensures done { result.status ≡ DONE → IsSome (kept_of session.new) × IfSome (kept_of session.new) (λ k. IsMadeOf k (lines_of preamble.now)) }
@@ -77,11 +78,11 @@ pub extern "C" fn blobcrash_open(alloc: Global, session: &mut Session, preamble:
     ScriptRan::stopped(DONE)
 }
 
-/// Makes the call that a line says, and writes its reply to the front of `reply`, without a line's end. What is behind it
-/// stays as it was. An empty line and a comment are answered with no bytes.
+/// Makes the call of a line, and writes its reply to the start of `reply`, without a line feed. The bytes after it
+/// don't change. An empty line or a comment makes no call, and its reply has no bytes.
 ///
-/// `NO_ROOM` and `UNPRINTED`: the call was made, and `blobcrash_reply` tells its reply. `BAD_LINE` and `NO_MEMORY` change
-/// nothing; a call that was refused memory is `DONE`, and its reply says so.
+/// `NO_ROOM` and `UNPRINTED`: the call was made, and its reply is kept for `blobcrash_reply`. `BAD_LINE` and
+/// `NO_MEMORY` change nothing; a call that was refused memory is `DONE`, and its reply says so.
 #[unsafe(no_mangle)]
 pub extern "C" fn blobcrash_call(
     alloc: Global,
@@ -114,7 +115,7 @@ pub extern "C" fn blobcrash_reply(alloc: Global, session: &mut Session, reply: &
 
 /// Writes bytes through a handle, with `sync` as a SYNC write: the call `write` or `writes`, without text.
 ///
-/// `OTHER_REPLY`: the reply isn't `ok`, and `blobcrash_reply` tells it.
+/// `OTHER_REPLY`: the reply isn't `ok`, and `blobcrash_reply` returns it.
 #[unsafe(no_mangle)]
 pub extern "C" fn blobcrash_write(
     alloc: Global,
@@ -136,7 +137,7 @@ pub extern "C" fn blobcrash_write(
 
 /// Fills `into` with bytes that are read through a handle: the call `read`, without text.
 ///
-/// `OTHER_REPLY`: the reply isn't these bytes, `into` is as it was, and `blobcrash_reply` tells the reply.
+/// `OTHER_REPLY`: the reply isn't these bytes, `into` doesn't change, and `blobcrash_reply` returns the reply.
 #[unsafe(no_mangle)]
 pub extern "C" fn blobcrash_read(
     alloc: Global,

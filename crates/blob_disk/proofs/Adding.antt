@@ -1,4 +1,4 @@
--- What a mutation that is recorded makes of the outcomes of a crash, and of the file.
+-- What a mutation that is recorded does to the outcomes of a crash, and to the file.
 use Rattle.std.proofs.Common.{◌≡◌, ◌⊎◌, ℕ, List, length, Option, Some, None, true, refl, sym, ◌∙◌, ap, subst, inl, inr}
 use Rattle.std.proofs.Math.Logic.{∥∥₁_map, ∥∥₁_elim}
 use Rattle.std.proofs.lemmas.Option.{none-some, same_Some}

@@ -1,4 +1,4 @@
--- What a crash and the open behind it leave.
+-- What a crash and the open after it leave.
 use Rattle.std.proofs.Common.{◌≡◌, ◌⊎◌, ℕ, Bool, true, false, List, [], Option, Some, None, refl, sym, ◌∙◌, ap, ap₂, subst, inl, inr}
 use Rattle.std.proofs.lemmas.Bool.{false≢true}
 use Rattle.std.specs.Prelude.{is_none}
@@ -52,7 +52,7 @@ may_crash I true by answer same h = inr (λ f i. subst (λ (b : Bool). injected_
 may_crash I false by answer same (inl e) = inl e
 may_crash I false by answer same (inr e) = inr (λ f i. subst (λ (b : Bool). injected_or b (λ a. a ≡ None) answer) (sym (same f i)) e)
 
--- the draw behind a crash
+-- the draw after a crash
 pub draw_so : (rate rate' : Option Rate) (s s' : Stream) → rate' ≡ rate → s' ≡ s → (draw rate' s').0 ≡ (draw rate s).0
 draw_so rate rate' s s' er es = ap₂ (λ (r : Option Rate) (z : Stream). (draw r z).0) er es
 

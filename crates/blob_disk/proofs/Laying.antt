@@ -1,4 +1,4 @@
--- What bytes that are laid over a file, and a new length, are to a disk.
+-- Bytes that are written over a file, and a new length, in the terms of a disk: `Torn`, `Mixed`, `Cut` and `Holds`.
 use Rattle.std.proofs.Common.{◌≡◌, ◌⊎◌, ℕ, ◌+◌, ◌-◌, ◌<◌, ◌≤◌, max, List, length, Bool, true, false, get_or, refl, ◌∙◌, ap, inl, inr, arith}
 use Rattle.blob_model.specs.Bytes.{overlay_by, reach, resized, written}
 use Rattle.blob_model.proofs.Bytes.{length-overlay_by, length-resized, reach_all, reach_below, at_chosen, at_other, at_resized, picks}
@@ -50,7 +50,7 @@ cut_not n x = record {
 pub partly_refused : (x : List ℕ) → length x ≡ 20 → Cut 50 x (resized x 70) → ⊥
 partly_refused x e k = omega (arith, e, length-resized x 70, k.no_longer)
 
--- what a write makes of live bytes
+-- what a write does to live bytes
 pub mixed_some : (o : ℕ) (b x y : List ℕ) → WritesSome o b x y → Mixed o b x y
 mixed_some o b x y w = record {
   torn = record {
@@ -79,7 +79,7 @@ mixed_some o b x y w = record {
     here i in_grown (inl (low, high, e)) = inr (same (o + i) ∙ at_chosen grown o b w.chosen (o + i) low high e ∙ ap (λ (p : ℕ). get_or b p 0) (back i))
     here i in_grown (inr isnt) = inl (same (o + i) ∙ at_other grown o b w.chosen (o + i) isnt ∙ at_resized x w.grown (o + i) in_grown)
 
--- done, it is there whole
+-- after a complete write the file holds all of its bytes
 pub holds_written : (o : ℕ) (b x : List ℕ) → 0 < length b → Holds (written x o b) o b
 holds_written o b x some = record {
   within = omega (arith, length-overlay_by grown o b (λ _. true), reach_all o (length b) some);

@@ -56,7 +56,7 @@ openable_so w w' same h = ap (λ (d : Directory). is_none (open_refusal d (codes
 pub whole_so : {R : Type 0} (w w' : OverMemory R) → config_of w' ≡ config_of w → IsWhole w → IsWhole w'
 whole_so w w' config h = subst (λ (c : Config). IsNever (partial_resizes c.resize_rate)) (sym config) h
 
--- a law of the wrapper: it stands for the same files where nothing was recorded
+-- a law of the wrapper: if nothing was recorded, it represents the same files
 abbrev pub KeptRecords : Type 0 → Type 0
 KeptRecords R = (names names' : Directory) (bytes bytes' : Durable) (old new : OverMemory R) (files : Files) → names' ≡ names → bytes' ≡ bytes → KeepsRecords (λ o. o) old new →
     Stands (λ o. o) names bytes old files → Stands (λ o. o) names' bytes' new files

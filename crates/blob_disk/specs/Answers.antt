@@ -1,4 +1,4 @@
--- How a disk tells what the wrapper answered.
+-- How a disk reports what the wrapper returned.
 use Rattle.std.specs.Prelude.{◌≡◌, ◌≢◌, ℕ, List, Option, Some, None, Result, Ok, Err}
 use Rattle.std.specs.IoError.{error_kind}
 use Rattle.std.specs.declared.io.Error.{Error}
@@ -17,17 +17,17 @@ abbrev pub IsOfKind : {T : Type 0} → ErrorKind → Result T Error → Type 0
 IsOfKind kind (Ok x) = ⊥
 IsOfKind kind (Err e) = error_kind e ≡ kind
 
--- a result that tells this refusal, or Ok where there is none
+-- a result that reports this refusal, or Ok if there is none
 abbrev pub Tells : {T : Type 0} → Option Refusal → Result T Error → Type 0
 Tells None (Ok x) = Unit {0}
 Tells (Some refusal) result = IsOfKind (kind_of refusal) result
 Tells None (Err e) = ⊥
 
--- a result that tells what the wrapper may answer
+-- a result that reports what the wrapper may return
 abbrev pub TellsBy : {T : Type 0} → (Option Refusal → Type 0) → Result T Error → Type 0
 TellsBy allowed result = (answer : Option Refusal) × allowed answer × Tells answer result
 
--- a read that was done and whose bytes have another digest, which is counted
+-- a read that was done, but returned bytes with another digest; it is counted
 pub record IsCaught {T : Type 0} (allowed : Option Refusal → Type 0) (key want : ℕ) (bytes : List ℕ) (result : Result T Error) (old new : ℕ) : Type 0 where
   pub done : allowed None
   pub kind : IsOfKind InvalidData result

@@ -78,11 +78,11 @@ Allowed R = Opened → OverMemory R → Option Refusal → Type 0
 abbrev pub MayRead : {R : Type 0} → (R → Stream) → ℕ → ℕ → Allowed R
 MayRead stream at len b w = MayReadInto stream b w at len
 
--- a result that tells what the wrapper may answer to the disk's handle
+-- a result that reports what the wrapper may return to the disk's handle
 abbrev pub TellsCall : {R T : Type 0} {g : Ghosts R} → Allowed R → BlobDisk R g → Result T io_error → Type 0
 TellsCall allowed d result = TellsBy (allowed d.blob d.store) result
 
--- a tested read: told as a read and not counted as caught, or caught
+-- a tested read: reported as a read and not counted as caught, or caught
 abbrev pub TellsTested : {R T : Type 0} {g : Ghosts R} → Allowed R → ℕ → ℕ → List ℕ → Result T io_error → BlobDisk R g → BlobDisk R g → Type 0
 TellsTested allowed key want bytes result d d' =
     (TellsCall allowed d result × (caught_of d' ≡ caught_of d))

@@ -1,4 +1,4 @@
--- What a crash of a file over the fault wrapper draws, leaves and answers.
+-- What a crash of a file over the fault wrapper draws, leaves and returns.
 use Rattle.std.specs.Prelude.{◌≡◌, ◌⊎◌, ℕ, Bool, List, Option, Some, None}
 use Rattle.rand_core.specs.Stream.{Stream}
 use Rattle.blob_header.specs.Refusals.{Refusal, Memory}
@@ -11,7 +11,7 @@ use Rattle.blob_faulty.specs.Keeps.{OverMemory, IsFor}
 use Rattle.blob_faulty.specs.Wrapper.{rng_of, config_of}
 use Rattle.blob_disk.specs.Outcomes.{Opened, durable_at, pending_at}
 
--- the rows that a crash draws for the writes that it may lose, and what is left of the stream
+-- the rows that a crash draws for the writes that it may lose, and the rest of the stream
 abbrev pub crash_draws : {R : Type 0} → (R → Stream) → OverMemory R → Files → List Row × Stream
 crash_draws stream w files = drawn (stream (rng_of w)) (all_needs files.log)
 
@@ -20,11 +20,11 @@ abbrev pub IsLeft : {R : Type 0} → (R → Stream) → Opened → OverMemory R 
 IsLeft stream b w c = (files : Files) → IsFor w files →
     replayed_at (chosen_by (crash_draws stream w files).0) (pending_at b w) (durable_at b w) ≡ Some c
 
--- whether the open behind a crash fails, by the next draw
+-- whether the open after a crash fails, by the next draw
 abbrev pub open_fails : {R : Type 0} → (R → Stream) → OverMemory R → Files → Bool
 open_fails stream w files = (draw (config_of w).open_rate (crash_draws stream w files).1).0
 
--- what a crash may answer: that memory ran out, or what the draw of the open behind it says
+-- what a crash may return: that memory ran out, or what the draw of the open after it says
 abbrev pub MayCrash : {R : Type 0} → (R → Stream) → OverMemory R → Option Refusal → Type 0
 MayCrash stream w answer = (answer ≡ Some Memory) ⊎ ((files : Files) → IsFor w files → injected_or (open_fails stream w files) (λ a. a ≡ None) answer)
 

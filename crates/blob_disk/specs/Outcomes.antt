@@ -30,7 +30,7 @@ durable_at b w = durable (inner_of w) (place (inside b))
 abbrev pub pending_at : {R : Type 0} → Opened → OverMemory R → List Pending
 pending_at b w = pending_of (λ o. o) w (place (inside b))
 
--- all that was written, as where the process alone dies, or what some choices keep of what is pending
+-- all that was written, as when only the process dies, or what some choices keep of what is pending
 abbrev pub MayLeave : List ℕ → List Pending → Option (List ℕ) → List ℕ → Type 0
 MayLeave live pending durable c = (c ≡ live) ⊎ ((t : Choices) × (replayed_at t pending durable ≡ Some c))
 
@@ -42,7 +42,7 @@ IsDrawn b w c = (t : Choices) × (replayed_at t (pending_at b w) (durable_at b w
 abbrev pub outcomes : {R : Type 0} → Opened → OverMemory R → List ℕ → Type 0
 outcomes b w = MayLeave (live_of b) (pending_at b w) (durable_at b w)
 
--- the wrapper stands for some files
+-- the wrapper represents some files
 abbrev pub IsStanding : {R : Type 0} → OverMemory R → Type 0
 IsStanding w = ∥ ((files : Files) × Stands (λ o. o) (directory (inner_of w)) (durable (inner_of w)) w files) ∥₁
 
@@ -87,7 +87,7 @@ pub record LeavesDisk {R : Type 0} (b : Opened) (w : OverMemory R) (b' : Opened)
   pub openable : IsOpenable w → IsOpenable w'
   pub whole : IsWhole w → IsWhole w'
 
--- each old outcome of a crash leads to a new one by a step: nothing was made durable besides
+-- each old outcome of a crash leads to a new one by a step: no more than that was made durable
 abbrev pub Leads : (List ℕ → List ℕ → Type 0) → (List ℕ → Type 0) → (List ℕ → Type 0) → Type 0
 Leads step old new = (c : List ℕ) → old c → (d : List ℕ) × new d × step c d
 

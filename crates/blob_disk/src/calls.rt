@@ -1,4 +1,4 @@
-//! What a disk asks of the wrapper, each by what it makes of the outcomes of a crash.
+//! The calls of the wrapper that a disk makes, each by what it does to the outcomes of a crash.
 ghost use Rattle.std.specs.Prelude.{◌≡◌, ◌⊎◌, ◌≤◌, ◌<◌, ℕ, List, Some, false, length, OnOk, OnErr};
 ghost use Rattle.std.specs.IoError.{error_kind};
 ghost use Rattle.blob_header.specs.Refusals.{refusal_of, refused};
@@ -117,7 +117,7 @@ pub(crate) fn sync<R: Rng>(store: &mut Wrapper<R>, blob: &mut Handle) -> Result<
     Ok(())
 }
 
-/// Opens what is durable in the handle's place, or keeps the handle where it can't.
+/// Opens what is durable, and replaces the handle. Keeps the handle if the open fails.
 fn reopen<R: Rng>(store: &mut Wrapper<R>, blob: &mut Handle) -> Result<(), Error>
     requires here { IsCurrent blob.old store.old }
     requires openable { IsOpenable store.old }
@@ -140,8 +140,8 @@ fn reopen<R: Rng>(store: &mut Wrapper<R>, blob: &mut Handle) -> Result<(), Error
     }
 }
 
-/// Loses what is drawn of what was not synced, and opens what is left. Where memory runs out for either, or the draw of the
-/// open is true, all that was written stays, as where the process alone dies.
+/// Loses what is drawn of what was not synced, and opens what is left. If memory runs out for either, or the draw of
+/// the open is true, all that was written stays, as when only the process dies.
 pub(crate) fn lose<R: Rng>(store: &mut Wrapper<R>, blob: &mut Handle) -> Result<(), Error>
     requires here { IsCurrent blob.old store.old }
     requires openable { IsOpenable store.old }

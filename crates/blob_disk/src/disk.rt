@@ -173,7 +173,7 @@ impl<R: Rng> BlobDisk<R> {
     ///
     /// # Errors
     ///
-    /// After an error all that was written is there, as where the process alone dies.
+    /// After an error the file still holds all that was written, as when only the process dies.
     /// - `Memory` if memory runs out for the crash or the open.
     /// - `Injected` if the draw of the open, which comes after those of the crash, is true.
     pub fn try_crash(&mut self) -> Result<(), Error>
@@ -201,7 +201,7 @@ impl<R: Rng> Crash for BlobDisk<R> {
     ghost use Rattle.blob_disk.specs.Calls.{KeepsSettings, blob_of, counts_of, crash_of, faults_of, is_usable_of, outcomes_of, seen_of, store_of};
     ghost use Rattle.blob_disk.specs.Crashes.{IsLeft, MayCrash};
 
-    /// Crashes as `try_crash`, whose answer `last_crash` returns from then on.
+    /// Crashes as `try_crash` does. From then on `last_crash` returns the result.
     fn crash(&mut self)
         ensures answer { MayCrash R.stream (store_of self.old) (refused (crash_of self.new)) }
         ensures drawn { OnOk (crash_of self.new) (IsLeft R.stream (blob_of self.old) (store_of self.old) (seen_of self.new)) }

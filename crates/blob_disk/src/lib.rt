@@ -1,9 +1,9 @@
 //! A database's file over the fault wrapper: writes, resizes, reads and syncs fail by its draws, and a crash keeps of what wasn't
 //! synced what the generator draws.
 //!
-//! A disk of the kit's databases (`sqlite_disk::Disk`) says what a read returns now and what a crash now may leave. Here that is
-//! the live bytes of the one blob, all of them, as where the process alone dies; or, for some choices, what its pending list
-//! replays to over its durable bytes.
+//! A disk of the kit's databases (`sqlite_disk::Disk`) says what a read returns now and what a crash now may leave.
+//! Here a read returns the live bytes of the one blob. A crash may leave all of them, as when only the process dies;
+//! or, for some choices, what its pending list replays to over its durable bytes.
 #![tactic(auto)]
 
 ghost use Rattle.std.specs.Prelude.{◌≡◌, ℕ, List, [], true, IfOk, OnErr};
@@ -29,10 +29,10 @@ const NAME: &[u8] = b"0";
 
 /// A wrapper over a memory store of its own, and the handle on its one blob.
 ///
-/// A resize either reaches the length that was asked for or changes nothing: the configuration's `partial_rate` is zero. A crash
-/// keeps a resize that failed in part as one to the length that it reached, also where the durable bytes are shorter than both
-/// lengths, and no resize of those to the length that was asked for leaves that (`laws::partial_resizes`). What a database is
-/// proved on has no such file.
+/// A resize either reaches the length that was asked for or changes nothing: the configuration's `partial_rate` is
+/// zero. A crash keeps a resize that failed in part as one to the length that it reached, even if the durable bytes are
+/// shorter than both lengths, and no resize of those to the length that was asked for leaves that
+/// (`laws::partial_resizes`). What a database is proved on has no such file.
 #[derive(Drop)]
 pub struct BlobDisk<R: Rng> {
     store: blob_faulty::Storage<blob_memory::Storage, R>,
@@ -54,7 +54,7 @@ impl<R: Rng + Drop> BlobDisk<R> {
     ghost use Rattle.blob_disk.specs.Calls.{caught_of, faults_of, stream_of};
     ghost use Rattle.blob_disk.specs.Drawn.{rates_of};
 
-    /// Returns an empty file, whose faults are drawn by these rates from here on. The open itself draws nothing.
+    /// Returns an empty file. From here on its faults are drawn by these rates; the open itself draws nothing.
     ///
     /// A disk that is mixing says that a crash leaves each byte of a write old or new, and so lets a database commit by one sync.
     /// Each disk keeps that; one that doesn't say so is for databases that commit by two.
@@ -112,8 +112,8 @@ impl<R: Rng> BlobDisk<R> {
         self.store.set_config(config);
     }
 
-    /// Returns the answer of the last `Crash::crash`: Ok if what wasn't synced was lost by the draws, and before the first. After
-    /// an error all that was written is still there, as where the process alone dies.
+    /// Returns the result of the last `Crash::crash`: Ok if what wasn't synced was lost by the draws, and before the
+    /// first. After an error the file still holds all that was written, as when only the process dies.
     pub fn last_crash(&self) -> &Result<(), Error>
         ensures { result.now ≡ crash_of self.now }
     {

@@ -13,7 +13,7 @@ of_one : {X : Type 0} (P : X → Type 0) (x : X) → P x → All P (x ∷ [])
 of_one P x p zero d lt = p
 of_one P x p (suc k) d lt = absurd (omega (arith, lt))
 
--- the printed lines but for the rest are told
+-- `text` is the printed lines before `rest`, each followed by its remarks
 pub record Told (printed rest text : List ℕ) : Type 0 where
   pub pieces : List (List ℕ × List ℕ)
   pub remarks : All (λ piece. AreRemarks piece.1) pieces

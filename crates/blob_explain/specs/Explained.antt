@@ -1,4 +1,4 @@
--- A script's replies, with remarks behind some of them.
+-- A script's replies, with remarks after some of them.
 use Rattle.std.specs.Prelude.{◌≡◌, ◌≢◌, ℕ, List, [], ◌∷◌, ◌++◌, All, Option, Some}
 use Rattle.std.specs.List.{flat_map}
 use Rattle.std.specs.Io.KnownBytes.{Appends}
@@ -7,7 +7,7 @@ use Rattle.std.specs.Io.KnownBytes.{Appends}
 abbrev pub IsLine : List ℕ → Type 0
 IsLine line = All (λ byte. byte ≢ 10) line
 
--- a line as a remark: behind "# ", and ended
+-- a line as a remark: after "# ", and with a line feed
 abbrev pub remark : List ℕ → List ℕ
 remark line = 35 ∷ 32 ∷ line ++ 10 ∷ []
 
@@ -31,7 +31,7 @@ pub record IsRemarking (old new line : List ℕ) : Type 0 where
 abbrev pub GoesOn : List ℕ → List ℕ → List ℕ → List ℕ → Type 0
 GoesOn to line to' line' = (old : List ℕ) → IsRemarking old to line → IsRemarking old to' line'
 
--- a line that is ended, alone and with the remarks behind it
+-- a line with its line feed, alone and with the remarks after it
 abbrev pub as_line : List ℕ × List ℕ → List ℕ
 as_line piece = piece.0 ++ 10 ∷ []
 

@@ -45,7 +45,7 @@ pub fn explain_script<R: BufRead, W: Write>(
     }
 }
 
-/// Writes the explanation, and answers how the script ended.
+/// Writes the explanation, and returns how the script ended.
 fn write_explanation<R: BufRead, W: Write>(
     alloc: Global,
     input: &mut Input<R>,
@@ -66,7 +66,7 @@ fn write_explanation<R: BufRead, W: Write>(
     Ok(ending)
 }
 
-/// What is to be written, and how the script ended.
+/// Returns the explanation, and how the script ended.
 fn explanation<R: BufRead>(alloc: Global, input: &mut Input<R>) -> Result<(Vec<u8>, Ending), Ending>
     ensures ended { IfOk result (λ ran. (is_of_script ran.1 ≡ true) × (ran.1 ≢ Ending.InputFailed) × (ran.1 ≢ Ending.OutputFailed)) }
     ensures cut { IfErr result (λ ending. (ending ≡ Ending.InputFailed) ⊎ (ending ≡ Ending.NoMemory)) }
@@ -79,7 +79,7 @@ fn explanation<R: BufRead>(alloc: Global, input: &mut Input<R>) -> Result<(Vec<u
     let mut lines = Input::new(script.as_slice());
     let mut replies = Output::new(Vec::new(alloc));
     let ending = serve_script(alloc, &mut lines, &mut replies);
-    // A list is a reader that doesn't fail, and a writer that fails for want of memory alone.
+    // A list is a reader that doesn't fail, and a writer that fails only if memory runs out.
     if ending == Ending::InputFailed || ending == Ending::OutputFailed {
         return Err(Ending::NoMemory);
     }
@@ -132,7 +132,7 @@ fn push_remarks_after(
     push_remarks(&remark.text, text)
 }
 
-/// What stands before the first line feed, and what behind it.
+/// Returns the text before the first line feed and the text after it. Returns `None` if there is no line feed.
 fn first_line(text: &[u8]) -> Option<(&[u8], &[u8])>
     ensures parts { IfSome result (λ parts. text.now ≡ parts.0.now ++ 10 ∷ parts.1.now) }
     ensures shorter { IfSome result (λ parts. length parts.1.now < length text.now) }

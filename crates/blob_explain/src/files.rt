@@ -33,7 +33,7 @@ pub(crate) struct File {
 #[derive(Drop)]
 pub(crate) enum Item {
     Write(Write),
-    /// A resize that survives, to so many bytes.
+    /// A resize that survives, to this length in bytes.
     Resize(u64),
     /// Bytes that a SYNC write or a failed write made durable.
     Durable { offset: u64, bytes: Vec<u8> },

@@ -84,7 +84,7 @@ pub(crate) fn push_range(offset: u64, len: usize, text: &mut String) -> Result<(
     write!(text, " {offset}..{end}")
 }
 
-/// Adds how many bytes of a write had each fate.
+/// Adds how many bytes of a write had each outcome.
 fn push_counts(write: &Write, text: &mut String) -> Result<(), AllocError> {
     let mut separator = ": ";
     for (fate, word) in [
@@ -161,7 +161,7 @@ fn push_stripes(file: &File, after: &[u8], text: &mut String) -> Result<(), Allo
     Ok(())
 }
 
-/// From where to where an entry lays bytes.
+/// Returns the start and the end of the bytes that an entry writes.
 fn range_of(item: &Item) -> (u64, u64) {
     match item {
         Item::Write(write) => (
@@ -178,7 +178,7 @@ fn is_laid_in(item: &Item, at: u64) -> bool {
     start < end && start < at.saturating_add(STRIPE) && at < end
 }
 
-/// Whether something is laid in a stripe, or its bytes change.
+/// Returns whether an entry writes bytes in a stripe, or the stripe's bytes change.
 fn is_reached(file: &File, loose: &[Item], after: &[u8], at: u64) -> bool {
     loose.iter().any(|item| is_laid_in(item, at)) || cut(&file.before, at) != cut(after, at)
 }

@@ -4,7 +4,7 @@ ghost use Rattle.blob_explain.specs.Explained.{GoesOn, Remarks, remark};
 
 use std::alloc::AllocError;
 
-/// The most characters of a line, behind the sign that begins it.
+/// The most characters of a line, after the sign that begins it.
 const WIDTH: usize = 78;
 
 /// Adds a text as remarks, a line each. One that is too wide goes on in further ones.
@@ -49,7 +49,7 @@ fn push_byte(
     requires { byte ≢ 10 }
     ensures { OnOk result (GoesOn to.old.items line.old.items to.new.items line.new.items) }
 {
-    // A character goes with all of its bytes: those behind its first begin with the bits 10.
+    // All bytes of a character stay on one line: those after its first begin with the bits 10.
     let is_first = byte & 0xc0 != 0x80;
     make_room(is_first, width, line, to)?;
     line.push(byte)?;
@@ -57,7 +57,7 @@ fn push_byte(
     Ok(())
 }
 
-/// Ends the line where it has no room for a character that begins.
+/// Ends the line if it is full and another character begins.
 fn make_room(
     is_first: bool,
     width: &mut usize,

@@ -1,7 +1,7 @@
 // Rows of bytes, one column for each offset.
 use std::alloc::AllocError;
 
-/// How many bytes stand beside one another.
+/// How many bytes a row shows.
 pub(crate) const STRIPE: u64 = 16;
 
 /// What a row shows at an offset.
@@ -9,11 +9,11 @@ pub(crate) const STRIPE: u64 = 16;
 pub(crate) enum Cell {
     Blank,
     Byte(u8),
-    /// A byte that isn't there, by this sign twice.
+    /// A byte that wasn't kept or is covered: this sign, twice.
     Mark(char),
 }
 
-/// Adds a row with its label, and nothing behind its last byte.
+/// Adds a row with its label, without spaces after its last byte.
 pub(crate) fn push_row(
     label: &str,
     width: usize,

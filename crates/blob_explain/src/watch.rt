@@ -32,7 +32,7 @@ pub(crate) struct Remark {
     pub(crate) is_without_memory: bool,
 }
 
-/// A call with its reply and what was drawn for it.
+/// A call with its reply and its draws.
 #[derive(Drop)]
 struct Step<'a> {
     call: &'a Call,
@@ -45,7 +45,7 @@ struct Step<'a> {
 }
 
 impl Watch {
-    /// Watches a laboratory whose generator has the same words as this one.
+    /// Watches a laboratory with a generator that has the same words as this one.
     pub(crate) fn new(alloc: Global, rng: ScriptedRng) -> Watch {
         Watch {
             alloc,

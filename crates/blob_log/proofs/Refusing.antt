@@ -22,7 +22,7 @@ use Rattle.blob_log.specs.Refused.{MayAppend, Asked, MayRecover, NotRead, opens}
 pub asked : (end : ℕ) (entry : List ℕ) (writes : ℕ → List ℕ → Bool → Allowed) (bytes : List ℕ) (answer : Option Refusal) → bytes ≡ frame entry → writes end bytes true answer → MayAppend end entry writes answer
 asked end entry writes bytes answer is may = Asked answer (subst (λ (b : List ℕ). writes end b true answer) is may)
 
--- an incarnation's bytes start behind a header
+-- an incarnation's bytes start after a header of at most 4096 bytes
 start_of : (layout : Layout) → data_start layout ≤ 4096
 start_of V0 = omega arith
 start_of V1 = omega arith

@@ -83,7 +83,7 @@ scan-step b e =
     ∙ step_to (length b) b e
     ∙ ap (λ (l : List (List ℕ)). payload b ∷ l) (enough (length b) (length rest) rest (omega (arith, length-drop (8 + length_told b) b)) (omega arith))
 
--- what is written comes back, whatever stands behind it; checksums fit
+-- a scan of frames finds their records, then those of the bytes after them; `fit` is that checksums fit in four bytes
 pub scan-frames : ((b : List ℕ) → checksum b < 2 ^ 32) → (rs : List (List ℕ)) (rest : List ℕ) → AreShort rs → scan (frames rs ++ rest) ≡ rs ++ scan rest
 scan-frames fit [] rest short = refl
 scan-frames fit (r ∷ rs) rest short =
@@ -207,7 +207,7 @@ front_to (suc n) b short are = ⊎_elim
 pub scan_fronts : (b : List ℕ) → AreBytes b → (AreShort (scan b)) × (BeginsWith (frames (scan b)) b)
 scan_fronts b are = front_to (length b) b (omega arith) are
 
--- A scan that goes on from where it is.
+-- A scan that continues from an offset.
 
 pub frames_more : (rs : List (List ℕ)) (r : List ℕ) → frames rs ++ frame r ≡ frames (rs ++ r ∷ [])
 frames_more rs r = flat_map_more frame [] rs r
@@ -246,6 +246,6 @@ scanned_more b at found found' r s there told now =
 pub scanned_all : (b : List ℕ) (at : ℕ) (found : List (List ℕ)) → Scanned b at found → is_frame (take (length b - at) (drop at b)) ≡ false → found ≡ scan b
 scanned_all b at found s e = sym (append-nil found) ∙ ap (λ (l : List (List ℕ)). found ++ l) (sym (scan-stop (drop at b) (ap is_frame (sym (take_rest b at)) ∙ e))) ∙ s.so_far
 
--- frames are found at the front of bytes; `again` is that what is written comes back
+-- if bytes begin with frames, what a scan finds begins with their records; `again` is the conclusion of `scan-frames`
 pub front_scanned : ((rs : List (List ℕ)) (rest : List ℕ) → AreShort rs → scan (frames rs ++ rest) ≡ rs ++ scan rest) → (rs : List (List ℕ)) (live : List ℕ) → AreShort rs → BeginsWith (frames rs) live → BeginsWith rs (scan live)
 front_scanned again rs live short (rest, is) = (scan rest, sym (again rs rest short) ∙ ap scan is)

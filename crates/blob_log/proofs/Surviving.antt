@@ -8,7 +8,7 @@ use Rattle.blob_header.specs.Fronts.{BeginsWith}
 use Rattle.blob_log.specs.declared.sessions.Session.{Session}
 use Rattle.blob_log.specs.Held.{Survive, record_bytes, acknowledged, trusted}
 
--- what an append leaves, by whether it was answered Ok
+-- what an append leaves, by whether it returned Ok
 pub answered : {T E : Type 0} (r : Result T E) (Before After : List (List ℕ) → Type 0) (entry : List ℕ) → OnOk r ((rs : List (List ℕ)) → Before rs → After (rs ++ entry ∷ [])) → OnErr r ((rs : List (List ℕ)) → Before rs → After rs)
     → (rs : List (List ℕ)) → Before rs → After (rs ++ (if is_ok r then entry ∷ [] else []))
 answered (Ok x) Before After entry ok err rs b = ok rs b

@@ -25,7 +25,7 @@ sum_told bytes = from_be_bytes w32 (drop 4 bytes)
 abbrev pub payload : List ℕ → List ℕ
 payload bytes = take (length_told bytes) (drop 8 bytes)
 
--- whether bytes begin with a whole frame whose checksum holds
+-- whether bytes begin with a complete frame with the right checksum
 abbrev pub is_frame : List ℕ → Bool
 is_frame bytes = nat_le (8 + length_told bytes) (length bytes) && nat_eq (checksum (payload bytes)) (sum_told bytes)
 
@@ -38,11 +38,11 @@ abbrev pub scan_to : ℕ → List ℕ → List (List ℕ)
 scan_to zero bytes = []
 scan_to (suc n) bytes = if is_frame bytes then payload bytes ∷ scan_to n (drop (8 + length_told bytes) bytes) else []
 
--- the records that bytes begin with: up to the first frame that is cut short or whose checksum fails
+-- the records that bytes begin with, up to the first frame that is cut short or has a wrong checksum
 unfoldable pub scan : List ℕ → List (List ℕ)
 scan bytes = scan_to (length bytes) bytes
 
--- records whose lengths four bytes hold
+-- each record's length fits in four bytes
 abbrev pub AreShort : List (List ℕ) → Type 0
 AreShort [] = Unit {0}
 AreShort (r ∷ rs) = (length r < 2 ^ 32) × AreShort rs

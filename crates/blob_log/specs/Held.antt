@@ -18,20 +18,21 @@ use Rattle.blob_log.specs.Frames.{frames, AreShort}
 abbrev pub log_place : Log → Place
 log_place log = place (inside log.blob)
 
--- the handle of a log's blob, and where its next frame goes
+-- the handle of a log's blob, and the offset of its next frame
 abbrev pub log_blob : Log → Blob memory_blob.Blob
 log_blob log = log.blob
 
 abbrev pub log_end : Log → ℕ
 log_end log = log.end
 
--- the wrapper keeps these records at the front of the log's blob, and the next frame goes right behind them
+-- the wrapper keeps the frames of these records as a prefix of the log's blob, and the next frame goes directly after
+-- them
 pub record HoldsRecords {R : Type 0} (log : Log) (store : OverMemory R) (records : List (List ℕ)) : Type 0 where
   pub kept : Keeps store (log_place log) (frames records)
   pub short : AreShort records
   pub end : log.end ≡ length (frames records)
 
--- whatever records the log held, it holds these behind them
+-- whatever records the log held, it holds them with these after them
 abbrev pub AddsRecords : {R : Type 0} → Log → OverMemory R → Log → OverMemory R → List (List ℕ) → Type 0
 AddsRecords log store log' store' added = (records : List (List ℕ)) → HoldsRecords log store records → HoldsRecords log' store' (records ++ added)
 
@@ -39,11 +40,12 @@ AddsRecords log store log' store' added = (records : List (List ℕ)) → HoldsR
 abbrev pub StillHolds : {R : Type 0} → Log → OverMemory R → Log → OverMemory R → Type 0
 StillHolds log store log' store' = (records : List (List ℕ)) → HoldsRecords log store records → HoldsRecords log' store' records
 
--- these records, where the wrapper stood for any files before
+-- the log holds these records if the wrapper represented some files before
 abbrev pub HoldsFrom : {R : Type 0} → OverMemory R → Log → OverMemory R → List (List ℕ) → Type 0
 HoldsFrom before log store records = (files : Files) → IsFor before files → HoldsRecords log store records
 
--- all records whose frames were kept of the log of this name are found, first and in order, in that log
+-- if the frames of some records were kept in a blob of this name, the log has that blob, and what it finds begins with
+-- these records
 abbrev pub FindsRecords : {R : Type 0} → OverMemory R → List ℕ → List ℕ → Log → List (List ℕ) → Type 0
 FindsRecords store p n log found = (o : Place) (records : List (List ℕ)) → IsNamed o p n → AreShort records → Keeps store o (frames records)
     → (log_place log ≡ o) × BeginsWith records found
@@ -52,7 +54,7 @@ FindsRecords store p n log found = (o : Place) (records : List (List ℕ)) → I
 abbrev pub record_bytes : List (Vec ℕ Global) → List (List ℕ)
 record_bytes records = map (λ r. r.items) records
 
--- those of some records whose appends were answered Ok, in order, by these answers
+-- the records for which an append returned Ok, in order; the flags say of each append whether it did
 abbrev pub acknowledged : List Bool → List (List ℕ) → List (List ℕ)
 acknowledged [] records = []
 acknowledged (b ∷ answers) [] = []
@@ -61,15 +63,16 @@ acknowledged (b ∷ answers) (r ∷ records) = if b then r ∷ acknowledged answ
 abbrev pub acknowledged_in : Vec Bool Global → List (Vec ℕ Global) → List (List ℕ)
 acknowledged_in answers records = acknowledged answers.items (record_bytes records)
 
--- what a session found, and behind it what it was acknowledged
+-- the records that a session found, then those that were acknowledged to it
 abbrev pub trusted : Session × Vec (Vec ℕ Global) Global → List (List ℕ)
 trusted (session, records) = record_bytes session.before.items ++ acknowledged session.answers.items (record_bytes records.items)
 
--- of each of these sessions, which were asked to append these records, that is a front of what is found in the end
+-- for each of these sessions, which were asked to append these records, the trusted records are a prefix of what is
+-- found in the end
 abbrev pub Survive : List Session → List (Vec (Vec ℕ Global) Global) → List (List ℕ) → Type 0
 Survive sessions asked after = All (λ s. BeginsWith (trusted s) after) (zip sessions asked)
 
--- where the wrapper stood for any files before the first session
+-- the sessions survive if the wrapper represented some files before the first one
 abbrev pub SurviveFrom : {R : Type 0} → OverMemory R → List Session → List (Vec (Vec ℕ Global) Global) → List (List ℕ) → Type 0
 SurviveFrom before sessions asked after = (files : Files) → IsFor before files → Survive sessions asked after
 

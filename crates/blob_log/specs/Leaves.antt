@@ -26,7 +26,8 @@ live_appended log entry = live_written true (log_live log) (log_end log) (frame 
 abbrev pub MayOpenLog : {R : Type 0} → OverMemory R → OverMemory R → List ℕ → List ℕ → Type 0
 MayOpenLog before after p n = StaysSame before after ⊎ OpensAdmitted before after p n 0 0
 
--- the frame is written once, behind the log's end, and kept whole; nothing else is recorded, retired or made durable
+-- the frame is written once, at the log's end, and all of it is kept; no other entry is recorded, retired or made
+-- durable
 abbrev pub AppendsFrame : {R : Type 0} → Log → List ℕ → OverMemory R → OverMemory R → Type 0
 AppendsFrame log entry before after = (files : Files) → IsFor before files → IsFor after (logged files (log_place log) (Kept (log_end log) (frame entry)))
 
@@ -34,7 +35,7 @@ AppendsFrame log entry before after = (files : Files) → IsFor before files →
 abbrev pub LieIn : ℕ → ℕ → List Entry → Type 0
 LieIn offset n entries = (p : ℕ) → lies offset n p ≡ false → any_touches p entries ≡ false
 
--- some of the frame's bytes may be written there, and nothing else
+-- entries may be recorded there, and they touch no bytes outside the frame's range
 abbrev pub TriesFrame : {R : Type 0} → Log → List ℕ → OverMemory R → OverMemory R → Type 0
 TriesFrame log entry before after = (files : Files) → IsFor before files → is_current (directory (inner_of before)) (log_place log) ≡ true →
     (entries : List Entry) × LieIn (log_end log) (length (frame entry)) entries × IsFor after (all_logged files (log_place log) entries)

@@ -14,10 +14,10 @@ use Rattle.blob_log.specs.Frames.{frame}
 pub data MayAppend (end : ℕ) (entry : List ℕ) (writes : ℕ → List ℕ → Bool → Allowed) : Option Refusal → Type 0 where
   -- four bytes don't hold the record's length
   TooLong : 2 ^ 32 ≤ length entry → MayAppend end entry writes (Some OffsetOverflow)
-  -- where its frame ends can't be counted
+  -- the end of its frame doesn't fit in 64 bits
   Uncounted : 2 ^ 64 ≤ end + length (frame entry) → MayAppend end entry writes (Some OffsetOverflow)
   NoMemory : MayAppend end entry writes (Some Memory)
-  -- the SYNC write of its frame was answered so
+  -- the SYNC write of its frame returned this
   Asked : (answer : Option Refusal) → writes end (frame entry) true answer → MayAppend end entry writes answer
 
 -- an open of the log's blob

@@ -28,7 +28,7 @@ may_write stream b w = allows_write (memory_handle.allows_write (inside b) (inne
 abbrev pub MayAppendTo : {R : Type 0} → (R → Stream) → Log → OverMemory R → List ℕ → Option Refusal → Type 0
 MayAppendTo stream log w entry = MayAppend (log_end log) entry (may_write stream (log_blob log) w)
 
--- an append that memory didn't refuse, by whether it was answered Ok
+-- an append that didn't run out of memory; `done` says whether it returned Ok
 pub record Appends {R : Type 0} (stream : R → Stream) (log : Log) (w : OverMemory R) (entry : List ℕ) (done : Bool) (log' : Log) (w' : OverMemory R) : Type 0 where
   pub answer : Option Refusal
   pub is : done ≡ is_none answer
@@ -38,7 +38,7 @@ pub record Appends {R : Type 0} (stream : R → Stream) (log : Log) (w : OverMem
   pub failed : done ≡ false → TriesFrame log entry w w'
   pub config : config_of w' ≡ config_of w
 
--- these records, one after the other, with these answers
+-- appends of these records, one after the other, with these results
 abbrev pub AppendsAll : {R : Type 0} → (R → Stream) → Log → OverMemory R → List (List ℕ) → List Bool → Log → OverMemory R → Type 0
 AppendsAll {R} stream log w [] [] log' w' = (log' ≡ log) × (w' ≡ w)
 AppendsAll {R} stream log w (entry ∷ entries) (done ∷ answers) log' w' =
@@ -54,13 +54,13 @@ pub record Recovers {R : Type 0} (w : OverMemory R) (p n : List ℕ) (log : Log)
   pub held : (files : Files) → IsFor w files → HoldsRecords log w' found
   pub config : config_of w' ≡ config_of w
 
--- a crash, by the rows that are drawn for the writes that it may lose
+-- a crash: it draws a row for each write that it may lose, and the rows decide what is left
 pub record Crashes {R : Type 0} (stream : R → Stream) (w w' : OverMemory R) : Type 0 where
   pub left : (files : Files) → IsFor w files → IsFor w' (after_crash files (chosen_by (drawn (stream (rng_of w)) (all_needs files.log)).0))
   pub drawn : (files : Files) → IsFor w files → stream (rng_of w') ≡ (drawn (stream (rng_of w)) (all_needs files.log)).1
   pub config : config_of w' ≡ config_of w
 
--- a session of an open log: its appends, a crash, and the recovery behind it
+-- a session of an open log: its appends, a crash, and the recovery after it
 pub record SessionRuns {R : Type 0} (stream : R → Stream) (p n : List ℕ) (log : Log) (w : OverMemory R) (answers : List Bool) (entries : List (List ℕ)) (log' : Log) (found : List (List ℕ)) (w' : OverMemory R) : Type 0 where
   pub last : Log
   pub written : OverMemory R

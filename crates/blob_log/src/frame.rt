@@ -41,7 +41,7 @@ fn number(bytes: &[u8]) -> u32
     u32::from_be_bytes([bytes[0], bytes[1], bytes[2], bytes[3]])
 }
 
-/// The record that the bytes begin with, where a whole frame is there and its checksum holds.
+/// Returns the record that the bytes begin with, if they begin with a complete frame with the right checksum.
 #[tactic(auto, using(std::proofs::lemmas::Bool::Decides::nat_tests), unfolding(crate::specs::Frames::length_told, crate::specs::Frames::sum_told))]
 pub fn first(bytes: &[u8]) -> Option<&[u8]>
     ensures { MatchOption result (is_frame bytes.now ≡ false) (λ entry. IsFirst bytes.now entry.now) }
@@ -56,7 +56,7 @@ pub fn first(bytes: &[u8]) -> Option<&[u8]>
     Some(entry)
 }
 
-/// The records that the bytes begin with, and where the last one's frame ends. Refused for memory alone.
+/// Returns the records that the bytes begin with, and the end of the last one's frame. Fails only if memory runs out.
 pub fn scan(alloc: Global, bytes: &[u8]) -> Result<(Vec<Vec<u8>>, usize), AllocError>
     ensures records { IfOk result (λ found. map (λ r. r.items) found.0.items ≡ scan bytes.now) }
     ensures end { IfOk result (λ found. found.1 ≡ length (frames (scan bytes.now))) }

@@ -1,4 +1,4 @@
-//! A log over the fault wrapper: every record whose append was answered Ok is found again after any crash.
+//! A log over the fault wrapper: every record for which an append returned Ok is found again after any crash.
 #![tactic(auto)]
 
 pub mod frame;

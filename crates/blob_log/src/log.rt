@@ -25,7 +25,7 @@ pub type Store<R> = blob_faulty::Storage<blob_memory::Storage, R>;
 /// The wrapper's handle of a log's blob.
 pub type Handle = blob_faulty::Blob<blob_memory::Blob>;
 
-/// An open log, and where its next frame goes.
+/// An open log, and the offset of its next frame.
 #[derive(Drop)]
 pub struct Log {
     alloc: Global,
@@ -34,13 +34,14 @@ pub struct Log {
 }
 
 impl Log {
-    /// Writes the record's frame behind those that the log holds, durable at once. Answered Ok, the log holds the record too.
+    /// Writes the record's frame after those that the log holds, with a SYNC write. If it returns Ok, the log holds the
+    /// record too.
     ///
     /// # Errors
     ///
-    /// `OffsetOverflow` where the record has 2^32 bytes or more or its frame's end can't be counted, `Memory`, and else what the
-    /// wrapper's SYNC write of the frame is refused for. The log holds what it held, and the next frame goes to the same place:
-    /// over whatever a failed write left there.
+    /// `OffsetOverflow` if the record has 2^32 bytes or more or the end of its frame doesn't fit in 64 bits, `Memory`,
+    /// and the errors of the wrapper's SYNC write of the frame. The log holds what it held, and the next frame goes to
+    /// the same offset, over whatever a failed write left there.
     pub fn append<R: Rng>(&mut self, store: &mut Store<R>, entry: &[u8]) -> Result<(), Error>
         ensures acknowledged { OnOk result (AddsRecords self.old store.old self.new store.new (entry.now ∷ [])) }
         ensures refused { OnErr result (StillHolds self.old store.old self.new store.new) }
@@ -67,12 +68,14 @@ impl Log {
         Ok(())
     }
 
-    /// Opens the log: the records that its blob begins with, up to the first frame that is cut short or whose checksum fails.
-    /// All records that were kept of it come first. The log holds what is answered, which no crash can take from it.
+    /// Opens the log and returns the records that its blob begins with, up to the first frame that is cut short or has
+    /// a wrong checksum. All records that were kept of it come first. The log holds what is returned, and no crash can
+    /// lose that.
     ///
     /// # Errors
     ///
-    /// What the wrapper's open is refused for, `Injected` where the draw of its read is true, and `Memory`. What was kept still is.
+    /// The errors of the wrapper's open, `Injected` if the draw of its read is true, and `Memory`. What was kept is
+    /// still kept.
     pub fn recover<R: Rng>(
         alloc: Global,
         store: &mut Store<R>,

@@ -11,12 +11,12 @@ use blob_faulty::Config;
 use rand_core::Rng;
 use std::alloc::{AllocError, Global};
 
-/// What a session of a log found when it opened it, and which of its appends were answered Ok.
+/// What a session of a log found when it opened the log, and which of its appends returned Ok.
 #[derive(Drop)]
 pub struct Session {
     /// The records that it found, in order.
     pub before: Vec<Vec<u8>>,
-    /// For each record that it appended, in order, whether that was answered Ok.
+    /// For each record that it was to append, in order, whether the append returned Ok.
     pub answers: Vec<bool>,
 }
 
@@ -51,9 +51,10 @@ fn append_all<R: Rng>(
     Ok(answers)
 }
 
-/// Opens the log and, for each list of records, appends them, crashes, and opens what is left. Of each session all that it
-/// found and all that was answered Ok, in order, is at the front of what is found in the end, whatever the wrapper's faults,
-/// its generator and what it held before. There is a session for each list, and an answer for each of its records.
+/// Opens the log and, for each list of records, appends them, crashes, and opens what is left. For each session, the
+/// records that it found, followed by those for which an append returned Ok, in order, are a prefix of what is found in
+/// the end, whatever the wrapper's faults, its generator and what it held before. Returns a session for each list, with
+/// a result for each of its records.
 ///
 /// # Errors
 ///
@@ -83,8 +84,9 @@ pub fn sessions_survive<R: Rng>(
     Ok((done, before))
 }
 
-/// Opens a log over a new store and, for each list of records, appends them, crashes, and opens what is left. Of each session
-/// all that it found and all that was answered Ok, in order, is at the front of what is found in the end.
+/// Opens a log over a new store and, for each list of records, appends them, crashes, and opens what is left. For each
+/// session, the records that it found, followed by those for which an append returned Ok, in order, are a prefix of
+/// what is found in the end.
 ///
 /// # Errors
 ///

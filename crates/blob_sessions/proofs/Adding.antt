@@ -1,4 +1,4 @@
--- What one more line makes of a preamble.
+-- What one more line does to a preamble.
 use Rattle.std.proofs.Common.{◌≡◌, ℕ, ◌+◌, ◌≤◌, List, [], ◌∷◌, ◌++◌, All, Some, None, true, ◌&&◌, if◌then◌else◌, is_none, option_and_then, Vec, String, string_bytes, length, refl, sym, ap, ◌∙◌, append_assoc, arith}
 use Rattle.std.proofs.lemmas.List.{length_push, map-append}
 use Rattle.std.proofs.lemmas.List.Elements.{All-push}

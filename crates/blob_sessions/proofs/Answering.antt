@@ -1,4 +1,4 @@
--- How a line is answered, by how its call is made and its reply told.
+-- The contract of a line, from those of making its call and of writing its reply.
 use Rattle.std.proofs.Common.{◌≡◌, ◌≢◌, ◌<◌, ℕ, List, Option, Some, None, IfSome, MatchOption, length, take, refl, sym, ap, ◌∙◌, subst, inl, inr, arith}
 use Rattle.blob_script.specs.declared.call.Call.{Call as LabCall}
 use Rattle.blob_lab_store.specs.declared.lab.Lab.{Lab}

@@ -33,7 +33,7 @@ puts_nothing at room = record {
   behind = λ h. refl;
 }
 
--- one text behind another
+-- one text after another
 pub puts_both : (at : ℕ) (a b old mid new : List ℕ) (m e : ℕ) → PutsTo at a old mid m → PutsTo m b mid new e → PutsTo at (a ++ b) old new e
 puts_both at a b old mid new m e p q =
     let sum = length-append a b in let pe = p.ends in let qe = q.ends in let pl = p.len in

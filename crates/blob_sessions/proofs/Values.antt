@@ -1,4 +1,4 @@
--- The machine values of a `Loose`, and what the calls on boxes ask of the type behind it. Assumes `Logic`.
+-- The machine values of a `Loose`, and what the calls on boxes require of the type that it points to. Assumes `Logic`.
 use Rattle.std.proofs.Common.{◌≡◌, ℕ, List, [], ◌∷◌, ◌++◌, refl, subst}
 use mathlib.Core.Bool.{◌&&◌, true, false≢true}
 use lib.Dec.{T}

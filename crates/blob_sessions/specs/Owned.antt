@@ -1,4 +1,4 @@
--- What a `Loose` owns: the box at its pointer, where there is one.
+-- What a `Loose` owns: the box at its pointer, if it has one.
 use mir.Syntax.{Ty}
 use base.Fml.{Fml, ftrue}
 use denote.RattleType.{RattleType}

@@ -1,7 +1,7 @@
 -- A text in a caller's buffer.
 use Rattle.std.specs.Prelude.{◌≡◌, ◌+◌, ◌^◌, ◌≤◌, ◌++◌, ℕ, List, Option, MatchOption, length, take, drop}
 
--- if the buffer is long enough, the text stands in it from an index up to `end`. The other bytes stay
+-- if the buffer is long enough, it has the text from the index `at` up to `end`. The other bytes don't change
 pub record PutsTo (at : ℕ) (text old new : List ℕ) (end : ℕ) : Type 0 where
   pub ends : end ≡ at + length text
   pub len : length new ≡ length old

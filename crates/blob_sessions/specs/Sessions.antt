@@ -16,7 +16,7 @@ use Rattle.blob_sessions.specs.declared.session.Session.{Session}
 use Rattle.blob_sessions.specs.declared.ran.Ran.{Ran}
 use Rattle.blob_sessions.specs.declared.ran.TheConstants.{DONE, BAD_LINE, NO_MEMORY, NO_ROOM, CLOSED, OTHER_REPLY, UNPRINTED}
 
--- A laboratory with what is beside it.
+-- A laboratory with its settings, the last reply and the registry.
 
 -- a call was made, and its reply is kept
 pub record Makes (k : Kept) (act : Act) (reply : Reply) (k' : Kept) : Type 0 where
@@ -37,15 +37,15 @@ Calls k line k' P = (act : Act) × (reply : Reply) × SaysCall k.config line act
 abbrev pub PrintsReply : Kept → List ℕ → Kept → List ℕ → Type 0
 PrintsReply k line k' printed = Calls k line k' (λ reply. printed ≡ reply_line reply) ⊎ ((line_of line ≡ Some Blank) × (k' ≡ k) × (printed ≡ []))
 
--- a reply whose line has a length that doesn't fit in 64 bits
+-- the length of this reply's line doesn't fit in 64 bits
 abbrev pub IsTooLong : Reply → Type 0
 IsTooLong reply = 2 ^ 64 ≤ length (reply_line reply)
 
--- behind a call it is no line of a script
+-- no script that has calls can continue with this line
 abbrev pub IsNoCall : List ℕ → Type 0
 IsNoCall line = (s : Script) → s.calls ≢ [] → with_line s line ≡ None
 
--- Each call by the status that it ends with. Where no call was made, nothing has changed.
+-- Each call, by the status that it returns. If no call was made, nothing has changed.
 
 -- a line
 pub record RunsLine (k k' : Kept) (line : List ℕ) (ran : Ran) (old new : List ℕ) : Type 0 where
@@ -56,10 +56,10 @@ pub record RunsLine (k k' : Kept) (line : List ℕ) (ran : Ran) (old new : List 
   pub no_memory : ran.status ≡ NO_MEMORY → k' ≡ k
   pub status : (ran.status ≡ DONE) ⊎ (ran.status ≡ NO_ROOM) ⊎ (ran.status ≡ UNPRINTED) ⊎ (ran.status ≡ BAD_LINE) ⊎ (ran.status ≡ NO_MEMORY)
   pub no_reply : (ran.status ≡ DONE) ⊎ (ran.status ≡ NO_ROOM) ⊎ (ran.len ≡ 0)
-  -- a length beyond the room is told where room is wanted, and nowhere else
+  -- `len` is larger than the buffer only with `NO_ROOM`
   pub within : (ran.status ≡ NO_ROOM) ⊎ (ran.len ≤ length old)
   pub unwritten : (ran.status ≡ DONE) ⊎ (new ≡ old)
-  -- behind the reply the caller's room is as it was
+  -- the bytes of the buffer after the reply don't change
   pub behind : drop ran.len new ≡ drop ran.len old
 
 -- the last reply once more; of no call yet it has no bytes
@@ -69,10 +69,10 @@ pub record TellsAgain (k k' : Kept) (ran : Ran) (old new : List ℕ) : Type 0 wh
   pub unprinted : ran.status ≡ UNPRINTED → IfSome k.last IsTooLong
   pub status : (ran.status ≡ DONE) ⊎ (ran.status ≡ NO_ROOM) ⊎ (ran.status ≡ UNPRINTED)
   pub no_reply : (ran.status ≡ DONE) ⊎ (ran.status ≡ NO_ROOM) ⊎ (ran.len ≡ 0)
-  -- a length beyond the room is told where room is wanted, and nowhere else
+  -- `len` is larger than the buffer only with `NO_ROOM`
   pub within : (ran.status ≡ NO_ROOM) ⊎ (ran.len ≤ length old)
   pub unwritten : (ran.status ≡ DONE) ⊎ (new ≡ old)
-  -- behind the reply the caller's room is as it was
+  -- the bytes of the buffer after the reply don't change
   pub behind : drop ran.len new ≡ drop ran.len old
   pub same : k' ≡ k
 
@@ -84,7 +84,7 @@ pub record AnswersWrite (k k' : Kept) (handle offset : ℕ) (bytes : List ℕ) (
   pub config : k'.config ≡ k.config
   pub known : (status ≡ DONE) ⊎ (status ≡ OTHER_REPLY) ⊎ (status ≡ NO_MEMORY)
 
--- a reply with these bytes, or with so many
+-- a reply with these bytes, or with this number of bytes
 abbrev pub RepliesBytes : Reply → List ℕ → Type 0
 RepliesBytes (replies.Bytes found) bytes = found.items ≡ bytes
 RepliesBytes reply bytes = ⊥
@@ -93,7 +93,7 @@ abbrev pub HasLength : Reply → ℕ → Type 0
 HasLength (replies.Bytes found) len = length found.items ≡ len
 HasLength reply len = ⊥
 
--- a read, which asks for as many bytes as there is room for
+-- a read of as many bytes as the buffer has
 pub record AnswersRead (k k' : Kept) (handle offset : ℕ) (status : ℕ) (old new : List ℕ) : Type 0 where
   pub done : status ≡ DONE → (reply : Reply) × Makes k (Through handle (Read offset (length old))) reply k' × RepliesBytes reply new
   pub other : status ≡ OTHER_REPLY → (reply : Reply) × Makes k (Through handle (Read offset (length old))) reply k' × (HasLength reply (length old) → ⊥) × (new ≡ old)
@@ -121,7 +121,7 @@ OnHeld None None Open Closed = Closed
 OnHeld (Some k) (Some k') Open Closed = Open k k'
 OnHeld old new Open Closed = ⊥
 
--- a read through a session; a closed one is told to be, and fills nothing
+-- a read through a session; if the session is closed, the status says so and the buffer doesn't change
 abbrev pub ReadsInto : Session → Session → ℕ → ℕ → ℕ → List ℕ → List ℕ → Type 0
 ReadsInto before after handle offset status old new =
     OnHeld (kept_of before) (kept_of after) (λ k k'. AnswersRead k k' handle offset status old new) ((status ≡ CLOSED) × (new ≡ old))

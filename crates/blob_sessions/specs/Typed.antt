@@ -17,7 +17,7 @@ use Rattle.blob_sessions.specs.declared.typed.TypedReply.{TypedReply}
 abbrev pub typed_versions : TypedCall → Option (Option AcceptedVersions)
 typed_versions asked = if nat_lt asked.first 65536 && nat_lt asked.last 65536 then Some (accepted_versions false asked.first asked.last) else None
 
--- the call beside a kind
+-- the call in the row of this kind
 abbrev pub by_kind : ℕ → List (ℕ × Option Act) → Option Act
 by_kind kind [] = None
 by_kind kind (row ∷ rows) = if kind == row.0 then row.1 else by_kind kind rows

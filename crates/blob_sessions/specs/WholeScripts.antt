@@ -7,6 +7,6 @@ abbrev pub RunPrints : List ℕ → ℕ → List ℕ → Type 0
 RunPrints script line printed =
     ((line ≡ 0) × Prints (script_of (lines_of script)) (Some []) (Some printed)) ⊎ PrintsBeforeLine line script (Some []) (Some printed)
 
--- so many bytes
+-- the run prints `len` bytes
 abbrev pub WantsRoom : List ℕ → ℕ → ℕ → Type 0
 WantsRoom script line len = (printed : List ℕ) × RunPrints script line printed × (length printed ≡ len)

@@ -1,4 +1,4 @@
-// A laboratory with what its lines need beside it.
+// A laboratory with what else its lines need.
 ghost use Rattle.std.specs.Prelude.{◌≡◌, Some, None, IfSome, IfNone, IfOk, OnErr};
 ghost use Rattle.blob_script.specs.Acts.{act_of};
 ghost use Rattle.blob_script.specs.Lines.{Blank, line_of};
@@ -68,7 +68,8 @@ impl Kept {
         self.debts.apply(alloc, asked, partition, name)
     }
 
-    /// Makes the call that a line says, and prints its reply. A line that says nothing is answered with nothing.
+    /// Makes the call of a line, and prints its reply. For an empty line or a comment it makes no call and prints
+    /// nothing.
     pub fn call(&mut self, alloc: Global, line: &[u8], reply: &mut [u8]) -> Ran
         ensures { RunsLine self.old self.new line.now result reply.old reply.new }
     {
@@ -161,7 +162,7 @@ impl Kept {
         }
     }
 
-    /// Reads as many bytes through a handle as there is room for.
+    /// Reads as many bytes through a handle as `into` has.
     pub fn read(&mut self, handle: usize, offset: u64, into: &mut [u8]) -> u32
         ensures { AnswersRead self.old self.new handle offset result into.old into.new }
     {
@@ -200,7 +201,7 @@ impl Kept {
         }
     }
 
-    /// Reads a line; none where it is empty or a comment.
+    /// Reads the call of a line. Returns `None` if the line is empty or a comment.
     fn read_call(&mut self, alloc: Global, line: &[u8]) -> Result<Option<Call>, RefusedLine>
         ensures call { IfOk result (λ read. IfSome read (λ call. SaysCall self.old.config line.now (act_of call) self.new.config)) }
         ensures blank { IfOk result (λ read. IfNone read (line_of line.now ≡ Some Blank)) }
@@ -217,7 +218,7 @@ impl Kept {
         }
     }
 
-    /// Makes a call, whose reply is kept.
+    /// Makes a call, and keeps its reply.
     fn make(&mut self, call: &Call)
         ensures made { (reply : Reply) × Makes self.old (act_of call.now) reply self.new }
         ensures config { self.new.config ≡ self.old.config }

@@ -2,7 +2,7 @@
 
 /// Opens a blob exclusively: partition, name, and the `first` and `last` version that are accepted.
 pub const OPEN: u32 = 0;
-/// Opens a blob beside other handles: partition, name, and the `first` and `last` version that are accepted.
+/// Opens a blob that may have other handles: partition, name, and the `first` and `last` version that are accepted.
 pub const OPEN_LOOSE: u32 = 1;
 /// Drops what is pending of a blob: partition and name.
 pub const ADMIT: u32 = 2;

@@ -9,7 +9,7 @@ use crate::kept::Kept;
 use std::alloc::Global;
 use std::marker::Model;
 
-/// What lies behind the pointer is not C's.
+/// An opaque type: C doesn't access what the pointer points to.
 #[repr(C)]
 pub struct Opaque {
     byte: u8,

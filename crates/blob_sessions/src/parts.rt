@@ -6,7 +6,7 @@ use crate::kept::Kept;
 use crate::ran::{DONE, NO_ROOM, OTHER_REPLY, Ran};
 use blob_lab::Reply;
 
-/// Where a crash kept bytes of one write.
+/// A run of bytes that a crash kept of one write.
 #[repr(C)]
 #[derive(Clone, Copy)]
 pub struct KeptRun {

@@ -26,7 +26,7 @@ pub struct Preamble {
 
 /// Why a text opens no session.
 pub enum RefusedPreamble {
-    /// This line, counted from 1, may not stand there.
+    /// This line, counted from 1, isn't allowed after those before it.
     BadLine(u64),
     NoMemory,
 }
@@ -138,7 +138,7 @@ fn read(alloc: Global, text: &[u8]) -> Result<Preamble, RefusedPreamble>
     Ok(preamble)
 }
 
-/// What stands before the first line feed, and what behind it; nothing of no bytes.
+/// Returns the first line, without its line feed, and the text after it. Returns `None` if the text is empty.
 fn first_line(text: &[u8]) -> Option<(&[u8], &[u8])>
     ensures line { IfSome result (λ parts. lines_of text.now ≡ parts.0.now ∷ lines_of parts.1.now) }
     ensures shorter { IfSome result (λ parts. length parts.1.now < length text.now) }

@@ -1,11 +1,11 @@
-// What an exported call answers. C can't be handed an enum, so that a status is a number with a name.
+// What an exported call returns. An enum can't be passed to C, so a status is a number with a name.
 ghost use Rattle.std.specs.Prelude.{◌≡◌};
 
-/// The call is done; `len` bytes of its reply stand in the caller's room.
+/// The call is done; the first `len` bytes of the caller's buffer are its reply.
 pub const DONE: u32 = 0;
 /// A script has more lines than can be counted, or a seed gives words without end.
 pub const ENDLESS: u32 = 1;
-/// A line isn't a call, or may not stand there: no call was made.
+/// A line isn't a call, or isn't allowed after those before it: no call was made.
 pub const BAD_LINE: u32 = 2;
 /// No memory could be had: no call was made.
 pub const NO_MEMORY: u32 = 3;
@@ -26,7 +26,7 @@ pub const BAD_CALL: u32 = 8;
 pub struct Ran {
     /// One of the statuses above.
     pub status: u32,
-    /// In bytes; with `NO_ROOM` the room that is wanted.
+    /// In bytes; with `NO_ROOM` the capacity that is needed.
     pub len: usize,
 }
 
@@ -36,7 +36,7 @@ pub struct Ran {
 pub struct ScriptRan {
     /// One of the statuses above.
     pub status: u32,
-    /// In bytes; with `NO_ROOM` the room that is wanted.
+    /// In bytes; with `NO_ROOM` the capacity that is needed.
     pub len: usize,
     /// With `BAD_LINE` the line's number, and with `NO_ROOM` that of the bad line before which the run stops; else 0.
     pub line: u64,

@@ -1,4 +1,4 @@
-// A whole script at once.
+// A whole script in one call.
 ghost use Rattle.std.specs.Prelude.{◌≡◌, ◌⊎◌, ◌<◌, ◌≤◌, ℕ, Some, [], take, drop, length};
 ghost use Rattle.blob_lab.specs.Scripts.{Prints, PrintsBeforeLine, lines_of, script_of};
 ghost use Rattle.blob_sessions.specs.WholeScripts.{WantsRoom};
@@ -7,7 +7,8 @@ use crate::ran::{BAD_LINE, DONE, ENDLESS, NO_MEMORY, NO_ROOM, ScriptRan};
 use blob_lab::{Ending, Input, Output, serve_script};
 use std::alloc::Global;
 
-/// Runs a script, and copies what it prints where there is room for it. Where there is none, `len` says how much is wanted.
+/// Runs a script, and copies what it prints to the start of `replies`, if it fits. If not, `len` is the capacity that
+/// is needed.
 pub fn run(alloc: Global, script: &[u8], replies: &mut [u8]) -> ScriptRan
     ensures done { result.status ≡ DONE → Prints (script_of (lines_of script.now)) (Some []) (Some (take result.len replies.new)) }
     ensures bad_line { result.status ≡ BAD_LINE → PrintsBeforeLine result.line script.now (Some []) (Some (take result.len replies.new)) }
@@ -25,7 +26,7 @@ pub fn run(alloc: Global, script: &[u8], replies: &mut [u8]) -> ScriptRan
         Ending::Done => (DONE, 0),
         Ending::BadCall(line) => (BAD_LINE, line),
         Ending::InputFailed => return ScriptRan::stopped(ENDLESS),
-        // A list is a writer that fails for want of memory alone.
+        // A list is a writer that fails only if memory runs out.
         _ => return ScriptRan::stopped(NO_MEMORY),
     };
     let len = printed.len();

@@ -90,7 +90,7 @@ returns-clause-ran g c =
           (take_all c.loop-entries.entries-index asked (omega (arith, c.loop-entries-test.false))) c.loop-entries.invariant.ran,
     )
 
--- Why it is answered so.
+-- Why the call may return this result.
 
 pub returns-in_err-log-clause-answer : goal.returns-in_err-log-clause-answer
 returns-in_err-log-clause-answer g c =

@@ -103,7 +103,7 @@ returns-in_err-write_at-clause-config g c = c.in_err-write_at.ensures.leaves.con
 pub returns-clause-config : goal.returns-clause-config
 returns-clause-config g c = c.in_ok-write_at.ensures.leaves.config
 
--- Why it is answered so.
+-- Why the call may return this result.
 
 pub returns-then-entry-clause-answer : goal.returns-then-entry-clause-answer
 returns-then-entry-clause-answer g c = TooLong (omega (arith, c.if-entry.true))

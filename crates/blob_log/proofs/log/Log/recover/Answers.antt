@@ -35,7 +35,7 @@ returns-clause-held g c = λ files stands.
       end = s.end;
     })
 
--- What is left of the files.
+-- The files after the call.
 
 at_err : {T E : Type 0} (r : Result T E) (Q : Type 0) → Q → OnErr r Q
 at_err (Ok x) Q q = tt
@@ -71,7 +71,7 @@ returns-in_err-records-clause-config g c = c.in_ok-read_into.ensures.leaves.unre
 pub returns-clause-config : goal.returns-clause-config
 returns-clause-config g c = c.in_ok-read_into.ensures.leaves.unrecorded.numbers.config ∙ c.in_ok-blob.ensures.answer.leaves.numbers.config
 
--- Why it is answered so.
+-- Why the call may return this result.
 
 pub returns-in_err-blob-clause-answer : goal.returns-in_err-blob-clause-answer
 returns-in_err-blob-clause-answer g c =
