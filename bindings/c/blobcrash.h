@@ -7,16 +7,16 @@
  *
  * Duties of a caller
  *
- * - Pointers. A pointer with a length `len` is to `len` bytes. No one else changes them during the call, and those that the
- *   call writes overlap no other argument. With the length 0 the pointer isn't used, and must still not be NULL. A session's
- *   pointer is to a session of the caller's own.
- * - Sessions. A session of all zeros is closed: `struct blobcrash_session s = {0};`. Its fields belong to the library: a
- *   caller reads and writes neither. An open session may be moved, but then only the new place is used; it is never copied to
- *   be used twice. Close each session, or its memory leaks.
- * - One at a time. A session is given to one call at a time. It may move from one thread to another if the calls are
- *   ordered, as by a lock or a join: the library has no state of its own, per thread or otherwise, and calls only `malloc`,
- *   `realloc`, `free` and the `mem` functions. Different sessions share nothing. No function is called from a signal handler,
- *   nor in the child of a `fork` of a process that has threads.
+ * - Pointers. A pointer with a length `len` points to `len` bytes. No one else changes them during the call, and bytes that
+ *   the call writes overlap no other argument. If the length is 0, the pointer isn't used, but must not be NULL. A session's
+ *   pointer points to a session that the caller owns.
+ * - Sessions. A session of all zeros is closed: `struct blobcrash_session s = {0};`. Its fields belong to the library: don't
+ *   read or write them. An open session may be moved; after that use only its new address, never two copies. Close each
+ *   session, or its memory leaks.
+ * - One at a time. Pass a session to one call at a time. It may move from one thread to another if the calls are ordered,
+ *   for example by a lock or a join: the library has no global or thread-local state, and calls only `malloc`, `realloc`,
+ *   `free` and the `mem` functions. Different sessions share nothing. Call no function in a signal handler, nor in the child
+ *   of a `fork` of a process that has threads.
  * - Memory. The program's `malloc`, `realloc` and `free` come from one allocator, which aligns a block to each power of two up
  *   to 16 that divides its size.
  *
@@ -34,13 +34,13 @@
 extern "C" {
 #endif
 
-/* How a call ended. A storage call that was refused is DONE: its reply says so, as `error Injected`. */
+/* How a call ended. A storage call that was refused is DONE: its reply says so, for example `error Injected`. */
 enum blobcrash_status {
     /* Done; `len` bytes of the reply were written. */
     BLOBCRASH_DONE = 0,
     /* A script has more than 2^64 - 1 lines, and its replies are lost. Or a seed gives an unlimited number of words. */
     BLOBCRASH_ENDLESS = 1,
-    /* A line is no call, or isn't allowed at this point. No call was made. */
+    /* A line isn't a call, or isn't allowed at this point. No call was made. */
     BLOBCRASH_BAD_LINE = 2,
     /* The library can't allocate. No call was made. */
     BLOBCRASH_NO_MEMORY = 3,
@@ -48,7 +48,7 @@ enum blobcrash_status {
     BLOBCRASH_NO_ROOM = 4,
     /* The session is closed. No call was made. */
     BLOBCRASH_CLOSED = 5,
-    /* The call was made, and has a reply of another kind, as an error. The reply is kept. */
+    /* The call was made, and has a reply of another kind, for example an error. The reply is kept. */
     BLOBCRASH_OTHER_REPLY = 6,
     /* The call was made. The length of its reply doesn't fit in 64 bits. The reply is kept. */
     BLOBCRASH_UNPRINTED = 7,
@@ -95,7 +95,7 @@ enum blobcrash_kind {
     BLOBCRASH_REOPEN = 13
 };
 
-/* Why a header is refused: the first test that it fails. */
+/* Why a header is refused: the first check that it fails. */
 enum blobcrash_header_refusal {
     BLOBCRASH_H_INVALID_MAGIC = 48,              /* the first four bytes are no layout's magic */
     BLOBCRASH_H_UNSUPPORTED_LAYOUT_VERSION = 49, /* the layout version isn't the magic's: `version` has it */
@@ -203,9 +203,9 @@ struct blobcrash_debt_call {
 struct blobcrash_debt_reply {
     /* DONE, a refusal, or another status if no call was made. */
     uint32_t status;
-    /* Whether a name owes, a release gave a token, a predecessor has settled or anything is kept of a name. */
+    /* Whether a name has debt, a release gave a token, a predecessor has settled or anything is kept of a name. */
     bool flag;
-    /* Whether an admitted open has a predecessor that hasn't settled, which `predecessor` is. */
+    /* Whether an admitted open has a predecessor that hasn't settled. `predecessor` is its number. */
     bool has_predecessor;
     /* The number of an admitted open, or of a release's token. */
     size_t number;
@@ -230,8 +230,8 @@ struct blobcrash_ran blobcrash_call(struct blobcrash_session *session, const uin
                                     size_t reply_room);
 
 /*
- * Writes the reply to the last call to the start of `reply`. It may be called any number of times, so a caller whose buffer
- * was too short can try a larger one. If no call was made yet the reply has no bytes.
+ * Writes the reply to the last call to the start of `reply`. It may be called any number of times, so if the buffer was too
+ * short, the caller can try a larger one. If no call was made yet, the reply is empty.
  *
  * DONE; NO_ROOM with the capacity that is needed; UNPRINTED; CLOSED. None changes anything.
  */
@@ -328,10 +328,10 @@ struct blobcrash_ran blobcrash_words_left(struct blobcrash_session *session);
 uint32_t blobcrash_push_words(struct blobcrash_session *session, const uint64_t *words, size_t count);
 
 /*
- * Makes a call of the registry of durability debt, which a session has as well as its store: the store doesn't change. The registry knows
- * the latest open of each name, and what closed opens left: work that isn't done, debt, and failures. An open is admitted, and at its
- * end released and closed; its token is settled when its work is done. Opens, tokens and predecessors have numbers from 0 on, and no
- * number is given twice. What each call returns: `crates/blob_debt/src/pending.rt`.
+ * Makes a call of the registry of durability debt, which each session has next to its store. The store doesn't change. The
+ * registry knows the latest open of each name, and what closed opens left: work that isn't done, debt, and failures. An open
+ * is admitted, and at its end released and closed; its token is settled when its work is done. Opens, tokens and predecessors
+ * are numbered from 0; no number is reused. What each call returns: `crates/blob_debt/src/pending.rt`.
  *
  * DONE; E_BLOB_ALREADY_OPEN if the name's open isn't closed; a failure that was kept; E_NO_HANDLE if nothing has the number;
  * E_GENERATIONS_EXHAUSTED and E_MEMORY; BAD_CALL if the kind is unknown, the failure has texts or the partition isn't UTF-8;
@@ -350,12 +350,12 @@ struct blobcrash_debt_reply blobcrash_debt(struct blobcrash_session *session, co
 struct blobcrash_header blobcrash_parse_header(const uint8_t *raw, size_t len, uint64_t raw_len, const struct blobcrash_accepts *accepts);
 
 /*
- * Returns whether an interrupted creation in this layout, 0 or 1, may have left these bytes of a whole blob. No bytes of layout 0 or
- * of a layout that doesn't exist are.
+ * Returns whether an interrupted creation in this layout, 0 or 1, may have left these bytes of a whole blob. Always false for
+ * layout 0 and for a layout that doesn't exist.
  */
 bool blobcrash_interrupted_creation(uint16_t layout, const uint8_t *raw, size_t len);
 
-/* Closes a session, and frees its store. A closed one stays closed. */
+/* Closes a session and frees its store. A closed one stays closed. */
 void blobcrash_close(struct blobcrash_session *session);
 
 /*

@@ -1,7 +1,7 @@
 /*
  * Typed calls: a function for each call of a session, over blobcrash.h.
  *
- * Each returns BLOBCRASH_DONE; a refusal, as BLOBCRASH_E_INJECTED, of which blobcrash_reply prints the texts; or CLOSED, NO_MEMORY,
+ * Each returns BLOBCRASH_DONE; a refusal such as BLOBCRASH_E_INJECTED, with texts that blobcrash_reply prints; or CLOSED, NO_MEMORY,
  * BAD_CALL or BAD_LINE, and then no call was made. An out-parameter is written only if the call is DONE, and may be NULL. So may
  * a pointer to no bytes. What each call does: docs/BEHAVIOUR.md.
  *
@@ -11,7 +11,7 @@
  *
  * It gets each call that these functions make, once it was made, as a line of a script, without a line feed. The session's
  * preamble and then these lines are a script with the same replies, except that a partition that isn't a valid name is `!`.
- * `line` is NULL if there was no memory for it: the script then lacks a call.
+ * `line` is NULL if it couldn't be allocated: the script then lacks a call.
  */
 #ifndef BLOBCRASH_CALLS_H
 #define BLOBCRASH_CALLS_H
@@ -47,7 +47,7 @@ static inline struct blobcrash_typed_reply blobcrash_make(struct blobcrash_sessi
     return reply;
 }
 
-/* A call of a handle or a started sync by its number alone. */
+/* A call of a handle or a started sync that takes only its number. */
 static inline struct blobcrash_typed_reply blobcrash_by_number(struct blobcrash_session *session, const char *form, uint32_t kind,
                                                                size_t number) {
     return blobcrash_make(session, form, kind, number, 0, 0, NULL, 0, NULL, 0);
@@ -62,7 +62,7 @@ static inline uint32_t blobcrash_opened(struct blobcrash_typed_reply reply, size
     return reply.status;
 }
 
-/* Opens a blob of version 0, or creates it. Its name isn't open otherwise. What is pending of it is dropped. */
+/* Opens a blob of version 0, or creates it. Its name must not be open. Discards what is pending of it. */
 static inline uint32_t blobcrash_open_blob(struct blobcrash_session *session, const char *partition, size_t partition_len, const void *name,
                                            size_t name_len, size_t *handle, uint64_t *size) {
     return blobcrash_opened(blobcrash_make(session, "open PB", BLOBCRASH_OPEN, 0, 0, 0, partition, partition_len, name, name_len),
@@ -77,7 +77,7 @@ static inline uint32_t blobcrash_open_versioned(struct blobcrash_session *sessio
                             handle, size, version);
 }
 
-/* Opens a blob although its name may be open, and drops nothing that is pending. */
+/* Opens a blob, even if its name is open. Discards nothing that is pending. */
 static inline uint32_t blobcrash_open_loose(struct blobcrash_session *session, const char *partition, size_t partition_len,
                                             const void *name, size_t name_len, uint16_t first, uint16_t last, size_t *handle,
                                             uint64_t *size, uint16_t *version) {
@@ -86,7 +86,7 @@ static inline uint32_t blobcrash_open_loose(struct blobcrash_session *session, c
                             handle, size, version);
 }
 
-/* Drops what is pending of a blob. */
+/* Discards what is pending of a blob. */
 static inline uint32_t blobcrash_admit(struct blobcrash_session *session, const char *partition, size_t partition_len, const void *name,
                                        size_t name_len) {
     return blobcrash_make(session, "admit PB", BLOBCRASH_ADMIT, 0, 0, 0, partition, partition_len, name, name_len).status;
@@ -128,7 +128,7 @@ static inline uint32_t blobcrash_write_at_sync(struct blobcrash_session *session
     return blobcrash_moved(session, status, "writes NFB", handle, offset, bytes, len);
 }
 
-/* Cuts a blob to `len` bytes, or extends it with zeros. */
+/* Truncates a blob to `len` bytes, or extends it with zeros. */
 static inline uint32_t blobcrash_resize(struct blobcrash_session *session, size_t handle, uint64_t len) {
     return blobcrash_make(session, "resize NF", BLOBCRASH_RESIZE, handle, len, 0, NULL, 0, NULL, 0).status;
 }
@@ -139,7 +139,7 @@ static inline uint32_t blobcrash_size(struct blobcrash_session *session, size_t 
     return blobcrash_opened(reply, NULL, size, NULL);
 }
 
-/* Reads at most `len` bytes: those from `offset` on that the blob has, which are `found`. Two calls, `size` and `read`. */
+/* Reads at most `len` bytes: those from `offset` on that the blob has. `found` is their number. Two calls, `size` and `read`. */
 static inline uint32_t blobcrash_read_some(struct blobcrash_session *session, size_t handle, uint64_t offset, void *into, size_t len,
                                            size_t *found) {
     uint64_t size = 0;
@@ -157,7 +157,7 @@ static inline uint32_t blobcrash_sync(struct blobcrash_session *session, size_t 
     return blobcrash_by_number(session, "sync N", BLOBCRASH_SYNC, handle).status;
 }
 
-/* Starts a sync, and returns its number for blobcrash_finish, which returns its outcome. */
+/* Starts a sync. Returns its number; blobcrash_finish with that number returns its outcome. */
 static inline uint32_t blobcrash_start_sync(struct blobcrash_session *session, size_t handle, size_t *number) {
     struct blobcrash_typed_reply reply = blobcrash_by_number(session, "startsync N", BLOBCRASH_START_SYNC, handle);
     return blobcrash_opened(reply, number, NULL, NULL);
@@ -186,7 +186,7 @@ static inline uint32_t blobcrash_scan(struct blobcrash_session *session, const c
     return reply.status;
 }
 
-/* Returns whether there is a blob of this name, by a scan. DONE too if its partition doesn't exist. */
+/* Returns whether a blob of this name exists, by a scan. DONE too if its partition doesn't exist. */
 static inline uint32_t blobcrash_exists(struct blobcrash_session *session, const char *partition, size_t partition_len, const void *name,
                                         size_t name_len, bool *exists) {
     uint32_t status = blobcrash_scan(session, partition, partition_len, NULL);
@@ -197,7 +197,7 @@ static inline uint32_t blobcrash_exists(struct blobcrash_session *session, const
     return status;
 }
 
-/* Crashes, and returns for how many pending writes it drew. Until the next call blobcrash_kept_run returns what it kept of each. */
+/* Crashes. Returns for how many pending writes it drew. Until the next call blobcrash_kept_run returns what it kept of each. */
 static inline uint32_t blobcrash_crash(struct blobcrash_session *session, size_t *writes) {
     struct blobcrash_typed_reply reply = blobcrash_by_number(session, "crash", BLOBCRASH_CRASH, 0);
     if (reply.status == BLOBCRASH_DONE && writes != NULL) *writes = (size_t)reply.size;
@@ -209,8 +209,8 @@ static inline uint32_t blobcrash_reopen(struct blobcrash_session *session) {
     return blobcrash_by_number(session, "reopen", BLOBCRASH_REOPEN, 0).status;
 }
 
-/* Makes the call of a line, as `config write 1 8`. Returns its refusal, as the others; BAD_LINE too if it has a line feed. A comment and an
- * empty line are DONE, and make no call. */
+/* Makes the call of a line, for example `config sync 1 8`. Returns its refusal, like the other functions, or BAD_LINE if it has a line
+ * feed. A comment and an empty line are DONE, and make no call. */
 static inline uint32_t blobcrash_line(struct blobcrash_session *session, const char *line) {
     uint8_t none;
     size_t len = strlen(line);

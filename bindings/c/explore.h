@@ -1,5 +1,5 @@
 /*
- * Every outcome of a run, from C: a header of its own, over blobcrash.h and the standard library.
+ * Every outcome of a run, from C: a separate header, over blobcrash.h and the standard library.
  *
  * Each draw of a rate between 0 and 1 takes one word: 0 makes it true, the greatest one false. So the outcomes of a deterministic run form
  * a binary tree. Its paths are visited depth first, true before false:
@@ -9,7 +9,7 @@
  *     while (blobcrash_next_run(&paths, &session, settings) == BLOBCRASH_EXPLORE_RUN) {
  *         ... calls of the session, the same ones for the same replies ...
  *         if (blobcrash_end_run(&paths, &session) == BLOBCRASH_EXPLORE_RUN) {
- *             ... the run counts: check what it came to ...
+ *             ... the run counts: check its result ...
  *         }
  *     }
  *     blobcrash_free_paths(&paths);
@@ -43,13 +43,13 @@ enum { BLOBCRASH_POWER_LOSS = 255 };
 /* The choices of a path. The lowest bit is set in the second branch of each, so that the power stays on before it fails. */
 enum { BLOBCRASH_TRUE = 0, BLOBCRASH_FALSE = 1, BLOBCRASH_POWER_STAYS = 2, BLOBCRASH_POWER_FAILS = 3 };
 
-/* The path of a run. Begins as zeros. */
+/* The path of a run. Set all of it to zeros at first. */
 struct blobcrash_paths {
     uint8_t *path;          /* its choices */
     size_t len;
     size_t room;            /* how many zeros are given after the path */
     uint64_t runs;          /* how many runs counted */
-    bool has_ended;         /* the run of the path counts, and the next one goes on */
+    bool has_ended;         /* the run of the path counts, and the next one takes the next path */
     bool is_over;
     unsigned power_losses;  /* at most how often the power fails in a run. Set it before the first run */
     FILE *script;           /* gets the lines of explored calls, or is NULL */
@@ -176,7 +176,7 @@ static inline int blobcrash_end_run(struct blobcrash_paths *paths, struct blobcr
     return BLOBCRASH_EXPLORE_RUN;
 }
 
-/* Makes the next run the one again that counted last. Its explored calls are printed to `script`, which may be NULL, as a script that
+/* Makes the next run repeat the one that counted last. Its explored calls are printed to `script`, which may be NULL, as a script that
  * makes the same calls: `blobcrash explain` and `tools/crash_page` show it. */
 static inline void blobcrash_repeat_run(struct blobcrash_paths *paths, FILE *script) {
     paths->runs -= paths->has_ended;
@@ -184,7 +184,7 @@ static inline void blobcrash_repeat_run(struct blobcrash_paths *paths, FILE *scr
     paths->script = script;
 }
 
-/* Gives the memory of the path back. */
+/* Frees the memory of the path. */
 static inline void blobcrash_free_paths(struct blobcrash_paths *paths) {
     free(paths->path);
     *paths = (struct blobcrash_paths){0};

@@ -3,7 +3,7 @@
  *
  * With `paths.power_losses` the power may fail at each call that may change what a crash leaves. This call and all later ones aren't made
  * and return BLOBCRASH_POWER_LOSS, until the store has crashed and reopened. A run counts the calls that these functions make. Before any
- * other call of the session ask blobcrash_power_fails.
+ * other call of the session, call blobcrash_power_fails.
  */
 #ifndef BLOBCRASH_POWER_H
 #define BLOBCRASH_POWER_H
@@ -26,7 +26,7 @@ static inline bool blobcrash_was_made(uint32_t status) {
     return status == BLOBCRASH_DONE || status == BLOBCRASH_NO_ROOM || status == BLOBCRASH_OTHER_REPLY || status == BLOBCRASH_UNPRINTED;
 }
 
-/* Whether the first word of a line is one of `words`, each of which ends with a space. */
+/* Returns whether the first word of a line is one of `words`, each of which ends with a space. */
 static inline bool blobcrash_has_word(const uint8_t *line, size_t len, const char *words) {
     while (len > 0 && *line == ' ') line++, len--;
     size_t word = 0;
@@ -87,8 +87,8 @@ static inline uint32_t blobcrash_restart(struct blobcrash_paths *paths, struct b
     return blobcrash_was_made(ran.status) ? (uint32_t)BLOBCRASH_DONE : ran.status;
 }
 
-/* Restarts the store and calls `step`, again if the power fails meanwhile. Returns what the last `step` returned, or `false` if the
- * store couldn't be restarted. */
+/* Restarts the store and calls `step`, and does so again if the power fails meanwhile. Returns what the last `step` returned, or `false`
+ * if the store couldn't be restarted. */
 static inline bool blobcrash_recover(struct blobcrash_paths *paths, struct blobcrash_session *session, bool (*step)(void *context),
                                      void *context) {
     while (blobcrash_restart(paths, session) == BLOBCRASH_DONE) {

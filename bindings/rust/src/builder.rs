@@ -4,7 +4,7 @@ use crate::script::{Script, first_word, image_line, one_line, words_line};
 use crate::shared::{Shared, State};
 use crate::{Config, Error, Store};
 
-/// The last word of a store whose words are pushed. It isn't zero, so that the library reports how many are left.
+/// The last word of a store with pushed words. It isn't zero, so that the library reports how many are left.
 const LAST_WORD: u64 = 1;
 
 /// What a store begins with.

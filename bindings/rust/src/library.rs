@@ -1,4 +1,4 @@
-//! The functions of the library behind safe ones. No other file calls an `unsafe` function.
+//! Safe functions over those of the library. No other file calls an `unsafe` function.
 use crate::Error;
 use crate::debt_calls::{DebtCall, DebtReply};
 use crate::foreign::*;
@@ -34,7 +34,7 @@ impl Session {
             reply: vec![0; 256],
             script: None,
         };
-        // SAFETY: the session is one of zeros, and the text is lent for the call.
+        // SAFETY: the session is all zeros, and the text is borrowed for the call.
         let ran = unsafe { blobcrash_open(&mut session.raw, preamble.as_ptr(), preamble.len()) };
         match ran.status {
             DONE => Ok(session),
@@ -46,7 +46,7 @@ impl Session {
         }
     }
 
-    /// Makes the call of a line, and returns its reply line.
+    /// Makes the call of a line and returns its reply line.
     pub(crate) fn call(&mut self, line: &str) -> Result<&str, Error> {
         let ran = self.ran(line)?;
         self.record(|script| script.push_line(line));
@@ -109,7 +109,7 @@ impl Session {
         }
     }
 
-    /// The numbers of a reply, or the refusal.
+    /// Returns the numbers of a reply, or the refusal.
     #[inline(always)]
     fn taken(&mut self, reply: TypedReply) -> Result<TypedReply, Error> {
         if reply.status == DONE {
@@ -137,10 +137,10 @@ impl Session {
         }
     }
 
-    /// Makes the call of a line, and records nothing.
+    /// Makes the call of a line and records nothing.
     fn ran(&mut self, line: &str) -> Result<Ran, Error> {
         let (room, at) = (self.reply.len(), self.reply.as_mut_ptr());
-        // SAFETY: the session is open and lent for the call, and so are the line and the room, which are apart.
+        // SAFETY: the session is open. It, the line and the buffer are borrowed for the call, and don't overlap.
         let ran = unsafe { blobcrash_call(&mut self.raw, line.as_ptr(), line.len(), at, room) };
         match ran.status {
             BAD_LINE => Err(Error::BadLine(line.to_owned())),
@@ -159,7 +159,7 @@ impl Session {
         sync: bool,
     ) -> Result<(), Error> {
         let (at, len) = (bytes.as_ptr(), bytes.len());
-        // SAFETY: as for `call`; the bytes are lent for the call.
+        // SAFETY: as for `call`; the bytes are borrowed for the call.
         let status = unsafe { blobcrash_write(&mut self.raw, handle, offset, at, len, sync) };
         if self.script.is_some() && is_made(status) {
             self.record(|script| script.push_write(handle, offset, bytes, sync));
@@ -189,7 +189,7 @@ impl Session {
         Ok(bytes)
     }
 
-    /// Whether a blob has bytes up to the end of a range, by the size that the handle tracks.
+    /// Returns whether a blob has bytes up to the end of a range, by the size that the handle tracks.
     fn has(&mut self, handle: usize, offset: u64, len: usize) -> bool {
         let reply = self.applied(Kind::Size, handle, [0, 0], "", b"");
         let end = offset.checked_add(len as u64);
@@ -205,7 +205,7 @@ impl Session {
         into: &mut [u8],
     ) -> Result<(), Error> {
         let (at, len) = (into.as_mut_ptr(), into.len());
-        // SAFETY: as for `call`; the room is lent for the call.
+        // SAFETY: as for `call`; the buffer is borrowed for the call.
         let status = unsafe { blobcrash_read(&mut self.raw, handle, offset, at, len) };
         if self.script.is_some() && is_made(status) {
             self.record(|script| script.push_read(handle, offset, len));
@@ -260,7 +260,7 @@ impl Session {
         loop {
             let (at, capacity) = (bytes.as_mut_ptr(), bytes.len());
             let raw = &mut self.raw;
-            // SAFETY: as for `call`; the texts and the buffer are borrowed for the call, and are apart.
+            // SAFETY: as for `call`; the texts and the buffer are borrowed for the call, and don't overlap.
             let ran = unsafe {
                 blobcrash_durable_blob(raw, of, of_len, named, named_len, with_header, at, capacity)
             };
@@ -292,7 +292,7 @@ impl Session {
         digest
     }
 
-    /// How a read or a write was answered.
+    /// Returns the result of a read or a write.
     #[inline(always)]
     fn done(&mut self, status: u32) -> Result<(), Error> {
         if status == DONE {
@@ -306,7 +306,7 @@ impl Session {
         }))
     }
 
-    /// The reply line of a call that was made, in more room where it wants more.
+    /// Returns the reply line of a call that was made. Grows the buffer if the reply doesn't fit.
     fn told(&mut self, mut ran: Ran) -> Result<&str, Error> {
         while ran.status == NO_ROOM {
             if let Some(more) = ran.len.checked_sub(self.reply.len()) {
@@ -325,27 +325,27 @@ impl Session {
     }
 }
 
-/// Whether a typed call that ended so was made.
+/// Returns whether a typed call with this status was made.
 fn is_applied(status: u32) -> bool {
     status == DONE || status >= FIRST_REFUSAL
 }
 
-/// Whether a read or a write that ended so was made.
+/// Returns whether a read or a write with this status was made.
 fn is_made(status: u32) -> bool {
     status == DONE || status == OTHER_REPLY
 }
 
 impl Drop for Session {
     fn drop(&mut self) {
-        // SAFETY: the session is lent for the call, and isn't used again.
+        // SAFETY: the session is borrowed for the call, and isn't used again.
         unsafe { blobcrash_close(&mut self.raw) }
     }
 }
 
-/// Runs a whole script, and writes its replies to the start of a buffer.
+/// Runs a whole script and writes its replies to the start of a buffer.
 pub(crate) fn run(script: &[u8], replies: &mut [u8]) -> ScriptRan {
     let (room, at) = (replies.len(), replies.as_mut_ptr());
-    // SAFETY: the script and the buffer are borrowed for the call, and are apart.
+    // SAFETY: the script and the buffer are borrowed for the call, and don't overlap.
     unsafe { blobcrash_run(script.as_ptr(), script.len(), at, room) }
 }
 
