@@ -1,10 +1,9 @@
 -- The possible results of two calls in sequence.
 use Rattle.std.specs.Prelude.{◌≡◌, ◌⊎◌, ℕ, List, true, false, Option, Some, None, Result, OnOk, OnErr}
-use Rattle.blob_base.specs.StoreChanges.{Overlays, Publishes}
-use Rattle.blob_base.specs.Stores.{LeavesLive}
+use Rattle.blob_base.specs.StoreChanges.{Publishes}
+use Rattle.blob_base.specs.Stores.{LeavesLive, StorageGhosts}
 use Rattle.blob_base.specs.declared.storage.Blob as handles
 use Rattle.blob_base.specs.declared.storage.Durable as stores
-use Rattle.blob_base.specs.declared.storage.Storage as storages
 use Rattle.blob_header.specs.declared.error.Error.{Error}
 use Rattle.blob_model.specs.Bytes.{resized, written}
 use Rattle.blob_model.specs.Durable.{durable_without, with_overlay}
@@ -61,8 +60,8 @@ module _ {S O B : Type 0} (store : stores.Ghosts S O) (handle : handles.Ghosts B
       OnOk result (store.durable s' ≡ durable_without (with_overlay (store.durable s) (handle.place b) offset bytes) p (Some n))
 
 -- the possible results of a SYNC write and then a removal of this name
-abbrev pub WriteRemoval : {S O B H : Type 0} → stores.Ghosts S O → storages.Ghosts S O H → handles.Ghosts B S O
+abbrev pub WritesAndRemoves : {S H O B : Type 0} → StorageGhosts S H O → handles.Ghosts B S O
     → B → S → ℕ → List ℕ → List ℕ → List ℕ → Result (Unit {0}) Error → Type 0
-WriteRemoval {S} {O} {B} store calls handle b s offset bytes p n result = InTurn (handle.allows_write b s offset bytes true)
-    (λ (b' : B) s'. Overlays store s s' (handle.place b) offset bytes × (store.directory s' ≡ store.directory s))
-    (λ b' s'. calls.allows_remove s' p (Some n)) (refused result)
+WritesAndRemoves {S} {H} {O} {B} store handle b s offset bytes p n result = InTurn (handle.allows_write b s offset bytes true)
+    (λ (b' : B) s'. (store.durable s' ≡ with_overlay (store.durable s) (handle.place b) offset bytes) × (store.directory s' ≡ store.directory s))
+    (λ b' s'. store.allows_remove s' p (Some n)) (refused result)

@@ -6,7 +6,26 @@ use Rattle.blob_base.specs.declared.storage.Durable as stores
 use Rattle.blob_header.specs.declared.version.BlobVersion.{BlobVersion}
 use Rattle.blob_header.specs.Refusals.{Refusal}
 use Rattle.blob_header.specs.Versions.{lower, upper}
+use Rattle.blob_model.specs.Directory.{Directory}
+use Rattle.blob_model.specs.Durable.{Durable}
 use Rattle.blob_model.specs.Opening.{IsOpened}
+use Rattle.blob_model.specs.Places.{Place}
+
+-- all ghost members of a store, those of its `Durable` first: `S.Storage` in a contract
+abbrev pub StorageGhosts : Type 0 → Type 0 → Type 0 → Type 1
+StorageGhosts S H O = record {
+  place : O → Place;
+  directory : S → Directory;
+  durable : S → Durable;
+  allows_open : S → List ℕ → List ℕ → ℕ → ℕ → Option Refusal → Type 0;
+  allows_remove : S → List ℕ → Option (List ℕ) → Option Refusal → Type 0;
+  allows_scan : S → List ℕ → Option Refusal → Type 0;
+  leaves_open : S → List ℕ → List ℕ → ℕ → ℕ → Option Refusal → S → Type 0;
+  leaves_remove : S → List ℕ → Option (List ℕ) → Option Refusal → S → Type 0;
+  leaves_scan : S → List ℕ → Option Refusal → S → Type 0;
+  leaves_finish : S → Option ℕ → S → Type 0;
+  keeps_size : H → ℕ → Type 0;
+}
 
 -- an open for the versions from first to last returned this handle and this version
 abbrev pub OpensBlob : {S O B : Type 0} → stores.Ghosts S O → handles.Ghosts B S O → S → S → List ℕ → List ℕ → ℕ → ℕ → B → ℕ → Type 0

@@ -1,7 +1,7 @@
 // Operations over any store. They rely only on the laws of the traits.
 ghost use Rattle.std.specs.Prelude.{◌≡◌, ◌+◌, ◌<◌, ◌≤◌, ℕ, List, [], true, false, Some, None, OnOk, OnErr, IfOk, length, option_copied};
 ghost use Rattle.blob_model.specs.Bytes.{resized, written};
-ghost use Rattle.blob_base.specs.Callers.{BeforeOrBetween, MayWriteLive, MayWriteOnErr, MayWriteRange, PublishesResize, PublishesWrite, ResizesAndStarts, WriteDrops, WriteRemoval, WritesAndSyncs};
+ghost use Rattle.blob_base.specs.Callers.{BeforeOrBetween, MayWriteLive, MayWriteOnErr, MayWriteRange, PublishesResize, PublishesWrite, ResizesAndStarts, WriteDrops, WritesAndRemoves, WritesAndSyncs};
 ghost use Rattle.blob_base.specs.StoreChanges.{DropsNames, Overlays};
 ghost use Rattle.blob_model.specs.Directory.{is_current};
 ghost use Rattle.blob_model.specs.Live.{live_written};
@@ -74,7 +74,7 @@ pub fn write_and_remove<S: Storage, B: Blob<S>>(
     name: &[u8],
 ) -> Result<(), Error>
     requires { is_sync synced ≡ true }
-    ensures answer { WriteRemoval S.Durable S.Storage B.Blob blob.old store.old offset bytes partition.now name.now result }
+    ensures answer { WritesAndRemoves S.Storage B.Blob blob.old store.old offset bytes partition.now name.now result }
     ensures live { OnOk result (B.live blob.new ≡ live_written true (B.live blob.old) offset bytes) }
     ensures durable { WriteDrops S.Durable B.Blob blob.old store.old store.new offset bytes partition.now name.now result }
     ensures directory { OnOk result (DropsNames S.Durable store.old store.new partition.now (Some name.now)) }

@@ -1,13 +1,10 @@
 -- What the registry of open names shows.
-use Rattle.std.specs.Prelude.{◌≡◌, ◌^◌, ◌-◌, ℕ, List, Option, Result}
+use Rattle.std.specs.Prelude.{◌≡◌, ◌^◌, ◌-◌, ℕ, List, Option}
 use Rattle.std.specs.declared.ops.RangeInclusive.{RangeInclusive}
-use Rattle.blob_base.specs.StoreChanges.{SameFiles}
-use Rattle.blob_base.specs.Stores.{OpensBlob}
+use Rattle.blob_base.specs.Stores.{OpensBlob, StorageGhosts}
 use Rattle.blob_base.specs.declared.storage.Blob as handles
 use Rattle.blob_base.specs.declared.storage.Durable as stores
-use Rattle.blob_base.specs.declared.storage.Storage as storages
-use Rattle.blob_header.specs.declared.error.Error.{Error}
-use Rattle.blob_header.specs.Refusals.{Refusal, refused}
+use Rattle.blob_header.specs.Refusals.{Refusal}
 use Rattle.blob_header.specs.Versions.{lower, upper}
 use Rattle.blob_header.specs.declared.version.BlobVersion.{BlobVersion}
 use Rattle.blob_model.specs.Directory.{Directory}
@@ -54,12 +51,12 @@ OpensHandle store handle s s' p n versions opened =
     OpensBlob store handle s s' p n (lower versions) (upper versions) (store_handle opened.0) opened.2.0
 
 -- what an open through the registry returns, given the open names, and what the store's own open may return and leave
-abbrev pub RegistryOpens : {S O H T : Type 0} → stores.Ghosts S O → storages.Ghosts S O H
-    → Opens → S → S → List ℕ → List ℕ → RangeInclusive BlobVersion → Result T Error → Type 0
-RegistryOpens store calls opens s s' p n versions result =
+abbrev pub RegistryOpens : {S H O : Type 0} → StorageGhosts S H O
+    → Opens → S → S → List ℕ → List ℕ → RangeInclusive BlobVersion → Option Refusal → Type 0
+RegistryOpens store opens s s' p n versions =
     let first = lower versions in
     let last = upper versions in
     OpenAnswer (names_of opens) p n
-    (λ answer. calls.allows_open s p n first last answer × calls.leaves_open s p n first last answer s')
+    (λ answer. store.allows_open s p n first last answer × store.leaves_open s p n first last answer s')
     (IsMade (store.directory s) (store.durable s) (store.directory s') (store.durable s') p n first last)
-    (SameFiles store s s') (s' ≡ s) (refused result)
+    ((store.directory s' ≡ store.directory s) × (store.durable s' ≡ store.durable s)) (s' ≡ s)

@@ -58,7 +58,7 @@ impl Opens {
     ) -> Result<(Blob<S::Blob>, u64, BlobVersion), Error>
         requires fresh { range_inclusive_exhausted versions ≡ false }
         requires some { lower versions ≤ upper versions }
-        ensures answer { RegistryOpens S.Durable S.Storage self.old store.old store.new partition.now name.now versions result }
+        ensures answer { RegistryOpens S.Storage self.old store.old store.new partition.now name.now versions (refused result) }
         ensures exhausted { IsExhausted (names_of self.old) partition.now name.now → FailsWith result GenerationsExhausted }
         ensures registered { OnOk result (names_of self.new ≡ opened (names_of self.old) partition.now name.now) }
         ensures err { OnErr result (names_of self.new ≡ names_of self.old) }
