@@ -1,12 +1,14 @@
 -- The possible results of two calls in sequence.
-use Rattle.std.specs.Prelude.{◌≡◌, ◌⊎◌, ℕ, List, true, false, Option, Some, None}
-use Rattle.blob_base.specs.Stores.{LeavesLive}
+use Rattle.std.specs.Prelude.{◌≡◌, ◌⊎◌, ℕ, List, true, false, Option, Some, None, Result, OnOk, OnErr}
+use Rattle.blob_base.specs.StoreChanges.{Publishes}
+use Rattle.blob_base.specs.Stores.{LeavesLive, StorageGhosts}
 use Rattle.blob_base.specs.declared.storage.Blob as handles
 use Rattle.blob_base.specs.declared.storage.Durable as stores
+use Rattle.blob_header.specs.declared.error.Error.{Error}
 use Rattle.blob_model.specs.Bytes.{resized, written}
-use Rattle.blob_model.specs.Durable.{Durable, durable_without, with_overlay}
-use Rattle.blob_model.specs.Places.{Place}
-use Rattle.blob_header.specs.Refusals.{Refusal}
+use Rattle.blob_model.specs.Durable.{durable_without, with_overlay}
+use Rattle.blob_model.specs.Live.{live_written}
+use Rattle.blob_header.specs.Refusals.{Refusal, refused}
 
 -- An error of the first call, or a result of the second, by a handle and a store as the first left them.
 pub data InTurn {B S : Type 0} (first : Option Refusal → Type 0) (left : B → S → Type 0) (second : B → S → Option Refusal → Type 0) : Option Refusal → Type 0 where
@@ -17,13 +19,9 @@ pub data InTurn {B S : Type 0} (first : Option Refusal → Type 0) (left : B →
 abbrev pub BeforeOrBetween : {X : Type 0} → X → X → X → Type 0
 BeforeOrBetween before between now = (now ≡ before) ⊎ (now ≡ between)
 
--- durable bytes before or after a SYNC write of these bytes to an incarnation
-abbrev pub BeforeOrWritten : Durable → Place → ℕ → List ℕ → Durable → Type 0
-BeforeOrWritten before o offset bytes now = BeforeOrBetween before (with_overlay before o offset bytes) now
-
--- durable bytes after the write and a removal of this name
-abbrev pub WrittenAndRemoved : Durable → Place → ℕ → List ℕ → List ℕ → List ℕ → Durable → Type 0
-WrittenAndRemoved before o offset bytes p n now = now ≡ durable_without (with_overlay before o offset bytes) p (Some n)
+-- live bytes before or after a SYNC write of these bytes
+abbrev pub MayWriteLive : List ℕ → ℕ → List ℕ → List ℕ → Type 0
+MayWriteLive live offset bytes now = BeforeOrBetween live (live_written true live offset bytes) now
 
 -- A handle and its store.
 
@@ -37,8 +35,33 @@ abbrev pub ResizesAndStarts : {S O B : Type 0} → stores.Ghosts S O → handles
 ResizesAndStarts store handle b s len =
     InTurn (handle.allows_resize b s len) (LeavesLive store handle b s (resized (handle.live b) len)) handle.allows_start_sync
 
--- a SYNC write and then a removal; `removes` has the possible results of the removal
-abbrev pub WritesAndRemoves : {S O B : Type 0} → stores.Ghosts S O → handles.Ghosts B S O → B → S → ℕ → List ℕ → (S → Option Refusal → Type 0) → Option Refusal → Type 0
-WritesAndRemoves {S} {O} {B} store handle b s offset bytes removes = InTurn (handle.allows_write b s offset bytes true)
+-- `s` is the store before the call, `s'` the store after it.
+module _ {S O B : Type 0} (store : stores.Ghosts S O) (handle : handles.Ghosts B S O) (b : B) (s : S) where
+  -- the live bytes with a write are durable
+  abbrev pub PublishesWrite : S → ℕ → List ℕ → Type 0
+  PublishesWrite s' offset bytes = Publishes store s s' (handle.place b) (written (handle.live b) offset bytes)
+
+  -- the resized live bytes are durable
+  abbrev pub PublishesResize : S → ℕ → Type 0
+  PublishesResize s' len = Publishes store s s' (handle.place b) (resized (handle.live b) len)
+
+  -- durable bytes before or after a SYNC write
+  abbrev pub MayWriteRange : S → ℕ → List ℕ → Type 0
+  MayWriteRange s' offset bytes =
+      BeforeOrBetween (store.durable s) (with_overlay (store.durable s) (handle.place b) offset bytes) (store.durable s')
+
+  -- after an error, durable bytes before or after a SYNC write
+  abbrev pub MayWriteOnErr : S → ℕ → List ℕ → Result (Unit {0}) Error → Type 0
+  MayWriteOnErr s' offset bytes result = OnErr result (MayWriteRange s' offset bytes)
+
+  -- after Ok, durable bytes after a SYNC write and then a removal of this name
+  abbrev pub WriteDrops : S → ℕ → List ℕ → List ℕ → List ℕ → Result (Unit {0}) Error → Type 0
+  WriteDrops s' offset bytes p n result =
+      OnOk result (store.durable s' ≡ durable_without (with_overlay (store.durable s) (handle.place b) offset bytes) p (Some n))
+
+-- the possible results of a SYNC write and then a removal of this name
+abbrev pub WritesAndRemoves : {S H O B : Type 0} → StorageGhosts S H O → handles.Ghosts B S O
+    → B → S → ℕ → List ℕ → List ℕ → List ℕ → Result (Unit {0}) Error → Type 0
+WritesAndRemoves {S} {H} {O} {B} store handle b s offset bytes p n result = InTurn (handle.allows_write b s offset bytes true)
     (λ (b' : B) s'. (store.durable s' ≡ with_overlay (store.durable s) (handle.place b) offset bytes) × (store.directory s' ≡ store.directory s))
-    (λ b' s'. removes s')
+    (λ b' s'. store.allows_remove s' p (Some n)) (refused result)

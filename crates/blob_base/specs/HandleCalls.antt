@@ -18,3 +18,7 @@ pub data HandleCall : Type 0 where
 -- each possible result of a write now was possible before
 abbrev pub AllowsNoMoreWrites : (ℕ → List ℕ → Bool → Option Refusal → Type 0) → (ℕ → List ℕ → Bool → Option Refusal → Type 0) → Type 0
 AllowsNoMoreWrites before now = (offset : ℕ) (bytes : List ℕ) (sync : Bool) (answer : Option Refusal) → now offset bytes sync answer → before offset bytes sync answer
+
+-- each possible result of a reservation now was possible before
+abbrev pub AllowsNoMoreReserves : (ℕ → Option Refusal → Type 0) → (ℕ → Option Refusal → Type 0) → Type 0
+AllowsNoMoreReserves before now = (end : ℕ) (answer : Option Refusal) → now end answer → before end answer

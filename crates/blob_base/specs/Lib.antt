@@ -4,7 +4,9 @@ pub mod HandleCalls
 pub mod Handles
 pub mod Names
 pub mod Options
+pub mod StoreChanges
 pub mod Stores
+pub mod Writes
 pub use Rattle.blob_header.specs.Checksum
 pub use Rattle.blob_header.specs.Fronts
 pub use Rattle.blob_header.specs.Header
@@ -29,6 +31,7 @@ pub use Rattle.blob_model.specs.Log
 pub use Rattle.blob_model.specs.Opened
 pub use Rattle.blob_model.specs.Opening
 pub use Rattle.blob_model.specs.Order
+pub use Rattle.blob_model.specs.OverlayLaws
 pub use Rattle.blob_model.specs.Pending
 pub use Rattle.blob_model.specs.Persistence
 pub use Rattle.blob_model.specs.Places

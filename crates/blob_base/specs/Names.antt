@@ -1,10 +1,16 @@
 -- The names of a partition, as a list.
-use Rattle.std.specs.Prelude.{ℕ, List, Bool, Contains, IsTrue, ◌↔◌}
+use Rattle.std.specs.Prelude.{ℕ, List, Bool, Contains, IsTrue, ◌↔◌, Vec, map, is_some}
+use Rattle.std.specs.Global.{Global}
 use Rattle.std.specs.Ordering.{nat_cmp}
 use Rattle.std.specs.Cmp.Lexicographic.{slice_cmp}
 use Rattle.std.specs.List.Sorted.{IsStrictlySortedBy}
+use Rattle.blob_model.specs.Directory.{Directory}
 
 -- all existing names, each once, sorted by bytes
 pub record AreNames (names : List (List ℕ)) (is_there : List ℕ → Bool) : Type 0 where
   pub sorted : IsStrictlySortedBy (slice_cmp nat_cmp) names
   pub complete : (name : List ℕ) → Contains names name ↔ IsTrue (is_there name)
+
+-- these are all names of a partition that have a file
+abbrev pub ListsNames : Directory → List ℕ → Vec (Vec ℕ Global) Global → Type 0
+ListsNames d p names = AreNames (map (λ (name : Vec ℕ Global). name.items) names.items) (λ n. is_some (d.file p n))

@@ -1,5 +1,5 @@
 -- The options of a write, a set of flags.
-use Rattle.std.specs.Prelude.{ℕ, Bool, ◌==◌}
+use Rattle.std.specs.Prelude.{◌≡◌, ℕ, Bool, true, ◌==◌}
 use Rattle.std.specs.Int.RustNames.{bit_and, bit_or}
 use Rattle.bitflags.specs.Sets.{without as bits_without}
 use Rattle.blob_base.specs.declared.options.WriteOptions.{WriteOptions}
@@ -29,3 +29,7 @@ without options some = record { bits = bits_without 8 (flags_of options) (flags_
 
 abbrev pub is_sync : WriteOptions → Bool
 is_sync options = contains options sync
+
+-- the write has SYNC
+abbrev pub IsSync : WriteOptions → Type 0
+IsSync options = is_sync options ≡ true

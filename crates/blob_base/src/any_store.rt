@@ -1,9 +1,9 @@
 // Operations over any store. They rely only on the laws of the traits.
 ghost use Rattle.std.specs.Prelude.{◌≡◌, ◌+◌, ◌<◌, ◌≤◌, ℕ, List, [], true, false, Some, None, OnOk, OnErr, IfOk, length, option_copied};
 ghost use Rattle.blob_model.specs.Bytes.{resized, written};
-ghost use Rattle.blob_base.specs.Callers.{BeforeOrBetween, BeforeOrWritten, WrittenAndRemoved, ResizesAndStarts, WritesAndRemoves, WritesAndSyncs};
-ghost use Rattle.blob_model.specs.Directory.{is_current, removed};
-ghost use Rattle.blob_model.specs.Durable.{with_changed, with_overlay};
+ghost use Rattle.blob_base.specs.Callers.{BeforeOrBetween, MayWriteLive, MayWriteOnErr, MayWriteRange, PublishesResize, PublishesWrite, ResizesAndStarts, WriteDrops, WritesAndRemoves, WritesAndSyncs};
+ghost use Rattle.blob_base.specs.StoreChanges.{DropsNames, Overlays};
+ghost use Rattle.blob_model.specs.Directory.{is_current};
 ghost use Rattle.blob_model.specs.Live.{live_written};
 ghost use Rattle.blob_base.specs.Options.{is_sync};
 ghost use Rattle.blob_header.specs.Refusals.{refused, IsMemory};
@@ -26,7 +26,7 @@ pub fn write_and_sync<S: Durable, B: Blob<S>>(
     requires { is_sync plain ≡ false }
     ensures answer { WritesAndSyncs S.Durable B.Blob blob.old store.old offset bytes (refused result) }
     ensures live { OnOk result (B.live blob.new ≡ written (B.live blob.old) offset bytes) }
-    ensures durable { OnOk result (S.durable store.new ≡ with_changed (S.durable store.old) (B.place blob.old) (λ _. written (B.live blob.old) offset bytes)) }
+    ensures durable { OnOk result (PublishesWrite S.Durable B.Blob blob.old store.old store.new offset bytes) }
     ensures directory { S.directory store.new ≡ S.directory store.old }
 {
     blob.write_at(store, offset, bytes, plain)?;
@@ -46,7 +46,7 @@ pub fn resize_and_start_sync<S: Storage, B: Blob<S>>(
 ) -> Result<(), Error>
     ensures answer { ResizesAndStarts S.Durable B.Blob blob.old store.old len (refused result) }
     ensures live { OnOk result (B.live blob.new ≡ resized (B.live blob.old) len) }
-    ensures durable { OnOk result (S.durable store.new ≡ with_changed (S.durable store.old) (B.place blob.old) (λ _. resized (B.live blob.old) len)) }
+    ensures durable { OnOk result (PublishesResize S.Durable B.Blob blob.old store.old store.new len) }
 
     // after an error
     ensures memory { IsMemory result → BeforeOrBetween (B.live blob.old) (resized (B.live blob.old) len) (B.live blob.new) }
@@ -74,15 +74,15 @@ pub fn write_and_remove<S: Storage, B: Blob<S>>(
     name: &[u8],
 ) -> Result<(), Error>
     requires { is_sync synced ≡ true }
-    ensures answer { WritesAndRemoves S.Durable B.Blob blob.old store.old offset bytes (λ s. S.allows_remove s partition.now (Some name.now)) (refused result) }
+    ensures answer { WritesAndRemoves S.Storage B.Blob blob.old store.old offset bytes partition.now name.now result }
     ensures live { OnOk result (B.live blob.new ≡ live_written true (B.live blob.old) offset bytes) }
-    ensures durable { OnOk result (WrittenAndRemoved (S.durable store.old) (B.place blob.old) offset bytes partition.now name.now (S.durable store.new)) }
-    ensures directory { OnOk result (S.directory store.new ≡ removed (S.directory store.old) partition.now (Some name.now)) }
+    ensures durable { WriteDrops S.Durable B.Blob blob.old store.old store.new offset bytes partition.now name.now result }
+    ensures directory { OnOk result (DropsNames S.Durable store.old store.new partition.now (Some name.now)) }
 
     // after an error of the write or of the removal
-    ensures memory_live { IsMemory result → BeforeOrBetween (B.live blob.old) (live_written true (B.live blob.old) offset bytes) (B.live blob.new) }
-    ensures memory { IsMemory result → BeforeOrWritten (S.durable store.old) (B.place blob.old) offset bytes (S.durable store.new) }
-    ensures direct { B.is_direct ≡ true → OnErr result (BeforeOrWritten (S.durable store.old) (B.place blob.old) offset bytes (S.durable store.new)) }
+    ensures memory_live { IsMemory result → MayWriteLive (B.live blob.old) offset bytes (B.live blob.new) }
+    ensures memory { IsMemory result → MayWriteRange S.Durable B.Blob blob.old store.old store.new offset bytes }
+    ensures direct { B.is_direct ≡ true → MayWriteOnErr S.Durable B.Blob blob.old store.old store.new offset bytes result }
     ensures err { OnErr result (S.directory store.new ≡ S.directory store.old) }
 {
     blob.write_at(store, offset, bytes, synced)?;
@@ -110,7 +110,7 @@ pub fn write_within_room<S: Durable, B: Blob<S>>(
     ensures reserved { OnErr result (B.allows_reserve blob.old store.old end (refused result)) }
     ensures done { IfOk result (λ done. done ≡ Ok tt) }
     ensures live { OnOk result (B.live blob.new ≡ live_written true (B.live blob.old) offset bytes) }
-    ensures durable { OnOk result (S.durable store.new ≡ with_overlay (S.durable store.old) (B.place blob.old) offset bytes) }
+    ensures durable { OnOk result (Overlays S.Durable store.old store.new (B.place blob.old) offset bytes) }
     ensures err { OnErr result ((B.live blob.new ≡ B.live blob.old) × (S.durable store.new ≡ S.durable store.old)) }
     ensures directory { S.directory store.new ≡ S.directory store.old }
 {

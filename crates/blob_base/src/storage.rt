@@ -1,14 +1,15 @@
 // The storage traits and their laws.
-ghost use Rattle.std.specs.Prelude.{◌≡◌, ◌≢◌, ◌⊎◌, ◌+◌, ◌≤◌, ◌<◌, ◌^◌, ◌↔◌, ℕ, List, [], Bool, true, false, Option, Some, None, is_some, IsSome, IsTrue, OnOk, OnErr, IfOk, length, take, drop, map, option_copied};
+ghost use Rattle.std.specs.Prelude.{◌≡◌, ◌≢◌, ◌⊎◌, ◌+◌, ◌≤◌, ◌<◌, ◌^◌, ◌↔◌, ℕ, List, [], Bool, true, false, Option, Some, None, is_some, IsSome, IsTrue, OnOk, OnErr, IfOk, length, take, drop, option_copied};
 ghost use Rattle.std.specs.Range.{range_inclusive_exhausted};
 ghost use Rattle.blob_model.specs.Bytes.{resized};
-ghost use Rattle.blob_model.specs.Directory.{Directory, is_current, removed};
-ghost use Rattle.blob_model.specs.Durable.{Durable, with_changed, with_overlay, durable_without};
-ghost use Rattle.blob_model.specs.Live.{live_written, live_after};
-ghost use Rattle.blob_base.specs.Names.{AreNames};
-ghost use Rattle.blob_base.specs.HandleCalls.{AllowsNoMoreWrites, HandleCall, Read, Write, Resize, Sync, StartSync, Reserve};
-ghost use Rattle.blob_base.specs.Handles.{outcome_of, marker_of};
-ghost use Rattle.blob_base.specs.Options.{is_sync};
+ghost use Rattle.blob_model.specs.Directory.{Directory, is_current};
+ghost use Rattle.blob_model.specs.Durable.{Durable};
+ghost use Rattle.blob_model.specs.Live.{live_written};
+ghost use Rattle.blob_base.specs.Names.{ListsNames};
+ghost use Rattle.blob_base.specs.HandleCalls.{AllowsNoMoreReserves, AllowsNoMoreWrites, HandleCall, Read, Write, Resize, Sync, StartSync, Reserve};
+ghost use Rattle.blob_base.specs.Handles.{outcome_of, outcome_error, marker_of, HasSynced};
+ghost use Rattle.blob_base.specs.Options.{is_sync, IsSync};
+ghost use Rattle.blob_base.specs.Writes.{live_after_write};
 ghost use Rattle.blob_model.specs.Places.{Place, same_place};
 ghost use Rattle.blob_header.specs.Refusals.{Refusal, refused, Memory, Injected, OffsetOverflow, IsMemory};
 ghost use Rattle.blob_header.specs.Versions.{lower, upper};
@@ -62,6 +63,8 @@ pub trait Durable {
 /// wrapper adds `Injected`, after which a write or a resize may be applied in part, and the errors in its own docs.
 /// docs/BEHAVIOUR.md lists the errors of each implementation in the order of their checks, with what each leaves.
 pub trait Blob<S: Durable> {
+    ghost use Rattle.blob_base.specs.StoreChanges.{IsCurrentIn, IsStaleIn, Publishes, ReservesRoom, SameDurable, Overlays};
+
     // the bytes that a read sees
     ghost live: { Self → List ℕ };
 
@@ -165,18 +168,18 @@ pub trait Blob<S: Durable> {
         ensures allowed { allows_write self.old store.old offset bytes (is_sync options) (refused result) }
         ensures leaves { leaves (Write offset bytes (is_sync options)) self.old store.old (refused result) self.new store.new }
         ensures live { OnOk result (live self.new ≡ live_written (is_sync options) (live self.old) offset bytes) }
-        ensures synced { OnOk result (is_sync options ≡ true → S.durable store.new ≡ with_overlay (S.durable store.old) (place self.old) offset bytes) }
-        ensures current { OnOk result (is_sync options ≡ true → bytes ≢ [] → is_current (S.directory store.old) (place self.old) ≡ true) }
-        ensures plain { OnOk result (is_sync options ≡ false → S.durable store.new ≡ S.durable store.old) }
+        ensures synced { OnOk result (IsSync options → Overlays S.Durable store.old store.new (place self.old) offset bytes) }
+        ensures current { OnOk result (IsSync options → bytes ≢ [] → IsCurrentIn S.Durable store.old (place self.old)) }
+        ensures plain { OnOk result (is_sync options ≡ false → SameDurable S.Durable store.old store.new) }
         ensures room { room self.old store.old ≤ room self.new store.new }
         ensures live_room { live_room self.old ≤ live_room self.new }
 
         // after an error
         ensures memory { IsMemory result → (live self.new ≡ live self.old) × (S.durable store.new ≡ S.durable store.old) }
-        ensures direct_live { is_direct ≡ true → live self.new ≡ live_after (is_sync options) (live self.old) offset bytes (refused result) }
+        ensures direct_live { is_direct ≡ true → live self.new ≡ live_after_write options offset bytes result (live self.old) }
         ensures direct_durable { is_direct ≡ true → OnErr result (S.durable store.new ≡ S.durable store.old) }
 
-        ensures stale { is_current (S.directory store.old) (place self.old) ≡ false → S.durable store.new ≡ S.durable store.old }
+        ensures stale { IsStaleIn S.Durable store.old (place self.old) → SameDurable S.Durable store.old store.new }
         ensures directory { S.directory store.new ≡ S.directory store.old }
         ensures place { place self.new ≡ place self.old };
 
@@ -205,8 +208,8 @@ pub trait Blob<S: Durable> {
     fn sync(&mut self, store: &mut S) -> Result<(), Error>
         ensures allowed { allows_sync self.old store.old (refused result) }
         ensures leaves { leaves Sync self.old store.old (refused result) self.new store.new }
-        ensures synced { OnOk result (S.durable store.new ≡ with_changed (S.durable store.old) (place self.old) (λ _. live self.old)) }
-        ensures current { OnOk result (is_current (S.directory store.old) (place self.old) ≡ true) }
+        ensures synced { OnOk result (Publishes S.Durable store.old store.new (place self.old) (live self.old)) }
+        ensures current { OnOk result (IsCurrentIn S.Durable store.old (place self.old)) }
         ensures err { OnErr result (S.durable store.new ≡ S.durable store.old) }
         ensures live { live self.new ≡ live self.old }
         ensures directory { S.directory store.new ≡ S.directory store.old }
@@ -220,13 +223,13 @@ pub trait Blob<S: Durable> {
     ///
     /// The outcome may be any error of `sync`, and `GenerationsExhausted` of a wrapper. No durable byte changes then.
     fn start_sync(&mut self, store: &mut S) -> Handle
-        ensures allowed { allows_start_sync self.old store.old (refused (outcome_of result)) }
-        ensures leaves { leaves (StartSync (marker_of result)) self.old store.old (refused (outcome_of result)) self.new store.new }
-        ensures unmarked { IsSome (refused (outcome_of result)) → marker_of result ≡ None }
+        ensures allowed { allows_start_sync self.old store.old (outcome_error result) }
+        ensures leaves { leaves (StartSync (marker_of result)) self.old store.old (outcome_error result) self.new store.new }
+        ensures unmarked { IsSome (outcome_error result) → marker_of result ≡ None }
         ensures direct_unmarked { is_direct ≡ true → marker_of result ≡ None }
-        ensures synced { refused (outcome_of result) ≡ None → S.durable store.new ≡ with_changed (S.durable store.old) (place self.old) (λ _. live self.old) }
-        ensures current { refused (outcome_of result) ≡ None → is_current (S.directory store.old) (place self.old) ≡ true }
-        ensures err { IsSome (refused (outcome_of result)) → S.durable store.new ≡ S.durable store.old }
+        ensures synced { HasSynced result → Publishes S.Durable store.old store.new (place self.old) (live self.old) }
+        ensures current { HasSynced result → IsCurrentIn S.Durable store.old (place self.old) }
+        ensures err { IsSome (outcome_error result) → SameDurable S.Durable store.old store.new }
         ensures live { live self.new ≡ live self.old }
         ensures directory { S.directory store.new ≡ S.directory store.old }
         ensures place { place self.new ≡ place self.old };
@@ -241,11 +244,11 @@ pub trait Blob<S: Durable> {
     fn reserve(&mut self, store: &mut S, end: u64) -> Result<(), Error>
         ensures allowed { allows_reserve self.old store.old end (refused result) }
         ensures leaves { leaves (Reserve end) self.old store.old (refused result) self.new store.new }
-        ensures room { is_direct ≡ true → is_current (S.directory store.old) (place self.old) ≡ true → OnOk result (end ≤ room self.new store.new) }
+        ensures room { ReservesRoom S.Durable store.old is_direct (place self.old) result end (room self.new store.new) }
         ensures live_room { is_direct ≡ true → OnOk result (end ≤ live_room self.new) }
         ensures kept { room self.old store.old ≤ room self.new store.new }
         ensures live_kept { live_room self.old ≤ live_room self.new }
-        ensures answers { (later : ℕ) (answer : Option Refusal) → allows_reserve self.new store.new later answer → allows_reserve self.old store.old later answer }
+        ensures answers { AllowsNoMoreReserves (allows_reserve self.old store.old) (allows_reserve self.new store.new) }
         ensures write_answers { AllowsNoMoreWrites (allows_write self.old store.old) (allows_write self.new store.new) }
         ensures live { live self.new ≡ live self.old }
         ensures durable { S.durable store.new ≡ S.durable store.old }
@@ -291,7 +294,8 @@ pub trait Blob<S: Durable> {
 /// store. After an error the files are unchanged. A partition's name is valid if it isn't empty and has only ASCII
 /// letters, digits, `-` and `_`. A blob's name may be any bytes, also none.
 pub trait Storage: Durable {
-    ghost use Rattle.blob_base.specs.Stores.{OpensBlob};
+    ghost use Rattle.blob_base.specs.StoreChanges.{DropsBytes, DropsNames, SameFiles};
+    ghost use Rattle.blob_base.specs.Stores.{OpenLeft, OpensDefault, OpensFor};
 
     /// A handle on a blob of this store.
     type Blob: Blob<Self> + Drop;
@@ -337,21 +341,21 @@ pub trait Storage: Durable {
         requires fresh { range_inclusive_exhausted versions ≡ false }
         requires some { lower versions ≤ upper versions }
         ensures allowed { allows_open self.old partition.now name.now (lower versions) (upper versions) (refused result) }
-        ensures leaves { leaves_open self.old partition.now name.now (lower versions) (upper versions) (refused result) self.new }
-        ensures opened { IfOk result (λ o. OpensBlob Self.Durable Self.Blob.Blob self.old self.new partition.now name.now (lower versions) (upper versions) o.0 o.2.0) }
+        ensures leaves { OpenLeft leaves_open self.old self.new partition.now name.now versions (refused result) }
+        ensures opened { IfOk result (OpensFor Self.Durable Self.Blob.Blob self.old self.new partition.now name.now versions) }
         ensures size { IfOk result (λ opened. opened.1 ≡ length (Self.Blob.live opened.0)) }
         ensures kept_size { IfOk result (λ opened. keeps_size opened.0 opened.1) }
-        ensures err { OnErr result ((Self.directory self.new ≡ Self.directory self.old) × (Self.durable self.new ≡ Self.durable self.old)) };
+        ensures err { OnErr result (SameFiles Self.Durable self.old self.new) };
 
     /// Opens the blob for `DEFAULT_BLOB_VERSION` only. Returns a handle and the number of its live bytes. Errors as
     /// `open_versioned`.
     fn open(&mut self, partition: &str, name: &[u8]) -> Result<(Self::Blob, u64), Error>
         ensures allowed { allows_open self.old partition.now name.now 0 0 (refused result) }
         ensures leaves { leaves_open self.old partition.now name.now 0 0 (refused result) self.new }
-        ensures opened { IfOk result (λ o. OpensBlob Self.Durable Self.Blob.Blob self.old self.new partition.now name.now 0 0 o.0 0) }
+        ensures opened { IfOk result (OpensDefault Self.Durable Self.Blob.Blob self.old self.new partition.now name.now) }
         ensures size { IfOk result (λ opened. opened.1 ≡ length (Self.Blob.live opened.0)) }
         ensures kept_size { IfOk result (λ opened. keeps_size opened.0 opened.1) }
-        ensures err { OnErr result ((Self.directory self.new ≡ Self.directory self.old) × (Self.durable self.new ≡ Self.durable self.old)) }
+        ensures err { OnErr result (SameFiles Self.Durable self.old self.new) }
     {
         let versions = DEFAULT_BLOB_VERSION..=DEFAULT_BLOB_VERSION;
         let (blob, size, _) = self.open_versioned(partition, name, versions)?;
@@ -368,9 +372,9 @@ pub trait Storage: Durable {
     fn remove(&mut self, partition: &str, name: Option<&[u8]>) -> Result<(), Error>
         ensures allowed { allows_remove self.old partition.now (option_copied name.entry) (refused result) }
         ensures leaves { leaves_remove self.old partition.now (option_copied name.entry) (refused result) self.new }
-        ensures directory { OnOk result (Self.directory self.new ≡ removed (Self.directory self.old) partition.now (option_copied name.entry)) }
-        ensures durable { OnOk result (Self.durable self.new ≡ durable_without (Self.durable self.old) partition.now (option_copied name.entry)) }
-        ensures err { OnErr result ((Self.directory self.new ≡ Self.directory self.old) × (Self.durable self.new ≡ Self.durable self.old)) };
+        ensures directory { OnOk result (DropsNames Self.Durable self.old self.new partition.now (option_copied name.entry)) }
+        ensures durable { OnOk result (DropsBytes Self.Durable self.old self.new partition.now (option_copied name.entry)) }
+        ensures err { OnErr result (SameFiles Self.Durable self.old self.new) };
 
     /// Returns the names of the partition's blobs, each once, sorted by bytes. Changes nothing.
     ///
@@ -380,7 +384,7 @@ pub trait Storage: Durable {
     fn scan(&mut self, partition: &str) -> Result<Vec<Vec<u8>>, Error>
         ensures allowed { allows_scan self.old partition.now (refused result) }
         ensures leaves { leaves_scan self.old partition.now (refused result) self.new }
-        ensures names { IfOk result (λ names. AreNames (map (λ name. name.items) names.items) (λ name. is_some ((Self.directory self.old).file partition.now name))) }
+        ensures names { IfOk result (ListsNames (Self.directory self.old) partition.now) }
         ensures there { OnOk result (IsTrue ((Self.directory self.old).has_partition partition.now)) }
         ensures directory { Self.directory self.new ≡ Self.directory self.old }
         ensures durable { Self.durable self.new ≡ Self.durable self.old };

@@ -1,4 +1,4 @@
--- The standing_of names against the history, as one name changes.
+-- The standing of names against the history, as one name changes.
 use Rattle.std.proofs.Common.{◌≡◌, ℕ, List, [], ◌∷◌, Bool, true, false, ◌&&◌, is_none, Option, Some, None, if◌then◌else◌, refl, sym, ap, ◌∙◌, cond, option_map, Result, Ok, Err}
 use Rattle.std.specs.Str.{bytes_eq}
 use Rattle.std.proofs.lemmas.Bool.{false≢true}
@@ -45,7 +45,7 @@ pub keeps_all_forgotten : (old new : Names Entry) (p : List ℕ) (h : History)
     → at new ≡ with_all_names (at old) None p → HoldsNames old h → HoldsNames new (Forget p None ∷ h)
 keeps_all_forgotten old new p h is k = record { standing = λ q m. ap (λ f. standing_of (f q m)) is ∙ all_gone (bytes_eq p q) (at old q m) (events h q m) (k.standing q m) }
 
--- a change counts for nothing where nothing is standing_of
+-- a change of a name without an entry is ignored
 pub no_name : (c : Change) (es : List Event) → standing_of None ≡ standing es → with_operation (operation_of c) es ≡ es
 no_name (change.Release g token) es e = ap (λ s. if is_this_number s.latest g && is_none s.settling then Released token ∷ es else es) (sym e)
 no_name (change.Settle token dirty failed) es e = ap (λ s. if is_this_number s.settling token then Settled dirty (option_map refusal_of failed) ∷ es else es) (sym e)
@@ -58,7 +58,7 @@ keeps_nothing old new p n c h is none k =
     let e : standing_of None ≡ standing (events h p n) = ap standing_of (sym none) ∙ k.standing p n in
     keeps_done old new p n None (operation_of c) h (is ∙ sym (with_at_same (at old) p n) ∙ ap (with_name (at old) p n) none) (e ∙ ap standing (sym (no_name c (events h p n) e))) k
 
--- a registry in which nothing changed stands for what it stood for
+-- an unchanged registry represents the same histories
 pub unchanged_stands : (r s : Pending) (h : History) → IsUnchanged r s → Represents r h → Represents s h
 unchanged_stands r s h u k = record {
   names = record { standing = λ p n. ap (λ f. standing_of (f p n)) u.names ∙ k.names.standing p n };

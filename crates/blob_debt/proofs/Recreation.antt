@@ -38,7 +38,7 @@ module _ (g t : ℕ) where
   admitted_newer : (m : ℕ) (es : List Event) → g ≤ m → IsNewer g t es → IsNewer g t (Admitted m ∷ es)
   admitted_newer m es h n = record { generation = λ k l. below g k m h l; token = n.token }
 
-  -- an operation whose numbers are given now keeps a name's events newer
+  -- an operation that uses numbers given now keeps a name's events newer
   operation_newer : (operation : Operation) (p n : List ℕ) (h : History) (es : List Event) → IsNumbered (To p n operation ∷ h) → g ≤ generations h → t ≤ tokens_given h → IsNewer g t es → IsNewer g t (with_operation operation es)
   operation_newer (Admit existing m) p n h es num gs ts new =
       admitted_newer m (if existing then es else []) (subst (λ k. g ≤ k) (sym num.0) gs) (either existing es [] new nothing_newer)

@@ -1,5 +1,5 @@
 -- The entries of a registry of durability debt, and the histories that it represents.
-use Rattle.std.specs.Prelude.{◌≡◌, ℕ, List, [], ◌∷◌, Bool, false, if◌then◌else◌, is_some, ◌||◌, Option, Some, None, Result, Ok, Err, option_map, ◌⊎◌}
+use Rattle.std.specs.Prelude.{◌≡◌, ℕ, List, [], ◌∷◌, Bool, false, if◌then◌else◌, is_some, ◌||◌, Option, Some, None, Result, Ok, Err, option_map, true, ◌⊎◌}
 use Rattle.std.specs.Prelude.{Vec, String}
 use Rattle.std.specs.Global.{Global}
 use Rattle.std.specs.String.{string_bytes}
@@ -14,7 +14,7 @@ use Rattle.blob_debt.specs.declared.pending.entry.Entry.{Entry}
 use Rattle.blob_debt.specs.declared.pending.entry.Change.{Change}
 use Rattle.blob_debt.specs.declared.pending.entry.Change.TheVariants as change
 use Rattle.blob_names.specs.Names.{at}
-use Rattle.blob_debt.specs.History.{Operation, Call, History, Event, To, Admit, Release, Settle, Clear, Close, Admitted, AdmittedOpen, with_operation, settling, debt, failure, is_live, over, latest, events, generations, tokens_given, is_outstanding, found_by, admission}
+use Rattle.blob_debt.specs.History.{Operation, Call, History, Event, To, Admit, Release, Settle, Clear, Close, Admitted, AdmittedOpen, with_operation, settling, debt, failure, is_live, needs_no_entry, latest, events, generations, tokens_given, is_outstanding, found_by, admission}
 
 -- all that is known of a name
 pub record Standing : Type 0 where
@@ -34,7 +34,7 @@ standing_of None = record { latest = None; live = false; settling = None; debt =
 standing_of (Some e) = record { latest = Some e.generation; live = e.is_live; settling = e.settling; debt = e.is_dirty; failure = option_map refusal_of e.failure }
 
 abbrev pub is_standing_over : Standing → Bool
-is_standing_over s = over s.live s.settling s.debt s.failure
+is_standing_over s = needs_no_entry s.live s.settling s.debt s.failure
 
 -- what a change of an entry does
 abbrev pub operation_of : Change → Operation
@@ -51,6 +51,10 @@ FollowsChange before change after = (es : List Event) → standing_of (Some befo
 -- an operation on the name of a key
 abbrev pub to_key : String Global × Vec ℕ Global → Operation → Call
 to_key key operation = To (string_bytes key.0) key.1.items operation
+
+-- the events of the name of a key
+abbrev pub key_events : History → String Global × Vec ℕ Global → List Event
+key_events h key = events h (string_bytes key.0) key.1.items
 
 -- an operation on the name of an open
 abbrev pub by_open : AdmittedOpen → Operation → Call
@@ -74,6 +78,10 @@ pub record Represents (r : Pending) (h : History) : Type 0 where
   pub tokens : r.next_token ≡ tokens_given h
   pub numbered : IsNumbered h
 
+-- the registry now represents each history that it represented before, with this call added
+abbrev pub RecordsCall : Pending → Pending → Call → Type 0
+RecordsCall old new call = (h : History) → Represents old h → Represents new (call ∷ h)
+
 pub record IsUnchanged (r s : Pending) : Type 0 where
   pub names : at s.names ≡ at r.names
   pub outstanding : s.outstanding.keys ≡ r.outstanding.keys
@@ -85,10 +93,14 @@ abbrev pub AnswersOrMemory : {T : Type 0} → Result T Error → Result T Refusa
 AnswersOrMemory (Ok x) answer = Ok x ≡ answer
 AnswersOrMemory (Err e) answer = (refusal_of e ≡ Memory) ⊎ (Err (refusal_of e) ≡ answer)
 
+-- the entry of an open that has just been accepted, without debt
+abbrev pub new_entry : ℕ → Entry
+new_entry generation = record { generation = generation; is_live = true; settling = None; is_dirty = false; failure = None }
+
 -- what an entry reports to its open
-abbrev pub told : List ℕ → List ℕ → Result Entry Error → Result (AdmittedOpen × Option ℕ × Bool) Error
-told p n (Ok e) = Ok (record { partition = p; name = n; number = e.generation }, e.settling, is_some e.settling || e.is_dirty)
-told p n (Err e) = Err e
+abbrev pub entry_report : List ℕ → List ℕ → Result Entry Error → Result (AdmittedOpen × Option ℕ × Bool) Error
+entry_report p n (Ok e) = Ok (record { partition = p; name = n; number = e.generation }, e.settling, is_some e.settling || e.is_dirty)
+entry_report p n (Err e) = Err e
 
 -- an open returns what follows from any history that the registry represents, or Memory
 abbrev pub AnswersOpen : Pending → List ℕ → List ℕ → Bool → Result (AdmittedOpen × Option ℕ × Bool) Error → Type 0

@@ -68,11 +68,11 @@ is_live (Closed ∷ es) = false
 is_live (e ∷ es) = is_live es
 
 -- a closed name about which later opens need not learn anything
-abbrev pub over : Bool → Option ℕ → Bool → Option Refusal → Bool
-over live settling debt failure = not live && is_none settling && not debt && is_none failure
+abbrev pub needs_no_entry : Bool → Option ℕ → Bool → Option Refusal → Bool
+needs_no_entry live settling debt failure = not live && is_none settling && not debt && is_none failure
 
 abbrev pub is_over : List Event → Bool
-is_over es = over (is_live es) (settling es) (debt es) (failure es)
+is_over es = needs_no_entry (is_live es) (settling es) (debt es) (failure es)
 
 -- the latest open. A close or a settlement that leaves nothing to tell ends it; a clear never does
 abbrev pub latest : List Event → Option ℕ
@@ -156,13 +156,13 @@ admission h p n es =
     else Ok (record { partition = p; name = n; number = generations h }, settling es, is_some (settling es) || debt es))
 
 -- what a generation that releases its name gets
-abbrev pub released : History → AdmittedOpen → Result (Option ℕ) Refusal
-released h o =
+abbrev pub release_result : History → AdmittedOpen → Result (Option ℕ) Refusal
+release_result h o =
     let es = events h o.partition o.name in
     if is_this_number (latest es) o.number && is_none (settling es)
     then (if is_last (tokens_given h) then Err GenerationsExhausted else Ok (Some (tokens_given h)))
     else Ok None
 
 -- what a generation that asks for the debt gets
-abbrev pub owed : List Event → ℕ → Result Bool Refusal
-owed es g = if is_this_number (latest es) g then unless_failed (failure es) (Ok (debt es)) else Ok false
+abbrev pub debt_for : List Event → ℕ → Result Bool Refusal
+debt_for es g = if is_this_number (latest es) g then unless_failed (failure es) (Ok (debt es)) else Ok false

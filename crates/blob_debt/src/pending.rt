@@ -5,10 +5,9 @@
 //! calls: a call's result follows from any history that the registry represents, and the registry then represents that history
 //! with the call added.
 ghost use Rattle.std.specs.Prelude.{◌≡◌, ◌≢◌, IsErr, is_some, Ok, ◌∷◌, [], OnErr, OnOk, IfOk, not, option_map, option_copied, Some, None, false, ◌⊎◌, ◌<◌, ◌^◌, ◌-◌};
-ghost use Rattle.std.specs.String.{string_bytes};
-ghost use Rattle.blob_header.specs.Refusals.{refusal_of, refused, Memory};
-ghost use Rattle.blob_debt.specs.History.{History, To, Admit, Release, Settle, Clear, Fail, Close, Forget, Skip, latest, released, owed, events, is_outstanding};
-ghost use Rattle.blob_debt.specs.Debts.{Represents, IsUnchanged, IsOpenedEntry, HoldsNames, AnswersOpen, AnswersOrMemory, after_admit, after_release, entry_denial, operation_of, told, to_key, by_open};
+ghost use Rattle.blob_header.specs.Refusals.{refusal_of, refused, IsMemory};
+ghost use Rattle.blob_debt.specs.History.{History, To, Admit, Release, Settle, Clear, Fail, Close, Forget, Skip, latest, release_result, debt_for, events, is_outstanding};
+ghost use Rattle.blob_debt.specs.Debts.{Represents, IsUnchanged, IsOpenedEntry, HoldsNames, AnswersOpen, AnswersOrMemory, after_admit, after_release, entry_denial, operation_of, key_events, entry_report, to_key, by_open, RecordsCall};
 
 pub(crate) mod entry;
 pub(crate) mod generation;
@@ -104,9 +103,10 @@ impl Pending {
 
     /// Returns the entry for an accepted open, or the error of a rejected one.
     fn admitted(&self, partition: &str, name: &[u8], existing: bool) -> Result<Entry, Error>
-        ensures answer { AnswersOpen self.now partition.now name.now existing (told partition.now name.now result) }
+        ensures answer { AnswersOpen self.now partition.now name.now existing (entry_report partition.now name.now result) }
         ensures entry { IfOk result (λ entry. IsOpenedEntry self.now partition.now name.now existing entry) }
-        ensures number { IfOk result (λ entry. (entry.generation ≡ self.now.next_generation) × (entry.generation < 2 ^ 64 - 1)) }
+        ensures number { IfOk result (λ entry. entry.generation ≡ self.now.next_generation) }
+        ensures left { IfOk result (λ entry. entry.generation < 2 ^ 64 - 1) }
     {
         let mut entry = Entry::opened(self.next_generation);
         if existing {
@@ -125,7 +125,7 @@ impl Pending {
     /// Rejects a name with an open that isn't closed, or with a retained failure.
     fn check_closed(&self, partition: &str, name: &[u8], entry: &Entry) -> Result<(), Error>
         ensures ok { OnOk result ((entry.now.is_live ≡ false) × (entry.now.failure ≡ None)) }
-        ensures err { OnErr result ((refused result ≡ Some Memory) ⊎ (refused result ≡ entry_denial entry.now partition.now name.now)) }
+        ensures err { OnErr result (IsMemory result ⊎ (refused result ≡ entry_denial entry.now partition.now name.now)) }
     {
         if entry.is_live {
             let partition = String::from_str(self.alloc, partition)?;
@@ -143,11 +143,11 @@ impl Pending {
     ///
     /// `GenerationsExhausted` if no number is left for a token, or `Memory`. Both change nothing.
     pub fn release(&mut self, generation: &Generation) -> Result<Option<Sender>, Error>
-        ensures answer { (h : History) → Represents self.old h → AnswersOrMemory result (released h generation.now) }
+        ensures answer { (h : History) → Represents self.old h → AnswersOrMemory result (release_result h generation.now) }
         ensures stands { (h : History) → Represents self.old h → Represents self.new (after_release h generation.now result) }
         ensures refused { OnErr result (IsUnchanged self.old self.new) }
         ensures nothing { result ≡ Ok None → IsUnchanged self.old self.new }
-        ensures memory { (h : History) → Represents self.old h → refused result ≡ Some Memory → released h generation.now ≢ Ok None }
+        ensures memory { (h : History) → Represents self.old h → IsMemory result → release_result h generation.now ≢ Ok None }
     {
         let key = &generation.key;
         let number = generation.number;
@@ -179,8 +179,8 @@ impl Pending {
     ///
     /// Returns the retained failure as an error, if there is one, or `Memory` if its texts can't be allocated.
     pub fn debt(&self, key: &(String, Vec<u8>), id: GenerationId) -> Result<bool, Error>
-        ensures answer { (h : History) → Represents self.now h → AnswersOrMemory result (owed (events h (string_bytes key.now.0) key.now.1.items) id) }
-        ensures memory { (h : History) → Represents self.now h → refused result ≡ Some Memory → IsErr (owed (events h (string_bytes key.now.0) key.now.1.items) id) }
+        ensures answer { (h : History) → Represents self.now h → AnswersOrMemory result (debt_for (key_events h key.now) id) }
+        ensures memory { (h : History) → Represents self.now h → IsMemory result → IsErr (debt_for (key_events h key.now) id) }
     {
         let Some(entry) = self.names.get(key.0.as_str(), key.1.as_slice()) else {
             return Ok(false);
@@ -214,7 +214,7 @@ impl Pending {
         dirty: bool,
         failure: Option<Error>,
     )
-        ensures { (h : History) → Represents self.old h → Represents self.new (to_key key.now (Settle sender dirty (option_map refusal_of failure)) ∷ h) }
+        ensures { RecordsCall self.old self.new (to_key key.now (Settle sender dirty (option_map refusal_of failure))) }
     {
         let Sender { token } = sender;
         self.outstanding.remove(&token);
@@ -232,7 +232,7 @@ impl Pending {
     /// Records the outcome of flushing the debt: success ends the debt, a failure is retained. Success doesn't end a retained
     /// failure. Ignored unless the generation is the name's latest. Allocates nothing.
     pub fn clear(&mut self, key: &(String, Vec<u8>), id: GenerationId, outcome: Result<(), Error>)
-        ensures { (h : History) → Represents self.old h → Represents self.new (to_key key.now (Clear id (refused outcome)) ∷ h) }
+        ensures { RecordsCall self.old self.new (to_key key.now (Clear id (refused outcome))) }
     {
         let generation = id.number;
         change(
@@ -247,7 +247,7 @@ impl Pending {
 
     /// Retains a failure. Ignored unless the generation is the name's latest. Allocates nothing.
     pub fn fail(&mut self, generation: &Generation, error: Error)
-        ensures { (h : History) → Represents self.old h → Represents self.new (by_open generation.now (Fail generation.now.number (refusal_of error)) ∷ h) }
+        ensures { RecordsCall self.old self.new (by_open generation.now (Fail generation.now.number (refusal_of error))) }
     {
         let failed = Change::Clear {
             generation: generation.number,
@@ -258,7 +258,7 @@ impl Pending {
 
     /// Closes an open. Its debt stays for later opens of the name. Allocates nothing.
     pub fn close(&mut self, generation: Generation)
-        ensures { (h : History) → Represents self.old h → Represents self.new (by_open generation (Close generation.number) ∷ h) }
+        ensures { RecordsCall self.old self.new (by_open generation (Close generation.number)) }
     {
         let Generation { key, number } = generation;
         change(&mut self.names, &key, Change::Close { generation: number });
@@ -267,7 +267,7 @@ impl Pending {
     /// Forgets a removed name, or all names of a partition, with their debt and failures. Earlier tokens and generations are then
     /// ignored. Allocates nothing.
     pub fn forget(&mut self, partition: &str, name: Option<&[u8]>)
-        ensures { (h : History) → Represents self.old h → Represents self.new (Forget partition.now (option_copied name.entry) ∷ h) }
+        ensures { RecordsCall self.old self.new (Forget partition.now (option_copied name.entry)) }
     {
         match name {
             Some(name) => self.names.remove(partition, name),

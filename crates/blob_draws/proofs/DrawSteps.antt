@@ -29,7 +29,7 @@ each_all rate len i s done h = ap (λ n. joined done (each rate n s)) zeros ∙ 
     zeros : len - i ≡ 0
     zeros = omega arith
 
--- a front: one more that is kept, the first that is lost, and its end
+-- a kept prefix: one more kept byte, the first lost byte, and the end
 pub front_more : (rate : Rate) (len i : ℕ) (s s' : Stream) (done : List Bool) (b : Bool) → i < len → (b, s') ≡ sampled rate s → b ≡ true → joined (done ++ true ∷ []) (front rate (len - (i + 1)) s') ≡ joined done (front rate (len - i) s)
 unfolding front
 front_more rate len i s s' done b h e t = sym (ap (λ n. joined done (front rate n s)) left ∙ step (len - (i + 1)))

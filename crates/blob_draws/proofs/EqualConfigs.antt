@@ -1,4 +1,4 @@
--- Two configurations of a wrapper are equal exactly where all their rates are.
+-- Two configurations of a wrapper are equal exactly if all their rates are.
 use Rattle.std.specs.Prelude.{Bool, true, ◌&&◌, Option, Some, None}
 use Rattle.std.specs.Option.{option_eq}
 use Rattle.std.proofs.Common.{◌≡◌, refl, sym, ap, subst}

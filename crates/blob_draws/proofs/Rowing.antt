@@ -25,7 +25,7 @@ use Rattle.blob_draws.proofs.Sorting.{placed_permutes, Climbs, sorted_is, order_
 abbrev pub joined_rows : List Row → List Row × Stream → List Row × Stream
 joined_rows done rest = (done ++ rest.0, rest.1)
 
--- the rows of the writes are those of what is drawn for them
+-- the rows of the pending writes are the rows of their draws
 pub rows_same : (s : Stream) (ns : List Need) → rows_drawn s (drawings_of ns) ≡ drawn s ns
 rows_same s [] = refl
 rows_same s (n ∷ ns) = ap (λ (r : List Row × Stream). with_first (n.write.number, (positions n.write.mode n.write.rate n.write.offset (length n.write.bytes) s).0) r) (rows_same (positions n.write.mode n.write.rate n.write.offset (length n.write.bytes) s).1 ns)
@@ -77,7 +77,7 @@ pub row_none : (rows : List (ℕ × Vec Bool Global)) (number : ℕ) → ((k : �
 row_none [] number h = refl
 row_none (r ∷ rows) number h = cond-false (eqb r.0 number) _ _ (ne_eqb r.0 number (h 0 r (omega arith))) ∙ row_none rows number (λ k d l. h (suc k) d (omega arith))
 
--- there is none where the numbers before i are less and those from there on are greater
+-- no row has the number if the numbers before i are less and those from i on are greater
 pub row_past : (rows : List (ℕ × Vec Bool Global)) (number i : ℕ) → ((k : ℕ) (d : ℕ × Vec Bool Global) → k < i → (get_or rows k d).0 < number) → ((k : ℕ) (d : ℕ × Vec Bool Global) → i ≤ k → k < length rows → number < (get_or rows k d).0) → [] ≡ row_of (rows_in rows) number
 row_past rows number i below above = sym (row_none rows number (λ k d l. ⊎_elim (λ h. less (get_or rows k d).0 (below k d h)) (λ h. more (get_or rows k d).0 (above k d h l)) (order k i)))
   where

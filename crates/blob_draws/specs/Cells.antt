@@ -1,5 +1,5 @@
 -- Write configurations by a cell's number.
-use Rattle.std.specs.Prelude.{ℕ, ◌+◌, ◌*◌, ◌/◌, ◌%◌, if◌then◌else◌, nat_lt}
+use Rattle.std.specs.Prelude.{ℕ, ◌<◌, ◌+◌, ◌*◌, ◌/◌, ◌%◌, if◌then◌else◌, nat_lt}
 use Rattle.blob_model.specs.Rates.{Rate}
 use Rattle.blob_model.specs.declared.mode.PartialWriteMode.{PartialWriteMode}
 use Rattle.blob_model.specs.declared.mode.PartialWriteMode.TheVariants.{Prefix, Subset}
@@ -17,6 +17,7 @@ pub record Grid : Type 0 where
   pub retention : ℕ
   pub mode : PartialWriteMode
 
+-- the rates and the mode of a cell
 abbrev pub config_in_cell : ℕ → Grid
 config_in_cell cell = record { failure = cell % 10201 % 101; retention = cell % 10201 / 101; mode = mode_in_cell cell }
 
@@ -32,3 +33,7 @@ first_of f r = record { failure = f; retention = r; mode = Prefix }
 
 abbrev pub second_of : ℕ → ℕ → Grid
 second_of f r = record { failure = f; retention = r; mode = Subset }
+
+-- for each pair of rates in hundredths: the failure rate, then the retention rate
+abbrev pub ForRates : (ℕ → ℕ → Type 0) → Type 0
+ForRates P = (failure retention : ℕ) → failure < 101 → retention < 101 → P failure retention

@@ -35,25 +35,26 @@ abbrev pub laying : List Run → (ℕ → List Entry) → Changes
 laying rs entries = record { entries = entries; live = λ live. all_written live rs; size = λ size. size_of_runs size rs }
 
 -- if the incarnation has ended, they are written over the live bytes only
-abbrev pub laying_gone : List Run → Changes
-laying_gone rs = record (laying rs (λ number. [])) { size = λ size. size }
+abbrev pub changes_when_stale : List Run → Changes
+changes_when_stale rs = record (laying rs (λ number. [])) { size = λ size. size }
 
 -- a resize to this length, which survives a crash or not
-abbrev pub cutting : ℕ → Bool → Changes
-cutting len survives = record { entries = λ number. if survives then Resized len ∷ [] else []; live = λ live. resized live len; size = λ size. len }
+abbrev pub changes_of_length : ℕ → Bool → Changes
+changes_of_length len survives = record { entries = λ number. if survives then Resized len ∷ [] else []; live = λ live. resized live len; size = λ size. len }
 
--- by outcome and result: a SYNC write that doesn't fail is kept whole, a plain one is loose, and so is one whose sync fails; a failed one
--- keeps its runs. If the incarnation has ended, the live bytes have the SYNC write, or the first run of a failed one
+-- by outcome and result: a SYNC write that doesn't fail is durable as a whole. A plain write may be lost, and so may a SYNC
+-- write if its sync fails. A failed write keeps its runs. If the incarnation has ended, the live bytes have the SYNC write,
+-- or the first run of a failed write
 abbrev pub write_changes : WriteFate → Option (PartialWriteMode × Rate) → Bool → ℕ → List ℕ → Option Refusal → Changes
 write_changes Done retained true offset bytes None = laying ((offset, bytes) ∷ []) (λ number. Kept offset bytes ∷ [])
 write_changes Done retained false offset bytes None = laying ((offset, bytes) ∷ []) (λ number. loose retained number offset bytes)
-write_changes Done retained true offset bytes (Some (BlobMissing p n)) = laying_gone ((offset, bytes) ∷ [])
+write_changes Done retained true offset bytes (Some (BlobMissing p n)) = changes_when_stale ((offset, bytes) ∷ [])
 write_changes Unsynced retained sync offset bytes (Some Injected) = laying ((offset, bytes) ∷ []) (λ number. loose retained number offset bytes)
 write_changes (Failed chosen) retained sync offset bytes (Some Injected) = let rs = runs offset bytes chosen in laying rs (λ number. kept_runs rs)
-write_changes (Failed chosen) retained sync offset bytes (Some (BlobMissing p n)) = laying_gone (take 1 (runs offset bytes chosen))
+write_changes (Failed chosen) retained sync offset bytes (Some (BlobMissing p n)) = changes_when_stale (take 1 (runs offset bytes chosen))
 write_changes fate retained sync offset bytes answer = laying [] (λ number. [])
 
 abbrev pub resize_changes : ResizeFate → ℕ → Option Refusal → Changes
-resize_changes (Resizes survives) len None = cutting len survives
-resize_changes (Reaches size) len (Some Injected) = cutting size true
+resize_changes (Resizes survives) len None = changes_of_length len survives
+resize_changes (Reaches size) len (Some Injected) = changes_of_length size true
 resize_changes fate len answer = laying [] (λ number. [])

@@ -14,8 +14,8 @@ use Rattle.blob_draws.specs.Faults.{WriteFate, Done, Unsynced, Failed, write_fat
 abbrev pub write_failure : Option WriteConfig → Option Rate
 write_failure config = option_map (λ c. c.failure_rate) config
 
-abbrev pub kept_by : Option WriteConfig → Option (PartialWriteMode × Rate)
-kept_by config = option_map (λ c. (c.mode, c.retention_rate)) config
+abbrev pub retention_of : Option WriteConfig → Option (PartialWriteMode × Rate)
+retention_of config = option_map (λ c. (c.mode, c.retention_rate)) config
 
 abbrev pub has_uncounted_end : ℕ → List ℕ → Bool
 has_uncounted_end offset bytes = nat_lt (2 ^ 64 - 1) (offset + length bytes)
@@ -38,3 +38,7 @@ resize_fate_of (resize.Reaches size) = Reaches size
 abbrev pub IsSized : ℕ → WriteFate → Type 0
 IsSized len (Failed kept) = kept ≢ [] → length kept ≡ len
 IsSized len fate = Unit {0}
+
+-- the outcome of a write and the rest of the stream are what this draw gives, from the stream before to the one after
+abbrev pub DrawsOutcome : (Stream → WriteFate × Stream) → Stream → Stream → code.WriteFate → Type 0
+DrawsOutcome draw before after fate = (write_fate_of fate, after) ≡ draw before

@@ -1,9 +1,12 @@
 -- The rows of a crash's table.
-use Rattle.std.specs.Prelude.{ℕ, Bool, List, map, Vec}
+use Rattle.std.specs.Prelude.{◌≡◌, ◌<◌, ℕ, Bool, List, map, slice_index_or, Vec}
 use Rattle.std.specs.Global.{Global}
+use Rattle.rand_core.specs.Stream.{Stream}
 use Rattle.blob_model.specs.Draws.{Row}
 use Rattle.std.specs.List.Sorted.{IsNonDecreasingBy}
+use Rattle.blob_draws.specs.declared.draw.Draw.{Draw}
 use Rattle.blob_draws.specs.declared.selections.Selections.{Selections}
+use Rattle.blob_draws.specs.Drawings.{drawings_in, rows_drawn}
 
 -- a write's number and its choices
 abbrev pub row_in : ℕ × Vec Bool Global → Row
@@ -19,6 +22,14 @@ rows_of selections = selections.rows.items
 abbrev pub table_of : Selections → List Row
 table_of selections = map (λ row. (row.0, row.1.items)) selections.rows.items
 
--- their numbers don't fall
+-- the numbers of the rows don't decrease
 abbrev pub AreNumbered : List (ℕ × Vec Bool Global) → Type 0
 AreNumbered rows = IsNonDecreasingBy (λ (row : ℕ × Vec Bool Global). row.0) rows
+
+-- the rows before i have smaller numbers
+abbrev pub HasSmallerBefore : List (ℕ × Vec Bool Global) → ℕ → ℕ → Type 0
+HasSmallerBefore rows number i = (k : ℕ) (d : ℕ × Vec Bool Global) → k < i → (slice_index_or rows k d).0 < number
+
+-- the rows and the rest of the stream are what the draws for these writes give
+abbrev pub DrawsRows : List Draw → Stream → Stream → Vec (ℕ × Vec Bool Global) Global → Type 0
+DrawsRows draws before after rows = (rows_in rows.items, after) ≡ rows_drawn before (drawings_in draws)

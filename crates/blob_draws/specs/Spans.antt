@@ -1,5 +1,5 @@
 -- Runs of a write by their positions.
-use Rattle.std.specs.Prelude.{◌≡◌, ℕ, ◌+◌, ◌-◌, ◌<◌, ◌≤◌, Bool, List, length, map, reverse, take, drop, slice_index}
+use Rattle.std.specs.Prelude.{◌≡◌, ℕ, ◌+◌, ◌-◌, ◌<◌, ◌≤◌, All, Bool, List, length, map, reverse, take, drop, slice_index}
 use Rattle.blob_model.specs.Runs.{Run, runs, with_byte}
 use Rattle.blob_draws.specs.declared.runs.Span.{Span}
 
@@ -21,3 +21,7 @@ ends_by end s = s.end ≤ end
 abbrev pub JoinsRuns : ℕ → List Span → List Span → Type 0
 JoinsRuns position old new = (offset : ℕ) (bytes : List ℕ) → position < length bytes
     → pieces offset bytes (reverse new) ≡ with_byte (offset + position) (slice_index bytes position) (pieces offset bytes (reverse old))
+
+-- if all spans ended by an end after this position, they still do
+abbrev pub KeepsEnds : ℕ → List Span → List Span → Type 0
+KeepsEnds position old new = (end : ℕ) → position < end → All (ends_by end) old → All (ends_by end) new

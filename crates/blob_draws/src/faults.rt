@@ -3,7 +3,7 @@ ghost use Rattle.std.specs.Prelude.{◌≡◌, ◌<◌, ◌+◌, ◌^◌, Some, 
 ghost use Rattle.blob_header.specs.Refusals.{IsMemory};
 ghost use Rattle.blob_draws.specs.Faults.{draw, retention, failed, drawn_fate, partly, resize_fate, size_between};
 ghost use Rattle.blob_model.specs.Rates.{sampled};
-ghost use Rattle.blob_draws.specs.Fates.{kept_by, write_failure, write_fate_of, resize_fate_of, IsSized};
+ghost use Rattle.blob_draws.specs.Fates.{retention_of, write_failure, write_fate_of, resize_fate_of, DrawsOutcome, IsSized};
 
 use crate::config::{Config, ResizeConfig, WriteConfig};
 use crate::selection::draw_positions;
@@ -47,7 +47,7 @@ pub fn draws<R: Rng>(rate: Option<Probability>, rng: &mut R) -> bool
 
 /// Returns the configuration of writes if its retention rate isn't zero.
 pub fn retained(config: Option<WriteConfig>) -> Option<WriteConfig>
-    ensures kept { kept_by result ≡ retention config }
+    ensures kept { retention_of result ≡ retention config }
 {
     match config {
         Some(config) if !config.retention_rate.is_zero() => Some(config),
@@ -73,7 +73,7 @@ fn draw_kept<R: Rng>(
     rng: &mut R,
 ) -> Result<WriteFate, Error>
     requires { offset + len < 2 ^ 64 }
-    ensures ok { IfOk result (λ fate. (write_fate_of fate, R.stream rng.new) ≡ failed (retention config) offset len (R.stream rng.old)) }
+    ensures ok { IfOk result (DrawsOutcome (failed (retention config) offset len) (R.stream rng.old) (R.stream rng.new)) }
     ensures sized { IfOk result (λ fate. IsSized len (write_fate_of fate)) }
     ensures memory { OnErr result (IsMemory result) }
 {
@@ -95,7 +95,7 @@ pub fn draw_write<R: Rng>(
     rng: &mut R,
 ) -> Result<WriteFate, Error>
     requires { offset + len < 2 ^ 64 }
-    ensures ok { IfOk result (λ fate. (write_fate_of fate, R.stream rng.new) ≡ drawn_fate config.now sync offset len (R.stream rng.old)) }
+    ensures ok { IfOk result (DrawsOutcome (drawn_fate config.now sync offset len) (R.stream rng.old) (R.stream rng.new)) }
     ensures sized { IfOk result (λ fate. IsSized len (write_fate_of fate)) }
     ensures memory { OnErr result (IsMemory result) }
 {

@@ -3,8 +3,7 @@ ghost use Rattle.std.specs.Prelude.{◌≡◌, ◌<◌, ℕ, Bool, length, slice
 ghost use Rattle.std.specs.declared.vec.Vec.{Vec};
 ghost use Rattle.std.specs.declared.alloc.Global.{Global};
 ghost use Rattle.blob_model.specs.Draws.{row_of};
-ghost use Rattle.blob_draws.specs.Drawings.{drawings_in, rows_drawn};
-ghost use Rattle.blob_draws.specs.Rows.{rows_in, AreNumbered};
+ghost use Rattle.blob_draws.specs.Rows.{rows_in, AreNumbered, DrawsRows, HasSmallerBefore};
 
 use crate::draw::Draw;
 use crate::selection::draw_positions;
@@ -17,7 +16,7 @@ pub fn draw_rows<R: Rng>(
     draws: &[Draw],
     rng: &mut R,
 ) -> Result<Vec<(u64, Vec<bool>)>, AllocError>
-    ensures { IfOk result (λ rows. (rows_in rows.items, R.stream rng.new) ≡ rows_drawn (R.stream rng.old) (drawings_in draws.now)) }
+    ensures { IfOk result (DrawsRows draws.now (R.stream rng.old) (R.stream rng.new)) }
 {
     let mut rows = Vec::with_capacity(alloc, draws.len())?;
     for draw in draws {
@@ -50,7 +49,7 @@ fn guess(rows: &[(u64, Vec<bool>)], number: u64) -> Option<usize>
     requires { AreNumbered rows.now }
     ensures inside { IfSome result (λ i. i < length rows.now) }
     ensures here { IfSome result (λ i. (d : ℕ × Vec Bool Global) → (slice_index_or rows.now i d).0 ≡ number) }
-    ensures below { IfSome result (λ i. (k : ℕ) (d : ℕ × Vec Bool Global) → k < i → (slice_index_or rows.now k d).0 < number) }
+    ensures below { IfSome result (HasSmallerBefore rows.now number) }
 {
     if rows.is_empty() {
         return None;

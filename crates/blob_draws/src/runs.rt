@@ -14,13 +14,13 @@ pub struct Span {
 impl Span {
     ghost use Rattle.std.specs.Prelude.{◌≡◌, ◌≤◌, ◌+◌, ℕ, List, All, ◌^◌, length, reverse, slice_index, OnOk, IfOk};
     ghost use Rattle.blob_model.specs.Runs.{runs, with_byte};
-    ghost use Rattle.blob_draws.specs.Spans.{AreRuns, JoinsRuns, ends_by};
+    ghost use Rattle.blob_draws.specs.Spans.{AreRuns, JoinsRuns, KeepsEnds, ends_by};
 
     /// Adds a selected position before all runs. The lowest run is last in the list.
     fn join(spans: &mut Vec<Span>, position: usize) -> Result<(), AllocError>
         requires { position + 1 < 2 ^ 64 }
         ensures pieces { OnOk result (JoinsRuns position spans.old.items spans.new.items) }
-        ensures inside { OnOk result ((end : ℕ) → position < end → All (ends_by end) spans.old.items → All (ends_by end) spans.new.items) }
+        ensures inside { OnOk result (KeepsEnds position spans.old.items spans.new.items) }
     {
         let run = Span {
             start: position,

@@ -1,7 +1,6 @@
 //! Draws of the bytes of a write that are kept.
-ghost use Rattle.std.specs.Prelude.{◌≡◌, ◌<◌, ◌≤◌, ◌+◌, ◌%◌, ◌^◌, ◌||◌, ◌==◌, ◌++◌, List, [], true, false, length, replicate, if◌then◌else◌, IfOk, OnErr, vec_len, vec_capacity};
-ghost use Rattle.blob_model.specs.Draws.{front, each, sectors, positions};
-ghost use Rattle.blob_model.specs.Rates.{sampled};
+ghost use Rattle.std.specs.Prelude.{◌≡◌, ◌<◌, ◌≤◌, ◌+◌, ◌^◌, ◌++◌, List, [], true, false, length, replicate, IfOk, OnErr, vec_len, vec_capacity};
+ghost use Rattle.blob_model.specs.Draws.{front, each, sector_choice, sectors, positions};
 ghost use Rattle.blob_draws.specs.Drawings.{IsBlank};
 
 use crate::mode::PartialWriteMode;
@@ -55,7 +54,7 @@ fn draw_sector<R: Rng>(
     rng: &mut R,
 ) -> bool
     requires { 0 < size }
-    ensures { (result, R.stream rng.new) ≡ (if first || (position % size == 0) then sampled rate (R.stream rng.old) else (last, R.stream rng.old)) }
+    ensures { (result, R.stream rng.new) ≡ sector_choice rate size position first last (R.stream rng.old) }
 {
     if first || position % size == 0 {
         rate.sample(rng)
@@ -96,7 +95,7 @@ pub fn draw_positions<R: Rng>(
     rng: &mut R,
 ) -> Result<Vec<bool>, AllocError>
     requires { offset + len < 2 ^ 64 }
-    ensures ok { IfOk result (λ chosen. (chosen.items, R.stream rng.new) ≡ positions mode rate offset len (R.stream rng.old)) }
+    ensures ok { IfOk result (λ kept. (kept.items, R.stream rng.new) ≡ positions mode rate offset len (R.stream rng.old)) }
     ensures err { OnErr result (R.stream rng.new ≡ R.stream rng.old) }
 {
     let mut chosen = Vec::with_capacity(alloc, len)?;

@@ -17,7 +17,7 @@ unless_other : (k : ℕ) (o : Option ℕ) → option_eq nat_eq o (Some k) ≡ fa
 unless_other k None e = refl
 unless_other k (Some m) e = ap (λ b. if b then None else Some m) e
 
--- the close of a handle whose open was ended
+-- the close of a handle after its open was ended
 pub closed_other : (s : OpenNames) (r : Registration) → option_eq nat_eq (s.registered r.partition r.name) (Some r.number) ≡ false → closed s r ≡ s
 closed_other s r e = ap (λ f. record s { registered = f }) (ap (with_name s.registered r.partition r.name) (unless_other r.number (s.registered r.partition r.name) e) ∙ with_at_same s.registered r.partition r.name)
 

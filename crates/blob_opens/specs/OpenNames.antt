@@ -66,6 +66,11 @@ pub data OpenAnswer (s : OpenNames) (p n : List ℕ) (asked : Option Refusal →
   NoMemory : untouched → OpenAnswer s p n asked made kept untouched (Some Memory)
   NoNumber : IsExhausted s p n → untouched → OpenAnswer s p n asked made kept untouched (Some GenerationsExhausted)
 
+-- the number of each open name is less than the next open's number
+abbrev pub OpenNumbersAreBelowNext : Type 0
+OpenNumbersAreBelowNext = (h : List Deed) (p n : List ℕ) (number : ℕ) → (after_deeds h).registered p n ≡ Some number
+    → number < (after_deeds h).next
+
 -- the close of a handle ends no open but its own
 abbrev pub ClosesNoOther : Type 0
 ClosesNoOther = (h : List Deed) (r : Registration) (p n : List ℕ) (number : ℕ) → (after_deeds h).registered p n ≡ Some number → number ≢ r.number

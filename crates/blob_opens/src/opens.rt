@@ -2,13 +2,11 @@
 ghost use Rattle.std.specs.Prelude.{◌≡◌, ◌≢◌, ◌≤◌, ◌+◌, ◌-◌, ◌^◌, ◌⊎◌, ℕ, Some, None, OnOk, OnErr, IfOk, IfErr, length, option_copied, is_some, false, ◌<◌};
 ghost use Rattle.std.specs.Range.{range_inclusive_exhausted};
 ghost use Rattle.hex.specs.Hex.{encode_lower};
-ghost use Rattle.blob_base.specs.Stores.{OpensBlob};
-ghost use Rattle.blob_model.specs.Directory.{removed};
-ghost use Rattle.blob_model.specs.Durable.{durable_without};
-ghost use Rattle.blob_header.specs.Refusals.{refused, refusal_of, Memory, BlobAlreadyOpen, GenerationsExhausted, IsMemory};
+ghost use Rattle.blob_base.specs.StoreChanges.{DropsBytes, DropsNames, SameFiles};
+ghost use Rattle.blob_header.specs.Refusals.{refused, refusal_of, BlobAlreadyOpen, FailsWith, GenerationsExhausted, IsMemory, IsMemoryError};
 ghost use Rattle.blob_header.specs.Versions.{lower, upper};
 ghost use Rattle.blob_opens.specs.OpenNames.{opened, closed, ended, none_open, with_registration, IsExhausted};
-ghost use Rattle.blob_opens.specs.Opens.{names_of, registration_of, store_handle, OpensHandle, RegistryOpens};
+ghost use Rattle.blob_opens.specs.Opens.{names_of, next_registration, registration_of, store_handle, HasNoNumber, OpensHandle, RegistryOpens};
 
 pub mod history;
 
@@ -60,12 +58,12 @@ impl Opens {
     ) -> Result<(Blob<S::Blob>, u64, BlobVersion), Error>
         requires fresh { range_inclusive_exhausted versions ≡ false }
         requires some { lower versions ≤ upper versions }
-        ensures answer { RegistryOpens S.Durable S.allows_open S.leaves_open self.old store.old store.new partition.now name.now versions (refused result) }
-        ensures exhausted { IsExhausted (names_of self.old) partition.now name.now → refused result ≡ Some GenerationsExhausted }
+        ensures answer { RegistryOpens S.Storage self.old store.old store.new partition.now name.now versions (refused result) }
+        ensures exhausted { IsExhausted (names_of self.old) partition.now name.now → FailsWith result GenerationsExhausted }
         ensures registered { OnOk result (names_of self.new ≡ opened (names_of self.old) partition.now name.now) }
         ensures err { OnErr result (names_of self.new ≡ names_of self.old) }
-        ensures handle { IfOk result (λ opened. registration_of opened.0 ≡ record { partition = partition.now; name = name.now; number = (names_of self.old).next }) }
-        ensures opened { IfOk result (λ o. OpensHandle S.Durable S.Blob.Blob store.old store.new partition.now name.now (lower versions) (upper versions) o.0 o.2.0) }
+        ensures handle { IfOk result (λ opened. registration_of opened.0 ≡ next_registration self.old partition.now name.now) }
+        ensures opened { IfOk result (OpensHandle S.Durable S.Blob.Blob store.old store.new partition.now name.now versions) }
         ensures size { IfOk result (λ opened. opened.1 ≡ length (S.Blob.live (store_handle opened.0))) }
         ensures kept_size { IfOk result (λ opened. S.keeps_size (store_handle opened.0) opened.1) }
     {
@@ -110,9 +108,9 @@ impl Opens {
     ) -> Result<(), Error>
         ensures allowed { S.allows_remove store.old partition.now (option_copied name.entry) (refused result) }
         ensures leaves { S.leaves_remove store.old partition.now (option_copied name.entry) (refused result) store.new }
-        ensures directory { OnOk result (S.directory store.new ≡ removed (S.directory store.old) partition.now (option_copied name.entry)) }
-        ensures durable { OnOk result (S.durable store.new ≡ durable_without (S.durable store.old) partition.now (option_copied name.entry)) }
-        ensures kept { OnErr result ((S.directory store.new ≡ S.directory store.old) × (S.durable store.new ≡ S.durable store.old)) }
+        ensures directory { OnOk result (DropsNames S.Durable store.old store.new partition.now (option_copied name.entry)) }
+        ensures durable { OnOk result (DropsBytes S.Durable store.old store.new partition.now (option_copied name.entry)) }
+        ensures kept { OnErr result (SameFiles S.Durable store.old store.new) }
         ensures ended { OnOk result (names_of self.new ≡ ended (names_of self.old) partition.now (option_copied name.entry)) }
         ensures err { OnErr result (names_of self.new ≡ names_of self.old) }
     {
@@ -192,11 +190,11 @@ impl Opens {
     /// Registers a name that isn't open under the next number. Doesn't increment that number.
     fn register(&mut self, partition: &str, name: &[u8]) -> Result<Registration, Error>
         requires { (names_of self.old).registered partition.now name.now ≡ None }
-        ensures ok { IfOk result (λ r. r ≡ record { partition = partition.now; name = name.now; number = (names_of self.old).next }) }
+        ensures ok { IfOk result (λ r. r ≡ next_registration self.old partition.now name.now) }
         ensures left { OnOk result ((names_of self.old).next < 2 ^ 64 - 1) }
         ensures registered { OnOk result (names_of self.new ≡ with_registration (names_of self.old) partition.now name.now) }
-        ensures exhausted { (names_of self.old).next ≡ 2 ^ 64 - 1 → refused result ≡ Some GenerationsExhausted }
-        ensures refused { IfErr result (λ e. (refusal_of e ≡ Memory) ⊎ ((refusal_of e ≡ GenerationsExhausted) × ((names_of self.old).next ≡ 2 ^ 64 - 1))) }
+        ensures exhausted { HasNoNumber self.old → FailsWith result GenerationsExhausted }
+        ensures refused { IfErr result (λ e. IsMemoryError e ⊎ ((refusal_of e ≡ GenerationsExhausted) × HasNoNumber self.old)) }
         ensures err { OnErr result (names_of self.new ≡ names_of self.old) }
     {
         if self.next == u64::MAX {

@@ -1,8 +1,7 @@
 //! The result of an accepted open, in any store.
 
 ghost use Rattle.std.specs.Prelude.{◌≡◌, ◌<◌, ℕ, List, Some};
-ghost use Rattle.blob_model.specs.Directory.{current};
-ghost use Rattle.blob_model.specs.Opened.{OpensAreNamed, OpensAreCurrent, OpensAreDurable, CurrentGoesOn, NumbersDontFall, OneVersionIsAnswered, MissingNamesBeginEmpty};
+ghost use Rattle.blob_model.specs.Opened.{OpensAreNamed, OpensAreCurrent, OpensAreDurable, CurrentGoesOn, NumbersAreBelowNext, NumbersDontFall, OneVersionIsAnswered, MissingNamesBeginEmpty};
 ghost use Rattle.blob_model.specs.Places.{Place};
 
 use crate::Durable as Shows;
@@ -22,6 +21,6 @@ pub fn accepted_opens()
 
 /// The number of a current incarnation is less than the next number.
 pub fn numbers_are_given<S: Shows>()
-    ensures current { (s : S) (p n : List ℕ) (o : Place) → current (S.directory s) p n ≡ Some o → o.number < (S.directory s).next }
+    ensures current { (s : S) → NumbersAreBelowNext (S.directory s) }
     ensures durable { (s : S) (o : Place) (bytes : List ℕ) → S.durable s o ≡ Some bytes → o.number < (S.directory s).next }
 {}

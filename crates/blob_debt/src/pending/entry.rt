@@ -36,11 +36,11 @@ pub(crate) enum Change {
 }
 
 impl Entry {
-    ghost use Rattle.blob_debt.specs.Debts.{standing_of, is_standing_over, FollowsChange};
+    ghost use Rattle.blob_debt.specs.Debts.{standing_of, is_standing_over, new_entry, FollowsChange};
 
     /// Returns the entry of a live open without debt.
     pub(crate) fn opened(generation: u64) -> Entry
-        ensures { result ≡ record { generation = generation; is_live = true; settling = None; is_dirty = false; failure = None } }
+        ensures { result ≡ new_entry generation }
     {
         Entry {
             generation,

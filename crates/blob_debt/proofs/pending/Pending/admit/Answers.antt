@@ -17,7 +17,7 @@ returns-clause-stands c = λ h s.
     rw (c.in_ok-from_str.ensures.ok, c.in_ok-from_slice.ensures.items) (record {
       names = keeps_done c.args.self.now.names c.insert.new.self p n (Some e) (Admit c.args.existing e.generation) h c.in_ok-insert.ensures.ok (c.in_ok-entry.ensures.entry h s) s.names;
       outstanding = s.outstanding;
-      generations = ap (λ k. k + 1) (c.in_ok-entry.ensures.number.0 ∙ s.generations);
+      generations = ap (λ k. k + 1) (c.in_ok-entry.ensures.number ∙ s.generations);
       tokens = s.tokens;
-      numbered = (c.in_ok-entry.ensures.number.0 ∙ s.generations, s.numbered);
+      numbered = (c.in_ok-entry.ensures.number ∙ s.generations, s.numbered);
     })
