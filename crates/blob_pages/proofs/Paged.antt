@@ -8,7 +8,7 @@ use Rattle.std.proofs.lemmas.List.FromFn.{length-map-range_with_len, get_or-map-
 use Rattle.blob_model.specs.Bytes.{overlay, resized, reach}
 use Rattle.blob_model.proofs.Bytes.{same_bytes, length-resized, at_resized, past_resized, length-overlay_by, reach_below, reach_all, at_chosen, at_other}
 use Rattle.blob_pages.specs.declared.pages.Page.TheVariants.{Owned, Shared}
-use Rattle.blob_pages.specs.Paged.{bytes_in, page_bytes, is_owned, byte_at, owned_at, AreFull, AreOwned, Keeps, KeepsOwned, Extends, Lays, spliced}
+use Rattle.blob_pages.specs.Paged.{page_size, bytes_in, page_bytes, is_owned, byte_at, owned_at, AreFull, AreOwned, Keeps, KeepsOwned, Extends, Lays, spliced}
 
 module _ (x : List ℕ) (n : ℕ) (y : List ℕ) (h : n + length y ≤ length x) where
   pub length-spliced : length (spliced x n y) ≡ length x
@@ -40,13 +40,13 @@ module _ (ps : List Page) (i : ℕ) (q : Page) (h : i < length ps) where
   pub table_other : (j : ℕ) → j ≢ i → get_or (map page_bytes (set ps i q)) j [] ≡ get_or (map page_bytes ps) j []
   table_other j ne = ap (λ t. get_or t j []) (map-set page_bytes ps i q) ∙ get_or-set_other (map page_bytes ps) i j (page_bytes q) [] ne
 
-  pub byte_same : (p : ℕ) → p / 16384 ≡ i → byte_at (set ps i q) p ≡ get_or (page_bytes q) (p % 16384) 0
+  pub byte_same : (p : ℕ) → p / page_size ≡ i → byte_at (set ps i q) p ≡ get_or (page_bytes q) (p % page_size) 0
   unfolding byte_at
-  byte_same p e = ap (λ j. get_or (get_or (map page_bytes (set ps i q)) j []) (p % 16384) 0) e ∙ ap (λ l. get_or l (p % 16384) 0) table_same
+  byte_same p e = ap (λ j. get_or (get_or (map page_bytes (set ps i q)) j []) (p % page_size) 0) e ∙ ap (λ l. get_or l (p % page_size) 0) table_same
 
-  pub byte_other : (p : ℕ) → p / 16384 ≢ i → byte_at (set ps i q) p ≡ byte_at ps p
+  pub byte_other : (p : ℕ) → p / page_size ≢ i → byte_at (set ps i q) p ≡ byte_at ps p
   unfolding byte_at
-  byte_other p ne = ap (λ l. get_or l (p % 16384) 0) (table_other (p / 16384) ne)
+  byte_other p ne = ap (λ l. get_or l (p % page_size) 0) (table_other (p / page_size) ne)
 
   pub keeps_owned : is_owned q ≡ true → KeepsOwned ps (set ps i q)
   keeps_owned e = record {
@@ -62,25 +62,25 @@ module _ (ps : List Page) (i : ℕ) (q : Page) (h : i < length ps) where
   pub now_owned : is_owned q ≡ true → owned_at (set ps i q) i ≡ true
   now_owned e = ap (λ t. get_or t i false) (map-set is_owned ps i q) ∙ get_or-set_same (map is_owned ps) i (is_owned q) false (omega (arith, h, length-map ps is_owned)) ∙ e
 
-pub byte_in : (ps : List Page) (p : ℕ) (page : Page) → p / 16384 < length ps → page ≡ get_or ps (p / 16384) page → byte_at ps p ≡ get_or (page_bytes page) (p % 16384) 0
+pub byte_in : (ps : List Page) (p : ℕ) (page : Page) → p / page_size < length ps → page ≡ get_or ps (p / page_size) page → byte_at ps p ≡ get_or (page_bytes page) (p % page_size) 0
 unfolding byte_at
-byte_in ps p page h is = ap (λ l. get_or l (p % 16384) 0) (table_at ps (p / 16384) page h is)
+byte_in ps p page h is = ap (λ l. get_or l (p % page_size) 0) (table_at ps (p / page_size) page h is)
 
 -- a run laid within one page
-pub page_laid : (ps qs : List Page) (at : ℕ) (x : List ℕ) (page q : Page) → AreFull ps → at / 16384 < length ps → at % 16384 + length x ≤ 16384
-    → page ≡ get_or ps (at / 16384) page → page_bytes q ≡ spliced (page_bytes page) (at % 16384) x → is_owned q ≡ true → qs ≡ set ps (at / 16384) q → Lays ps qs at x
+pub page_laid : (ps qs : List Page) (at : ℕ) (x : List ℕ) (page q : Page) → AreFull ps → at / page_size < length ps → at % page_size + length x ≤ page_size
+    → page ≡ get_or ps (at / page_size) page → page_bytes q ≡ spliced (page_bytes page) (at % page_size) x → is_owned q ≡ true → qs ≡ set ps (at / page_size) q → Lays ps qs at x
 page_laid ps qs at x page q full h fits is eq own e = rw e (record {
   same = length-set ps i q;
-  within = λ p l m. byte_same ps i q h p (omega (arith, l, m, fits)) ∙ ap (λ l. get_or l (p % 16384) 0) eq ∙ spliced_within (page_bytes page) (at % 16384) x room (p % 16384) (omega (arith, l, m, fits)) (omega (arith, l, m, fits)) ∙ ap (λ k. get_or x k 0) (omega (arith, l, m, fits));
+  within = λ p l m. byte_same ps i q h p (omega (arith, l, m, fits)) ∙ ap (λ l. get_or l (p % page_size) 0) eq ∙ spliced_within (page_bytes page) (at % page_size) x room (p % page_size) (omega (arith, l, m, fits)) (omega (arith, l, m, fits)) ∙ ap (λ k. get_or x k 0) (omega (arith, l, m, fits));
   outside = λ p out. ⊎_elim
-      (λ same. byte_same ps i q h p same ∙ ap (λ l. get_or l (p % 16384) 0) eq
-      ∙ ⊎_elim (λ l. spliced_before (page_bytes page) (at % 16384) x room (p % 16384) (omega (arith, l, same))) (λ m. spliced_behind (page_bytes page) (at % 16384) x room (p % 16384) (omega (arith, m, same))) out
+      (λ same. byte_same ps i q h p same ∙ ap (λ l. get_or l (p % page_size) 0) eq
+      ∙ ⊎_elim (λ l. spliced_before (page_bytes page) (at % page_size) x room (p % page_size) (omega (arith, l, same))) (λ m. spliced_behind (page_bytes page) (at % page_size) x room (p % page_size) (omega (arith, m, same))) out
       ∙ sym (byte_in ps p page (omega (arith, same, h)) (is ∙ ap (λ j. get_or ps j page) (sym same))))
       (λ ne. byte_other ps i q h p ne)
-      (cases_eq (p / 16384) i);
+      (cases_eq (p / page_size) i);
   full = record {
     each = λ j l. ⊎_elim
-        (λ same. ap (λ k. length (get_or (map page_bytes (set ps i q)) k [])) same ∙ ap length (table_same ps i q h) ∙ ap length eq ∙ length-spliced (page_bytes page) (at % 16384) x room ∙ size)
+        (λ same. ap (λ k. length (get_or (map page_bytes (set ps i q)) k [])) same ∙ ap length (table_same ps i q h) ∙ ap length eq ∙ length-spliced (page_bytes page) (at % page_size) x room ∙ size)
         (λ ne. ap length (table_other ps i q h j ne) ∙ full.each j (omega (arith, l, length-set ps i q)))
         (cases_eq j i);
   };
@@ -88,12 +88,12 @@ page_laid ps qs at x page q full h fits is eq own e = rw e (record {
 })
   where
     i : ℕ
-    i = at / 16384
+    i = at / page_size
 
-    size : length (page_bytes page) ≡ 16384
+    size : length (page_bytes page) ≡ page_size
     size = sym (ap length (table_at ps i page h is)) ∙ full.each i h
 
-    room : at % 16384 + length x ≤ length (page_bytes page)
+    room : at % page_size + length x ≤ length (page_bytes page)
     room = omega (arith, size, fits)
 
 pub lays_none : (ps : List Page) (o : ℕ) → AreFull ps → Lays ps ps o []
@@ -155,15 +155,15 @@ module _ (b : List Page) (q : Page) where
       zero_left : length b - length b ≡ 0
       zero_left = omega arith
 
-  byte_kept : (p : ℕ) → p / 16384 < length b → byte_at (b ++ q ∷ []) p ≡ byte_at b p
+  byte_kept : (p : ℕ) → p / page_size < length b → byte_at (b ++ q ∷ []) p ≡ byte_at b p
   unfolding byte_at
-  byte_kept p h = ap (λ l. get_or l (p % 16384) 0) (table_kept (p / 16384) h)
+  byte_kept p h = ap (λ l. get_or l (p % page_size) 0) (table_kept (p / page_size) h)
 
 -- what is owned is there
 pub owner_there : (b : List Page) (i : ℕ) → owned_at b i ≡ true → i < length b
 owner_there b i e = ⊎_elim (λ h. h) (λ h. absurd (true≢false (sym e ∙ get_or_past (map is_owned b) i false (omega (arith, h, length-map b is_owned))))) (cases_lt i (length b))
 
-pub extends_more : (a b : List Page) (q : Page) → Extends a b → length (page_bytes q) ≡ 16384 → Extends a (b ++ q ∷ [])
+pub extends_more : (a b : List Page) (q : Page) → Extends a b → length (page_bytes q) ≡ page_size → Extends a (b ++ q ∷ [])
 extends_more a b q x size = record {
   more = omega (arith, x.more, len);
   bytes = λ p h. byte_kept b q p (omega (arith, h, x.more)) ∙ x.bytes p h;
@@ -204,7 +204,7 @@ same_bytes_in ps qs n e = same_bytes _ _ (length-bytes_in qs n ∙ sym (length-b
 
 pub same_table : (ps qs : List Page) → map page_bytes qs ≡ map page_bytes ps → (p : ℕ) → byte_at qs p ≡ byte_at ps p
 unfolding byte_at
-same_table ps qs e p = ap (λ t. get_or (get_or t (p / 16384) []) (p % 16384) 0) e
+same_table ps qs e p = ap (λ t. get_or (get_or t (p / page_size) []) (p % page_size) 0) e
 
 pub table_length : (ps qs : List Page) → map page_bytes qs ≡ map page_bytes ps → length qs ≡ length ps
 table_length ps qs e = sym (length-map qs page_bytes) ∙ ap length e ∙ length-map ps page_bytes
@@ -225,7 +225,7 @@ extends_kept a b c x k = record {
 }
 
 -- the bytes of a value whose pages were added to
-pub extended_bytes : (a b : List Page) (n : ℕ) → n ≤ 16384 * length a → Extends a b → bytes_in b n ≡ bytes_in a n
+pub extended_bytes : (a b : List Page) (n : ℕ) → n ≤ page_size * length a → Extends a b → bytes_in b n ≡ bytes_in a n
 extended_bytes a b n h x = same_bytes_in a b n (λ p l. x.bytes p (omega (arith, l, h)))
 
 -- zeros laid behind the bytes
@@ -292,20 +292,20 @@ overlay_grown x o b n is = same_bytes _ _
         ∙ sym (at_other x o b (λ _. true) p out)
 
 -- the bytes of the pages at the front
-pub taken_bytes : (ps qs : List Page) (k n : ℕ) → n ≤ 16384 * k → map page_bytes qs ≡ take k (map page_bytes ps) → bytes_in qs n ≡ bytes_in ps n
+pub taken_bytes : (ps qs : List Page) (k n : ℕ) → n ≤ page_size * k → map page_bytes qs ≡ take k (map page_bytes ps) → bytes_in qs n ≡ bytes_in ps n
 unfolding byte_at
 taken_bytes ps qs k n h e = same_bytes_in ps qs n at
   where
     at : (p : ℕ) → p < n → byte_at qs p ≡ byte_at ps p
-    at p l = ap (λ t. get_or (get_or t (p / 16384) []) (p % 16384) 0) e ∙ ap (λ b. get_or b (p % 16384) 0) (get_or-take k (map page_bytes ps) (p / 16384) [] (omega (arith, l, h)))
+    at p l = ap (λ t. get_or (get_or t (p / page_size) []) (p % page_size) 0) e ∙ ap (λ b. get_or b (p % page_size) 0) (get_or-take k (map page_bytes ps) (p / page_size) [] (omega (arith, l, h)))
 
 -- no bytes laid
 pub overlay_none : (x : List ℕ) (o : ℕ) (b : List ℕ) → length b ≡ 0 → overlay x o b ≡ x
 overlay_none x o b e = same_bytes _ _ (omega (arith, length-overlay_by x o b (λ _. true), ap (λ n. reach o n (λ _. true)) e)) (λ p. at_other x o b (λ _. true) p (λ l u. absurd (omega (arith, l, u, e))))
 
 -- a part read
-pub read_more : (ps : List Page) (o at n : ℕ) (x y : List ℕ) (page : Page) → at / 16384 < length ps → page ≡ get_or ps (at / 16384) page → at % 16384 + n ≤ 16384 → o ≤ at → at - o + n ≤ length x → n ≡ length y
-    → ((k : ℕ) → k < n → get_or y k 0 ≡ get_or (page_bytes page) (at % 16384 + k) 0)
+pub read_more : (ps : List Page) (o at n : ℕ) (x y : List ℕ) (page : Page) → at / page_size < length ps → page ≡ get_or ps (at / page_size) page → at % page_size + n ≤ page_size → o ≤ at → at - o + n ≤ length x → n ≡ length y
+    → ((k : ℕ) → k < n → get_or y k 0 ≡ get_or (page_bytes page) (at % page_size + k) 0)
     → ((p : ℕ) → o ≤ p → p < at → get_or x (p - o) 0 ≡ byte_at ps p)
     → (p : ℕ) → o ≤ p → p < at + n → get_or (spliced x (at - o) y) (p - o) 0 ≡ byte_at ps p
 read_more ps o at n x y page there is fits from room len part before p l m = ⊎_elim
@@ -340,8 +340,8 @@ overlay_all x b e = same_bytes _ _ len (λ p. ⊎_elim
         (cases_lt 0 (length b))
 
 -- a part of a page, as a part of all bytes
-pub part_is : (ps : List Page) (at n : ℕ) (page : Page) (y : List ℕ) → at / 16384 < length ps → page ≡ get_or ps (at / 16384) page → at % 16384 + length y ≤ 16384 → at + length y ≤ n
-    → ((k : ℕ) → k < length y → get_or y k 0 ≡ get_or (page_bytes page) (at % 16384 + k) 0)
+pub part_is : (ps : List Page) (at n : ℕ) (page : Page) (y : List ℕ) → at / page_size < length ps → page ≡ get_or ps (at / page_size) page → at % page_size + length y ≤ page_size → at + length y ≤ n
+    → ((k : ℕ) → k < length y → get_or y k 0 ≡ get_or (page_bytes page) (at % page_size + k) 0)
     → y ≡ take (length y) (drop at (bytes_in ps n))
 part_is ps at n page y there is fits within part = read_all ps n at y within (λ p l h.
     part (p - at) (omega (arith, l, h))

@@ -4,6 +4,10 @@ use Rattle.std.specs.List.{range_with_len}
 use Rattle.blob_pages.specs.declared.pages.Page.{Page}
 use Rattle.blob_pages.specs.declared.pages.Page.TheVariants.{Owned, Shared}
 
+-- the size of a page in bytes, `PAGE` in the code
+abbrev pub page_size : ℕ
+page_size = 65536
+
 abbrev pub page_bytes : Page → List ℕ
 page_bytes (Owned v) = v.items
 page_bytes (Shared r) = r.value.items
@@ -14,7 +18,7 @@ is_owned (Shared r) = false
 
 -- the byte at a position
 unfoldable pub byte_at : List Page → ℕ → ℕ
-byte_at ps p = slice_index (slice_index_or (map page_bytes ps) (p / 16384) []) (p % 16384)
+byte_at ps p = slice_index (slice_index_or (map page_bytes ps) (p / page_size) []) (p % page_size)
 
 -- the bytes up to a length
 unfoldable pub bytes_in : List Page → ℕ → List ℕ
@@ -26,7 +30,7 @@ owned_at ps i = slice_index_or (map is_owned ps) i false
 
 -- each page is full
 pub record AreFull (ps : List Page) : Type 0 where
-  pub each : (i : ℕ) → i < length ps → length (slice_index_or (map page_bytes ps) i []) ≡ 16384
+  pub each : (i : ℕ) → i < length ps → length (slice_index_or (map page_bytes ps) i []) ≡ page_size
 
 -- the pages of a range are this value's alone
 pub record AreOwned (ps : List Page) (from to : ℕ) : Type 0 where
@@ -44,7 +48,7 @@ pub record Keeps (old new : List Page) : Type 0 where
 -- the same bytes where there were pages, and perhaps more pages
 pub record Extends (old new : List Page) : Type 0 where
   pub more : length old ≤ length new
-  pub bytes : (p : ℕ) → p < 16384 * length old → byte_at new p ≡ byte_at old p
+  pub bytes : (p : ℕ) → p < page_size * length old → byte_at new p ≡ byte_at old p
   pub full : AreFull old → AreFull new
   pub owned : KeepsOwned old new
 
@@ -63,7 +67,7 @@ spliced x n y = take n x ++ (y ++ drop (n + length y) x)
 -- bytes of a length become others of a length; refused, they are as before
 pub record Changes {T E : Type 0} (result : Result T E) (old new : List Page) (had has : ℕ) (now : List ℕ) : Type 0 where
   pub ok : OnOk result (bytes_in new has ≡ now)
-  pub there : OnOk result (has ≤ 16384 * length new)
+  pub there : OnOk result (has ≤ page_size * length new)
   pub err : OnErr result (bytes_in new had ≡ bytes_in old had)
   pub more : length old ≤ length new
   pub full : AreFull new

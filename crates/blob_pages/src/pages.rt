@@ -1,16 +1,16 @@
 //! Bytes in pages that several values may share.
 ghost use Rattle.std.specs.Prelude.{◌≡◌, ◌≤◌, ◌<◌, ◌+◌, ◌-◌, ◌*◌, ◌/◌, ◌%◌, ◌^◌, ◌++◌, ℕ, true, length, map, take, drop, max, replicate, IsOk, OnOk, OnErr, IfOk, vec_capacity};
-ghost use Rattle.blob_pages.specs.Paged.{page_bytes, is_owned, owned_at, AreFull, AreOwned, Keeps, Extends, Lays, spliced, bytes_in, Changes, Blanks};
+ghost use Rattle.blob_pages.specs.Paged.{page_size, page_bytes, is_owned, owned_at, AreFull, AreOwned, Keeps, Extends, Lays, spliced, bytes_in, Changes, Blanks};
 ghost use Rattle.blob_model.specs.Bytes.{overlay, resized};
 
 use std::alloc::{AllocError, Global};
 use std::rc::Rc;
 
-/// The bytes of a page.
+/// The size of a page in bytes.
 ///
-/// Of 4096, 16384 and 65536, this one keeps both ends low: to share 64 MB counts 4096 pages, in some 0.2 ms, and the first
-/// write to a shared page copies 16 KB, in microseconds.
-pub const PAGE: usize = 16384;
+/// Sharing 64 MB counts 1024 pages. The first write to a shared page copies 64 KB. A file of at most 64 KB has no pages: it is
+/// one vector.
+pub const PAGE: usize = 65536;
 
 /// A page: this value's alone, or perhaps other values' too.
 #[derive(Drop)]
@@ -30,7 +30,7 @@ pub struct Pages {
     len: usize,
     spare: Vec<u8>,
     ghost full: { AreFull pages.items },
-    ghost held: { len ≤ 16384 * length pages.items },
+    ghost held: { len ≤ page_size * length pages.items },
     ghost spared: { len ≤ vec_capacity spare },
 }
 
@@ -67,8 +67,8 @@ fn own(alloc: Global, page: &mut Page) -> Result<(), AllocError>
 
 /// How many pages so many bytes lie in.
 fn count(len: usize) -> usize
-    ensures low { len ≤ 16384 * result }
-    ensures high { 16384 * result < len + 16384 }
+    ensures low { len ≤ page_size * result }
+    ensures high { page_size * result < len + page_size }
 {
     len.div_ceil(PAGE)
 }
@@ -76,7 +76,7 @@ fn count(len: usize) -> usize
 /// A page of zeros.
 fn zeros(alloc: Global) -> Result<Page, AllocError>
     ensures owned { IfOk result (λ page. is_owned page ≡ true) }
-    ensures bytes { IfOk result (λ page. length (page_bytes page) ≡ 16384) }
+    ensures bytes { IfOk result (λ page. length (page_bytes page) ≡ page_size) }
 {
     Ok(Page::Owned(Vec::from_elem(alloc, 0u8, PAGE)?))
 }
@@ -137,7 +137,7 @@ fn on_page(at: usize, end: usize) -> usize
     requires { at < end }
     ensures some { 0 < result }
     ensures within { at + result ≤ end }
-    ensures page { at % 16384 + result ≤ 16384 }
+    ensures page { at % page_size + result ≤ page_size }
 {
     std::cmp::min(PAGE - at % PAGE, end - at)
 }
@@ -145,9 +145,9 @@ fn on_page(at: usize, end: usize) -> usize
 /// Writes a run over pages that are this value's alone.
 fn lay(pages: &mut [Page], offset: usize, run: &[u8])
     requires full { AreFull pages.old }
-    requires fits { offset + length run.now ≤ 16384 * length pages.old }
+    requires fits { offset + length run.now ≤ page_size * length pages.old }
     requires counted { offset + length run.now < 2 ^ 64 }
-    requires owned { (p : ℕ) → offset ≤ p → p < offset + length run.now → owned_at pages.old (p / 16384) ≡ true }
+    requires owned { (p : ℕ) → offset ≤ p → p < offset + length run.now → owned_at pages.old (p / page_size) ≡ true }
     ensures { Lays pages.old pages.new offset run.now }
 {
     let len = run.len();
@@ -164,8 +164,8 @@ fn lay(pages: &mut [Page], offset: usize, run: &[u8])
 fn blank(pages: &mut [Page], from: usize, to: usize)
     requires full { AreFull pages.old }
     requires order { from ≤ to }
-    requires fits { to ≤ 16384 * length pages.old }
-    requires owned { (p : ℕ) → from ≤ p → p < to → owned_at pages.old (p / 16384) ≡ true }
+    requires fits { to ≤ page_size * length pages.old }
+    requires owned { (p : ℕ) → from ≤ p → p < to → owned_at pages.old (p / page_size) ≡ true }
     ensures { Lays pages.old pages.new from (replicate (to - from) 0) }
 {
     let mut at = from;
@@ -250,8 +250,8 @@ fn take_room(
     end: usize,
 ) -> Result<(), AllocError>
     ensures extends { Extends pages.old.items pages.new.items }
-    ensures there { OnOk result (end ≤ 16384 * length pages.new.items) }
-    ensures owned { OnOk result ((p : ℕ) → from ≤ p → p < end → owned_at pages.new.items (p / 16384) ≡ true) }
+    ensures there { OnOk result (end ≤ page_size * length pages.new.items) }
+    ensures owned { OnOk result ((p : ℕ) → from ≤ p → p < end → owned_at pages.new.items (p / page_size) ≡ true) }
 {
     let to = count(end);
     extend(alloc, pages, to)?;
@@ -262,8 +262,8 @@ fn take_room(
 /// Zeros up to `end` where fewer bytes were there. Returns how many there are.
 fn blank_to(pages: &mut [Page], len: usize, end: usize) -> usize
     requires full { AreFull pages.old }
-    requires fits { max len end ≤ 16384 * length pages.old }
-    requires owned { (p : ℕ) → len ≤ p → p < end → owned_at pages.old (p / 16384) ≡ true }
+    requires fits { max len end ≤ page_size * length pages.old }
+    requires owned { (p : ℕ) → len ≤ p → p < end → owned_at pages.old (p / page_size) ≡ true }
     ensures len { result ≡ max len end }
     ensures blanks { Blanks pages.old pages.new len result (resized (bytes_in pages.old len) result) }
 {
@@ -277,7 +277,7 @@ fn blank_to(pages: &mut [Page], len: usize, end: usize) -> usize
 /// Cuts or lengthens by zeros.
 fn set_len(alloc: Global, pages: &mut Vec<Page>, old: usize, len: usize) -> Result<(), AllocError>
     requires full { AreFull pages.old.items }
-    requires held { old ≤ 16384 * length pages.old.items }
+    requires held { old ≤ page_size * length pages.old.items }
     ensures { Changes result pages.old.items pages.new.items old len (resized (bytes_in pages.old.items old) len) }
 {
     if old < len {
@@ -296,7 +296,7 @@ fn lay_over(
     run: &[u8],
 ) -> Result<usize, AllocError>
     requires full { AreFull pages.old.items }
-    requires held { old ≤ 16384 * length pages.old.items }
+    requires held { old ≤ page_size * length pages.old.items }
     requires some { 0 < length run.now }
     requires fits { offset + length run.now < 2 ^ 64 }
     ensures len { IfOk result (λ n. n ≡ max old (offset + length run.now)) }
@@ -313,7 +313,7 @@ fn lay_over(
 fn part_of(pages: &[Page], at: usize, len: usize) -> &[u8]
     requires full { AreFull pages.now }
     requires some { 0 < len }
-    requires fits { at + len ≤ 16384 * length pages.now }
+    requires fits { at + len ≤ page_size * length pages.now }
     requires counted { at + len < 2 ^ 64 }
     ensures some { 0 < length result.now }
     ensures within { length result.now ≤ len }
@@ -329,7 +329,7 @@ fn part_of(pages: &[Page], at: usize, len: usize) -> &[u8]
 /// Adds the bytes of a range to a vector that has room for them.
 fn append_from(pages: &[Page], at: usize, len: usize, out: &mut Vec<u8>)
     requires full { AreFull pages.now }
-    requires fits { at + len ≤ 16384 * length pages.now }
+    requires fits { at + len ≤ page_size * length pages.now }
     requires counted { at + len < 2 ^ 64 }
     requires room { length out.old.items + len ≤ vec_capacity out.old }
     ensures bytes { (n : ℕ) → at + len ≤ n → out.new.items ≡ out.old.items ++ take len (drop at (bytes_in pages.now n)) }

@@ -1,5 +1,5 @@
 use Rattle.std.proofs.Common.{◌≡◌, ◌/◌, ◌∙◌, ap, sym, length, arith, true≢false}
-use Rattle.blob_pages.specs.Paged.{owned_at}
+use Rattle.blob_pages.specs.Paged.{page_size, owned_at}
 use Rattle.blob_pages.proofs.Paged.{table_length, extends_kept, written_back}
 use Rattle.blob_pages.proofs.pages.take_room.Goals as goal
 
@@ -24,4 +24,4 @@ pub returns-clause-owned : goal.returns-clause-owned
 returns-clause-owned c =
     let len : length c.own_all.new.pages ≡ length c.extend.new.pages.items = table_length c.as_mut_slice.result.now c.own_all.new.pages c.own_all.ensures.keeps.bytes ∙ ap length c.as_mut_slice.ensures.value in
     rw (written_back c.extend.new.pages.items c.own_all.new.pages c.extend.new.pages.len (omega arith) len)
-    (λ p l m. c.in_ok-own_all.ensures.owned.each (p / 16384) (omega (arith, l)) (omega (arith, m, c.count-to.ensures.low)))
+    (λ p l m. c.in_ok-own_all.ensures.owned.each (p / page_size) (omega (arith, l)) (omega (arith, m, c.count-to.ensures.low)))
