@@ -3,7 +3,7 @@ ghost use Rattle.std.specs.Prelude.{◌≡◌, ◌≤◌, ◌<◌, ◌+◌, ◌^
 ghost use Rattle.std.specs.List.{flat_map, list_all};
 ghost use Rattle.blob_model.specs.Bytes.{overlay, overlay_by, reach, resized};
 ghost use Rattle.blob_model.specs.Runs.{picked};
-ghost use Rattle.blob_overlay.specs.Overlays.{AreNow, Grows};
+ghost use Rattle.blob_overlay.specs.Overlays.{AreNow, Grows, GrowsToSelected, WritesSelected};
 
 use blob_base::IoBufs;
 use std::alloc::AllocError;
@@ -95,7 +95,7 @@ fn are_all(keep: &[bool]) -> bool
 }
 
 /// Copies the chosen bytes of a run over bytes that are there.
-fn copy_chosen(bytes: &mut [u8], offset: usize, run: &[u8], keep: &[bool])
+pub fn copy_chosen(bytes: &mut [u8], offset: usize, run: &[u8], keep: &[bool])
     requires same { length keep.now ≡ length run.now }
     requires fits { offset + length run.now < 2 ^ 64 }
     requires inside { reach offset (length run.now) (picked keep.now) ≤ length bytes.old }
@@ -152,7 +152,19 @@ pub fn lay_slice(bytes: &mut Vec<u8>, offset: usize, run: &[u8])
     copy_over(bytes.as_mut_slice(), offset, run);
 }
 
-/// Lays the chosen bytes of a run. The only error is want of memory, where there was no room; it leaves the bytes.
+/// Reserves capacity up to the end of the last selected byte, and adds zeros up to it.
+fn grow_to_selected(bytes: &mut Vec<u8>, offset: usize, keep: &[bool]) -> Result<(), AllocError>
+    requires { offset + length keep.now < 2 ^ 64 }
+    ensures { GrowsToSelected result bytes.old bytes.new offset keep.now }
+{
+    let end = reach_of(offset, keep);
+    make_room(bytes, end)?;
+    grow(bytes, end);
+    Ok(())
+}
+
+/// Writes the selected bytes of a run. `keep[i]` selects byte `i`. The bytes grow only as far as the last selected byte. The
+/// only error is out of memory, if the capacity is too small. The bytes are unchanged then.
 pub fn write_chosen(
     bytes: &mut Vec<u8>,
     offset: usize,
@@ -161,12 +173,26 @@ pub fn write_chosen(
 ) -> Result<(), AllocError>
     requires same { length keep.now ≡ length run.now }
     requires fits { offset + length run.now < 2 ^ 64 }
-    ensures { Grows result bytes.old bytes.new (reach offset (length run.now) (picked keep.now)) (overlay_by bytes.old.items offset run.now (picked keep.now)) }
+    ensures { WritesSelected result bytes.old bytes.new offset run.now keep.now }
 {
-    let end = reach_of(offset, keep);
-    make_room(bytes, end)?;
-    grow(bytes, end);
+    grow_to_selected(bytes, offset, keep)?;
     copy_chosen_pieces(bytes.as_mut_slice(), offset, run.pieces(), keep);
+    Ok(())
+}
+
+/// Writes the selected bytes of one piece, as `write_chosen`.
+pub fn write_chosen_slice(
+    bytes: &mut Vec<u8>,
+    offset: usize,
+    run: &[u8],
+    keep: &[bool],
+) -> Result<(), AllocError>
+    requires same { length keep.now ≡ length run.now }
+    requires fits { offset + length run.now < 2 ^ 64 }
+    ensures { WritesSelected result bytes.old bytes.new offset run.now keep.now }
+{
+    grow_to_selected(bytes, offset, keep)?;
+    copy_chosen(bytes.as_mut_slice(), offset, run, keep);
     Ok(())
 }
 

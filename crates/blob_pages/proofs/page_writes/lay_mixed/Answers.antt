@@ -3,7 +3,7 @@ use Rattle.blob_model.specs.Bytes.{reach}
 use Rattle.blob_model.specs.Runs.{picked}
 use Rattle.blob_pages.specs.Values.{bytes}
 use Rattle.blob_pages.proofs.Mixed.{none_reached}
-use Rattle.blob_pages.proofs.form.lay_mixed.Goals as goal
+use Rattle.blob_pages.proofs.page_writes.lay_mixed.Goals as goal
 
 pub returns-then-end-offset : goal.returns-then-end-offset
 returns-then-end-offset c =
