@@ -3,11 +3,11 @@ use Rattle.std.proofs.Common.{[], ◌∷◌, ◌≡◌, ◌≢◌, ◌⊎◌, in
 use Rattle.std.proofs.lemmas.Bool.{cases_lt, cases_eq}
 use Rattle.std.proofs.lemmas.List.{append-nil, drop-drop, drop_all, take_all, take_more, get_or_default, length-map, map-set, map-append, length-replicate, get_or-replicate, get_or_append_left, get_or-append_right, get_or-take, get_or-drop, get_or-map, get_or_past, set-get_or}
 use Rattle.std.proofs.Math.Seq.{take-add}
-use Rattle.blob_pages.specs.declared.pages.Page.{Page}
+use Rattle.blob_pages.specs.declared.page.Page.{Page}
 use Rattle.std.proofs.lemmas.List.FromFn.{length-map-range_with_len, get_or-map-range_with_len}
 use Rattle.blob_model.specs.Bytes.{overlay, resized, reach}
 use Rattle.blob_model.proofs.Bytes.{same_bytes, length-resized, at_resized, past_resized, length-overlay_by, reach_below, reach_all, at_chosen, at_other}
-use Rattle.blob_pages.specs.declared.pages.Page.TheVariants.{Owned, Shared}
+use Rattle.blob_pages.specs.declared.page.Page.TheVariants.{Owned, Shared}
 use Rattle.blob_pages.specs.Paged.{page_size, bytes_in, page_bytes, is_owned, byte_at, owned_at, AreFull, AreOwned, Keeps, KeepsOwned, Extends, Lays, spliced}
 
 module _ (x : List ℕ) (n : ℕ) (y : List ℕ) (h : n + length y ≤ length x) where
