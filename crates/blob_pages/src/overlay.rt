@@ -16,7 +16,7 @@ pub fn make_room(bytes: &mut Bytes, len: usize) -> Result<(), AllocError>
     bytes.form.reserve(len)
 }
 
-/// Extends the bytes with zeros to `len`, within the capacity. Does nothing if they are as long.
+/// Extends the bytes with zeros to `len`, within the capacity. Does nothing if they are that long already.
 pub fn grow(bytes: &mut Bytes, len: usize)
     requires { len ≤ bytes.old.capacity }
     ensures { AreNow bytes.old bytes.new (resized bytes.old.items (max (length bytes.old.items) len)) }
