@@ -9,8 +9,8 @@ pub record AreNow (old new : Vec ℕ Global) (bytes : List ℕ) : Type 0 where
   pub items : new.items ≡ bytes
   pub capacity : vec_capacity old ≤ vec_capacity new
 
--- the result of a change that needs this capacity: on Ok the new bytes. Err is out of memory, is never returned if the capacity
--- suffices, and leaves the bytes unchanged
+-- a change that needs this capacity: Ok has the new bytes. Err is out of memory, never happens if the capacity suffices, and
+-- leaves the bytes unchanged
 pub record Grows {T E : Type 0} (result : Result T E) (old new : Vec ℕ Global) (need : ℕ) (bytes : List ℕ) : Type 0 where
   pub ok : OnOk result (new.items ≡ bytes)
   pub err : OnErr result (new.items ≡ old.items)

@@ -152,8 +152,8 @@ pub fn lay_slice(bytes: &mut Vec<u8>, offset: usize, run: &[u8])
     copy_over(bytes.as_mut_slice(), offset, run);
 }
 
-/// Reserves capacity up to the end of the last selected byte, and extends the bytes with zeros to there. The only error is out
-/// of memory. The bytes are unchanged then.
+/// Reserves capacity up to the end of the last selected byte, and extends the bytes with zeros to there. The only error
+/// is out of memory. The bytes are unchanged then.
 fn grow_to_selected(bytes: &mut Vec<u8>, offset: usize, keep: &[bool]) -> Result<(), AllocError>
     requires { offset + length keep.now < 2 ^ 64 }
     ensures { GrowsToSelected result bytes.old bytes.new offset keep.now }
@@ -164,8 +164,8 @@ fn grow_to_selected(bytes: &mut Vec<u8>, offset: usize, keep: &[bool]) -> Result
     Ok(())
 }
 
-/// Writes the selected bytes of a run. `keep[i]` selects byte `i`. The bytes grow only as far as the last selected byte. The
-/// only error is out of memory, if the capacity is too small. The bytes are unchanged then.
+/// Writes the selected bytes of a run. `keep[i]` selects byte `i`. The bytes grow only as far as the last selected
+/// byte. The only error is out of memory, if the capacity is too small. The bytes are unchanged then.
 pub fn write_chosen(
     bytes: &mut Vec<u8>,
     offset: usize,
@@ -207,8 +207,8 @@ pub fn write(bytes: &mut Vec<u8>, offset: usize, run: &IoBufs) -> Result<(), All
     Ok(())
 }
 
-/// Truncates, or extends with zeros. The only error is out of memory, if the capacity is too small. The bytes are unchanged
-/// then.
+/// Truncates, or extends with zeros. The only error is out of memory, if the capacity is too small. The bytes are
+/// unchanged then.
 pub fn resize(bytes: &mut Vec<u8>, len: usize) -> Result<(), AllocError>
     ensures { Grows result bytes.old bytes.new len (resized bytes.old.items len) }
 {
@@ -217,7 +217,8 @@ pub fn resize(bytes: &mut Vec<u8>, len: usize) -> Result<(), AllocError>
     Ok(())
 }
 
-/// Replaces the bytes with `new`. The only error is out of memory, if the capacity is too small. The bytes are unchanged then.
+/// Replaces the bytes with `new`. The only error is out of memory, if the capacity is too small. The bytes are
+/// unchanged then.
 pub fn replace(bytes: &mut Vec<u8>, new: &[u8]) -> Result<(), AllocError>
     ensures { Grows result bytes.old bytes.new (length new.now) new.now }
 {

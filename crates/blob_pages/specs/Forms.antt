@@ -18,8 +18,8 @@ pub record Becomes (old new : Form) (now : List ℕ) : Type 0 where
   pub content : content new ≡ now
   pub capacity : capacity old ≤ capacity new
 
--- the result of a change that needs this capacity: on Ok the new bytes. Err is out of memory, is never returned if the capacity
--- suffices, and leaves the bytes unchanged
+-- a change that needs this capacity: Ok has the new bytes. Err is out of memory, never happens if the capacity suffices, and
+-- leaves the bytes unchanged
 pub record MayBecome {T E : Type 0} (result : Result T E) (old new : Form) (need : ℕ) (now : List ℕ) : Type 0 where
   pub ok : OnOk result (content new ≡ now)
   pub err : OnErr result (content new ≡ content old)

@@ -6,7 +6,8 @@ use crate::form::Form;
 use std::alloc::{AllocError, Global};
 use std::marker::Model;
 
-/// The bytes of a blob. Contracts see them as a list with a capacity. Copies share their pages until one of them writes.
+/// The bytes of a blob. Contracts see them as a list with a capacity. Copies share their pages until one of them
+/// writes.
 #[derive(Drop)]
 pub struct Bytes {
     pub(crate) form: Form,

@@ -295,7 +295,8 @@ impl Form {
         }
     }
 
-    /// Replaces the bytes with those of `other`. Both share its pages, and no page is copied. The only error is out of memory.
+    /// Replaces the bytes with those of `other`. Both share its pages, and no page is copied. The only error is out of
+    /// memory.
     pub fn replace(&mut self, other: &mut Form) -> Result<(), AllocError>
         ensures ok { OnOk result (content self.new ≡ content other.old) }
         ensures err { OnErr result (content self.new ≡ content self.old) }

@@ -1,5 +1,5 @@
-//! The bytes of a blob, in pages that copies share. A sync counts the pages and copies none. A write copies each shared page that
-//! it changes.
+//! The bytes of a blob, in pages that copies share. A sync counts the pages and copies none. A write copies each shared
+//! page that it changes.
 #![tactic(auto)]
 
 pub mod bytes;

@@ -1,5 +1,6 @@
-//! Writes and resizes of the bytes of a blob. A call that can fail reserves capacity first. A change within the capacity never
-//! fails: if a page can't be allocated, the bytes move to one vector that was reserved with the capacity.
+//! Writes and resizes of the bytes of a blob. A call that can fail reserves capacity first. A change within the
+//! capacity never fails: if a page can't be allocated, the bytes move to one vector that was reserved with the
+//! capacity.
 ghost use Rattle.std.specs.Prelude.{◌≡◌, ◌≤◌, ◌<◌, ◌+◌, ◌^◌, length, max, OnOk, OnErr};
 ghost use Rattle.blob_model.specs.Bytes.{overlay, resized};
 ghost use Rattle.blob_pages.specs.Stored.{AreNow, Grows, WritesSelected};
@@ -44,8 +45,8 @@ pub fn lay_slice(bytes: &mut Bytes, offset: usize, run: &[u8])
     bytes.form.lay_slice(offset, run);
 }
 
-/// Writes the selected bytes of a run. `keep[i]` selects byte `i`. The bytes grow only as far as the last selected byte. The
-/// only error is out of memory, if the capacity is too small. The bytes are unchanged then.
+/// Writes the selected bytes of a run. `keep[i]` selects byte `i`. The bytes grow only as far as the last selected
+/// byte. The only error is out of memory, if the capacity is too small. The bytes are unchanged then.
 pub fn write_chosen(
     bytes: &mut Bytes,
     offset: usize,
@@ -99,8 +100,8 @@ pub fn write_slice(bytes: &mut Bytes, offset: usize, run: &[u8]) -> Result<(), A
     Ok(())
 }
 
-/// Truncates, or extends with zeros. The only error is out of memory, if the capacity is too small. The bytes are unchanged
-/// then.
+/// Truncates, or extends with zeros. The only error is out of memory, if the capacity is too small. The bytes are
+/// unchanged then.
 pub fn resize(bytes: &mut Bytes, len: usize) -> Result<(), AllocError>
     ensures { Grows result bytes.old bytes.new len (resized bytes.old.items len) }
 {
@@ -109,8 +110,8 @@ pub fn resize(bytes: &mut Bytes, len: usize) -> Result<(), AllocError>
     Ok(())
 }
 
-/// Replaces the bytes with those of `other`. Both share its pages, and no page is copied. The only error is out of memory. The
-/// bytes are unchanged then.
+/// Replaces the bytes with those of `other`. Both share its pages, and no page is copied. The only error is out of
+/// memory. The bytes are unchanged then.
 pub fn replace(bytes: &mut Bytes, other: &mut Bytes) -> Result<(), AllocError>
     ensures ok { OnOk result (bytes.new.items ≡ other.old.items) }
     ensures err { OnErr result (bytes.new.items ≡ bytes.old.items) }

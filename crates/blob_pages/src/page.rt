@@ -7,8 +7,8 @@ use std::rc::Rc;
 
 /// The size of a page in bytes.
 ///
-/// Sharing 64 MB counts 1024 pages. The first write to a shared page copies 64 KB. A file of at most 64 KB has no pages: it is
-/// one vector.
+/// Sharing 64 MB counts 1024 pages. The first write to a shared page copies 64 KB. A file of at most 64 KB has no
+/// pages: it is one vector.
 pub const PAGE: usize = 65536;
 
 /// A page that only this value has, or one that other values may share.
@@ -37,7 +37,8 @@ impl Page {
     }
 }
 
-/// Replaces a shared page by a copy that only this value has. The only error is out of memory. The page is unchanged then.
+/// Replaces a shared page by a copy that only this value has. The only error is out of memory. The page is unchanged
+/// then.
 pub fn own(alloc: Global, page: &mut Page) -> Result<(), AllocError>
     ensures bytes { page_bytes page.new ≡ page_bytes page.old }
     ensures owned { OnOk result (is_owned page.new ≡ true) }
@@ -103,7 +104,8 @@ pub fn on_page(at: usize, end: usize) -> usize
     std::cmp::min(PAGE - at % PAGE, end - at)
 }
 
-/// Makes a page shared, and returns a second reference to it. The only error is out of memory. The bytes are unchanged then.
+/// Makes a page shared, and returns a second reference to it. The only error is out of memory. The bytes are unchanged
+/// then.
 pub fn share_page(alloc: Global, page: &mut Page) -> Result<Page, AllocError>
     ensures bytes { page_bytes page.new ≡ page_bytes page.old }
     ensures ok { IfOk result (λ copy. page_bytes copy ≡ page_bytes page.old) }
@@ -129,7 +131,8 @@ pub fn share_page(alloc: Global, page: &mut Page) -> Result<Page, AllocError>
     }
 }
 
-/// Returns a second reference to a shared page, or a copy of one that only this value has. The only error is out of memory.
+/// Returns a second reference to a shared page, or a copy of one that only this value has. The only error is out of
+/// memory.
 pub fn copy_page(alloc: Global, page: &Page) -> Result<Page, AllocError>
     ensures { IfOk result (λ copy. page_bytes copy ≡ page_bytes page.now) }
 {

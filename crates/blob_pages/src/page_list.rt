@@ -31,8 +31,8 @@ pub fn own_all(alloc: Global, pages: &mut [Page], from: usize, to: usize) -> Res
     Ok(())
 }
 
-/// Prepares the pages for a change of the bytes from `from` to `end`: appends missing pages and copies shared ones. The only
-/// error is out of memory. The bytes are unchanged then.
+/// Prepares the pages for a change of the bytes from `from` to `end`: appends missing pages and copies shared ones. The
+/// only error is out of memory. The bytes are unchanged then.
 pub fn take_room(
     alloc: Global,
     pages: &mut Vec<Page>,
@@ -98,8 +98,14 @@ pub fn blank_to(pages: &mut [Page], len: usize, end: usize) -> usize
     len
 }
 
-/// Truncates, or extends with zeros, from the length `old`. The only error is out of memory. The bytes are unchanged then.
-pub fn set_len(alloc: Global, pages: &mut Vec<Page>, old: usize, len: usize) -> Result<(), AllocError>
+/// Truncates, or extends with zeros, from the length `old`. The only error is out of memory. The bytes are unchanged
+/// then.
+pub fn set_len(
+    alloc: Global,
+    pages: &mut Vec<Page>,
+    old: usize,
+    len: usize,
+) -> Result<(), AllocError>
     requires full { AreFull pages.old.items }
     requires held { old ≤ page_size * length pages.old.items }
     ensures { Changes result pages.old.items pages.new.items old len (resized (bytes_in pages.old.items old) len) }
@@ -111,8 +117,8 @@ pub fn set_len(alloc: Global, pages: &mut Vec<Page>, old: usize, len: usize) -> 
     Ok(())
 }
 
-/// Writes a run that is not empty over the length `old`. Returns the new length. The only error is out of memory. The bytes are
-/// unchanged then.
+/// Writes a run that is not empty over the length `old`. Returns the new length. The only error is out of memory. The
+/// bytes are unchanged then.
 pub fn lay_over(
     alloc: Global,
     pages: &mut Vec<Page>,
@@ -134,8 +140,8 @@ pub fn lay_over(
     Ok(len)
 }
 
-/// Makes the first `count` pages shared, and returns second references to them. The only error is out of memory. The bytes are
-/// unchanged then.
+/// Makes the first `count` pages shared, and returns second references to them. The only error is out of memory. The
+/// bytes are unchanged then.
 pub fn share_all(alloc: Global, pages: &mut [Page], count: usize) -> Result<Vec<Page>, AllocError>
     requires there { count ≤ length pages.old }
     ensures bytes { map page_bytes pages.new ≡ map page_bytes pages.old }

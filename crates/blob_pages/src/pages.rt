@@ -3,16 +3,15 @@ ghost use Rattle.std.specs.Prelude.{◌≡◌, ◌≤◌, ◌<◌, ◌+◌, ◌*
 ghost use Rattle.blob_pages.specs.Paged.{page_size, AreFull};
 ghost use Rattle.blob_model.specs.Bytes.{overlay, resized};
 
+pub use crate::page::PAGE;
 use crate::page::{Page, count};
 use crate::page_list::{append_from, copy_all, lay_over, part_of, set_len, share_all};
 use std::alloc::{AllocError, Global};
 
-pub use crate::page::PAGE;
-
 /// Bytes in pages.
 ///
-/// The capacity is that of `spare`. Nothing is written to `spare` until a page can't be allocated: then all bytes move there
-/// (`into_vec`). So a change within the capacity never fails.
+/// The capacity is that of `spare`. Nothing is written to `spare` until a page can't be allocated: then all bytes move
+/// there (`into_vec`). So a change within the capacity never fails.
 #[derive(Drop)]
 pub struct Pages {
     alloc: Global,
@@ -68,8 +67,8 @@ impl Pages {
         Ok(())
     }
 
-    /// Truncates, or extends with zeros, within the capacity. The only error is that a page can't be allocated. The bytes are
-    /// unchanged then.
+    /// Truncates, or extends with zeros, within the capacity. The only error is that a page can't be allocated. The
+    /// bytes are unchanged then.
     pub fn resize(&mut self, len: usize) -> Result<(), AllocError>
         requires { len ≤ room self.old }
         ensures { Tries result self.old self.new (resized (bytes self.old) len) }
@@ -79,7 +78,8 @@ impl Pages {
         Ok(())
     }
 
-    /// Writes a run, within the capacity. The only error is that a page can't be allocated. The bytes are unchanged then.
+    /// Writes a run, within the capacity. The only error is that a page can't be allocated. The bytes are unchanged
+    /// then.
     pub fn overlay(&mut self, offset: usize, run: &[u8]) -> Result<(), AllocError>
         requires fits { offset + length run.now < 2 ^ 64 }
         requires room { offset + length run.now ≤ room self.old }
@@ -92,8 +92,8 @@ impl Pages {
         Ok(())
     }
 
-    /// Replaces the bytes with those of `other`. Both share its pages, and no page is copied. The only error is out of memory.
-    /// The bytes are unchanged then.
+    /// Replaces the bytes with those of `other`. Both share its pages, and no page is copied. The only error is out of
+    /// memory. The bytes are unchanged then.
     pub fn replace(&mut self, other: &mut Pages) -> Result<(), AllocError>
         ensures ok { OnOk result (bytes self.new ≡ bytes other.old) }
         ensures err { OnErr result (bytes self.new ≡ bytes self.old) }
