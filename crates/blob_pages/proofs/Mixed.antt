@@ -1,7 +1,7 @@
 -- The selected bytes of a run over the existing bytes, as one run.
-use Rattle.std.proofs.Common.{[], ◌∷◌, ◌≡◌, ⊎_elim, ℕ, ◌+◌, ◌-◌, ◌<◌, ◌≤◌, min, max, Bool, true, false, List, length, get_or, take, drop, refl, sym, ◌∙◌, ap, arith, Vec, Global, append-nil}
+use Rattle.std.proofs.Common.{[], ◌∷◌, ◌≡◌, ⊎_elim, ℕ, ◌+◌, ◌-◌, ◌<◌, ◌≤◌, min, Bool, true, List, length, get_or, take, drop, refl, sym, ◌∙◌, ap, arith, Vec, Global, append-nil}
 use Rattle.std.proofs.lemmas.Bool.{cases_lt, cases_Bool}
-use Rattle.std.proofs.lemmas.List.{get_or_past, get_or-take, get_or-drop, length-take, length-drop}
+use Rattle.std.proofs.lemmas.List.{get_or_past, get_or-take, get_or-drop, length-take}
 use Rattle.std.specs.List.{flat_map}
 use Rattle.blob_model.specs.Bytes.{overlay, overlay_by, resized, reach}
 use Rattle.blob_model.proofs.Bytes.{same_bytes, length-overlay_by, reach_below, reach_all, above_chosen, at_chosen, at_other, at_resized, picks}

@@ -1,5 +1,5 @@
 -- Changes of a list of pages.
-use Rattle.std.proofs.Common.{[], ◌∷◌, ◌≡◌, ◌≢◌, ◌⊎◌, inl, inr, ⊎_elim, ℕ, zero, suc, ◌+◌, ◌-◌, ◌*◌, ◌/◌, ◌%◌, ◌<◌, ◌≤◌, max, true, false, true≢false, List, ◌++◌, length, get_or, take, drop, set, map, replicate, refl, sym, ◌∙◌, ap, arith, append_assoc, length-append, length-take, length-drop, length-set, get_or-set_same, get_or-set_other}
+use Rattle.std.proofs.Common.{[], ◌∷◌, ◌≡◌, ◌≢◌, ◌⊎◌, inl, inr, ⊎_elim, ℕ, ◌+◌, ◌-◌, ◌*◌, ◌/◌, ◌%◌, ◌<◌, ◌≤◌, max, true, false, true≢false, List, ◌++◌, length, get_or, take, drop, set, map, replicate, refl, sym, ◌∙◌, ap, arith, append_assoc, length-append, length-take, length-drop, length-set, get_or-set_same, get_or-set_other}
 use Rattle.std.proofs.lemmas.Bool.{cases_lt, cases_eq}
 use Rattle.std.proofs.lemmas.List.{append-nil, drop-drop, drop_all, take_all, take_more, get_or_default, length-map, map-set, map-append, length-replicate, get_or-replicate, get_or_append_left, get_or-append_right, get_or-take, get_or-drop, get_or-map, get_or_past, set-get_or}
 use Rattle.std.proofs.Math.Seq.{take-add}
@@ -7,7 +7,6 @@ use Rattle.blob_pages.specs.declared.page.Page.{Page}
 use Rattle.std.proofs.lemmas.List.FromFn.{length-map-range_with_len, get_or-map-range_with_len}
 use Rattle.blob_model.specs.Bytes.{overlay, resized, reach}
 use Rattle.blob_model.proofs.Bytes.{same_bytes, length-resized, at_resized, past_resized, length-overlay_by, reach_below, reach_all, at_chosen, at_other}
-use Rattle.blob_pages.specs.declared.page.Page.TheVariants.{Owned, Shared}
 use Rattle.blob_pages.specs.Paged.{page_size, bytes_in, page_bytes, is_owned, byte_at, owned_at, AreFull, AreOwned, Keeps, KeepsOwned, Extends, Lays, spliced}
 
 module _ (x : List ℕ) (n : ℕ) (y : List ℕ) (h : n + length y ≤ length x) where

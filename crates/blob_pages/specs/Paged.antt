@@ -1,5 +1,5 @@
 -- The bytes of a list of pages.
-use Rattle.std.specs.Prelude.{Result, IsOk, OnOk, OnErr, ◌≡◌, ◌⊎◌, ℕ, zero, suc, ◌+◌, ◌-◌, ◌*◌, ◌/◌, ◌%◌, ◌<◌, ◌≤◌, max, Bool, true, false, List, [], ◌∷◌, ◌++◌, length, map, take, drop, slice_index, slice_index_or, if◌then◌else◌}
+use Rattle.std.specs.Prelude.{Result, OnOk, OnErr, ◌≡◌, ◌⊎◌, ℕ, ◌+◌, ◌-◌, ◌*◌, ◌/◌, ◌%◌, ◌<◌, ◌≤◌, max, Bool, true, false, List, [], ◌++◌, length, map, take, drop, slice_index, slice_index_or}
 use Rattle.std.specs.List.{range_with_len}
 use Rattle.blob_model.specs.Bytes.{overlay}
 use Rattle.blob_pages.specs.declared.page.Page.{Page}

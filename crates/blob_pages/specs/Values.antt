@@ -1,5 +1,5 @@
 -- The bytes and the capacity of a `Pages`.
-use Rattle.std.specs.Prelude.{◌≡◌, ℕ, ◌+◌, ◌<◌, ◌≤◌, Bool, List, Result, OnOk, OnErr, length, slice_index, vec_capacity}
+use Rattle.std.specs.Prelude.{◌≡◌, ℕ, ◌+◌, ◌<◌, Bool, List, Result, OnOk, OnErr, length, slice_index, vec_capacity}
 use Rattle.blob_model.specs.Bytes.{overlay, overlay_by}
 use Rattle.blob_model.specs.Runs.{picked}
 use Rattle.blob_pages.specs.declared.pages.Pages.{Pages}

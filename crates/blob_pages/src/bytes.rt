@@ -1,5 +1,5 @@
 //! The bytes of a blob.
-ghost use Rattle.std.specs.Prelude.{◌≡◌, ◌≤◌, ◌<◌, ◌+◌, ◌++◌, [], length, take, drop, IfOk, OnOk, OnErr, vec_capacity};
+ghost use Rattle.std.specs.Prelude.{◌≡◌, ◌≤◌, ◌<◌, ◌+◌, ◌++◌, [], length, take, drop, IfOk, OnOk, vec_capacity};
 ghost use Rattle.blob_pages.specs.Paged.{spliced};
 
 use crate::form::Form;

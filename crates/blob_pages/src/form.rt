@@ -1,5 +1,5 @@
 // The bytes of a blob: one vector if they fit on one page, else pages.
-ghost use Rattle.std.specs.Prelude.{◌≡◌, ◌≤◌, ◌<◌, ◌+◌, ◌^◌, [], length, take, drop, IsOk, OnOk, OnErr, IfOk, vec_capacity};
+ghost use Rattle.std.specs.Prelude.{◌≡◌, ◌≤◌, ◌<◌, ◌+◌, ◌^◌, length, take, drop, OnOk, OnErr, IfOk, vec_capacity};
 ghost use Rattle.blob_model.specs.Bytes.{overlay, overlay_by, reach, resized};
 ghost use Rattle.blob_model.specs.Runs.{picked};
 

@@ -1,4 +1,4 @@
-use Rattle.std.proofs.Common.{rules, ◌≡◌, ℕ, ◌+◌, ◌∙◌, ap, sym, refl, length, max, arith, true≢false}
+use Rattle.std.proofs.Common.{rules, ◌≡◌, ℕ, ◌+◌, ◌∙◌, ap, sym, length, max, arith}
 use Rattle.blob_model.specs.Bytes.{overlay, resized}
 use Rattle.blob_model.proofs.Bytes.{reach_all}
 use Rattle.blob_pages.specs.Paged.{bytes_in}

@@ -1,5 +1,5 @@
-use Rattle.std.proofs.Common.{true≢false, ◌∙◌, ap, sym, get_or, arith}
-use Rattle.blob_pages.proofs.Paged.{owner_at, keeps_more, owned_more}
+use Rattle.std.proofs.Common.{ap, get_or, arith}
+use Rattle.blob_pages.proofs.Paged.{keeps_more, owned_more}
 use Rattle.blob_pages.proofs.page_list.own_all.Goals as goal
 
 pub returns-in_err-own-clause-keeps : goal.returns-in_err-own-clause-keeps

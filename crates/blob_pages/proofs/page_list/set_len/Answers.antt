@@ -1,4 +1,4 @@
-use Rattle.std.proofs.Common.{rules, ◌≡◌, ◌∙◌, ap, sym, refl, length, arith, true≢false}
+use Rattle.std.proofs.Common.{rules, ◌≡◌, ◌∙◌, ap, length, arith}
 use Rattle.blob_model.specs.Bytes.{resized}
 use Rattle.blob_pages.specs.Paged.{bytes_in}
 use Rattle.blob_pages.proofs.Paged.{extended_bytes, blanked, cut_bytes, owned_through, owned_same, written_back}

@@ -1,5 +1,5 @@
-use Rattle.std.proofs.Common.{◌≡◌, ◌/◌, ◌∙◌, ap, sym, length, arith, true≢false}
-use Rattle.blob_pages.specs.Paged.{page_size, owned_at}
+use Rattle.std.proofs.Common.{◌≡◌, ◌/◌, ◌∙◌, ap, length, arith}
+use Rattle.blob_pages.specs.Paged.{page_size}
 use Rattle.blob_pages.proofs.Paged.{table_length, extends_kept, written_back}
 use Rattle.blob_pages.proofs.page_list.take_room.Goals as goal
 

@@ -1,4 +1,4 @@
-use Rattle.std.proofs.Common.{◌≡◌, ◌<◌, ◌+◌, ◌-◌, ◌∙◌, ap, length, arith}
+use Rattle.std.proofs.Common.{◌≡◌, ◌-◌, ◌∙◌, ap, length, arith}
 use Rattle.blob_model.specs.Bytes.{overlay, overlay_by}
 use Rattle.blob_model.specs.Runs.{picked}
 use Rattle.blob_model.proofs.Bytes.{reach_below, above_chosen}
