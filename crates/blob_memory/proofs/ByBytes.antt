@@ -28,7 +28,7 @@ at_bytes f g bs w here other cs =
     (λ n. other cs n ∙ sym (cond-false (bytes_eq bs cs) w (f cs) n))
     (cases_Bool (bytes_eq bs cs))
 
--- a change at the key of bs leaves this at any bytes cs
+-- the value at any bytes cs after a change at the key bs
 pub found_after : {K X : Type 0} (bytes : K → List ℕ) (bs : List ℕ) (m n : BTreeMap K X) (w : Option X)
     → UpdatesBy (λ x y. slice_cmp nat_cmp (bytes x) (bytes y)) (λ k. slice_cmp nat_cmp bs (bytes k)) m n w
     → (cs : List ℕ) → found bytes n cs ≡ update bytes_eq (found bytes m) bs w cs
@@ -36,7 +36,7 @@ found_after bytes bs m n w h =
     at_bytes (found bytes m) (found bytes n) bs w h.1
     (λ cs e. others _ _ _ _ h.3 _ (λ x y. (eq_by_cmp_equiv nat_list_cmp_total).congr cs (bytes x) (bytes y)) (λ k. apart bs cs (bytes k) e))
 
--- whether there is something at a key, after a change at one
+-- whether a key exists after a change at one
 pub there_after : {M : Type 0} (f g : List ℕ → Option M) (p : List ℕ) (w : Option M)
     → ((cs : List ℕ) → g cs ≡ update bytes_eq f p w cs) → (q : List ℕ) → is_some (g q) ≡ cond (bytes_eq p q) (is_some w) (is_some (f q))
 there_after f g p w outer q = ap is_some (outer q) ∙ push (bytes_eq p q) where
@@ -44,7 +44,7 @@ there_after f g p w outer q = ap is_some (outer q) ∙ push (bytes_eq p q) where
   push true = refl
   push false = refl
 
--- a change where there was something leaves what is there
+-- a change of an existing key keeps the set of keys
 pub there_still : {M : Type 0} (f g : List ℕ → Option M) (p : List ℕ) (a b : M) → f p ≡ Some a
     → ((cs : List ℕ) → g cs ≡ update bytes_eq f p (Some b) cs) → (q : List ℕ) → is_some (g q) ≡ is_some (f q)
 there_still f g p a b here outer q = ⊎_elim
@@ -53,7 +53,7 @@ there_still f g p a b here outer q = ⊎_elim
     (cases_Bool (bytes_eq p q))
 
 module _ {M X : Type 0} (v : M → List ℕ → Option X) where
-  -- a map below, made new at one key
+  -- an inner map, set at one key
   pub below_after : (f g : List ℕ → Option M) (p n : List ℕ) (a b : M) (x : Option X)
       → f p ≡ Some a → ((cs : List ℕ) → g cs ≡ update bytes_eq f p (Some b) cs) → ((cs : List ℕ) → v b cs ≡ update bytes_eq (v a) n x cs)
       → (q m : List ℕ) → below v (g q) m ≡ cond (bytes_eq p q) (cond (bytes_eq n m) x (below v (f q) m)) (below v (f q) m)
@@ -69,7 +69,7 @@ module _ {M X : Type 0} (v : M → List ℕ → Option X) where
       rw is (sym (cond-false (bytes_eq p q) (cond (bytes_eq n m) x (below v (f q) m)) (below v (f q) m) no)))
       (cases_Bool (bytes_eq p q))
 
-  -- a map below, exchanged for one that answers alike
+  -- an inner map, replaced by one with equal values
   pub below_still : (f g : List ℕ → Option M) (p : List ℕ) (a b : M) → f p ≡ Some a
       → ((cs : List ℕ) → g cs ≡ update bytes_eq f p (Some b) cs) → ((cs : List ℕ) → v b cs ≡ v a cs)
       → (q m : List ℕ) → below v (g q) m ≡ below v (f q) m
@@ -82,7 +82,7 @@ module _ {M X : Type 0} (v : M → List ℕ → Option X) where
       (λ no. rw (outer q ∙ cond-false (bytes_eq p q) (Some b) (f q) no) refl)
       (cases_Bool (bytes_eq p q))
 
-  -- a new map below with one key
+  -- a new inner map with one key
   pub below_new : (f g : List ℕ → Option M) (p n : List ℕ) (b : M) (x : Option X) → f p ≡ None
       → ((cs : List ℕ) → g cs ≡ update bytes_eq f p (Some b) cs) → ((cs : List ℕ) → v b cs ≡ cond (bytes_eq n cs) x None)
       → (q m : List ℕ) → below v (g q) m ≡ cond (bytes_eq p q) (cond (bytes_eq n m) x (below v (f q) m)) (below v (f q) m)
@@ -97,7 +97,7 @@ module _ {M X : Type 0} (v : M → List ℕ → Option X) where
       rw is (sym (cond-false (bytes_eq p q) (cond (bytes_eq n m) x (below v (f q) m)) (below v (f q) m) no)))
       (cases_Bool (bytes_eq p q))
 
-  -- a map below taken away
+  -- an inner map removed
   pub below_gone : (f g : List ℕ → Option M) (p : List ℕ)
       → ((cs : List ℕ) → g cs ≡ update bytes_eq f p None cs)
       → (q m : List ℕ) → below v (g q) m ≡ cond (bytes_eq p q) None (below v (f q) m)

@@ -27,7 +27,7 @@ use Rattle.blob_memory.proofs.Directories.{file_again}
 abbrev pub Found : Type 0
 Found = Result (Option (ℕ × BlobVersion × ℕ)) Failure
 
--- where a resolve is refused, the blob has no header
+-- if the resolution fails, the blob has no header
 pub refused_none : (p n raw : List ℕ) (r : Found) (e : Error) → AnswersAs (Err e) (refusing p n r) → left_behind_header r raw ≡ None
 refused_none p n raw (Ok None) e h = refl
 refused_none p n raw (Err failure) e h = refl
@@ -39,13 +39,13 @@ pub answered : (p n : List ℕ) (r : Found) (x : Option (ℕ × BlobVersion × �
 answered p n (Ok y) x h = cc
 answered p n (Err failure) x h = absurd cc
 
--- the data that a header names begins within the blob
+-- the data offset of a header is within the blob
 pub offset_within : (raw : List ℕ) (a : Accepted) (size : ℕ) (version : BlobVersion) (offset : ℕ) → ((i : ℕ) → get_or raw i 0 < 256) → resolution raw a ≡ Ok (Some (size, version, offset)) → offset ≤ length raw
 offset_within raw a size version offset small h = within (has_header raw a (size, version, offset) small h) where
   within : HasHeader raw a size version.0 offset → offset ≤ length raw
   within k = omega (arith, k.starts, ap length k.whole, length-append (region k.layout version.0) (drop offset raw), length_region k.layout version.0)
 
--- a region and what follows it
+-- a region and the bytes after it
 pub behind_region : (layout : Layout) (version : ℕ) (bytes : List ℕ) → version < 2 ^ 16 → logical_found (region layout version ++ bytes) ≡ Some bytes
 behind_region layout version bytes fits =
     ap (λ (r : Found). left_behind_header r (region layout version ++ bytes)) found

@@ -1,4 +1,4 @@
--- What a store's directory and bytes are after a change of its items.
+-- A store's directory and bytes after a change of its items.
 use Rattle.std.proofs.Common.{◌≡◌, ℕ, ◌≤◌, ◌<◌, List, [], ◌++◌, Bool, true, false, cond, ◌&&◌, ◌==◌, nat_eq, nat_lt, not, Option, Some, None, refl, sym, ap, ◌∙◌}
 use Rattle.std.proofs.lemmas.Bool.{le-ltb, lt-ltb, eq-eqb}
 use Rattle.std.proofs.lemmas.Option.{none-some}
@@ -22,12 +22,12 @@ use Rattle.blob_memory.specs.declared.item.Item.TheVariants.{Raw, Held}
 use Rattle.blob_memory.specs.declared.item.Held as held
 use Rattle.blob_memory.specs.Contents.{file_of, file_when, vec_in, bytes_of, IsUnder}
 
--- directories are equal where their parts are, name by name
+-- directories are equal if their parts are, name by name
 pub same_directory : (d e : Directory) → ((q : List ℕ) → d.has_partition q ≡ e.has_partition q) → ((q m : List ℕ) → d.file q m ≡ e.file q m) → d.next ≡ e.next → d ≡ e
 same_directory d e there files next = λ i. record { has_partition = λ q. there q i; file = λ q m. files q m i; next = next i }
 
 module _ (first : ℕ) (f g : List ℕ → List ℕ → Option Item) where
-  -- one item made new
+  -- one item set
   pub file_after : (p n : List ℕ) (x : Option Item) → ((q m : List ℕ) → g q m ≡ with_item f p n x q m)
       → (q m : List ℕ) → file_of first (g q m) ≡ with_file (λ r s. file_of first (f r s)) p n (file_of first x) q m
   file_after p n x h q m = ap (file_of first) (h q m) ∙ push (bytes_eq p q) (bytes_eq n m) where
@@ -36,7 +36,7 @@ module _ (first : ℕ) (f g : List ℕ → List ℕ → Option Item) where
     push true false = refl
     push false d = refl
 
-  -- a partition's items taken away
+  -- a partition removed
   pub file_without : (p : List ℕ) → ((q m : List ℕ) → g q m ≡ without_partition f p q m)
       → (q m : List ℕ) → file_of first (g q m) ≡ cond (bytes_eq p q) None (file_of first (f q m))
   file_without p h q m = ap (file_of first) (h q m) ∙ push (bytes_eq p q) where
@@ -44,12 +44,12 @@ module _ (first : ℕ) (f g : List ℕ → List ℕ → Option Item) where
     push true = refl
     push false = refl
 
--- the durable bytes that items have
+-- the durable bytes of items
 abbrev pub durable_in : ℕ → (List ℕ → List ℕ → Option Item) → Durable
 durable_in first f o = bytes_of (vec_in first (f o.partition o.name) o.number o.start)
 
 module _ (first : ℕ) (f g : List ℕ → List ℕ → Option Item) where
-  -- one item made new that isn't a current incarnation
+  -- one item set that isn't a current incarnation
   pub durable_placed : (p n : List ℕ) (x : Option Item) → ((q m : List ℕ) → g q m ≡ with_item f p n x q m) → ((k start : ℕ) → vec_in first x k start ≡ None)
       → durable_in first g ≡ durable_without (durable_in first f) p (Some n)
   durable_placed p n x h none = λ i o. (ap (λ y. bytes_of (vec_in first y o.number o.start)) (h o.partition o.name) ∙ push o (bytes_eq p o.partition) (bytes_eq n o.name)) i where
@@ -58,7 +58,7 @@ module _ (first : ℕ) (f g : List ℕ → List ℕ → Option Item) where
     push o true false = refl
     push o false d = refl
 
-  -- a partition's items taken away
+  -- a partition removed
   pub durable_gone : (p : List ℕ) → ((q m : List ℕ) → g q m ≡ without_partition f p q m) → durable_in first g ≡ durable_without (durable_in first f) p None
   durable_gone p h = λ i o. (ap (λ y. bytes_of (vec_in first y o.number o.start)) (h o.partition o.name) ∙ push o (bytes_eq p o.partition)) i where
     push : (o : Place) (b : Bool) → bytes_of (vec_in first (cond b None (f o.partition o.name)) o.number o.start) ≡ cond b None (durable_in first f o)
@@ -78,7 +78,7 @@ not_current first (Some (Held h)) p n e k start = by_end (nat_lt h.number first)
   by_end false z = absurd (none-some _ (sym z))
 
 module _ (first : ℕ) (f g : List ℕ → List ℕ → Option Item) where
-  -- an incarnation that begins where there was none
+  -- an incarnation begins for a name without a current one
   pub durable_begun : (p n : List ℕ) (h : held.Held) → first ≤ h.number → place_in p n (file_of first (f p n)) ≡ None → ((q m : List ℕ) → g q m ≡ with_item f p n (Some (Held h)) q m)
       → durable_in first g ≡ with_at (durable_in first f) (record { partition = p; name = n; number = h.number; start = data_start h.layout }) (Some h.bytes.items)
   durable_begun p n h begun none new = λ i o. (ap (λ y. bytes_of (vec_in first y o.number o.start)) (new o.partition o.name)
@@ -97,7 +97,7 @@ module _ (first : ℕ) (f g : List ℕ → List ℕ → Option Item) where
       push o true false gone = refl
       push o false d gone = refl
 
--- one item made new twice
+-- one item set twice
 pub with_twice : (f g h : List ℕ → List ℕ → Option Item) (p n : List ℕ) (x y : Option Item) → ((q m : List ℕ) → g q m ≡ with_item f p n x q m) → ((q m : List ℕ) → h q m ≡ with_item g p n y q m)
     → (q m : List ℕ) → h q m ≡ with_item f p n y q m
 with_twice f g h p n x y first second q m = second q m ∙ ap (λ r. cond (bytes_eq p q) (cond (bytes_eq n m) y r) r) (first q m) ∙ again (bytes_eq p q) (bytes_eq n m) where
@@ -106,13 +106,13 @@ with_twice f g h p n x y first second q m = second q m ∙ ap (λ r. cond (bytes
   again true false = refl
   again false d = refl
 
--- a file under a header is no current incarnation
+-- a file with a header of which no incarnation is current
 pub under_none : (s : Contents) (layout : Layout) (version : BlobVersion) (x : Option Item) (p n : List ℕ) → IsUnder s layout version x → place_in p n (file_of s.first x) ≡ None
 under_none s layout version None p n h = absurd h
 under_none s layout version (Some (Raw bytes)) p n h = refl
 under_none s layout version (Some (Held i)) p n h = rw h.0 refl
 
--- all incarnations ended
+-- the end of all incarnations
 pub file_again : (first next : ℕ) (f : List ℕ → List ℕ → Option Item) → ((p n : List ℕ) (k : ℕ) → item_number (f p n) ≡ Some k → k < next)
     → (p n : List ℕ) → file_of next (f p n) ≡ raw_again (λ o. unwrap_or (durable_in first f o) []) p n (file_of first (f p n))
 file_again first next f below p n = at (f p n) (below p n) refl where

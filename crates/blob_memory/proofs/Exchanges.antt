@@ -1,4 +1,4 @@
--- What is left where the bytes of a current incarnation are changed.
+-- A store after the bytes of a current incarnation change.
 use Rattle.std.proofs.Common.{◌≡◌, ◌≤◌, ℕ, List, Bool, true, false, cond, ◌&&◌, ◌==◌, nat_eq, nat_lt, not, Option, Some, None, IsSome, refl, sym, ap, ◌∙◌, subst, arith}
 use Rattle.std.proofs.lemmas.Bool.{false≢true, and_parts}
 use Rattle.std.proofs.lemmas.Bool.Decides.{nat_tests}
@@ -17,7 +17,7 @@ use Rattle.blob_memory.specs.Numbers.{item_number}
 use Rattle.blob_memory.specs.Partitions.{with_item, with_bytes_in}
 use Rattle.blob_pages.specs.Stored.{Stored}
 
--- what there is to know of a current incarnation's item
+-- the facts about a current incarnation's item
 pub record IsCurrent (first : ℕ) (x : Option Item) (k start : ℕ) : Type 0 where
   pub held : held.Held
   pub is : x ≡ Some (Held held)
@@ -95,7 +95,7 @@ vecs_after f g v first o after h a =
     push true false e = refl
     push false d e = refl
 
--- The bytes of one place, changed.
+-- A change of the bytes of one place.
 module _ (f h : Place → Option Stored) (o : Place) (v w : Stored) (here : f o ≡ Some v) (after : (a : Place) → h a ≡ with_at f o (Some w) a) where
   at_same : (a : Place) → same_place o a ≡ true → f a ≡ Some v
   at_same a y = ap f (sym (same_place_exact o a y)) ∙ here
@@ -118,7 +118,7 @@ module _ (f h : Place → Option Stored) (o : Place) (v w : Stored) (here : f o 
     push true is = let k : n ≤ v.capacity = subst (λ r. Fits r n) (is refl) fits in omega arith
     push false is = fits
 
--- nothing is changed at a place that has no bytes
+-- a change at a place without bytes has no effect
 pub changed_none : (f : Durable) (o : Place) → f o ≡ None → (k : List ℕ → List ℕ) → f ≡ with_changed f o k
 changed_none f o none k = λ i a. push a (same_place o a) (λ y. ap f (sym (same_place_exact o a y)) ∙ none) i where
   push : (a : Place) (b : Bool) → (b ≡ true → f a ≡ None) → f a ≡ cond b (option_map k (f a)) (f a)

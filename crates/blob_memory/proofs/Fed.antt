@@ -1,4 +1,4 @@
--- What is fed to a checksum, piece by piece.
+-- Bytes fed to a checksum, piece by piece.
 use Rattle.std.proofs.Common.{◌≡◌, ℕ, List, [], ◌∷◌, ◌++◌, replicate, refl, sym, ap, ◌∙◌, append_assoc, append-nil}
 use Rattle.std.specs.Int.{to_be_bytes, w32}
 use Rattle.blob_header.specs.declared.layout.Layout.TheVariants.{V0, V1}
@@ -14,7 +14,7 @@ region_one : (v : ℕ) → region V1 v ≡ (prelude V1 v ++ to_be_bytes w32 (crc
 unfolding region
 region_one v = refl
 
--- the region of the layout with a checksum
+-- the region of layout V1, which has a checksum
 pub fed_one : (before p c z : List ℕ) (v : ℕ) → p ≡ prelude V1 v → c ≡ to_be_bytes w32 (crc32c p) → z ≡ replicate 4084 0 → ((before ++ p) ++ c) ++ z ≡ before ++ region V1 v
 fed_one before p c z v ep ec ez =
     append_assoc (before ++ p) c z ∙ append_assoc before p (c ++ z) ∙ ap (λ l. before ++ l)
@@ -24,7 +24,7 @@ pub pieces_append : (xs ys : List Listed) → pieces_of (xs ++ ys) ≡ pieces_of
 pieces_append [] ys = refl
 pieces_append (x ∷ xs) ys = ap (λ l. piece_of x ++ l) (pieces_append xs ys) ∙ sym (append_assoc (piece_of x) (pieces_of xs) (pieces_of ys))
 
--- one more part of a listing that goes on
+-- after one more part of a listing
 pub fed_more : (before : List ℕ) (xs ys all : List Listed) (fed : List ℕ) → all ≡ xs ++ ys → fed ≡ pieces_of ys → (before ++ pieces_of xs) ++ fed ≡ before ++ pieces_of all
 fed_more before xs ys all fed e f = append_assoc before (pieces_of xs) fed ∙ ap (λ l. before ++ l) (ap (λ r. pieces_of xs ++ r) f ∙ sym (pieces_append xs ys) ∙ ap pieces_of (sym e))
 

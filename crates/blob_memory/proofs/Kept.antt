@@ -1,4 +1,4 @@
--- What a store is once lent bytes are given back.
+-- A store after a borrow of its bytes ends.
 use Rattle.std.proofs.Common.{◌≡◌, ◌≤◌, ◌∙◌, refl, sym, ap, subst, ℕ, List, Option, Some, None, Result, Ok, Err}
 use Rattle.std.specs.Prelude.{IfSome, is_some}
 use Rattle.std.specs.Borrow.{MutBor}
@@ -23,7 +23,7 @@ use Rattle.blob_pages.specs.Stored.{Stored}
 abbrev pub done : Result (Unit {0}) Error
 done = Ok (tt {0})
 
--- the bytes b of an incarnation were lent, and were given back as w
+-- the bytes b of an incarnation were borrowed, and are w after the borrow
 pub record Lent (s t : Contents) (o : Place) (b w : Stored) : Type 0 where
   pub here : vec_at s o ≡ Some b
   pub now : HasVecs s t (with_at (vec_at s) o (Some w))
@@ -56,7 +56,7 @@ module _ (s t : Storage) {o : Place} {b w : Stored} (l : Lent s.contents t.conte
   refused_retained (Ok x) k is same = absurd (false≢true is)
   refused_retained (Err e) k is same = record { ok = tt; err = stays l same; kept = kept }
 
--- there was nothing to lend
+-- there were no bytes to borrow
 module _ (s t : Contents) (ends : HasVecs s t (vec_at s)) where
   pub still : durable_of t ≡ durable_of s
   still = λ i o. bytes_of (ends.vecs o i)
@@ -77,7 +77,7 @@ module _ (s t : Storage) (ends : HasVecs s.contents t.contents (vec_at s.content
   pub retained_none : (o : Place) (r : Option (MutBor Stored)) → r ≡ None → option_copied_mut r ≡ vec_at s.contents o → (k : List ℕ → List ℕ) → Retains done s t o k
   retained_none o r is value k = record { ok = alters_none s.contents t.contents ends o r is value k; err = tt; kept = kept_none }
 
--- what a store is told by what it lends
+-- what a borrow says of the store
 pub retakes : (s t : Storage) (o : Place) (r : Option (MutBor Stored)) (w : Stored) → option_copied_mut r ≡ vec_at s.contents o
     → OnSome r (HasVecs s.contents t.contents (with_at (vec_at s.contents) o (Some w))) → IfSome r (λ b. Retakes s t o b.now w)
 retakes s t o None w value ends = tt

@@ -1,4 +1,4 @@
--- What a table ends as, once a loan of it ends.
+-- A table after a borrow ends.
 use Rattle.std.proofs.Common.{◌≡◌, subst, refl, sym, ap, ◌∙◌, ⊎_elim, Option, Some, None, IsSome, List, ℕ, Vec, Global}
 use Rattle.std.proofs.lemmas.Bool.{cases_Bool, cond-true, cond-false}
 use Rattle.std.specs.Cmp.Lexicographic.{slice_cmp, bytes_decides}
@@ -26,12 +26,12 @@ copied_some None x is h = absurd (false≢true h)
 pub where_some : {T P : Type 0} (r : Option T) (x : T) → r ≡ Some x → OnSome r P → P
 where_some {P = P} r x is h = subst (λ o. OnSome o P) is h
 
--- a table whose partition p has the names b
+-- a table in which partition p has the names b
 abbrev Sets : Partitions → Partitions → List ℕ → BTreeMap (Vec ℕ Global) Item → Type 0
 Sets s t p b = UpdatesBy (λ x y. slice_cmp nat_cmp (string_bytes x) (string_bytes y)) (λ k. slice_cmp nat_cmp p (string_bytes k)) s.names t.names (Some b)
 
 module _ (s t : Partitions) (p : List ℕ) (a b : BTreeMap (Vec ℕ Global) Item) (here : found string_bytes s.names p ≡ Some a) (outer : Sets s t p b) where
-  -- an item made new in a partition that is there
+  -- an item set in an existing partition
   pub altered : (n : List ℕ) (x : Option Item) → UpdatesBy (λ x y. slice_cmp nat_cmp x.items y.items) (λ k. slice_cmp nat_cmp n k.items) a b x
       → HasItems t (with_item (item_at s) p n x) (is_there s)
   altered n x inner =
@@ -40,7 +40,7 @@ module _ (s t : Partitions) (p : List ℕ) (a b : BTreeMap (Vec ℕ Global) Item
         partitions = there_still (found string_bytes s.names) (found string_bytes t.names) p a b here last;
       }
 
-  -- a partition that is left as it was
+  -- an unchanged partition
   pub unaltered : b ≡ a → HasItems t (item_at s) (is_there s)
   unaltered same =
       let last = found_after string_bytes p s.names t.names (Some b) outer in record {
@@ -48,11 +48,11 @@ module _ (s t : Partitions) (p : List ℕ) (a b : BTreeMap (Vec ℕ Global) Item
         partitions = there_still (found string_bytes s.names) (found string_bytes t.names) p a b here last;
       }
 
--- the same at names that are equal
+-- the same for equal names
 pub has_at : (s t : Partitions) (x : Option Item) (p q n m : List ℕ) → p ≡ q → n ≡ m → HasItems t (with_item (item_at s) p n x) (is_there s) → HasItems t (with_item (item_at s) q m x) (is_there s)
 has_at s t x p q n m e d h = subst (λ (l : List ℕ). HasItems t (with_item (item_at s) q l x) (is_there s)) d (subst (λ (l : List ℕ). HasItems t (with_item (item_at s) l n x) (is_there s)) e h)
 
--- a name that gets the item that it has
+-- a name set to its own item
 same_item : (f : List ℕ → List ℕ → Option Item) (p n q m : List ℕ) → with_item f p n (f p n) q m ≡ f q m
 same_item f p n q m = ⊎_elim
     (λ y. cond-true (bytes_eq p q) _ (f q m) y ∙ ⊎_elim

@@ -35,7 +35,7 @@ later x xs y h = Contains-append_right (x ∷ []) xs y h
 first_or_later : {X : Type 0} (x : X) (xs : List X) (y : X) → Contains (x ∷ xs) y → (x ≡ y) ⊎ Contains xs y
 first_or_later x xs y h = ⊎_elim (λ l. ⊎_elim (λ e. absurd (empty y e)) (λ e. inl e) (Contains-push_cases [] x y l)) (λ r. inr r) (Contains-append_cases (x ∷ []) xs y h)
 
--- ---- what a partition has
+-- ---- one partition
 
 -- the raw bytes by name
 abbrev raws : List (Vec ℕ Global × Item) → List (List ℕ × List ℕ)
@@ -72,7 +72,7 @@ keys_raws (e ∷ es) = ap (λ ks. e.0.items ∷ ks) (keys_raws es)
 distinct : (ks : List (List ℕ)) → IsStrictlySortedBy (slice_cmp nat_cmp) ks → IsDistinct bytes_eq ks
 distinct ks h = subst (λ (eq : List ℕ → List ℕ → Bool). IsDistinct eq ks) (λ i x y. is_eq-slice_cmp x y i) (IsDistinct-from_sorted (slice_cmp nat_cmp) ks h)
 
--- ---- what all partitions have
+-- ---- all partitions
 
 all_contains : (ps : List (String Global × Names)) → AreAllOrdered ps → (b : Listed) → Contains (listing_all ps) b
     → (m : Names) × Contains (by_bytes string_bytes ps) (b.partition, m) × Contains (raws m.entries) (b.name, b.bytes) × AreOrderedNames m
@@ -90,7 +90,7 @@ all_back (e ∷ ps) q r h k = ⊎_elim
     (λ l. Contains-append_right (listing_in (string_bytes e.0) e.1.entries) (listing_all ps) (of_pair q.0 r) (all_back ps q r l k))
     (first_or_later (string_bytes e.0, e.1) (by_bytes string_bytes ps) q h)
 
--- ---- in order
+-- ---- the order
 
 sorted_append : {X : Type 0} (cmp : X → X → Ordering) (xs ys : List X) → IsStrictlySortedBy cmp xs → IsStrictlySortedBy cmp ys → AllByRecursion (λ x. AllByRecursion (λ y. cmp x y ≡ Less) ys) xs → IsStrictlySortedBy cmp (xs ++ ys)
 unfolding IsStrictlySortedBy

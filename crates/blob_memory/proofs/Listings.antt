@@ -39,7 +39,7 @@ module _ {K X : Type 0} (bytes : K → List ℕ) where
   keys_by_bytes [] = refl
   keys_by_bytes (e ∷ es) = ap (λ ks. bytes e.0 ∷ ks) (keys_by_bytes es)
 
-  -- the names that a map has
+  -- the names of a map
   pub names_are : (m : BTreeMap K X) → IsOrdered (λ x y. slice_cmp nat_cmp (bytes x) (bytes y)) m → AreNames (map bytes (keys m)) (λ n. is_some (found bytes m n))
   names_are m ordered = record {
     sorted = sorted_by_bytes bytes (slice_cmp nat_cmp) (keys m) ordered;
@@ -49,7 +49,7 @@ module _ {K X : Type 0} (bytes : K → List ℕ) where
     );
   }
 
--- names where there are none
+-- names of a missing partition
 pub no_names : (names : List (List ℕ)) (there : List ℕ → Bool) → names ≡ [] → ((n : List ℕ) → there n ≡ false) → AreNames names there
 unfolding IsStrictlySortedBy
 no_names names there e gone = subst (λ ns. AreNames ns there) (sym e) (record {

@@ -1,4 +1,4 @@
--- What the files of a store open to.
+-- The openings of the files of a store.
 use Rattle.std.proofs.Common.{◌≡◌, ◌⊎◌, inl, inr, ℕ, ◌≤◌, ◌<◌, ◌^◌, List, ◌++◌, length, drop, Bool, true, false, Option, Some, None, Result, Ok, Err, refl, sym, ap, ap₂, ◌∙◌, subst, arith, length-append}
 use Rattle.std.specs.Prelude.{if◌then◌else◌}
 use Rattle.std.proofs.lemmas.Bool.{false≢true}
@@ -30,7 +30,7 @@ use Rattle.blob_memory.specs.Found.{opening_with, opening_of, IsFound, IsFoundBy
 use Rattle.std.specs.Bool.{then_some}
 use Rattle.std.specs.Prelude.{not}
 
--- what an incarnation, current or ended, opens to
+-- the opening of an incarnation, current or ended
 abbrev pub held_opening : Bool → Held → Bool → ℕ → ℕ → Opening
 held_opening accepts h true first last = if accepts then Begins h.layout h.version.0 h.bytes.items else Declines (BlobVersionMismatch first last h.version.0)
 held_opening accepts h false first last = if accepts then Continues h.number h.layout h.version.0 else Declines (BlobVersionMismatch first last h.version.0)
@@ -40,7 +40,7 @@ pub held_opens : (p n : List ℕ) (b : Bool) (h : Held) (first last : ℕ) → h
 held_opens p n false h first last fits = refl
 held_opens p n true h first last fits = raw_opens p n h.layout h.version.0 h.bytes.items first last fits
 
--- an answer of `resolve`, as what the opening of a raw file goes by
+-- the result of `resolve` as the resolution that defines the opening of a raw file
 abbrev Answer : Type 0
 Answer = Option (ℕ × BlobVersion × ℕ)
 
@@ -68,18 +68,18 @@ module _ (layouts : RangeInclusive Layout) (versions : RangeInclusive BlobVersio
   any : accepted layouts versions ≡ every_layout (range_inclusive_start versions).0 (range_inclusive_end versions).0
   any = λ i. record { oldest = oldest i; newest = newest i; least = (range_inclusive_start versions).0; greatest = (range_inclusive_end versions).0 }
 
-  -- what a raw file that is accepted, or to be created, resolves to
+  -- the resolution of a raw file that is accepted or must be created
   pub resolves_to : (p n raw : List ℕ) (x : Answer) → refusing p n (resolution raw (accepted layouts versions)) ≡ Ok x
       → resolution raw (every_layout (range_inclusive_start versions).0 (range_inclusive_end versions).0) ≡ Ok x
   resolves_to p n raw x e = ap (resolution raw) (sym any) ∙ answered p n (resolution raw (accepted layouts versions)) x e
 
-  -- what one that isn't accepted opens to
+  -- the opening of a raw file that isn't accepted
   pub declines_as : (p n raw : List ℕ) (e : Error) → AnswersAs {T = Answer} (Err e) (refusing p n (resolution raw (accepted layouts versions)))
       → IsMemoryError e ⊎ (opening p n (Some (Raw raw)) (range_inclusive_start versions).0 (range_inclusive_end versions).0 ≡ Declines (refusal_of e))
   declines_as p n raw e (inl h) = inr (ap (λ a. opening_raw p n raw (range_inclusive_end versions).0 (resolution raw a)) (sym any) ∙ declined p n raw (range_inclusive_end versions).0 (resolution raw (accepted layouts versions)) (refusal_of e) h)
   declines_as p n raw e (inr h) = inl h.1
 
--- a header that is there lies before the end
+-- an existing header ends within the file
 pub header_within : (raw : List ℕ) (a : Accepted) (size version offset : ℕ) → HasHeader raw a size version offset → offset ≤ length raw
 header_within raw a size version offset h =
     let whole : length raw ≡ length (region h.layout version ++ drop offset raw) = ap length h.whole in
@@ -100,7 +100,7 @@ held_accepted h false first last e = ap (λ t. held_opening t h false first last
 
 module _ (s : Contents) (p n : List ℕ) (first last : ℕ) (f : Found) (opens : opening p n ((directory_of s).file p n) first last ≡ opening_of f) (o : Place) (live : List ℕ) (version : BlobVersion)
     (lives : live ≡ f.live.items) (versioned : version ≡ f.version) where
-  -- an open by which the current incarnation goes on
+  -- an open that continues the current incarnation
   pub continues : (k : ℕ) → f.number ≡ Some k → IsFound s p n f → o ≡ place_of p n k f.layout
       → IsOpened (directory_of s) (durable_of s) (directory_of s) (durable_of s) p n first last o live version.0
   continues k numbered found at =
@@ -109,7 +109,7 @@ module _ (s : Contents) (p n : List ℕ) (first last : ℕ) (f : Found) (opens :
       (opens ∙ ap (λ m. opening_with m f.layout f.version.0 f.live.items) numbered ∙ ap (λ (v : BlobVersion). Continues k f.layout v.0) (sym versioned))
       at (ap (durable_of s) at ∙ there ∙ ap Some (sym lives)) refl refl
 
-  -- an open by which a new one begins
+  -- an open that begins a new incarnation
   pub begins : (t : Contents) → f.number ≡ None → o ≡ place_made (directory_of s) p n f.layout
       → directory_of t ≡ directory_made (directory_of s) p n f.layout f.version.0
       → durable_of t ≡ with_at (durable_of s) (place_made (directory_of s) p n f.layout) (Some f.live.items)

@@ -1,4 +1,4 @@
--- Room that is kept, and writes that change nothing.
+-- Capacities that stay, and writes that change no byte.
 use Rattle.std.proofs.Common.{◌≡◌, ℕ, ◌≤◌, List, Bool, true, false, cond, Option, Some, None, is_some, refl, sym, ap, ◌∙◌, arith}
 use Rattle.std.specs.Prelude.{option_map}
 use Rattle.std.proofs.lemmas.Bool.{false≢true}
@@ -11,7 +11,7 @@ use Rattle.blob_memory.specs.Store.{room_in}
 use Rattle.blob_memory.specs.Laws.{currents}
 use Rattle.blob_pages.specs.Stored.{Stored}
 
--- bytes that are changed into themselves
+-- bytes that are replaced by themselves
 pub changed_idle : (f : Durable) (o : Place) (g : List ℕ → List ℕ) → ((x : List ℕ) → g x ≡ x) → with_changed f o g ≡ f
 changed_idle f o g same = λ i a. push (same_place o a) (f a) i
   where
@@ -32,7 +32,7 @@ grows m n None b more same fits = omega arith
 grows m n (Some v) None more same fits = absurd (false≢true same)
 grows m n (Some v) (Some w) more same fits = let h : v.capacity ≤ w.capacity = fits v.capacity (omega arith) in omega arith
 
--- a handle's room is kept where both capacities are
+-- a handle's capacity doesn't shrink if both capacities don't
 pub room_kept : (s t : Contents) (o : Place) (m n : ℕ) → m ≤ n → directory_of t ≡ directory_of s → ((a : Place) (k : ℕ) → Fits (vec_at s a) k → Fits (vec_at t a) k)
     → room_in m (vec_at s o) ≤ room_in n (vec_at t o)
 room_kept s t o m n more same fits = grows m n (vec_at s o) (vec_at t o) more (still_current s t o same) (fits o)
@@ -41,7 +41,7 @@ reached : (m end : ℕ) (a : Option Stored) → is_some (bytes_of a) ≡ true �
 reached m end None there live fits = absurd (false≢true there)
 reached m end (Some v) there live fits = let h : end ≤ v.capacity = fits in omega arith
 
--- a current handle's room, where both are long enough
+-- a current handle's capacity, if both suffice
 pub room_reached : (s t : Contents) (o : Place) (m end : ℕ) → directory_of t ≡ directory_of s → is_current (directory_of s) o ≡ true → end ≤ m → Fits (vec_at t o) end
     → end ≤ room_in m (vec_at t o)
 room_reached s t o m end same now = reached m end (vec_at t o)

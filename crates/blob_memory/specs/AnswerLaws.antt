@@ -1,4 +1,4 @@
--- What no call of a memory store answers.
+-- Errors that a call of a memory store never returns.
 use Rattle.std.specs.Prelude.{◌≡◌, ◌≢◌, ◌⊎◌, ℕ, ◌+◌, ◌-◌, ◌^◌, ◌<◌, ◌≤◌, min, nat_le, Bool, true, false, not, ◌&&◌, ◌||◌, if◌then◌else◌, List, [], ◌∷◌, length, Option, Some, None, IsTrue}
 use Rattle.std.proofs.Common.{refl, sym, ap, subst, ◌∙◌, inl, inr, arith, true≢false}
 use Rattle.std.proofs.lemmas.Bool.{false≢true, le-ltb}
@@ -15,12 +15,13 @@ use Rattle.blob_memory.specs.Contents.{vec_at}
 use Rattle.blob_memory.specs.Store.{directory, place, live, live_room, room, room_in, room_for}
 use Rattle.blob_pages.specs.Stored.{Stored}
 
--- the refusals that no state calls for
+-- the errors that depend on no state
 abbrev pub is_uncalled : Option Refusal → Bool
 is_uncalled (Some Injected) = true
 is_uncalled (Some Memory) = true
 is_uncalled _ = false
 
+-- whether it is `Memory`
 abbrev pub is_memory : Option Refusal → Bool
 is_memory (Some Memory) = true
 is_memory _ = false
@@ -39,11 +40,11 @@ end_called o end = go (is_uncounted (end + o.start)) where
   go true = refl
   go false = refl
 
--- a read into a buffer wants no memory
+-- a read into a buffer doesn't allocate
 pub reads_alike : (b : Blob) (s : Storage) (offset len : ℕ) (answer : Option Refusal) → answer ≡ read_refusal (place b) (live b) offset len → OrMemory (read_refusal (place b) (live b) offset len) answer
 reads_alike b s offset len answer is = inr is
 
--- nothing is injected
+-- no error is injected
 pub uninjected : (b : Blob) (s : Storage) (offset : ℕ) (bytes : List ℕ) (sync : Bool) → true ≡ true
     → AllowsWrite (directory s) (place b) (room_for b s) offset bytes sync (Some Injected) → ⊥
 uninjected b s offset bytes sync direct (inl h) = false≢true (ap is_memory h.0)
@@ -62,7 +63,7 @@ stale_at d o rooms offset (b ∷ bytes) stale some (inr h) = go (is_uncounted (o
   go false true e z = true≢false e
   go false false e z = none-some _ z
 
--- a stale handle's SYNC write of some bytes isn't answered Ok
+-- a SYNC write of some bytes by a stale handle never returns Ok
 pub stale_refused : (b : Blob) (s : Storage) (offset : ℕ) (bytes : List ℕ) → is_current (directory s) (place b) ≡ false → bytes ≢ []
     → AllowsWrite (directory s) (place b) (room_for b s) offset bytes true None → ⊥
 stale_refused b s offset bytes stale some h = stale_at (directory s) (place b) (room_for b s) offset bytes stale some h
@@ -76,7 +77,7 @@ within_at d o rooms offset bytes now fits (inl h) = go (is_idle true bytes) (is_
   go false false l e f z = false≢true e
 within_at d o rooms offset bytes now fits (inr h) = true≢false (ap is_uncalled h ∙ write_called d o offset bytes true)
 
--- a current handle's SYNC write within its room finds memory
+-- a SYNC write by a current handle within the capacity never returns `Memory`
 pub within_room : (b : Blob) (s : Storage) (offset : ℕ) (bytes : List ℕ) → is_current (directory s) (place b) ≡ true → offset + length bytes ≤ room b s
     → AllowsWrite (directory s) (place b) (room_for b s) offset bytes true (Some Memory) → ⊥
 within_room b s offset bytes now fits h = within_at (directory s) (place b) (room_for b s) offset bytes now fits h
@@ -99,7 +100,7 @@ done_at d o rooms offset (b ∷ bytes) refusal now fits least (inr h) = go (is_u
   go false false e f z = false≢true f
   go false true e f z = none-some _ (sym z)
 
--- a current handle's SYNC write within its room is done
+-- a SYNC write by a current handle within the capacity returns Ok
 pub done_within : (b : Blob) (s : Storage) (offset : ℕ) (bytes : List ℕ) (refusal : Refusal) → true ≡ true → is_current (directory s) (place b) ≡ true → offset + length bytes ≤ room b s
     → AllowsWrite (directory s) (place b) (room_for b s) offset bytes true (Some refusal) → ⊥
 done_within b s offset bytes refusal direct now fits h = done_at (directory s) (place b) (room_for b s) offset bytes refusal now fits
@@ -119,7 +120,7 @@ plain_at d o rooms offset bytes refusal some fits least (inr h) = go (is_uncount
   go true e z = true≢false e
   go false e z = none-some _ (sym z)
 
--- a plain write within the room of its handle's live bytes is done
+-- a plain write within the capacity of the live bytes returns Ok
 pub plain_done_within : (b : Blob) (s : Storage) (offset : ℕ) (bytes : List ℕ) (refusal : Refusal) → true ≡ true → 0 < offset + length bytes → offset + length bytes ≤ live_room b
     → AllowsWrite (directory s) (place b) (room_for b s) offset bytes false (Some refusal) → ⊥
 plain_done_within b s offset bytes refusal direct some fits h = plain_at (directory s) (place b) (room_for b s) offset bytes refusal some fits (omega arith) h
@@ -129,12 +130,12 @@ less_room true r k m n less h = h
 less_room false false k m n less h = h
 less_room false true k m n less h = grind (arith, nat_tests)
 
--- more room for both kinds of writes
+-- more capacity for both kinds of writes
 pub both_rooms : (room more : Bool → ℕ) → room true ≤ more true → room false ≤ more false → (sync : Bool) → room sync ≤ more sync
 both_rooms room more synced plain true = synced
 both_rooms room more synced plain false = plain
 
--- what is answered with more room may be answered with less
+-- a result that more capacity allows is allowed with less
 pub answers_kept : (d e : Directory) (o : Place) (room more : Bool → ℕ) → e ≡ d → ((sync : Bool) → room sync ≤ more sync) → (offset : ℕ) (bytes : List ℕ) (sync : Bool) (answer : Option Refusal)
     → AllowsWrite e o more offset bytes sync answer → AllowsWrite d o room offset bytes sync answer
 answers_kept d e o room more same less offset bytes sync answer h =
@@ -156,7 +157,7 @@ end_refused o end r = go (is_uncounted (end + o.start)) where
   go true e = ap refusal_in e
   go false e = absurd (none-some _ (sym e))
 
--- room is refused for its end, or for want of memory
+-- a reservation fails with `OffsetOverflow` or `Memory`
 pub reserve_refused : (b : Blob) (s : Storage) (end : ℕ) (r : Refusal) → OrMemory (end_refusal (place b) end) (Some r) → (r ≡ OffsetOverflow) ⊎ (r ≡ Memory)
 unfolding refusal_in
 reserve_refused b s end r (inl h) = inr (ap refusal_in h)

@@ -1,4 +1,4 @@
--- The text of a store whose checksum is its audit.
+-- The bytes that the audit of a store takes the checksum of.
 use Rattle.std.specs.Prelude.{◌≡◌, ℕ, List, [], ◌∷◌, ◌++◌, Option, Some, codes}
 use Rattle.std.specs.Int.{to_be_bytes, w32}
 use Rattle.std.specs.List.{Contains}
@@ -17,12 +17,13 @@ pub record Listed : Type 0 where
 abbrev pub listed_cmp : Listed → Listed → Ordering
 listed_cmp a b = ordering_then (slice_cmp nat_cmp a.partition b.partition) (slice_cmp nat_cmp a.name b.name)
 
--- all blobs of a store, each once, in rising order
+-- all blobs of a store, each once, in increasing order
 pub record IsListing (raw : List ℕ → List ℕ → Option (List ℕ)) (listing : List Listed) : Type 0 where
   pub rising : IsStrictlySortedBy listed_cmp listing
   pub each : (b : Listed) → Contains listing b → raw b.partition b.name ≡ Some b.bytes
   pub all : (b : Listed) → raw b.partition b.name ≡ Some b.bytes → Contains listing b
 
+-- the bytes for one blob
 abbrev pub piece_of : Listed → List ℕ
 piece_of b = codes "partition" ++ b.partition ++ codes "blob" ++ b.name ++ codes "content" ++ b.bytes
 
@@ -31,9 +32,10 @@ abbrev pub pieces_of : List Listed → List ℕ
 pieces_of [] = []
 pieces_of (b ∷ bs) = piece_of b ++ pieces_of bs
 
--- no lengths and no separators, so stores that differ may have one audit
+-- there are no lengths and no separators, so different stores can have the same audit
 abbrev pub audited : List Listed → List ℕ
 audited listing = codes "commonware-runtime-storage-audit-v1" ++ pieces_of listing
 
+-- the audit, by a checksum function
 abbrev pub audit : (List ℕ → ℕ) → List Listed → List ℕ
 audit checksum listing = to_be_bytes w32 (checksum (audited listing))

@@ -1,4 +1,4 @@
--- What the contents end as, where durable bytes are lent.
+-- The contents after a borrow of durable bytes ends.
 use Rattle.std.specs.Prelude.{◌≡◌, ℕ, Option, Some}
 use Rattle.std.specs.Option.{OnSome}
 use Rattle.std.specs.Borrow.{LendsSo, MutBor, Fml}
@@ -15,7 +15,7 @@ pub record HasVecs (s t : Contents) (vec : Place → Option Stored) : Type 0 whe
   pub vecs : (o : Place) → vec_at t o ≡ vec o
   pub directory : directory_of t ≡ directory_of s
 
--- the incarnation ends with the last bytes written through r, and nothing else changes
+-- the incarnation has the last bytes written through r; all else is unchanged
 abbrev pub LendsDurable : MutBor Contents → Place → Option (MutBor Stored) → Fml
 LendsDurable s o r = LendsSo the_row bytes_row s r
     (λ t w. OnSome r (HasVecs s.now t (with_at (vec_at s.now) o (Some w))))

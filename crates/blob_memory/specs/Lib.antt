@@ -3,12 +3,14 @@ pub mod Answers
 pub mod Audit
 pub mod Contents
 pub mod ContentsLends
+pub mod Feeds
 pub mod Found
 pub mod ItemLends
 pub mod Laws
 pub mod Leaves
 pub mod Listing
 pub mod Numbers
+pub mod Origins
 pub mod Partitions
 pub mod Retained
 pub mod StorageLends

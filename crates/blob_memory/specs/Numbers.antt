@@ -5,6 +5,7 @@ use Rattle.blob_memory.specs.declared.item.Item.TheVariants.{Raw, Held}
 use Rattle.blob_memory.specs.declared.partitions.Partitions.{Partitions}
 use Rattle.blob_memory.specs.Partitions.{item_at}
 
+-- the number of an item's incarnation
 abbrev pub item_number : Option Item → Option ℕ
 item_number None = None
 item_number (Some (Raw bytes)) = None

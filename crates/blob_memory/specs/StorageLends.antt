@@ -1,4 +1,4 @@
--- What a memory store ends as, where durable bytes are lent.
+-- A memory store after a borrow of durable bytes ends.
 use Rattle.std.specs.Prelude.{ℕ, Option, IfSome}
 use Rattle.std.specs.Borrow.{LendsSo, MutBor, Fml}
 use Rattle.blob_model.specs.Places.{Place}
@@ -8,6 +8,6 @@ use Rattle.blob_memory.specs.ItemLends.{bytes_row}
 use Rattle.blob_memory.specs.Retained.{Retakes, IsAsBefore}
 use Rattle.blob_pages.specs.Stored.{Stored}
 
--- the incarnation ends with the last bytes written through r, and nothing else changes
+-- the incarnation has the last bytes written through r; all else is unchanged
 abbrev pub LendsKept : MutBor Storage → Place → Option (MutBor Stored) → Fml
 LendsKept s o r = LendsSo the_row bytes_row s r (λ t w. IfSome r (λ b. Retakes s.now t o b.now w)) (λ t. IsAsBefore s.now t)

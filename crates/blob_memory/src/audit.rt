@@ -1,9 +1,9 @@
-// The checksum over all blobs, fed piece by piece.
-ghost use Rattle.std.specs.Prelude.{◌≡◌, ◌++◌, List, ℕ};
+// The checksum of all blobs, fed piece by piece.
+ghost use Rattle.std.specs.Prelude.{◌≡◌};
 ghost use Rattle.blob_memory.specs.Audit.{piece_of, pieces_of, audit, IsListing};
 ghost use Rattle.blob_header.specs.Checksum.{crc32c};
 ghost use Rattle.blob_header.specs.Header.{region};
-ghost use Rattle.blob_header.specs.Register.{HasTaken};
+ghost use Rattle.blob_memory.specs.Feeds.{Feeds};
 ghost use Rattle.blob_memory.specs.Listing.{raw_bytes, listed_of, raw_in, listing_in, listing_all, AreOrdered, AreOrderedNames, AreAllOrdered};
 
 use crate::item::Item;
@@ -11,9 +11,9 @@ use blob_base::{BlobVersion, Crc32, Header, Layout};
 use blob_pages::Bytes;
 use std::collections::BTreeMap;
 
-/// Feeds the region of a header.
+/// Feeds a header.
 fn feed_header(crc: &mut Crc32, layout: Layout, version: BlobVersion)
-    ensures { (before : List ℕ) → HasTaken crc.old before → HasTaken crc.new (before ++ region layout version.0) }
+    ensures { Feeds crc.old crc.new (region layout version.0) }
 {
     let header = Header {
         magic: layout.magic(),
@@ -33,7 +33,7 @@ fn feed_header(crc: &mut Crc32, layout: Layout, version: BlobVersion)
 
 /// Feeds the bytes of a blob.
 fn feed_bytes(crc: &mut Crc32, bytes: &Bytes)
-    ensures { (before : List ℕ) → HasTaken crc.old before → HasTaken crc.new (before ++ bytes.now.items) }
+    ensures { Feeds crc.old crc.new bytes.now.items }
 {
     let len = bytes.len();
     let mut done = 0;
@@ -44,9 +44,9 @@ fn feed_bytes(crc: &mut Crc32, bytes: &Bytes)
     }
 }
 
-/// Feeds the raw bytes of an item.
+/// Feeds the raw bytes of a file.
 fn feed_item(crc: &mut Crc32, item: &Item)
-    ensures { (before : List ℕ) → HasTaken crc.old before → HasTaken crc.new (before ++ raw_bytes item.now) }
+    ensures { Feeds crc.old crc.new (raw_bytes item.now) }
 {
     match item {
         Item::Raw(bytes) => crc.update(bytes),
@@ -57,9 +57,9 @@ fn feed_item(crc: &mut Crc32, item: &Item)
     }
 }
 
-/// Feeds a blob.
+/// Feeds the partition, the name and the raw bytes of a blob.
 fn feed_blob(crc: &mut Crc32, partition: &str, name: &[u8], item: &Item)
-    ensures { (before : List ℕ) → HasTaken crc.old before → HasTaken crc.new (before ++ piece_of (listed_of partition.now name.now item.now)) }
+    ensures { Feeds crc.old crc.new (piece_of (listed_of partition.now name.now item.now)) }
 {
     crc.update(b"partition");
     crc.update(partition.as_bytes());
@@ -71,7 +71,7 @@ fn feed_blob(crc: &mut Crc32, partition: &str, name: &[u8], item: &Item)
 
 /// Feeds the blobs of a partition.
 fn feed_names(crc: &mut Crc32, partition: &str, names: &BTreeMap<Vec<u8>, Item>)
-    ensures fed { (before : List ℕ) → HasTaken crc.old before → HasTaken crc.new (before ++ pieces_of (listing_in partition.now names.now.entries)) }
+    ensures fed { Feeds crc.old crc.new (pieces_of (listing_in partition.now names.now.entries)) }
     ensures ordered { AreOrderedNames names.now }
 {
     for (name, item) in names.iter() {
@@ -81,7 +81,7 @@ fn feed_names(crc: &mut Crc32, partition: &str, names: &BTreeMap<Vec<u8>, Item>)
 
 /// Feeds the blobs of all partitions.
 fn feed_partitions(crc: &mut Crc32, partitions: &BTreeMap<String, BTreeMap<Vec<u8>, Item>>)
-    ensures fed { (before : List ℕ) → HasTaken crc.old before → HasTaken crc.new (before ++ pieces_of (listing_all partitions.now.entries)) }
+    ensures fed { Feeds crc.old crc.new (pieces_of (listing_all partitions.now.entries)) }
     ensures ordered { AreOrdered partitions.now }
     ensures all_ordered { AreAllOrdered partitions.now.entries }
 {
@@ -90,7 +90,7 @@ fn feed_partitions(crc: &mut Crc32, partitions: &BTreeMap<String, BTreeMap<Vec<u
     }
 }
 
-/// The checksum over all blobs.
+/// Returns the checksum of all blobs.
 pub fn audit(partitions: &BTreeMap<String, BTreeMap<Vec<u8>, Item>>) -> [u8; 4]
     ensures audit { result ≡ audit crc32c (listing_all partitions.now.entries) }
     ensures listing { IsListing (raw_in partitions.now) (listing_all partitions.now.entries) }

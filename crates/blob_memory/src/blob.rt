@@ -1,8 +1,8 @@
 //! A handle on a blob of the memory store.
 ghost use Rattle.std.specs.Prelude.{◌≡◌, ℕ, ◌≤◌, ◌+◌, ◌≢◌, [], true, false, None, OnOk, IfOk, OnErr, length, take, drop};
-ghost use Rattle.blob_model.specs.Bytes.{overlay, resized, written};
+ghost use Rattle.blob_model.specs.Bytes.{resized, written};
 ghost use Rattle.blob_model.specs.Directory.{Directory, is_current};
-ghost use Rattle.blob_model.specs.Durable.{with_changed};
+ghost use Rattle.blob_model.specs.Durable.{with_overlay};
 ghost use Rattle.blob_model.specs.Live.{live_after};
 ghost use Rattle.blob_header.specs.Refusals.{refused, refusal_of, IsMemory};
 ghost use Rattle.blob_memory.specs.Answers.{missing, read_refusal};
@@ -14,17 +14,18 @@ use blob_base::{Error, Handle, IoBufs, IoBufsMut, ReadOptions, WriteOptions};
 use blob_pages::{Bytes, overlay};
 use std::alloc::AllocError;
 
-/// A handle on a blob of the memory store: live bytes of its own, and the incarnation that they were opened on.
+/// A handle on a blob of the memory store. It has its own live bytes, and names the incarnation that it was opened on.
 ///
-/// Offsets and lengths are logical, in bytes. `OffsetOverflow` is tested first of all refusals, for the raw end, which lies the
-/// header's length behind the logical one. `Memory` leaves everything as it was.
+/// Offsets and lengths are logical, in bytes. The physical end is the logical end plus the length of the header. A call
+/// with an offset or a length returns `OffsetOverflow` if the physical end doesn't fit in 64 bits, before any other
+/// error. A call that returns `Memory` changes nothing, unless it says otherwise.
 #[derive(Drop)]
 pub struct Blob {
     pub(crate) origin: Origin,
     pub(crate) live: Bytes,
 }
 
-/// Makes the bytes of a buffer those of a range. Takes no memory.
+/// Replaces the bytes of a buffer with those of a range. Does not allocate.
 fn fill(buf: &mut IoBufsMut, live: &Bytes, at: usize, len: usize)
     requires within { at + len ≤ length live.now.items }
     requires room { len ≤ buf.old.capacity }
@@ -44,7 +45,7 @@ fn fill(buf: &mut IoBufsMut, live: &Bytes, at: usize, len: usize)
 impl Blob {
     ghost use Rattle.blob_memory.specs.Store.{place, live};
 
-    /// Whether a range of live bytes can be read, or why not.
+    /// Checks that a range is within the live bytes.
     pub(crate) fn readable(&self, offset: u64, len: usize) -> Result<(), Error>
         ensures within { OnOk result (offset + len ≤ length (live self.now)) }
         ensures refusal { refused result ≡ read_refusal (place self.now) (live self.now) offset len }
@@ -56,7 +57,7 @@ impl Blob {
         Ok(())
     }
 
-    /// The refusal of a call whose incarnation isn't current. The only error is want of memory.
+    /// Makes the `BlobMissing` error of this handle's blob. The only error is out of memory.
     fn missing(&self) -> Result<Error, AllocError>
         ensures { IfOk result (λ error. refusal_of error ≡ missing (place self.now)) }
     {
@@ -68,13 +69,12 @@ impl Blob {
 }
 
 impl Blob {
-    ghost use Rattle.blob_memory.specs.Answers.{AllowsWrite};
-    ghost use Rattle.blob_memory.specs.Store.{place, live, directory, durable, live_room, room, room_for};
+    ghost use Rattle.blob_memory.specs.Store.{place, live, directory, durable, live_room, room, WriteMayReturn};
     ghost use Rattle.blob_memory.specs.declared.storage.Storage.{Storage};
 
-    /// Writes the live bytes alone.
+    /// Writes the live bytes only.
     fn write_plain(&mut self, offset: u64, bytes: &IoBufs) -> Result<(), Error>
-        ensures allowed { (s : Storage) → AllowsWrite (directory s) (place self.old) (room_for self.old s) offset bytes.now false (refused result) }
+        ensures allowed { (s : Storage) → WriteMayReturn self.old s offset bytes.now false (refused result) }
         ensures live { live self.new ≡ live_after false (live self.old) offset bytes.now (refused result) }
         ensures room { live_room self.old ≤ live_room self.new }
         ensures place { place self.new ≡ place self.old }
@@ -85,11 +85,11 @@ impl Blob {
         Ok(())
     }
 
-    /// Writes the live bytes, and makes the range durable where the incarnation is current.
+    /// Writes the live bytes, and the same range of the durable bytes if the incarnation is current.
     fn write_sync(&mut self, store: &mut Storage, offset: u64, bytes: &IoBufs) -> Result<(), Error>
-        ensures allowed { AllowsWrite (directory store.old) (place self.old) (room_for self.old store.old) offset bytes.now true (refused result) }
+        ensures allowed { WriteMayReturn self.old store.old offset bytes.now true (refused result) }
         ensures live { live self.new ≡ live_after true (live self.old) offset bytes.now (refused result) }
-        ensures durable { OnOk result (durable store.new ≡ with_changed (durable store.old) (place self.old) (λ x. overlay x offset bytes.now)) }
+        ensures durable { OnOk result (durable store.new ≡ with_overlay (durable store.old) (place self.old) offset bytes.now) }
         ensures current { OnOk result (bytes.now ≢ [] → is_current (directory store.old) (place self.old) ≡ true) }
         ensures stale { is_current (directory store.old) (place self.old) ≡ false → durable store.new ≡ durable store.old }
         ensures err { OnErr result (durable store.new ≡ durable store.old) }
@@ -163,11 +163,14 @@ impl blob_base::Blob<Storage> for Blob {
 
     ghost within_room = { within_room };
 
-    /// Reads the handle's live bytes, whether it is current or not. The store isn't looked at.
+    /// Reads the handle's live bytes. A stale handle can read too. The store isn't read.
     ///
     /// # Errors
     ///
-    /// `OffsetOverflow`, then `BlobInsufficientLength` where the range goes past the live bytes, then `Memory`. Nothing changes.
+    /// With nothing changed, in this order:
+    /// - `OffsetOverflow` if the physical end doesn't fit in 64 bits.
+    /// - `BlobInsufficientLength` if the range ends after the live bytes.
+    /// - `Memory` if the buffer can't be allocated.
     fn read_at(
         &self,
         store: &mut Storage,
@@ -183,11 +186,13 @@ impl blob_base::Blob<Storage> for Blob {
         Ok(buf)
     }
 
-    /// Reads the handle's live bytes into a buffer whose capacity is at least `len`, and takes no memory.
+    /// Reads the handle's live bytes into a buffer with a capacity of at least `len`. Does not allocate.
     ///
     /// # Errors
     ///
-    /// `OffsetOverflow`, then `BlobInsufficientLength` where the range goes past the live bytes. The buffer is dropped.
+    /// The buffer is dropped. In this order:
+    /// - `OffsetOverflow` if the physical end doesn't fit in 64 bits.
+    /// - `BlobInsufficientLength` if the range ends after the live bytes.
     fn read_at_buf(
         &self,
         store: &mut Storage,
@@ -204,15 +209,16 @@ impl blob_base::Blob<Storage> for Blob {
         Ok(buf)
     }
 
-    /// Writes the live bytes, over zeros in a gap, and with SYNC the same range of the durable ones.
+    /// Writes the live bytes, and with SYNC the same range of the durable bytes. A gap is filled with zeros.
     ///
-    /// A plain write of no bytes behind the end lengthens the live bytes with zeros up to `offset`. A SYNC write of no bytes is
-    /// answered Ok before any test and changes nothing.
+    /// A plain write without bytes after the end extends the live bytes with zeros to `offset`. A SYNC write without
+    /// bytes returns Ok before any check and changes nothing.
     ///
     /// # Errors
     ///
-    /// `OffsetOverflow`; then `BlobMissing` for a SYNC write by a stale handle, whose live bytes are written all the same;
-    /// `Memory`, never for a SYNC write by a current handle within its room.
+    /// - `OffsetOverflow` if the physical end doesn't fit in 64 bits. Checked first.
+    /// - `BlobMissing` for a SYNC write by a stale handle. The live bytes are written.
+    /// - `Memory` if an allocation fails. Never for a SYNC write by a current handle within its capacity.
     fn write_at(
         &mut self,
         store: &mut Storage,
@@ -227,11 +233,14 @@ impl blob_base::Blob<Storage> for Blob {
         }
     }
 
-    /// Cuts the live bytes to `len`, or lengthens them with zeros, also by a stale handle. No durable byte changes.
+    /// Truncates the live bytes to `len`, or extends them with zeros. A stale handle can resize too. No durable byte
+    /// changes.
     ///
     /// # Errors
     ///
-    /// `OffsetOverflow`, then `Memory`. Nothing changes.
+    /// With nothing changed, in this order:
+    /// - `OffsetOverflow` if the physical end doesn't fit in 64 bits.
+    /// - `Memory` if the live bytes can't grow.
     fn resize(&mut self, store: &mut Storage, len: u64) -> Result<(), Error> {
         let _ = store;
         let len = live::logical_end(self.origin.data_offset(), len, 0)?;
@@ -239,11 +248,14 @@ impl blob_base::Blob<Storage> for Blob {
         Ok(())
     }
 
-    /// Makes the live bytes the durable ones of its incarnation, whatever other handles have live.
+    /// Replaces the durable bytes of the incarnation with this handle's live bytes. The live bytes of other handles
+    /// don't count.
     ///
     /// # Errors
     ///
-    /// `BlobMissing` by a stale handle; `Memory` where the durable bytes have no room. No durable byte changes.
+    /// With no durable byte changed:
+    /// - `BlobMissing` if the handle is stale.
+    /// - `Memory` if an allocation fails.
     fn sync(&mut self, store: &mut Storage) -> Result<(), Error> {
         let Some(durable) = store.contents.bytes_mut(&self.origin) else {
             return Err(self.missing()?);
@@ -252,21 +264,26 @@ impl blob_base::Blob<Storage> for Blob {
         Ok(())
     }
 
-    /// Syncs at once. The handle has the outcome and no marker, and may be dropped.
+    /// Syncs immediately. The returned handle has the outcome and no marker, and may be dropped.
     ///
     /// # Errors
     ///
-    /// The outcome is what `sync` answers: `BlobMissing` by a stale handle, or `Memory`. No durable byte changes then.
+    /// The outcome is the result of `sync`. With no durable byte changed:
+    /// - `BlobMissing` if the handle is stale.
+    /// - `Memory` if an allocation fails.
     fn start_sync(&mut self, store: &mut Storage) -> Handle {
         let outcome = self.sync(store);
         Handle::ready(outcome)
     }
 
-    /// Takes room for the live bytes, and by a current handle for the durable ones, up to the logical `end`.
+    /// Reserves capacity for the live bytes up to the logical `end`. A current handle reserves it for the durable bytes
+    /// too.
     ///
     /// # Errors
     ///
-    /// `OffsetOverflow`, then `Memory`, which may leave the live bytes with more room.
+    /// In this order:
+    /// - `OffsetOverflow` if the physical end doesn't fit in 64 bits.
+    /// - `Memory` if the capacity can't be allocated. That of the live bytes may have grown.
     fn reserve(&mut self, store: &mut Storage, end: u64) -> Result<(), Error> {
         let end = live::logical_end(self.origin.data_offset(), end, 0)?;
         overlay::make_room(&mut self.live, end)?;
@@ -277,16 +294,16 @@ impl blob_base::Blob<Storage> for Blob {
         Ok(())
     }
 
-    /// Returns a copy of the incarnation that the handle was opened on.
+    /// Returns a copy of the origin that the handle was opened on.
     ///
     /// # Errors
     ///
-    /// `Memory`. Nothing changes.
+    /// `Memory` if the copy can't be allocated, with nothing changed.
     fn origin(&self) -> Result<Origin, Error> {
         Ok(self.origin.clone()?)
     }
 
-    /// Lends the incarnation that the handle was opened on. Takes no memory.
+    /// Returns a reference to the origin that the handle was opened on. Does not allocate.
     fn origin_ref(&self) -> &Origin {
         &self.origin
     }

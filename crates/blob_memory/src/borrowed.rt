@@ -1,9 +1,9 @@
-//! Reads into a slice of the caller's, and writes of one. No list is made for the call.
+//! Reads into a borrowed slice, and writes of one. The bytes of the call aren't copied to a buffer first.
 ghost use Rattle.std.specs.Prelude.{◌≡◌, ◌≤◌, ◌+◌, false, OnOk, OnErr, length, take, drop};
 ghost use Rattle.blob_header.specs.Refusals.{refused};
 ghost use Rattle.blob_model.specs.Live.{live_after};
-ghost use Rattle.blob_memory.specs.Answers.{AllowsWrite, read_refusal};
-ghost use Rattle.blob_memory.specs.Store.{place, live, directory, live_room, room_for};
+ghost use Rattle.blob_memory.specs.Answers.{read_refusal};
+ghost use Rattle.blob_memory.specs.Store.{place, live, live_room, WriteMayReturn};
 ghost use Rattle.blob_memory.specs.declared.storage.Storage.{Storage};
 
 use crate::blob::Blob;
@@ -12,11 +12,13 @@ use blob_base::Error;
 use blob_pages::overlay;
 
 impl Blob {
-    /// Reads live bytes from the logical `offset` on, as many as fill `buf`, by a stale handle too. Takes no memory.
+    /// Fills `buf` with the live bytes from the logical `offset` on. A stale handle can read too. Does not allocate.
     ///
     /// # Errors
     ///
-    /// `OffsetOverflow`, then `BlobInsufficientLength` where the range goes past the live bytes. `buf` is as before.
+    /// With `buf` unchanged, in this order:
+    /// - `OffsetOverflow` if the physical end doesn't fit in 64 bits.
+    /// - `BlobInsufficientLength` if the range ends after the live bytes.
     pub fn read_into(&self, offset: u64, buf: &mut [u8]) -> Result<(), Error>
         ensures refusal { refused result ≡ read_refusal (place self.now) (live self.now) offset (length buf.old) }
         ensures within { OnOk result (offset + length buf.old ≤ length (live self.now)) }
@@ -28,13 +30,15 @@ impl Blob {
         Ok(())
     }
 
-    /// A plain write of these bytes: as `write_at` without SYNC, which changes no durable byte and looks at no store.
+    /// Writes these bytes, as `write_at` does without SYNC. No durable byte changes, so no store is needed.
     ///
     /// # Errors
     ///
-    /// `OffsetOverflow`, then `Memory`. Nothing changes.
+    /// With nothing changed, in this order:
+    /// - `OffsetOverflow` if the physical end doesn't fit in 64 bits.
+    /// - `Memory` if the live bytes can't grow.
     pub fn write_from(&mut self, offset: u64, bytes: &[u8]) -> Result<(), Error>
-        ensures allowed { (s : Storage) → AllowsWrite (directory s) (place self.old) (room_for self.old s) offset bytes.now false (refused result) }
+        ensures allowed { (s : Storage) → WriteMayReturn self.old s offset bytes.now false (refused result) }
         ensures live { live self.new ≡ live_after false (live self.old) offset bytes.now (refused result) }
         ensures room { live_room self.old ≤ live_room self.new }
         ensures place { place self.new ≡ place self.old }

@@ -1,4 +1,4 @@
-// What a memory store holds.
+// The contents of a memory store.
 ghost use Rattle.std.specs.Prelude.{◌≤◌};
 ghost use Rattle.blob_memory.specs.Numbers.{AreBelow};
 
@@ -13,8 +13,8 @@ mod opening;
 
 /// The files of a store, and the number of its next incarnation.
 ///
-/// Incarnations with numbers below `first` ended: each is the raw file of its header and its bytes. So all end at once
-/// without memory and without a walk.
+/// Incarnations with numbers below `first` have ended. Each is a raw file of its header and its bytes. So all
+/// incarnations end in one step: nothing is allocated or visited.
 #[derive(Drop)]
 pub struct Contents {
     alloc: Global,

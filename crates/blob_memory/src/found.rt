@@ -1,11 +1,10 @@
 // What an open finds of a name's file.
-ghost use Rattle.std.specs.Prelude.{◌≡◌, ◌≤◌, ◌<◌, ◌^◌, ◌⊎◌, [], None, Some, true, false, IfOk, IfErr, OnErr, length, drop};
-ghost use Rattle.std.specs.Range.{range_inclusive_start, range_inclusive_end};
-ghost use Rattle.blob_model.specs.Directory.{Raw};
+ghost use Rattle.std.specs.Prelude.{◌≡◌, ◌≤◌, ◌<◌, ◌^◌, [], None, Some, true, false, IfOk, IfErr, OnErr, length};
+ghost use Rattle.std.specs.Range.{range_inclusive_end};
 ghost use Rattle.blob_header.specs.Header.{data_start};
-ghost use Rattle.blob_model.specs.Opening.{Begins, Declines, layout_from};
-ghost use Rattle.blob_header.specs.Refusals.{refusal_of, IsMemory, IsMemoryError};
-ghost use Rattle.blob_header.specs.Versions.{is_in_range};
+ghost use Rattle.blob_model.specs.Opening.{layout_from};
+ghost use Rattle.blob_header.specs.Refusals.{IsMemory};
+ghost use Rattle.blob_header.specs.Versions.{is_in_range, lower, upper};
 
 use crate::item::Held;
 use blob_base::header_laws::resolved_has_header;
@@ -14,19 +13,19 @@ use blob_pages::Bytes;
 use std::alloc::Global;
 use std::ops::RangeInclusive;
 
-/// A header, and a copy of the logical bytes behind it.
+/// A header, and a copy of the logical bytes after it.
 #[derive(Drop)]
 pub struct Found {
-    /// The number of the current incarnation; none where a new one is to begin.
+    /// The number of the current incarnation, or None if a new one must begin.
     pub number: Option<u64>,
-    /// Whether the header and the bytes are those of a file.
+    /// Whether the header and the bytes come from a file.
     pub is_file: bool,
     pub layout: Layout,
     pub version: BlobVersion,
     pub live: Bytes,
 }
 
-/// What is found where a blob is to be created.
+/// Returns what an open finds of a blob that it must create: a V1 header of the greatest version, and no bytes.
 pub fn nothing(alloc: Global, versions: &RangeInclusive<BlobVersion>) -> Found
     ensures number { result.number ≡ None }
     ensures file { result.is_file ≡ false }
@@ -43,16 +42,16 @@ pub fn nothing(alloc: Global, versions: &RangeInclusive<BlobVersion>) -> Found
     }
 }
 
-// A range's ends decide, also where it was iterated to its end.
+// Returns whether a version is in the range. A range that was iterated to its end still has its bounds.
 fn has_version(versions: &RangeInclusive<BlobVersion>, version: BlobVersion) -> bool
     ensures fits { version.0 < 2 ^ 16 }
-    ensures within { result ≡ is_in_range (range_inclusive_start versions.now).0 (range_inclusive_end versions.now).0 version.0 }
+    ensures within { result ≡ is_in_range (lower versions.now) (upper versions.now) version.0 }
 {
     let number = version.get();
     versions.start().get() <= number && number <= versions.end().get()
 }
 
-/// The layout whose logical bytes begin there.
+/// Returns the layout with this data offset.
 fn layout_at(offset: u64) -> Layout
     ensures { result ≡ layout_from offset }
 {
@@ -64,9 +63,10 @@ fn layout_at(offset: u64) -> Layout
 }
 
 impl Held {
-    ghost use Rattle.blob_memory.specs.Found.{opening_of, FindsHeld};
+    ghost use Rattle.blob_memory.specs.Found.{opening_of, DeclinesHeld, FindsHeld};
 
-    /// What an open finds of an incarnation, current or ended. Its header is known, so nothing is resolved.
+    /// Returns what an open finds of an incarnation, current or ended. Its header is known, so none is parsed. The
+    /// error is `BlobVersionMismatch` or `Memory`.
     pub fn found(
         &self,
         is_ended: bool,
@@ -79,7 +79,7 @@ impl Held {
         ensures layout { IfOk result (λ found. found.layout ≡ self.now.layout) }
         ensures version { IfOk result (λ found. found.version ≡ self.now.version) }
         ensures live { IfOk result (λ found. found.live.items ≡ self.now.bytes.items) }
-        ensures err { IfErr result (λ error. IsMemoryError error ⊎ FindsHeld is_ended self.now versions.now (Declines (refusal_of error))) }
+        ensures err { IfErr result (DeclinesHeld is_ended self.now versions.now) }
     {
         if !has_version(versions, self.version) {
             return Err(Error::BlobVersionMismatch {
@@ -97,9 +97,10 @@ impl Held {
     }
 }
 
-ghost use Rattle.blob_memory.specs.Found.{opening_of, opening_for, IsDeclined, IsFoundRaw};
+ghost use Rattle.blob_memory.specs.Found.{opening_of, begins_at, raw_opening, IsDeclined, IsFoundRaw};
 
-/// What is found behind a header of a raw file.
+/// Returns what an open finds of a raw file with a header of this version and data offset. Only `Memory` can be
+/// returned.
 fn found_behind(
     alloc: Global,
     raw: &[u8],
@@ -108,7 +109,7 @@ fn found_behind(
 ) -> Result<Found, Error>
     requires within { offset ≤ length raw.now }
     requires start { data_start (layout_from offset) ≡ offset }
-    ensures opening { IfOk result (λ found. opening_of found ≡ Begins (layout_from offset) version.0 (drop offset raw.now)) }
+    ensures opening { IfOk result (λ found. opening_of found ≡ begins_at offset version raw.now) }
     ensures found { IfOk result (λ found. IsFoundRaw found.number found.is_file found.layout found.live.items raw.now) }
     ensures err { OnErr result (IsMemory result) }
 {
@@ -123,7 +124,7 @@ fn found_behind(
     })
 }
 
-/// What an open finds of a raw file.
+/// Returns what an open finds of a raw file. The error is that of the open, or `Memory`.
 pub fn found_raw(
     alloc: Global,
     raw: &[u8],
@@ -131,9 +132,9 @@ pub fn found_raw(
     partition: &str,
     name: &[u8],
 ) -> Result<Found, Error>
-    ensures opening { IfOk result (λ found. opening_for partition.now name.now (Some (Raw raw.now)) versions.now ≡ opening_of found) }
+    ensures opening { IfOk result (λ found. raw_opening partition.now name.now raw.now versions.now ≡ opening_of found) }
     ensures found { IfOk result (λ found. IsFoundRaw found.number found.is_file found.layout found.live.items raw.now) }
-    ensures err { IfErr result (IsDeclined (opening_for partition.now name.now (Some (Raw raw.now)) versions.now)) }
+    ensures err { IfErr result (IsDeclined (raw_opening partition.now name.now raw.now versions.now)) }
 {
     resolved_has_header();
     let len = raw.len() as u64;

@@ -1,4 +1,4 @@
-// What a name of a partition has.
+// The file of a name.
 ghost use Rattle.std.specs.Prelude.{◌≡◌, Some};
 ghost use Rattle.std.specs.Borrow.{sem};
 ghost use Rattle.std.specs.Option.{option_copied_mut};
@@ -9,27 +9,27 @@ use crate::origin::Origin;
 use blob_base::{BlobVersion, Layout};
 use blob_pages::Bytes;
 
-/// A blob that an open has accepted. Its header is kept as what it says, so no write can reach it.
+/// A blob that an open has accepted. The layout and the version represent its header, so no write can change it.
 #[derive(Drop)]
 pub struct Held {
-    /// The incarnation's number, which no other incarnation of the store has.
+    /// The incarnation's number. No other incarnation of the store has it.
     pub number: u64,
     pub layout: Layout,
     pub version: BlobVersion,
-    /// The durable bytes that follow the header.
+    /// The durable bytes after the header.
     pub bytes: Bytes,
 }
 
 /// The file of a name.
 #[derive(Drop)]
 pub enum Item {
-    /// Raw bytes, header included, that no open has accepted.
+    /// Raw bytes with the header, which no open has accepted.
     Raw(Vec<u8>),
     Held(Held),
 }
 
 impl Held {
-    /// Whether it is the current incarnation of an origin, where those with numbers below `first` ended.
+    /// Returns whether it is the current incarnation of an origin, if those with numbers below `first` have ended.
     pub fn is_current(&self, first: u64, origin: &Origin) -> bool
         ensures { result ≡ is_current_of first self.now origin.now.number origin.now.start }
     {
@@ -40,7 +40,7 @@ impl Held {
 }
 
 impl Item {
-    /// The logical bytes, where it is the current incarnation of an origin, to be changed.
+    /// Returns the logical bytes for a change, if it is the current incarnation of an origin.
     pub fn bytes_mut(&mut self, first: u64, origin: &Origin) -> Option<&mut Bytes>
         ensures* writes_back { sem 𝓛 (LendsBytes self.entry result) }
         ensures value { option_copied_mut result ≡ vec_in first (Some self.old) origin.now.number origin.now.start }

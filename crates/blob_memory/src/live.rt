@@ -7,7 +7,8 @@ ghost use Rattle.blob_memory.specs.Answers.{is_uncounted};
 use blob_base::{Error, IoBufs};
 use blob_pages::{Bytes, overlay};
 
-/// The logical end of a range, where the raw one, behind a header of `start` bytes, can be counted; else `OffsetOverflow`.
+/// Returns the logical end of a range. The header has `start` bytes. Returns `OffsetOverflow` if the physical end
+/// doesn't fit in 64 bits.
 pub fn logical_end(start: u64, offset: u64, len: usize) -> Result<usize, Error>
     ensures end { IfOk result (λ end. end ≡ offset + len) }
     ensures counted { OnOk result (offset + start + len < 2 ^ 64) }
@@ -22,7 +23,7 @@ pub fn logical_end(start: u64, offset: u64, len: usize) -> Result<usize, Error>
     Ok(offset as usize + len)
 }
 
-/// Lays a run over live bytes that have room for it, over zeros in a gap.
+/// Writes a run to live bytes, within their capacity. A gap is filled with zeros.
 pub fn write(live: &mut Bytes, offset: usize, run: &IoBufs)
     requires fits { offset + length run.now < 2 ^ 64 }
     requires room { offset + length run.now ≤ live.old.capacity }
@@ -33,7 +34,7 @@ pub fn write(live: &mut Bytes, offset: usize, run: &IoBufs)
     overlay::lay(live, offset, run);
 }
 
-/// The same of one piece.
+/// Writes one piece, as `write`.
 pub fn write_slice(live: &mut Bytes, offset: usize, run: &[u8])
     requires fits { offset + length run.now < 2 ^ 64 }
     requires room { offset + length run.now ≤ live.old.capacity }

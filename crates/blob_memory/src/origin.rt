@@ -1,13 +1,14 @@
-// What names the incarnation that a handle was opened on.
+// The incarnation that a handle was opened on.
 ghost use Rattle.std.specs.Prelude.{◌≡◌, IfOk};
+ghost use Rattle.blob_memory.specs.Origins.{place_at};
 
 use std::alloc::{AllocError, Global};
 use std::marker::Model;
 
 /// The incarnation of a blob that a handle was opened on.
 ///
-/// It names one incarnation of the store that answered it, and of those that are built of that store's snapshots. Another
-/// store has incarnations of the same names and numbers, so it says nothing there.
+/// It identifies one incarnation of the store that returned it, and of stores built from that store's snapshots. It
+/// means nothing to any other store: there the same names and numbers can be in use.
 #[derive(Drop)]
 pub struct Origin {
     partition: String,
@@ -33,7 +34,7 @@ impl PartialEq for Origin {
 
     ghost laws = { same_place_laws };
 
-    // The number tells two origins apart at once, where it does.
+    // The number is compared first: it differs most often.
     fn eq(&self, other: &Origin) -> bool {
         self.generation == other.generation
             && self.data_offset == other.data_offset
@@ -51,7 +52,7 @@ impl Eq for Origin {
 impl Clone for Origin {
     ghost is_clone = { λ a b. b ≡ a };
 
-    /// An equal origin with memory of its own. The only error is want of memory.
+    /// Returns a copy. The only error is out of memory.
     fn clone(&self) -> Result<Origin, AllocError> {
         let alloc = *self.name.allocator();
         Origin::new(
@@ -65,7 +66,7 @@ impl Clone for Origin {
 }
 
 impl Origin {
-    /// The origin of these parts. The only error is want of memory.
+    /// Makes an origin from its parts. The only error is out of memory.
     pub fn new(
         alloc: Global,
         partition: &str,
@@ -73,7 +74,7 @@ impl Origin {
         generation: u64,
         data_offset: u64,
     ) -> Result<Origin, AllocError>
-        ensures { IfOk result (λ o. o ≡ record { partition = partition.now; name = name.now; number = generation; start = data_offset }) }
+        ensures { IfOk result (λ o. o ≡ place_at partition.now name.now generation data_offset) }
     {
         Ok(Origin {
             partition: String::from_str(alloc, partition)?,
@@ -83,28 +84,28 @@ impl Origin {
         })
     }
 
-    /// The partition of the blob.
+    /// Returns the partition of the blob.
     pub fn partition(&self) -> &str
         ensures { result.now ≡ self.now.partition }
     {
         self.partition.as_str()
     }
 
-    /// The name of the blob in its partition.
+    /// Returns the name of the blob in its partition.
     pub fn name(&self) -> &[u8]
         ensures { result.now ≡ self.now.name }
     {
         self.name.as_slice()
     }
 
-    /// The number of the incarnation, which no other incarnation of the same store has.
+    /// Returns the number of the incarnation. No other incarnation of the same store has it.
     pub fn generation(&self) -> u64
         ensures { result ≡ self.now.number }
     {
         self.generation
     }
 
-    /// Where the logical bytes begin in the raw blob, in bytes.
+    /// Returns the physical offset of the first logical byte.
     pub fn data_offset(&self) -> u64
         ensures { result ≡ self.now.start }
     {

@@ -1,13 +1,10 @@
-// A table from partition and name to item.
-ghost use Rattle.std.specs.Prelude.{◌≡◌, List, ℕ, None, Some, true, false, IsSome, IsOk, OnOk, OnErr, IfOk, is_some, map, option_copied};
-ghost use Rattle.blob_model.specs.Directory.{with_partition};
+// The items by partition and name.
+ghost use Rattle.std.specs.Prelude.{◌≡◌, List, ℕ, None, Some, true, false, IsSome, IsOk, OnOk, OnErr, IfOk, option_copied};
 ghost use Rattle.blob_memory.specs.Audit.{audit, IsListing};
 ghost use Rattle.blob_header.specs.Checksum.{crc32c};
 ghost use Rattle.blob_memory.specs.Listing.{listing_of, raw_at};
-ghost use Rattle.blob_base.specs.Names.{AreNames};
-ghost use Rattle.blob_names.specs.Names.{found};
-ghost use Rattle.blob_memory.specs.Partitions.{item_at, is_there, with_item, without_partition};
-ghost use Rattle.blob_memory.specs.Contents.{vec_in};
+ghost use Rattle.blob_memory.specs.Partitions.{item_at, is_there, without_partition, AreItemNames, AreKeys, SetsItem, SetsPartition};
+ghost use Rattle.blob_memory.specs.Contents.{current_bytes};
 ghost use Rattle.blob_memory.specs.TableLends.{LendsItem, LendsBytesAt};
 ghost use Rattle.std.specs.Borrow.{sem};
 ghost use Rattle.std.specs.Option.{option_copied_mut};
@@ -19,16 +16,16 @@ use blob_pages::Bytes;
 use std::alloc::{AllocError, Global};
 use std::collections::BTreeMap;
 
-/// Partitions with their names. A partition whose last name went stays.
+/// Partitions with their names. A partition stays when its last name is removed.
 #[derive(Drop)]
 pub struct Partitions {
     alloc: Global,
     names: BTreeMap<String, BTreeMap<Vec<u8>, Item>>,
 }
 
-/// The names of a partition, in order.
+/// Copies the keys of a map, in order. The only error is out of memory.
 fn copied_names(alloc: Global, names: &BTreeMap<Vec<u8>, Item>) -> Result<Vec<Vec<u8>>, AllocError>
-    ensures { IfOk result (λ all. AreNames (map (λ n. n.items) all.items) (λ n. is_some (found (λ k. k.items) names.now n))) }
+    ensures { IfOk result (λ all. AreKeys names.now all.items) }
 {
     let mut all = Vec::with_capacity(alloc, names.len())?;
     for name in names.keys() {
@@ -38,7 +35,7 @@ fn copied_names(alloc: Global, names: &BTreeMap<Vec<u8>, Item>) -> Result<Vec<Ve
 }
 
 impl Partitions {
-    /// No partition at all.
+    /// Makes an empty table.
     pub fn new(alloc: Global) -> Partitions
         ensures items { (p n : List ℕ) → item_at result p n ≡ None }
         ensures partitions { (p : List ℕ) → is_there result p ≡ false }
@@ -49,14 +46,14 @@ impl Partitions {
         }
     }
 
-    /// Whether a partition is there.
+    /// Returns whether a partition exists.
     pub fn contains(&self, partition: &str) -> bool
         ensures { result ≡ is_there self.now partition.now }
     {
         self.names.contains_key(partition)
     }
 
-    /// The item of a name.
+    /// Returns the item of a name.
     pub fn get(&self, partition: &str, name: &[u8]) -> Option<&Item>
         ensures { option_copied result ≡ item_at self.now partition.now name.now }
     {
@@ -66,9 +63,10 @@ impl Partitions {
         }
     }
 
-    /// The names of a partition, sorted by their bytes; none where it isn't there. The only error is want of memory.
+    /// Returns the names of a partition, sorted by bytes, or no names if it doesn't exist. The only error is out of
+    /// memory.
     pub fn names(&self, partition: &str) -> Result<Vec<Vec<u8>>, AllocError>
-        ensures { IfOk result (λ names. AreNames (map (λ n. n.items) names.items) (λ n. is_some (item_at self.now partition.now n))) }
+        ensures { IfOk result (λ names. AreItemNames self.now partition.now names.items) }
     {
         match self.names.get(partition) {
             Some(names) => copied_names(self.alloc, names),
@@ -76,7 +74,7 @@ impl Partitions {
         }
     }
 
-    /// The checksum over all blobs.
+    /// Returns the checksum of all blobs.
     pub fn audit(&self) -> [u8; 4]
         ensures audit { result ≡ audit crc32c (listing_of self.now) }
         ensures listing { IsListing (raw_at self.now) (listing_of self.now) }
@@ -84,7 +82,7 @@ impl Partitions {
         audit(&self.names)
     }
 
-    /// The item of a name, to be changed.
+    /// Returns the item of a name, for a change.
     pub fn get_mut(&mut self, partition: &str, name: &[u8]) -> Option<&mut Item>
         ensures* writes_back { sem 𝓛 (LendsItem self.entry partition.now name.now result) }
         ensures value { option_copied_mut result ≡ item_at self.old partition.now name.now }
@@ -95,11 +93,11 @@ impl Partitions {
         }
     }
 
-    /// Exchanges the item of a name that is there, and takes no memory.
+    /// Exchanges `item` and the item of a name. Does not allocate.
     pub fn exchange(&mut self, partition: &str, name: &[u8], item: &mut Item)
         requires { IsSome (item_at self.old partition.now name.now) }
         ensures old { item_at self.old partition.now name.now ≡ Some item.new }
-        ensures new { (q m : List ℕ) → item_at self.new q m ≡ with_item (item_at self.old) partition.now name.now (Some item.old) q m }
+        ensures new { SetsItem self.old self.new partition.now name.now (Some item.old) }
         ensures partitions { (q : List ℕ) → is_there self.new q ≡ is_there self.old q }
     {
         let Some(here) = self.get_mut(partition, name) else {
@@ -108,10 +106,11 @@ impl Partitions {
         std::mem::swap(here, item);
     }
 
-    /// The logical bytes of an incarnation, where it is current and those with numbers below `first` ended, to be changed.
+    /// Returns the logical bytes of an incarnation for a change, if it is current and those with numbers below `first`
+    /// have ended.
     pub fn bytes_mut(&mut self, first: u64, origin: &Origin) -> Option<&mut Bytes>
         ensures* writes_back { sem 𝓛 (LendsBytesAt self.entry origin.now.partition origin.now.name result) }
-        ensures value { option_copied_mut result ≡ vec_in first (item_at self.old origin.now.partition origin.now.name) origin.now.number origin.now.start }
+        ensures value { option_copied_mut result ≡ current_bytes self.old first origin.now }
     {
         match self.get_mut(origin.partition(), origin.name()) {
             None => None,
@@ -119,11 +118,11 @@ impl Partitions {
         }
     }
 
-    /// Gives a name an item, and makes its partition where that is missing. The only error is want of memory, and
-    /// leaves everything as it was.
+    /// Sets the item of a name, and creates the partition if it is missing. The only error is out of memory, with
+    /// nothing changed.
     pub fn insert(&mut self, partition: &str, name: &[u8], item: Item) -> Result<(), AllocError>
-        ensures ok { OnOk result ((q m : List ℕ) → item_at self.new q m ≡ with_item (item_at self.old) partition.now name.now (Some item) q m) }
-        ensures made { OnOk result ((q : List ℕ) → is_there self.new q ≡ with_partition (is_there self.old) partition.now true q) }
+        ensures ok { OnOk result (SetsItem self.old self.new partition.now name.now (Some item)) }
+        ensures made { OnOk result (SetsPartition self.old self.new partition.now true) }
         ensures err { OnErr result ((q m : List ℕ) → item_at self.new q m ≡ item_at self.old q m) }
         ensures unmade { OnErr result ((q : List ℕ) → is_there self.new q ≡ is_there self.old q) }
     {
@@ -142,11 +141,11 @@ impl Partitions {
         Ok(())
     }
 
-    /// Gives a name an item, in the place of the one that it has. The only error is want of memory, where the name has none;
-    /// it leaves everything as it was.
+    /// Sets the item of a name, and creates the partition if it is missing. Does not allocate if the name has an item.
+    /// The only error is out of memory, with nothing changed.
     pub fn put(&mut self, partition: &str, name: &[u8], item: Item) -> Result<(), AllocError>
-        ensures ok { OnOk result ((q m : List ℕ) → item_at self.new q m ≡ with_item (item_at self.old) partition.now name.now (Some item) q m) }
-        ensures made { OnOk result ((q : List ℕ) → is_there self.new q ≡ with_partition (is_there self.old) partition.now true q) }
+        ensures ok { OnOk result (SetsItem self.old self.new partition.now name.now (Some item)) }
+        ensures made { OnOk result (SetsPartition self.old self.new partition.now true) }
         ensures err { OnErr result ((q m : List ℕ) → item_at self.new q m ≡ item_at self.old q m) }
         ensures unmade { OnErr result ((q : List ℕ) → is_there self.new q ≡ is_there self.old q) }
         ensures succeeds { IsSome (item_at self.old partition.now name.now) → IsOk result }
@@ -159,9 +158,9 @@ impl Partitions {
         self.insert(partition, name, item)
     }
 
-    /// Takes a name's item away. Its partition stays.
+    /// Removes a name. The partition stays.
     pub fn remove(&mut self, partition: &str, name: &[u8])
-        ensures items { (q m : List ℕ) → item_at self.new q m ≡ with_item (item_at self.old) partition.now name.now None q m }
+        ensures items { SetsItem self.old self.new partition.now name.now None }
         ensures partitions { (q : List ℕ) → is_there self.new q ≡ is_there self.old q }
     {
         if let Some(names) = self.names.get_mut(partition) {
@@ -169,10 +168,10 @@ impl Partitions {
         }
     }
 
-    /// Takes a partition with all its names away.
+    /// Removes a partition with all its names.
     pub fn remove_partition(&mut self, partition: &str)
         ensures items { (q m : List ℕ) → item_at self.new q m ≡ without_partition (item_at self.old) partition.now q m }
-        ensures partitions { (q : List ℕ) → is_there self.new q ≡ with_partition (is_there self.old) partition.now false q }
+        ensures partitions { SetsPartition self.old self.new partition.now false }
     {
         self.names.remove(partition);
     }

@@ -1,8 +1,8 @@
-//! What a crash keeps of mutations that weren't made durable.
+//! The changes of durable bytes that a crash makes: the parts of pending writes and resizes that it keeps.
 ghost use Rattle.std.specs.Prelude.{◌≡◌, ◌≤◌, ◌+◌, ℕ, OnOk, IfSome, is_some, length};
 ghost use Rattle.std.specs.Borrow.{sem};
 ghost use Rattle.std.specs.Option.{option_copied_mut};
-ghost use Rattle.blob_model.specs.Bytes.{overlay_by, resized};
+ghost use Rattle.blob_model.specs.Bytes.{resized};
 ghost use Rattle.blob_model.specs.Directory.{is_current};
 ghost use Rattle.blob_model.specs.Runs.{picked};
 
@@ -14,19 +14,20 @@ use blob_base::{Error, IoBufs};
 use blob_pages::{Bytes, overlay};
 
 impl Storage {
-    ghost use Rattle.blob_memory.specs.Retained.{KeepsRoom, NeedsRoom, NeedsWriteRoom, Retains};
+    ghost use Rattle.blob_memory.specs.Retained.{KeepsRoom, NeedsRoom, NeedsWriteRoom, Retains, RetainsWrite};
     ghost use Rattle.blob_memory.specs.Contents.{bytes_of};
     ghost use Rattle.blob_memory.specs.StorageLends.{LendsKept};
     ghost use Rattle.blob_memory.specs.Store.{directory, durable, HasCrashRoom};
 
-    /// Lays the chosen bytes of a write at the logical `offset` over the durable bytes of an incarnation, which grow only to
-    /// the end of a chosen byte. `keep` has one choice for each byte. Does nothing where the incarnation isn't current. Handles
-    /// keep their live bytes.
+    /// Writes the selected bytes to durable storage at logical `offset`. `keep[i]` selects `bytes[i]`. The blob grows
+    /// only as far as the last selected byte. Does nothing if the incarnation isn't current. Open handles keep their
+    /// live bytes.
     ///
     /// # Errors
     ///
-    /// `OffsetOverflow` for a range that can't be counted, which is tested first; `Memory` where the durable bytes have no
-    /// room. Both leave everything as it was.
+    /// With nothing changed:
+    /// - `OffsetOverflow` if the physical end doesn't fit in 64 bits. Checked first.
+    /// - `Memory` if the durable bytes can't grow.
     pub fn retain_write(
         &mut self,
         origin: &Origin,
@@ -36,7 +37,7 @@ impl Storage {
     ) -> Result<(), Error>
         requires { length keep.now ≡ length bytes.now }
         ensures room { NeedsWriteRoom result self.old origin.now offset (length bytes.now) (picked keep.now) }
-        ensures retained { Retains result self.old self.new origin.now (λ x. overlay_by x offset bytes.now (picked keep.now)) }
+        ensures retained { RetainsWrite result self.old self.new origin.now offset bytes.now keep.now }
     {
         logical_end(origin.data_offset(), offset, bytes.remaining())?;
         let Some(durable) = self.contents.bytes_mut(origin) else {
@@ -46,13 +47,14 @@ impl Storage {
         Ok(())
     }
 
-    /// Cuts the durable bytes of an incarnation to the logical length `len`, or lengthens them by zeros. Does nothing where
-    /// the incarnation isn't current. Handles keep their live bytes.
+    /// Truncates the durable bytes to the logical length `len`, or extends them with zeros. Does nothing if the
+    /// incarnation isn't current. Open handles keep their live bytes.
     ///
     /// # Errors
     ///
-    /// `OffsetOverflow` for a length that can't be counted, which is tested first; `Memory` where the durable bytes have no
-    /// room. Both leave everything as it was.
+    /// With nothing changed:
+    /// - `OffsetOverflow` if the physical end doesn't fit in 64 bits. Checked first.
+    /// - `Memory` if the durable bytes can't grow.
     pub fn retain_resize(&mut self, origin: &Origin, len: u64) -> Result<(), Error>
         ensures room { NeedsRoom result self.old origin.now (len + origin.now.start) len }
         ensures retained { Retains result self.old self.new origin.now (λ x. resized x len) }
@@ -65,8 +67,8 @@ impl Storage {
         Ok(())
     }
 
-    /// The durable logical bytes of an incarnation, to be changed as a crash leaves them; none where it isn't current. Handles
-    /// keep their live bytes.
+    /// Returns the durable logical bytes of an incarnation for the change that a crash makes, or None if the
+    /// incarnation isn't current. Open handles keep their live bytes.
     pub fn durable_mut(&mut self, origin: &Origin) -> Option<&mut Bytes>
         ensures* writes_back { sem 𝓛 (LendsKept self.entry origin.now result) }
         ensures value { bytes_of (option_copied_mut result) ≡ durable self.old origin.now }
@@ -76,12 +78,13 @@ impl Storage {
         self.contents.bytes_mut(origin)
     }
 
-    /// Takes room for `len` durable logical bytes of an incarnation, and changes none. Does nothing where the incarnation
-    /// isn't current.
+    /// Reserves capacity for `len` durable logical bytes of an incarnation. Does nothing if the incarnation isn't
+    /// current. No durable byte changes.
     ///
     /// # Errors
     ///
-    /// `OffsetOverflow` for a length that can't be counted, which is tested first, or `Memory`.
+    /// - `OffsetOverflow` if the physical end doesn't fit in 64 bits. Checked first.
+    /// - `Memory` if the capacity can't be allocated.
     pub fn reserve_crash(&mut self, origin: &Origin, len: u64) -> Result<(), Error>
         ensures room { NeedsRoom result self.old origin.now (len + origin.now.start) len }
         ensures ok { OnOk result (HasCrashRoom self.new origin.now len) }
@@ -98,15 +101,17 @@ impl Storage {
 }
 
 impl Blob {
-    ghost use Rattle.blob_memory.specs.Retained.{NeedsRoom, NeedsWriteRoom, Retains};
+    ghost use Rattle.blob_memory.specs.Retained.{NeedsRoom, NeedsWriteRoom, Retains, RetainsWrite};
     ghost use Rattle.blob_memory.specs.Store.{place};
 
-    /// Lays the chosen bytes of a write at the logical `offset` over the durable bytes of the handle's incarnation, which grow only
-    /// to the end of a chosen byte. `keep` has one choice for each byte. Does nothing by a stale handle. The live bytes stay.
+    /// Writes the selected bytes to durable storage at logical `offset`. `keep[i]` selects `bytes[i]`. The blob grows
+    /// only as far as the last selected byte. Does nothing if the handle is stale. Open handles keep their live bytes.
     ///
     /// # Errors
     ///
-    /// `OffsetOverflow` for a range that can't be counted, which is tested first; `Memory`. Both leave everything as it was.
+    /// With nothing changed:
+    /// - `OffsetOverflow` if the physical end doesn't fit in 64 bits. Checked first.
+    /// - `Memory` if the durable bytes can't grow.
     pub fn retain_crash_write(
         &self,
         store: &mut Storage,
@@ -116,17 +121,19 @@ impl Blob {
     ) -> Result<(), Error>
         requires { length keep.now ≡ length bytes.now }
         ensures room { NeedsWriteRoom result store.old (place self.now) offset (length bytes.now) (picked keep.now) }
-        ensures retained { Retains result store.old store.new (place self.now) (λ x. overlay_by x offset bytes.now (picked keep.now)) }
+        ensures retained { RetainsWrite result store.old store.new (place self.now) offset bytes.now keep.now }
     {
         store.retain_write(&self.origin, offset, bytes, keep)
     }
 
-    /// Cuts the durable bytes of the handle's incarnation to the logical length `len`, or lengthens them by zeros. Does nothing by
-    /// a stale handle. The live bytes stay.
+    /// Truncates the durable bytes to the logical length `len`, or extends them with zeros. Does nothing if the handle
+    /// is stale. Open handles keep their live bytes.
     ///
     /// # Errors
     ///
-    /// `OffsetOverflow` for a length that can't be counted, which is tested first; `Memory`. Both leave everything as it was.
+    /// With nothing changed:
+    /// - `OffsetOverflow` if the physical end doesn't fit in 64 bits. Checked first.
+    /// - `Memory` if the durable bytes can't grow.
     pub fn retain_crash_resize(&self, store: &mut Storage, len: u64) -> Result<(), Error>
         ensures room { NeedsRoom result store.old (place self.now) (len + (place self.now).start) len }
         ensures retained { Retains result store.old store.new (place self.now) (λ x. resized x len) }

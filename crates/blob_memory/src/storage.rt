@@ -1,9 +1,10 @@
 //! The memory store.
-ghost use Rattle.std.specs.Prelude.{◌≡◌, ◌<◌, ◌≤◌, ℕ, true, false, None, length, OnOk, IfOk};
+ghost use Rattle.std.specs.Prelude.{◌≡◌, ◌<◌, ◌≤◌, ℕ, true, None, length, OnOk, IfOk};
 ghost use Rattle.hex.specs.Hex.{encode_lower};
 ghost use Rattle.blob_header.specs.PartitionName.{is_partition_name};
 ghost use Rattle.blob_header.specs.Refusals.{refused, refusal_of, BlobMissing};
 ghost use Rattle.blob_memory.specs.Answers.{OrMemory, partition_refusal};
+ghost use Rattle.blob_memory.specs.Contents.{empty_directory};
 ghost use Rattle.blob_memory.specs.Store.{place, live};
 
 use crate::blob::Blob;
@@ -14,9 +15,10 @@ use blob_base::{BlobVersion, Durable, Error, Handle, validate_partition_name};
 use std::alloc::{AllocError, Global};
 use std::ops::RangeInclusive;
 
-/// Blobs in partitions, kept in memory. It injects no faults, and records nothing: what isn't durable is in its handles alone.
+/// A store of blobs in memory, by partition and name. It injects no faults and records no calls. Bytes that aren't
+/// durable are in the handles only.
 ///
-/// Each refusal leaves the files and the next number as they were.
+/// A call that returns an error leaves the files and the next number unchanged.
 #[derive(Drop)]
 pub struct Storage {
     pub(crate) alloc: Global,
@@ -44,7 +46,7 @@ impl Durable for Storage {
 
     ghost given = { λ s. given s.contents };
 
-    /// Whether the incarnation is still its name's current one. Takes no memory.
+    /// Returns whether the incarnation is still its name's current one. Does not allocate.
     fn is_current(&self, origin: &Origin) -> bool {
         self.contents.is_current(origin)
     }
@@ -53,17 +55,17 @@ impl Durable for Storage {
 impl Storage {
     ghost use Rattle.blob_memory.specs.Store.{directory, durable};
 
-    /// An empty store, whose first incarnation has the number 0.
+    /// Makes an empty store. Its first incarnation gets the number 0.
     pub fn new(alloc: Global) -> Storage
-        ensures directory { directory result ≡ record { has_partition = λ _. false; file = λ _ _. None; next = 0 } }
+        ensures directory { directory result ≡ empty_directory 0 }
         ensures durable { durable result ≡ (λ _. None) }
     {
         Storage::starting_at(alloc, 0)
     }
 
-    /// An empty store, whose first incarnation has the number `next`, so that the end of the numbers can be reached.
+    /// Makes an empty store. Its first incarnation gets the number `next`, so a test can reach the last number.
     pub fn starting_at(alloc: Global, next: u64) -> Storage
-        ensures directory { directory result ≡ record { has_partition = λ _. false; file = λ _ _. None; next = next } }
+        ensures directory { directory result ≡ empty_directory next }
         ensures durable { durable result ≡ (λ _. None) }
     {
         Storage {
@@ -73,7 +75,7 @@ impl Storage {
     }
 }
 
-/// The handle that an open answers, with its size and version.
+/// Returns the result of an open: the handle, its size and its version.
 fn opened(origin: Origin, found: Found) -> (Blob, u64, BlobVersion)
     ensures place { place result.0 ≡ origin }
     ensures live { live result.0 ≡ found.live.items }
@@ -89,7 +91,7 @@ fn opened(origin: Origin, found: Found) -> (Blob, u64, BlobVersion)
 impl Storage {
     ghost use Rattle.blob_memory.specs.Store.{directory};
 
-    /// Whether a call may go on with a partition: its name is valid, and it is there.
+    /// Checks that a partition's name is valid and that the partition exists.
     fn find_partition(&self, partition: &str) -> Result<(), Error>
         ensures allowed { OrMemory (partition_refusal (directory self.now) partition.now) (refused result) }
         ensures valid { OnOk result (is_partition_name partition.now ≡ true) }
@@ -103,7 +105,7 @@ impl Storage {
         Ok(())
     }
 
-    /// The refusal of a removal whose name isn't there. The only error is want of memory.
+    /// Makes the `BlobMissing` error of a name. The only error is out of memory.
     fn missing(&self, partition: &str, name: &[u8]) -> Result<Error, AllocError>
         ensures { IfOk result (λ error. refusal_of error ≡ BlobMissing partition.now (encode_lower name.now)) }
     {
@@ -135,13 +137,17 @@ impl blob_base::Storage for Storage {
 
     ghost keeps_size = { λ blob size. Unit {0} };
 
-    /// A current incarnation goes on under its number. A valid raw file of either layout becomes one with the bytes behind its
-    /// header. A missing or torn one begins empty, with a V1 header of the range's greatest version.
+    /// Opens a blob. A current incarnation keeps its number. A valid raw file of either layout becomes an incarnation
+    /// with the bytes after its header. A missing file, or a torn one, becomes an empty incarnation with a V1 header of
+    /// the greatest version in the range.
     ///
     /// # Errors
     ///
-    /// `PartitionNameInvalid`, then `BlobCorrupt` or `BlobVersionMismatch`, then `GenerationsExhausted` where a number is needed
-    /// and the next is `u64::MAX`; `Memory`.
+    /// In this order, apart from `Memory`:
+    /// - `PartitionNameInvalid`.
+    /// - `BlobCorrupt` or `BlobVersionMismatch`.
+    /// - `GenerationsExhausted` if a new number is needed and the next is `u64::MAX`.
+    /// - `Memory` if an allocation fails.
     fn open_versioned(
         &mut self,
         partition: &str,
@@ -165,11 +171,15 @@ impl blob_base::Storage for Storage {
         }
     }
 
-    /// Removes the blob, or with `None` the partition, and takes no memory but for the texts of a refusal.
+    /// Removes the blob, or with `None` the partition. Allocates only for the texts of an error.
     ///
     /// # Errors
     ///
-    /// `PartitionNameInvalid`, `PartitionMissing`, then `BlobMissing`; `Memory`.
+    /// In this order, apart from `Memory`:
+    /// - `PartitionNameInvalid`.
+    /// - `PartitionMissing`.
+    /// - `BlobMissing`.
+    /// - `Memory` if the text of an error can't be allocated.
     fn remove(&mut self, partition: &str, name: Option<&[u8]>) -> Result<(), Error> {
         self.find_partition(partition)?;
         match name {
@@ -184,17 +194,20 @@ impl blob_base::Storage for Storage {
         Ok(())
     }
 
-    /// The names of the partition, sorted by their bytes, as copies.
+    /// Returns copies of the names of the partition, sorted by bytes.
     ///
     /// # Errors
     ///
-    /// `PartitionNameInvalid`, then `PartitionMissing`; `Memory`.
+    /// In this order, apart from `Memory`:
+    /// - `PartitionNameInvalid`.
+    /// - `PartitionMissing`.
+    /// - `Memory` if an allocation fails.
     fn scan(&mut self, partition: &str) -> Result<Vec<Vec<u8>>, Error> {
         self.find_partition(partition)?;
         Ok(self.contents.names(partition)?)
     }
 
-    /// Answers the handle's outcome. The sync was done when it was started, so nothing changes.
+    /// Returns the handle's outcome. The sync was completed when it was started, so nothing changes.
     fn finish(&mut self, handle: Handle) -> Result<(), Error> {
         handle.into_outcome()
     }

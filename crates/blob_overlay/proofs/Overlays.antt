@@ -1,4 +1,4 @@
--- Overlays and resizes as loops and vectors make them.
+-- Overlays and resizes as the results of loops and of calls of `Vec`.
 use Rattle.std.proofs.Common.{[], ◌≡◌, ⊎_elim, ℕ, ◌+◌, ◌-◌, ◌<◌, ◌≤◌, max, Bool, true, false, List, ◌++◌, length, get_or, take, drop, set, replicate, refl, sym, ◌∙◌, ap, arith, ◌≢◌, true≢false, ◌&&◌, ltb, length-append, length-take, length-drop, length-set, get_or-set_same, get_or-set_other}
 use Rattle.std.proofs.lemmas.Bool.{cases_lt, cases_eq, le-ltb, lt-ltb, and_parts, and_from, and_left, and_right}
 use Rattle.std.proofs.lemmas.List.{get_or_past, get_or_append_left, get_or-append_right, get_or-take, get_or-drop, get_or-replicate, length-replicate}
@@ -6,11 +6,11 @@ use Rattle.blob_model.proofs.Agrees.{alike, overlay_same}
 use Rattle.blob_model.specs.Bytes.{reach, overlay_by, overlay, resized}
 use Rattle.blob_model.proofs.Bytes.{above_chosen, reach_below, length-overlay_by, at_chosen, at_other, length-resized, at_resized, past_resized, same_bytes, none_chosen, picks}
 
--- the choices of the first n bytes
+-- the selection limited to the first n bytes
 abbrev pub first : ℕ → (ℕ → Bool) → ℕ → Bool
 first n c i = ltb i n && c i
 
--- what `resize` of a vector leaves
+-- the result of `resize` of a vector
 pub resized_is : (x : List ℕ) (n : ℕ) → take n x ++ replicate (n - length x) 0 ≡ resized x n
 resized_is x n = same_bytes _ _ len (λ p. ⊎_elim (λ h. ⊎_elim (λ k. kept p h k) (λ k. new p h k) (cases_lt p (length x))) (λ h. past p h) (cases_lt p n))
   where
@@ -31,11 +31,11 @@ resized_is x n = same_bytes _ _ len (λ p. ⊎_elim (λ h. ⊎_elim (λ k. kept 
 pub resized_to : (x y : List ℕ) (n len : ℕ) → len ≡ length x → y ≡ take n x ++ replicate (n - len) 0 → y ≡ resized x n
 resized_to x y n len e h = h ∙ ap (λ k. take n x ++ replicate (n - k) 0) e ∙ resized_is x n
 
--- zeros that aren't wanted
+-- no growth to a length that is reached already
 pub grown_none : (x : List ℕ) (n : ℕ) → n ≤ length x → x ≡ resized x (max (length x) n)
 grown_none x n h = same_bytes _ _ (omega (arith, length-resized x (max (length x) n))) (λ p. ⊎_elim (λ l. sym (at_resized x _ p (omega arith))) (λ l. get_or_past x p 0 l ∙ sym (past_resized x (max (length x) n) p (omega arith))) (cases_lt p (length x)))
 
--- zeros that an overlay covers or would add change nothing
+-- zeros that the overlay covers, or would add itself, don't change its result
 pub overlay_padded : (x : List ℕ) (n o : ℕ) (b : List ℕ) (c : ℕ → Bool) → length x ≤ n → n ≤ max (length x) (reach o (length b) c) → overlay_by (resized x n) o b c ≡ overlay_by x o b c
 overlay_padded x n o b c low high = same_bytes _ _
     (omega (arith, length-overlay_by (resized x n) o b c, length-overlay_by x o b c, length-resized x n))
@@ -59,7 +59,7 @@ overlay_none x o c = same_bytes _ _ (omega (arith, length-overlay_by x o [] c)) 
 pub overlay_empty : (x : List ℕ) (o : ℕ) (b : List ℕ) (c : ℕ → Bool) → length b ≡ 0 → overlay_by x o b c ≡ x
 overlay_empty x o b c e = same_bytes _ _ (omega (arith, length-overlay_by x o b c, ap (λ n. reach o n c) e)) (λ p. at_other x o b c p (λ l u. absurd (omega arith)))
 
--- a run copied over bytes that are there, with k bytes of it
+-- a run of k bytes written over existing bytes
 pub pasted : (x : List ℕ) (o k : ℕ) (b : List ℕ) → k ≡ length b → o + length b ≤ length x → take o x ++ (b ++ drop k (drop o x)) ≡ overlay x o b
 pasted x o k b is h = same_bytes _ _
     (omega (
@@ -87,7 +87,7 @@ pasted x o k b is h = same_bytes _ _
         ∙ get_or-drop k (drop o x) (p - o - length b) 0 ∙ get_or-drop o x _ 0 ∙ ap (λ q. get_or x q 0) (omega (arith, is))
         ∙ sym (at_other x o b (λ _. true) p (λ _ u. absurd (omega arith)))
 
--- two runs laid one behind the other over bytes that are there
+-- two runs written one after the other over existing bytes
 pub overlay_more : (x : List ℕ) (o : ℕ) (a b : List ℕ) (c : ℕ → Bool) → reach o (length (a ++ b)) c ≤ length x
     → overlay_by (overlay_by x o a c) (o + length a) b (λ i. c (length a + i)) ≡ overlay_by x o (a ++ b) c
 overlay_more x o a b c h = same_bytes _ _
@@ -125,7 +125,7 @@ overlay_more x o a b c h = same_bytes _ _
         back : (p : ℕ) → o + length a ≤ p → p - o ≡ length a + (p - (o + length a))
         back p k = omega arith
 
--- one more chosen byte, within the list
+-- one more selected byte, within the list
 pub overlay_one : (x : List ℕ) (o : ℕ) (b : List ℕ) (c d : ℕ → Bool) (i : ℕ) → i < length b → reach o (length b) c ≤ length x → c i ≡ true → ((j : ℕ) → j ≢ i → d j ≡ c j) → d i ≡ false →
     overlay_by x o b c ≡ set (overlay_by x o b d) (o + i) (get_or b i 0)
 overlay_one x o b c d i h r e same no_i = same_bytes _ _
@@ -157,7 +157,7 @@ overlay_one x o b c d i h r e same no_i = same_bytes _ _
     other p ne = alike x x o b c d p (λ l u. sym (same (p - o) (λ z. ne (omega arith)))) refl
         ∙ sym (get_or-set_other (overlay_by x o b d) (o + i) p (get_or b i 0) 0 ne)
 
--- a loop over the choices: its start, its two steps and its end
+-- the loop over `keep`: its start, its two steps and its end
 pub lay_none : (x : List ℕ) (o : ℕ) (b : List ℕ) (c : ℕ → Bool) → x ≡ overlay_by x o b (first 0 c)
 lay_none x o b c = sym (none_chosen x o b) ∙ overlay_same x o b _ _ (λ i h. ap (λ t. t && c i) (sym (le-ltb i 0 (omega arith))))
 

@@ -1,4 +1,4 @@
-//! Bytes laid over bytes, whole or by choice, as a store in memory and a crash over it lay them.
+//! Writes and resizes of a vector of bytes. A write applies all bytes or selected ones.
 #![tactic(auto)]
 
 pub mod overlay;

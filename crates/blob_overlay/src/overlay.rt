@@ -1,14 +1,14 @@
-//! What a write and a resize make of a vector of bytes. Room is taken first; the rest takes no memory.
+//! Writes and resizes of a vector of bytes. A call that can fail reserves capacity first. The rest does not allocate.
 ghost use Rattle.std.specs.Prelude.{◌≡◌, ◌≤◌, ◌<◌, ◌+◌, ◌^◌, length, max, drop, true, IsOk, OnOk, OnErr, vec_capacity};
 ghost use Rattle.std.specs.List.{flat_map, list_all};
 ghost use Rattle.blob_model.specs.Bytes.{overlay, overlay_by, reach, resized};
 ghost use Rattle.blob_model.specs.Runs.{picked};
-ghost use Rattle.blob_overlay.specs.Overlays.{AreNow, Grows};
+ghost use Rattle.blob_overlay.specs.Overlays.{AreNow, Grows, GrowsToSelected, WritesSelected};
 
 use blob_base::IoBufs;
 use std::alloc::AllocError;
 
-/// Room for so many bytes.
+/// Reserves capacity for `len` bytes in all. The only error is out of memory.
 pub fn make_room(bytes: &mut Vec<u8>, len: usize) -> Result<(), AllocError>
     ensures bytes { Grows result bytes.old bytes.new len bytes.old.items }
     ensures room { OnOk result (len ≤ vec_capacity bytes.new) }
@@ -19,7 +19,7 @@ pub fn make_room(bytes: &mut Vec<u8>, len: usize) -> Result<(), AllocError>
     Ok(())
 }
 
-/// Adds zeros up to a length.
+/// Extends the bytes with zeros to `len`, within the capacity. Does nothing if they are that long already.
 pub fn grow(bytes: &mut Vec<u8>, len: usize)
     requires { len ≤ vec_capacity bytes.old }
     ensures { AreNow bytes.old bytes.new (resized bytes.old.items (max (length bytes.old.items) len)) }
@@ -29,7 +29,7 @@ pub fn grow(bytes: &mut Vec<u8>, len: usize)
     }
 }
 
-/// Cuts off what lies past a length, or adds zeros up to it.
+/// Truncates, or extends with zeros, within the capacity.
 pub fn set_len(bytes: &mut Vec<u8>, len: usize)
     requires { len ≤ vec_capacity bytes.old }
     ensures { AreNow bytes.old bytes.new (resized bytes.old.items len) }
@@ -37,7 +37,7 @@ pub fn set_len(bytes: &mut Vec<u8>, len: usize)
     bytes.resize(len, 0).unwrap();
 }
 
-/// The end of the last chosen byte, or 0.
+/// Returns the end of the last selected byte, or 0 if none is selected.
 pub fn reach_of(offset: usize, keep: &[bool]) -> usize
     requires { offset + length keep.now < 2 ^ 64 }
     ensures { result ≡ reach offset (length keep.now) (picked keep.now) }
@@ -51,7 +51,7 @@ pub fn reach_of(offset: usize, keep: &[bool]) -> usize
     end
 }
 
-/// Copies a run over bytes that are there.
+/// Writes a run over existing bytes.
 fn copy_over(bytes: &mut [u8], offset: usize, run: &[u8])
     requires { offset + length run.now ≤ length bytes.old }
     ensures { bytes.new ≡ overlay bytes.old offset run.now }
@@ -60,7 +60,7 @@ fn copy_over(bytes: &mut [u8], offset: usize, run: &[u8])
     bytes[offset..end].copy_from_slice(run);
 }
 
-/// Copies the pieces of a run one after another over bytes that are there.
+/// Writes the pieces of a run one after another over existing bytes.
 fn copy_pieces(bytes: &mut [u8], offset: usize, pieces: &[Vec<u8>])
     requires fits { offset + length (flat_map (λ p. p.items) pieces.now) < 2 ^ 64 }
     requires inside { offset + length (flat_map (λ p. p.items) pieces.now) ≤ length bytes.old }
@@ -73,7 +73,7 @@ fn copy_pieces(bytes: &mut [u8], offset: usize, pieces: &[Vec<u8>])
     }
 }
 
-/// Copies the chosen bytes of a run one by one.
+/// Writes the selected bytes of one piece one by one.
 fn copy_some(bytes: &mut [u8], offset: usize, run: &[u8], keep: &[bool])
     requires same { length keep.now ≡ length run.now }
     requires fits { offset + length run.now < 2 ^ 64 }
@@ -87,15 +87,15 @@ fn copy_some(bytes: &mut [u8], offset: usize, run: &[u8], keep: &[bool])
     }
 }
 
-/// Whether all are chosen.
+/// Returns whether all bytes are selected.
 fn are_all(keep: &[bool]) -> bool
     ensures { result ≡ list_all (λ kept. kept) keep.now }
 {
     keep.iter().all(|kept| *kept)
 }
 
-/// Copies the chosen bytes of a run over bytes that are there.
-fn copy_chosen(bytes: &mut [u8], offset: usize, run: &[u8], keep: &[bool])
+/// Writes the selected bytes of one piece over existing bytes.
+pub fn copy_chosen(bytes: &mut [u8], offset: usize, run: &[u8], keep: &[bool])
     requires same { length keep.now ≡ length run.now }
     requires fits { offset + length run.now < 2 ^ 64 }
     requires inside { reach offset (length run.now) (picked keep.now) ≤ length bytes.old }
@@ -108,7 +108,7 @@ fn copy_chosen(bytes: &mut [u8], offset: usize, run: &[u8], keep: &[bool])
     }
 }
 
-/// Copies the chosen bytes of a run's pieces one after another over bytes that are there.
+/// Writes the selected bytes of a run over existing bytes, one piece after another.
 pub fn copy_chosen_pieces(bytes: &mut [u8], offset: usize, pieces: &[Vec<u8>], keep: &[bool])
     requires same { length keep.now ≡ length (flat_map (λ p. p.items) pieces.now) }
     requires fits { offset + length (flat_map (λ p. p.items) pieces.now) < 2 ^ 64 }
@@ -124,7 +124,7 @@ pub fn copy_chosen_pieces(bytes: &mut [u8], offset: usize, pieces: &[Vec<u8>], k
     }
 }
 
-/// Lays a run over bytes that have room for it.
+/// Writes a run, within the capacity.
 pub fn lay(bytes: &mut Vec<u8>, offset: usize, run: &IoBufs)
     requires fits { offset + length run.now < 2 ^ 64 }
     requires room { offset + length run.now ≤ vec_capacity bytes.old }
@@ -138,7 +138,7 @@ pub fn lay(bytes: &mut Vec<u8>, offset: usize, run: &IoBufs)
     copy_pieces(bytes.as_mut_slice(), offset, run.pieces());
 }
 
-/// The same of one piece.
+/// Writes one piece, within the capacity.
 pub fn lay_slice(bytes: &mut Vec<u8>, offset: usize, run: &[u8])
     requires fits { offset + length run.now < 2 ^ 64 }
     requires room { offset + length run.now ≤ vec_capacity bytes.old }
@@ -152,7 +152,20 @@ pub fn lay_slice(bytes: &mut Vec<u8>, offset: usize, run: &[u8])
     copy_over(bytes.as_mut_slice(), offset, run);
 }
 
-/// Lays the chosen bytes of a run. The only error is want of memory, where there was no room; it leaves the bytes.
+/// Reserves capacity up to the end of the last selected byte, and extends the bytes with zeros to there. The only error
+/// is out of memory. The bytes are unchanged then.
+fn grow_to_selected(bytes: &mut Vec<u8>, offset: usize, keep: &[bool]) -> Result<(), AllocError>
+    requires { offset + length keep.now < 2 ^ 64 }
+    ensures { GrowsToSelected result bytes.old bytes.new offset keep.now }
+{
+    let end = reach_of(offset, keep);
+    make_room(bytes, end)?;
+    grow(bytes, end);
+    Ok(())
+}
+
+/// Writes the selected bytes of a run. `keep[i]` selects byte `i`. The bytes grow only as far as the last selected
+/// byte. The only error is out of memory, if the capacity is too small. The bytes are unchanged then.
 pub fn write_chosen(
     bytes: &mut Vec<u8>,
     offset: usize,
@@ -161,16 +174,30 @@ pub fn write_chosen(
 ) -> Result<(), AllocError>
     requires same { length keep.now ≡ length run.now }
     requires fits { offset + length run.now < 2 ^ 64 }
-    ensures { Grows result bytes.old bytes.new (reach offset (length run.now) (picked keep.now)) (overlay_by bytes.old.items offset run.now (picked keep.now)) }
+    ensures { WritesSelected result bytes.old bytes.new offset run.now keep.now }
 {
-    let end = reach_of(offset, keep);
-    make_room(bytes, end)?;
-    grow(bytes, end);
+    grow_to_selected(bytes, offset, keep)?;
     copy_chosen_pieces(bytes.as_mut_slice(), offset, run.pieces(), keep);
     Ok(())
 }
 
-/// Lays a run. The only error is want of memory, where there was no room; it leaves the bytes.
+/// Writes the selected bytes of one piece, as `write_chosen`.
+pub fn write_chosen_slice(
+    bytes: &mut Vec<u8>,
+    offset: usize,
+    run: &[u8],
+    keep: &[bool],
+) -> Result<(), AllocError>
+    requires same { length keep.now ≡ length run.now }
+    requires fits { offset + length run.now < 2 ^ 64 }
+    ensures { WritesSelected result bytes.old bytes.new offset run.now keep.now }
+{
+    grow_to_selected(bytes, offset, keep)?;
+    copy_chosen(bytes.as_mut_slice(), offset, run, keep);
+    Ok(())
+}
+
+/// Writes a run. The only error is out of memory, if the capacity is too small. The bytes are unchanged then.
 pub fn write(bytes: &mut Vec<u8>, offset: usize, run: &IoBufs) -> Result<(), AllocError>
     requires { offset + length run.now < 2 ^ 64 }
     ensures { Grows result bytes.old bytes.new (offset + length run.now) (overlay bytes.old.items offset run.now) }
@@ -180,7 +207,8 @@ pub fn write(bytes: &mut Vec<u8>, offset: usize, run: &IoBufs) -> Result<(), All
     Ok(())
 }
 
-/// Cuts or lengthens by zeros. The only error is want of memory, where there was no room; it leaves the bytes.
+/// Truncates, or extends with zeros. The only error is out of memory, if the capacity is too small. The bytes are
+/// unchanged then.
 pub fn resize(bytes: &mut Vec<u8>, len: usize) -> Result<(), AllocError>
     ensures { Grows result bytes.old bytes.new len (resized bytes.old.items len) }
 {
@@ -189,7 +217,8 @@ pub fn resize(bytes: &mut Vec<u8>, len: usize) -> Result<(), AllocError>
     Ok(())
 }
 
-/// Makes the bytes others. The only error is want of memory, where there was no room; it leaves the bytes.
+/// Replaces the bytes with `new`. The only error is out of memory, if the capacity is too small. The bytes are
+/// unchanged then.
 pub fn replace(bytes: &mut Vec<u8>, new: &[u8]) -> Result<(), AllocError>
     ensures { Grows result bytes.old bytes.new (length new.now) new.now }
 {
@@ -199,7 +228,7 @@ pub fn replace(bytes: &mut Vec<u8>, new: &[u8]) -> Result<(), AllocError>
     Ok(())
 }
 
-/// Cuts off the first bytes, and keeps the memory.
+/// Removes the first `len` bytes. The capacity stays.
 pub fn drop_front(bytes: &mut Vec<u8>, len: usize)
     requires { len ≤ length bytes.old.items }
     ensures { bytes.new.items ≡ drop len bytes.old.items }

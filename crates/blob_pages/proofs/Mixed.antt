@@ -1,7 +1,7 @@
--- The selected bytes of a run, over those that are there, as one run.
-use Rattle.std.proofs.Common.{[], ◌∷◌, ◌≡◌, ⊎_elim, ℕ, ◌+◌, ◌-◌, ◌<◌, ◌≤◌, min, max, Bool, true, false, List, length, get_or, take, drop, refl, sym, ◌∙◌, ap, arith, Vec, Global, append-nil}
+-- The selected bytes of a run over the existing bytes, as one run.
+use Rattle.std.proofs.Common.{[], ◌∷◌, ◌≡◌, ⊎_elim, ℕ, ◌+◌, ◌-◌, ◌<◌, ◌≤◌, min, Bool, true, List, length, get_or, take, drop, refl, sym, ◌∙◌, ap, arith, Vec, Global, append-nil}
 use Rattle.std.proofs.lemmas.Bool.{cases_lt, cases_Bool}
-use Rattle.std.proofs.lemmas.List.{get_or_past, get_or-take, get_or-drop, length-take, length-drop}
+use Rattle.std.proofs.lemmas.List.{get_or_past, get_or-take, get_or-drop, length-take}
 use Rattle.std.specs.List.{flat_map}
 use Rattle.blob_model.specs.Bytes.{overlay, overlay_by, resized, reach}
 use Rattle.blob_model.proofs.Bytes.{same_bytes, length-overlay_by, reach_below, reach_all, above_chosen, at_chosen, at_other, at_resized, picks}
@@ -31,13 +31,13 @@ module _ (x t : List ℕ) (o n : ℕ) (b : List ℕ) (c : ℕ → Bool) (some : 
       behind p past = at_other x o (overlay_by t 0 b c) (λ _. true) p (λ _ u. absurd (omega (arith, past, u, length-mixed)))
           ∙ sym (at_other x o b c p (λ ge u. ⊎_elim (λ e. absurd (omega (arith, past, far, ge, above_chosen o (length b) c (p - o) (omega (arith, ge, u)) e))) (λ e. e) (cases_Bool (c (p - o)))))
 
--- nothing is selected
+-- no byte is selected
 pub none_reached : (x : List ℕ) (o : ℕ) (b : List ℕ) (c : ℕ → Bool) → reach o (length b) c ≤ o → overlay_by x o b c ≡ x
 none_reached x o b c h = same_bytes _ _
     (omega (arith, length-overlay_by x o b c, reach_below o (length b) c (length x) (λ i l e. absurd (omega (arith, h, above_chosen o (length b) c i l e)))))
     (λ p. at_other x o b c p (λ ge u. ⊎_elim (λ e. absurd (omega (arith, h, ge, above_chosen o (length b) c (p - o) (omega (arith, ge, u)) e))) (λ e. e) (cases_Bool (c (p - o)))))
 
--- the bytes of a range, with zeros past the end
+-- the bytes of a range, with zeros after the end
 pub range_at : (x y t : List ℕ) (o end from count : ℕ) → from ≡ min o (length x) → count ≡ min end (length x) - from → y ≡ take count (drop from x) → t ≡ resized y (end - o)
     → (i : ℕ) → i < end - o → get_or t i 0 ≡ get_or x (o + i) 0
 range_at x y t o end from count ef ec ey et i h = ap (λ l. get_or l i 0) et ∙ at_resized y (end - o) i h ∙ ⊎_elim

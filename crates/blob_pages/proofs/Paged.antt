@@ -1,14 +1,13 @@
--- Pages written, made owned, and added.
-use Rattle.std.proofs.Common.{[], ◌∷◌, ◌≡◌, ◌≢◌, ◌⊎◌, inl, inr, ⊎_elim, ℕ, zero, suc, ◌+◌, ◌-◌, ◌*◌, ◌/◌, ◌%◌, ◌<◌, ◌≤◌, max, true, false, true≢false, List, ◌++◌, length, get_or, take, drop, set, map, replicate, refl, sym, ◌∙◌, ap, arith, append_assoc, length-append, length-take, length-drop, length-set, get_or-set_same, get_or-set_other}
+-- Changes of a list of pages.
+use Rattle.std.proofs.Common.{[], ◌∷◌, ◌≡◌, ◌≢◌, ◌⊎◌, inl, inr, ⊎_elim, ℕ, ◌+◌, ◌-◌, ◌*◌, ◌/◌, ◌%◌, ◌<◌, ◌≤◌, max, true, false, true≢false, List, ◌++◌, length, get_or, take, drop, set, map, replicate, refl, sym, ◌∙◌, ap, arith, append_assoc, length-append, length-take, length-drop, length-set, get_or-set_same, get_or-set_other}
 use Rattle.std.proofs.lemmas.Bool.{cases_lt, cases_eq}
 use Rattle.std.proofs.lemmas.List.{append-nil, drop-drop, drop_all, take_all, take_more, get_or_default, length-map, map-set, map-append, length-replicate, get_or-replicate, get_or_append_left, get_or-append_right, get_or-take, get_or-drop, get_or-map, get_or_past, set-get_or}
 use Rattle.std.proofs.Math.Seq.{take-add}
-use Rattle.blob_pages.specs.declared.pages.Page.{Page}
+use Rattle.blob_pages.specs.declared.page.Page.{Page}
 use Rattle.std.proofs.lemmas.List.FromFn.{length-map-range_with_len, get_or-map-range_with_len}
 use Rattle.blob_model.specs.Bytes.{overlay, resized, reach}
 use Rattle.blob_model.proofs.Bytes.{same_bytes, length-resized, at_resized, past_resized, length-overlay_by, reach_below, reach_all, at_chosen, at_other}
-use Rattle.blob_pages.specs.declared.pages.Page.TheVariants.{Owned, Shared}
-use Rattle.blob_pages.specs.Paged.{bytes_in, page_bytes, is_owned, byte_at, owned_at, AreFull, AreOwned, Keeps, KeepsOwned, Extends, Lays, spliced}
+use Rattle.blob_pages.specs.Paged.{page_size, bytes_in, page_bytes, is_owned, byte_at, owned_at, AreFull, AreOwned, Keeps, KeepsOwned, Extends, Lays, spliced}
 
 module _ (x : List ℕ) (n : ℕ) (y : List ℕ) (h : n + length y ≤ length x) where
   pub length-spliced : length (spliced x n y) ≡ length x
@@ -25,14 +24,14 @@ module _ (x : List ℕ) (n : ℕ) (y : List ℕ) (h : n + length y ≤ length x)
       ∙ get_or-append_right y _ (length y) (p - n) 0 refl (omega (arith, m))
       ∙ get_or-drop (n + length y) x _ 0 ∙ ap (λ q. get_or x q 0) (omega (arith, m))
 
--- what a page of the list has
+-- the bytes of one page of the list
 pub table_at : (ps : List Page) (i : ℕ) (page : Page) → i < length ps → page ≡ get_or ps i page → get_or (map page_bytes ps) i [] ≡ page_bytes page
 table_at ps i page h is = get_or-map page_bytes ps i page [] h ∙ ap page_bytes (sym is)
 
 pub owner_at : (ps : List Page) (i : ℕ) (page : Page) → i < length ps → page ≡ get_or ps i page → owned_at ps i ≡ is_owned page
 owner_at ps i page h is = get_or-map is_owned ps i page false h ∙ ap is_owned (sym is)
 
--- one page made another
+-- one page replaced
 module _ (ps : List Page) (i : ℕ) (q : Page) (h : i < length ps) where
   pub table_same : get_or (map page_bytes (set ps i q)) i [] ≡ page_bytes q
   table_same = ap (λ t. get_or t i []) (map-set page_bytes ps i q) ∙ get_or-set_same (map page_bytes ps) i (page_bytes q) [] (omega (arith, h, length-map ps page_bytes))
@@ -40,13 +39,13 @@ module _ (ps : List Page) (i : ℕ) (q : Page) (h : i < length ps) where
   pub table_other : (j : ℕ) → j ≢ i → get_or (map page_bytes (set ps i q)) j [] ≡ get_or (map page_bytes ps) j []
   table_other j ne = ap (λ t. get_or t j []) (map-set page_bytes ps i q) ∙ get_or-set_other (map page_bytes ps) i j (page_bytes q) [] ne
 
-  pub byte_same : (p : ℕ) → p / 16384 ≡ i → byte_at (set ps i q) p ≡ get_or (page_bytes q) (p % 16384) 0
+  pub byte_same : (p : ℕ) → p / page_size ≡ i → byte_at (set ps i q) p ≡ get_or (page_bytes q) (p % page_size) 0
   unfolding byte_at
-  byte_same p e = ap (λ j. get_or (get_or (map page_bytes (set ps i q)) j []) (p % 16384) 0) e ∙ ap (λ l. get_or l (p % 16384) 0) table_same
+  byte_same p e = ap (λ j. get_or (get_or (map page_bytes (set ps i q)) j []) (p % page_size) 0) e ∙ ap (λ l. get_or l (p % page_size) 0) table_same
 
-  pub byte_other : (p : ℕ) → p / 16384 ≢ i → byte_at (set ps i q) p ≡ byte_at ps p
+  pub byte_other : (p : ℕ) → p / page_size ≢ i → byte_at (set ps i q) p ≡ byte_at ps p
   unfolding byte_at
-  byte_other p ne = ap (λ l. get_or l (p % 16384) 0) (table_other (p / 16384) ne)
+  byte_other p ne = ap (λ l. get_or l (p % page_size) 0) (table_other (p / page_size) ne)
 
   pub keeps_owned : is_owned q ≡ true → KeepsOwned ps (set ps i q)
   keeps_owned e = record {
@@ -62,25 +61,25 @@ module _ (ps : List Page) (i : ℕ) (q : Page) (h : i < length ps) where
   pub now_owned : is_owned q ≡ true → owned_at (set ps i q) i ≡ true
   now_owned e = ap (λ t. get_or t i false) (map-set is_owned ps i q) ∙ get_or-set_same (map is_owned ps) i (is_owned q) false (omega (arith, h, length-map ps is_owned)) ∙ e
 
-pub byte_in : (ps : List Page) (p : ℕ) (page : Page) → p / 16384 < length ps → page ≡ get_or ps (p / 16384) page → byte_at ps p ≡ get_or (page_bytes page) (p % 16384) 0
+pub byte_in : (ps : List Page) (p : ℕ) (page : Page) → p / page_size < length ps → page ≡ get_or ps (p / page_size) page → byte_at ps p ≡ get_or (page_bytes page) (p % page_size) 0
 unfolding byte_at
-byte_in ps p page h is = ap (λ l. get_or l (p % 16384) 0) (table_at ps (p / 16384) page h is)
+byte_in ps p page h is = ap (λ l. get_or l (p % page_size) 0) (table_at ps (p / page_size) page h is)
 
--- a run laid within one page
-pub page_laid : (ps qs : List Page) (at : ℕ) (x : List ℕ) (page q : Page) → AreFull ps → at / 16384 < length ps → at % 16384 + length x ≤ 16384
-    → page ≡ get_or ps (at / 16384) page → page_bytes q ≡ spliced (page_bytes page) (at % 16384) x → is_owned q ≡ true → qs ≡ set ps (at / 16384) q → Lays ps qs at x
+-- a run written within one page
+pub page_laid : (ps qs : List Page) (at : ℕ) (x : List ℕ) (page q : Page) → AreFull ps → at / page_size < length ps → at % page_size + length x ≤ page_size
+    → page ≡ get_or ps (at / page_size) page → page_bytes q ≡ spliced (page_bytes page) (at % page_size) x → is_owned q ≡ true → qs ≡ set ps (at / page_size) q → Lays ps qs at x
 page_laid ps qs at x page q full h fits is eq own e = rw e (record {
   same = length-set ps i q;
-  within = λ p l m. byte_same ps i q h p (omega (arith, l, m, fits)) ∙ ap (λ l. get_or l (p % 16384) 0) eq ∙ spliced_within (page_bytes page) (at % 16384) x room (p % 16384) (omega (arith, l, m, fits)) (omega (arith, l, m, fits)) ∙ ap (λ k. get_or x k 0) (omega (arith, l, m, fits));
+  within = λ p l m. byte_same ps i q h p (omega (arith, l, m, fits)) ∙ ap (λ l. get_or l (p % page_size) 0) eq ∙ spliced_within (page_bytes page) (at % page_size) x room (p % page_size) (omega (arith, l, m, fits)) (omega (arith, l, m, fits)) ∙ ap (λ k. get_or x k 0) (omega (arith, l, m, fits));
   outside = λ p out. ⊎_elim
-      (λ same. byte_same ps i q h p same ∙ ap (λ l. get_or l (p % 16384) 0) eq
-      ∙ ⊎_elim (λ l. spliced_before (page_bytes page) (at % 16384) x room (p % 16384) (omega (arith, l, same))) (λ m. spliced_behind (page_bytes page) (at % 16384) x room (p % 16384) (omega (arith, m, same))) out
+      (λ same. byte_same ps i q h p same ∙ ap (λ l. get_or l (p % page_size) 0) eq
+      ∙ ⊎_elim (λ l. spliced_before (page_bytes page) (at % page_size) x room (p % page_size) (omega (arith, l, same))) (λ m. spliced_behind (page_bytes page) (at % page_size) x room (p % page_size) (omega (arith, m, same))) out
       ∙ sym (byte_in ps p page (omega (arith, same, h)) (is ∙ ap (λ j. get_or ps j page) (sym same))))
       (λ ne. byte_other ps i q h p ne)
-      (cases_eq (p / 16384) i);
+      (cases_eq (p / page_size) i);
   full = record {
     each = λ j l. ⊎_elim
-        (λ same. ap (λ k. length (get_or (map page_bytes (set ps i q)) k [])) same ∙ ap length (table_same ps i q h) ∙ ap length eq ∙ length-spliced (page_bytes page) (at % 16384) x room ∙ size)
+        (λ same. ap (λ k. length (get_or (map page_bytes (set ps i q)) k [])) same ∙ ap length (table_same ps i q h) ∙ ap length eq ∙ length-spliced (page_bytes page) (at % page_size) x room ∙ size)
         (λ ne. ap length (table_other ps i q h j ne) ∙ full.each j (omega (arith, l, length-set ps i q)))
         (cases_eq j i);
   };
@@ -88,18 +87,18 @@ page_laid ps qs at x page q full h fits is eq own e = rw e (record {
 })
   where
     i : ℕ
-    i = at / 16384
+    i = at / page_size
 
-    size : length (page_bytes page) ≡ 16384
+    size : length (page_bytes page) ≡ page_size
     size = sym (ap length (table_at ps i page h is)) ∙ full.each i h
 
-    room : at % 16384 + length x ≤ length (page_bytes page)
+    room : at % page_size + length x ≤ length (page_bytes page)
     room = omega (arith, size, fits)
 
 pub lays_none : (ps : List Page) (o : ℕ) → AreFull ps → Lays ps ps o []
 lays_none ps o full = record { same = refl; within = λ p l m. absurd (omega (arith, l, m)); outside = λ p _. refl; full = full; owned = record { each = λ i e. e } }
 
--- a run laid behind another
+-- a run written after another
 pub lays_more : (a b c : List Page) (o : ℕ) (x y : List ℕ) → Lays a b o x → Lays b c (o + length x) y → Lays a c o (x ++ y)
 lays_more a b c o x y f g = record {
   same = g.same ∙ f.same;
@@ -115,7 +114,7 @@ lays_more a b c o x y f g = record {
   owned = record { each = λ i e. g.owned.each i (f.owned.each i e) };
 }
 
--- a page made owned
+-- a shared page replaced by a copy
 pub keeps_more : (a b : List Page) (i : ℕ) (page q : Page) → Keeps a b → i < length b → page ≡ get_or b i page → page_bytes q ≡ page_bytes page → (is_owned page ≡ true → is_owned q ≡ true) → Keeps a (set b i q)
 keeps_more a b i page q k h is eq own = record {
   bytes = map-set page_bytes b i q ∙ ap (set (map page_bytes b) i) (eq ∙ sym (table_at b i page h is)) ∙ set-get_or (map page_bytes b) i [] ∙ k.bytes;
@@ -135,7 +134,7 @@ owned_more b from i q o h e = record {
       (cases_eq j i);
 }
 
--- a page added
+-- a page appended
 module _ (b : List Page) (q : Page) where
   table_kept : (i : ℕ) → i < length b → get_or (map page_bytes (b ++ q ∷ [])) i [] ≡ get_or (map page_bytes b) i []
   table_kept i h = ap (λ t. get_or t i []) (map-append page_bytes b (q ∷ [])) ∙ get_or_append_left (map page_bytes b) _ [] i (omega (arith, h, length-map b page_bytes))
@@ -155,15 +154,15 @@ module _ (b : List Page) (q : Page) where
       zero_left : length b - length b ≡ 0
       zero_left = omega arith
 
-  byte_kept : (p : ℕ) → p / 16384 < length b → byte_at (b ++ q ∷ []) p ≡ byte_at b p
+  byte_kept : (p : ℕ) → p / page_size < length b → byte_at (b ++ q ∷ []) p ≡ byte_at b p
   unfolding byte_at
-  byte_kept p h = ap (λ l. get_or l (p % 16384) 0) (table_kept (p / 16384) h)
+  byte_kept p h = ap (λ l. get_or l (p % page_size) 0) (table_kept (p / page_size) h)
 
--- what is owned is there
+-- a page that only this value has exists
 pub owner_there : (b : List Page) (i : ℕ) → owned_at b i ≡ true → i < length b
 owner_there b i e = ⊎_elim (λ h. h) (λ h. absurd (true≢false (sym e ∙ get_or_past (map is_owned b) i false (omega (arith, h, length-map b is_owned))))) (cases_lt i (length b))
 
-pub extends_more : (a b : List Page) (q : Page) → Extends a b → length (page_bytes q) ≡ 16384 → Extends a (b ++ q ∷ [])
+pub extends_more : (a b : List Page) (q : Page) → Extends a b → length (page_bytes q) ≡ page_size → Extends a (b ++ q ∷ [])
 extends_more a b q x size = record {
   more = omega (arith, x.more, len);
   bytes = λ p h. byte_kept b q p (omega (arith, h, x.more)) ∙ x.bytes p h;
@@ -183,7 +182,7 @@ all_owned_more b from q o e = record {
       (λ ge. let is : i ≡ length b = omega (arith, m, ge, length-append b (q ∷ [])) in ap (owned_at (b ++ q ∷ [])) is ∙ owner_new b q ∙ e) (cases_lt i (length b));
 }
 
--- bytes by position
+-- bytes by offset
 pub length-bytes_in : (ps : List Page) (n : ℕ) → length (bytes_in ps n) ≡ n
 unfolding bytes_in
 length-bytes_in ps n = length-map-range_with_len _ _ _
@@ -195,7 +194,7 @@ at_bytes_in ps n p h = get_or-map-range_with_len (byte_at ps) 0 n p p 0 h (omega
 pub past_bytes_in : (ps : List Page) (n p : ℕ) → n ≤ p → get_or (bytes_in ps n) p 0 ≡ 0
 past_bytes_in ps n p h = get_or_past _ p 0 (omega (arith, h, length-bytes_in ps n))
 
--- lists whose pages agree up to a length
+-- two lists with the same bytes up to a length
 pub same_bytes_in : (ps qs : List Page) (n : ℕ) → ((p : ℕ) → p < n → byte_at qs p ≡ byte_at ps p) → bytes_in qs n ≡ bytes_in ps n
 same_bytes_in ps qs n e = same_bytes _ _ (length-bytes_in qs n ∙ sym (length-bytes_in ps n)) (λ p. ⊎_elim
     (λ l. at_bytes_in qs n p l ∙ e p l ∙ sym (at_bytes_in ps n p l))
@@ -204,7 +203,7 @@ same_bytes_in ps qs n e = same_bytes _ _ (length-bytes_in qs n ∙ sym (length-b
 
 pub same_table : (ps qs : List Page) → map page_bytes qs ≡ map page_bytes ps → (p : ℕ) → byte_at qs p ≡ byte_at ps p
 unfolding byte_at
-same_table ps qs e p = ap (λ t. get_or (get_or t (p / 16384) []) (p % 16384) 0) e
+same_table ps qs e p = ap (λ t. get_or (get_or t (p / page_size) []) (p % page_size) 0) e
 
 pub table_length : (ps qs : List Page) → map page_bytes qs ≡ map page_bytes ps → length qs ≡ length ps
 table_length ps qs e = sym (length-map qs page_bytes) ∙ ap length e ∙ length-map ps page_bytes
@@ -215,7 +214,7 @@ table_full ps qs e f = record { each = λ i h. ap (λ t. length (get_or t i []))
 pub owned_through : (a b c : List Page) → KeepsOwned a b → KeepsOwned b c → KeepsOwned a c
 owned_through a b c f g = record { each = λ i e. g.each i (f.each i e) }
 
--- pages added, then some made owned
+-- pages appended, then shared ones replaced by copies
 pub extends_kept : (a b c : List Page) → Extends a b → Keeps b c → Extends a c
 extends_kept a b c x k = record {
   more = omega (arith, x.more, table_length b c k.bytes);
@@ -224,11 +223,11 @@ extends_kept a b c x k = record {
   owned = owned_through a b c x.owned k.owned;
 }
 
--- the bytes of a value whose pages were added to
-pub extended_bytes : (a b : List Page) (n : ℕ) → n ≤ 16384 * length a → Extends a b → bytes_in b n ≡ bytes_in a n
+-- the bytes are unchanged when pages are appended
+pub extended_bytes : (a b : List Page) (n : ℕ) → n ≤ page_size * length a → Extends a b → bytes_in b n ≡ bytes_in a n
 extended_bytes a b n h x = same_bytes_in a b n (λ p l. x.bytes p (omega (arith, l, h)))
 
--- zeros laid behind the bytes
+-- zeros written after the bytes
 pub blanked : (a b : List Page) (n m : ℕ) → n ≤ m → Lays a b n (replicate (m - n) 0) → bytes_in b m ≡ resized (bytes_in a n) m
 blanked a b n m le l = same_bytes _ _ (omega (arith, length-bytes_in b m, length-resized (bytes_in a n) m)) (λ p. ⊎_elim
     (λ h. at_bytes_in b m p h ∙ ⊎_elim
@@ -238,14 +237,14 @@ blanked a b n m le l = same_bytes _ _ (omega (arith, length-bytes_in b m, length
     (λ h. past_bytes_in b m p h ∙ sym (past_resized (bytes_in a n) m p h))
     (cases_lt p m))
 
--- a cut
+-- a truncation
 pub cut_bytes : (a : List Page) (n m : ℕ) → m ≤ n → bytes_in a m ≡ resized (bytes_in a n) m
 cut_bytes a n m le = same_bytes _ _ (omega (arith, length-bytes_in a m, length-resized (bytes_in a n) m)) (λ p. ⊎_elim
     (λ h. at_bytes_in a m p h ∙ sym (at_bytes_in a n p (omega (arith, h, le))) ∙ sym (at_resized (bytes_in a n) m p h))
     (λ h. past_bytes_in a m p h ∙ sym (past_resized (bytes_in a n) m p h))
     (cases_lt p m))
 
--- a run laid over bytes that reach so far
+-- a run written within the length
 pub laid_over : (a b : List Page) (n o : ℕ) (x : List ℕ) → o + length x ≤ n → Lays a b o x → bytes_in b n ≡ overlay (bytes_in a n) o x
 laid_over a b n o x fits l = same_bytes _ _ (omega (arith, fits, length-bytes_in b n, length-bytes_in a n, length-overlay_by (bytes_in a n) o x (λ _. true), reach_below o (length x) (λ _. true) n (λ i h _. omega (arith, h, fits)))) (λ p. ⊎_elim
     (λ h. at_bytes_in b n p h ∙ ⊎_elim
@@ -258,11 +257,11 @@ laid_over a b n o x fits l = same_bytes _ _ (omega (arith, fits, length-bytes_in
     other : (p : ℕ) → p < n → (p < o) ⊎ (o + length x ≤ p) → byte_at b p ≡ get_or (overlay (bytes_in a n) o x) p 0
     other p h out = l.outside p out ∙ sym (at_bytes_in a n p h) ∙ sym (at_other (bytes_in a n) o x (λ _. true) p (λ ge u. ⊎_elim (λ low. absurd (omega (arith, low, ge))) (λ past. absurd (omega (arith, past, u))) out))
 
--- what a slice of a vector leaves in it
+-- a vector after all its items are written through a slice
 pub written_back : (x y : List Page) (n : ℕ) → n ≡ length x → length y ≡ length x → take n (y ++ drop (length y) x) ≡ y
 written_back x y n e l = ap (λ r. take n (y ++ r)) (drop_all (length y) x (omega (arith, l))) ∙ ap (take n) (append-nil y) ∙ take_all n y (omega (arith, e, l))
 
--- one more page shared
+-- after one more page is shared
 pub shared_more : (t u : List Page) (i : ℕ) (page q : Page) → map page_bytes u ≡ map page_bytes t → i < length u → page ≡ get_or u i page → page_bytes q ≡ page_bytes page → map page_bytes (set u i q) ≡ map page_bytes t
 shared_more t u i page q k h is eq = map-set page_bytes u i q ∙ ap (set (map page_bytes u) i) (eq ∙ sym (table_at u i page h is)) ∙ set-get_or (map page_bytes u) i [] ∙ k
 
@@ -277,7 +276,7 @@ copied_more t u v i page q k e h is eq = map-append page_bytes v (q ∷ []) ∙ 
 pub owned_same : (a : List Page) → KeepsOwned a a
 owned_same a = record { each = λ i e. e }
 
--- zeros that an overlay would add or lies over change nothing
+-- zeros that the overlay covers, or would add itself, don't change its result
 pub overlay_grown : (x : List ℕ) (o : ℕ) (b : List ℕ) (n : ℕ) → n ≡ max (length x) (reach o (length b) (λ _. true)) → overlay (resized x n) o b ≡ overlay x o b
 overlay_grown x o b n is = same_bytes _ _
     (omega (arith, is, length-overlay_by (resized x n) o b (λ _. true), length-overlay_by x o b (λ _. true), length-resized x n))
@@ -291,21 +290,21 @@ overlay_grown x o b n is = same_bytes _ _
         ∙ ⊎_elim (λ h. at_resized x n p h) (λ h. past_resized x n p h ∙ sym (get_or_past x p 0 (omega (arith, h, is)))) (cases_lt p n)
         ∙ sym (at_other x o b (λ _. true) p out)
 
--- the bytes of the pages at the front
-pub taken_bytes : (ps qs : List Page) (k n : ℕ) → n ≤ 16384 * k → map page_bytes qs ≡ take k (map page_bytes ps) → bytes_in qs n ≡ bytes_in ps n
+-- the bytes of the first k pages
+pub taken_bytes : (ps qs : List Page) (k n : ℕ) → n ≤ page_size * k → map page_bytes qs ≡ take k (map page_bytes ps) → bytes_in qs n ≡ bytes_in ps n
 unfolding byte_at
 taken_bytes ps qs k n h e = same_bytes_in ps qs n at
   where
     at : (p : ℕ) → p < n → byte_at qs p ≡ byte_at ps p
-    at p l = ap (λ t. get_or (get_or t (p / 16384) []) (p % 16384) 0) e ∙ ap (λ b. get_or b (p % 16384) 0) (get_or-take k (map page_bytes ps) (p / 16384) [] (omega (arith, l, h)))
+    at p l = ap (λ t. get_or (get_or t (p / page_size) []) (p % page_size) 0) e ∙ ap (λ b. get_or b (p % page_size) 0) (get_or-take k (map page_bytes ps) (p / page_size) [] (omega (arith, l, h)))
 
--- no bytes laid
+-- a write of an empty run
 pub overlay_none : (x : List ℕ) (o : ℕ) (b : List ℕ) → length b ≡ 0 → overlay x o b ≡ x
 overlay_none x o b e = same_bytes _ _ (omega (arith, length-overlay_by x o b (λ _. true), ap (λ n. reach o n (λ _. true)) e)) (λ p. at_other x o b (λ _. true) p (λ l u. absurd (omega (arith, l, u, e))))
 
--- a part read
-pub read_more : (ps : List Page) (o at n : ℕ) (x y : List ℕ) (page : Page) → at / 16384 < length ps → page ≡ get_or ps (at / 16384) page → at % 16384 + n ≤ 16384 → o ≤ at → at - o + n ≤ length x → n ≡ length y
-    → ((k : ℕ) → k < n → get_or y k 0 ≡ get_or (page_bytes page) (at % 16384 + k) 0)
+-- after one more part is read
+pub read_more : (ps : List Page) (o at n : ℕ) (x y : List ℕ) (page : Page) → at / page_size < length ps → page ≡ get_or ps (at / page_size) page → at % page_size + n ≤ page_size → o ≤ at → at - o + n ≤ length x → n ≡ length y
+    → ((k : ℕ) → k < n → get_or y k 0 ≡ get_or (page_bytes page) (at % page_size + k) 0)
     → ((p : ℕ) → o ≤ p → p < at → get_or x (p - o) 0 ≡ byte_at ps p)
     → (p : ℕ) → o ≤ p → p < at + n → get_or (spliced x (at - o) y) (p - o) 0 ≡ byte_at ps p
 read_more ps o at n x y page there is fits from room len part before p l m = ⊎_elim
@@ -316,7 +315,7 @@ read_more ps o at n x y page there is fits from room len part before p l m = ⊎
     ∙ sym (byte_in ps p page (omega (arith, there, high, m, fits)) (is ∙ ap (λ j. get_or ps j page) (omega (arith, high, m, fits)))))
     (cases_lt p at)
 
--- all of it
+-- after all parts are read
 pub read_all : (ps : List Page) (n o : ℕ) (x : List ℕ) → o + length x ≤ n → ((p : ℕ) → o ≤ p → p < o + length x → get_or x (p - o) 0 ≡ byte_at ps p) → x ≡ take (length x) (drop o (bytes_in ps n))
 read_all ps n o x fits each = same_bytes _ _ (omega (arith, fits, length-take (length x) (drop o (bytes_in ps n)), length-drop o (bytes_in ps n), length-bytes_in ps n)) (λ k. ⊎_elim
     (λ h. ap (λ j. get_or x j 0) (back k) ∙ each (o + k) (omega arith) (omega (arith, h)) ∙ sym (at_bytes_in ps n (o + k) (omega (arith, h, fits))) ∙ sym (get_or-drop o (bytes_in ps n) k 0) ∙ sym (get_or-take (length x) (drop o (bytes_in ps n)) k 0 h))
@@ -326,7 +325,7 @@ read_all ps n o x fits each = same_bytes _ _ (omega (arith, fits, length-take (l
     back : (k : ℕ) → k ≡ o + k - o
     back k = omega arith
 
--- bytes laid over none
+-- a write to an empty list
 pub overlay_all : (x : List ℕ) (b : List ℕ) → length x ≡ 0 → overlay x 0 b ≡ b
 overlay_all x b e = same_bytes _ _ len (λ p. ⊎_elim
     (λ h. at_chosen x 0 b (λ _. true) p (omega arith) (omega (arith, h)) refl ∙ ap (λ k. get_or b k 0) (omega arith))
@@ -339,16 +338,16 @@ overlay_all x b e = same_bytes _ _ len (λ p. ⊎_elim
         (λ none. ap length (overlay_none x 0 b (omega (arith, none))) ∙ omega (arith, e, none))
         (cases_lt 0 (length b))
 
--- a part of a page, as a part of all bytes
-pub part_is : (ps : List Page) (at n : ℕ) (page : Page) (y : List ℕ) → at / 16384 < length ps → page ≡ get_or ps (at / 16384) page → at % 16384 + length y ≤ 16384 → at + length y ≤ n
-    → ((k : ℕ) → k < length y → get_or y k 0 ≡ get_or (page_bytes page) (at % 16384 + k) 0)
+-- a part of one page as a part of all bytes
+pub part_is : (ps : List Page) (at n : ℕ) (page : Page) (y : List ℕ) → at / page_size < length ps → page ≡ get_or ps (at / page_size) page → at % page_size + length y ≤ page_size → at + length y ≤ n
+    → ((k : ℕ) → k < length y → get_or y k 0 ≡ get_or (page_bytes page) (at % page_size + k) 0)
     → y ≡ take (length y) (drop at (bytes_in ps n))
 part_is ps at n page y there is fits within part = read_all ps n at y within (λ p l h.
     part (p - at) (omega (arith, l, h))
     ∙ ap (λ k. get_or (page_bytes page) k 0) (omega (arith, l, h, fits))
     ∙ sym (byte_in ps p page (omega (arith, there, l, h, fits)) (is ∙ ap (λ j. get_or ps j page) (omega (arith, l, h, fits)))))
 
--- one more part behind those before
+-- after one more part is appended
 pub append_more : (x y w v b : List ℕ) (at d k : ℕ) → y ≡ x ++ take d (drop at b) → v ≡ take k (drop (at + d) b) → w ≡ y ++ v → w ≡ x ++ take (d + k) (drop at b)
 append_more x y w v b at d k ey ev ew = ew ∙ ap (λ l. l ++ v) ey ∙ append_assoc x (take d (drop at b)) v
     ∙ ap (λ l. x ++ (take d (drop at b) ++ l)) (ev ∙ ap (take k) (sym (drop-drop d at b)))

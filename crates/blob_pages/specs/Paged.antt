@@ -1,54 +1,61 @@
--- Bytes in a list of pages.
-use Rattle.std.specs.Prelude.{Result, IsOk, OnOk, OnErr, ◌≡◌, ◌⊎◌, ℕ, zero, suc, ◌+◌, ◌-◌, ◌*◌, ◌/◌, ◌%◌, ◌<◌, ◌≤◌, Bool, true, false, List, [], ◌∷◌, ◌++◌, length, map, take, drop, slice_index, slice_index_or, if◌then◌else◌}
+-- The bytes of a list of pages.
+use Rattle.std.specs.Prelude.{Result, OnOk, OnErr, ◌≡◌, ◌⊎◌, ℕ, ◌+◌, ◌-◌, ◌*◌, ◌/◌, ◌%◌, ◌<◌, ◌≤◌, max, Bool, true, false, List, [], ◌++◌, length, map, take, drop, slice_index, slice_index_or}
 use Rattle.std.specs.List.{range_with_len}
-use Rattle.blob_pages.specs.declared.pages.Page.{Page}
-use Rattle.blob_pages.specs.declared.pages.Page.TheVariants.{Owned, Shared}
+use Rattle.blob_model.specs.Bytes.{overlay}
+use Rattle.blob_pages.specs.declared.page.Page.{Page}
+use Rattle.blob_pages.specs.declared.page.Page.TheVariants.{Owned, Shared}
 
+-- the size of a page in bytes, `PAGE` in the code
+abbrev pub page_size : ℕ
+page_size = 65536
+
+-- the bytes of a page
 abbrev pub page_bytes : Page → List ℕ
 page_bytes (Owned v) = v.items
 page_bytes (Shared r) = r.value.items
 
+-- whether only this value has a page
 abbrev pub is_owned : Page → Bool
 is_owned (Owned v) = true
 is_owned (Shared r) = false
 
--- the byte at a position
+-- the byte at an offset
 unfoldable pub byte_at : List Page → ℕ → ℕ
-byte_at ps p = slice_index (slice_index_or (map page_bytes ps) (p / 16384) []) (p % 16384)
+byte_at ps p = slice_index (slice_index_or (map page_bytes ps) (p / page_size) []) (p % page_size)
 
--- the bytes up to a length
+-- the first n bytes
 unfoldable pub bytes_in : List Page → ℕ → List ℕ
 bytes_in ps n = map (byte_at ps) (range_with_len 0 n)
 
--- whether a page is there that this value alone has
+-- whether page i exists and only this value has it
 abbrev pub owned_at : List Page → ℕ → Bool
 owned_at ps i = slice_index_or (map is_owned ps) i false
 
--- each page is full
+-- each page has the full size
 pub record AreFull (ps : List Page) : Type 0 where
-  pub each : (i : ℕ) → i < length ps → length (slice_index_or (map page_bytes ps) i []) ≡ 16384
+  pub each : (i : ℕ) → i < length ps → length (slice_index_or (map page_bytes ps) i []) ≡ page_size
 
--- the pages of a range are this value's alone
+-- only this value has the pages of a range
 pub record AreOwned (ps : List Page) (from to : ℕ) : Type 0 where
   pub each : (i : ℕ) → from ≤ i → i < to → owned_at ps i ≡ true
 
--- what was this value's alone still is
+-- each page that only this value has stays so
 pub record KeepsOwned (old new : List Page) : Type 0 where
   pub each : (i : ℕ) → owned_at old i ≡ true → owned_at new i ≡ true
 
--- the same bytes on the same pages
+-- the bytes of each page are unchanged
 pub record Keeps (old new : List Page) : Type 0 where
   pub bytes : map page_bytes new ≡ map page_bytes old
   pub owned : KeepsOwned old new
 
--- the same bytes where there were pages, and perhaps more pages
+-- pages may be added; the bytes of the old pages are unchanged
 pub record Extends (old new : List Page) : Type 0 where
   pub more : length old ≤ length new
-  pub bytes : (p : ℕ) → p < 16384 * length old → byte_at new p ≡ byte_at old p
+  pub bytes : (p : ℕ) → p < page_size * length old → byte_at new p ≡ byte_at old p
   pub full : AreFull old → AreFull new
   pub owned : KeepsOwned old new
 
--- a run laid over pages that are there
+-- a run written to existing pages
 pub record Lays (old new : List Page) (offset : ℕ) (run : List ℕ) : Type 0 where
   pub same : length new ≡ length old
   pub within : (p : ℕ) → offset ≤ p → p < offset + length run → byte_at new p ≡ slice_index run (p - offset)
@@ -56,22 +63,27 @@ pub record Lays (old new : List Page) (offset : ℕ) (run : List ℕ) : Type 0 w
   pub full : AreFull new
   pub owned : KeepsOwned old new
 
--- x with y laid over it at n
+-- x with y written over it at n
 abbrev pub spliced : List ℕ → ℕ → List ℕ → List ℕ
 spliced x n y = take n x ++ (y ++ drop (n + length y) x)
 
--- bytes of a length become others of a length; refused, they are as before
+-- the result of a change: on Ok these bytes with the new length, on Err the old bytes
 pub record Changes {T E : Type 0} (result : Result T E) (old new : List Page) (had has : ℕ) (now : List ℕ) : Type 0 where
   pub ok : OnOk result (bytes_in new has ≡ now)
-  pub there : OnOk result (has ≤ 16384 * length new)
+  pub there : OnOk result (has ≤ page_size * length new)
   pub err : OnErr result (bytes_in new had ≡ bytes_in old had)
   pub more : length old ≤ length new
   pub full : AreFull new
   pub owned : KeepsOwned old new
 
--- zeros up to a length where there were none
+-- these bytes after zeros are written up to the new length
 pub record Blanks (old new : List Page) (had has : ℕ) (now : List ℕ) : Type 0 where
   pub bytes : bytes_in new has ≡ now
   pub same : length new ≡ length old
   pub full : AreFull new
   pub owned : KeepsOwned old new
+
+-- the result of a write of a run: the length grows to its end
+abbrev pub WritesRun : {T E : Type 0} → Result T E → List Page → List Page → ℕ → ℕ → List ℕ → Type 0
+WritesRun result old new had offset run =
+    Changes result old new had (max had (offset + length run)) (overlay (bytes_in old had) offset run)

@@ -1,12 +1,13 @@
 //! The bytes of a blob.
-ghost use Rattle.std.specs.Prelude.{◌≡◌, ◌≤◌, ◌<◌, ◌+◌, ◌++◌, [], length, take, drop, IfOk, OnOk, OnErr, vec_capacity};
+ghost use Rattle.std.specs.Prelude.{◌≡◌, ◌≤◌, ◌<◌, ◌+◌, ◌++◌, [], length, take, drop, IfOk, OnOk, vec_capacity};
 ghost use Rattle.blob_pages.specs.Paged.{spliced};
 
 use crate::form::Form;
 use std::alloc::{AllocError, Global};
 use std::marker::Model;
 
-/// The bytes of a blob, seen by contracts as a list with a capacity. Copies share their pages until one of them writes.
+/// The bytes of a blob. Contracts see them as a list with a capacity. Copies share their pages until one of them
+/// writes.
 #[derive(Drop)]
 pub struct Bytes {
     pub(crate) form: Form,
@@ -22,7 +23,7 @@ impl Model for Bytes {
     ghost view = { λ b. record { items = content b.form; capacity = capacity b.form } };
 }
 
-/// Copies a run over a part of a buffer.
+/// Copies a run into a buffer at `at`.
 fn copy_part(buf: &mut [u8], at: usize, run: &[u8])
     requires { at + length run.now ≤ length buf.old }
     ensures { buf.new ≡ spliced buf.old at run.now }
@@ -32,14 +33,14 @@ fn copy_part(buf: &mut [u8], at: usize, run: &[u8])
 }
 
 impl Bytes {
-    /// No bytes.
+    /// Makes an empty value.
     pub fn new(alloc: Global) -> Bytes
         ensures { result.items ≡ [] }
     {
         Bytes::from_vec(Vec::new(alloc))
     }
 
-    /// The bytes of a vector, with its capacity.
+    /// Takes the bytes of a vector, with its capacity. Does not allocate.
     pub fn from_vec(bytes: Vec<u8>) -> Bytes
         ensures items { result.items ≡ bytes.items }
         ensures capacity { result.capacity ≡ vec_capacity bytes }
@@ -49,7 +50,7 @@ impl Bytes {
         }
     }
 
-    /// A copy of bytes. The only error is want of memory.
+    /// Copies these bytes. The only error is out of memory.
     pub fn from_slice(alloc: Global, bytes: &[u8]) -> Result<Bytes, AllocError>
         ensures { IfOk result (λ made. made.items ≡ bytes.now) }
     {
@@ -58,12 +59,12 @@ impl Bytes {
         })
     }
 
-    /// The allocator of the bytes.
+    /// Returns the allocator.
     pub fn allocator(&self) -> Global {
         self.form.alloc()
     }
 
-    /// How many bytes there are, which is within the capacity.
+    /// Returns the number of bytes. It is at most the capacity.
     pub fn len(&self) -> usize
         ensures len { result ≡ length self.now.items }
         ensures within { result ≤ self.now.capacity }
@@ -71,7 +72,7 @@ impl Bytes {
         self.form.len()
     }
 
-    /// Returns bytes from `at` on that lie together, at least one and no more than `len`.
+    /// Returns contiguous bytes from `at` on, at least one and at most `len`.
     pub fn part(&self, at: usize, len: usize) -> &[u8]
         requires some { 0 < len }
         requires within { at + len ≤ length self.now.items }
@@ -82,7 +83,7 @@ impl Bytes {
         self.form.part(at, len)
     }
 
-    /// Copies a range over a slice of its length.
+    /// Fills `out` with the bytes from `at` on.
     pub fn read(&self, at: usize, out: &mut [u8])
         requires { at + length out.old ≤ length self.now.items }
         ensures { out.new ≡ take (length out.old) (drop at self.now.items) }
@@ -97,7 +98,7 @@ impl Bytes {
         }
     }
 
-    /// Copies all bytes behind those of a vector. The only error is want of memory; some may be there then.
+    /// Appends all bytes to a vector. The only error is out of memory. The vector may have a part of them then.
     pub fn append_to(&self, out: &mut Vec<u8>) -> Result<(), AllocError>
         ensures { OnOk result (out.new.items ≡ out.old.items ++ self.now.items) }
     {
@@ -112,7 +113,7 @@ impl Bytes {
         Ok(())
     }
 
-    /// Returns a vector of the bytes. The only error is want of memory.
+    /// Copies the bytes into a vector. The only error is out of memory.
     pub fn to_vec(&self) -> Result<Vec<u8>, AllocError>
         ensures { IfOk result (λ made. made.items ≡ self.now.items) }
     {
@@ -121,7 +122,7 @@ impl Bytes {
         Ok(made)
     }
 
-    /// Returns a copy. It shares the pages that others have too. The only error is want of memory.
+    /// Copies the bytes. The copy shares every page that is shared already. The only error is out of memory.
     pub fn copy(&self) -> Result<Bytes, AllocError>
         ensures { IfOk result (λ copy. copy.items ≡ self.now.items) }
     {

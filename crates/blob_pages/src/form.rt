@@ -1,109 +1,25 @@
-// The bytes of a blob: a vector where they are few, else pages.
-ghost use Rattle.std.specs.Prelude.{◌≡◌, ◌≤◌, ◌<◌, ◌+◌, ◌^◌, [], length, take, drop, IsOk, OnOk, OnErr, IfOk, vec_capacity};
+// The bytes of a blob: one vector if they fit on one page, else pages.
+ghost use Rattle.std.specs.Prelude.{◌≡◌, ◌≤◌, ◌<◌, ◌+◌, ◌^◌, length, take, drop, OnOk, OnErr, IfOk, vec_capacity};
 ghost use Rattle.blob_model.specs.Bytes.{overlay, overlay_by, reach, resized};
 ghost use Rattle.blob_model.specs.Runs.{picked};
-ghost use Rattle.blob_pages.specs.Values.{bytes, room, Tries};
 
+use crate::page_writes::{lay_mixed, lay_mixed_slice, lay_run, paged};
 use crate::pages::{PAGE, Pages};
 use blob_base::IoBufs;
 use blob_overlay::overlay;
 use std::alloc::{AllocError, Global};
 
-/// Bytes in one vector, or in pages. A vector becomes pages when it has to grow past one page.
+/// Bytes in one vector or in pages. A vector becomes pages when it must grow to more than one page.
 #[derive(Drop)]
 pub enum Form {
     Flat(Vec<u8>),
     Paged(Pages),
 }
 
-/// A run as one piece. The only error is want of memory.
-fn gathered(run: &IoBufs) -> Result<Vec<u8>, AllocError>
-    ensures { IfOk result (λ all. all.items ≡ run.now) }
-{
-    let Ok(all) = run.copied() else {
-        return Err(AllocError);
-    };
-    let Ok(all) = all.coalesce() else {
-        return Err(AllocError);
-    };
-    Ok(all)
-}
-
-/// Writes a run over pages, within their capacity.
-fn lay_run(pages: &mut Pages, offset: usize, run: &IoBufs) -> Result<(), AllocError>
-    requires fits { offset + length run.now < 2 ^ 64 }
-    requires room { offset + length run.now ≤ room pages.old }
-    ensures { Tries result pages.old pages.new (overlay (bytes pages.old) offset run.now) }
-{
-    let pieces = run.pieces();
-    if pieces.len() == 1 {
-        return pages.overlay(offset, pieces[0].as_slice());
-    }
-    let all = gathered(run)?;
-    pages.overlay(offset, all.as_slice())
-}
-
-/// The bytes of a range of pages, with the selected bytes of a run over them.
-fn mixed(
-    alloc: Global,
-    pages: &Pages,
-    offset: usize,
-    end: usize,
-    run: &IoBufs,
-    keep: &[bool],
-) -> Result<Vec<u8>, AllocError>
-    requires same { length keep.now ≡ length run.now }
-    requires fits { offset + length run.now < 2 ^ 64 }
-    requires some { offset < end }
-    requires end { end ≡ reach offset (length run.now) (picked keep.now) }
-    ensures len { IfOk result (λ all. offset + length all.items ≡ end) }
-    ensures laid { IfOk result (λ all. overlay (bytes pages.now) offset all.items ≡ overlay_by (bytes pages.now) offset run.now (picked keep.now)) }
-{
-    let n = end - offset;
-    let from = offset.min(pages.len());
-    let there = end.min(pages.len()) - from;
-    let mut all = Vec::with_capacity(alloc, n)?;
-    pages.append(from, there, &mut all);
-    all.resize(n, 0).unwrap();
-    overlay::copy_chosen_pieces(all.as_mut_slice(), 0, run.pieces(), keep);
-    Ok(all)
-}
-
-/// Writes the selected bytes of a run over pages, within their capacity.
-fn lay_mixed(
-    pages: &mut Pages,
-    offset: usize,
-    run: &IoBufs,
-    keep: &[bool],
-) -> Result<(), AllocError>
-    requires same { length keep.now ≡ length run.now }
-    requires fits { offset + length run.now < 2 ^ 64 }
-    requires room { reach offset (length run.now) (picked keep.now) ≤ room pages.old }
-    ensures { Tries result pages.old pages.new (overlay_by (bytes pages.old) offset run.now (picked keep.now)) }
-{
-    let end = overlay::reach_of(offset, keep);
-    if end <= offset {
-        return Ok(());
-    }
-    let all = mixed(pages.alloc(), pages, offset, end, run, keep)?;
-    pages.overlay(offset, all.as_slice())
-}
-
-/// Pages of these bytes, with at least so much capacity.
-fn paged(alloc: Global, run: &[u8], capacity: usize) -> Result<Pages, AllocError>
-    ensures bytes { IfOk result (λ pages. bytes pages ≡ run.now) }
-    ensures capacity { IfOk result (λ pages. capacity ≤ room pages) }
-{
-    let spare = Vec::with_capacity(alloc, capacity.max(run.len()))?;
-    let mut pages = Pages::new(alloc, spare);
-    pages.overlay(0, run)?;
-    Ok(pages)
-}
-
 impl Form {
     ghost use Rattle.blob_pages.specs.Forms.{content, capacity, Becomes, MayBecome, Tried};
 
-    /// A copy of bytes.
+    /// Copies these bytes. The only error is out of memory.
     pub fn from_slice(alloc: Global, bytes: &[u8]) -> Result<Form, AllocError>
         ensures { IfOk result (λ made. content made ≡ bytes.now) }
     {
@@ -113,6 +29,7 @@ impl Form {
         Ok(Form::Paged(paged(alloc, bytes, bytes.len())?))
     }
 
+    /// Returns the allocator.
     pub fn alloc(&self) -> Global {
         match self {
             Form::Flat(bytes) => *bytes.allocator(),
@@ -120,6 +37,7 @@ impl Form {
         }
     }
 
+    /// Returns the number of bytes.
     pub fn len(&self) -> usize
         ensures len { result ≡ length (content self.now) }
         ensures within { result ≤ capacity self.now }
@@ -130,7 +48,7 @@ impl Form {
         }
     }
 
-    /// The bytes from `at` on that lie together, no more than `len`.
+    /// Returns contiguous bytes from `at` on, at most `len`.
     pub fn part(&self, at: usize, len: usize) -> &[u8]
         requires some { 0 < len }
         requires within { at + len ≤ length (content self.now) }
@@ -144,7 +62,7 @@ impl Form {
         }
     }
 
-    /// Capacity for so many bytes.
+    /// Reserves capacity for `len` bytes in all. The only error is out of memory.
     pub fn reserve(&mut self, len: usize) -> Result<(), AllocError>
         ensures grows { MayBecome result self.old self.new len (content self.old) }
         ensures room { OnOk result (len ≤ capacity self.new) }
@@ -166,7 +84,7 @@ impl Form {
         }
     }
 
-    /// Moves the bytes out, into a vector that has the capacity. Takes no memory.
+    /// Moves the bytes out, into a vector with at least the same capacity. Does not allocate.
     fn flattened(&mut self) -> Vec<u8>
         ensures content { result.items ≡ content self.old }
         ensures capacity { capacity self.old ≤ vec_capacity result }
@@ -179,6 +97,7 @@ impl Form {
         }
     }
 
+    /// Sets the length of pages. Returns false if a page can't be allocated.
     fn try_set_len(&mut self, len: usize) -> bool
         requires { len ≤ capacity self.old }
         ensures { Tried result self.old self.new (resized (content self.old) len) }
@@ -189,6 +108,7 @@ impl Form {
         }
     }
 
+    /// Sets the length of pages. If a page can't be allocated, all bytes move to one vector.
     fn set_len_pages(&mut self, len: usize)
         requires { len ≤ capacity self.old }
         ensures { Becomes self.old self.new (resized (content self.old) len) }
@@ -200,7 +120,7 @@ impl Form {
         }
     }
 
-    /// Cuts or lengthens by zeros, within the capacity.
+    /// Truncates, or extends with zeros, within the capacity.
     pub fn set_len(&mut self, len: usize)
         requires { len ≤ capacity self.old }
         ensures { Becomes self.old self.new (resized (content self.old) len) }
@@ -211,6 +131,7 @@ impl Form {
         }
     }
 
+    /// Writes a run to pages. Returns false if a page can't be allocated.
     fn try_lay(&mut self, offset: usize, run: &IoBufs) -> bool
         requires fits { offset + length run.now < 2 ^ 64 }
         requires room { offset + length run.now ≤ capacity self.old }
@@ -222,6 +143,7 @@ impl Form {
         }
     }
 
+    /// Writes a run to pages, or to one vector if a page can't be allocated.
     fn lay_pages(&mut self, offset: usize, run: &IoBufs)
         requires fits { offset + length run.now < 2 ^ 64 }
         requires room { offset + length run.now ≤ capacity self.old }
@@ -246,6 +168,7 @@ impl Form {
         }
     }
 
+    /// Writes one piece to pages. Returns false if a page can't be allocated.
     fn try_lay_slice(&mut self, offset: usize, run: &[u8]) -> bool
         requires fits { offset + length run.now < 2 ^ 64 }
         requires room { offset + length run.now ≤ capacity self.old }
@@ -257,6 +180,7 @@ impl Form {
         }
     }
 
+    /// Writes one piece to pages, or to one vector if a page can't be allocated.
     fn lay_slice_pages(&mut self, offset: usize, run: &[u8])
         requires fits { offset + length run.now < 2 ^ 64 }
         requires room { offset + length run.now ≤ capacity self.old }
@@ -269,7 +193,7 @@ impl Form {
         }
     }
 
-    /// Writes a run of one piece, within the capacity.
+    /// Writes one piece, within the capacity.
     pub fn lay_slice(&mut self, offset: usize, run: &[u8])
         requires fits { offset + length run.now < 2 ^ 64 }
         requires room { offset + length run.now ≤ capacity self.old }
@@ -281,6 +205,7 @@ impl Form {
         }
     }
 
+    /// Writes the selected bytes to pages. Returns false if a page can't be allocated.
     fn try_lay_chosen(&mut self, offset: usize, run: &IoBufs, keep: &[bool]) -> bool
         requires same { length keep.now ≡ length run.now }
         requires fits { offset + length run.now < 2 ^ 64 }
@@ -293,6 +218,7 @@ impl Form {
         }
     }
 
+    /// Writes the selected bytes to pages, or to one vector if a page can't be allocated.
     fn lay_chosen_pages(&mut self, offset: usize, run: &IoBufs, keep: &[bool])
         requires same { length keep.now ≡ length run.now }
         requires fits { offset + length run.now < 2 ^ 64 }
@@ -319,7 +245,47 @@ impl Form {
         }
     }
 
-    /// A copy, which shares the pages that others have too.
+    /// Writes the selected bytes of one piece to pages. Returns false if a page can't be allocated.
+    fn try_lay_chosen_slice(&mut self, offset: usize, run: &[u8], keep: &[bool]) -> bool
+        requires same { length keep.now ≡ length run.now }
+        requires fits { offset + length run.now < 2 ^ 64 }
+        requires room { reach offset (length run.now) (picked keep.now) ≤ capacity self.old }
+        ensures { Tried result self.old self.new (overlay_by (content self.old) offset run.now (picked keep.now)) }
+    {
+        match self {
+            Form::Flat(_) => false,
+            Form::Paged(pages) => lay_mixed_slice(pages, offset, run, keep).is_ok(),
+        }
+    }
+
+    /// Writes the selected bytes of one piece to pages, or to one vector if a page can't be allocated.
+    fn lay_chosen_slice_pages(&mut self, offset: usize, run: &[u8], keep: &[bool])
+        requires same { length keep.now ≡ length run.now }
+        requires fits { offset + length run.now < 2 ^ 64 }
+        requires room { reach offset (length run.now) (picked keep.now) ≤ capacity self.old }
+        ensures { Becomes self.old self.new (overlay_by (content self.old) offset run.now (picked keep.now)) }
+    {
+        if !self.try_lay_chosen_slice(offset, run, keep) {
+            let mut flat = self.flattened();
+            overlay::write_chosen_slice(&mut flat, offset, run, keep).unwrap();
+            *self = Form::Flat(flat);
+        }
+    }
+
+    /// Writes the selected bytes of one piece, within the capacity.
+    pub fn lay_chosen_slice(&mut self, offset: usize, run: &[u8], keep: &[bool])
+        requires same { length keep.now ≡ length run.now }
+        requires fits { offset + length run.now < 2 ^ 64 }
+        requires room { reach offset (length run.now) (picked keep.now) ≤ capacity self.old }
+        ensures { Becomes self.old self.new (overlay_by (content self.old) offset run.now (picked keep.now)) }
+    {
+        match self {
+            Form::Flat(bytes) => overlay::write_chosen_slice(bytes, offset, run, keep).unwrap(),
+            Form::Paged(_) => self.lay_chosen_slice_pages(offset, run, keep),
+        }
+    }
+
+    /// Copies the bytes. The copy shares every page that is shared already. The only error is out of memory.
     pub fn copy(&self) -> Result<Form, AllocError>
         ensures { IfOk result (λ copy. content copy ≡ content self.now) }
     {
@@ -329,7 +295,8 @@ impl Form {
         }
     }
 
-    /// Makes the bytes those of another value. Both have its pages, none of which is copied.
+    /// Replaces the bytes with those of `other`. Both share its pages, and no page is copied. The only error is out of
+    /// memory.
     pub fn replace(&mut self, other: &mut Form) -> Result<(), AllocError>
         ensures ok { OnOk result (content self.new ≡ content other.old) }
         ensures err { OnErr result (content self.new ≡ content self.old) }

@@ -1,9 +1,13 @@
-//! Bytes of a blob, in pages that its copies share: a copy costs a count for each page, and a write the pages that it touches.
+//! The bytes of a blob, in pages that copies share. A sync counts the pages and copies none. A write copies each shared
+//! page that it changes.
 #![tactic(auto)]
 
 pub mod bytes;
 mod form;
 pub mod overlay;
+mod page;
+mod page_list;
+mod page_writes;
 pub mod pages;
 
 pub use bytes::Bytes;

@@ -1,14 +1,15 @@
-//! What a write and a resize make of the bytes of a blob. Capacity is taken first; the rest takes no memory that it needs.
+//! Writes and resizes of the bytes of a blob. A call that can fail reserves capacity first. A change within the
+//! capacity never fails: if a page can't be allocated, the bytes move to one vector that was reserved with the
+//! capacity.
 ghost use Rattle.std.specs.Prelude.{◌≡◌, ◌≤◌, ◌<◌, ◌+◌, ◌^◌, length, max, OnOk, OnErr};
-ghost use Rattle.blob_model.specs.Bytes.{overlay, overlay_by, reach, resized};
-ghost use Rattle.blob_model.specs.Runs.{picked};
-ghost use Rattle.blob_pages.specs.Stored.{AreNow, Grows};
+ghost use Rattle.blob_model.specs.Bytes.{overlay, resized};
+ghost use Rattle.blob_pages.specs.Stored.{AreNow, Grows, WritesSelected};
 
 use crate::bytes::Bytes;
 use blob_base::IoBufs;
 use std::alloc::AllocError;
 
-/// Capacity for so many bytes.
+/// Reserves capacity for `len` bytes in all. The only error is out of memory.
 pub fn make_room(bytes: &mut Bytes, len: usize) -> Result<(), AllocError>
     ensures bytes { Grows result bytes.old bytes.new len bytes.old.items }
     ensures room { OnOk result (len ≤ bytes.new.capacity) }
@@ -16,7 +17,7 @@ pub fn make_room(bytes: &mut Bytes, len: usize) -> Result<(), AllocError>
     bytes.form.reserve(len)
 }
 
-/// Adds zeros up to a length.
+/// Extends the bytes with zeros to `len`, within the capacity. Does nothing if they are that long already.
 pub fn grow(bytes: &mut Bytes, len: usize)
     requires { len ≤ bytes.old.capacity }
     ensures { AreNow bytes.old bytes.new (resized bytes.old.items (max (length bytes.old.items) len)) }
@@ -26,7 +27,7 @@ pub fn grow(bytes: &mut Bytes, len: usize)
     }
 }
 
-/// Lays a run over bytes that have room for it.
+/// Writes a run, within the capacity.
 pub fn lay(bytes: &mut Bytes, offset: usize, run: &IoBufs)
     requires fits { offset + length run.now < 2 ^ 64 }
     requires room { offset + length run.now ≤ bytes.old.capacity }
@@ -35,7 +36,7 @@ pub fn lay(bytes: &mut Bytes, offset: usize, run: &IoBufs)
     bytes.form.lay(offset, run);
 }
 
-/// The same of one piece.
+/// Writes one piece, within the capacity.
 pub fn lay_slice(bytes: &mut Bytes, offset: usize, run: &[u8])
     requires fits { offset + length run.now < 2 ^ 64 }
     requires room { offset + length run.now ≤ bytes.old.capacity }
@@ -44,7 +45,8 @@ pub fn lay_slice(bytes: &mut Bytes, offset: usize, run: &[u8])
     bytes.form.lay_slice(offset, run);
 }
 
-/// Lays the chosen bytes of a run. The only error is want of memory, where there was no room; it leaves the bytes.
+/// Writes the selected bytes of a run. `keep[i]` selects byte `i`. The bytes grow only as far as the last selected
+/// byte. The only error is out of memory, if the capacity is too small. The bytes are unchanged then.
 pub fn write_chosen(
     bytes: &mut Bytes,
     offset: usize,
@@ -53,7 +55,7 @@ pub fn write_chosen(
 ) -> Result<(), AllocError>
     requires same { length keep.now ≡ length run.now }
     requires fits { offset + length run.now < 2 ^ 64 }
-    ensures { Grows result bytes.old bytes.new (reach offset (length run.now) (picked keep.now)) (overlay_by bytes.old.items offset run.now (picked keep.now)) }
+    ensures { WritesSelected result bytes.old bytes.new offset run.now keep.now }
 {
     let end = blob_overlay::overlay::reach_of(offset, keep);
     bytes.form.reserve(end)?;
@@ -61,7 +63,24 @@ pub fn write_chosen(
     Ok(())
 }
 
-/// Lays a run. The only error is want of memory, where there was no room; it leaves the bytes.
+/// Writes the selected bytes of one piece, as `write_chosen`.
+pub fn write_chosen_slice(
+    bytes: &mut Bytes,
+    offset: usize,
+    run: &[u8],
+    keep: &[bool],
+) -> Result<(), AllocError>
+    requires same { length keep.now ≡ length run.now }
+    requires fits { offset + length run.now < 2 ^ 64 }
+    ensures { WritesSelected result bytes.old bytes.new offset run.now keep.now }
+{
+    let end = blob_overlay::overlay::reach_of(offset, keep);
+    bytes.form.reserve(end)?;
+    bytes.form.lay_chosen_slice(offset, run, keep);
+    Ok(())
+}
+
+/// Writes a run. The only error is out of memory, if the capacity is too small. The bytes are unchanged then.
 pub fn write(bytes: &mut Bytes, offset: usize, run: &IoBufs) -> Result<(), AllocError>
     requires { offset + length run.now < 2 ^ 64 }
     ensures { Grows result bytes.old bytes.new (offset + length run.now) (overlay bytes.old.items offset run.now) }
@@ -71,7 +90,18 @@ pub fn write(bytes: &mut Bytes, offset: usize, run: &IoBufs) -> Result<(), Alloc
     Ok(())
 }
 
-/// Cuts or lengthens by zeros. The only error is want of memory, where there was no room; it leaves the bytes.
+/// Writes one piece, as `write`.
+pub fn write_slice(bytes: &mut Bytes, offset: usize, run: &[u8]) -> Result<(), AllocError>
+    requires { offset + length run.now < 2 ^ 64 }
+    ensures { Grows result bytes.old bytes.new (offset + length run.now) (overlay bytes.old.items offset run.now) }
+{
+    make_room(bytes, offset + run.len())?;
+    lay_slice(bytes, offset, run);
+    Ok(())
+}
+
+/// Truncates, or extends with zeros. The only error is out of memory, if the capacity is too small. The bytes are
+/// unchanged then.
 pub fn resize(bytes: &mut Bytes, len: usize) -> Result<(), AllocError>
     ensures { Grows result bytes.old bytes.new len (resized bytes.old.items len) }
 {
@@ -80,8 +110,8 @@ pub fn resize(bytes: &mut Bytes, len: usize) -> Result<(), AllocError>
     Ok(())
 }
 
-/// Makes the bytes those of another value. Both have its pages, none of which is copied. The only error is want of memory; it
-/// leaves the bytes.
+/// Replaces the bytes with those of `other`. Both share its pages, and no page is copied. The only error is out of
+/// memory. The bytes are unchanged then.
 pub fn replace(bytes: &mut Bytes, other: &mut Bytes) -> Result<(), AllocError>
     ensures ok { OnOk result (bytes.new.items ≡ other.old.items) }
     ensures err { OnErr result (bytes.new.items ≡ bytes.old.items) }

@@ -13,7 +13,7 @@ use blob_pages::Bytes;
 impl Contents {
     ghost use Rattle.blob_memory.specs.ContentsLends.{LendsDurable};
 
-    /// The durable logical bytes of an incarnation, where it is current.
+    /// Returns the durable logical bytes of an incarnation, if it is current.
     pub fn bytes(&self, origin: &Origin) -> Option<&Bytes>
         ensures { option_copied result ≡ vec_at self.now origin.now }
     {
@@ -29,7 +29,7 @@ impl Contents {
         }
     }
 
-    /// The same, to be changed.
+    /// Returns them for a change.
     pub fn bytes_mut(&mut self, origin: &Origin) -> Option<&mut Bytes>
         ensures* writes_back { sem 𝓛 (LendsDurable self.entry origin.now result) }
         ensures value { option_copied_mut result ≡ vec_at self.old origin.now }
@@ -38,7 +38,7 @@ impl Contents {
         self.partitions.bytes_mut(first, origin)
     }
 
-    /// Whether an incarnation is its name's current one.
+    /// Returns whether an incarnation is its name's current one.
     pub fn is_current(&self, origin: &Origin) -> bool
         ensures { result ≡ is_current (directory_of self.now) origin.now }
     {

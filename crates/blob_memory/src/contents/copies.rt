@@ -1,16 +1,16 @@
-// Copies of a name's bytes.
+// Copies of the bytes of a name's file.
 ghost use Rattle.std.specs.Prelude.{◌≡◌, ◌≤◌, ℕ, List, None, Some, OnErr, IfOk, option_map, drop, length};
 ghost use Rattle.std.specs.Option.{ForSome};
 ghost use Rattle.blob_header.specs.Refusals.{IsMemory};
-ghost use Rattle.blob_memory.specs.Contents.{directory_of, durable_of, items_of};
-ghost use Rattle.blob_memory.specs.Listing.{raw_bytes, logical_found, raw_blob_of, logical_blob_of};
+ghost use Rattle.blob_memory.specs.Contents.{items_of};
+ghost use Rattle.blob_memory.specs.Listing.{raw_bytes, logical_found, raw_blob_in, logical_blob_in};
 
 use super::Contents;
 use crate::item::{Held, Item};
 use blob_base::{BlobVersion, Error, Header, Layout, resolve};
 use std::alloc::Global;
 
-/// A header and the bytes behind it.
+/// Returns the header of an incarnation and the bytes after it. Only `Memory` can be returned.
 fn with_header(alloc: Global, held: &Held) -> Result<Vec<u8>, Error>
     ensures ok { IfOk result (λ raw. raw.items ≡ raw_bytes (Item.Held held.now)) }
     ensures memory { OnErr result (IsMemory result) }
@@ -22,7 +22,7 @@ fn with_header(alloc: Global, held: &Held) -> Result<Vec<u8>, Error>
     Ok(raw)
 }
 
-/// What becomes of a header's refusal: want of memory for its texts, or no header.
+/// Returns None if a header is invalid. Only `Memory` can be returned.
 fn only_memory(error: Error) -> Result<Option<usize>, Error>
     ensures ok { IfOk result (λ offset. offset ≡ None) }
     ensures memory { OnErr result (IsMemory result) }
@@ -33,7 +33,7 @@ fn only_memory(error: Error) -> Result<Option<usize>, Error>
     }
 }
 
-/// Where the data of a raw file begins, where it has a header.
+/// Returns the offset of the logical bytes in a raw file, if it has a header. Only `Memory` can be returned.
 fn data_in(alloc: Global, raw: &[u8], partition: &str, name: &[u8]) -> Result<Option<usize>, Error>
     ensures ok { IfOk result (λ offset. option_map (λ n. drop n raw.now) offset ≡ logical_found raw.now) }
     ensures within { IfOk result (λ offset. ForSome offset (λ n. n ≤ length raw.now)) }
@@ -49,7 +49,7 @@ fn data_in(alloc: Global, raw: &[u8], partition: &str, name: &[u8]) -> Result<Op
     }
 }
 
-/// What follows the header of a raw file, where it has one.
+/// Returns the bytes after the header of a raw file, if it has one. Only `Memory` can be returned.
 fn behind_header(
     alloc: Global,
     raw: &[u8],
@@ -66,7 +66,7 @@ fn behind_header(
     Ok(Some(Vec::from_slice(alloc, rest)?))
 }
 
-/// The bytes that follow an incarnation's header.
+/// Returns the bytes after the header of an incarnation. Only `Memory` can be returned.
 fn held_bytes(held: &Held) -> Result<Vec<u8>, Error>
     ensures ok { IfOk result (λ bytes. bytes.items ≡ held.now.bytes.items) }
     ensures found { IfOk result (λ bytes. Some held.now.bytes.items ≡ logical_found (raw_bytes (Item.Held held.now))) }
@@ -77,9 +77,9 @@ fn held_bytes(held: &Held) -> Result<Vec<u8>, Error>
 }
 
 impl Contents {
-    /// The raw bytes of a name's file, header included; none where it has no file. The only error is `Memory`.
+    /// Returns the raw bytes of a name's file with its header, or None without a file. Only `Memory` can be returned.
     pub fn raw(&self, partition: &str, name: &[u8]) -> Result<Option<Vec<u8>>, Error>
-        ensures ok { IfOk result (λ raw. items_of raw ≡ raw_blob_of (directory_of self.now) (durable_of self.now) partition.now name.now) }
+        ensures ok { IfOk result (λ raw. items_of raw ≡ raw_blob_in self.now partition.now name.now) }
         ensures memory { OnErr result (IsMemory result) }
     {
         match self.partitions.get(partition, name) {
@@ -89,10 +89,10 @@ impl Contents {
         }
     }
 
-    /// The bytes that follow the header of a name's file; none where it has no file or doesn't begin with a header of any
-    /// layout and version. The only error is `Memory`.
+    /// Returns the bytes after the header of a name's file. Returns None without a file, or if the file doesn't begin
+    /// with a header of any layout and version. Only `Memory` can be returned.
     pub fn logical(&self, partition: &str, name: &[u8]) -> Result<Option<Vec<u8>>, Error>
-        ensures ok { IfOk result (λ bytes. items_of bytes ≡ logical_blob_of (directory_of self.now) (durable_of self.now) partition.now name.now) }
+        ensures ok { IfOk result (λ bytes. items_of bytes ≡ logical_blob_in self.now partition.now name.now) }
         ensures memory { OnErr result (IsMemory result) }
     {
         match self.partitions.get(partition, name) {

@@ -1,10 +1,9 @@
-// What opens find in the contents, and the incarnations that they begin.
-ghost use Rattle.std.specs.Prelude.{◌≡◌, ◌-◌, ◌^◌, ◌==◌, None, Some, IfOk, IfErr, OnOk, OnErr, if◌then◌else◌};
-ghost use Rattle.blob_model.specs.Directory.{directory_made};
-ghost use Rattle.blob_header.specs.Refusals.{refused, GenerationsExhausted};
-ghost use Rattle.blob_memory.specs.Answers.{OrMemory};
-ghost use Rattle.blob_memory.specs.Contents.{directory_of, durable_of, durable_made, is_ended};
-ghost use Rattle.blob_memory.specs.Found.{IsFound, IsDeclined, opening_of, opening_in};
+// What an open finds, and the incarnation that it begins.
+ghost use Rattle.std.specs.Prelude.{◌≡◌, None, IfOk, IfErr, OnOk, OnErr};
+ghost use Rattle.blob_header.specs.Refusals.{refused};
+ghost use Rattle.blob_memory.specs.Answers.{OrMemory, number_refusal};
+ghost use Rattle.blob_memory.specs.Contents.{directory_of, durable_of, is_ended};
+ghost use Rattle.blob_memory.specs.Found.{IsFound, IsDeclined, directory_opened, durable_opened, opening_of, opening_in};
 
 use super::Contents;
 use crate::found::{Found, found_raw, nothing};
@@ -14,15 +13,15 @@ use blob_pages::Bytes;
 use std::ops::RangeInclusive;
 
 impl Contents {
-    /// Whether the incarnation of a number ended, where its item is still there.
+    /// Returns whether the incarnation of this number ended, if its item still exists.
     fn is_ended(&self, number: u64) -> bool
         ensures { result ≡ is_ended self.now number }
     {
         number < self.first
     }
 
-    /// What an open finds of a name's file, with a copy of the logical bytes. Refused as the definition of an open says, or
-    /// for want of memory.
+    /// Returns what an open finds of a name's file, with a copy of the logical bytes. The error is that of the open, or
+    /// `Memory`.
     pub fn find(
         &self,
         partition: &str,
@@ -46,14 +45,17 @@ impl Contents {
         }
     }
 
-    /// Begins the incarnation that an open found none of. `GenerationsExhausted` where no number is left, or `Memory`; both
-    /// leave everything as it was.
+    /// Begins the incarnation of an open that found no current one.
+    ///
+    /// Errors, with nothing changed:
+    /// - `GenerationsExhausted` if no number is left.
+    /// - `Memory` if the blob can't be allocated.
     pub fn begin(&mut self, partition: &str, name: &[u8], found: &Found) -> Result<(), Error>
         requires fresh { found.now.number ≡ None }
         requires found { IsFound self.old partition.now name.now found.now }
-        ensures allowed { OrMemory (if (directory_of self.old).next == 2 ^ 64 - 1 then Some GenerationsExhausted else None) (refused result) }
-        ensures directory { OnOk result (directory_of self.new ≡ directory_made (directory_of self.old) partition.now name.now found.now.layout found.now.version.0) }
-        ensures durable { OnOk result (durable_of self.new ≡ durable_made self.old partition.now name.now found.now.layout found.now.live.items) }
+        ensures allowed { OrMemory (number_refusal (directory_of self.old).next) (refused result) }
+        ensures directory { OnOk result (directory_of self.new ≡ directory_opened self.old partition.now name.now found.now) }
+        ensures durable { OnOk result (durable_of self.new ≡ durable_opened self.old partition.now name.now found.now) }
         ensures err { OnErr result (directory_of self.new ≡ directory_of self.old) }
         ensures err_durable { OnErr result (durable_of self.new ≡ durable_of self.old) }
     {

@@ -6,7 +6,7 @@ use Rattle.blob_model.proofs.Agrees.{overlay_same}
 use Rattle.blob_model.specs.Runs.{picked}
 use Rattle.blob_overlay.proofs.overlay.copy_chosen.Goals as goal
 
--- all are chosen
+-- each byte is selected
 each : (keep : List Bool) (i : ℕ) → i < length keep → list_all (λ b. b) keep ≡ true → true ≡ picked keep i
 each keep i h all = ⊎_elim (λ y. sym y) (λ n. absurd (true≢false (sym all ∙ list_all_at (λ b. b) keep i false h n))) (cases_Bool (picked keep i))
 

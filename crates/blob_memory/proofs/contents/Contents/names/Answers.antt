@@ -7,7 +7,7 @@ use Rattle.blob_memory.specs.Contents.{file_of}
 use Rattle.blob_memory.specs.Partitions.{item_at}
 use Rattle.blob_memory.proofs.contents.Contents.names.Goals as goal
 
--- there is a file where there is an item
+-- a name has a file if it has an item
 file_there : (first : ℕ) (x : Option Item) → is_some x ≡ is_some (file_of first x)
 file_there first None = refl
 file_there first (Some (Raw bytes)) = refl

@@ -6,7 +6,7 @@ use Rattle.blob_memory.specs.Partitions.{item_at, is_there, with_item, with_byte
 use Rattle.blob_memory.proofs.Lent.{where_some, has_at, has_same}
 use Rattle.blob_memory.proofs.partitions.Partitions.bytes_mut.Goals as goal
 
--- the item that is there, by the names of the origin
+-- the existing item, by the origin's names
 abbrev here : (c : goal.After-bytes_mut) → item_at c.args.self.now c.args.origin.now.partition c.args.origin.now.name ≡ Some c.in-Some.item.now
 here c = sym (λ i. item_at c.args.self.now (c.partition.ensures i) (c.name.ensures i)) ∙ sym c.get_mut.ensures.value ∙ ap option_copied_mut c.in-Some.is
 

@@ -1,4 +1,4 @@
-use Rattle.std.proofs.Common.{rules, ◌≡◌, ◌++◌, ◌∙◌, [], ap, length, take, drop, arith}
+use Rattle.std.proofs.Common.{rules, ◌≡◌, ◌++◌, ◌∙◌, [], ap, take, drop, arith}
 use Rattle.std.proofs.lemmas.List.{take_all}
 use Rattle.blob_pages.specs.Paged.{bytes_in}
 use Rattle.blob_pages.proofs.Paged.{length-bytes_in}

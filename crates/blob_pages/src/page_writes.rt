@@ -1,0 +1,145 @@
+// Writes of runs to pages.
+ghost use Rattle.std.specs.Prelude.{◌≡◌, ◌≤◌, ◌<◌, ◌+◌, ◌^◌, length, IfOk};
+ghost use Rattle.blob_model.specs.Bytes.{overlay, overlay_by, reach};
+ghost use Rattle.blob_model.specs.Runs.{picked};
+ghost use Rattle.blob_pages.specs.Values.{bytes, room, Tries, IsRange, IsSelectedWrite};
+
+use crate::pages::Pages;
+use blob_base::IoBufs;
+use blob_overlay::overlay;
+use std::alloc::{AllocError, Global};
+
+/// Copies a run of several pieces into one. The only error is out of memory.
+fn gathered(run: &IoBufs) -> Result<Vec<u8>, AllocError>
+    ensures { IfOk result (λ all. all.items ≡ run.now) }
+{
+    let Ok(all) = run.copied() else {
+        return Err(AllocError);
+    };
+    let Ok(all) = all.coalesce() else {
+        return Err(AllocError);
+    };
+    Ok(all)
+}
+
+/// Writes a run to pages, within their capacity. The only error is out of memory. The bytes are unchanged then.
+pub fn lay_run(pages: &mut Pages, offset: usize, run: &IoBufs) -> Result<(), AllocError>
+    requires fits { offset + length run.now < 2 ^ 64 }
+    requires room { offset + length run.now ≤ room pages.old }
+    ensures { Tries result pages.old pages.new (overlay (bytes pages.old) offset run.now) }
+{
+    let pieces = run.pieces();
+    if pieces.len() == 1 {
+        return pages.overlay(offset, pieces[0].as_slice());
+    }
+    let all = gathered(run)?;
+    pages.overlay(offset, all.as_slice())
+}
+
+/// Copies a range of the bytes, with zeros after the last byte. The only error is out of memory.
+fn range_of(alloc: Global, pages: &Pages, offset: usize, end: usize) -> Result<Vec<u8>, AllocError>
+    requires { offset < end }
+    ensures { IfOk result (λ range. IsRange range.items (bytes pages.now) offset end) }
+{
+    let n = end - offset;
+    let from = offset.min(pages.len());
+    let there = end.min(pages.len()) - from;
+    let mut all = Vec::with_capacity(alloc, n)?;
+    pages.append(from, there, &mut all);
+    all.resize(n, 0).unwrap();
+    Ok(all)
+}
+
+/// Copies a range of the bytes, with the selected bytes of a run over them. The only error is out of memory.
+fn mixed(
+    alloc: Global,
+    pages: &Pages,
+    offset: usize,
+    end: usize,
+    run: &IoBufs,
+    keep: &[bool],
+) -> Result<Vec<u8>, AllocError>
+    requires same { length keep.now ≡ length run.now }
+    requires fits { offset + length run.now < 2 ^ 64 }
+    requires some { offset < end }
+    requires end { end ≡ reach offset (length run.now) (picked keep.now) }
+    ensures len { IfOk result (λ all. offset + length all.items ≡ end) }
+    ensures laid { IfOk result (λ all. IsSelectedWrite all.items (bytes pages.now) offset run.now keep.now) }
+{
+    let mut all = range_of(alloc, pages, offset, end)?;
+    overlay::copy_chosen_pieces(all.as_mut_slice(), 0, run.pieces(), keep);
+    Ok(all)
+}
+
+/// Copies a range of the bytes, with the selected bytes of one piece over them. The only error is out of memory.
+fn mixed_slice(
+    alloc: Global,
+    pages: &Pages,
+    offset: usize,
+    end: usize,
+    run: &[u8],
+    keep: &[bool],
+) -> Result<Vec<u8>, AllocError>
+    requires same { length keep.now ≡ length run.now }
+    requires fits { offset + length run.now < 2 ^ 64 }
+    requires some { offset < end }
+    requires end { end ≡ reach offset (length run.now) (picked keep.now) }
+    ensures len { IfOk result (λ all. offset + length all.items ≡ end) }
+    ensures laid { IfOk result (λ all. IsSelectedWrite all.items (bytes pages.now) offset run.now keep.now) }
+{
+    let mut all = range_of(alloc, pages, offset, end)?;
+    overlay::copy_chosen(all.as_mut_slice(), 0, run, keep);
+    Ok(all)
+}
+
+/// Writes the selected bytes of a run to pages, within their capacity. The only error is out of memory. The bytes are
+/// unchanged then.
+pub fn lay_mixed(
+    pages: &mut Pages,
+    offset: usize,
+    run: &IoBufs,
+    keep: &[bool],
+) -> Result<(), AllocError>
+    requires same { length keep.now ≡ length run.now }
+    requires fits { offset + length run.now < 2 ^ 64 }
+    requires room { reach offset (length run.now) (picked keep.now) ≤ room pages.old }
+    ensures { Tries result pages.old pages.new (overlay_by (bytes pages.old) offset run.now (picked keep.now)) }
+{
+    let end = overlay::reach_of(offset, keep);
+    if end <= offset {
+        return Ok(());
+    }
+    let all = mixed(pages.alloc(), pages, offset, end, run, keep)?;
+    pages.overlay(offset, all.as_slice())
+}
+
+/// Writes the selected bytes of one piece, as `lay_mixed`.
+pub fn lay_mixed_slice(
+    pages: &mut Pages,
+    offset: usize,
+    run: &[u8],
+    keep: &[bool],
+) -> Result<(), AllocError>
+    requires same { length keep.now ≡ length run.now }
+    requires fits { offset + length run.now < 2 ^ 64 }
+    requires room { reach offset (length run.now) (picked keep.now) ≤ room pages.old }
+    ensures { Tries result pages.old pages.new (overlay_by (bytes pages.old) offset run.now (picked keep.now)) }
+{
+    let end = overlay::reach_of(offset, keep);
+    if end <= offset {
+        return Ok(());
+    }
+    let all = mixed_slice(pages.alloc(), pages, offset, end, run, keep)?;
+    pages.overlay(offset, all.as_slice())
+}
+
+/// Copies these bytes to pages with at least this capacity. The only error is out of memory.
+pub fn paged(alloc: Global, run: &[u8], capacity: usize) -> Result<Pages, AllocError>
+    ensures bytes { IfOk result (λ pages. bytes pages ≡ run.now) }
+    ensures capacity { IfOk result (λ pages. capacity ≤ room pages) }
+{
+    let spare = Vec::with_capacity(alloc, capacity.max(run.len()))?;
+    let mut pages = Pages::new(alloc, spare);
+    pages.overlay(0, run)?;
+    Ok(pages)
+}
