@@ -47,5 +47,5 @@ StaysChosen offset covered old new = (i : ℕ) → i < length old → slice_inde
 
 -- for each byte of a write the row's choice, except those that a later durable range covers
 abbrev pub ChoosesUncovered : List Bool → PendingWrite → List Bool → Type 0
-ChoosesUncovered chosen write row = (i : ℕ) → i < length write.bytes
+ChoosesUncovered chosen write row = (i : ℕ) → i < length write.bytes.items
     → slice_index_or chosen i false ≡ (not (in_holes (ranges write.holes.items) (write.offset + i)) && slice_index_or row i false)

@@ -58,12 +58,12 @@ fn deselect_covered(chosen: &mut [bool], offset: u64, holes: &[Hole])
 
 /// Sets `chosen` to a row's choices for a write, without the bytes that later durable ranges cover.
 fn put_choices(chosen: &mut Vec<bool>, write: &PendingWrite, row: &[bool])
-    requires { length write.now.bytes ≤ vec_capacity chosen.old }
-    ensures len { length chosen.new.items ≡ length write.now.bytes }
+    requires { length write.now.bytes.items ≤ vec_capacity chosen.old }
+    ensures len { length chosen.new.items ≡ length write.now.bytes.items }
     ensures each { ChoosesUncovered chosen.new.items write.now row.now }
     ensures capacity { vec_capacity chosen.old ≤ vec_capacity chosen.new }
 {
-    put_row(chosen, row, write.bytes.remaining());
+    put_row(chosen, row, write.bytes.len());
     deselect_covered(chosen.as_mut_slice(), write.offset, &write.holes);
 }
 
@@ -78,11 +78,11 @@ fn replay_entry(bytes: &mut Bytes, entry: &Entry, rows: &[(u64, Vec<bool>)], cho
         Entry::Write(write) => {
             put_choices(chosen, write, choices_in(rows, write.number));
             let offset = write.offset as usize;
-            overlay::write_chosen(bytes, offset, &write.bytes, chosen).unwrap();
+            overlay::write_chosen_slice(bytes, offset, &write.bytes, chosen).unwrap();
         }
         Entry::Resize(len) => overlay::resize(bytes, *len as usize).unwrap(),
         Entry::Range(range) => {
-            overlay::write(bytes, range.offset as usize, &range.bytes).unwrap();
+            overlay::write_slice(bytes, range.offset as usize, &range.bytes).unwrap();
         }
         Entry::Marker(_) => (),
     }

@@ -14,8 +14,8 @@ use blob_pending::room::Room;
 pub struct Piece {
     offset: u64,
     bytes: IoBufs,
-    copy: IoBufs,
-    ghost same: { copy ≡ bytes },
+    copy: Vec<u8>,
+    ghost same: { copy.items ≡ bytes },
     ghost some: { 0 < length bytes },
     ghost fits: { offset + length bytes < 2 ^ 64 },
 }
@@ -37,7 +37,7 @@ impl Piece {
     {
         let part = &bytes[span.start..span.end];
         let first = IoBufs::from_vec(Vec::from_slice(*bytes.allocator(), part)?)?;
-        let copy = IoBufs::from_vec(Vec::from_slice(*bytes.allocator(), part)?)?;
+        let copy = Vec::from_slice(*bytes.allocator(), part)?;
         Ok(Piece {
             offset: offset + span.start as u64,
             bytes: first,

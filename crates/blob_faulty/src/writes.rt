@@ -27,14 +27,14 @@ impl<S: blob_base::Storage, R> Storage<S, R> {
         &mut self,
         list: usize,
         offset: u64,
-        bytes: IoBufs,
+        bytes: Vec<u8>,
         config: WriteConfig,
     )
         requires room { HasRoomIn self.old.lists.all.lists.items list Room.Entry }
-        requires some { 0 < length bytes }
-        requires fits { offset + length bytes < 2 ^ 64 }
+        requires some { 0 < length bytes.items }
+        requires fits { offset + length bytes.items < 2 ^ 64 }
         requires left { self.old.next_write < 2 ^ 64 - 1 }
-        ensures lists { GainsWrite S.place self.old self.new list offset bytes config }
+        ensures lists { GainsWrite S.place self.old self.new list offset bytes.items config }
         ensures rest { self.new ≡ record self.old { lists = self.new.lists; next_write = self.old.next_write + 1 } }
     {
         let number = self.next_write;
@@ -119,7 +119,7 @@ impl<B> Blob<B> {
         if store.next_write == u64::MAX {
             return Err(Error::GenerationsExhausted);
         }
-        let copy = bytes.to_bufs(store.alloc())?;
+        let copy = bytes.to_vec(store.alloc())?;
         let list = self.room_for(store, Room::Entry)?;
         self.write_unrecorded(store, offset, bytes)?;
         store.record_write(list, offset, copy, config);
@@ -137,14 +137,14 @@ impl<B> Blob<B> {
         list: usize,
         offset: u64,
         bytes: IoBufs,
-        copy: IoBufs,
+        copy: Vec<u8>,
     ) -> Result<(), Error>
     where
         B: blob_base::Blob<S>,
         requires some { 0 < length bytes }
         requires fits { offset + length bytes < 2 ^ 64 }
-        requires len { length copy ≤ length bytes }
-        requires copied { has_barrier (pending_of S.place store.old (B.place self.old.inner)) ≡ true → copy ≡ bytes }
+        requires len { length copy.items ≤ length bytes }
+        requires copied { has_barrier (pending_of S.place store.old (B.place self.old.inner)) ≡ true → copy.items ≡ bytes }
         requires room { HasListRoom S.Durable B.Blob self.old store.old list ((offset, offset + length bytes) ∷ []) }
         ensures allowed { B.allows_write self.old.inner store.old.inner offset bytes true (refused result) }
         ensures asked { B.leaves (Write offset bytes true) self.old.inner store.old.inner (refused result) self.new.inner store.new.inner }

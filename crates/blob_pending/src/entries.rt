@@ -11,7 +11,6 @@ ghost use Rattle.blob_pending.specs.Views.{view, views, pared_by, is_left, left_
 
 use crate::bounds::BlockBounds;
 use crate::entry::{DurableRange, Entry};
-use blob_base::IoBufs;
 use std::alloc::AllocError;
 
 /// Reserves capacity in the writes for the holes of `count` ranges between `start` and `end`.
@@ -147,14 +146,14 @@ pub(crate) fn lay(
     queues: bool,
     offset: u64,
     len: u64,
-    copy: IoBufs,
+    copy: Vec<u8>,
 )
     requires queued { queues ≡ has_barrier (views entries.old.items) }
     requires bounded { AreBounded bounds.old (views entries.old.items) }
     requires counted { CountsCovered covered.old (views entries.old.items) }
     requires room { CanCut offset len (λ hs. HasRoomsFor hs entries.old) }
-    requires copied { length copy ≤ len }
-    ensures left { LaysRange offset len copy (left_in entries.old.items) (left_in entries.new.items) }
+    requires copied { length copy.items ≤ len }
+    ensures left { LaysRange offset len copy.items (left_in entries.old.items) (left_in entries.new.items) }
     ensures marks { marks_of (views entries.new.items) ≡ marks_of (views entries.old.items) }
     ensures queued { has_barrier (views entries.new.items) ≡ queues }
     ensures bounded { AreBounded bounds.new (views entries.new.items) }

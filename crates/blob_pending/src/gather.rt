@@ -24,7 +24,7 @@ fn gather_unmarked(draws: &mut Vec<Draw>, entries: &[Entry]) -> Result<(), Alloc
             Entry::Write(write) if !write.is_covered() => draws.push(Draw {
                 number: write.number,
                 offset: write.offset,
-                len: write.bytes.remaining(),
+                len: write.bytes.len(),
                 mode: write.mode,
                 rate: write.rate,
             })?,

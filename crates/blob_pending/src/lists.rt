@@ -180,24 +180,24 @@ impl<S: Durable> Lists<S> {
 
     /// Returns the `copy` for `lay`: a copy of the bytes if the list at `i` queues durable ranges, otherwise no bytes. The only
     /// error is `Memory`.
-    pub fn copy_for(&self, i: usize, bytes: &IoBufs) -> Result<IoBufs, Error>
+    pub fn copy_for(&self, i: usize, bytes: &IoBufs) -> Result<Vec<u8>, Error>
         requires { i < vec_len self.now.all.lists }
-        ensures copied { IfOk result (λ copy. IsCopyAt S.place self.now.all.lists.items i bytes.now copy) }
-        ensures len { IfOk result (λ copy. length copy ≤ length bytes.now) }
+        ensures copied { IfOk result (λ copy. IsCopyAt S.place self.now.all.lists.items i bytes.now copy.items) }
+        ensures len { IfOk result (λ copy. length copy.items ≤ length bytes.now) }
         ensures memory { OnErr result (IsMemory result) }
     {
         if self.all.lists[i].queues {
-            return bytes.copied();
+            return bytes.copied()?.coalesce();
         }
-        Ok(IoBufs::new(*self.all.lists.allocator()))
+        Ok(Vec::new(*self.all.lists.allocator()))
     }
 
     /// Updates the list at `i` for a durable range. The list has capacity for it. `copy` has the range's bytes if it is queued.
-    pub fn lay(&mut self, i: usize, offset: u64, len: u64, copy: IoBufs)
+    pub fn lay(&mut self, i: usize, offset: u64, len: u64, copy: Vec<u8>)
         requires inside { i < vec_len self.old.all.lists }
         requires room { CanCut offset len (HasRangesAt self.old.all.lists.items i) }
-        requires copied { length copy ≤ len }
-        ensures lists { LaysAt S.place self.old.all.lists.items self.new.all.lists.items i offset len copy }
+        requires copied { length copy.items ≤ len }
+        ensures lists { LaysAt S.place self.old.all.lists.items self.new.all.lists.items i offset len copy.items }
         ensures at { (o : Place) → IsAt (held S.place self.old.all.lists.items) i o → IsAt (held S.place self.new.all.lists.items) i o }
         ensures room { KeepsRest offset len (HasRangesAt self.old.all.lists.items i) (HasRangesAt self.new.all.lists.items i) }
         ensures len { vec_len self.new.all.lists ≡ vec_len self.old.all.lists }
