@@ -1,9 +1,9 @@
 //! The bytes of one write: owned pieces, or a borrowed slice.
 ghost use Rattle.std.specs.Prelude.{◌≡◌, ℕ, List, true, false, OnOk, OnErr, IfOk, length};
 ghost use Rattle.blob_header.specs.Refusals.{refused, IsMemory};
-ghost use Rattle.blob_model.specs.Directory.{is_current};
 ghost use Rattle.blob_model.specs.Live.{live_written};
 ghost use Rattle.blob_base.specs.HandleCalls.{Write};
+ghost use Rattle.blob_faulty.specs.Allowed.{HasEnded};
 
 use blob_base::{Durable, Error, IoBufs, WriteOptions};
 use std::alloc::Global;
@@ -40,7 +40,7 @@ pub(crate) trait Payload<S: Durable, B: blob_base::Blob<S>>: Drop {
         ensures memory { IsMemory result → (B.live blob.new ≡ B.live blob.old) × (S.durable store.new ≡ S.durable store.old) }
         ensures direct_live { B.is_direct ≡ true → OnErr result (B.live blob.new ≡ B.live blob.old) }
         ensures direct_durable { B.is_direct ≡ true → OnErr result (S.durable store.new ≡ S.durable store.old) }
-        ensures stale { is_current (S.directory store.old) (B.place blob.old) ≡ false → S.durable store.new ≡ S.durable store.old }
+        ensures stale { HasEnded (S.directory store.old) (B.place blob.old) → S.durable store.new ≡ S.durable store.old }
         ensures directory { S.directory store.new ≡ S.directory store.old }
         ensures place { B.place blob.new ≡ B.place blob.old };
 }
