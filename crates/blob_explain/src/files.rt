@@ -5,7 +5,7 @@ ghost use Rattle.blob_model.specs.Draws.{row_of};
 ghost use Rattle.blob_explain.specs.Choices.{HasChoices, HaveChoices};
 
 use crate::bases::{Bases, Range};
-use blob_base::{Durable, Error, IoBufs};
+use blob_base::{Durable, Error};
 use blob_lab::lab::Wrapper;
 use blob_memory::Origin;
 use blob_pending::entries::unmarked;
@@ -281,7 +281,7 @@ fn item_of(alloc: Global, entry: &Entry) -> Result<Option<Item>, Error> {
             Item::Write(Write {
                 number: Some(write.number),
                 offset: write.offset,
-                bytes: bytes_of(alloc, &write.bytes)?,
+                bytes: Vec::from_slice(alloc, &write.bytes)?,
                 holes,
                 kept: Vec::new(alloc),
             })
@@ -289,17 +289,9 @@ fn item_of(alloc: Global, entry: &Entry) -> Result<Option<Item>, Error> {
         Entry::Resize(len) => Item::Resize(*len),
         Entry::Range(range) => Item::Durable {
             offset: range.offset,
-            bytes: bytes_of(alloc, &range.bytes)?,
+            bytes: Vec::from_slice(alloc, &range.bytes)?,
         },
         Entry::Write(_) | Entry::Marker(_) => return Ok(None),
     };
     Ok(Some(item))
-}
-
-fn bytes_of(alloc: Global, bufs: &IoBufs) -> Result<Vec<u8>, Error> {
-    let mut bytes = Vec::with_capacity(alloc, bufs.remaining())?;
-    for piece in bufs.pieces() {
-        bytes.extend_from_slice(piece)?;
-    }
-    Ok(bytes)
 }

@@ -30,10 +30,14 @@ Made leaves (call ∷ calls) answer b s c t = (IsSome answer × leaves call b s 
 abbrev pub run_calls : List Run → List HandleCall
 run_calls rs = map (λ r. Write r.0 r.1 true) rs
 
--- before them a reservation up to the last one's end
+-- a reservation up to the last one's end
+abbrev pub reserve_call : List Run → HandleCall
+reserve_call rs = Reserve (last_end 0 rs)
+
+-- the reservation, and then the writes
 abbrev pub kept_calls : List Run → List HandleCall
 kept_calls [] = []
-kept_calls (r ∷ rs) = Reserve (last_end 0 (r ∷ rs)) ∷ run_calls (r ∷ rs)
+kept_calls (r ∷ rs) = reserve_call (r ∷ rs) ∷ run_calls (r ∷ rs)
 
 -- some error is possible
 pub record Refuses (inner : Allowed) : Type 0 where

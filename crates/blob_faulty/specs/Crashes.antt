@@ -6,6 +6,7 @@ use Rattle.blob_model.specs.Draws.{drawn, chosen_by}
 use Rattle.blob_model.specs.Durable.{Durable, with_changed}
 use Rattle.blob_model.specs.Files.{Files, all_needs, after_crash}
 use Rattle.blob_model.specs.Holes.{in_holes}
+use Rattle.blob_model.specs.Log.{Choices}
 use Rattle.blob_model.specs.Order.{ArePlacesApart}
 use Rattle.blob_model.specs.Pending.{replay}
 use Rattle.blob_model.specs.Places.{Place}
@@ -20,6 +21,10 @@ use Rattle.blob_pending.specs.declared.write.PendingWrite.{PendingWrite}
 use Rattle.blob_faulty.specs.Keeps.{OverMemory, IsFor}
 use Rattle.blob_faulty.specs.Wrapper.{inner_of, rng_of, pending_of}
 use Rattle.blob_memory.specs.Store.{durable}
+
+-- the choices of a table of rows
+abbrev pub chosen_in : List (ℕ × Vec Bool Global) → Choices
+chosen_in rows = chosen_by (rows_in rows)
 
 -- if the wrapper represented files, the generator drew these rows, for the writes that need a draw in their logs
 abbrev pub CrashDraws : {R : Type 0} → (R → Stream) → OverMemory R → OverMemory R → Selections → Type 0
@@ -47,5 +52,5 @@ StaysChosen offset covered old new = (i : ℕ) → i < length old → slice_inde
 
 -- for each byte of a write the row's choice, except those that a later durable range covers
 abbrev pub ChoosesUncovered : List Bool → PendingWrite → List Bool → Type 0
-ChoosesUncovered chosen write row = (i : ℕ) → i < length write.bytes
+ChoosesUncovered chosen write row = (i : ℕ) → i < length write.bytes.items
     → slice_index_or chosen i false ≡ (not (in_holes (ranges write.holes.items) (write.offset + i)) && slice_index_or row i false)

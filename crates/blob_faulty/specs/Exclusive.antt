@@ -1,14 +1,18 @@
 -- An exclusive open with `admit` over the memory store: what it may return and what it leaves.
-use Rattle.std.specs.Prelude.{◌≡◌, ℕ, List, Option, Some, None}
+use Rattle.std.specs.Prelude.{◌≡◌, ℕ, List, Option, Some, None, Result}
 use Rattle.std.specs.declared.ops.RangeInclusive.{RangeInclusive}
 use Rattle.rand_core.specs.Stream.{Stream}
-use Rattle.blob_header.specs.Refusals.{Refusal}
+use Rattle.blob_header.specs.Refusals.{Refusal, refused}
+use Rattle.blob_header.specs.declared.error.Error.{Error}
 use Rattle.blob_header.specs.Versions.{lower, upper}
 use Rattle.blob_header.specs.declared.version.BlobVersion.{BlobVersion}
 use Rattle.blob_opens.specs.declared.opens.Opens.{Opens}
 use Rattle.blob_opens.specs.OpenNames.{OpenNames, OpenAnswer, Registration}
-use Rattle.blob_opens.specs.Opens.{IsMade, names_of}
-use Rattle.blob_faulty.specs.Admitted.{OpensAlone, OpensAdmitted, RefusesOpen, MayOpen, LeavesAdmitted}
+use Rattle.blob_opens.specs.Opens.{IsMade, names_of, store_handle}
+use Rattle.blob_opens.specs.declared.open.Blob as registered
+use Rattle.blob_faulty.specs.declared.blob.Blob.{Blob}
+use Rattle.blob_memory.specs.declared.blob.Blob as memory_blob
+use Rattle.blob_faulty.specs.Admitted.{OpensAlone, OpensAdmitted, RefusesOpen, MayOpen, LeavesAdmitted, FindsVersions}
 use Rattle.blob_faulty.specs.Keeps.{OverMemory}
 use Rattle.blob_faulty.specs.Wrapper.{inner_of}
 use Rattle.blob_memory.specs.Store.{directory, durable}
@@ -30,8 +34,12 @@ module _ {R : Type 0} (before after : OverMemory R) (p n : List ℕ) (first last
 
 -- the same for a range of versions and a registry
 module _ {R : Type 0} (before after : OverMemory R) (p n : List ℕ) (versions : RangeInclusive BlobVersion) where
-  abbrev pub AnswersExclusive : (R → Stream) → Opens → Option Refusal → Type 0
-  AnswersExclusive stream registry answer = ExclusiveAnswer before after p n (lower versions) (upper versions) stream (names_of registry) answer
+  abbrev pub AnswersExclusive : {T : Type 0} → (R → Stream) → Opens → Result T Error → Type 0
+  AnswersExclusive stream registry result = ExclusiveAnswer before after p n (lower versions) (upper versions) stream (names_of registry) (refused result)
+
+  -- what an accepted one finds: the registry's handle, the size and the version
+  abbrev pub FindsExclusive : registered.Blob (Blob memory_blob.Blob) × ℕ × BlobVersion → Type 0
+  FindsExclusive opened = FindsVersions before after p n versions (store_handle opened.0) opened.1 opened.2.0
 
 -- the registration of the next open of a name
 abbrev pub next_registration : Opens → List ℕ → List ℕ → Registration

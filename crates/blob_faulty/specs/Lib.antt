@@ -14,6 +14,7 @@ pub mod Outcomes
 pub mod OverMemory
 pub mod Pieces
 pub mod Ready
+pub mod StepResults
 pub mod Syncs
 pub mod Wrapper
 pub mod Writes

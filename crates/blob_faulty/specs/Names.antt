@@ -1,5 +1,6 @@
 -- What opens and removals leave of a wrapper, and the files that it then represents.
-use Rattle.std.specs.Prelude.{◌≡◌, ℕ, ◌≤◌, Bool, false, List, [], cond, Option, Some, None, IsSome, MatchBool}
+use Rattle.std.specs.Prelude.{◌≡◌, ℕ, ◌≤◌, Bool, false, List, [], cond, Option, Some, None, IsSome, MatchBool, Result, option_copied}
+use Rattle.std.specs.Borrow.{Bor}
 use Rattle.std.specs.Range.{range_inclusive_exhausted}
 use Rattle.std.specs.declared.ops.RangeInclusive.{RangeInclusive}
 use Rattle.rand_core.specs.Stream.{Stream}
@@ -10,7 +11,8 @@ use Rattle.blob_model.specs.Files.{Files, after_open, after_remove, is_removed_b
 use Rattle.blob_model.specs.Opening.{IsOpened}
 use Rattle.blob_model.specs.Pending.{Pending}
 use Rattle.blob_model.specs.Places.{Place}
-use Rattle.blob_header.specs.Refusals.{Refusal}
+use Rattle.blob_header.specs.Refusals.{Refusal, refused}
+use Rattle.blob_header.specs.declared.error.Error.{Error}
 use Rattle.blob_header.specs.Versions.{lower, upper}
 use Rattle.blob_header.specs.declared.version.BlobVersion.{BlobVersion}
 use Rattle.blob_faulty.specs.declared.storage.Storage.{Storage}
@@ -54,6 +56,13 @@ MayRemove stream allows w p n = injected_or (draw (config_of w).remove_rate (str
 
 abbrev pub Removes : {S R O : Type 0} → stores.Ghosts S O → (R → Stream) → (S → List ℕ → Option (List ℕ) → Option Refusal → S → Type 0) → Storage S R O → List ℕ → Option (List ℕ) → Option Refusal → Storage S R O → Type 0
 Removes store stream asked before p n answer after = RemoveLeaves store.place stream (asked (inner_of before) p n answer) answer (is_removed_by (store.directory (inner_of before)) p n) before after
+
+-- the same for the code's name and result
+abbrev pub MayRemoveNamed : {S R O : Type 0} → (R → Stream) → (S → List ℕ → Option (List ℕ) → Allowed) → Storage S R O → List ℕ → Option (Bor (List ℕ)) → Allowed
+MayRemoveNamed stream allows w p name = MayRemove stream allows w p (option_copied name)
+
+abbrev pub RemovesNamed : {S R O T : Type 0} → stores.Ghosts S O → (R → Stream) → (S → List ℕ → Option (List ℕ) → Option Refusal → S → Type 0) → Storage S R O → List ℕ → Option (Bor (List ℕ)) → Result T Error → Storage S R O → Type 0
+RemovesNamed store stream asked before p name result after = Removes store stream asked before p (option_copied name) (refused result) after
 
 -- the store inside shows the same directory and durable bytes
 abbrev pub SameStore : {S R O : Type 0} → stores.Ghosts S O → Storage S R O → Storage S R O → Type 0

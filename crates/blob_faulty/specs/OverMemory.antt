@@ -1,11 +1,12 @@
 -- The memory store and its handles, as the ones inside a wrapper.
-use Rattle.std.specs.Prelude.{◌≡◌, ℕ, List, Option}
+use Rattle.std.specs.Prelude.{◌≡◌, ℕ, List, Result}
 use Rattle.rand_core.specs.Stream.{Stream}
 use Rattle.blob_base.specs.declared.options.WriteOptions.{WriteOptions}
 use Rattle.blob_base.specs.declared.storage.Blob as handles
 use Rattle.blob_base.specs.declared.storage.Durable as stores
 use Rattle.blob_base.specs.Options.{is_sync}
-use Rattle.blob_header.specs.Refusals.{Refusal}
+use Rattle.blob_header.specs.Refusals.{refused}
+use Rattle.blob_header.specs.declared.error.Error.{Error}
 use Rattle.blob_model.specs.Durable.{Durable}
 use Rattle.blob_model.specs.Places.{Place}
 use Rattle.blob_memory.specs.declared.blob.Blob as memory_blob
@@ -46,8 +47,8 @@ module _ {R : Type 0} (stream : R → Stream) (offset : ℕ) (bytes : List ℕ) 
   abbrev pub MayWriteFrom : Allowed
   MayWriteFrom = MayWrite memory_handle b before stream offset bytes (is_sync options)
 
-  abbrev pub WriteFromLeaves : Option Refusal → Blob memory_blob.Blob → OverMemory R → Type 0
-  WriteFromLeaves answer c after = WriteLeaves memory_store memory_handle stream offset bytes (is_sync options) b before answer c after
+  abbrev pub WriteFromLeaves : {T : Type 0} → Result T Error → Blob memory_blob.Blob → OverMemory R → Type 0
+  WriteFromLeaves result c after = WriteLeaves memory_store memory_handle stream offset bytes (is_sync options) b before (refused result) c after
 
 -- the handle's incarnation has ended
 abbrev pub IsStaleHandle : {R : Type 0} → Blob memory_blob.Blob → OverMemory R → Type 0

@@ -1,7 +1,7 @@
 //! `admit`, which retires the pending list of a name.
-ghost use Rattle.std.specs.Prelude.{◌≡◌, Some, filter, not};
+ghost use Rattle.std.specs.Prelude.{◌≡◌, Some, filter};
 ghost use Rattle.blob_model.specs.Files.{is_removed_by};
-ghost use Rattle.blob_faulty.specs.Admitted.{Admits};
+ghost use Rattle.blob_faulty.specs.Admitted.{Admits, is_of_another};
 ghost use Rattle.blob_memory.specs.Store.{directory};
 
 use crate::retired::Retired;
@@ -29,7 +29,7 @@ fn drop_current(
     partition: &str,
     name: &[u8],
 )
-    ensures { lists.new.items ≡ filter (λ i. not (is_removed_by (directory inner.now) partition.now (Some name.now) i.origin)) lists.old.items }
+    ensures { lists.new.items ≡ filter (is_of_another (directory inner.now) partition.now name.now) lists.old.items }
 {
     lists.retain(|list| !is_current_of(inner, &list.origin, partition, name));
 }

@@ -49,7 +49,7 @@ impl<B> Blob<B> {
 }
 
 impl<B> Blob<B> {
-    ghost use Rattle.blob_faulty.specs.Allowed.{IsCurrent, IsStale, WritesDurable};
+    ghost use Rattle.blob_faulty.specs.Allowed.{IsCurrent, IsStale, WritesIfSync};
     ghost use Rattle.blob_faulty.specs.HandleLeaves.{WriteLeaves};
 
     /// Performs `write_at` of owned pieces and `write_from` of a slice: draws the outcome, then carries it out.
@@ -67,7 +67,7 @@ impl<B> Blob<B> {
         ensures allowed { MayWrite B.Blob self.old store.old R.stream offset (P.bytes bytes) sync (refused result) }
         ensures leaves { WriteLeaves S.Durable B.Blob R.stream offset (P.bytes bytes) sync self.old store.old (refused result) self.new store.new }
         ensures live { OnOk result (B.live self.new.inner ≡ live_written sync (B.live self.old.inner) offset (P.bytes bytes)) }
-        ensures synced { OnOk result (sync ≡ true → WritesDurable S.Durable B.Blob self.old store.old store.new offset (P.bytes bytes)) }
+        ensures synced { OnOk result (WritesIfSync S.Durable B.Blob self.old store.old store.new sync offset (P.bytes bytes)) }
         ensures plain { OnOk result (sync ≡ false → S.durable store.new.inner ≡ S.durable store.old.inner) }
         ensures current { OnOk result (sync ≡ true → P.bytes bytes ≢ [] → IsCurrent S.Durable B.Blob self.old store.old) }
         ensures stale { IsStale S.Durable B.Blob self.old store.old → S.durable store.new.inner ≡ S.durable store.old.inner }

@@ -59,12 +59,13 @@ impl Blob<blob_memory::Blob> {
         options: WriteOptions,
     ) -> Result<(), Error>
         ensures allowed { MayWriteFrom R.stream offset bytes.now options self.old store.old (refused result) }
-        ensures leaves { WriteFromLeaves R.stream offset bytes.now options self.old store.old (refused result) self.new store.new }
+        ensures leaves { WriteFromLeaves R.stream offset bytes.now options self.old store.old result self.new store.new }
         ensures live { OnOk result (live_of self.new ≡ live_written (is_sync options) (live_of self.old) offset bytes.now) }
         ensures synced { OnOk result (is_sync options ≡ true → MakesDurable self.old store.old store.new offset bytes.now) }
         ensures plain { OnOk result (is_sync options ≡ false → durable_of store.new ≡ durable_of store.old) }
         ensures stale { IsStaleHandle self.old store.old → durable_of store.new ≡ durable_of store.old }
-        ensures memory { IsMemory result → (live_of self.new ≡ live_of self.old) × (durable_of store.new ≡ durable_of store.old) }
+        ensures memory_live { IsMemory result → live_of self.new ≡ live_of self.old }
+        ensures memory_durable { IsMemory result → durable_of store.new ≡ durable_of store.old }
         ensures directory { directory (inner_of store.new) ≡ directory (inner_of store.old) }
         ensures place { place (inside self.new) ≡ place (inside self.old) }
     {

@@ -4,7 +4,7 @@ ghost use Rattle.blob_base.specs.Handles.{outcome_of, marker_of};
 ghost use Rattle.blob_header.specs.Refusals.{refused};
 ghost use Rattle.blob_draws.specs.Answers.{injected_or};
 ghost use Rattle.blob_draws.specs.Faults.{draw};
-ghost use Rattle.blob_faulty.specs.Names.{OpenLeaves, MayRemove, Removes, RemovesNames, RemovesBytes, RemovesFiles, ScanLeaves, FinishLeaves, SameStore, Steps};
+ghost use Rattle.blob_faulty.specs.Names.{OpenLeaves, MayRemove, MayRemoveNamed, Removes, RemovesNamed, RemovesNames, RemovesBytes, RemovesFiles, ScanLeaves, FinishLeaves, SameStore, Steps};
 ghost use Rattle.blob_faulty.specs.Wrapper.{inner_of, rng_of, config_of, inside, size_of};
 
 use crate::blob::Blob;
@@ -25,8 +25,8 @@ impl<S: blob_base::Storage, R: Rng> Storage<S, R> {
     /// `Injected`; then those of the inner store: over memory `PartitionNameInvalid`, `PartitionMissing`, `BlobMissing`, or
     /// `Memory` for their texts. Nothing is removed or retired.
     pub fn remove_retired(&mut self, partition: &str, name: Option<&[u8]>) -> Result<Retired, Error>
-        ensures allowed { MayRemove R.stream S.allows_remove self.old partition.now (option_copied name.entry) (refused result) }
-        ensures leaves { Removes S.Durable R.stream S.leaves_remove self.old partition.now (option_copied name.entry) (refused result) self.new }
+        ensures allowed { MayRemoveNamed R.stream S.allows_remove self.old partition.now name.entry (refused result) }
+        ensures leaves { RemovesNamed S.Durable R.stream S.leaves_remove self.old partition.now name.entry result self.new }
         ensures directory { OnOk result (RemovesNames S.Durable self.old self.new partition.now (option_copied name.entry)) }
         ensures durable { OnOk result (RemovesBytes S.Durable self.old self.new partition.now (option_copied name.entry)) }
         ensures err { OnErr result (SameStore S.Durable self.old self.new) }

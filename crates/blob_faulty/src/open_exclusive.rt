@@ -1,12 +1,10 @@
 //! Exclusive opens with `admit`, in one call.
 ghost use Rattle.std.specs.Prelude.{◌≡◌, OnOk, OnErr, IfOk};
-ghost use Rattle.blob_header.specs.Refusals.{refused};
-ghost use Rattle.blob_faulty.specs.Admitted.{FindsVersions};
-ghost use Rattle.blob_faulty.specs.Exclusive.{AnswersExclusive, next_registration};
+ghost use Rattle.blob_faulty.specs.Exclusive.{AnswersExclusive, FindsExclusive, next_registration};
 ghost use Rattle.blob_faulty.specs.Keeps.{LosesNothing};
 ghost use Rattle.blob_faulty.specs.Names.{AreVersions};
 ghost use Rattle.blob_opens.specs.OpenNames.{opened};
-ghost use Rattle.blob_opens.specs.Opens.{names_of, registration_of, store_handle as handle_of};
+ghost use Rattle.blob_opens.specs.Opens.{names_of, registration_of};
 
 use crate::blob::Blob;
 use crate::laws::keeps::accepted_opens;
@@ -34,11 +32,11 @@ impl<R: Rng> Storage<blob_memory::Storage, R> {
         versions: RangeInclusive<BlobVersion>,
     ) -> Result<(open::Blob<Blob<blob_memory::Blob>>, u64, BlobVersion), Error>
         requires { AreVersions versions }
-        ensures answer { AnswersExclusive self.old self.new partition.now name.now versions R.stream registry.old (refused result) }
+        ensures answer { AnswersExclusive self.old self.new partition.now name.now versions R.stream registry.old result }
         ensures registered { OnOk result (names_of registry.new ≡ opened (names_of registry.old) partition.now name.now) }
         ensures err { OnErr result (names_of registry.new ≡ names_of registry.old) }
         ensures handle { IfOk result (λ o. registration_of o.0 ≡ next_registration registry.old partition.now name.now) }
-        ensures accepted { IfOk result (λ o. FindsVersions self.old self.new partition.now name.now versions (handle_of o.0) o.1 o.2.0) }
+        ensures accepted { IfOk result (λ o. FindsExclusive self.old self.new partition.now name.now versions o) }
         ensures keeps { LosesNothing self.old self.new }
     {
         opens::<blob_memory::Storage, R>();

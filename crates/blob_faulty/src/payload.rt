@@ -1,9 +1,9 @@
 //! The bytes of one write: owned pieces, or a borrowed slice.
 ghost use Rattle.std.specs.Prelude.{◌≡◌, ℕ, List, true, false, OnOk, OnErr, IfOk, length};
 ghost use Rattle.blob_header.specs.Refusals.{refused, IsMemory};
-ghost use Rattle.blob_model.specs.Directory.{is_current};
 ghost use Rattle.blob_model.specs.Live.{live_written};
 ghost use Rattle.blob_base.specs.HandleCalls.{Write};
+ghost use Rattle.blob_faulty.specs.Allowed.{HasEnded};
 
 use blob_base::{Durable, Error, IoBufs, WriteOptions};
 use std::alloc::Global;
@@ -17,9 +17,9 @@ pub(crate) trait Payload<S: Durable, B: blob_base::Blob<S>>: Drop {
     fn len(&self) -> usize
         ensures { result ≡ length (bytes self.now) };
 
-    /// Returns a copy of the bytes. The only error is `Memory`.
-    fn to_bufs(&self, alloc: Global) -> Result<IoBufs, Error>
-        ensures ok { IfOk result (λ copy. copy ≡ bytes self.now) }
+    /// Returns a copy of the bytes in one allocation. The only error is `Memory`.
+    fn to_vec(&self, alloc: Global) -> Result<Vec<u8>, Error>
+        ensures ok { IfOk result (λ copy. copy.items ≡ bytes self.now) }
         ensures memory { OnErr result (IsMemory result) };
 
     /// Returns the bytes as owned pieces. Copies a slice. The only error is `Memory`.
@@ -40,9 +40,21 @@ pub(crate) trait Payload<S: Durable, B: blob_base::Blob<S>>: Drop {
         ensures memory { IsMemory result → (B.live blob.new ≡ B.live blob.old) × (S.durable store.new ≡ S.durable store.old) }
         ensures direct_live { B.is_direct ≡ true → OnErr result (B.live blob.new ≡ B.live blob.old) }
         ensures direct_durable { B.is_direct ≡ true → OnErr result (S.durable store.new ≡ S.durable store.old) }
-        ensures stale { is_current (S.directory store.old) (B.place blob.old) ≡ false → S.durable store.new ≡ S.durable store.old }
+        ensures stale { HasEnded (S.directory store.old) (B.place blob.old) → S.durable store.new ≡ S.durable store.old }
         ensures directory { S.directory store.new ≡ S.directory store.old }
         ensures place { B.place blob.new ≡ B.place blob.old };
+}
+
+/// Copies the bytes of all pieces into one vector. The only error is `Memory`.
+fn joined(alloc: Global, bufs: &IoBufs) -> Result<Vec<u8>, Error>
+    ensures ok { IfOk result (λ bytes. bytes.items ≡ bufs.now) }
+    ensures memory { OnErr result (IsMemory result) }
+{
+    let mut bytes = Vec::with_capacity(alloc, bufs.remaining())?;
+    for piece in bufs.pieces() {
+        bytes.extend_from_slice(piece)?;
+    }
+    Ok(bytes)
 }
 
 impl<S: Durable, B: blob_base::Blob<S>> Payload<S, B> for IoBufs {
@@ -52,9 +64,8 @@ impl<S: Durable, B: blob_base::Blob<S>> Payload<S, B> for IoBufs {
         self.remaining()
     }
 
-    fn to_bufs(&self, alloc: Global) -> Result<IoBufs, Error> {
-        let _ = alloc;
-        self.copied()
+    fn to_vec(&self, alloc: Global) -> Result<Vec<u8>, Error> {
+        joined(alloc, self)
     }
 
     fn into_bufs(self, alloc: Global) -> Result<IoBufs, Error> {
@@ -74,8 +85,8 @@ impl Payload<blob_memory::Storage, blob_memory::Blob> for &[u8] {
         <[u8]>::len(*self)
     }
 
-    fn to_bufs(&self, alloc: Global) -> Result<IoBufs, Error> {
-        IoBufs::from_vec(Vec::from_slice(alloc, *self)?)
+    fn to_vec(&self, alloc: Global) -> Result<Vec<u8>, Error> {
+        Ok(Vec::from_slice(alloc, *self)?)
     }
 
     fn into_bufs(self, alloc: Global) -> Result<IoBufs, Error> {

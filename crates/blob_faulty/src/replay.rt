@@ -1,15 +1,14 @@
 //! The replay of pending entries over durable bytes, into capacity that was reserved before.
 ghost use Rattle.std.specs.Prelude.{◌≡◌, ◌<◌, ◌≤◌, ℕ, false, length, slice_index_or, vec_capacity, All};
 ghost use Rattle.blob_model.specs.Bytes.{between};
-ghost use Rattle.blob_model.specs.Draws.{chosen_by};
 ghost use Rattle.blob_model.specs.Holes.{in_holes};
 ghost use Rattle.blob_model.specs.Pending.{has_marker, replay, replayed, end_of, ends};
 ghost use Rattle.blob_pending.specs.Lists.{held, held_by};
 ghost use Rattle.blob_pending.specs.Ranges.{ranges};
 ghost use Rattle.blob_pending.specs.Replays.{width, widest, widest_of_all};
-ghost use Rattle.blob_faulty.specs.Crashes.{ChoosesUncovered, ReplaysList, ReplaysLists, StaysChosen};
+ghost use Rattle.blob_faulty.specs.Crashes.{chosen_in, ChoosesUncovered, ReplaysList, ReplaysLists, StaysChosen};
 ghost use Rattle.blob_faulty.specs.Ready.{IsReady, CanReplay};
-ghost use Rattle.blob_draws.specs.Rows.{rows_in, AreNumbered};
+ghost use Rattle.blob_draws.specs.Rows.{AreNumbered};
 ghost use Rattle.blob_pending.specs.Views.{view, left_in};
 ghost use Rattle.blob_pages.specs.Stored.{AreNow};
 ghost use Rattle.blob_memory.specs.Retained.{KeepsRoom};
@@ -58,12 +57,12 @@ fn deselect_covered(chosen: &mut [bool], offset: u64, holes: &[Hole])
 
 /// Sets `chosen` to a row's choices for a write, without the bytes that later durable ranges cover.
 fn put_choices(chosen: &mut Vec<bool>, write: &PendingWrite, row: &[bool])
-    requires { length write.now.bytes ≤ vec_capacity chosen.old }
-    ensures len { length chosen.new.items ≡ length write.now.bytes }
+    requires { length write.now.bytes.items ≤ vec_capacity chosen.old }
+    ensures len { length chosen.new.items ≡ length write.now.bytes.items }
     ensures each { ChoosesUncovered chosen.new.items write.now row.now }
     ensures capacity { vec_capacity chosen.old ≤ vec_capacity chosen.new }
 {
-    put_row(chosen, row, write.bytes.remaining());
+    put_row(chosen, row, write.bytes.len());
     deselect_covered(chosen.as_mut_slice(), write.offset, &write.holes);
 }
 
@@ -71,18 +70,18 @@ fn put_choices(chosen: &mut Vec<bool>, write: &PendingWrite, row: &[bool])
 fn replay_entry(bytes: &mut Bytes, entry: &Entry, rows: &[(u64, Vec<bool>)], chosen: &mut Vec<bool>)
     requires numbered { AreNumbered rows.now }
     requires room { CanReplay bytes.old (end_of (view entry.now)) (width (view entry.now)) chosen.old }
-    ensures bytes { AreNow bytes.old bytes.new (replayed bytes.old.items (view entry.now) (chosen_by (rows_in rows.now))) }
+    ensures bytes { AreNow bytes.old bytes.new (replayed bytes.old.items (view entry.now) (chosen_in rows.now)) }
     ensures capacity { vec_capacity chosen.old ≤ vec_capacity chosen.new }
 {
     match entry {
         Entry::Write(write) => {
             put_choices(chosen, write, choices_in(rows, write.number));
             let offset = write.offset as usize;
-            overlay::write_chosen(bytes, offset, &write.bytes, chosen).unwrap();
+            overlay::write_chosen_slice(bytes, offset, &write.bytes, chosen).unwrap();
         }
         Entry::Resize(len) => overlay::resize(bytes, *len as usize).unwrap(),
         Entry::Range(range) => {
-            overlay::write(bytes, range.offset as usize, &range.bytes).unwrap();
+            overlay::write_slice(bytes, range.offset as usize, &range.bytes).unwrap();
         }
         Entry::Marker(_) => (),
     }
@@ -98,7 +97,7 @@ fn replay_entries(
     requires unmarked { has_marker (left_in entries.now) ≡ false }
     requires numbered { AreNumbered rows.now }
     requires room { CanReplay bytes.old (ends (left_in entries.now)) (widest (left_in entries.now)) chosen.old }
-    ensures bytes { AreNow bytes.old bytes.new (replay (left_in entries.now) (chosen_by (rows_in rows.now)) bytes.old.items) }
+    ensures bytes { AreNow bytes.old bytes.new (replay (left_in entries.now) (chosen_in rows.now) bytes.old.items) }
     ensures capacity { vec_capacity chosen.old ≤ vec_capacity chosen.new }
 {
     for entry in entries {

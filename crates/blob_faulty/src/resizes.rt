@@ -1,13 +1,14 @@
 //! Resizes of the inner blob, and what they record.
-ghost use Rattle.std.specs.Prelude.{◌≡◌, [], ◌∷◌, OnErr};
-ghost use Rattle.blob_model.specs.Log.{Resized};
+ghost use Rattle.std.specs.Prelude.{◌≡◌, [], OnErr};
 ghost use Rattle.blob_header.specs.Refusals.{refused};
-ghost use Rattle.blob_draws.specs.Answers.{or_memory, allows_resize};
+ghost use Rattle.blob_draws.specs.Answers.{or_memory};
 ghost use Rattle.blob_draws.specs.Fates.{resize_fate_of};
 ghost use Rattle.blob_base.specs.HandleCalls.{Resize};
-ghost use Rattle.blob_faulty.specs.Asked.{Asks, AsksResize};
+ghost use Rattle.blob_faulty.specs.Allowed.{MayResizeAs};
+ghost use Rattle.blob_faulty.specs.Asked.{AsksResize};
+ghost use Rattle.blob_faulty.specs.StepResults.{CallsInner, MayCallInner, RecordsResize, ResizesAs, ReachesAs};
 ghost use Rattle.blob_faulty.specs.Wrapper.{KeepsDurable};
-ghost use Rattle.blob_faulty.specs.Writes.{Writes, Records, ReachesBy, ResizesBy, cut};
+ghost use Rattle.blob_faulty.specs.Writes.{Writes, cut};
 
 use crate::blob::Blob;
 use crate::storage::Storage;
@@ -26,7 +27,7 @@ impl<B> Blob<B> {
     where
         B: blob_base::Blob<S>,
         ensures allowed { B.allows_resize self.old.inner store.old.inner len (refused result) }
-        ensures asked { B.leaves (Resize len) self.old.inner store.old.inner (refused result) self.new.inner store.new.inner }
+        ensures asked { CallsInner B.Blob self.old store.old self.new store.new (Resize len) result }
         ensures wrote { Writes S.Durable B.Blob self.old store.old self.new store.new (cut len []) (refused result) }
         ensures untracked { OnErr result (self.new.size ≡ self.old.size) }
         ensures durable { S.durable store.new.inner ≡ S.durable store.old.inner }
@@ -46,8 +47,8 @@ impl<B> Blob<B> {
     where
         B: blob_base::Blob<S>,
         ensures allowed { or_memory (B.allows_resize self.old.inner store.old.inner len) (refused result) }
-        ensures asked { Asks B.Blob self.old store.old self.new store.new (Resize len) (refused result) }
-        ensures recorded { Records S.Durable B.Blob self.old store.old self.new store.new (cut len (Resized len ∷ [])) (refused result) }
+        ensures asked { MayCallInner B.Blob self.old store.old self.new store.new (Resize len) result }
+        ensures recorded { RecordsResize S.Durable B.Blob self.old store.old self.new store.new len result }
         ensures kept { KeepsDurable S.durable store.old store.new }
     {
         let list = self.room_for(store, Room::Entry)?;
@@ -66,10 +67,10 @@ impl<B> Blob<B> {
     ) -> Result<(), Error>
     where
         B: blob_base::Blob<S>,
-        ensures allowed { allows_resize (B.allows_resize self.old.inner store.old.inner) (resize_fate_of fate) len (refused result) }
+        ensures allowed { MayResizeAs B.Blob self.old store.old fate len (refused result) }
         ensures asked { AsksResize B.Blob self.old store.old self.new store.new (resize_fate_of fate) len (refused result) }
-        ensures resized { ResizesBy S.Durable B.Blob self.old store.old self.new store.new (resize_fate_of fate) len (refused result) }
-        ensures reached { ReachesBy S.Durable B.Blob self.old store.old self.new store.new (resize_fate_of fate) (refused result) }
+        ensures resized { ResizesAs S.Durable B.Blob self.old store.old self.new store.new fate len result }
+        ensures reached { ReachesAs S.Durable B.Blob self.old store.old self.new store.new fate result }
         ensures kept { KeepsDurable S.durable store.old store.new }
     {
         match fate {

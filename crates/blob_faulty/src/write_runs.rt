@@ -14,8 +14,8 @@ use blob_pending::room::Room;
 pub struct Piece {
     offset: u64,
     bytes: IoBufs,
-    copy: IoBufs,
-    ghost same: { copy ≡ bytes },
+    copy: Vec<u8>,
+    ghost same: { copy.items ≡ bytes },
     ghost some: { 0 < length bytes },
     ghost fits: { offset + length bytes < 2 ^ 64 },
 }
@@ -37,7 +37,7 @@ impl Piece {
     {
         let part = &bytes[span.start..span.end];
         let first = IoBufs::from_vec(Vec::from_slice(*bytes.allocator(), part)?)?;
-        let copy = IoBufs::from_vec(Vec::from_slice(*bytes.allocator(), part)?)?;
+        let copy = Vec::from_slice(*bytes.allocator(), part)?;
         Ok(Piece {
             offset: offset + span.start as u64,
             bytes: first,
@@ -95,13 +95,11 @@ impl<B> Blob<B> {
     ghost use Rattle.blob_model.specs.Directory.{is_current};
     ghost use Rattle.blob_header.specs.Refusals.{refused, WriteFailed};
     ghost use Rattle.blob_model.specs.Runs.{runs, AreRunsApart};
-    ghost use Rattle.blob_draws.specs.Answers.{or_memory, last_end};
-    ghost use Rattle.blob_faulty.specs.Allowed.{MayLay, MayLayKept, AllowsAsMuch, HasListRoom, IfRoomIsKept, HasInnerRoom};
-    ghost use Rattle.blob_base.specs.HandleCalls.{Reserve};
-    ghost use Rattle.blob_faulty.specs.Asked.{Asks, AsksRuns};
+    ghost use Rattle.blob_faulty.specs.Allowed.{MayLay, MayLayKept, MayReserve, AllowsAsMuch, HasListRoom, HasInnerRoom, ReservesRoom};
+    ghost use Rattle.blob_faulty.specs.Asked.{reserve_call};
     ghost use Rattle.blob_faulty.specs.Pieces.{run_of, runs_in, extents, EndsWithin};
-    ghost use Rattle.blob_draws.specs.Faults.{Failed};
-    ghost use Rattle.blob_faulty.specs.Writes.{LaysAll, RecordsRuns, FailsBy, StaysUnchanged};
+    ghost use Rattle.blob_faulty.specs.StepResults.{MayCallInner, AsksKept, LaysKept, LaysPart};
+    ghost use Rattle.blob_faulty.specs.Writes.{LaysAll, StaysUnchanged};
 
     /// Writes the runs after the first, lowest first. Returns `WriteFailed` if the inner blob rejects one. Those before it stay.
     fn lay_later<S: blob_base::Storage, R>(
@@ -171,10 +169,10 @@ impl<B> Blob<B> {
     where
         B: blob_base::Blob<S>,
         requires { AreRunsApart 0 (runs_in pieces.now) }
-        ensures allowed { or_memory (B.allows_reserve self.old.inner store.old.inner (last_end 0 (runs_in pieces.now))) (refused result) }
-        ensures asked { Asks B.Blob self.old store.old self.new store.new (Reserve (last_end 0 (runs_in pieces.now))) (refused result) }
+        ensures allowed { MayReserve B.Blob self.old store.old (runs_in pieces.now) (refused result) }
+        ensures asked { MayCallInner B.Blob self.old store.old self.new store.new (reserve_call (runs_in pieces.now)) result }
         ensures write_answers { AllowsAsMuch B.Blob self.old store.old self.new store.new }
-        ensures room { IfRoomIsKept S.Durable B.Blob self.old store.old (OnOk result (last_end 0 (runs_in pieces.now) ≤ B.room self.new.inner store.new.inner)) }
+        ensures room { ReservesRoom S.Durable B.Blob self.old store.old self.new store.new (runs_in pieces.now) result }
         ensures ranges { IfOk result (λ i. HasListRoom S.Durable B.Blob self.new store.new i (extents (runs_in pieces.now))) }
         ensures unchanged { StaysUnchanged S.Durable B.Blob self.old store.old self.new store.new }
     {
@@ -199,9 +197,9 @@ impl<B> Blob<B> {
         requires fits { offset + length (P.bytes bytes) < 2 ^ 64 }
         requires sized { kept.now ≢ [] → length kept.now ≡ length (P.bytes bytes) }
         ensures allowed { MayLayKept B.Blob self.old store.old (runs offset (P.bytes bytes) kept.now) (refused result) }
-        ensures asked { AsksRuns B.Blob self.old store.old self.new store.new (runs offset (P.bytes bytes) kept.now) (refused result) }
-        ensures recorded { RecordsRuns S.Durable B.Blob self.old store.old self.new store.new (runs offset (P.bytes bytes) kept.now) (refused result) }
-        ensures front { FailsBy S.Durable B.Blob self.old store.old self.new store.new (Failed kept.now) offset (P.bytes bytes) (refused result) }
+        ensures asked { AsksKept B.Blob self.old store.old self.new store.new offset (P.bytes bytes) kept.now result }
+        ensures laid { LaysKept S.Durable B.Blob self.old store.old self.new store.new offset (P.bytes bytes) kept.now result }
+        ensures front { LaysPart S.Durable B.Blob self.old store.old self.new store.new offset (P.bytes bytes) kept.now result }
     {
         if kept.is_empty() {
             return Ok(());

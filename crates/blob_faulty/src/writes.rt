@@ -1,14 +1,13 @@
 //! Writes of the inner blob, and what they record.
 ghost use Rattle.std.specs.Prelude.{◌≡◌, ◌≢◌, ◌≤◌, ◌<◌, ◌+◌, ◌-◌, ◌^◌, ◌∷◌, [], true, false, OnOk, OnErr, IfOk, length};
 ghost use Rattle.blob_header.specs.Refusals.{refused, IsMemory};
-ghost use Rattle.blob_draws.specs.Answers.{or_memory};
 ghost use Rattle.blob_model.specs.Pending.{has_barrier};
 ghost use Rattle.blob_pending.specs.Lists.{HasRoomIn, IsRoomAt, SameLists};
 ghost use Rattle.blob_base.specs.HandleCalls.{Write};
-ghost use Rattle.blob_faulty.specs.Allowed.{MayWritePlain, MayWriteBy, HasListRoom, LeavesListRoom};
-ghost use Rattle.blob_faulty.specs.Asked.{Asks, AsksWrite};
+ghost use Rattle.blob_faulty.specs.Allowed.{MayWritePlain, MayWriteSynced, MayWriteAs, HasListRoom, LeavesRoom};
+ghost use Rattle.blob_faulty.specs.StepResults.{CallsInner, MayCallInner, AsksAs, WritesUnrecorded, RecordsPlain, RecordsRun, WroteAs, FailsAs};
 ghost use Rattle.blob_faulty.specs.Wrapper.{pending_of, GainsWrite};
-ghost use Rattle.blob_faulty.specs.Writes.{Writes, Records, LaidRuns, FailsBy, WritesBy, unrecorded, plain, laid_runs};
+ghost use Rattle.blob_faulty.specs.Writes.{LaidRuns};
 ghost use Rattle.blob_draws.specs.Fates.{write_fate_of, IsSized};
 
 use crate::blob::Blob;
@@ -27,14 +26,14 @@ impl<S: blob_base::Storage, R> Storage<S, R> {
         &mut self,
         list: usize,
         offset: u64,
-        bytes: IoBufs,
+        bytes: Vec<u8>,
         config: WriteConfig,
     )
         requires room { HasRoomIn self.old.lists.all.lists.items list Room.Entry }
-        requires some { 0 < length bytes }
-        requires fits { offset + length bytes < 2 ^ 64 }
+        requires some { 0 < length bytes.items }
+        requires fits { offset + length bytes.items < 2 ^ 64 }
         requires left { self.old.next_write < 2 ^ 64 - 1 }
-        ensures lists { GainsWrite S.place self.old self.new list offset bytes config }
+        ensures lists { GainsWrite S.place self.old self.new list offset bytes.items config }
         ensures rest { self.new ≡ record self.old { lists = self.new.lists; next_write = self.old.next_write + 1 } }
     {
         let number = self.next_write;
@@ -84,8 +83,8 @@ impl<B> Blob<B> {
         P: Payload<S, B>,
         requires fits { offset + length (P.bytes bytes) < 2 ^ 64 }
         ensures allowed { B.allows_write self.old.inner store.old.inner offset (P.bytes bytes) false (refused result) }
-        ensures asked { B.leaves (Write offset (P.bytes bytes) false) self.old.inner store.old.inner (refused result) self.new.inner store.new.inner }
-        ensures wrote { Writes S.Durable B.Blob self.old store.old self.new store.new (unrecorded false offset (P.bytes bytes)) (refused result) }
+        ensures asked { CallsInner B.Blob self.old store.old self.new store.new (Write offset (P.bytes bytes) false) result }
+        ensures wrote { WritesUnrecorded S.Durable B.Blob self.old store.old self.new store.new offset (P.bytes bytes) result }
         ensures untracked { OnErr result (self.new.size ≡ self.old.size) }
         ensures rest { store.new ≡ record store.old { inner = store.new.inner } }
     {
@@ -107,8 +106,8 @@ impl<B> Blob<B> {
         P: Payload<S, B>,
         requires fits { offset + length (P.bytes bytes) < 2 ^ 64 }
         ensures allowed { MayWritePlain B.Blob self.old store.old offset (P.bytes bytes) (refused result) }
-        ensures asked { Asks B.Blob self.old store.old self.new store.new (Write offset (P.bytes bytes) false) (refused result) }
-        ensures recorded { Records S.Durable B.Blob self.old store.old self.new store.new (plain offset (P.bytes bytes)) (refused result) }
+        ensures asked { MayCallInner B.Blob self.old store.old self.new store.new (Write offset (P.bytes bytes) false) result }
+        ensures recorded { RecordsPlain S.Durable B.Blob self.old store.old self.new store.new offset (P.bytes bytes) result }
     {
         let Some(config) = retained(store.config.write_rate) else {
             return self.write_unrecorded(store, offset, bytes);
@@ -119,7 +118,7 @@ impl<B> Blob<B> {
         if store.next_write == u64::MAX {
             return Err(Error::GenerationsExhausted);
         }
-        let copy = bytes.to_bufs(store.alloc())?;
+        let copy = bytes.to_vec(store.alloc())?;
         let list = self.room_for(store, Room::Entry)?;
         self.write_unrecorded(store, offset, bytes)?;
         store.record_write(list, offset, copy, config);
@@ -137,21 +136,21 @@ impl<B> Blob<B> {
         list: usize,
         offset: u64,
         bytes: IoBufs,
-        copy: IoBufs,
+        copy: Vec<u8>,
     ) -> Result<(), Error>
     where
         B: blob_base::Blob<S>,
         requires some { 0 < length bytes }
         requires fits { offset + length bytes < 2 ^ 64 }
-        requires len { length copy ≤ length bytes }
-        requires copied { has_barrier (pending_of S.place store.old (B.place self.old.inner)) ≡ true → copy ≡ bytes }
+        requires len { length copy.items ≤ length bytes }
+        requires copied { has_barrier (pending_of S.place store.old (B.place self.old.inner)) ≡ true → copy.items ≡ bytes }
         requires room { HasListRoom S.Durable B.Blob self.old store.old list ((offset, offset + length bytes) ∷ []) }
         ensures allowed { B.allows_write self.old.inner store.old.inner offset bytes true (refused result) }
-        ensures asked { B.leaves (Write offset bytes true) self.old.inner store.old.inner (refused result) self.new.inner store.new.inner }
-        ensures recorded { Records S.Durable B.Blob self.old store.old self.new store.new (laid_runs ((offset, bytes) ∷ [])) (refused result) }
+        ensures asked { CallsInner B.Blob self.old store.old self.new store.new (Write offset bytes true) result }
+        ensures recorded { RecordsRun S.Durable B.Blob self.old store.old self.new store.new (offset, bytes) result }
         ensures laid { OnOk result (LaidRuns S.Durable B.Blob self.old store.old self.new store.new ((offset, bytes) ∷ [])) }
         ensures kept_room { OnOk result (B.room self.old.inner store.old.inner ≤ B.room self.new.inner store.new.inner) }
-        ensures left { OnOk result (LeavesListRoom S.Durable B.Blob self.old store.old self.new store.new list (offset, bytes)) }
+        ensures left { OnOk result (LeavesRoom S.Durable B.Blob self.old store.old self.new store.new list (offset, bytes)) }
     {
         let len = bytes.remaining() as u64;
         self.inner
@@ -173,9 +172,9 @@ impl<B> Blob<B> {
         P: Payload<S, B>,
         requires some { P.bytes bytes ≢ [] }
         requires fits { offset + length (P.bytes bytes) < 2 ^ 64 }
-        ensures allowed { or_memory (B.allows_write self.old.inner store.old.inner offset (P.bytes bytes) true) (refused result) }
-        ensures asked { Asks B.Blob self.old store.old self.new store.new (Write offset (P.bytes bytes) true) (refused result) }
-        ensures recorded { Records S.Durable B.Blob self.old store.old self.new store.new (laid_runs ((offset, P.bytes bytes) ∷ [])) (refused result) }
+        ensures allowed { MayWriteSynced B.Blob self.old store.old offset (P.bytes bytes) (refused result) }
+        ensures asked { MayCallInner B.Blob self.old store.old self.new store.new (Write offset (P.bytes bytes) true) result }
+        ensures recorded { RecordsRun S.Durable B.Blob self.old store.old self.new store.new (offset, P.bytes bytes) result }
     {
         let owned = bytes.into_bufs(store.alloc())?;
         let len = owned.remaining() as u64;
@@ -200,10 +199,10 @@ impl<B> Blob<B> {
         requires some { sync ≡ true → P.bytes bytes ≢ [] }
         requires fits { offset + length (P.bytes bytes) < 2 ^ 64 }
         requires sized { IsSized (length (P.bytes bytes)) (write_fate_of fate) }
-        ensures allowed { MayWriteBy B.Blob self.old store.old (write_fate_of fate) sync offset (P.bytes bytes) (refused result) }
-        ensures asked { AsksWrite B.Blob self.old store.old self.new store.new (write_fate_of fate) sync offset (P.bytes bytes) (refused result) }
-        ensures wrote { WritesBy S.Durable B.Blob self.old store.old self.new store.new (write_fate_of fate) sync offset (P.bytes bytes) (refused result) }
-        ensures failed { FailsBy S.Durable B.Blob self.old store.old self.new store.new (write_fate_of fate) offset (P.bytes bytes) (refused result) }
+        ensures allowed { MayWriteAs B.Blob self.old store.old fate sync offset (P.bytes bytes) (refused result) }
+        ensures asked { AsksAs B.Blob self.old store.old self.new store.new fate sync offset (P.bytes bytes) result }
+        ensures wrote { WroteAs S.Durable B.Blob self.old store.old self.new store.new fate sync offset (P.bytes bytes) result }
+        ensures failed { FailsAs S.Durable B.Blob self.old store.old self.new store.new fate offset (P.bytes bytes) result }
     {
         match fate {
             WriteFate::Done => {

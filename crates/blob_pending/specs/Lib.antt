@@ -1,4 +1,5 @@
 pub mod Blocks
+pub mod Draws
 pub mod Lists
 pub mod Marks
 pub mod Ranges

@@ -1,5 +1,5 @@
 -- The pending lists of the incarnations, each by its place.
-use Rattle.std.specs.Prelude.{◌≡◌, ◌≢◌, AllPairs, ℕ, ◌<◌, List, [], cond, Bool, true, false, not, ◌&&◌, All, length, map, vec_len, vec_capacity}
+use Rattle.std.specs.Prelude.{◌≡◌, ◌≢◌, AllPairs, ℕ, ◌<◌, List, [], cond, Bool, true, false, not, ◌&&◌, ◌||◌, All, length, map, vec_len, vec_capacity}
 use Rattle.std.proofs.Common.{get_or}
 use Rattle.blob_model.specs.Directory.{Directory, is_current}
 use Rattle.blob_model.specs.Durable.{with_at}
@@ -87,6 +87,10 @@ abbrev pub LaysAt : {O : Type 0} → (O → Place) → List (Incarnation O) → 
 LaysAt place old new i offset len copy = (o : Place) → IsAt (held place old) i o → (bytes : List ℕ) → length bytes ≡ len → IsCopyFor copy (list_of place old o) bytes
     → (a : Place) → list_of place new a ≡ with_at (list_of place old) o (laid offset bytes (list_of place old o)) a
 
+-- the list at i is of the same incarnation as before
+abbrev pub StaysAt : {O : Type 0} → (O → Place) → List (Incarnation O) → List (Incarnation O) → ℕ → Type 0
+StaysAt place old new i = (o : Place) → IsAt (held place old) i o → IsAt (held place new) i o
+
 -- the list at i can take these durable ranges
 abbrev pub HasRangesAt : {O : Type 0} → List (Incarnation O) → ℕ → Holes → Type 0
 HasRangesAt {O} is i hs = (d : Incarnation O) → HasRoomsFor hs (get_or is i d).entries
@@ -102,6 +106,18 @@ AreNoted place d is = All (λ i. i.was_current ≡ is_current d (place i.origin)
 -- whether an incarnation was current and isn't any more
 abbrev pub has_ended : Directory → Directory → Place → Bool
 has_ended before after o = is_current before o && not (is_current after o)
+
+-- a list is kept if its incarnation wasn't noted as current, or still is
+abbrev pub is_kept : {O : Type 0} → (O → Place) → Directory → Incarnation O → Bool
+is_kept place now i = not i.was_current || is_current now (place i.origin)
+
+-- nothing is pending of this incarnation, and of the others the same
+abbrev pub RetiresList : {O : Type 0} → (O → Place) → List (Incarnation O) → List (Incarnation O) → Place → Type 0
+RetiresList place old new o = (a : Place) → list_of place new a ≡ with_at (list_of place old) o [] a
+
+-- the started sync with this marker is finished in each list
+abbrev pub FinishesLists : {O : Type 0} → (O → Place) → List (Incarnation O) → List (Incarnation O) → ℕ → Type 0
+FinishesLists place old new marker = (o : Place) → list_of place new o ≡ finished marker (list_of place old o)
 
 -- of incarnations that were current when this was noted and aren't any more nothing is pending, of others the same
 abbrev pub RetiresEnded : {O : Type 0} → (O → Place) → Directory → List (Incarnation O) → List (Incarnation O) → Type 0

@@ -1,5 +1,5 @@
 -- Capacity in a pending list for later durable ranges.
-use Rattle.std.specs.Prelude.{ℕ, ◌+◌, ◌<◌, ◌≤◌, ◌^◌, [], ◌∷◌, Bool, ◌&&◌, All, count_by, length, nat_lt, vec_len, vec_capacity}
+use Rattle.std.specs.Prelude.{ℕ, ◌+◌, ◌<◌, ◌≤◌, ◌^◌, List, [], ◌∷◌, Bool, ◌&&◌, All, count_by, length, nat_lt, vec_len, vec_capacity}
 use Rattle.std.specs.declared.vec.Vec.{Vec}
 use Rattle.std.specs.declared.alloc.Global.{Global}
 use Rattle.blob_model.specs.Holes.{Holes, AreApart}
@@ -18,7 +18,7 @@ meets start end h = nat_lt start h.1 && nat_lt h.0 end
 
 -- a write can take a hole for each of these ranges that meets it
 abbrev pub HasHolesFor : Holes → PendingWrite → Type 0
-HasHolesFor hs w = vec_len w.holes + count_by (meets w.offset (w.offset + length w.bytes)) hs ≤ vec_capacity w.holes
+HasHolesFor hs w = vec_len w.holes + count_by (meets w.offset (w.offset + length w.bytes.items)) hs ≤ vec_capacity w.holes
 
 abbrev pub HasRoomFor : Holes → Entry → Type 0
 HasRoomFor hs (entry.Write w) = HasHolesFor hs w
@@ -26,10 +26,18 @@ HasRoomFor hs (entry.Resize len) = Unit {0}
 HasRoomFor hs (entry.Range r) = Unit {0}
 HasRoomFor hs (entry.Marker k) = Unit {0}
 
+-- each of these entries has capacity for the holes that the ranges make in it
+abbrev pub EachHasRoom : List Entry → Holes → Type 0
+EachHasRoom entries hs = All (HasRoomFor hs) entries
+
+-- ranges for which the old entries and one more have that capacity, the new entries have it for too
+abbrev pub KeepsHoleRoom : List Entry → List Entry → Entry → Type 0
+KeepsHoleRoom old new more = (later : Holes) → EachHasRoom old later → HasRoomFor later more → EachHasRoom new later
+
 -- a list can take each of these ranges as an entry, and each of its writes the holes that they make in it
 pub record HasRoomsFor (hs : Holes) (list : Vec Entry Global) : Type 0 where
   pub entries : vec_len list + length hs ≤ vec_capacity list
-  pub holes : All (HasRoomFor hs) list.items
+  pub holes : EachHasRoom list.items hs
 
 -- a durable range of `len` bytes can be cut out of what has this capacity
 pub record CanCut (start len : ℕ) (room : Holes → Type 0) : Type 0 where

@@ -10,12 +10,12 @@ use Rattle.blob_pending.specs.declared.entry.Entry.{Entry}
 use Rattle.blob_pending.specs.declared.entry.Entry.TheVariants as entry
 
 abbrev pub write_of : PendingWrite → Write
-write_of w = record { number = w.number; offset = w.offset; bytes = w.bytes; mode = w.mode; rate = w.rate }
+write_of w = record { number = w.number; offset = w.offset; bytes = w.bytes.items; mode = w.mode; rate = w.rate }
 
 abbrev pub view : Entry → Pending
 view (entry.Write w) = model.Waiting (need_in (write_of w) (ranges w.holes.items))
 view (entry.Resize n) = model.Cut n
-view (entry.Range r) = model.Again r.offset r.bytes
+view (entry.Range r) = model.Again r.offset r.bytes.items
 view (entry.Marker k) = model.Marker k
 
 abbrev pub views : List Entry → List Pending

@@ -1,17 +1,16 @@
 //! The pending entries of one incarnation, in issue order.
-ghost use Rattle.std.specs.Prelude.{◌≡◌, ◌<◌, ◌≤◌, ◌+◌, ◌*◌, ◌^◌, ℕ, List, ◌++◌, ◌∷◌, [], All, OnOk, map, filter, drop, length, vec_len, vec_capacity, true};
+ghost use Rattle.std.specs.Prelude.{◌≡◌, ◌<◌, ◌≤◌, ◌+◌, ◌*◌, ◌^◌, ℕ, List, ◌++◌, ◌∷◌, [], OnOk, map, filter, drop, length, vec_len, vec_capacity, true};
 ghost use Rattle.blob_model.specs.Holes.{Holes};
 ghost use Rattle.blob_model.specs.Pending.{has_barrier, finished, ends};
 ghost use Rattle.blob_pending.specs.Blocks.{AreBounded};
 ghost use Rattle.blob_pending.specs.Lists.{LaysRange};
 ghost use Rattle.blob_pending.specs.Marks.{marks_of};
 ghost use Rattle.blob_pending.specs.Replays.{unmarked, widest};
-ghost use Rattle.blob_pending.specs.Rooms.{AreWithin, HasRoomFor, HasRoomsFor, CanCut, KeepsRest};
+ghost use Rattle.blob_pending.specs.Rooms.{AreWithin, HasRoomsFor, EachHasRoom, KeepsHoleRoom, CanCut, KeepsRest};
 ghost use Rattle.blob_pending.specs.Views.{view, views, pared_by, is_left, left_in, CountsCovered};
 
 use crate::bounds::BlockBounds;
 use crate::entry::{DurableRange, Entry};
-use blob_base::IoBufs;
 use std::alloc::AllocError;
 
 /// Reserves capacity in the writes for the holes of `count` ranges between `start` and `end`.
@@ -24,7 +23,7 @@ fn reserve_holes(
 ) -> Result<(), AllocError>
     requires { AreBounded bounds.now (views entries.old) }
     ensures views { views entries.new ≡ views entries.old }
-    ensures ok { OnOk result ((ranges : Holes) → AreWithin start end count ranges → All (HasRoomFor ranges) entries.new) }
+    ensures ok { OnOk result ((ranges : Holes) → AreWithin start end count ranges → EachHasRoom entries.new ranges) }
 {
     let len = entries.len();
     let mut i = bounds.next_near(0, len, start, end);
@@ -55,9 +54,9 @@ pub(crate) fn reserve_ranges(
 /// Adds a durable range to the holes of each write that it overlaps. Returns how many writes became fully covered.
 fn cover_each(entries: &mut [Entry], bounds: &BlockBounds, start: u64, len: u64) -> usize
     requires bounded { AreBounded bounds.now (views entries.old) }
-    requires room { CanCut start len (λ hs. All (HasRoomFor hs) entries.old) }
+    requires room { CanCut start len (EachHasRoom entries.old) }
     ensures views { views entries.new ≡ map (pared_by start len) (views entries.old) }
-    ensures room { KeepsRest start len (λ hs. All (HasRoomFor hs) entries.old) (λ hs. All (HasRoomFor hs) entries.new) }
+    ensures room { KeepsRest start len (EachHasRoom entries.old) (EachHasRoom entries.new) }
     ensures left { length (left_in entries.old) ≤ length (left_in entries.new) + result }
 {
     let count = entries.len();
@@ -75,9 +74,9 @@ fn cover_each(entries: &mut [Entry], bounds: &BlockBounds, start: u64, len: u64)
 /// Does `cover_each` for the entries of a vector.
 fn cover_all(entries: &mut Vec<Entry>, bounds: &BlockBounds, start: u64, len: u64) -> usize
     requires bounded { AreBounded bounds.now (views entries.old.items) }
-    requires room { CanCut start len (λ hs. All (HasRoomFor hs) entries.old.items) }
+    requires room { CanCut start len (EachHasRoom entries.old.items) }
     ensures views { views entries.new.items ≡ map (pared_by start len) (views entries.old.items) }
-    ensures room { KeepsRest start len (λ hs. All (HasRoomFor hs) entries.old.items) (λ hs. All (HasRoomFor hs) entries.new.items) }
+    ensures room { KeepsRest start len (EachHasRoom entries.old.items) (EachHasRoom entries.new.items) }
     ensures left { length (left_in entries.old.items) ≤ length (left_in entries.new.items) + result }
     ensures capacity { vec_capacity entries.new ≡ vec_capacity entries.old }
     ensures len { vec_len entries.new ≡ vec_len entries.old }
@@ -101,7 +100,7 @@ fn compact(entries: &mut Vec<Entry>, bounds: &mut BlockBounds, covered: &mut usi
     requires counted { CountsCovered covered.old (views entries.old.items) }
     ensures left { left_in entries.new.items ≡ left_in entries.old.items }
     ensures bounded { AreBounded bounds.new (views entries.new.items) }
-    ensures holes { (later : Holes) → All (HasRoomFor later) entries.old.items → All (HasRoomFor later) entries.new.items }
+    ensures holes { (later : Holes) → EachHasRoom entries.old.items later → EachHasRoom entries.new.items later }
     ensures capacity { vec_capacity entries.old ≤ vec_capacity entries.new }
     ensures len { vec_len entries.new ≤ vec_len entries.old }
     ensures counted { CountsCovered covered.new (views entries.new.items) }
@@ -131,7 +130,7 @@ pub fn has_barrier(entries: &[Entry]) -> bool
 pub fn push(entries: &mut Vec<Entry>, entry: Entry)
     requires { vec_len entries.old < vec_capacity entries.old }
     ensures views { views entries.new.items ≡ views entries.old.items ++ view entry ∷ [] }
-    ensures holes { (later : Holes) → All (HasRoomFor later) entries.old.items → HasRoomFor later entry → All (HasRoomFor later) entries.new.items }
+    ensures holes { KeepsHoleRoom entries.old.items entries.new.items entry }
     ensures len { vec_len entries.new ≡ vec_len entries.old + 1 }
     ensures capacity { vec_capacity entries.old ≤ vec_capacity entries.new }
 {
@@ -147,14 +146,14 @@ pub(crate) fn lay(
     queues: bool,
     offset: u64,
     len: u64,
-    copy: IoBufs,
+    copy: Vec<u8>,
 )
     requires queued { queues ≡ has_barrier (views entries.old.items) }
     requires bounded { AreBounded bounds.old (views entries.old.items) }
     requires counted { CountsCovered covered.old (views entries.old.items) }
     requires room { CanCut offset len (λ hs. HasRoomsFor hs entries.old) }
-    requires copied { length copy ≤ len }
-    ensures left { LaysRange offset len copy (left_in entries.old.items) (left_in entries.new.items) }
+    requires copied { length copy.items ≤ len }
+    ensures left { LaysRange offset len copy.items (left_in entries.old.items) (left_in entries.new.items) }
     ensures marks { marks_of (views entries.new.items) ≡ marks_of (views entries.old.items) }
     ensures queued { has_barrier (views entries.new.items) ≡ queues }
     ensures bounded { AreBounded bounds.new (views entries.new.items) }

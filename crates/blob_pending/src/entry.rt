@@ -2,15 +2,14 @@
 ghost use Rattle.std.specs.Prelude.{◌<◌, ◌+◌, ◌^◌, length};
 
 use crate::write::PendingWrite;
-use blob_base::IoBufs;
 use std::alloc::AllocError;
 
 /// A range that is already durable. A crash that replays an earlier resize must apply it again.
 #[derive(Drop)]
 pub struct DurableRange {
     pub offset: u64,
-    pub bytes: IoBufs,
-    ghost fits: { offset + length bytes < 2 ^ 64 },
+    pub bytes: Vec<u8>,
+    ghost fits: { offset + length bytes.items < 2 ^ 64 },
 }
 
 /// A pending mutation of an incarnation.
@@ -104,7 +103,7 @@ impl Entry {
         match self {
             Entry::Write(write) if !write.is_covered() => write.end(),
             Entry::Resize(len) => *len,
-            Entry::Range(range) => range.offset + range.bytes.remaining() as u64,
+            Entry::Range(range) => range.offset + range.bytes.len() as u64,
             _ => 0,
         }
     }
@@ -114,8 +113,8 @@ impl Entry {
         ensures { result ≡ widest (left_in (self.now ∷ [])) }
     {
         match self {
-            Entry::Write(write) if !write.is_covered() => write.bytes.remaining(),
-            Entry::Range(range) => range.bytes.remaining(),
+            Entry::Write(write) if !write.is_covered() => write.bytes.len(),
+            Entry::Range(range) => range.bytes.len(),
             _ => 0,
         }
     }

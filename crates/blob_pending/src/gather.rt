@@ -1,11 +1,10 @@
 //! The writes for which a crash draws.
 ghost use Rattle.std.specs.Prelude.{◌≡◌, ◌++◌, OnOk, IfOk, false};
-ghost use Rattle.std.specs.List.Sorted.{IsPermutation, IsNonDecreasingBy};
-ghost use Rattle.blob_model.specs.Order.{waiting_of_all};
-ghost use Rattle.blob_model.specs.Pending.{has_marker, waiting};
+ghost use Rattle.std.specs.List.Sorted.{IsNonDecreasingBy};
+ghost use Rattle.blob_model.specs.Pending.{has_marker};
 ghost use Rattle.blob_model.specs.Places.{Place};
-ghost use Rattle.blob_draws.specs.Drawings.{drawings_of, drawings_in};
-ghost use Rattle.blob_pending.specs.Lists.{held};
+ghost use Rattle.blob_draws.specs.Drawings.{drawings_in};
+ghost use Rattle.blob_pending.specs.Draws.{draws_for, draws_for_all, AreDrawsFor};
 ghost use Rattle.blob_pending.specs.Views.{left_in};
 
 use crate::entries::unmarked;
@@ -17,14 +16,14 @@ use std::alloc::{AllocError, Global};
 /// Adds the writes that need a draw. No entry is a marker.
 fn gather_unmarked(draws: &mut Vec<Draw>, entries: &[Entry]) -> Result<(), AllocError>
     requires { has_marker (left_in entries.now) ≡ false }
-    ensures { OnOk result (drawings_in draws.new.items ≡ drawings_in draws.old.items ++ drawings_of (waiting (left_in entries.now))) }
+    ensures { OnOk result (drawings_in draws.new.items ≡ drawings_in draws.old.items ++ draws_for entries.now) }
 {
     for entry in entries {
         match entry {
             Entry::Write(write) if !write.is_covered() => draws.push(Draw {
                 number: write.number,
                 offset: write.offset,
-                len: write.bytes.remaining(),
+                len: write.bytes.len(),
                 mode: write.mode,
                 rate: write.rate,
             })?,
@@ -36,7 +35,7 @@ fn gather_unmarked(draws: &mut Vec<Draw>, entries: &[Entry]) -> Result<(), Alloc
 
 /// Returns the writes of all lists that need a draw, list by list.
 fn gather_all<O>(alloc: Global, lists: &[Incarnation<O>]) -> Result<Vec<Draw>, AllocError>
-    ensures { IfOk result (λ draws. (place : O → Place) → drawings_in draws.items ≡ drawings_of (waiting_of_all (held place lists.now))) }
+    ensures { IfOk result (λ draws. (place : O → Place) → drawings_in draws.items ≡ draws_for_all place lists.now) }
 {
     let mut draws = Vec::new(alloc);
     for list in lists {
@@ -47,7 +46,7 @@ fn gather_all<O>(alloc: Global, lists: &[Incarnation<O>]) -> Result<Vec<Draw>, A
 
 /// Returns the writes of all lists that need a draw, sorted by number.
 pub fn gather<O>(alloc: Global, lists: &[Incarnation<O>]) -> Result<Vec<Draw>, AllocError>
-    ensures all { IfOk result (λ draws. (place : O → Place) → IsPermutation (drawings_of (waiting_of_all (held place lists.now))) (drawings_in draws.items)) }
+    ensures all { IfOk result (λ draws. AreDrawsFor lists.now draws.items) }
     ensures rising { IfOk result (λ draws. IsNonDecreasingBy (λ (d : Draw). d.number) draws.items) }
 {
     let mut draws = gather_all(alloc, lists)?;

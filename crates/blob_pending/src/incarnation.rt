@@ -9,7 +9,6 @@ use crate::bounds::BlockBounds;
 use crate::entries;
 use crate::entry::Entry;
 use crate::room::Room;
-use blob_base::IoBufs;
 use std::alloc::{AllocError, Global};
 
 /// The pending list of one incarnation.
@@ -124,10 +123,10 @@ impl<O> Incarnation<O> {
     }
 
     /// Updates the list for a durable range. The list has capacity for it. `copy` has the range's bytes if it is queued.
-    pub fn lay(&mut self, offset: u64, len: u64, copy: IoBufs)
+    pub fn lay(&mut self, offset: u64, len: u64, copy: Vec<u8>)
         requires room { CanCut offset len (λ hs. HasRoomsFor hs self.old.entries) }
-        requires copied { length copy ≤ len }
-        ensures laid { LaysInto offset len copy self.old self.new }
+        requires copied { length copy.items ≤ len }
+        ensures laid { LaysInto offset len copy.items self.old self.new }
         ensures origin { self.new.origin ≡ self.old.origin }
         ensures room { KeepsRest offset len (λ hs. HasRoomsFor hs self.old.entries) (λ hs. HasRoomsFor hs self.new.entries) }
         ensures half { vec_len self.new.entries ≤ 2 * length (left_in self.new.entries.items) }

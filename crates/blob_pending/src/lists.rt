@@ -1,15 +1,14 @@
 //! The pending lists of all incarnations.
-ghost use Rattle.std.specs.Prelude.{◌≡◌, ◌<◌, ◌≤◌, ◌+◌, ◌^◌, ℕ, List, [], ◌∷◌, ◌++◌, length, filter, map, not, ◌||◌, false, OnOk, IfOk, IfSome, IfNone, cond, vec_len, true, OnErr};
+ghost use Rattle.std.specs.Prelude.{◌≡◌, ◌<◌, ◌≤◌, ◌+◌, ◌^◌, ℕ, List, [], ◌∷◌, ◌++◌, length, filter, map, false, OnOk, IfOk, IfSome, IfNone, cond, vec_len, true, OnErr};
 ghost use Rattle.blob_model.specs.Places.{Place, same_place};
-ghost use Rattle.blob_model.specs.Directory.{Directory, is_current};
-ghost use Rattle.blob_model.specs.Durable.{with_at};
+ghost use Rattle.blob_model.specs.Directory.{Directory};
 ghost use Rattle.blob_model.specs.Holes.{Holes};
 ghost use Rattle.blob_model.specs.Order.{has_list};
-ghost use Rattle.blob_model.specs.Pending.{Marker, finished, is_marker};
+ghost use Rattle.blob_model.specs.Pending.{Marker, is_marker};
 ghost use Rattle.blob_header.specs.Refusals.{IsMemory};
 ghost use Rattle.blob_pending.specs.Rooms.{CanCut, KeepsRest};
 ghost use Rattle.blob_pending.specs.Views.{view, left_in};
-ghost use Rattle.blob_pending.specs.Lists.{held, list_of, IsAt, HasRoomIn, IsRoomAt, HasRangesAt, SameLists, ChangesAt, IsCopyAt, LaysAt, AreDistinct, finished_in, AreNoted, RetiresEnded};
+ghost use Rattle.blob_pending.specs.Lists.{held, IsAt, HasRoomIn, IsRoomAt, HasRangesAt, SameLists, ChangesAt, IsCopyAt, LaysAt, AreDistinct, finished_in, AreNoted, StaysAt, RetiresEnded, RetiresList, FinishesLists, is_kept};
 
 use crate::entry::Entry;
 use crate::incarnation::Incarnation;
@@ -67,7 +66,7 @@ fn note_all<S: Durable>(lists: &mut Vec<Incarnation<S::Origin>>, store: &S)
 
 /// Drops the lists that were noted as current and no longer are.
 fn drop_ended<S: Durable>(lists: &mut Vec<Incarnation<S::Origin>>, store: &S)
-    ensures { lists.new.items ≡ filter (λ i. not i.was_current || is_current (S.directory store.now) (S.place i.origin)) lists.old.items }
+    ensures { lists.new.items ≡ filter (is_kept S.place (S.directory store.now)) lists.old.items }
 {
     lists.retain(|list| !list.was_current || store.is_current(&list.origin));
 }
@@ -180,25 +179,25 @@ impl<S: Durable> Lists<S> {
 
     /// Returns the `copy` for `lay`: a copy of the bytes if the list at `i` queues durable ranges, otherwise no bytes. The only
     /// error is `Memory`.
-    pub fn copy_for(&self, i: usize, bytes: &IoBufs) -> Result<IoBufs, Error>
+    pub fn copy_for(&self, i: usize, bytes: &IoBufs) -> Result<Vec<u8>, Error>
         requires { i < vec_len self.now.all.lists }
-        ensures copied { IfOk result (λ copy. IsCopyAt S.place self.now.all.lists.items i bytes.now copy) }
-        ensures len { IfOk result (λ copy. length copy ≤ length bytes.now) }
+        ensures copied { IfOk result (λ copy. IsCopyAt S.place self.now.all.lists.items i bytes.now copy.items) }
+        ensures len { IfOk result (λ copy. length copy.items ≤ length bytes.now) }
         ensures memory { OnErr result (IsMemory result) }
     {
         if self.all.lists[i].queues {
-            return bytes.copied();
+            return bytes.copied()?.coalesce();
         }
-        Ok(IoBufs::new(*self.all.lists.allocator()))
+        Ok(Vec::new(*self.all.lists.allocator()))
     }
 
     /// Updates the list at `i` for a durable range. The list has capacity for it. `copy` has the range's bytes if it is queued.
-    pub fn lay(&mut self, i: usize, offset: u64, len: u64, copy: IoBufs)
+    pub fn lay(&mut self, i: usize, offset: u64, len: u64, copy: Vec<u8>)
         requires inside { i < vec_len self.old.all.lists }
         requires room { CanCut offset len (HasRangesAt self.old.all.lists.items i) }
-        requires copied { length copy ≤ len }
-        ensures lists { LaysAt S.place self.old.all.lists.items self.new.all.lists.items i offset len copy }
-        ensures at { (o : Place) → IsAt (held S.place self.old.all.lists.items) i o → IsAt (held S.place self.new.all.lists.items) i o }
+        requires copied { length copy.items ≤ len }
+        ensures lists { LaysAt S.place self.old.all.lists.items self.new.all.lists.items i offset len copy.items }
+        ensures at { StaysAt S.place self.old.all.lists.items self.new.all.lists.items i }
         ensures room { KeepsRest offset len (HasRangesAt self.old.all.lists.items i) (HasRangesAt self.new.all.lists.items i) }
         ensures len { vec_len self.new.all.lists ≡ vec_len self.old.all.lists }
     {
@@ -207,7 +206,7 @@ impl<S: Durable> Lists<S> {
 
     /// Drops the list of an incarnation. Tries `hint` first. The last list takes its index.
     pub fn retire(&mut self, origin: &S::Origin, hint: usize)
-        ensures { (a : Place) → list_of S.place self.new.all.lists.items a ≡ with_at (list_of S.place self.old.all.lists.items) (S.place origin.now) [] a }
+        ensures { RetiresList S.place self.old.all.lists.items self.new.all.lists.items (S.place origin.now) }
     {
         if let Some(i) = self.find(origin, hint) {
             self.all.lists.swap_remove(i);
@@ -216,7 +215,7 @@ impl<S: Durable> Lists<S> {
 
     /// Completes a started sync: drops its marker and the entries before it in its list. Does nothing if the marker doesn't exist.
     pub fn finish(&mut self, marker: u64)
-        ensures { (o : Place) → list_of S.place self.new.all.lists.items o ≡ finished marker (list_of S.place self.old.all.lists.items o) }
+        ensures { FinishesLists S.place self.old.all.lists.items self.new.all.lists.items marker }
     {
         finish_all(&mut self.all.lists, marker);
     }

@@ -4,7 +4,7 @@ ghost use Rattle.blob_model.specs.Holes.{AreApart};
 ghost use Rattle.blob_pending.specs.Ranges.{ranges, AreApart-prop};
 
 use crate::holes::{Hole, dig};
-use blob_base::{IoBufs, Probability};
+use blob_base::Probability;
 use blob_model::mode::PartialWriteMode;
 use std::alloc::AllocError;
 
@@ -14,15 +14,15 @@ pub struct PendingWrite {
     /// Its number among all recorded writes.
     pub number: u64,
     pub offset: u64,
-    pub bytes: IoBufs,
+    pub bytes: Vec<u8>,
     /// The mode and the retention rate of its issue.
     pub mode: PartialWriteMode,
     pub rate: Probability,
     /// Sorted, separate from each other, and within the write.
     pub holes: Vec<Hole>,
-    ghost some: { 0 < length bytes },
-    ghost fits: { offset + length bytes < 2 ^ 64 },
-    ghost apart: { AreApart offset (ranges holes.items) (offset + length bytes) } by { AreApart-prop offset (ranges holes.items) (offset + length bytes) },
+    ghost some: { 0 < length bytes.items },
+    ghost fits: { offset + length bytes.items < 2 ^ 64 },
+    ghost apart: { AreApart offset (ranges holes.items) (offset + length bytes.items) } by { AreApart-prop offset (ranges holes.items) (offset + length bytes.items) },
 }
 
 impl PendingWrite {
@@ -34,9 +34,9 @@ impl PendingWrite {
 
     /// Returns the position after its last byte.
     pub fn end(&self) -> u64
-        ensures { result ≡ self.now.offset + length self.now.bytes }
+        ensures { result ≡ self.now.offset + length self.now.bytes.items }
     {
-        self.offset + self.bytes.remaining() as u64
+        self.offset + self.bytes.len() as u64
     }
 
     /// Adds the overlap with a durable range to the holes.
@@ -55,7 +55,7 @@ impl PendingWrite {
 
     /// Returns how many of its bytes are in the range from `start` up to `end`.
     fn overlap(&self, start: u64, end: u64) -> u64
-        ensures { result ≡ min end (self.now.offset + length self.now.bytes) - max start self.now.offset }
+        ensures { result ≡ min end (self.now.offset + length self.now.bytes.items) - max start self.now.offset }
     {
         end.min(self.end()).saturating_sub(start.max(self.offset))
     }

@@ -25,9 +25,9 @@ returns-then-queues-clause-left c bytes len same =
     let queues : c.args.queues ≡ true = search rules in
     let rest : left_in c.compact.new.entries.items ≡ cut_by c.args.offset c.args.len (left_in c.args.entries.now.items) =
     c.compact.ensures.left ∙ ap (λ (r : List Pending). filter is_left r) c.cover_all-more.ensures.views ∙ sym (cut_left c.args.offset c.args.len q) in
-    ap (λ (r : List Pending). filter is_left r) c.push.ensures.views ∙ filter-append is_left (views c.compact.new.entries.items) (Again c.args.offset c.args.copy ∷ [])
-    ∙ ap (λ (r : List Pending). r ++ Again c.args.offset c.args.copy ∷ []) rest
-    ∙ queued_is (left_in c.args.entries.now.items) c.args.offset c.args.len c.args.copy bytes len same (barrier_left q ∙ sym c.requires.queued ∙ queues)
+    ap (λ (r : List Pending). filter is_left r) c.push.ensures.views ∙ filter-append is_left (views c.compact.new.entries.items) (Again c.args.offset c.args.copy.items ∷ [])
+    ∙ ap (λ (r : List Pending). r ++ Again c.args.offset c.args.copy.items ∷ []) rest
+    ∙ queued_is (left_in c.args.entries.now.items) c.args.offset c.args.len c.args.copy.items bytes len same (barrier_left q ∙ sym c.requires.queued ∙ queues)
 
 pub returns-else-queues-clause-left : goal.returns-else-queues-clause-left
 returns-else-queues-clause-left c bytes len same =
@@ -38,7 +38,7 @@ returns-else-queues-clause-left c bytes len same =
 
 pub returns-then-queues-clause-marks : goal.returns-then-queues-clause-marks
 returns-then-queues-clause-marks c =
-    ap marks_of c.push.ensures.views ∙ marks-push (views c.compact.new.entries.items) (Again c.args.offset c.args.copy) refl
+    ap marks_of c.push.ensures.views ∙ marks-push (views c.compact.new.entries.items) (Again c.args.offset c.args.copy.items) refl
     ∙ compacted_marks (views c.args.entries.now.items) (views c.cover_all-more.new.entries.items) (views c.compact.new.entries.items) c.args.offset c.args.len c.cover_all-more.ensures.views c.compact.ensures.left
 
 pub returns-else-queues-clause-marks : goal.returns-else-queues-clause-marks
@@ -48,7 +48,7 @@ returns-else-queues-clause-marks c =
 pub returns-then-queues-clause-queued : goal.returns-then-queues-clause-queued
 returns-then-queues-clause-queued c =
     let queues : c.args.queues ≡ true = search rules in
-    ap has_barrier c.push.ensures.views ∙ barrier_again (views c.compact.new.entries.items) c.args.offset c.args.copy ∙ sym queues
+    ap has_barrier c.push.ensures.views ∙ barrier_again (views c.compact.new.entries.items) c.args.offset c.args.copy.items ∙ sym queues
 
 pub returns-else-queues-clause-queued : goal.returns-else-queues-clause-queued
 returns-else-queues-clause-queued c =
@@ -58,7 +58,7 @@ returns-else-queues-clause-queued c =
 pub returns-then-queues-clause-bounded : goal.returns-then-queues-clause-bounded
 returns-then-queues-clause-bounded c =
     subst (λ (q : List Pending). AreBounded c.compact.new.bounds q) (sym c.push.ensures.views)
-    (bounded_push c.compact.new.bounds (views c.compact.new.entries.items) (Again c.args.offset c.args.copy) c.compact.ensures.bounded)
+    (bounded_push c.compact.new.bounds (views c.compact.new.entries.items) (Again c.args.offset c.args.copy.items) c.compact.ensures.bounded)
 
 pub returns-then-queues-clause-room : goal.returns-then-queues-clause-room
 returns-then-queues-clause-room c later h = record {
@@ -83,10 +83,10 @@ compact-requires-clause-counted c =
 pub returns-then-queues-clause-counted : goal.returns-then-queues-clause-counted
 returns-then-queues-clause-counted c =
     subst (λ (q : List Pending). CountsCovered c.compact.new.covered q) (sym c.push.ensures.views)
-    (counts_push c.compact.new.covered c.compact.new.covered (views c.compact.new.entries.items) (Again c.args.offset c.args.copy) c.compact.ensures.counted (λ never. absurd (true≢false never)) (omega arith))
+    (counts_push c.compact.new.covered c.compact.new.covered (views c.compact.new.entries.items) (Again c.args.offset c.args.copy.items) c.compact.ensures.counted (λ never. absurd (true≢false never)) (omega arith))
 
 pub returns-then-queues-clause-half : goal.returns-then-queues-clause-half
 returns-then-queues-clause-half c =
-    let left : left_in c.push.new.entries.items ≡ left_in c.compact.new.entries.items ++ Again c.args.offset c.args.copy ∷ [] =
-    ap (λ (r : List Pending). filter is_left r) c.push.ensures.views ∙ filter-append is_left (views c.compact.new.entries.items) (Again c.args.offset c.args.copy ∷ []) in
-    omega (arith, c.compact.ensures.half, c.push.ensures.len, ap length left, length-append (left_in c.compact.new.entries.items) (Again c.args.offset c.args.copy ∷ []))
+    let left : left_in c.push.new.entries.items ≡ left_in c.compact.new.entries.items ++ Again c.args.offset c.args.copy.items ∷ [] =
+    ap (λ (r : List Pending). filter is_left r) c.push.ensures.views ∙ filter-append is_left (views c.compact.new.entries.items) (Again c.args.offset c.args.copy.items ∷ []) in
+    omega (arith, c.compact.ensures.half, c.push.ensures.len, ap length left, length-append (left_in c.compact.new.entries.items) (Again c.args.offset c.args.copy.items ∷ []))

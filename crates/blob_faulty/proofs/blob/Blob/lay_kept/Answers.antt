@@ -25,8 +25,8 @@ returns-then-is_empty-clause-allowed g c =
     let none : runs c.args.offset (g.P.Payload.bytes c.args.bytes) c.args.kept.now ≡ [] = runs_of_none c.args.offset (g.P.Payload.bytes c.args.bytes) c.args.kept.now (eqb-true _ _ (sym c.is_empty.ensures ∙ c.if-is_empty.true)) in
     subst (λ (rs : List Run). or_memory (allows_runs (g.B.Blob.allows_write c.args.self.now.inner c.args.store.now.inner) (g.B.Blob.allows_reserve c.args.self.now.inner c.args.store.now.inner) g.B.Blob.is_direct rs) None) (sym none) (inr refl)
 
-pub returns-then-is_empty-clause-recorded : goal.returns-then-is_empty-clause-recorded
-returns-then-is_empty-clause-recorded g c =
+pub returns-then-is_empty-clause-laid : goal.returns-then-is_empty-clause-laid
+returns-then-is_empty-clause-laid g c =
     no_runs _ _ _ (runs_of_none c.args.offset (g.P.Payload.bytes c.args.bytes) c.args.kept.now (eqb-true _ _ (sym c.is_empty.ensures ∙ c.if-is_empty.true)))
 
 pub reserve_runs-requires : goal.reserve_runs-requires
@@ -45,8 +45,8 @@ lay_runs-requires-clause-within g c direct now k d h =
     let ends = end_by_last 0 0 (runs_in c.in_ok-pieces.pieces.items) apart k d h in
     omega arith
 
-pub returns-clause-recorded : goal.returns-clause-recorded
-returns-clause-recorded g c =
+pub returns-clause-laid : goal.returns-clause-laid
+returns-clause-laid g c =
     let old : View g.row.R.Denot = seen g.S.Durable g.B.Blob c.args.self.now c.args.store.now in
     let new : View g.row.R.Denot = seen g.S.Durable g.B.Blob c.lay_runs.new.self c.lay_runs.new.store in
     let same : runs_in c.in_ok-pieces.pieces.items ≡ runs c.args.offset (g.P.Payload.bytes c.args.bytes) c.args.kept.now = c.in_ok-pieces.ensures.ok ∙ ap (λ (b : List ℕ). runs c.args.offset b c.args.kept.now) (c.in_ok-bytes.ensures.ok ∙ c.in_ok-owned.ensures.ok) in
@@ -99,8 +99,8 @@ returns-clause-front g c is =
     subst (λ (rs : List Run). LaysFront (InnerRefusedInRoom g.B.Blob c.args.self.now c.args.store.now r.new.self r.new.store rs) (seen g.S.Durable g.B.Blob c.args.self.now c.args.store.now) (seen g.S.Durable g.B.Blob r.new.self r.new.store) rs) same
     (front_in_room g.B.Blob.leaves _ _ _ _ _ _ _ _ _ (runs_in c.in_ok-pieces.pieces.items) c.reserve_runs.ensures.unchanged (asked_of g.B.Blob c.args.self.now c.args.store.now c.reserve_runs.new.self c.reserve_runs.new.store room) (r.ensures.laid.front is))
 
-pub returns-then-is_empty-2-clause-recorded : goal.returns-then-is_empty-2-clause-recorded
-returns-then-is_empty-2-clause-recorded g c =
+pub returns-then-is_empty-2-clause-laid : goal.returns-then-is_empty-2-clause-laid
+returns-then-is_empty-2-clause-laid g c =
     let empty : length c.in_ok-pieces.pieces.items ≡ 0 = first_of (grind (arith, common_steps), search rules) in
     let none : runs c.args.offset (g.P.Payload.bytes c.args.bytes) c.args.kept.now ≡ [] = no_runs_in c.in_ok-pieces.pieces.items _ empty (c.in_ok-pieces.ensures.ok ∙ ap (λ (b : List ℕ). runs c.args.offset b c.args.kept.now) (c.in_ok-bytes.ensures.ok ∙ c.in_ok-owned.ensures.ok)) in
     no_runs _ _ _ none
@@ -111,8 +111,8 @@ returns-then-is_empty-2-clause-allowed g c =
     let none : runs c.args.offset (g.P.Payload.bytes c.args.bytes) c.args.kept.now ≡ [] = no_runs_in c.in_ok-pieces.pieces.items _ empty (c.in_ok-pieces.ensures.ok ∙ ap (λ (b : List ℕ). runs c.args.offset b c.args.kept.now) (c.in_ok-bytes.ensures.ok ∙ c.in_ok-owned.ensures.ok)) in
     subst (λ (rs : List Run). or_memory (allows_runs (g.B.Blob.allows_write c.args.self.now.inner c.args.store.now.inner) (g.B.Blob.allows_reserve c.args.self.now.inner c.args.store.now.inner) g.B.Blob.is_direct rs) None) (sym none) (inr refl)
 
-pub returns-in_err-list-clause-recorded : goal.returns-in_err-list-clause-recorded
-returns-in_err-list-clause-recorded g c =
+pub returns-in_err-list-clause-laid : goal.returns-in_err-list-clause-laid
+returns-in_err-list-clause-laid g c =
     let r = c.reserve_runs in
     let same : refused r.result ≡ refused c.from_residual-in_err-list.result = first_of (search rules, cc, grind (arith, common_steps)) in
     let some : IsSome (refused r.result) = first_of (search rules, cc, grind (arith, common_steps)) in

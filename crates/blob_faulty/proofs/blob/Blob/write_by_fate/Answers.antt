@@ -55,7 +55,7 @@ returns-in_err-lay_kept-in-Failed-clause-wrote g c =
     (λ o b. g.met.B.Blob.uninjected c.args.self.now.inner c.args.store.now.inner o b true direct)
     (λ end. reserve_uninjected _ (g.met.B.Blob.reserve_refused c.args.self.now.inner c.args.store.now.inner end _))
     (subst (λ (a : Option Refusal). or_memory (allows_runs (g.B.Blob.allows_write c.args.self.now.inner c.args.store.now.inner) (g.B.Blob.allows_reserve c.args.self.now.inner c.args.store.now.inner) g.B.Blob.is_direct (runs c.args.offset (g.P.Payload.bytes c.args.bytes) c.deref.result.now)) a) is c.lay_kept.ensures.allowed))
-    c.lay_kept.ensures.recorded)
+    c.lay_kept.ensures.laid)
 
 pub returns-then-sync-clause-asked : goal.returns-then-sync-clause-asked
 returns-then-sync-clause-asked g c =
@@ -152,7 +152,7 @@ returns-in_ok-write_plain-in-Unsynced-clause-wrote g c = of_fate _ _ _ _ _ _ _ _
 
 pub returns-in_ok-lay_kept-in-Failed-clause-wrote : goal.returns-in_ok-lay_kept-in-Failed-clause-wrote
 returns-in_ok-lay_kept-in-Failed-clause-wrote g c =
-    of_fate _ _ _ _ _ _ _ _ _ _ (ap write_fate_of c.in-Failed.is ∙ ap Failed (sym c.deref.ensures.value)) refl (done_failed c.deref.result.now _ _ _ _ _ _ c.in_ok-lay_kept-in-Failed.ensures.recorded)
+    of_fate _ _ _ _ _ _ _ _ _ _ (ap write_fate_of c.in-Failed.is ∙ ap Failed (sym c.deref.ensures.value)) refl (done_failed c.deref.result.now _ _ _ _ _ _ c.in_ok-lay_kept-in-Failed.ensures.laid)
 
 pub returns-in_ok-write_plain-in-Unsynced-clause-failed : goal.returns-in_ok-write_plain-in-Unsynced-clause-failed
 returns-in_ok-write_plain-in-Unsynced-clause-failed g c is = injected_not_failed is

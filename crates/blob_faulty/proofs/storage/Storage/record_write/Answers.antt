@@ -20,6 +20,6 @@ fresh w hs none some =
 pub returns-clause-lists : goal.returns-clause-lists
 returns-clause-lists g c o at a =
     let lists = c.args.self.now.lists.all.lists.items in
-    let write : Write = issued c.args.self.now.next_write c.args.offset c.args.bytes c.args.config in
+    let write : Write = issued c.args.self.now.next_write c.args.offset c.args.bytes.items c.args.config in
     c.push.ensures o at a
     ∙ ap (λ (r : List Pending). with_at (list_of g.S.Durable.place lists) o (list_of g.S.Durable.place lists o ++ r) a) (fresh write c.new-holes.result.items c.new-holes.ensures.items c.requires.some)
