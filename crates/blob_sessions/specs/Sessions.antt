@@ -146,7 +146,7 @@ abbrev pub WritesBytes : Session → Session → ℕ → ℕ → List ℕ → Bo
 WritesBytes before after handle offset bytes sync status =
     OnHeld (kept_of before) (kept_of after) (λ k k'. AnswersWrite k k' handle offset bytes sync status) (status ≡ CLOSED)
 
--- a call of the registry of durability debt, which changes nothing else
+-- a call of the registry of durability debt, which changes no other part of the session
 abbrev pub ChangesDebts : Session → Session → DebtReply → Type 0
 ChangesDebts before after reply =
     OnHeld (kept_of before) (kept_of after) (λ k k'. k' ≡ record k { debts = k'.debts }) (reply ≡ no_debt CLOSED)
