@@ -3,20 +3,18 @@
 //! What a session is and does is `blob_sessions`. The header `bindings/c/blobcrash.h` says what callers owe: no check reaches them.
 #![tactic(auto)]
 
-ghost use Rattle.std.specs.Prelude.{◌≡◌, ◌⊎◌, ◌↔◌, ◌<◌, ◌≤◌, Some, None, IsSome, IfSome, IsTrue, false, [], take, drop, length};
-ghost use Rattle.blob_lab.specs.Scripts.{Prints, PrintsBeforeLine, lines_of, script_of};
+ghost use Rattle.std.specs.Prelude.{◌≡◌, ◌⊎◌, ◌↔◌, ◌<◌, ◌≤◌, None, IsSome, IfSome, IsTrue, false, take, drop, length};
+ghost use Rattle.blob_lab.specs.Scripts.{lines_of};
 ghost use Rattle.blob_sessions.specs.Applying.{AppliesTo};
-ghost use Rattle.blob_sessions.specs.Debts.{no_debt};
 ghost use Rattle.blob_sessions.specs.DurableBlobs.{CopiesDigestFrom, CopiesFrom};
 ghost use Rattle.blob_header.specs.Header.{IsFrontOfCreation};
-ghost use Rattle.blob_header.specs.Parse.{parsed};
-ghost use Rattle.blob_sessions.specs.Headers.{IsFrontOfBlob, accepted_by, header_reply, layout_numbered, no_header};
+ghost use Rattle.blob_sessions.specs.Headers.{IsFrontOfBlob, ParsesHeader, accepted_by, layout_numbered, no_header};
 ghost use Rattle.blob_sessions.specs.Parts.{CopiesNameFrom, FindsName, FindsRun, no_run};
 ghost use Rattle.blob_sessions.specs.Preambles.{BreaksAt, IsMadeOf};
-ghost use Rattle.blob_sessions.specs.Sessions.{RunsLine, ReadsInto, AnswersWrite, IsClosed, Inspects, OnHeld, TellsAgain, kept_of, stopped};
+ghost use Rattle.blob_sessions.specs.Sessions.{ChangesDebts, Inspects, ReadsInto, RepeatsReply, RunsLineIn, WritesBytes, kept_of, stopped};
 ghost use Rattle.blob_sessions.specs.Typed.{last_reply, without_reply};
-ghost use Rattle.blob_sessions.specs.WholeScripts.{WantsRoom};
-ghost use Rattle.blob_sessions.specs.Words.{TakesWords, TellsWordsLeft};
+ghost use Rattle.blob_sessions.specs.WholeScripts.{IsRunStatus, PrintsScript, PrintsUntil, WantsRoom};
+ghost use Rattle.blob_sessions.specs.Words.{InsertsWords, TellsWordsLeft};
 
 use blob_sessions::ran::{BAD_CALL, BAD_LINE, CLOSED, DONE, ENDLESS, NO_MEMORY, NO_ROOM};
 use blob_sessions::{
@@ -32,8 +30,8 @@ use std::alloc::Global;
 /// nothing.
 #[unsafe(no_mangle)]
 pub extern "C" fn blobcrash_run(alloc: Global, script: &[u8], replies: &mut [u8]) -> ScriptRan
-    ensures done { result.status ≡ DONE → Prints (script_of (lines_of script.now)) (Some []) (Some (take result.len replies.new)) }
-    ensures bad_line { result.status ≡ BAD_LINE → PrintsBeforeLine result.line script.now (Some []) (Some (take result.len replies.new)) }
+    ensures done { result.status ≡ DONE → PrintsScript script.now (take result.len replies.new) }
+    ensures bad_line { result.status ≡ BAD_LINE → PrintsUntil script.now result.line (take result.len replies.new) }
     ensures no_room { result.status ≡ NO_ROOM → length replies.old < result.len }
     ensures wanted { result.status ≡ NO_ROOM → WantsRoom script.now result.line result.len }
     ensures no_line { result.status ≡ DONE → result.line ≡ 0 }
@@ -41,7 +39,7 @@ pub extern "C" fn blobcrash_run(alloc: Global, script: &[u8], replies: &mut [u8]
     ensures unwritten { (result.status ≡ DONE) ⊎ (result.status ≡ BAD_LINE) ⊎ (replies.new ≡ replies.old) }
     ensures behind { drop result.len replies.new ≡ drop result.len replies.old }
     ensures within { (result.status ≡ NO_ROOM) ⊎ (result.len ≤ length replies.old) }
-    ensures status { (result.status ≡ DONE) ⊎ (result.status ≡ BAD_LINE) ⊎ (result.status ≡ NO_ROOM) ⊎ (result.status ≡ NO_MEMORY) ⊎ (result.status ≡ ENDLESS) }
+    ensures status { IsRunStatus result.status }
 {
     script::run(alloc, script, replies)
 }
@@ -52,8 +50,10 @@ pub extern "C" fn blobcrash_run(alloc: Global, script: &[u8], replies: &mut [u8]
 /// `BAD_LINE` returns the number of a line that isn't allowed there. It and `NO_MEMORY` change nothing.
 #[unsafe(no_mangle)]
 pub extern "C" fn blobcrash_open(alloc: Global, session: &mut Session, preamble: &[u8]) -> ScriptRan
-    ensures done { result.status ≡ DONE → IsSome (kept_of session.new) × IfSome (kept_of session.new) (λ k. IsMadeOf k (lines_of preamble.now)) }
-    ensures bad_line { result.status ≡ BAD_LINE → BreaksAt (lines_of preamble.now) result.line × (kept_of session.new ≡ kept_of session.old) }
+    ensures opened { result.status ≡ DONE → IsSome (kept_of session.new) }
+    ensures done { result.status ≡ DONE → IfSome (kept_of session.new) (λ k. IsMadeOf k (lines_of preamble.now)) }
+    ensures bad_line { result.status ≡ BAD_LINE → BreaksAt (lines_of preamble.now) result.line }
+    ensures unchanged { result.status ≡ BAD_LINE → kept_of session.new ≡ kept_of session.old }
     ensures no_memory { result.status ≡ NO_MEMORY → kept_of session.new ≡ kept_of session.old }
     ensures no_line { (result.status ≡ BAD_LINE) ⊎ (result.line ≡ 0) }
     ensures no_reply { result.len ≡ 0 }
@@ -90,7 +90,7 @@ pub extern "C" fn blobcrash_call(
     line: &[u8],
     reply: &mut [u8],
 ) -> Ran
-    ensures { OnHeld (kept_of session.old) (kept_of session.new) (λ k k'. RunsLine k k' line.now result reply.old reply.new) (IsClosed result reply.old reply.new) }
+    ensures { RunsLineIn session.old session.new line.now result reply.old reply.new }
 {
     let Some(mut kept) = session.take(alloc) else {
         return Ran::stopped(CLOSED);
@@ -103,7 +103,7 @@ pub extern "C" fn blobcrash_call(
 /// Writes the reply to the last call once more, as often as it is asked for.
 #[unsafe(no_mangle)]
 pub extern "C" fn blobcrash_reply(alloc: Global, session: &mut Session, reply: &mut [u8]) -> Ran
-    ensures { OnHeld (kept_of session.old) (kept_of session.new) (λ k k'. TellsAgain k k' result reply.old reply.new) (IsClosed result reply.old reply.new) }
+    ensures { RepeatsReply session.old session.new result reply.old reply.new }
 {
     let Some(mut kept) = session.take(alloc) else {
         return Ran::stopped(CLOSED);
@@ -125,7 +125,7 @@ pub extern "C" fn blobcrash_write(
     bytes: &[u8],
     sync: bool,
 ) -> u32
-    ensures { OnHeld (kept_of session.old) (kept_of session.new) (λ k k'. AnswersWrite k k' handle offset bytes.now sync result) (result ≡ CLOSED) }
+    ensures { WritesBytes session.old session.new handle offset bytes.now sync result }
 {
     let Some(mut kept) = session.take(alloc) else {
         return CLOSED;
@@ -298,7 +298,7 @@ pub extern "C" fn blobcrash_audit(alloc: Global, session: &mut Session, into: &m
 /// `ENDLESS` if a seed gives the words after the given ones. `ENDLESS` and `CLOSED` have the length 0.
 #[unsafe(no_mangle)]
 pub extern "C" fn blobcrash_words_left(alloc: Global, session: &mut Session) -> Ran
-    ensures { OnHeld (kept_of session.old) (kept_of session.new) (λ k k'. (k' ≡ k) × TellsWordsLeft k result) (result ≡ record { status = CLOSED; len = 0 }) }
+    ensures { Inspects session.old session.new (λ k. TellsWordsLeft k result) (result ≡ stopped CLOSED) }
 {
     let Some(kept) = session.take(alloc) else {
         return Ran::stopped(CLOSED);
@@ -313,7 +313,7 @@ pub extern "C" fn blobcrash_words_left(alloc: Global, session: &mut Session) -> 
 /// `NO_MEMORY` changes nothing.
 #[unsafe(no_mangle)]
 pub extern "C" fn blobcrash_push_words(alloc: Global, session: &mut Session, words: &[u64]) -> u32
-    ensures { OnHeld (kept_of session.old) (kept_of session.new) (λ k k'. TakesWords k k' words.now result) (result ≡ CLOSED) }
+    ensures { InsertsWords session.old session.new words.now result }
 {
     let Some(mut kept) = session.take(alloc) else {
         return CLOSED;
@@ -338,7 +338,7 @@ pub extern "C" fn blobcrash_debt(
     partition: &[u8],
     name: &[u8],
 ) -> DebtReply
-    ensures { OnHeld (kept_of session.old) (kept_of session.new) (λ k k'. k' ≡ record k { debts = k'.debts }) (result ≡ no_debt CLOSED) }
+    ensures { ChangesDebts session.old session.new result }
 {
     let Some(mut kept) = session.take(alloc) else {
         return DebtReply::stopped(CLOSED);
@@ -367,7 +367,7 @@ pub extern "C" fn blobcrash_parse_header(
     raw_len: u64,
     accepts: &Accepts,
 ) -> ParsedHeader
-    ensures parsed { IsFrontOfBlob raw.now raw_len → IfSome (accepted_by accepts.now) (λ accepted. result ≡ header_reply (parsed raw.now raw_len accepted)) }
+    ensures parsed { IsFrontOfBlob raw.now raw_len → ParsesHeader raw.now raw_len accepts.now result }
     ensures unknown { accepted_by accepts.now ≡ None → result ≡ no_header BAD_CALL }
     ensures no_front { (IsFrontOfBlob raw.now raw_len → ⊥) → result ≡ no_header BAD_CALL }
 {
