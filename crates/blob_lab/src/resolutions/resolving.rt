@@ -12,7 +12,7 @@ use crate::resolution_line::ResolutionLine;
 use crate::streams::drop_line_feed;
 use crate::{Ending, Input, Output};
 use blob_base::{BlobVersion, Error, Layout, resolve};
-use hex::FromHexError;
+use blob_script::script::{RefusedLine, decode_hex};
 use std::alloc::Global;
 use std::io::{BufRead, Write};
 
@@ -78,9 +78,9 @@ fn image_of(alloc: Global, line: &[u8]) -> Result<Vec<u8>, Ending>
     ensures bytes { IfOk result (λ image. decode_of line.now ≡ Ok image.items) }
     ensures refused { IfErr result (λ ending. (ending ≡ Ending.NoMemory) ⊎ ((ending ≡ Ending.BadImage) × IsErr (decode_of line.now))) }
 {
-    match hex::decode(alloc, line) {
+    match decode_hex(alloc, line) {
         Ok(image) => Ok(image),
-        Err(FromHexError::OutOfMemory) => Err(Ending::NoMemory),
-        Err(_) => Err(Ending::BadImage),
+        Err(RefusedLine::NoMemory) => Err(Ending::NoMemory),
+        Err(RefusedLine::BadCall) => Err(Ending::BadImage),
     }
 }

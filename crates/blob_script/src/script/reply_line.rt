@@ -6,6 +6,7 @@ ghost use Rattle.blob_draws.specs.Rows.{row_in, rows_in};
 ghost use Rattle.blob_script.specs.Replies.{reply_line, hex_field, row_field};
 
 use crate::Reply;
+use crate::script::hex_text::encode_hex;
 use blob_base::RefusalLine;
 use std::alloc::{AllocError, Global};
 
@@ -54,7 +55,12 @@ fn print_hex(bytes: &[u8], line: &mut String) -> Result<(), AllocError>
     if bytes.is_empty() {
         return line.push_str("-");
     }
-    let digits = hex::encode(*line.allocator(), bytes)?;
+    let Some(len) = bytes.len().checked_mul(2) else {
+        return Err(AllocError);
+    };
+    let mut digits = vec![in *line.allocator(); 0u8; len]?;
+    encode_hex(bytes, digits.as_mut_slice());
+    let digits = unsafe { String::from_utf8_unchecked(digits) };
     line.push_str(&digits)
 }
 

@@ -4,7 +4,7 @@ ghost use Rattle.std.specs.Str.Parse.{digits_value};
 ghost use Rattle.blob_script.specs.Tokens.{tokens, bytes_of, number_of, IsNumber};
 
 use crate::script::RefusedLine;
-use crate::script::hex_text::decode;
+use crate::script::hex_text::decode_hex;
 use blob_base::Probability;
 use std::alloc::Global;
 use std::marker::Model;
@@ -78,5 +78,5 @@ pub fn bytes(alloc: Global, token: &str) -> Result<Vec<u8>, RefusedLine>
     if token == "-" {
         return Ok(Vec::new(alloc));
     }
-    decode(alloc, token.as_bytes())
+    decode_hex(alloc, token.as_bytes())
 }
