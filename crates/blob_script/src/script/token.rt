@@ -39,6 +39,9 @@ impl<'a> Tokens<'a> {
         ensures none { IfNone result (self.old ≡ []) }
         ensures done { IfNone result (self.new ≡ []) }
     {
+        if self.rest.is_empty() {
+            return None;
+        }
         while let Some((piece, rest)) = self.rest.split_once(' ') {
             self.rest = rest;
             if !piece.is_empty() {
