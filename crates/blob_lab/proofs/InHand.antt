@@ -5,7 +5,7 @@ use Rattle.std.proofs.Math.ListN.{length-append}
 use Rattle.std.proofs.Math.Seq.{take-append_seam}
 use Rattle.std.specs.Io.{StopsAt}
 use Rattle.std.specs.List.{AllByRecursion, onto_first}
-use Rattle.blob_lab.specs.ScriptReading.{TakesOne, PrintsFront, behind_part}
+use Rattle.blob_lab.specs.ScriptReading.{TakesOne, PrintsFront, with_part_first}
 use Rattle.blob_lab.specs.Scripts.{PrintsTaken, lines_of, no_script}
 
 -- these bytes have no line feed
@@ -64,7 +64,7 @@ whole_line line left h =
       subst (All (λ x. x ≢ 10)) (sym (ap (λ n. take n (line ++ 10 ∷ [])) short ∙ take-append_seam line (10 ∷ []))) (each_other line h),
     )
 
-part_of_line : (part left : List ℕ) (lines : List (List ℕ)) → lines_of left ≡ lines → AllByRecursion IsFeedless (behind_part part lines) → InHand (behind_part part lines) left
+part_of_line : (part left : List ℕ) (lines : List (List ℕ)) → lines_of left ≡ lines → AllByRecursion IsFeedless (with_part_first part lines) → InHand (with_part_first part lines) left
 part_of_line part left [] e all = ([], sym e, each_other [] tt)
 part_of_line part left (line ∷ more) e all =
     let h : IsFeedless part = front_feedless part line all.0 in

@@ -7,7 +7,7 @@ use Rattle.blob_lab.specs.declared.ending.Ending.{Ending}
 use Rattle.blob_lab.specs.declared.ending.Ending.TheVariants.{Done, InputFailed, OutputFailed, BadCall, BadImage, Usage, NoMemory}
 use Rattle.blob_lab.specs.Endings.{is_cut}
 use Rattle.blob_lab.specs.Reading.{IsReadOut}
-use Rattle.blob_lab.specs.ScriptReading.{OfLines, PrintsFront, PrintsUpTo, behind_part}
+use Rattle.blob_lab.specs.ScriptReading.{OfLines, PrintsFront, PrintsUpTo, with_part_first}
 use Rattle.blob_lab.specs.Scripts.{Prints, PrintsBeforeLine, PrintsTaken, lines_of, no_script, script_of}
 use Rattle.blob_lab.specs.Streams.{AppendsPart}
 use Rattle.blob_lab.proofs.InHand.{by_bytes}
@@ -87,7 +87,7 @@ done_front xs ys old mid new kept none (printed, prints, added) = taken_kept old
   front = lines_of xs;
   rest = [];
   parts = sym (append-nil (lines_of xs));
-  in_hand = inr ([], subst (λ (l : List (List ℕ)). [] ≡ behind_part [] l) (none_left ys none) refl);
+  in_hand = inr ([], subst (λ (l : List (List ℕ)). [] ≡ with_part_first [] l) (none_left ys none) refl);
   printed = printed;
   prints = prints;
   added = added;

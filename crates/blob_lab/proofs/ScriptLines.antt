@@ -6,7 +6,7 @@ use Rattle.std.specs.Io.BufRead.{DropsThrough, take_through, drop_through, strip
 use Rattle.std.specs.Io.{StopsAt}
 use Rattle.std.specs.Io.KnownBytes.{Consumes}
 use Rattle.blob_script.specs.Lines.{Said, line_of}
-use Rattle.blob_lab.specs.ScriptReading.{OfLines, TakesLine, TakesOne, behind_part}
+use Rattle.blob_lab.specs.ScriptReading.{OfLines, TakesLine, TakesOne, with_part_first}
 use Rattle.blob_lab.specs.Scripts.{lines_of}
 use Rattle.std.specs.List.{onto_first}
 
@@ -49,7 +49,7 @@ takes_line (Some (b ∷ bs)) (Some ys) kept buf line said none bytes drops some 
 
 -- A part of a line.
 
-pub part_nil : (lines : List (List ℕ)) → lines ≡ behind_part [] lines
+pub part_nil : (lines : List (List ℕ)) → lines ≡ with_part_first [] lines
 part_nil [] = refl
 part_nil (line ∷ lines) = refl
 

@@ -13,7 +13,7 @@ use Rattle.blob_lab_store.specs.declared.lab.Lab.{Lab}
 use Rattle.blob_script.specs.declared.reply.Reply.{Reply}
 use Rattle.blob_script.specs.Acts.{Act, act_of}
 use Rattle.blob_lab_store.specs.LabStands.{LabStandsFor, Performs}
-use Rattle.blob_lab.specs.ScriptReading.{OfLines, AddsCall, TakesCall, TakesBadCall, TakesPart, Begins, Answered, PrintsFront, PrintsBefore, PrintsUpTo, printed_reply, with_call}
+use Rattle.blob_lab.specs.ScriptReading.{OfLines, AddsCall, TakesCall, TakesBadCall, TakesPart, Begins, HasReplies, PrintsFront, PrintsBefore, PrintsUpTo, printed_reply, with_call}
 use Rattle.blob_lab.specs.Scripts.{Script, IsPrinted, Prints, lines_of, with_lines}
 use Rattle.blob_script.specs.Settings.{cleared}
 use Rattle.blob_lab_model.specs.States.{State, start}
@@ -30,7 +30,7 @@ pub record Settled (s : Script) (first next : ℕ) (lab : Lab) (config : Config)
   pub taken : TakesFront s t first next all rest
   pub config_is : t.config ≡ config
   pub some : t.calls ≢ []
-  pub answered : Answered t printed w
+  pub answered : HasReplies t printed w
   pub stands : LabStandsFor lab w
   pub added : Appends old new printed
 
@@ -42,7 +42,7 @@ pub record Awaiting (s : Script) (first number : ℕ) (lab : Lab) (act : Act) (c
   pub printed : List ℕ
   pub taken : TakesFront s t first number all (line ∷ rest)
   pub adds : AddsCall t line act config
-  pub answered : Answered t printed w
+  pub answered : HasReplies t printed w
   pub stands : LabStandsFor lab w
   pub added : Appends old new printed
 
@@ -69,7 +69,7 @@ part_of_taken s lines left old new a = record {
   added = (a.printed, [], sym (append-nil a.printed), a.added);
 }
 
-pub printed_of : (o : Option Script) (t : Script) (printed : List ℕ) (w : State) → o ≡ Some t → Answered t printed w → IsPrinted o printed
+pub printed_of : (o : Option Script) (t : Script) (printed : List ℕ) (w : State) → o ≡ Some t → HasReplies t printed w → IsPrinted o printed
 printed_of o t printed w is a = subst (λ (x : Option Script). IsPrinted x printed) (sym is) (a.calls, a.replies, w, a.are, a.run, a.lines)
 
 -- The output so far.
@@ -136,7 +136,7 @@ module _ (s : Script) (first : ℕ) (old : Option (List ℕ)) (all : List (List 
   }
 
   more_answered : (number : ℕ) (lab lab' : Lab) (call : Call) (reply : Reply) (config : Config) (mid : Option (List ℕ)) (rest : List (List ℕ)) (a : Awaiting s first number lab (act_of call) config old mid all rest)
-      → Performs lab (act_of call) reply lab' → (w : State) × Answered (with_call (record a.t { config = config }) (act_of call)) (a.printed ++ printed_reply reply) w × LabStandsFor lab' w
+      → Performs lab (act_of call) reply lab' → (w : State) × HasReplies (with_call (record a.t { config = config }) (act_of call)) (a.printed ++ printed_reply reply) w × LabStandsFor lab' w
   more_answered number lab lab' call reply config mid rest a performs =
       let t = a.t in (
         _,

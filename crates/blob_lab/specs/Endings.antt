@@ -1,5 +1,5 @@
 -- How a run of the program ends.
-use Rattle.std.specs.Prelude.{ℕ, List, [], ◌++◌, codes, Bool, true, false}
+use Rattle.std.specs.Prelude.{◌≡◌, ◌≢◌, ℕ, List, [], ◌++◌, codes, Bool, true, false, Result, Err}
 use Rattle.std.specs.Fmt.{decimal}
 use Rattle.blob_lab.specs.declared.ending.Ending.{Ending}
 use Rattle.blob_lab.specs.declared.ending.Ending.TheVariants.{Done, InputFailed, OutputFailed, BadCall, BadImage, Usage, NoMemory}
@@ -52,3 +52,21 @@ is_of_resolve ending = true
 abbrev pub is_cut_of_resolve : Ending → Bool
 is_cut_of_resolve Done = false
 is_cut_of_resolve ending = is_of_resolve ending
+
+-- What holds by how a run ended.
+
+-- P holds if the output didn't fail
+abbrev pub IfWritten : Ending → Type 0 → Type 0
+IfWritten ending P = ending ≢ OutputFailed → P
+
+-- P holds if the output failed
+abbrev pub IfWriteFailed : Ending → Type 0 → Type 0
+IfWriteFailed ending P = ending ≡ OutputFailed → P
+
+-- P holds if `resolve` ended before its reply: not as Done, nor as OutputFailed
+abbrev pub IfNoReply : Ending → Type 0 → Type 0
+IfNoReply ending P = ending ≢ Done → ending ≢ OutputFailed → P
+
+-- P holds of the number of the bad line, if the run ended at one
+abbrev pub IfBadLine : {T : Type 0} → Result T Ending → (ℕ → Type 0) → Type 0
+IfBadLine result P = (number : ℕ) → result ≡ Err (BadCall number) → P number

@@ -1,6 +1,7 @@
 -- The resolution of an image as a line, and the reply to a line of hex.
 use Rattle.std.specs.Prelude.{ℕ, List, [], ◌∷◌, ◌++◌, ◌≡◌, ◌⊎◌, codes, Option, Some, None, Result, Ok, Err, IsErr}
 use Rattle.std.specs.Fmt.{decimal}
+use Rattle.std.specs.Io.BufRead.{first_piece}
 use Rattle.std.specs.Io.KnownBytes.{Appends}
 use Rattle.hex.specs.Hex.{decode_of}
 use Rattle.blob_header.specs.declared.version.BlobVersion.{BlobVersion}
@@ -29,3 +30,11 @@ resolved_image image = refusing (codes "image") (codes "blob") (resolution image
 abbrev pub AnswersLine : List ℕ → Option (List ℕ) → Option (List ℕ) → Type 0
 AnswersLine line old new = (image : List ℕ) × (reply : List ℕ) × (decode_of line ≡ Ok image) × Appends old new (reply ++ 10 ∷ [])
     × ((reply ≡ resolution_line (resolved_image image)) ⊎ (IsErr (resolved_image image) × (reply ≡ refusal_line Memory)))
+
+-- the same for the first line of these bytes
+abbrev pub ResolvesLine : List ℕ → Option (List ℕ) → Option (List ℕ) → Type 0
+ResolvesLine bytes old new = AnswersLine (first_piece 10 bytes) old new
+
+-- the first line of these bytes isn't hex
+abbrev pub HasBadHex : List ℕ → Type 0
+HasBadHex bytes = IsErr (decode_of (first_piece 10 bytes))

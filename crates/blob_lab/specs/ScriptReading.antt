@@ -17,7 +17,7 @@ use Rattle.blob_script.specs.Acts.{Act, act_of}
 use Rattle.blob_lab_store.specs.LabStands.{LabStandsFor, Performs}
 use Rattle.blob_script.specs.Lines.{Said, line_of}
 use Rattle.blob_script.specs.Replies.{reply_line}
-use Rattle.blob_lab.specs.Scripts.{IsPrinted, OfRun, Prints, Script, lines_of, no_script, with_line, with_lines}
+use Rattle.blob_lab.specs.Scripts.{IsPrinted, Prints, Run, Script, lines_of, no_script, with_line, with_lines}
 use Rattle.blob_lab.specs.Streams.{AppendsPart, OfBytes, reader_of, writer_of}
 use Rattle.blob_script.specs.Settings.{cleared}
 use Rattle.blob_lab_model.specs.Runs.{LeadsTo}
@@ -36,13 +36,13 @@ abbrev pub with_call : Script → Act → Script
 with_call s act = record s { calls = s.calls ++ act ∷ [] }
 
 -- the lines with `part` before the first one, if there is one
-abbrev pub behind_part : List ℕ → List (List ℕ) → List (List ℕ)
-behind_part part [] = []
-behind_part part (line ∷ lines) = (part ++ line) ∷ lines
+abbrev pub with_part_first : List ℕ → List (List ℕ) → List (List ℕ)
+with_part_first part [] = []
+with_part_first part (line ∷ lines) = (part ++ line) ∷ lines
 
 -- one line was taken, or a part of one, or none
 abbrev pub TakesOne : List (List ℕ) → List (List ℕ) → Type 0
-TakesOne lines left = ((line : List ℕ) × (lines ≡ line ∷ left)) ⊎ ((part : List ℕ) × (lines ≡ behind_part part left))
+TakesOne lines left = ((line : List ℕ) × (lines ≡ line ∷ left)) ⊎ ((part : List ℕ) × (lines ≡ with_part_first part left))
 
 -- one line with this meaning was taken; None is a bad line
 abbrev pub TakesLine : Option Said → List (List ℕ) → List (List ℕ) → Type 0
@@ -85,6 +85,10 @@ pub record Begins (lab : Lab) (s : Script) (line : List ℕ) (act : Act) (config
   pub adds : AddsCall s line act config
   pub stands : LabStandsFor lab (start s.images s.words cleared)
 
+-- a laboratory was created from a script's images and words, without rates
+abbrev pub IsCreatedFrom : Lab → Script → Type 0
+IsCreatedFrom lab s = LabStandsFor lab (start s.images s.words cleared)
+
 -- the script of the preamble so far
 abbrev pub preamble_of : Preamble → Config → Script
 preamble_of preamble config = record { images = images_of preamble.images.items; words = record { given = preamble.words.items; seed = preamble.seed }; config = config; calls = [] }
@@ -92,8 +96,8 @@ preamble_of preamble config = record { images = images_of preamble.images.items;
 -- What reading up to a call takes, given the reader before and after, and the lines so far.
 
 -- the lines of a preamble and the first call
-abbrev pub ReadsFirstCall : {R : Type 0} → (R → Option (List ℕ)) → Input R → Input R → Preamble → Preamble → Lines → Lines → Call → Type 0
-ReadsFirstCall remaining i i' before after old new call = OfRead remaining i i'
+abbrev pub ReadsToCall : {R : Type 0} → (R → Option (List ℕ)) → Input R → Input R → Preamble → Preamble → Lines → Lines → Call → Type 0
+ReadsToCall remaining i i' before after old new call = OfRead remaining i i'
     (TakesCall (preamble_of before old.config) (preamble_of after old.config) (old.number + 1) new.number (act_of call) new.config)
 
 -- only lines of a preamble
@@ -115,6 +119,10 @@ abbrev pub ReadsNextCall : {R : Type 0} → (R → Option (List ℕ)) → Input 
 ReadsNextCall remaining i i' old new call = (s : Script) → s.config ≡ old.config
     → OfRead remaining i i' (TakesCall s s (old.number + 1) new.number (act_of call) new.config)
 
+-- after a call, no further one: only empty lines and comments
+abbrev pub ReadsNoCall : {R : Type 0} → (R → Option (List ℕ)) → Input R → Input R → Type 0
+ReadsNoCall remaining i i' = (s : Script) → OfRead remaining i i' (λ lines _. with_lines s lines ≡ Some s)
+
 -- after a call, a line of this number that isn't allowed there
 abbrev pub ReadsBadCall : {R : Type 0} → (R → Option (List ℕ)) → Input R → Input R → Lines → ℕ → Type 0
 ReadsBadCall remaining i i' old number = (s : Script) → s.calls ≢ [] → OfRead remaining i i' (TakesBadCall s s (old.number + 1) number)
@@ -130,7 +138,7 @@ abbrev pub printed_reply : Reply → List ℕ
 printed_reply reply = reply_line reply ++ 10 ∷ []
 
 -- the script's calls may have these printed replies, and may lead to this state
-pub record Answered (s : Script) (printed : List ℕ) (w : State) : Type 0 where
+pub record HasReplies (s : Script) (printed : List ℕ) (w : State) : Type 0 where
   pub calls : List Call
   pub replies : List Reply
   pub are : map act_of calls ≡ s.calls
@@ -170,6 +178,10 @@ PrintsUpTo ending s first lines left old new = Unit {0}
 abbrev pub PrintsScriptUpTo : Ending → List ℕ → List ℕ → Option (List ℕ) → Option (List ℕ) → Type 0
 PrintsScriptUpTo ending bytes left old new = PrintsUpTo ending no_script 1 (lines_of bytes) (lines_of left) old new
 
+-- the same for the streams of a run
+abbrev pub PrintsInputUpTo : {R W : Type 0} → (R → Option (List ℕ)) → (W → Option (List ℕ)) → Input R → Input R → Output W → Output W → Ending → Type 0
+PrintsInputUpTo remaining contents i i' o o' ending = Run remaining contents i i' o o' (PrintsScriptUpTo ending)
+
 -- The output of the calls from the first one on, after the lines that created the laboratory.
 
 -- all of it
@@ -178,11 +190,19 @@ PrintsFrom remaining contents lab first lines i o o' = (s : Script) (line : List
     → OfBytes remaining contents i o o' (λ bytes. Prints (with_lines s (line ∷ lines_of bytes)))
 
 -- up to this failure
-abbrev pub PrintsFromUpTo : {R W : Type 0} → (R → Option (List ℕ)) → (W → Option (List ℕ)) → Ending → Lab → Call → Lines → Input R → Input R → Output W → Output W → Type 0
-PrintsFromUpTo remaining contents ending lab first lines i i' o o' = (s : Script) (line : List ℕ) → Begins lab s line (act_of first) lines.config
-    → OfRun remaining contents i i' o o' (λ all left. PrintsUpTo ending s lines.number (line ∷ lines_of all) (lines_of left))
+abbrev pub PrintsFromUpTo : {R W : Type 0} → (R → Option (List ℕ)) → (W → Option (List ℕ)) → Lab → Call → Lines → Input R → Input R → Output W → Output W → Ending → Type 0
+PrintsFromUpTo remaining contents lab first lines i i' o o' ending = (s : Script) (line : List ℕ) → Begins lab s line (act_of first) lines.config
+    → Run remaining contents i i' o o' (λ all left. PrintsUpTo ending s lines.number (line ∷ lines_of all) (lines_of left))
 
--- a call was run, and the line of its reply was written
-abbrev pub WritesReply : {W : Type 0} → (W → Option (List ℕ)) → Lab → Call → Lab → Output W → Output W → (Option (List ℕ) → Option (List ℕ) → List ℕ → Type 0) → Type 0
-WritesReply contents lab call lab' o o' Adds = (reply : Reply) × Performs lab (act_of call) reply lab'
+-- a call was run, and the line of its reply was added like this
+abbrev pub AddsReply : {W : Type 0} → (W → Option (List ℕ)) → Lab → Call → Lab → Output W → Output W → (Option (List ℕ) → Option (List ℕ) → List ℕ → Type 0) → Type 0
+AddsReply contents lab call lab' o o' Adds = (reply : Reply) × Performs lab (act_of call) reply lab'
     × Adds (contents (writer_of o)) (contents (writer_of o')) (printed_reply reply)
+
+-- it was written
+abbrev pub WritesReply : {W : Type 0} → (W → Option (List ℕ)) → Lab → Call → Lab → Output W → Output W → Type 0
+WritesReply contents lab call lab' o o' = AddsReply contents lab call lab' o o' Appends
+
+-- a prefix of it was written
+abbrev pub CutsReply : {W : Type 0} → (W → Option (List ℕ)) → Lab → Call → Lab → Output W → Output W → Type 0
+CutsReply contents lab call lab' o o' = AddsReply contents lab call lab' o o' AppendsPart

@@ -8,7 +8,7 @@ use Rattle.blob_draws.specs.declared.config.Config.{Config}
 use Rattle.blob_script.specs.declared.call.Call.{Call as LabCall}
 use Rattle.blob_lab.specs.declared.streams.Input.{Input}
 use Rattle.blob_lab.specs.declared.streams.Output.{Output}
-use Rattle.blob_lab.specs.Streams.{reader_of, writer_of, OfKnown}
+use Rattle.blob_lab.specs.Streams.{AppendsPart, reader_of, writer_of, OfKnown}
 use Rattle.blob_script.specs.declared.reply.Reply.{Reply}
 use Rattle.blob_script.specs.Acts as acts
 use Rattle.blob_script.specs.Acts.{Act, act_of}
@@ -69,6 +69,10 @@ IsPrinted (Some s) printed = (calls : List LabCall) × (replies : List Reply) ×
 abbrev pub Prints : Option Script → Option (List ℕ) → Option (List ℕ) → Type 0
 Prints script old new = (printed : List ℕ) × IsPrinted script printed × Appends old new printed
 
+-- these bytes are a script, and its output was added
+abbrev pub PrintsAll : List ℕ → Option (List ℕ) → Option (List ℕ) → Type 0
+PrintsAll bytes old new = Prints (script_of (lines_of bytes)) old new
+
 -- the lines before the line with this number, counted from 1, have this output; with that line they aren't a script
 pub record PrintsBeforeLine (number : ℕ) (bytes : List ℕ) (old new : Option (List ℕ)) : Type 0 where
   pub front : List (List ℕ)
@@ -90,12 +94,20 @@ pub record PrintsTaken (Adds : Option (List ℕ) → Option (List ℕ) → List 
   pub prints : IsPrinted (script_of front) printed
   pub added : Adds old new printed
 
+-- the replies to the lines that were taken were written
+abbrev pub Replies : List ℕ → List ℕ → Option (List ℕ) → Option (List ℕ) → Type 0
+Replies bytes left old new = PrintsTaken Appends bytes left old new
+
+-- a prefix of these replies was written
+abbrev pub PartReplies : List ℕ → List ℕ → Option (List ℕ) → Option (List ℕ) → Type 0
+PartReplies bytes left old new = PrintsTaken AppendsPart bytes left old new
+
 -- if a reader's bytes before are known, they are known afterwards, and P holds of both and of a writer's contents
 -- before and after
-abbrev pub OfKnownRun : {R W : Type 0} → (R → Option (List ℕ)) → (W → Option (List ℕ)) → R → R → W → W → (List ℕ → List ℕ → Option (List ℕ) → Option (List ℕ) → Type 0) → Type 0
-OfKnownRun remaining contents r r' w w' P = OfKnown remaining contents r w w' (λ bytes old new. IsSomeAnd (remaining r') (λ left. P bytes left old new))
+abbrev pub KnownRun : {R W : Type 0} → (R → Option (List ℕ)) → (W → Option (List ℕ)) → R → R → W → W → (List ℕ → List ℕ → Option (List ℕ) → Option (List ℕ) → Type 0) → Type 0
+KnownRun remaining contents r r' w w' P = OfKnown remaining contents r w w' (λ bytes old new. IsSomeAnd (remaining r') (λ left. P bytes left old new))
 
 -- the same for the reader and the writer of a run
-abbrev pub OfRun : {R W : Type 0} → (R → Option (List ℕ)) → (W → Option (List ℕ)) → Input R → Input R → Output W → Output W
+abbrev pub Run : {R W : Type 0} → (R → Option (List ℕ)) → (W → Option (List ℕ)) → Input R → Input R → Output W → Output W
     → (List ℕ → List ℕ → Option (List ℕ) → Option (List ℕ) → Type 0) → Type 0
-OfRun remaining contents i i' o o' P = OfKnownRun remaining contents (reader_of i) (reader_of i') (writer_of o) (writer_of o') P
+Run remaining contents i i' o o' P = KnownRun remaining contents (reader_of i) (reader_of i') (writer_of o) (writer_of o') P

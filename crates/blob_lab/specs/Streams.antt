@@ -3,11 +3,12 @@ use Rattle.std.specs.Prelude.{◌≡◌, ℕ, ◌+◌, ◌==◌, List, ◌++◌,
 use Rattle.std.specs.List.{list_any}
 use Rattle.std.specs.Io.{StopsAt, appended_bytes}
 use Rattle.std.specs.Io.BufRead.{DropsThrough, take_through}
-use Rattle.std.specs.Io.KnownBytes.{Appends, Consumes, IsAtEnd}
+use Rattle.std.specs.Io.KnownBytes.{Appends, Consumes, IsAtEnd, Keeps}
 use Rattle.blob_lab.specs.declared.ending.Ending.{Ending}
-use Rattle.blob_lab.specs.declared.ending.Ending.TheVariants.{InputFailed, OutputFailed}
+use Rattle.blob_lab.specs.declared.ending.Ending.TheVariants.{InputFailed, OutputFailed, BadCall}
 use Rattle.blob_lab.specs.declared.streams.Input.{Input}
 use Rattle.blob_lab.specs.declared.streams.Output.{Output}
+use Rattle.blob_lab.specs.Reading.{IsReadOut, StaysKnown}
 
 abbrev pub reader_of : {R : Type 0} → Input R → R
 reader_of input = input.reader
@@ -34,6 +35,10 @@ is_flushed output = output.flushed
 -- whether these bytes include a whole line, so that taking it doesn't wait
 abbrev pub has_line : List ℕ → Bool
 has_line bytes = list_any (λ b. b == 10) bytes
+
+-- the next line is in the reader's buffer
+abbrev pub HasLineReady : {R : Type 0} → (R → List ℕ) → Input R → Type 0
+HasLineReady ready input = has_line (ready (reader_of input)) ≡ true
 
 -- What failed, and how a result says so.
 
@@ -64,9 +69,16 @@ AppendsPart old new bytes = (front : List ℕ) × (rest : List ℕ) × (bytes �
 abbrev pub OfKnown : {R W : Type 0} → (R → Option (List ℕ)) → (W → Option (List ℕ)) → R → W → W → (List ℕ → Option (List ℕ) → Option (List ℕ) → Type 0) → Type 0
 OfKnown remaining contents r w w' P = IfSome (remaining r) (λ bytes. P bytes (contents w) (contents w'))
 
--- the same for the reader and the writer of a run
+-- if the run ended at a bad line, P of its number holds of the bytes, and of the contents before and after
+abbrev pub OnKnownBadCall : {R W : Type 0} → (R → Option (List ℕ)) → (W → Option (List ℕ)) → Ending → R → W → W → (ℕ → List ℕ → Option (List ℕ) → Option (List ℕ) → Type 0) → Type 0
+OnKnownBadCall remaining contents ending r w w' P = (number : ℕ) → ending ≡ BadCall number → OfKnown remaining contents r w w' (P number)
+
+-- both for the reader and the writer of a run
 abbrev pub OfBytes : {R W : Type 0} → (R → Option (List ℕ)) → (W → Option (List ℕ)) → Input R → Output W → Output W → (List ℕ → Option (List ℕ) → Option (List ℕ) → Type 0) → Type 0
 OfBytes remaining contents i o o' P = OfKnown remaining contents (reader_of i) (writer_of o) (writer_of o') P
+
+abbrev pub OnBadCall : {R W : Type 0} → (R → Option (List ℕ)) → (W → Option (List ℕ)) → Ending → Input R → Output W → Output W → (ℕ → List ℕ → Option (List ℕ) → Option (List ℕ) → Type 0) → Type 0
+OnBadCall remaining contents ending i o o' P = OnKnownBadCall remaining contents ending (reader_of i) (writer_of o) (writer_of o') P
 
 -- one line was appended to a buffer; after an error at most a part of it
 pub record ReadsLine (result : Result ℕ Ending) (old new : Option (List ℕ)) (before after : List ℕ) : Type 0 where
@@ -76,3 +88,35 @@ pub record ReadsLine (result : Result ℕ Ending) (old new : Option (List ℕ)) 
   pub end : IfOk result (λ n. n ≡ 0 → IsAtEnd old)
   pub one : StopsAt (appended_bytes before after) 10
   pub none_lost : Consumes old new (appended_bytes before after)
+
+-- the same for the reader of a run
+abbrev pub ReadsInputLine : {R : Type 0} → (R → Option (List ℕ)) → Result ℕ Ending → Input R → Input R → List ℕ → List ℕ → Type 0
+ReadsInputLine remaining result i i' before after = ReadsLine result (remaining (reader_of i)) (remaining (reader_of i')) before after
+
+-- the remaining bytes were appended to a buffer
+abbrev pub ReadsRest : {R : Type 0} → (R → Option (List ℕ)) → Input R → List ℕ → List ℕ → Type 0
+ReadsRest remaining i before after = IfSome (remaining (reader_of i)) (λ left. after ≡ before ++ left)
+
+-- one line was taken
+abbrev pub DropsLine : {R : Type 0} → (R → Option (List ℕ)) → Input R → Input R → Type 0
+DropsLine remaining i i' = DropsThrough (remaining (reader_of i)) (remaining (reader_of i')) 10
+
+-- no byte remains
+abbrev pub IsReadToEnd : {R : Type 0} → (R → Option (List ℕ)) → Input R → Input R → Type 0
+IsReadToEnd remaining i i' = IsReadOut (remaining (reader_of i)) (remaining (reader_of i'))
+
+-- the remaining bytes are still known
+abbrev pub KeepsKnown : {R : Type 0} → (R → Option (List ℕ)) → Input R → Input R → Type 0
+KeepsKnown remaining i i' = StaysKnown (remaining (reader_of i)) (remaining (reader_of i'))
+
+-- nothing was written
+abbrev pub KeepsOutput : {W : Type 0} → (W → Option (List ℕ)) → Output W → Output W → Type 0
+KeepsOutput contents o o' = Keeps (contents (writer_of o)) (contents (writer_of o'))
+
+-- these bytes were written
+abbrev pub WritesAll : {W : Type 0} → (W → Option (List ℕ)) → Output W → Output W → List ℕ → Type 0
+WritesAll contents o o' bytes = Appends (contents (writer_of o)) (contents (writer_of o')) bytes
+
+-- a prefix of these bytes was written
+abbrev pub WritesPrefix : {W : Type 0} → (W → Option (List ℕ)) → Output W → Output W → List ℕ → Type 0
+WritesPrefix contents o o' bytes = AppendsPart (contents (writer_of o)) (contents (writer_of o')) bytes

@@ -1,9 +1,9 @@
-ghost use Rattle.std.specs.Prelude.{true, ◌≡◌, ◌≢◌, ℕ, IfSome, IsErr};
+ghost use Rattle.std.specs.Prelude.{true, ◌≡◌, ◌≢◌, ℕ, IfSome};
 ghost use Rattle.std.specs.Io.KnownBytes.{Keeps};
-ghost use Rattle.std.specs.Io.BufRead.{DropsThrough, first_piece};
-ghost use Rattle.hex.specs.Hex.{decode_of};
-ghost use Rattle.blob_lab.specs.ResolveReplies.{AnswersLine};
-ghost use Rattle.blob_lab.specs.Streams.{OfBytes, OfKnown, reader_of, read_failed, writer_of, write_failed, is_flushed};
+ghost use Rattle.std.specs.Io.BufRead.{DropsThrough};
+ghost use Rattle.blob_lab.specs.Endings.{IfNoReply};
+ghost use Rattle.blob_lab.specs.ResolveReplies.{HasBadHex, ResolvesLine};
+ghost use Rattle.blob_lab.specs.Streams.{DropsLine, KeepsOutput, OfBytes, OfKnown, reader_of, read_failed, write_failed, is_flushed};
 
 mod resolving;
 
@@ -16,10 +16,10 @@ use std::io::{BufRead, Write};
 /// Returns how the run ended (the exit status and the line for standard error), the reader and the writer.
 pub fn run_resolve<R: BufRead, W: Write>(alloc: Global, reader: R, writer: W) -> (Ending, R, W)
     ensures replied { result.0 ≡ Ending.Done
-        → OfKnown R.remaining W.contents reader writer result.2 (λ bytes. AnswersLine (first_piece 10 bytes)) }
+        → OfKnown R.remaining W.contents reader writer result.2 ResolvesLine }
     ensures rest { result.0 ≡ Ending.Done → DropsThrough (R.remaining reader) (R.remaining result.1) 10 }
-    ensures bad_image { result.0 ≡ Ending.BadImage → IfSome (R.remaining reader) (λ bytes. IsErr (decode_of (first_piece 10 bytes))) }
-    ensures nothing_written { result.0 ≢ Ending.Done → result.0 ≢ Ending.OutputFailed → Keeps (W.contents writer) (W.contents result.2) }
+    ensures bad_image { result.0 ≡ Ending.BadImage → IfSome (R.remaining reader) HasBadHex }
+    ensures nothing_written { IfNoReply result.0 (Keeps (W.contents writer) (W.contents result.2)) }
     ensures ending { ((line : ℕ) → result.0 ≢ Ending.BadCall line) × (result.0 ≢ Ending.Usage) }
 {
     let mut input = Input::new(reader);
@@ -35,11 +35,10 @@ pub fn serve_resolve<R: BufRead, W: Write>(
     output: &mut Output<W>,
 ) -> Ending
     ensures replied { result ≡ Ending.Done
-        → OfBytes R.remaining W.contents input.old output.old output.new (λ bytes. AnswersLine (first_piece 10 bytes)) }
-    ensures rest { result ≡ Ending.Done → DropsThrough (R.remaining (reader_of input.old)) (R.remaining (reader_of input.new)) 10 }
-    ensures bad_image { result ≡ Ending.BadImage → IfSome (R.remaining (reader_of input.old)) (λ bytes. IsErr (decode_of (first_piece 10 bytes))) }
-    ensures nothing_written { result ≢ Ending.Done → result ≢ Ending.OutputFailed
-        → Keeps (W.contents (writer_of output.old)) (W.contents (writer_of output.new)) }
+        → OfBytes R.remaining W.contents input.old output.old output.new ResolvesLine }
+    ensures rest { result ≡ Ending.Done → DropsLine R.remaining input.old input.new }
+    ensures bad_image { result ≡ Ending.BadImage → IfSome (R.remaining (reader_of input.old)) HasBadHex }
+    ensures nothing_written { IfNoReply result (KeepsOutput W.contents output.old output.new) }
     ensures ending { ((line : ℕ) → result ≢ Ending.BadCall line) × (result ≢ Ending.Usage) }
     ensures handed_on { result ≡ Ending.Done → is_flushed output.new ≡ true }
     ensures input_failed { result ≡ Ending.InputFailed → read_failed input.new ≡ true }

@@ -1,7 +1,8 @@
-ghost use Rattle.std.specs.Prelude.{◌≡◌, ◌≢◌, [], ℕ, true, Some, IfSome};
-ghost use Rattle.std.specs.Io.KnownBytes.{Appends};
-ghost use Rattle.blob_lab.specs.Scripts.{OfRun, OfKnownRun, Prints, PrintsBeforeLine, PrintsTaken, lines_of, script_of};
-ghost use Rattle.blob_lab.specs.Streams.{AppendsPart, OfBytes, OfKnown, reader_of, read_failed, write_failed, is_flushed};
+ghost use Rattle.std.specs.Prelude.{◌≡◌, ◌≢◌, true};
+ghost use Rattle.blob_lab.specs.Endings.{IfWriteFailed, IfWritten};
+ghost use Rattle.blob_lab.specs.Reading.{IsReadOut};
+ghost use Rattle.blob_lab.specs.Scripts.{KnownRun, PartReplies, PrintsAll, PrintsBeforeLine, Replies, Run};
+ghost use Rattle.blob_lab.specs.Streams.{IsReadToEnd, OfBytes, OfKnown, OnBadCall, OnKnownBadCall, read_failed, write_failed, is_flushed};
 
 mod ahead;
 mod answering;
@@ -21,15 +22,12 @@ use unknown::Unknown;
 /// Flushes each reply before it reads the next line, and once more at the end. `serve_script` flushes less often.
 pub fn run_script<R: BufRead, W: Write>(alloc: Global, reader: R, writer: W) -> (Ending, R, W)
     ensures ending { (result.0 ≢ Ending.BadImage) × (result.0 ≢ Ending.Usage) }
-    ensures read { result.0 ≡ Ending.Done → IfSome (R.remaining reader) (λ _. R.remaining result.1 ≡ Some []) }
+    ensures read { result.0 ≡ Ending.Done → IsReadOut (R.remaining reader) (R.remaining result.1) }
     ensures done { result.0 ≡ Ending.Done
-        → OfKnown R.remaining W.contents reader writer result.2 (λ bytes. Prints (script_of (lines_of bytes))) }
-    ensures bad_call { (number : ℕ) → result.0 ≡ Ending.BadCall number
-        → OfKnown R.remaining W.contents reader writer result.2 (PrintsBeforeLine number) }
-    ensures taken { result.0 ≢ Ending.OutputFailed
-        → OfKnownRun R.remaining W.contents reader result.1 writer result.2 (PrintsTaken Appends) }
-    ensures part { result.0 ≡ Ending.OutputFailed
-        → OfKnownRun R.remaining W.contents reader result.1 writer result.2 (PrintsTaken AppendsPart) }
+        → OfKnown R.remaining W.contents reader writer result.2 PrintsAll }
+    ensures bad_call { OnKnownBadCall R.remaining W.contents result.0 reader writer result.2 PrintsBeforeLine }
+    ensures taken { IfWritten result.0 (KnownRun R.remaining W.contents reader result.1 writer result.2 Replies) }
+    ensures part { IfWriteFailed result.0 (KnownRun R.remaining W.contents reader result.1 writer result.2 PartReplies) }
 {
     let mut input = Input::new(Unknown::new(reader));
     let mut output = Output::new(writer);
@@ -50,19 +48,16 @@ pub fn serve_script<R: Ahead, W: Write>(
     output: &mut Output<W>,
 ) -> Ending
     ensures ending { (result ≢ Ending.BadImage) × (result ≢ Ending.Usage) }
-    ensures read { result ≡ Ending.Done → IfSome (R.remaining (reader_of input.old)) (λ _. R.remaining (reader_of input.new) ≡ Some []) }
+    ensures read { result ≡ Ending.Done → IsReadToEnd R.remaining input.old input.new }
     ensures done { result ≡ Ending.Done
-        → OfBytes R.remaining W.contents input.old output.old output.new (λ bytes. Prints (script_of (lines_of bytes))) }
-    ensures bad_call { (number : ℕ) → result ≡ Ending.BadCall number
-        → OfBytes R.remaining W.contents input.old output.old output.new (PrintsBeforeLine number) }
-    ensures taken { result ≢ Ending.OutputFailed
-        → OfRun R.remaining W.contents input.old input.new output.old output.new (PrintsTaken Appends) }
-    ensures part { result ≡ Ending.OutputFailed
-        → OfRun R.remaining W.contents input.old input.new output.old output.new (PrintsTaken AppendsPart) }
+        → OfBytes R.remaining W.contents input.old output.old output.new PrintsAll }
+    ensures bad_call { OnBadCall R.remaining W.contents result input.old output.old output.new PrintsBeforeLine }
+    ensures taken { IfWritten result (Run R.remaining W.contents input.old input.new output.old output.new Replies) }
+    ensures part { IfWriteFailed result (Run R.remaining W.contents input.old input.new output.old output.new PartReplies) }
     ensures handed_on { result ≢ Ending.OutputFailed → is_flushed output.new ≡ true }
     ensures input_failed { result ≡ Ending.InputFailed → read_failed input.new ≡ true }
     ensures output_failed { result ≡ Ending.OutputFailed → write_failed output.new ≡ true }
-    ensures input_sound { result ≢ Ending.InputFailed → result ≢ Ending.OutputFailed → read_failed input.new ≡ read_failed input.old }
+    ensures input_sound { result ≢ Ending.InputFailed → IfWritten result (read_failed input.new ≡ read_failed input.old) }
     ensures output_sound { result ≢ Ending.OutputFailed → write_failed output.new ≡ write_failed output.old }
 {
     let ran = run_lines(alloc, input, output);

@@ -1,10 +1,10 @@
 //! The streams of a run: a reader and a writer that record whether they failed.
-ghost use Rattle.std.specs.Prelude.{◌≡◌, ◌≢◌, ◌⊎◌, ◌+◌, ◌++◌, ◌<◌, true, false, IfSome, IfErr, OnOk};
-ghost use Rattle.std.specs.Io.KnownBytes.{Appends, Keeps};
+ghost use Rattle.std.specs.Prelude.{◌≡◌, ◌≢◌, ◌⊎◌, ◌<◌, true, false, IfSome, IfErr, OnOk};
 ghost use Rattle.std.specs.Io.BufRead.{strip_last};
 ghost use Rattle.std.specs.Fmt.{with_newline};
 ghost use Rattle.blob_lab.specs.Endings.{is_of_stream};
-ghost use Rattle.blob_lab.specs.Streams.{reader_of, lines_left, read_failed, writer_of, write_failed, is_flushed, has_line, AppendsPart, ReadsLine, ToldEnding, ToldOutput};
+ghost use Rattle.blob_lab.specs.Streams.{reader_of, lines_left, read_failed, writer_of, write_failed, is_flushed, HasLineReady, ToldEnding, ToldOutput};
+ghost use Rattle.blob_lab.specs.Streams.{KeepsOutput, ReadsInputLine, ReadsRest, WritesAll, WritesPrefix};
 
 use crate::Ending;
 use crate::scripts::Ahead;
@@ -59,9 +59,9 @@ impl<R: BufRead> Input<R> {
     ) -> Result<usize, Ending>
         ensures handed_on { result ≢ Err Ending.OutputFailed → is_flushed output.new ≡ true }
         ensures told { ToldEnding result self.old self.new output.old output.new }
-        ensures kept { Keeps (W.contents (writer_of output.old)) (W.contents (writer_of output.new)) }
+        ensures kept { KeepsOutput W.contents output.old output.new }
         ensures ending { IfErr result (λ ending. is_of_stream ending ≡ true) }
-        ensures read { ReadsLine result (R.remaining (reader_of self.old)) (R.remaining (reader_of self.new)) line.old.items line.new.items }
+        ensures read { ReadsInputLine R.remaining result self.old self.new line.old.items line.new.items }
     {
         output.hand_on()?;
         self.read_on(line)
@@ -76,7 +76,7 @@ impl<R: BufRead> Input<R> {
         ensures failed { result ≡ Err Ending.InputFailed → read_failed self.new ≡ true }
         ensures sound { result ≢ Err Ending.InputFailed → read_failed self.new ≡ read_failed self.old }
         ensures ending { IfErr result (λ ending. (ending ≡ Ending.InputFailed) ⊎ (ending ≡ Ending.NoMemory)) }
-        ensures read { OnOk result (IfSome (R.remaining (reader_of self.old)) (λ left. bytes.new.items ≡ bytes.old.items ++ left)) }
+        ensures read { OnOk result (ReadsRest R.remaining self.old bytes.old.items bytes.new.items) }
         ensures left { lines_left self.new ≡ lines_left self.old }
     {
         match self.reader.read_to_end(bytes) {
@@ -93,7 +93,7 @@ impl<R: BufRead> Input<R> {
         ensures failed { result ≡ Err Ending.InputFailed → read_failed self.new ≡ true }
         ensures sound { result ≢ Err Ending.InputFailed → read_failed self.new ≡ read_failed self.old }
         ensures ending { IfErr result (λ ending. (ending ≡ Ending.InputFailed) ⊎ (ending ≡ Ending.NoMemory)) }
-        ensures read { ReadsLine result (R.remaining (reader_of self.old)) (R.remaining (reader_of self.new)) line.old.items line.new.items }
+        ensures read { ReadsInputLine R.remaining result self.old self.new line.old.items line.new.items }
         ensures fewer { OnOk result (lines_left self.new < lines_left self.old) }
     {
         if self.left == 0 {
@@ -119,11 +119,11 @@ impl<R: Ahead> Input<R> {
         line: &mut Vec<u8>,
         output: &mut Output<W>,
     ) -> Result<usize, Ending>
-        ensures handed_on { result ≢ Err Ending.OutputFailed → (is_flushed output.new ≡ true) ⊎ (has_line (R.ready (reader_of self.old)) ≡ true) }
+        ensures handed_on { result ≢ Err Ending.OutputFailed → (is_flushed output.new ≡ true) ⊎ HasLineReady R.ready self.old }
         ensures told { ToldEnding result self.old self.new output.old output.new }
-        ensures kept { Keeps (W.contents (writer_of output.old)) (W.contents (writer_of output.new)) }
+        ensures kept { KeepsOutput W.contents output.old output.new }
         ensures ending { IfErr result (λ ending. is_of_stream ending ≡ true) }
-        ensures read { ReadsLine result (R.remaining (reader_of self.old)) (R.remaining (reader_of self.new)) line.old.items line.new.items }
+        ensures read { ReadsInputLine R.remaining result self.old self.new line.old.items line.new.items }
         ensures fewer { OnOk result (lines_left self.new < lines_left self.old) }
     {
         if memchr(b'\n', self.reader.ready()).is_none() {
@@ -184,8 +184,8 @@ impl<W: Write> Output<W> {
     ///
     /// `OutputFailed`. A prefix of the bytes may have been written.
     pub fn write_all(&mut self, bytes: &[u8]) -> Result<(), Ending>
-        ensures written { OnOk result (Appends (W.contents (writer_of self.old)) (W.contents (writer_of self.new)) bytes.now) }
-        ensures part { IfErr result (λ _. AppendsPart (W.contents (writer_of self.old)) (W.contents (writer_of self.new)) bytes.now) }
+        ensures written { OnOk result (WritesAll W.contents self.old self.new bytes.now) }
+        ensures part { IfErr result (λ _. WritesPrefix W.contents self.old self.new bytes.now) }
         ensures ending { IfErr result (λ ending. ending ≡ Ending.OutputFailed) }
         ensures told { ToldOutput result self.old self.new }
         ensures held { is_flushed self.new ≡ false }
@@ -209,7 +209,7 @@ impl<W: Write> Output<W> {
 
     /// Writes a text as a line.
     pub(crate) fn write_line<D: Display + Drop>(&mut self, text: D) -> Result<(), Ending>
-        ensures written { OnOk result (IfSome (with_newline (D.output text)) (Appends (W.contents (writer_of self.old)) (W.contents (writer_of self.new)))) }
+        ensures written { OnOk result (IfSome (with_newline (D.output text)) (WritesAll W.contents self.old self.new)) }
         ensures ending { IfErr result (λ ending. ending ≡ Ending.OutputFailed) }
         ensures told { ToldOutput result self.old self.new }
         ensures held { is_flushed self.new ≡ false }
@@ -227,7 +227,7 @@ impl<W: Write> Output<W> {
     /// Flushes the writer. The only error is `OutputFailed`.
     pub fn flush(&mut self) -> Result<(), Ending>
         ensures flushed { OnOk result (is_flushed self.new ≡ true) }
-        ensures kept { Keeps (W.contents (writer_of self.old)) (W.contents (writer_of self.new)) }
+        ensures kept { KeepsOutput W.contents self.old self.new }
         ensures ending { IfErr result (λ ending. ending ≡ Ending.OutputFailed) }
         ensures told { ToldOutput result self.old self.new }
     {
@@ -246,7 +246,7 @@ impl<W: Write> Output<W> {
     /// Flushes the writer, if something was written since the last flush.
     fn hand_on(&mut self) -> Result<(), Ending>
         ensures flushed { OnOk result (is_flushed self.new ≡ true) }
-        ensures kept { Keeps (W.contents (writer_of self.old)) (W.contents (writer_of self.new)) }
+        ensures kept { KeepsOutput W.contents self.old self.new }
         ensures ending { IfErr result (λ ending. ending ≡ Ending.OutputFailed) }
         ensures told { ToldOutput result self.old self.new }
     {

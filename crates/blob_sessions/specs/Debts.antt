@@ -1,7 +1,7 @@
 -- The registry of durability debt of a session.
-use Rattle.std.specs.Prelude.{◌≡◌, ◌==◌, ◌∷◌, [], ℕ, List, false, if◌then◌else◌, slice_get, Option, Some, None}
+use Rattle.std.specs.Prelude.{◌==◌, ◌∷◌, [], ℕ, List, false, if◌then◌else◌, slice_get, Option, Some, None, IfSome}
 use Rattle.blob_debt.specs.Debts.{Represents, by_open}
-use Rattle.blob_debt.specs.History.{AdmittedOpen, History, Operation}
+use Rattle.blob_debt.specs.History.{AdmittedOpen, Call, History, Operation}
 use Rattle.blob_header.specs.Refusals as refusals
 use Rattle.blob_header.specs.Refusals.{Refusal}
 use Rattle.blob_sessions.specs.declared.debts.Debts.{Debts}
@@ -16,9 +16,17 @@ kept_at slots number = elim (slice_get slots number) [ None ↦ None | Some slot
 abbrev pub no_debt : ℕ → DebtReply
 no_debt status = record { status = status; flag = false; has_predecessor = false; number = 0; predecessor = 0 }
 
--- an operation of an open was added to whatever history the registry had
+-- a call was added to any history that the registry had
+abbrev pub RecordsCall : Debts → Debts → Call → Type 0
+RecordsCall d d' call = (h : History) → Represents d.pending h → Represents d'.pending (call ∷ h)
+
+-- an operation of an open was added to any history that the registry had
 abbrev pub Steps : Debts → Debts → AdmittedOpen → Operation → Type 0
-Steps d d' o operation = (h : History) → Represents d.pending h → Represents d'.pending (by_open o operation ∷ h)
+Steps d d' o operation = RecordsCall d d' (by_open o operation)
+
+-- the same of the open in a slot, if there is one; an operation takes the number of its open
+abbrev pub OpenSteps : Debts → Debts → ℕ → (ℕ → Operation) → Type 0
+OpenSteps d d' slot operation = IfSome (kept_at d.opens.items slot) (λ o. Steps d d' o (operation o.number))
 
 abbrev pub outcomes : List (ℕ × Option Refusal)
 outcomes =

@@ -1,8 +1,11 @@
 -- What a session is opened with: a script that makes no call but settings.
-use Rattle.std.specs.Prelude.{◌≡◌, ◌≢◌, ◌⊎◌, ℕ, suc, List, [], ◌∷◌, ◌++◌, All, true, length, Some, None}
+use Rattle.std.specs.Prelude.{◌≡◌, ◌≢◌, ◌⊎◌, ℕ, suc, List, [], ◌∷◌, ◌++◌, All, true, length, Option, Some, None, String, Vec}
+use Rattle.std.specs.Global.{Global}
+use Rattle.blob_draws.specs.declared.config.Config.{Config}
 use Rattle.blob_script.specs.Acts as acts
 use Rattle.blob_script.specs.Acts.{Act}
 use Rattle.blob_lab_store.specs.LabStands.{LabStandsFor}
+use Rattle.blob_lab_store.specs.declared.lab.Lab.{Lab}
 use Rattle.blob_script.specs.Lines.{Call, line_of}
 use Rattle.blob_lab.specs.Scripts.{Script, lines_of, script_of, with_line}
 use Rattle.blob_lab_model.specs.States.{start}
@@ -33,6 +36,10 @@ pub record BreaksAt (lines : List (List ℕ)) (number : ℕ) : Type 0 where
   pub script : Script
   pub are : AreSettings front script
   pub breaks : IsNoSetting script bad
+
+-- a laboratory was created with these images, words, seed and configuration
+abbrev pub IsCreatedWith : List (String Global × Vec ℕ Global × Vec ℕ Global) → List ℕ → Option ℕ → Config → Lab → Type 0
+IsCreatedWith images words seed config lab = LabStandsFor lab (start (images_of images) (record { given = words; seed = seed }) config)
 
 -- a laboratory that was just made of them
 pub record IsMadeOf (k : Kept) (lines : List (List ℕ)) : Type 0 where

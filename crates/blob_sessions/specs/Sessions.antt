@@ -1,16 +1,19 @@
 -- What a session holds, and what its calls do to that.
 use Rattle.std.specs.Prelude.{◌≡◌, ◌≢◌, ◌⊎◌, ◌<◌, ◌≤◌, ◌^◌, ℕ, List, [], Bool, length, take, drop, Option, Some, None, IfSome, MatchOption}
 use Rattle.blob_draws.specs.declared.config.Config.{Config}
+use Rattle.blob_script.specs.declared.call.Call.{Call as LabCall}
 use Rattle.blob_script.specs.declared.script.setting.Setting.{Setting}
 use Rattle.blob_script.specs.declared.reply.Reply.{Reply}
 use Rattle.blob_script.specs.declared.reply.Reply.TheVariants as replies
 use Rattle.blob_script.specs.Acts as acts
-use Rattle.blob_script.specs.Acts.{Act, Through, Read, Write}
+use Rattle.blob_script.specs.Acts.{Act, Through, Read, Write, act_of}
 use Rattle.blob_lab_store.specs.LabStands.{Performs}
 use Rattle.blob_script.specs.Lines.{Blank, Configure, Call, line_of}
 use Rattle.blob_script.specs.Replies.{reply_line}
 use Rattle.blob_lab.specs.Scripts.{Script, with_line}
 use Rattle.blob_script.specs.Settings.{configured}
+use Rattle.blob_sessions.specs.Debts.{no_debt}
+use Rattle.blob_sessions.specs.declared.debts.DebtReply.{DebtReply}
 use Rattle.blob_sessions.specs.declared.kept.Kept.{Kept}
 use Rattle.blob_sessions.specs.declared.session.Session.{Session}
 use Rattle.blob_sessions.specs.declared.ran.Ran.{Ran}
@@ -28,6 +31,10 @@ pub record Makes (k : Kept) (act : Act) (reply : Reply) (k' : Kept) : Type 0 whe
 -- with these settings the line says this call, and leaves these
 abbrev pub SaysCall : Config → List ℕ → Act → Config → Type 0
 SaysCall c line act d = ((line_of line ≡ Some (Call act)) × (d ≡ c)) ⊎ ((setting : Setting) × (line_of line ≡ Some (Configure setting)) × (d ≡ configured c setting) × (act ≡ acts.Configure d))
+
+-- the same of a call of the program
+abbrev pub ReadsCall : Config → List ℕ → Config → LabCall → Type 0
+ReadsCall c line d call = SaysCall c line (act_of call) d
 
 -- the call of a line was made, with a reply of which this holds
 abbrev pub Calls : Kept → List ℕ → Kept → (Reply → Type 0) → Type 0
@@ -125,6 +132,24 @@ OnHeld old new Open Closed = ⊥
 abbrev pub ReadsInto : Session → Session → ℕ → ℕ → ℕ → List ℕ → List ℕ → Type 0
 ReadsInto before after handle offset status old new =
     OnHeld (kept_of before) (kept_of after) (λ k k'. AnswersRead k k' handle offset status old new) ((status ≡ CLOSED) × (new ≡ old))
+
+-- the call of a line
+abbrev pub RunsLineIn : Session → Session → List ℕ → Ran → List ℕ → List ℕ → Type 0
+RunsLineIn before after line ran old new = OnHeld (kept_of before) (kept_of after) (λ k k'. RunsLine k k' line ran old new) (IsClosed ran old new)
+
+-- the last reply once more
+abbrev pub RepeatsReply : Session → Session → Ran → List ℕ → List ℕ → Type 0
+RepeatsReply before after ran old new = OnHeld (kept_of before) (kept_of after) (λ k k'. TellsAgain k k' ran old new) (IsClosed ran old new)
+
+-- a write
+abbrev pub WritesBytes : Session → Session → ℕ → ℕ → List ℕ → Bool → ℕ → Type 0
+WritesBytes before after handle offset bytes sync status =
+    OnHeld (kept_of before) (kept_of after) (λ k k'. AnswersWrite k k' handle offset bytes sync status) (status ≡ CLOSED)
+
+-- a call of the registry of durability debt, which changes nothing else
+abbrev pub ChangesDebts : Session → Session → DebtReply → Type 0
+ChangesDebts before after reply =
+    OnHeld (kept_of before) (kept_of after) (λ k k'. k' ≡ record k { debts = k'.debts }) (reply ≡ no_debt CLOSED)
 
 -- a session that is only read: what holds of what it holds, and of a closed one
 abbrev pub Inspects : Session → Session → (Kept → Type 0) → Type 0 → Type 0

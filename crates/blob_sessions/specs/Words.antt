@@ -6,7 +6,9 @@ use Rattle.blob_tree.specs.WordsLeft.{EndsAfter}
 use Rattle.blob_lab_model.specs.States.{State}
 use Rattle.blob_sessions.specs.declared.kept.Kept.{Kept}
 use Rattle.blob_sessions.specs.declared.ran.Ran.{Ran}
-use Rattle.blob_sessions.specs.declared.ran.TheConstants.{DONE, ENDLESS, NO_MEMORY}
+use Rattle.blob_sessions.specs.declared.ran.TheConstants.{CLOSED, DONE, ENDLESS, NO_MEMORY}
+use Rattle.blob_sessions.specs.declared.session.Session.{Session}
+use Rattle.blob_sessions.specs.Sessions.{OnHeld, kept_of}
 
 -- `len` words are left, after which all words are zero; or a seed gives the words after them
 pub record TellsWordsLeft (k : Kept) (ran : Ran) : Type 0 where
@@ -19,3 +21,7 @@ pub record TakesWords (k k' : Kept) (words : List ℕ) (status : ℕ) : Type 0 w
   pub done : status ≡ DONE → PushesWords k.lab words k'.lab × (k' ≡ record k { lab = k'.lab })
   pub no_memory : status ≡ NO_MEMORY → k' ≡ k
   pub known : (status ≡ DONE) ⊎ (status ≡ NO_MEMORY)
+
+-- the same of a session
+abbrev pub InsertsWords : Session → Session → List ℕ → ℕ → Type 0
+InsertsWords before after words status = OnHeld (kept_of before) (kept_of after) (λ k k'. TakesWords k k' words status) (status ≡ CLOSED)

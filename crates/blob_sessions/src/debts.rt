@@ -1,9 +1,9 @@
 // The registry of durability debt that a session has as well as its laboratory, with its opens and its tokens by number.
-ghost use Rattle.std.specs.Prelude.{◌≡◌, ◌∷◌, [], option_copied, option_map, IfSome, OnErr};
+ghost use Rattle.std.specs.Prelude.{◌≡◌, [], option_copied, option_map, OnErr};
 ghost use Rattle.blob_debt.specs.Debts.{IsUnchanged, Represents};
-ghost use Rattle.blob_debt.specs.History.{Clear, Close, Fail, Forget, History};
+ghost use Rattle.blob_debt.specs.History.{Clear, Close, Fail, Forget};
 ghost use Rattle.blob_header.specs.Refusals.{refusal_of, refused};
-ghost use Rattle.blob_sessions.specs.Debts.{Steps, kept_at, no_debt, plain_refusal};
+ghost use Rattle.blob_sessions.specs.Debts.{OpenSteps, RecordsCall, kept_at, no_debt, plain_refusal};
 
 use crate::ran::{BAD_CALL, DONE};
 use crate::refusals::{
@@ -248,7 +248,7 @@ impl Debts {
 
     /// Records an outcome. Returns whether there is such an open.
     fn clear(&mut self, number: usize, outcome: Result<(), Error>) -> bool
-        ensures { IfSome (kept_at self.old.opens.items number) (λ o. Steps self.old self.new o (Clear o.number (refused outcome))) }
+        ensures { OpenSteps self.old self.new number (λ generation. Clear generation (refused outcome)) }
     {
         let Some(generation) = open_at(&self.opens, number) else {
             return false;
@@ -260,7 +260,7 @@ impl Debts {
 
     /// Keeps a failure. Returns whether there is such an open.
     fn fail(&mut self, number: usize, error: Error) -> bool
-        ensures { IfSome (kept_at self.old.opens.items number) (λ o. Steps self.old self.new o (Fail o.number (refusal_of error))) }
+        ensures { OpenSteps self.old self.new number (λ generation. Fail generation (refusal_of error)) }
     {
         let Some(generation) = open_at(&self.opens, number) else {
             return false;
@@ -271,7 +271,7 @@ impl Debts {
 
     /// Closes an open. Returns whether there is such an open.
     fn close(&mut self, number: usize) -> bool
-        ensures { IfSome (kept_at self.old.opens.items number) (λ o. Steps self.old self.new o (Close o.number)) }
+        ensures { OpenSteps self.old self.new number Close }
     {
         if number >= self.opens.len() {
             return false;
@@ -284,7 +284,7 @@ impl Debts {
     }
 
     fn forget(&mut self, partition: &str, name: Option<&[u8]>) -> DebtReply
-        ensures { (h : History) → Represents self.old.pending h → Represents self.new.pending (Forget partition.now (option_copied name.entry) ∷ h) }
+        ensures { RecordsCall self.old self.new (Forget partition.now (option_copied name.entry)) }
     {
         self.pending.forget(partition, name);
         DebtReply::stopped(DONE)

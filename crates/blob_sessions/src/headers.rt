@@ -1,8 +1,8 @@
 // What a blob's header says, without a session.
 ghost use Rattle.std.specs.Prelude.{◌≡◌, ◌↔◌, IsTrue, false, IfSome, None};
 ghost use Rattle.blob_header.specs.Header.{IsFrontOfCreation};
-ghost use Rattle.blob_header.specs.Parse.{failure_of, parsed};
-ghost use Rattle.blob_sessions.specs.Headers.{IsFrontOfBlob, accepted_by, header_reply, layout_numbered, no_header, refused_header};
+ghost use Rattle.blob_header.specs.Parse.{failure_of};
+ghost use Rattle.blob_sessions.specs.Headers.{IsFrontOfBlob, ParsesHeader, accepted_by, layout_numbered, no_header, refused_header};
 
 use crate::ran::{BAD_CALL, DONE};
 use blob_header::{BlobVersion, Header, HeaderError, Layout};
@@ -89,7 +89,7 @@ impl ParsedHeader {
 ///
 /// `BAD_CALL` if a layout is unknown, `raw` has too few bytes or more than the blob, or the blob is shorter than any header.
 pub fn parse(raw: &[u8], raw_len: u64, accepts: &Accepts) -> ParsedHeader
-    ensures parsed { IsFrontOfBlob raw.now raw_len → IfSome (accepted_by accepts.now) (λ accepted. result ≡ header_reply (parsed raw.now raw_len accepted)) }
+    ensures parsed { IsFrontOfBlob raw.now raw_len → ParsesHeader raw.now raw_len accepts.now result }
     ensures unknown { accepted_by accepts.now ≡ None → result ≡ no_header BAD_CALL }
     ensures no_front { (IsFrontOfBlob raw.now raw_len → ⊥) → result ≡ no_header BAD_CALL }
 {

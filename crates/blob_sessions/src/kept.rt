@@ -4,7 +4,7 @@ ghost use Rattle.blob_script.specs.Acts.{act_of};
 ghost use Rattle.blob_script.specs.Lines.{Blank, line_of};
 ghost use Rattle.blob_script.specs.Settings.{configured};
 ghost use Rattle.blob_sessions.specs.Applying.{Applies};
-ghost use Rattle.blob_sessions.specs.Sessions.{RunsLine, AnswersRead, AnswersWrite, SaysCall, IsNoCall, Makes, TellsAgain};
+ghost use Rattle.blob_sessions.specs.Sessions.{RunsLine, AnswersRead, AnswersWrite, ReadsCall, IsNoCall, Makes, TellsAgain};
 ghost use Rattle.blob_sessions.specs.Typed.{last_reply};
 ghost use Rattle.blob_sessions.specs.Words.{TakesWords, TellsWordsLeft};
 
@@ -203,7 +203,7 @@ impl Kept {
 
     /// Reads the call of a line. Returns `None` if the line is empty or a comment.
     fn read_call(&mut self, alloc: Global, line: &[u8]) -> Result<Option<Call>, RefusedLine>
-        ensures call { IfOk result (λ read. IfSome read (λ call. SaysCall self.old.config line.now (act_of call) self.new.config)) }
+        ensures call { IfOk result (λ read. IfSome read (ReadsCall self.old.config line.now self.new.config)) }
         ensures blank { IfOk result (λ read. IfNone read (line_of line.now ≡ Some Blank)) }
         ensures bad { result ≡ Err RefusedLine.BadCall → IsNoCall line.now }
         ensures nothing { IfOk result (λ read. IfNone read (self.new ≡ self.old)) }

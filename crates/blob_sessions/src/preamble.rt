@@ -1,10 +1,7 @@
 // What a session is opened with: the lines of a script before its calls, and settings.
 ghost use Rattle.std.specs.Prelude.{◌≡◌, ◌==◌, ◌<◌, ℕ, ◌∷◌, [], Some, IfSome, IfNone, IfOk, OnOk, All, length, position};
-ghost use Rattle.blob_lab_store.specs.LabStands.{LabStandsFor};
 ghost use Rattle.blob_lab.specs.Scripts.{Script, lines_of, no_script, with_line};
-ghost use Rattle.blob_lab_model.specs.States.{start};
-ghost use Rattle.blob_lab_store.specs.Tables.{images_of};
-ghost use Rattle.blob_sessions.specs.Preambles.{AreSettings, BreaksAt, IsMadeOf, IsNoSetting, IsSetting, Says, SaysOneMore};
+ghost use Rattle.blob_sessions.specs.Preambles.{AreSettings, BreaksAt, IsCreatedWith, IsMadeOf, IsNoSetting, IsSetting, Says, SaysOneMore};
 
 use crate::kept::{Kept, copy_of};
 use blob_base::Error;
@@ -111,7 +108,7 @@ fn laboratory(
     seed: Option<u64>,
     config: Config,
 ) -> Result<Lab, Error>
-    ensures { IfOk result (λ lab. LabStandsFor lab (start (images_of images.items) (record { given = words.items; seed = seed }) config)) }
+    ensures { IfOk result (IsCreatedWith images.items words.items seed config) }
 {
     match seed {
         None => Lab::new(images, words, config),

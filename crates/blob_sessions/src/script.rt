@@ -1,7 +1,6 @@
 // A whole script in one call.
-ghost use Rattle.std.specs.Prelude.{◌≡◌, ◌⊎◌, ◌<◌, ◌≤◌, ℕ, Some, [], take, drop, length};
-ghost use Rattle.blob_lab.specs.Scripts.{Prints, PrintsBeforeLine, lines_of, script_of};
-ghost use Rattle.blob_sessions.specs.WholeScripts.{WantsRoom};
+ghost use Rattle.std.specs.Prelude.{◌≡◌, ◌⊎◌, ◌<◌, ◌≤◌, ℕ, take, drop, length};
+ghost use Rattle.blob_sessions.specs.WholeScripts.{IsRunStatus, PrintsScript, PrintsUntil, WantsRoom};
 
 use crate::ran::{BAD_LINE, DONE, ENDLESS, NO_MEMORY, NO_ROOM, ScriptRan};
 use blob_lab::{Ending, Input, Output, serve_script};
@@ -10,8 +9,8 @@ use std::alloc::Global;
 /// Runs a script, and copies what it prints to the start of `replies`, if it fits. If not, `len` is the capacity that
 /// is needed.
 pub fn run(alloc: Global, script: &[u8], replies: &mut [u8]) -> ScriptRan
-    ensures done { result.status ≡ DONE → Prints (script_of (lines_of script.now)) (Some []) (Some (take result.len replies.new)) }
-    ensures bad_line { result.status ≡ BAD_LINE → PrintsBeforeLine result.line script.now (Some []) (Some (take result.len replies.new)) }
+    ensures done { result.status ≡ DONE → PrintsScript script.now (take result.len replies.new) }
+    ensures bad_line { result.status ≡ BAD_LINE → PrintsUntil script.now result.line (take result.len replies.new) }
     ensures no_room { result.status ≡ NO_ROOM → length replies.old < result.len }
     ensures wanted { result.status ≡ NO_ROOM → WantsRoom script.now result.line result.len }
     ensures no_line { result.status ≡ DONE → result.line ≡ 0 }
@@ -19,7 +18,7 @@ pub fn run(alloc: Global, script: &[u8], replies: &mut [u8]) -> ScriptRan
     ensures unwritten { (result.status ≡ DONE) ⊎ (result.status ≡ BAD_LINE) ⊎ (replies.new ≡ replies.old) }
     ensures behind { drop result.len replies.new ≡ drop result.len replies.old }
     ensures within { (result.status ≡ NO_ROOM) ⊎ (result.len ≤ length replies.old) }
-    ensures status { (result.status ≡ DONE) ⊎ (result.status ≡ BAD_LINE) ⊎ (result.status ≡ NO_ROOM) ⊎ (result.status ≡ NO_MEMORY) ⊎ (result.status ≡ ENDLESS) }
+    ensures status { IsRunStatus result.status }
 {
     let (ending, printed) = printed_by(alloc, script);
     let (status, line) = match ending {
@@ -43,8 +42,8 @@ pub fn run(alloc: Global, script: &[u8], replies: &mut [u8]) -> ScriptRan
 
 /// How a script ends, and what it prints.
 fn printed_by(alloc: Global, script: &[u8]) -> (Ending, Vec<u8>)
-    ensures done { result.0 ≡ Ending.Done → Prints (script_of (lines_of script.now)) (Some []) (Some result.1.items) }
-    ensures bad_call { (number : ℕ) → result.0 ≡ Ending.BadCall number → PrintsBeforeLine number script.now (Some []) (Some result.1.items) }
+    ensures done { result.0 ≡ Ending.Done → PrintsScript script.now result.1.items }
+    ensures bad_call { (number : ℕ) → result.0 ≡ Ending.BadCall number → PrintsUntil script.now number result.1.items }
 {
     let mut input = Input::new(script);
     let mut output = Output::new(Vec::new(alloc));

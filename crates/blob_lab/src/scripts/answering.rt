@@ -1,11 +1,9 @@
 // Running the calls of a script, one after another.
 ghost use Rattle.std.specs.Prelude.{◌≡◌, ◌≢◌, ◌⊎◌, true, IfErr, OnOk};
-ghost use Rattle.std.specs.Io.KnownBytes.{Appends};
 ghost use Rattle.blob_lab.specs.Endings.{is_cut};
-ghost use Rattle.blob_lab.specs.Reading.{IsReadOut};
-ghost use Rattle.blob_lab.specs.ScriptReading.{PrintsFrom, PrintsFromUpTo, PrintsScriptUpTo, WritesReply};
-ghost use Rattle.blob_lab.specs.Scripts.{OfRun, Prints, lines_of, script_of};
-ghost use Rattle.blob_lab.specs.Streams.{reader_of, AppendsPart, OfBytes, ToldEnding, ToldOutput};
+ghost use Rattle.blob_lab.specs.ScriptReading.{CutsReply, PrintsFrom, PrintsFromUpTo, PrintsInputUpTo, WritesReply};
+ghost use Rattle.blob_lab.specs.Scripts.{PrintsAll};
+ghost use Rattle.blob_lab.specs.Streams.{IsReadToEnd, OfBytes, ToldEnding, ToldOutput};
 
 use super::Ahead;
 use super::lines::{Lines, Preamble};
@@ -24,10 +22,9 @@ pub(super) fn run_lines<R: Ahead, W: Write>(
 ) -> Result<(), Ending>
     ensures cut { IfErr result (λ ending. is_cut ending ≡ true) }
     ensures told { ToldEnding result input.old input.new output.old output.new }
-    ensures read { OnOk result (IsReadOut (R.remaining (reader_of input.old)) (R.remaining (reader_of input.new))) }
-    ensures all { OnOk result (OfBytes R.remaining W.contents input.old output.old output.new (λ bytes. Prints (script_of (lines_of bytes)))) }
-    ensures front { IfErr result (λ ending.
-        OfRun R.remaining W.contents input.old input.new output.old output.new (PrintsScriptUpTo ending)) }
+    ensures read { OnOk result (IsReadToEnd R.remaining input.old input.new) }
+    ensures all { OnOk result (OfBytes R.remaining W.contents input.old output.old output.new PrintsAll) }
+    ensures front { IfErr result (PrintsInputUpTo R.remaining W.contents input.old input.new output.old output.new) }
 {
     let mut lines = Lines::new(alloc);
     let mut preamble = Preamble::new(alloc);
@@ -52,10 +49,10 @@ fn answer_calls<R: Ahead, W: Write>(
 ) -> Result<(), Ending>
     ensures cut { IfErr result (λ ending. is_cut ending ≡ true) }
     ensures told { ToldEnding result input.old input.new output.old output.new }
-    ensures read { OnOk result (IsReadOut (R.remaining (reader_of input.old)) (R.remaining (reader_of input.new))) }
+    ensures read { OnOk result (IsReadToEnd R.remaining input.old input.new) }
     ensures all { OnOk result (PrintsFrom R.remaining W.contents lab.old first lines.old input.old output.old output.new) }
-    ensures front { IfErr result (λ ending.
-        PrintsFromUpTo R.remaining W.contents ending lab.old first lines.old input.old input.new output.old output.new) }
+    ensures front { IfErr result (
+        PrintsFromUpTo R.remaining W.contents lab.old first lines.old input.old input.new output.old output.new) }
 {
     let mut text = String::new(alloc);
     let mut call = first;
@@ -75,8 +72,8 @@ fn answer<W: Write>(
     text: &mut String,
     output: &mut Output<W>,
 ) -> Result<(), Ending>
-    ensures answered { OnOk result (WritesReply W.contents lab.old call.now lab.new output.old output.new Appends) }
-    ensures part { result ≡ Err Ending.OutputFailed → WritesReply W.contents lab.old call.now lab.new output.old output.new AppendsPart }
+    ensures answered { OnOk result (WritesReply W.contents lab.old call.now lab.new output.old output.new) }
+    ensures part { result ≡ Err Ending.OutputFailed → CutsReply W.contents lab.old call.now lab.new output.old output.new }
     ensures same { result ≡ Err Ending.NoMemory → output.new ≡ output.old }
     ensures cut { IfErr result (λ ending. (ending ≡ Ending.OutputFailed) ⊎ (ending ≡ Ending.NoMemory)) }
     ensures told { result ≢ Err Ending.NoMemory → ToldOutput result output.old output.new }

@@ -1,18 +1,14 @@
 // Reading the lines of a script.
-ghost use Rattle.std.specs.Prelude.{◌≡◌, ℕ, ◌+◌, ◌<◌, [], true, IfSome, IfNone, IfOk, IfErr, OnOk};
+ghost use Rattle.std.specs.Prelude.{◌≡◌, ◌+◌, ◌<◌, [], true, IfOk, IfErr, OnOk};
 ghost use Rattle.std.specs.Io.Iter.{u64_saturate};
-ghost use Rattle.std.specs.Io.KnownBytes.{Keeps};
-ghost use Rattle.blob_lab.specs.Endings.{is_cut};
-ghost use Rattle.blob_lab_store.specs.LabStands.{LabStandsFor};
+ghost use Rattle.blob_lab.specs.Endings.{IfBadLine, is_cut};
 ghost use Rattle.blob_script.specs.Lines.{said_by};
-ghost use Rattle.blob_lab.specs.Reading.{StaysKnown, IsReadOut};
-ghost use Rattle.blob_lab.specs.ScriptReading.{OfRead, TakesLine, TakesOne, TakesPart, ReadsFirstCall, ReadsPreamble, ReadsBadStart, ReadsPreamblePart};
-ghost use Rattle.blob_lab.specs.ScriptReading.{ReadsNextCall, ReadsBadCall, ReadsBadLine};
-ghost use Rattle.blob_lab.specs.Scripts.{Script, with_lines};
+ghost use Rattle.blob_lab.specs.Reading.{IfEnd, IfRead};
+ghost use Rattle.blob_lab.specs.ScriptReading.{IsCreatedFrom, OfRead, TakesLine, TakesOne, TakesPart, ReadsToCall, ReadsPreamble, ReadsBadStart, ReadsPreamblePart};
+ghost use Rattle.blob_lab.specs.ScriptReading.{ReadsNextCall, ReadsNoCall, ReadsBadCall, ReadsBadLine, preamble_of};
+ghost use Rattle.blob_lab.specs.Scripts.{Script};
 ghost use Rattle.blob_script.specs.Settings.{cleared, configured};
-ghost use Rattle.blob_lab_model.specs.States.{start};
-ghost use Rattle.blob_lab.specs.Streams.{reader_of, lines_left, writer_of, ToldEnding};
-ghost use Rattle.blob_lab_store.specs.Tables.{images_of};
+ghost use Rattle.blob_lab.specs.Streams.{IsReadToEnd, KeepsKnown, KeepsOutput, lines_left, ToldEnding};
 
 use super::Ahead;
 use crate::streams::drop_line_feed;
@@ -49,7 +45,7 @@ impl Preamble {
 
     /// Creates the laboratory. The only error is `Memory`.
     pub(crate) fn into_lab(self) -> Result<Lab, Error>
-        ensures { IfOk result (λ lab. LabStandsFor lab (start (images_of self.images.items) (record { given = self.words.items; seed = self.seed }) cleared)) }
+        ensures { IfOk result (λ lab. IsCreatedFrom lab (preamble_of self cleared)) }
     {
         let Preamble {
             images,
@@ -92,16 +88,14 @@ impl Lines {
     ) -> Result<Option<Call>, Ending>
         ensures cut { IfErr result (λ ending. is_cut ending ≡ true) }
         ensures told { ToldEnding result input.old input.new output.old output.new }
-        ensures kept { Keeps (W.contents (writer_of output.old)) (W.contents (writer_of output.new)) }
-        ensures known { OnOk result (StaysKnown (R.remaining (reader_of input.old)) (R.remaining (reader_of input.new))) }
-        ensures end { IfOk result (λ call. IfNone call (IsReadOut (R.remaining (reader_of input.old)) (R.remaining (reader_of input.new)))) }
-        ensures call { IfOk result (λ call. IfSome call (λ call.
-            ReadsFirstCall R.remaining input.old input.new preamble.old preamble.new self.old self.new call)) }
-        ensures over { IfOk result (λ call. IfNone call (ReadsPreamble R.remaining input.old input.new preamble.old preamble.new self.old)) }
-        ensures bad { (number : ℕ) → result ≡ Err (Ending.BadCall number)
-            → ReadsBadStart R.remaining input.old input.new preamble.old preamble.new self.old number }
+        ensures kept { KeepsOutput W.contents output.old output.new }
+        ensures known { OnOk result (KeepsKnown R.remaining input.old input.new) }
+        ensures end { IfEnd result (IsReadToEnd R.remaining input.old input.new) }
+        ensures call { IfRead result (ReadsToCall R.remaining input.old input.new preamble.old preamble.new self.old self.new) }
+        ensures over { IfEnd result (ReadsPreamble R.remaining input.old input.new preamble.old preamble.new self.old) }
+        ensures bad { IfBadLine result (ReadsBadStart R.remaining input.old input.new preamble.old preamble.new self.old) }
         ensures part { IfErr result (λ _. ReadsPreamblePart R.remaining input.old input.new preamble.old self.old) }
-        ensures fewer { IfOk result (λ call. IfSome call (λ _. lines_left input.new < lines_left input.old)) }
+        ensures fewer { IfRead result (λ _. lines_left input.new < lines_left input.old) }
     {
         'lines: loop {
             let Some(line) = self.next_line(input, output)? else {
@@ -141,14 +135,14 @@ impl Lines {
     ) -> Result<Option<Call>, Ending>
         ensures cut { IfErr result (λ ending. is_cut ending ≡ true) }
         ensures told { ToldEnding result input.old input.new output.old output.new }
-        ensures kept { Keeps (W.contents (writer_of output.old)) (W.contents (writer_of output.new)) }
-        ensures known { OnOk result (StaysKnown (R.remaining (reader_of input.old)) (R.remaining (reader_of input.new))) }
-        ensures end { IfOk result (λ call. IfNone call (IsReadOut (R.remaining (reader_of input.old)) (R.remaining (reader_of input.new)))) }
-        ensures call { IfOk result (λ call. IfSome call (λ call. ReadsNextCall R.remaining input.old input.new self.old self.new call)) }
-        ensures over { IfOk result (λ call. IfNone call ((s : Script) → OfRead R.remaining input.old input.new (λ lines _. with_lines s lines ≡ Some s))) }
-        ensures bad { (number : ℕ) → result ≡ Err (Ending.BadCall number) → ReadsBadCall R.remaining input.old input.new self.old number }
+        ensures kept { KeepsOutput W.contents output.old output.new }
+        ensures known { OnOk result (KeepsKnown R.remaining input.old input.new) }
+        ensures end { IfEnd result (IsReadToEnd R.remaining input.old input.new) }
+        ensures call { IfRead result (ReadsNextCall R.remaining input.old input.new self.old self.new) }
+        ensures over { IfEnd result (ReadsNoCall R.remaining input.old input.new) }
+        ensures bad { IfBadLine result (ReadsBadCall R.remaining input.old input.new self.old) }
         ensures part { IfErr result (λ _. (s : Script) → OfRead R.remaining input.old input.new (TakesPart s s)) }
-        ensures fewer { IfOk result (λ call. IfSome call (λ _. lines_left input.new < lines_left input.old)) }
+        ensures fewer { IfRead result (λ _. lines_left input.new < lines_left input.old) }
     {
         'lines: loop {
             let Some(line) = self.next_line(input, output)? else {
@@ -173,15 +167,15 @@ impl Lines {
     ) -> Result<Option<Line>, Ending>
         ensures cut { IfErr result (λ ending. is_cut ending ≡ true) }
         ensures told { ToldEnding result input.old input.new output.old output.new }
-        ensures kept { Keeps (W.contents (writer_of output.old)) (W.contents (writer_of output.new)) }
-        ensures known { OnOk result (StaysKnown (R.remaining (reader_of input.old)) (R.remaining (reader_of input.new))) }
-        ensures end { IfOk result (λ line. IfNone line (IsReadOut (R.remaining (reader_of input.old)) (R.remaining (reader_of input.new)))) }
-        ensures line { IfOk result (λ line. IfSome line (λ line. OfRead R.remaining input.old input.new (TakesLine (Some (said_by line))))) }
-        ensures over { IfOk result (λ line. IfNone line (OfRead R.remaining input.old input.new (λ lines _. lines ≡ []))) }
-        ensures bad { (number : ℕ) → result ≡ Err (Ending.BadCall number) → ReadsBadLine R.remaining input.old input.new self.old number }
+        ensures kept { KeepsOutput W.contents output.old output.new }
+        ensures known { OnOk result (KeepsKnown R.remaining input.old input.new) }
+        ensures end { IfEnd result (IsReadToEnd R.remaining input.old input.new) }
+        ensures line { IfRead result (λ line. OfRead R.remaining input.old input.new (TakesLine (Some (said_by line)))) }
+        ensures over { IfEnd result (OfRead R.remaining input.old input.new (λ lines _. lines ≡ [])) }
+        ensures bad { IfBadLine result (ReadsBadLine R.remaining input.old input.new self.old) }
         ensures part { IfErr result (λ _. OfRead R.remaining input.old input.new TakesOne) }
-        ensures fewer { IfOk result (λ line. IfSome line (λ _. lines_left input.new < lines_left input.old)) }
-        ensures numbered { IfOk result (λ line. IfSome line (λ _. self.new.number ≡ u64_saturate (self.old.number + 1))) }
+        ensures fewer { IfRead result (λ _. lines_left input.new < lines_left input.old) }
+        ensures numbered { IfRead result (λ _. self.new.number ≡ u64_saturate (self.old.number + 1)) }
         ensures same { self.new.config ≡ self.old.config }
     {
         self.line.clear();
