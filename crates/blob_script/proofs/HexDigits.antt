@@ -116,7 +116,7 @@ pub reads_step : (text bytes : List ℕ) (i seen value : ℕ) → 2 * i + 1 < le
     → Reads text bytes i seen → Reads text (slice_set bytes i (value % 256)) (i + 1) (bit_or seen value)
 reads_step text bytes i seen value fits room same inv = record {
   good = still_good text bytes i seen value fits room same inv;
-  bad = now_bad text bytes i seen value fits same inv
+  bad = now_bad text bytes i seen value fits same inv;
 }
 
 only_err : (r : Result (List ℕ) FromHexError) (bytes : List ℕ) (result : Bool) → result ≡ false → IsErr r
