@@ -1,5 +1,5 @@
 -- The statements of the laws of `laws.rt`.
-use Rattle.std.specs.Prelude.{◌≡◌, ◌≢◌, ◌<◌, ◌-◌, ◌^◌, ℕ, true, false, List, ◌++◌, length, Option, Some, None}
+use Rattle.std.specs.Prelude.{◌≡◌, ◌≢◌, ◌<◌, ◌≤◌, ◌-◌, ◌^◌, ℕ, true, false, List, ◌++◌, length, Option, Some, None}
 use Rattle.rand_core.specs.Stream.{Stream}
 use Rattle.blob_header.specs.PartitionName.{is_partition_name}
 use Rattle.blob_header.specs.Refusals.{Refusal}
@@ -7,11 +7,13 @@ use Rattle.blob_header.specs.declared.layout.Layout.{Layout}
 use Rattle.blob_header.specs.declared.version.BlobVersion.{BlobVersion}
 use Rattle.blob_model.specs.Directory.{Incarnation, is_current}
 use Rattle.blob_model.specs.Draws.{chosen_by, drawn}
-use Rattle.blob_model.specs.Files.{all_needs, durable_at, is_removed_by, log_of}
+use Rattle.blob_model.specs.Files.{Files, all_needs, durable_at, is_removed_by, log_of}
 use Rattle.blob_model.specs.Log.{crashed}
 use Rattle.blob_model.specs.Opening.{Begins, place_of}
 use Rattle.blob_model.specs.Places.{Place, same_place}
 use Rattle.blob_draws.specs.Faults.{draw}
+use Rattle.blob_draws.specs.declared.config.Config.{Config}
+use Rattle.blob_opens.specs.OpenNames.{Registration}
 use Rattle.blob_memory.specs.Answers.{missing}
 use Rattle.blob_script.specs.declared.call.Call.{Call}
 use Rattle.blob_script.specs.declared.reply.Reply.{Reply}
@@ -25,7 +27,17 @@ use Rattle.blob_lab_model.specs.Steps.{found_at, sync_denial}
 use Rattle.blob_lab_model.specs.Fixed.{Persists}
 use Rattle.blob_lab_model.specs.Reached.{NoneLoose, Reached, ReachedExclusively}
 use Rattle.blob_lab_model.specs.Runs.{LeadsTo}
-use Rattle.blob_lab_model.specs.States.{Held, State}
+use Rattle.blob_lab_model.specs.Scripted.{Words}
+use Rattle.blob_lab_model.specs.States.{Held, Image, State, held_on, start}
+
+-- a crash replies with the rows that it draws for the writes that the log needs, and takes their words
+abbrev pub CrashRepliesWithItsRows : Type 0
+CrashRepliesWithItsRows = (v : State)
+    → answer v Crash ≡ (told.Crashed (drawn v.stream (all_needs v.files.log)).0, (drawn v.stream (all_needs v.files.log)).1)
+
+-- a crash changes no header
+abbrev pub CrashKeepsHeaders : Type 0
+CrashKeepsHeaders = (v : State) (refusal : Option Refusal) (rest : Stream) → (after v Crash refusal rest).files.directory ≡ v.files.directory
 
 -- a crash leaves of each incarnation its base with the uncut log replayed over it, by the drawn rows
 abbrev pub CrashReplaysTheLog : Type 0
@@ -36,6 +48,14 @@ CrashReplaysTheLog = (v : State) (rest : Stream) (o : Place)
 abbrev pub CrashAgainChangesNothing : Type 0
 CrashAgainChangesNothing = (v : State) (rest last : Stream) (o : Place)
     → durable_at (after (after v Crash None rest) Crash None last).files o ≡ durable_at (after v Crash None rest).files o
+
+-- a newly opened handle reads the durable bytes
+abbrev pub OpenReadsDurableBytes : Type 0
+OpenReadsDurableBytes = (files : Files) (registration : Option Registration) (o : Place) → (held_on files registration o).live ≡ durable_at files o
+
+-- and tracks their length
+abbrev pub OpenTracksTheirLength : Type 0
+OpenTracksTheirLength = (files : Files) (registration : Option Registration) (o : Place) → (held_on files registration o).size ≡ length (durable_at files o)
 
 -- a removal doesn't change the base of any incarnation
 abbrev pub RemovalKeepsBases : Type 0
@@ -53,6 +73,10 @@ abbrev pub RemovalKeepsOtherLogs : Type 0
 RemovalKeepsOtherLogs = (v : State) (partition : List ℕ) (name : Option (List ℕ)) (refusal : Option Refusal) (rest : Stream) (o : Place)
     → is_removed_by v.files.directory partition name o ≡ false → log_of (after v (Remove partition name) refusal rest).files.log o ≡ log_of v.files.log o
 
+-- the number of the next incarnation never decreases
+abbrev pub NextNumberNeverDecreases : Type 0
+NextNumberNeverDecreases = (v : State) (act : Act) (refusal : Option Refusal) (rest : Stream) → v.files.directory.next ≤ (after v act refusal rest).files.directory.next
+
 -- an incarnation that isn't its name's current one doesn't become current by any call
 abbrev pub StaleStaysStale : Type 0
 StaleStaysStale = (v : State) (act : Act) (refusal : Option Refusal) (rest : Stream) (o : Place) → o.number < v.files.directory.next
@@ -62,6 +86,10 @@ StaleStaysStale = (v : State) (act : Act) (refusal : Option Refusal) (rest : Str
 abbrev pub StaleStaysForEver : Type 0
 StaleStaysForEver = (v w : State) (calls : List Call) (replies : List Reply) (o : Place) → LeadsTo v calls replies w → o.number < v.files.directory.next
     → is_current v.files.directory o ≡ false → is_current w.files.directory o ≡ false
+
+-- a call through a handle changes no directory
+abbrev pub AskKeepsTheDirectory : Type 0
+AskKeepsTheDirectory = (v : State) (h : Held) (ask : Ask) (refusal : Option Refusal) → (files_after v h ask refusal).directory ≡ v.files.directory
 
 -- a call through a handle changes durable bytes only of its own incarnation
 abbrev pub AskKeepsOtherFiles : Type 0
@@ -92,6 +120,14 @@ StaleStartBeginsNothing = (v : State) (h : Held) (refusal : Option Refusal) → 
 abbrev pub RunsGoOn : Type 0
 RunsGoOn = (v w u : State) (calls more : List Call) (replies rest : List Reply) → LeadsTo v calls replies w → LeadsTo w more rest u
     → LeadsTo v (calls ++ more) (replies ++ rest) u
+
+-- the state of a new laboratory is reached exclusively
+abbrev pub StartIsReachedExclusively : Type 0
+StartIsReachedExclusively = (images : List Image) (words : Words) (config : Config) → ReachedExclusively (start images words config)
+
+-- calls from a reached state lead to a reached state
+abbrev pub ReachedRunsGoOn : Type 0
+ReachedRunsGoOn = (v w : State) (calls : List Call) (replies : List Reply) → Reached v → LeadsTo v calls replies w → Reached w
 
 -- from a state that is reached by exclusive opens only, calls with exclusive opens only lead to such a state
 abbrev pub ExclusiveRunsGoOn : Type 0

@@ -1,25 +1,20 @@
 //! Laws of the states of a laboratory, after any calls. A law is an empty function; its contract is the law.
 
-ghost use Rattle.std.specs.Prelude.{◌≡◌, ◌≤◌, List, [], Option, None, length};
+ghost use Rattle.std.specs.Prelude.{◌≡◌, [], None};
 ghost use Rattle.rand_core.specs.Stream.{Stream};
-ghost use Rattle.blob_model.specs.Draws.{drawn};
-ghost use Rattle.blob_model.specs.Files.{Files, all_needs, durable_at};
-ghost use Rattle.blob_model.specs.Places.{Place};
-ghost use Rattle.blob_header.specs.Refusals.{Refusal};
-ghost use Rattle.blob_draws.specs.declared.config.Config.{Config};
-ghost use Rattle.blob_script.specs.Acts.{Act, Ask, Crash};
-ghost use Rattle.blob_lab_model.specs.After.{after, files_after};
+ghost use Rattle.blob_script.specs.Acts.{Crash};
+ghost use Rattle.blob_script.specs.Told as told;
+ghost use Rattle.blob_lab_model.specs.After.{after};
 ghost use Rattle.blob_lab_model.specs.Answers.{answer};
 ghost use Rattle.blob_lab_model.specs.Exclusive.{HoldNames, Sole};
-ghost use Rattle.blob_opens.specs.OpenNames.{Registration};
-ghost use Rattle.blob_lab_model.specs.Laws.{AskKeepsOtherFiles, CrashAgainChangesNothing, CrashReplaysTheLog, ExclusiveRunsGoOn, RemovalKeepsBases, RemovalKeepsOtherFiles, RemovalKeepsOtherLogs, RunsGoOn, StaleAskChangesNothing, StaleStartBeginsNothing, StaleStartIsRefused, StaleStaysForEver, StaleStaysStale, StaleSyncIsRefused};
-ghost use Rattle.blob_lab_model.specs.Reached.{Reached, ReachedExclusively};
-ghost use Rattle.blob_lab_model.specs.Runs.{LeadsTo};
-ghost use Rattle.blob_lab_model.specs.Scripted.{Words};
-ghost use Rattle.blob_lab_model.specs.States.{State, Held, Image, held_on, start};
-ghost use Rattle.blob_script.specs.Told as told;
-ghost use Rattle.blob_script.specs.declared.call.Call.{Call};
-ghost use Rattle.blob_script.specs.declared.reply.Reply.{Reply};
+ghost use Rattle.blob_lab_model.specs.Laws.{AskKeepsOtherFiles, AskKeepsTheDirectory, StaleAskChangesNothing};
+ghost use Rattle.blob_lab_model.specs.Laws.{CrashAgainChangesNothing, CrashKeepsHeaders, CrashRepliesWithItsRows, CrashReplaysTheLog};
+ghost use Rattle.blob_lab_model.specs.Laws.{ExclusiveRunsGoOn, ReachedRunsGoOn, RunsGoOn, StartIsReachedExclusively};
+ghost use Rattle.blob_lab_model.specs.Laws.{NextNumberNeverDecreases, OpenReadsDurableBytes, OpenTracksTheirLength};
+ghost use Rattle.blob_lab_model.specs.Laws.{RemovalKeepsBases, RemovalKeepsOtherFiles, RemovalKeepsOtherLogs};
+ghost use Rattle.blob_lab_model.specs.Laws.{StaleStartBeginsNothing, StaleStartIsRefused, StaleStaysForEver, StaleStaysStale, StaleSyncIsRefused};
+ghost use Rattle.blob_lab_model.specs.Reached.{ReachedExclusively};
+ghost use Rattle.blob_lab_model.specs.States.{State};
 
 pub mod current_handles;
 pub mod persistence;
@@ -29,9 +24,9 @@ pub mod rebuilt_stores;
 /// exactly these rows: one per write that the log needs. A crash changes no header. Another crash right after it
 /// changes nothing, returns no row and takes no word.
 pub fn crashes()
-    ensures rows { (v : State) → answer v Crash ≡ (told.Crashed (drawn v.stream (all_needs v.files.log)).0, (drawn v.stream (all_needs v.files.log)).1) }
+    ensures rows { CrashRepliesWithItsRows }
     ensures left { CrashReplaysTheLog }
-    ensures headers { (v : State) (refusal : Option Refusal) (rest : Stream) → (after v Crash refusal rest).files.directory ≡ v.files.directory }
+    ensures headers { CrashKeepsHeaders }
     ensures again { (v : State) (rest : Stream) → answer (after v Crash None rest) Crash ≡ (told.Crashed [], rest) }
     ensures same { CrashAgainChangesNothing }
 {}
@@ -46,13 +41,13 @@ pub fn removals()
 
 /// A newly opened handle reads the durable bytes and tracks their length.
 pub fn opens()
-    ensures live { (files : Files) (registration : Option Registration) (o : Place) → (held_on files registration o).live ≡ durable_at files o }
-    ensures size { (files : Files) (registration : Option Registration) (o : Place) → (held_on files registration o).size ≡ length (durable_at files o) }
+    ensures live { OpenReadsDurableBytes }
+    ensures size { OpenTracksTheirLength }
 {}
 
 /// An incarnation that isn't its name's current one never becomes current again, after any calls and rebuilds.
 pub fn stale_stays_stale()
-    ensures next { (v : State) (act : Act) (refusal : Option Refusal) (rest : Stream) → v.files.directory.next ≤ (after v act refusal rest).files.directory.next }
+    ensures next { NextNumberNeverDecreases }
     ensures stale { StaleStaysStale }
     ensures ever { StaleStaysForEver }
 {}
@@ -63,7 +58,7 @@ pub fn stale_stays_stale()
 /// A sync by a stale handle fails with `BlobMissing`, unless a fault is injected. A started sync fails likewise, if a
 /// number is left for a marker. Regardless of its error, it publishes nothing.
 pub fn asks()
-    ensures directory { (v : State) (h : Held) (ask : Ask) (refusal : Option Refusal) → (files_after v h ask refusal).directory ≡ v.files.directory }
+    ensures directory { AskKeepsTheDirectory }
     ensures others { AskKeepsOtherFiles }
     ensures stale { StaleAskChangesNothing }
     ensures stale_sync { StaleSyncIsRefused }
@@ -82,7 +77,7 @@ pub fn opens_are_exclusive()
 /// exclusive, to one that is reached exclusively. So is the state of a new laboratory.
 pub fn runs_go_on()
     ensures runs { RunsGoOn }
-    ensures start { (images : List Image) (words : Words) (config : Config) → ReachedExclusively (start images words config) }
-    ensures reached { (v w : State) (calls : List Call) (replies : List Reply) → Reached v → LeadsTo v calls replies w → Reached w }
+    ensures start { StartIsReachedExclusively }
+    ensures reached { ReachedRunsGoOn }
     ensures exclusively { ExclusiveRunsGoOn }
 {}

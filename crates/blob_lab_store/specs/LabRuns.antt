@@ -1,16 +1,23 @@
--- A run of calls, from any state that a laboratory represents by `before`.
-use Rattle.std.specs.Prelude.{List}
+-- New laboratories, and runs of calls, from any state that a laboratory represents.
+use Rattle.std.specs.Prelude.{List, Result, IfOk}
+use Rattle.blob_header.specs.declared.error.Error.{Error}
 use Rattle.blob_script.specs.declared.call.Call.{Call}
 use Rattle.blob_script.specs.declared.reply.Reply.{Reply}
 use Rattle.blob_lab_model.specs.Fixed.{Persists}
 use Rattle.blob_lab_model.specs.Reached.{NoneLoose, ReachedExclusively}
 use Rattle.blob_lab_model.specs.Runs.{LeadsTo}
 use Rattle.blob_lab_model.specs.States.{State}
+use Rattle.blob_lab_store.specs.LabStands.{LabStandsFor}
+use Rattle.blob_lab_store.specs.declared.lab.Lab.{Lab}
 
--- with these replies it leads to a state that the laboratory then represents
-abbrev pub RunsTo : (State → Type 0) → List Call → List Reply → (State → Type 0) → Type 0
-RunsTo before calls replies after = (v : State) → before v → (w : State) × LeadsTo v calls replies w × after w
+-- a new laboratory represents this state
+abbrev pub StartsAt : Result Lab Error → State → Type 0
+StartsAt result v = IfOk result (λ lab. LabStandsFor lab v)
+
+-- with these replies the calls lead to a state that the laboratory then represents
+abbrev pub RunsTo : Lab → List Call → List Reply → Lab → Type 0
+RunsTo lab calls replies lab' = (v : State) → LabStandsFor lab v → (w : State) × LeadsTo v calls replies w × LabStandsFor lab' w
 
 -- if all opens are exclusive, these and the earlier ones, each byte that one of the calls fixes stays
-abbrev pub PersistsExclusively : (State → Type 0) → List Call → List Reply → Type 0
-PersistsExclusively before calls replies = (v : State) → before v → ReachedExclusively v → NoneLoose calls → Persists v calls replies
+abbrev pub PersistsExclusively : Lab → List Call → List Reply → Type 0
+PersistsExclusively lab calls replies = (v : State) → LabStandsFor lab v → ReachedExclusively v → NoneLoose calls → Persists v calls replies

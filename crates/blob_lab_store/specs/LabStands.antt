@@ -4,6 +4,8 @@ use Rattle.rand_core.specs.Stream.{Stream}
 use Rattle.blob_faulty.specs.Keeps.{OverMemory, IsFor}
 use Rattle.blob_faulty.specs.Wrapper.{rng_of, config_of}
 use Rattle.blob_lab_store.specs.declared.lab.Lab.{Lab}
+use Rattle.blob_lab_store.specs.declared.lab.handles.Handle.{Handle}
+use Rattle.blob_lab_store.specs.declared.lab.syncs.Syncs.{Syncs}
 use Rattle.blob_script.specs.declared.reply.Reply.{Reply}
 use Rattle.blob_script.specs.Acts.{Act, Ask, StartSync}
 use Rattle.blob_lab_model.specs.After.{after, files_after, held_after, syncs_after}
@@ -11,7 +13,7 @@ use Rattle.blob_lab_model.specs.Answers.{Answers, IsAnswer, through}
 use Rattle.blob_opens.specs.Opens.{names_of}
 use Rattle.blob_lab_model.specs.Scripted.{Left, scripted}
 use Rattle.blob_lab_model.specs.States.{State, Held, Started, AreGiven}
-use Rattle.blob_lab_store.specs.Tables.{handles_of, syncs_of}
+use Rattle.blob_lab_store.specs.Tables.{as_held, handles_of, syncs_of}
 use Rattle.blob_script.specs.Told.{refused_by}
 
 -- the wrapper of a laboratory, with the rest of the words as its generator
@@ -56,3 +58,11 @@ pub record StartsSync (w : Wrapper) (h : Held) (syncs : List (Option Started)) (
   pub stands : (v : State) → Wraps w v → h.place.number < v.files.directory.next → Wraps w' (record v { files = files_after v h StartSync (refused_by reply); stream = stream_of w' })
   pub table : (v : State) → Wraps w v → syncs ≡ v.syncs → syncs' ≡ syncs_after v h StartSync (refused_by reply)
   pub held : h' ≡ h
+
+-- the same of the handles and the syncs of a laboratory
+
+abbrev pub HandlePerforms : Wrapper → Handle → Ask → Reply → Wrapper → Handle → Type 0
+HandlePerforms w h ask reply w' h' = PerformsAsk w (as_held h) ask reply w' (as_held h')
+
+abbrev pub HandleStartsSync : Wrapper → Handle → Syncs → Reply → Wrapper → Handle → Syncs → Type 0
+HandleStartsSync w h syncs reply w' h' syncs' = StartsSync w (as_held h) (syncs_of syncs) reply w' (as_held h') (syncs_of syncs')

@@ -1,8 +1,11 @@
 -- The tables of a laboratory, as its states see them.
 use Rattle.std.specs.Prelude.{ℕ, ◌+◌, ◌≤◌, List, map, Option, option_map, Vec, String, vec_len, vec_capacity, string_bytes}
 use Rattle.std.specs.Global.{Global}
+use Rattle.std.specs.Range.{range_inclusive_start, range_inclusive_end}
+use Rattle.std.specs.declared.ops.RangeInclusive.{RangeInclusive}
 use Rattle.blob_base.specs.Handles.{outcome_of}
 use Rattle.blob_header.specs.Refusals.{refused}
+use Rattle.blob_header.specs.declared.version.BlobVersion.{BlobVersion}
 use Rattle.blob_base.specs.declared.handle.Handle as base
 use Rattle.blob_faulty.specs.Wrapper.{inside, size_of}
 use Rattle.blob_memory.specs.Store.{place, live}
@@ -26,6 +29,10 @@ syncs_of syncs = map (option_map started_by) syncs.slots.items
 -- images that a laboratory is made of
 abbrev pub images_of : List (String Global × Vec ℕ Global × Vec ℕ Global) → List Image
 images_of images = map (λ i. (string_bytes i.0, i.1.items, i.2.items)) images
+
+-- the first and the last version of a range
+abbrev pub version_bounds : RangeInclusive BlobVersion → ℕ × ℕ
+version_bounds versions = ((range_inclusive_start versions).0, (range_inclusive_end versions).0)
 
 -- capacity for one more
 abbrev pub HasFreeSlot : Handles → Type 0

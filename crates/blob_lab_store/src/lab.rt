@@ -3,7 +3,7 @@ ghost use Rattle.std.specs.Prelude.{◌≡◌, IfOk, OnErr};
 ghost use Rattle.blob_header.specs.Refusals.{IsMemory};
 ghost use Rattle.blob_lab_model.specs.Scripted.{behind_seeded, only, scripted};
 ghost use Rattle.blob_lab_model.specs.States.{start, start_on};
-ghost use Rattle.blob_lab_store.specs.LabRuns.{PersistsExclusively, RunsTo};
+ghost use Rattle.blob_lab_store.specs.LabRuns.{PersistsExclusively, RunsTo, StartsAt};
 ghost use Rattle.blob_lab_store.specs.Tables.{images_of};
 
 mod applying;
@@ -47,7 +47,7 @@ impl Lab {
         words: Vec<u64>,
         config: Config,
     ) -> Result<Lab, Error>
-        ensures stands { IfOk result (λ lab. ⟦<Lab as Stands>⟧.stands_for lab (start (images_of images.items) (only words.items) config)) }
+        ensures stands { StartsAt result (start (images_of images.items) (only words.items) config) }
         ensures memory { OnErr result (IsMemory result) }
     {
         Lab::drawing(images, ScriptedRng::new(words), config)
@@ -61,7 +61,7 @@ impl Lab {
         seed: u64,
         config: Config,
     ) -> Result<Lab, Error>
-        ensures stands { IfOk result (λ lab. ⟦<Lab as Stands>⟧.stands_for lab (start (images_of images.items) (behind_seeded words.items seed) config)) }
+        ensures stands { StartsAt result (start (images_of images.items) (behind_seeded words.items seed) config) }
         ensures memory { OnErr result (IsMemory result) }
     {
         Lab::drawing(images, ScriptedRng::seeded(words, seed), config)
@@ -72,7 +72,7 @@ impl Lab {
         rng: ScriptedRng,
         config: Config,
     ) -> Result<Lab, Error>
-        ensures stands { IfOk result (λ lab. ⟦<Lab as Stands>⟧.stands_for lab (start_on (images_of images.items) (scripted rng) config)) }
+        ensures stands { StartsAt result (start_on (images_of images.items) (scripted rng) config) }
         ensures memory { OnErr result (IsMemory result) }
     {
         let alloc = *images.allocator();
@@ -95,8 +95,8 @@ impl Lab {
     /// If all opens, those of earlier calls too, are exclusive, a byte that one of the calls fixes stays until a later call
     /// writes, cuts or removes it.
     pub fn run(&mut self, calls: &[Call]) -> Result<Vec<Reply>, Error>
-        ensures stands { IfOk result (λ replies. RunsTo (⟦<Lab as Stands>⟧.stands_for self.old) calls.now replies.items (⟦<Lab as Stands>⟧.stands_for self.new)) }
-        ensures fixed { IfOk result (λ replies. PersistsExclusively (⟦<Lab as Stands>⟧.stands_for self.old) calls.now replies.items) }
+        ensures stands { IfOk result (λ replies. RunsTo self.old calls.now replies.items self.new) }
+        ensures fixed { IfOk result (λ replies. PersistsExclusively self.old calls.now replies.items) }
         ensures memory { OnErr result (IsMemory result) }
         ensures err { OnErr result (self.new ≡ self.old) }
     {

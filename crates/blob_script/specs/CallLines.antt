@@ -1,7 +1,7 @@
 -- The lines of calls.
 use Rattle.std.specs.Prelude.{ℕ, List, [], ◌∷◌, Bool, true, false, Option, codes}
 use Rattle.blob_script.specs.Acts.{Act, AcceptedVersions, Open, OpenLoose, Admit, Close, Through, Read, Write, Resize, Size, Sync, StartSync, Finish, Remove, Scan, Crash, Reopen}
-use Rattle.blob_script.specs.Forms.{Form, ◌>>=◌, gives, no_form, beside, text, hex, name, digits, versions}
+use Rattle.blob_script.specs.Forms.{Form, ◌>>=◌, gives, no_form, form_in_table, text, hex, name, digits, versions}
 
 abbrev pub open_form : (List ℕ → List ℕ → Option AcceptedVersions → Act) → Form Act
 open_form act = do partition ← text; name ← hex; accepts ← versions; gives (act partition name accepts)
@@ -12,7 +12,7 @@ writing sync = do handle ← digits; offset ← digits; bytes ← hex; gives (Th
 
 -- the tokens after the word of a call
 abbrev pub call : List ℕ → Form Act
-call = beside (
+call = form_in_table (
     (codes "open", open_form Open)
     ∷ (codes "loose", open_form OpenLoose)
     ∷ (codes "admit", do partition ← text; name ← hex; gives (Admit partition name))

@@ -39,9 +39,9 @@ abbrev pub whole : {X : Type 0} → Form X → List (List ℕ) → Option X
 whole form tokens = option_and_then (λ read. if is_empty read.1 then Some read.0 else None) (form tokens)
 
 -- the form of a word in a table, or else another one
-abbrev pub beside : {X : Type 0} → List (List ℕ × Form X) → Form X → List ℕ → Form X
-beside [] otherwise word = otherwise
-beside (row ∷ rows) otherwise word = if bytes_eq word row.0 then row.1 else beside rows otherwise word
+abbrev pub form_in_table : {X : Type 0} → List (List ℕ × Form X) → Form X → List ℕ → Form X
+form_in_table [] otherwise word = otherwise
+form_in_table (row ∷ rows) otherwise word = if bytes_eq word row.0 then row.1 else form_in_table rows otherwise word
 
 abbrev pub text : Form (List ℕ)
 text = token Some
@@ -49,7 +49,7 @@ text = token Some
 -- a word, then its form in a table
 abbrev pub by_word : {X : Type 0} → List (List ℕ × Form X) → Form X
 by_word rows [] = None
-by_word rows (word ∷ tokens) = beside rows no_form word tokens
+by_word rows (word ∷ tokens) = form_in_table rows no_form word tokens
 
 abbrev pub hex : Form (List ℕ)
 hex = token (λ next. result_ok (bytes_of next))

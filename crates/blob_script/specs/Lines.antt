@@ -6,7 +6,7 @@ use Rattle.blob_script.specs.declared.script.line.Line.TheVariants as line
 use Rattle.blob_script.specs.declared.script.setting.Setting.{Setting}
 use Rattle.blob_script.specs.Acts.{Act, act_of}
 use Rattle.blob_script.specs.CallLines.{call}
-use Rattle.blob_script.specs.Forms.{Form, ◌>>=◌, gives, whole, beside, text, hex, digits, words}
+use Rattle.blob_script.specs.Forms.{Form, ◌>>=◌, gives, whole, form_in_table, text, hex, digits, words}
 use Rattle.blob_script.specs.SettingLines.{setting}
 use Rattle.blob_script.specs.Tokens.{tokens}
 
@@ -28,7 +28,7 @@ said_by (line.Call asked) = Call (act_of asked)
 
 -- the tokens after the first word of a line: a preamble line, a configuration or a call
 abbrev pub statement : List ℕ → Form Said
-statement word = beside (
+statement word = form_in_table (
     (codes "image", do partition ← text; name ← hex; bytes ← hex; gives (Image partition name bytes))
     ∷ (codes "words", do read ← words; gives (Given read))
     ∷ (codes "seed", do read ← digits; gives (Seed read))

@@ -4,8 +4,7 @@ ghost use Rattle.std.specs.Bool.{OnTrue, OnFalse};
 ghost use Rattle.blob_base.specs.Options.{is_sync};
 ghost use Rattle.blob_header.specs.Refusals.{Memory, refused};
 ghost use Rattle.blob_script.specs.Acts.{Read, Write, Resize, Size, Sync, StartSync, Through, Finish};
-ghost use Rattle.blob_lab_store.specs.LabStands.{PerformsAsk, StartsSync, Performs};
-ghost use Rattle.blob_lab_store.specs.Tables.{as_held, syncs_of};
+ghost use Rattle.blob_lab_store.specs.LabStands.{HandlePerforms, HandleStartsSync, Performs};
 
 use crate::lab::handles::Handle;
 use crate::lab::syncs::Syncs;
@@ -39,7 +38,7 @@ fn is_memory(outcome: &Result<(), Error>) -> bool
 
 impl Handle {
     fn read(&self, wrapper: &mut Wrapper, offset: u64, len: usize) -> Reply
-        ensures { PerformsAsk wrapper.old (as_held self.now) (Read offset len) result wrapper.new (as_held self.now) }
+        ensures { HandlePerforms wrapper.old self.now (Read offset len) result wrapper.new self.now }
     {
         match self
             .blob
@@ -51,7 +50,7 @@ impl Handle {
     }
 
     fn write(&mut self, wrapper: &mut Wrapper, offset: u64, bytes: &[u8], sync: bool) -> Reply
-        ensures { PerformsAsk wrapper.old (as_held self.old) (Write offset bytes.now sync) result wrapper.new (as_held self.new) }
+        ensures { HandlePerforms wrapper.old self.old (Write offset bytes.now sync) result wrapper.new self.new }
     {
         let options = write_options(sync);
         runs_are_choices();
@@ -62,7 +61,7 @@ impl Handle {
     }
 
     fn resize(&mut self, wrapper: &mut Wrapper, len: u64) -> Reply
-        ensures { PerformsAsk wrapper.old (as_held self.old) (Resize len) result wrapper.new (as_held self.new) }
+        ensures { HandlePerforms wrapper.old self.old (Resize len) result wrapper.new self.new }
     {
         match self.blob.resize(wrapper, len) {
             Ok(()) => Reply::Done,
@@ -71,7 +70,7 @@ impl Handle {
     }
 
     fn sync(&mut self, wrapper: &mut Wrapper) -> Reply
-        ensures { PerformsAsk wrapper.old (as_held self.old) Sync result wrapper.new (as_held self.new) }
+        ensures { HandlePerforms wrapper.old self.old Sync result wrapper.new self.new }
     {
         match self.blob.sync(wrapper) {
             Ok(()) => Reply::Done,
@@ -81,7 +80,7 @@ impl Handle {
 
     /// Starts a sync. It takes a number, even if it fails, unless the error is `Memory`.
     fn start_sync(&mut self, wrapper: &mut Wrapper, syncs: &mut Syncs) -> Reply
-        ensures { StartsSync wrapper.old (as_held self.old) (syncs_of syncs.old) result wrapper.new (as_held self.new) (syncs_of syncs.new) }
+        ensures { HandleStartsSync wrapper.old self.old syncs.old result wrapper.new self.new syncs.new }
     {
         if let Err(e) = syncs.reserve() {
             return Reply::Failed(e);

@@ -3,6 +3,7 @@ ghost use Rattle.std.specs.Prelude.{◌≡◌, ◌≤◌, false, Some, None, IfS
 ghost use Rattle.std.specs.Range.{range_inclusive_start, range_inclusive_end, range_inclusive_exhausted};
 ghost use Rattle.blob_script.specs.Acts.{Open, OpenLoose, Close, versions_of};
 ghost use Rattle.blob_lab_store.specs.LabStands.{Performs};
+ghost use Rattle.blob_lab_store.specs.Tables.{version_bounds};
 
 use crate::ScriptedRng;
 use crate::lab::Lab;
@@ -14,7 +15,7 @@ use std::ops::RangeInclusive;
 
 /// Returns a copy of a range of versions, or `None` if it is empty.
 fn accepted(versions: &RangeInclusive<BlobVersion>) -> Option<RangeInclusive<BlobVersion>>
-    ensures versions { IfSome result (λ v. versions_of versions.now ≡ Some ((range_inclusive_start v).0, (range_inclusive_end v).0)) }
+    ensures versions { IfSome result (λ v. versions_of versions.now ≡ Some (version_bounds v)) }
     ensures fresh { IfSome result (λ v. range_inclusive_exhausted v ≡ false) }
     ensures some { IfSome result (λ v. (range_inclusive_start v).0 ≤ (range_inclusive_end v).0) }
     ensures none { IfNone result (versions_of versions.now ≡ None) }

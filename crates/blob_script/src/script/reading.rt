@@ -1,8 +1,9 @@
 //! Reading up to a byte.
-ghost use Rattle.std.specs.Prelude.{◌≡◌, ◌+◌, ◌++◌, IfSome, IfNone, IfOk, OnOk, vec_len};
+ghost use Rattle.std.specs.Prelude.{◌≡◌, ◌+◌, IfSome, IfNone, IfOk, OnOk, vec_len};
 ghost use Rattle.std.specs.Io.{StopsAt, appended_bytes};
-ghost use Rattle.std.specs.Io.KnownBytes.{Consumes, IsAtEnd, Keeps};
-ghost use Rattle.std.specs.Io.BufRead.{DropsThrough, take_through};
+ghost use Rattle.std.specs.Io.KnownBytes.{IsAtEnd, Keeps};
+ghost use Rattle.std.specs.Io.BufRead.{DropsThrough};
+ghost use Rattle.blob_script.specs.Reads.{AppendsThrough, IfTaken, MovesBytes};
 
 use memchr::memchr;
 use std::io::{BufRead, ErrorKind, Result};
@@ -11,13 +12,13 @@ use std::io::{BufRead, ErrorKind, Result};
 /// the input. Returns `None` and takes nothing if more must be read.
 fn take_ready<R: BufRead>(reader: &mut R, byte: u8, bytes: &mut Vec<u8>) -> Result<Option<usize>>
     ensures len { IfOk result (λ taken. IfSome taken (λ n. vec_len bytes.new ≡ vec_len bytes.old + n)) }
-    ensures bytes { IfOk result (λ taken. IfSome taken (λ _. IfSome (R.remaining reader.old) (λ xs. bytes.new.items ≡ bytes.old.items ++ take_through byte xs))) }
-    ensures rest { IfOk result (λ taken. IfSome taken (λ _. DropsThrough (R.remaining reader.old) (R.remaining reader.new) byte)) }
+    ensures bytes { IfTaken result (AppendsThrough byte (R.remaining reader.old) bytes.old.items bytes.new.items) }
+    ensures rest { IfTaken result (DropsThrough (R.remaining reader.old) (R.remaining reader.new) byte) }
     ensures end { IfOk result (λ taken. IfSome taken (λ n. n ≡ 0 → IsAtEnd (R.remaining reader.old))) }
     ensures none { IfOk result (λ taken. IfNone taken (Keeps (R.remaining reader.old) (R.remaining reader.new))) }
     ensures same { IfOk result (λ taken. IfNone taken (bytes.new ≡ bytes.old)) }
     ensures stops { StopsAt (appended_bytes bytes.old.items bytes.new.items) byte }
-    ensures none_lost { Consumes (R.remaining reader.old) (R.remaining reader.new) (appended_bytes bytes.old.items bytes.new.items) }
+    ensures none_lost { MovesBytes (R.remaining reader.old) (R.remaining reader.new) bytes.old.items bytes.new.items }
 {
     let ready = match reader.fill_buf() {
         Ok(ready) => ready,
@@ -45,11 +46,11 @@ fn take_ready<R: BufRead>(reader: &mut R, byte: u8, bytes: &mut Vec<u8>) -> Resu
 /// appended.
 pub fn read_through<R: BufRead>(reader: &mut R, byte: u8, bytes: &mut Vec<u8>) -> Result<usize>
     ensures len { IfOk result (λ n. vec_len bytes.new ≡ vec_len bytes.old + n) }
-    ensures bytes { OnOk result (IfSome (R.remaining reader.old) (λ xs. bytes.new.items ≡ bytes.old.items ++ take_through byte xs)) }
+    ensures bytes { OnOk result (AppendsThrough byte (R.remaining reader.old) bytes.old.items bytes.new.items) }
     ensures rest { OnOk result (DropsThrough (R.remaining reader.old) (R.remaining reader.new) byte) }
     ensures end { IfOk result (λ n. n ≡ 0 → IsAtEnd (R.remaining reader.old)) }
     ensures stops { StopsAt (appended_bytes bytes.old.items bytes.new.items) byte }
-    ensures none_lost { Consumes (R.remaining reader.old) (R.remaining reader.new) (appended_bytes bytes.old.items bytes.new.items) }
+    ensures none_lost { MovesBytes (R.remaining reader.old) (R.remaining reader.new) bytes.old.items bytes.new.items }
 {
     if let Some(taken) = take_ready(reader, byte, bytes)? {
         return Ok(taken);

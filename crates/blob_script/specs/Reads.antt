@@ -1,0 +1,17 @@
+-- The results of reading up to a byte.
+use Rattle.std.specs.Prelude.{◌≡◌, ◌++◌, ℕ, List, Option, Result, IfOk, IfSome}
+use Rattle.std.specs.Io.{appended_bytes}
+use Rattle.std.specs.Io.BufRead.{take_through}
+use Rattle.std.specs.Io.KnownBytes.{Consumes}
+
+-- P holds if something was taken
+abbrev pub IfTaken : {T E : Type 0} → Result (Option T) E → Type 0 → Type 0
+IfTaken result P = IfOk result (λ taken. IfSome taken (λ _. P))
+
+-- the remaining bytes up to and including the first `byte` were appended to a buffer, if they are known
+abbrev pub AppendsThrough : ℕ → Option (List ℕ) → List ℕ → List ℕ → Type 0
+AppendsThrough byte remaining before after = IfSome remaining (λ xs. after ≡ before ++ take_through byte xs)
+
+-- the bytes that were taken were appended to a buffer
+abbrev pub MovesBytes : Option (List ℕ) → Option (List ℕ) → List ℕ → List ℕ → Type 0
+MovesBytes old new before after = Consumes old new (appended_bytes before after)
