@@ -4,7 +4,7 @@ use Rattle.std.proofs.Common.{Option, Some, ◌≡◌, ◌≢◌, ℕ, zero, suc
 use Rattle.std.specs.List.{flat_map}
 use Rattle.std.proofs.lemmas.List.{append-nil, flat_map_more}
 use Rattle.std.proofs.lemmas.List.Elements.{All-append}
-use Rattle.blob_explain.specs.Explained.{IsLine, remark, AreRemarks, Remarks, IsRemarking, as_line, remarked, IsExplained, Explains}
+use Rattle.blob_explain.specs.Explained.{IsLine, remark, AreRemarks, Remarks, IsRemarking, as_line, with_remarks, IsExplained, Explains}
 
 of_none : {X : Type 0} (P : X → Type 0) → All P []
 of_none P k d lt = absurd (omega (arith, lt))
@@ -18,7 +18,7 @@ pub record Told (printed rest text : List ℕ) : Type 0 where
   pub pieces : List (List ℕ × List ℕ)
   pub remarks : All (λ piece. AreRemarks piece.1) pieces
   pub lines : printed ≡ flat_map as_line pieces ++ rest
-  pub written : text ≡ flat_map remarked pieces
+  pub written : text ≡ flat_map with_remarks pieces
 
 pub begins : (printed text : List ℕ) → text ≡ [] → Told printed printed text
 begins printed text e = record { pieces = []; remarks = of_none (λ piece. AreRemarks piece.1); lines = refl; written = e }
@@ -29,8 +29,8 @@ goes_on printed rest text line others pushed next t parts is r = record {
   remarks = All-append (λ piece. AreRemarks piece.1) t.pieces ((line, r.added) ∷ []) t.remarks (of_one (λ piece. AreRemarks piece.1) (line, r.added) r.are);
   lines = t.lines ∙ ap (λ u. flat_map as_line t.pieces ++ u) (parts ∙ sym (append_assoc line (10 ∷ []) others))
       ∙ sym (append_assoc (flat_map as_line t.pieces) (line ++ 10 ∷ []) others) ∙ ap (λ u. u ++ others) (flat_map_more as_line [] t.pieces (line, r.added));
-  written = r.adds ∙ ap (λ u. u ++ r.added) (is ∙ ap (λ u. u ++ line ++ 10 ∷ []) t.written) ∙ append_assoc (flat_map remarked t.pieces ++ line) (10 ∷ []) r.added ∙ append_assoc (flat_map remarked t.pieces) line (10 ∷ r.added)
-      ∙ flat_map_more remarked [] t.pieces (line, r.added);
+  written = r.adds ∙ ap (λ u. u ++ r.added) (is ∙ ap (λ u. u ++ line ++ 10 ∷ []) t.written) ∙ append_assoc (flat_map with_remarks t.pieces ++ line) (10 ∷ []) r.added ∙ append_assoc (flat_map with_remarks t.pieces) line (10 ∷ r.added)
+      ∙ flat_map_more with_remarks [] t.pieces (line, r.added);
 }
 
 pub explained : (printed rest text whole : List ℕ) → Told printed rest text → whole ≡ text ++ rest → IsExplained printed whole

@@ -35,8 +35,8 @@ GoesOn to line to' line' = (old : List ℕ) → IsRemarking old to line → IsRe
 abbrev pub as_line : List ℕ × List ℕ → List ℕ
 as_line piece = piece.0 ++ 10 ∷ []
 
-abbrev pub remarked : List ℕ × List ℕ → List ℕ
-remarked piece = piece.0 ++ 10 ∷ piece.1
+abbrev pub with_remarks : List ℕ × List ℕ → List ℕ
+with_remarks piece = piece.0 ++ 10 ∷ piece.1
 
 -- a text is what was printed, with nothing but remarks between its lines
 pub record IsExplained (printed text : List ℕ) : Type 0 where
@@ -44,7 +44,7 @@ pub record IsExplained (printed text : List ℕ) : Type 0 where
   pub remarks : All (λ piece. AreRemarks piece.1) pieces
   pub rest : List ℕ
   pub lines : printed ≡ flat_map as_line pieces ++ rest
-  pub written : text ≡ flat_map remarked pieces ++ rest
+  pub written : text ≡ flat_map with_remarks pieces ++ rest
 
 -- what a run that prints so has written, explained
 pub record Explains (Prints : Option (List ℕ) → Option (List ℕ) → Type 0) (old new : Option (List ℕ)) : Type 0 where

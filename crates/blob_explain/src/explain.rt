@@ -1,10 +1,9 @@
 // A script's replies with the pictures between them.
-ghost use Rattle.std.specs.Prelude.{◌≡◌, ◌≢◌, ◌⊎◌, ◌<◌, ◌++◌, ◌∷◌, ℕ, true, IfSome, IfOk, IfErr, OnOk, length};
-ghost use Rattle.std.specs.Io.KnownBytes.{Keeps};
-ghost use Rattle.blob_lab.specs.Endings.{is_of_script};
-ghost use Rattle.blob_lab.specs.Streams.{OfBytes, reader_of, read_failed, writer_of, write_failed, is_flushed};
+ghost use Rattle.std.specs.Prelude.{◌≡◌, ◌≢◌, ◌⊎◌, ◌<◌, ◌++◌, ◌∷◌, true, IfSome, IfOk, IfErr, OnOk, length};
+ghost use Rattle.blob_lab.specs.Endings.{IfWritten};
+ghost use Rattle.blob_lab.specs.Streams.{KeepsOutput, OfBytes, OnBadCall, read_failed, write_failed, is_flushed};
 ghost use Rattle.blob_explain.specs.Explained.{IsExplained, Remarks};
-ghost use Rattle.blob_explain.specs.Explanations.{ExplainsBefore, ExplainsScript, IsExplanation, WritesExplanation};
+ghost use Rattle.blob_explain.specs.Explanations.{EndsSound, ExplainsBefore, ExplainsInput, ExplainsScript, IsCutShort, IsInputExplained};
 
 use crate::play::remarks_of;
 use crate::remarks::push_remarks;
@@ -28,13 +27,12 @@ pub fn explain_script<R: BufRead, W: Write>(
     ensures ending { (result ≢ Ending.BadImage) × (result ≢ Ending.Usage) }
     ensures done { result ≡ Ending.Done
         → OfBytes R.remaining W.contents input.old output.old output.new ExplainsScript }
-    ensures bad_call { (number : ℕ) → result ≡ Ending.BadCall number
-        → OfBytes R.remaining W.contents input.old output.old output.new (ExplainsBefore number) }
-    ensures unwritten { result ≡ Ending.InputFailed → Keeps (W.contents (writer_of output.old)) (W.contents (writer_of output.new)) }
+    ensures bad_call { OnBadCall R.remaining W.contents result input.old output.old output.new ExplainsBefore }
+    ensures unwritten { result ≡ Ending.InputFailed → KeepsOutput W.contents output.old output.new }
     ensures handed_on { result ≢ Ending.OutputFailed → is_flushed output.new ≡ true }
     ensures input_failed { result ≡ Ending.InputFailed → read_failed input.new ≡ true }
     ensures output_failed { result ≡ Ending.OutputFailed → write_failed output.new ≡ true }
-    ensures input_sound { result ≢ Ending.InputFailed → result ≢ Ending.OutputFailed → read_failed input.new ≡ read_failed input.old }
+    ensures input_sound { result ≢ Ending.InputFailed → IfWritten result (read_failed input.new ≡ read_failed input.old) }
     ensures output_sound { result ≢ Ending.OutputFailed → write_failed output.new ≡ write_failed output.old }
 {
     let ran = write_explanation(alloc, input, output);
@@ -51,11 +49,10 @@ fn write_explanation<R: BufRead, W: Write>(
     input: &mut Input<R>,
     output: &mut Output<W>,
 ) -> Result<Ending, Ending>
-    ensures ended { IfOk result (λ ending. (is_of_script ending ≡ true) × (ending ≢ Ending.InputFailed) × (ending ≢ Ending.OutputFailed)) }
-    ensures cut { IfErr result (λ ending. (ending ≡ Ending.InputFailed) ⊎ (ending ≡ Ending.NoMemory) ⊎ (ending ≡ Ending.OutputFailed)) }
-    ensures text { IfOk result (λ ending.
-        OfBytes R.remaining W.contents input.old output.old output.new (λ bytes. WritesExplanation bytes ending)) }
-    ensures unwritten { result ≡ Err Ending.InputFailed → Keeps (W.contents (writer_of output.old)) (W.contents (writer_of output.new)) }
+    ensures ended { IfOk result EndsSound }
+    ensures cut { IfErr result IsCutShort }
+    ensures text { IfOk result (ExplainsInput R.remaining W.contents input.old output.old output.new) }
+    ensures unwritten { result ≡ Err Ending.InputFailed → KeepsOutput W.contents output.old output.new }
     ensures input_failed { result ≡ Err Ending.InputFailed → read_failed input.new ≡ true }
     ensures input_sound { result ≢ Err Ending.InputFailed → read_failed input.new ≡ read_failed input.old }
     ensures output_failed { result ≡ Err Ending.OutputFailed → write_failed output.new ≡ true }
@@ -68,9 +65,9 @@ fn write_explanation<R: BufRead, W: Write>(
 
 /// Returns the explanation, and how the script ended.
 fn explanation<R: BufRead>(alloc: Global, input: &mut Input<R>) -> Result<(Vec<u8>, Ending), Ending>
-    ensures ended { IfOk result (λ ran. (is_of_script ran.1 ≡ true) × (ran.1 ≢ Ending.InputFailed) × (ran.1 ≢ Ending.OutputFailed)) }
+    ensures ended { IfOk result (λ ran. EndsSound ran.1) }
     ensures cut { IfErr result (λ ending. (ending ≡ Ending.InputFailed) ⊎ (ending ≡ Ending.NoMemory)) }
-    ensures text { IfOk result (λ ran. IfSome (R.remaining (reader_of input.old)) (λ bytes. IsExplanation bytes ran.1 ran.0.items)) }
+    ensures text { IfOk result (λ ran. IsInputExplained R.remaining input.old ran.1 ran.0.items) }
     ensures failed { result ≡ Err Ending.InputFailed → read_failed input.new ≡ true }
     ensures sound { result ≢ Err Ending.InputFailed → read_failed input.new ≡ read_failed input.old }
 {
