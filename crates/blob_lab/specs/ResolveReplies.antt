@@ -31,6 +31,10 @@ abbrev pub AnswersLine : List ℕ → Option (List ℕ) → Option (List ℕ) �
 AnswersLine line old new = (image : List ℕ) × (reply : List ℕ) × (decode_of line ≡ Ok image) × Appends old new (reply ++ 10 ∷ [])
     × ((reply ≡ resolution_line (resolved_image image)) ⊎ (IsErr (resolved_image image) × (reply ≡ refusal_line Memory)))
 
+-- this is the first line of these bytes
+abbrev pub IsFirstLine : List ℕ → List ℕ → Type 0
+IsFirstLine line bytes = line ≡ first_piece 10 bytes
+
 -- the same for the first line of these bytes
 abbrev pub ResolvesLine : List ℕ → Option (List ℕ) → Option (List ℕ) → Type 0
 ResolvesLine bytes old new = AnswersLine (first_piece 10 bytes) old new

@@ -9,6 +9,7 @@ pub mod reply_line;
 pub mod setting;
 pub mod token;
 
+pub use hex_text::{decode_hex, encode_hex};
 pub use line::{Line, read_line};
 pub use reading::read_through;
 pub use refused_line::RefusedLine;

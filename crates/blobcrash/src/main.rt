@@ -9,6 +9,9 @@ use std::process::ExitCode;
 /// The release, and the toolchain that it is proved and built with.
 const VERSION: &str = "blobcrash 0.2.0, proved with rattle-kit-13f";
 
+/// The capacity of the input's buffer in bytes. A line that lies in it whole is found fastest.
+const INPUT_BUFFER: usize = 65536;
+
 const HELP: &str = "usage: blobcrash [explain|explore|resolve|help|version]
 
   blobcrash          runs the script on standard input, one call a line, and prints the reply to each
@@ -65,7 +68,7 @@ fn print_line<T: Print>(rt: &T, text: &str) -> Ending {
 }
 
 fn run_input<T: AllocGlobal + Input + Print>(rt: &T) -> Ending {
-    let Ok(reader) = BufReader::new(rt.alloc(), rt.reader()) else {
+    let Ok(reader) = BufReader::with_capacity(rt.alloc(), INPUT_BUFFER, rt.reader()) else {
         return Ending::NoMemory;
     };
     let Ok(writer) = BufWriter::new(rt.alloc(), io::writer(rt)) else {
@@ -78,7 +81,7 @@ fn run_input<T: AllocGlobal + Input + Print>(rt: &T) -> Ending {
 
 // Without a buffer each byte of standard input would be a read of its own.
 fn resolve_input<T: AllocGlobal + Input + Print>(rt: &T) -> Ending {
-    let Ok(reader) = BufReader::new(rt.alloc(), rt.reader()) else {
+    let Ok(reader) = BufReader::with_capacity(rt.alloc(), INPUT_BUFFER, rt.reader()) else {
         return Ending::NoMemory;
     };
     let Ok(writer) = BufWriter::new(rt.alloc(), io::writer(rt)) else {

@@ -1,18 +1,18 @@
 // Resolving one line of hex.
-ghost use Rattle.std.specs.Prelude.{true, ◌≡◌, OnOk, ◌≢◌, ◌⊎◌, IfSome, IfOk, IfErr, IsErr};
+ghost use Rattle.std.specs.Prelude.{true, ◌≡◌, OnOk, ◌⊎◌, IfSome, IfOk, IfErr, IsErr};
 ghost use Rattle.std.specs.Io.KnownBytes.{Keeps};
-ghost use Rattle.std.specs.Io.BufRead.{DropsThrough, first_piece};
+ghost use Rattle.std.specs.Io.BufRead.{DropsThrough};
 ghost use Rattle.hex.specs.Hex.{decode_of};
 ghost use Rattle.blob_header.specs.Resolve.{AnswersAs};
-ghost use Rattle.blob_lab.specs.Endings.{is_cut_of_resolve, is_of_stream};
-ghost use Rattle.blob_lab.specs.ResolveReplies.{AnswersLine, resolved_image};
-ghost use Rattle.blob_lab.specs.Streams.{OfBytes, reader_of, writer_of, is_flushed, ToldEnding};
+ghost use Rattle.blob_lab.specs.Endings.{IfWritten, is_cut_of_resolve, is_of_stream};
+ghost use Rattle.blob_lab.specs.ResolveReplies.{HasBadHex, IsFirstLine, ResolvesLine, resolved_image};
+ghost use Rattle.blob_lab.specs.Streams.{KeepsOutput, OfBytes, reader_of, writer_of, is_flushed, ToldEnding};
 
 use crate::resolution_line::ResolutionLine;
 use crate::streams::drop_line_feed;
 use crate::{Ending, Input, Output};
 use blob_base::{BlobVersion, Error, Layout, resolve};
-use hex::FromHexError;
+use blob_script::script::{RefusedLine, decode_hex};
 use std::alloc::Global;
 use std::io::{BufRead, Write};
 
@@ -22,11 +22,10 @@ pub(super) fn resolve_line<R: BufRead, W: Write>(
     input: &mut Input<R>,
     output: &mut Output<W>,
 ) -> Result<(), Ending>
-    ensures replied { OnOk result (OfBytes R.remaining W.contents input.old output.old output.new (λ bytes. AnswersLine (first_piece 10 bytes))) }
+    ensures replied { OnOk result (OfBytes R.remaining W.contents input.old output.old output.new ResolvesLine) }
     ensures rest { OnOk result (DropsThrough (R.remaining (reader_of input.old)) (R.remaining (reader_of input.new)) 10) }
-    ensures bad_image { result ≡ Err Ending.BadImage → IfSome (R.remaining (reader_of input.old)) (λ bytes. IsErr (decode_of (first_piece 10 bytes))) }
-    ensures nothing_written { IfErr result (λ e. e ≢ Ending.OutputFailed
-        → Keeps (W.contents (writer_of output.old)) (W.contents (writer_of output.new))) }
+    ensures bad_image { result ≡ Err Ending.BadImage → IfSome (R.remaining (reader_of input.old)) HasBadHex }
+    ensures nothing_written { IfErr result (λ ending. IfWritten ending (KeepsOutput W.contents output.old output.new)) }
     ensures cut { IfErr result (λ ending. is_cut_of_resolve ending ≡ true) }
     ensures handed_on { OnOk result (is_flushed output.new ≡ true) }
     ensures told { ToldEnding result input.old input.new output.old output.new }
@@ -61,7 +60,7 @@ fn read_line<R: BufRead, W: Write>(
     input: &mut Input<R>,
     output: &mut Output<W>,
 ) -> Result<Vec<u8>, Ending>
-    ensures line { IfOk result (λ line. IfSome (R.remaining (reader_of input.old)) (λ bytes. line.items ≡ first_piece 10 bytes)) }
+    ensures line { IfOk result (λ line. IfSome (R.remaining (reader_of input.old)) (IsFirstLine line.items)) }
     ensures rest { OnOk result (DropsThrough (R.remaining (reader_of input.old)) (R.remaining (reader_of input.new)) 10) }
     ensures ending { IfErr result (λ ending. is_of_stream ending ≡ true) }
     ensures kept { Keeps (W.contents (writer_of output.old)) (W.contents (writer_of output.new)) }
@@ -76,11 +75,12 @@ fn read_line<R: BufRead, W: Write>(
 // Decodes a line of hex digits.
 fn image_of(alloc: Global, line: &[u8]) -> Result<Vec<u8>, Ending>
     ensures bytes { IfOk result (λ image. decode_of line.now ≡ Ok image.items) }
-    ensures refused { IfErr result (λ ending. (ending ≡ Ending.NoMemory) ⊎ ((ending ≡ Ending.BadImage) × IsErr (decode_of line.now))) }
+    ensures refused { IfErr result (λ ending. (ending ≡ Ending.NoMemory) ⊎ (ending ≡ Ending.BadImage)) }
+    ensures bad_image { result ≡ Err Ending.BadImage → IsErr (decode_of line.now) }
 {
-    match hex::decode(alloc, line) {
+    match decode_hex(alloc, line) {
         Ok(image) => Ok(image),
-        Err(FromHexError::OutOfMemory) => Err(Ending::NoMemory),
-        Err(_) => Err(Ending::BadImage),
+        Err(RefusedLine::NoMemory) => Err(Ending::NoMemory),
+        Err(RefusedLine::BadCall) => Err(Ending::BadImage),
     }
 }

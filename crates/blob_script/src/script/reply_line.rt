@@ -1,11 +1,12 @@
 // Replies as lines.
-ghost use Rattle.std.specs.Prelude.{◌≡◌, ◌++◌, ◌∷◌, OnOk, map, string_bytes, codes, if◌then◌else◌};
+ghost use Rattle.std.specs.Prelude.{◌≡◌, ◌++◌, OnOk, string_bytes};
 ghost use Rattle.std.specs.List.{flat_map};
 ghost use Rattle.std.specs.Fmt.{decimal};
 ghost use Rattle.blob_draws.specs.Rows.{row_in, rows_in};
-ghost use Rattle.blob_script.specs.Replies.{reply_line, hex_field, row_field};
+ghost use Rattle.blob_script.specs.Replies.{reply_line, choice_digits, hex_field, name_fields, row_field};
 
 use crate::Reply;
+use crate::script::hex_text::encode_hex;
 use blob_base::RefusalLine;
 use std::alloc::{AllocError, Global};
 
@@ -54,12 +55,17 @@ fn print_hex(bytes: &[u8], line: &mut String) -> Result<(), AllocError>
     if bytes.is_empty() {
         return line.push_str("-");
     }
-    let digits = hex::encode(*line.allocator(), bytes)?;
+    let Some(len) = bytes.len().checked_mul(2) else {
+        return Err(AllocError);
+    };
+    let mut digits = vec![in *line.allocator(); 0u8; len]?;
+    encode_hex(bytes, digits.as_mut_slice());
+    let digits = unsafe { String::from_utf8_unchecked(digits) };
     line.push_str(&digits)
 }
 
 fn print_names(names: &[Vec<u8>], line: &mut String) -> Result<(), AllocError>
-    ensures { OnOk result (string_bytes line.new ≡ string_bytes line.old ++ flat_map (λ name. codes " " ++ hex_field name.items) names.now) }
+    ensures { OnOk result (string_bytes line.new ≡ string_bytes line.old ++ name_fields names.now) }
 {
     for name in names {
         line.push(' ')?;
@@ -79,7 +85,7 @@ fn print_rows(rows: &[(u64, Vec<bool>)], line: &mut String) -> Result<(), AllocE
 }
 
 fn print_choices(choices: &[bool], line: &mut String) -> Result<(), AllocError>
-    ensures { OnOk result (string_bytes line.new ≡ string_bytes line.old ++ map (λ kept. if kept then 49 else 48) choices.now) }
+    ensures { OnOk result (string_bytes line.new ≡ string_bytes line.old ++ choice_digits choices.now) }
 {
     for kept in choices {
         line.push(if *kept { '1' } else { '0' })?;
