@@ -43,6 +43,10 @@ acts_of asked partition name =
 abbrev pub typed_act : TypedCall → List ℕ → List ℕ → Option Act
 typed_act asked partition name = by_kind asked.kind (acts_of asked partition name)
 
+-- a call by partition and name, and not through a handle
+abbrev pub IsNamed : ℕ → Type 0
+IsNamed kind = (kind ≡ OPEN) ⊎ (kind ≡ OPEN_LOOSE) ⊎ (kind ≡ ADMIT) ⊎ (kind ≡ REMOVE_BLOB) ⊎ (kind ≡ REMOVE_PARTITION) ⊎ (kind ≡ SCAN)
+
 abbrev pub IsNoTypedCall : TypedCall → List ℕ → List ℕ → Type 0
 IsNoTypedCall asked partition name = (typed_act asked partition name ≡ None) ⊎ ¬ (IsUtf8 partition)
 

@@ -1,7 +1,7 @@
 // Calls and replies without text.
 ghost use Rattle.std.specs.Prelude.{◌≡◌, Some, None, IfOk, IsUtf8, string_bytes};
 ghost use Rattle.blob_script.specs.Acts.{act_of, versions_of};
-ghost use Rattle.blob_sessions.specs.Typed.{IsNoTypedCall, sized, typed_act, typed_reply, typed_versions, without_reply};
+ghost use Rattle.blob_sessions.specs.Typed.{IsNamed, IsNoTypedCall, sized, typed_act, typed_reply, typed_versions, without_reply};
 
 use crate::kinds::{
     ADMIT, CLOSE, CRASH, FINISH, OPEN, OPEN_LOOSE, REMOVE_BLOB, REMOVE_PARTITION, REOPEN, RESIZE,
@@ -114,6 +114,37 @@ pub fn typed_call(
     ensures bad { result ≡ Err RefusedLine.BadCall → IsNoTypedCall asked.now partition.now name.now }
 {
     match asked.kind {
+        OPEN | OPEN_LOOSE | ADMIT | REMOVE_BLOB | REMOVE_PARTITION | SCAN => {
+            named_call(alloc, asked, partition, name)
+        }
+        CLOSE => Ok(Call::Close(asked.number)),
+        RESIZE => Ok(Call::Resize {
+            handle: asked.number,
+            len: asked.first,
+        }),
+        SIZE => Ok(Call::Size(asked.number)),
+        SYNC => Ok(Call::Sync(asked.number)),
+        START_SYNC => Ok(Call::StartSync(asked.number)),
+        FINISH => Ok(Call::Finish(asked.number)),
+        CRASH => Ok(Call::Crash),
+        REOPEN => Ok(Call::Reopen),
+        _ => Err(RefusedLine::BadCall),
+    }
+}
+
+/// Returns a call by partition and name. It isn't inlined, since a function clears its locals each time.
+#[inline(never)]
+fn named_call(
+    alloc: Global,
+    asked: &TypedCall,
+    partition: &[u8],
+    name: &[u8],
+) -> Result<Call, RefusedLine>
+    requires { IsNamed asked.now.kind }
+    ensures ok { IfOk result (λ call. typed_act asked.now partition.now name.now ≡ Some (act_of call)) }
+    ensures bad { result ≡ Err RefusedLine.BadCall → IsNoTypedCall asked.now partition.now name.now }
+{
+    match asked.kind {
         OPEN => Ok(Call::Open {
             partition: text(alloc, partition)?,
             name: Vec::from_slice(alloc, name)?,
@@ -128,15 +159,6 @@ pub fn typed_call(
             partition: text(alloc, partition)?,
             name: Vec::from_slice(alloc, name)?,
         }),
-        CLOSE => Ok(Call::Close(asked.number)),
-        RESIZE => Ok(Call::Resize {
-            handle: asked.number,
-            len: asked.first,
-        }),
-        SIZE => Ok(Call::Size(asked.number)),
-        SYNC => Ok(Call::Sync(asked.number)),
-        START_SYNC => Ok(Call::StartSync(asked.number)),
-        FINISH => Ok(Call::Finish(asked.number)),
         REMOVE_BLOB => Ok(Call::Remove {
             partition: text(alloc, partition)?,
             name: Some(Vec::from_slice(alloc, name)?),
@@ -145,12 +167,9 @@ pub fn typed_call(
             partition: text(alloc, partition)?,
             name: None,
         }),
-        SCAN => Ok(Call::Scan {
+        _ => Ok(Call::Scan {
             partition: text(alloc, partition)?,
         }),
-        CRASH => Ok(Call::Crash),
-        REOPEN => Ok(Call::Reopen),
-        _ => Err(RefusedLine::BadCall),
     }
 }
 
