@@ -11,6 +11,7 @@ ghost use Rattle.blob_sessions.specs.ReplyTexts.{Puts};
 
 use blob_base::{Error, Layout};
 use blob_lab::Reply;
+use blob_lab::script::encode_hex;
 use itoa::Buffer;
 
 /// Returns the length of a reply's line in bytes, `None` if it doesn't fit in 64 bits.
@@ -229,7 +230,7 @@ fn put_digits(into: &mut [u8], at: usize, bytes: &[u8]) -> Option<usize>
         return None;
     };
     if end <= into.len() {
-        let _ = hex::encode_to_slice(bytes, &mut into[at..end]);
+        encode_hex(bytes, &mut into[at..end]);
     }
     Some(end)
 }
