@@ -13,6 +13,18 @@ use crate::bounds::BlockBounds;
 use crate::entry::{DurableRange, Entry};
 use std::alloc::AllocError;
 
+/// Reserves capacity for one more entry. The capacity grows by an eighth, not to its double: pending writes are what a list's memory
+/// is used for.
+pub fn reserve_one(entries: &mut Vec<Entry>) -> Result<(), AllocError>
+    ensures items { entries.new.items ≡ entries.old.items }
+    ensures ok { OnOk result (vec_len entries.new < vec_capacity entries.new) }
+{
+    if entries.len() < entries.capacity() {
+        return Ok(());
+    }
+    entries.reserve_exact(entries.len() / 8 + 4)
+}
+
 /// Reserves capacity in the writes for the holes of `count` ranges between `start` and `end`.
 fn reserve_holes(
     entries: &mut [Entry],

@@ -88,10 +88,10 @@ impl<O> Incarnation<O> {
         ensures ok { OnOk result (HasRoom room self.new) }
     {
         match room {
-            Room::Entry => self.entries.reserve(1),
+            Room::Entry => entries::reserve_one(&mut self.entries),
             Room::Mark => {
                 self.marks.reserve(1)?;
-                self.entries.reserve(1)
+                entries::reserve_one(&mut self.entries)
             }
             Room::Ranges(start, end, count) => {
                 self.bounds.add(&self.entries)?;

@@ -8,7 +8,7 @@ use Rattle.blob_pending.proofs.incarnation.Incarnation.reserve.Goals as goal
 
 pub invariant_of-self : goal.invariant_of-self
 invariant_of-self g c =
-    let same : c.reserve.new.self.items ≡ c.args.self.now.entries.items = search rules in
+    let same : c.reserve_one.new.entries.items ≡ c.args.self.now.entries.items = search rules in
     record {
       marked = c.args.self.now.marked ∙ ap (λ (q : List Entry). marks_of (views q)) (sym same);
       queued = c.args.self.now.queued ∙ ap (λ (q : List Entry). has_barrier (views q)) (sym same);
@@ -18,7 +18,7 @@ invariant_of-self g c =
 
 pub invariant_of-self-in-Mark : goal.invariant_of-self-in-Mark
 invariant_of-self-in-Mark g c =
-    let same : c.reserve-in-Mark-2.new.self.items ≡ c.args.self.now.entries.items = c.reserve-in-Mark-2.ensures.items in
+    let same : c.reserve_one-in-Mark.new.entries.items ≡ c.args.self.now.entries.items = c.reserve_one-in-Mark.ensures.items in
     record {
       marked = c.in_ok-reserve-in-Mark.ensures.items ∙ c.args.self.now.marked ∙ ap (λ (q : List Entry). marks_of (views q)) (sym same);
       queued = c.args.self.now.queued ∙ ap (λ (q : List Entry). has_barrier (views q)) (sym same);
