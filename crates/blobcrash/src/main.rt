@@ -10,7 +10,7 @@ use std::process::ExitCode;
 const VERSION: &str = "blobcrash 0.2.0, proved with rattle-kit-13f";
 
 /// The capacity of the input's buffer in bytes. A line that lies in it whole is found fastest.
-const INPUT_BUFFER: usize = 65536;
+const INPUT_BUFFER: usize = 16384;
 
 const HELP: &str = "usage: blobcrash [explain|explore|resolve|help|version]
 

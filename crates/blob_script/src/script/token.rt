@@ -1,6 +1,5 @@
 //! The tokens of a line, and their meaning.
-ghost use Rattle.std.specs.Prelude.{◌≡◌, ◌↔◌, ◌∷◌, [], ◌<◌, ◌^◌, ◌==◌, length, slice_index, IfSome, IfNone, IfOk, IfErr, OnErr, IsSome, IsErr, string_bytes};
-ghost use Rattle.std.specs.List.{position_or_len, before_first, after_first};
+ghost use Rattle.std.specs.Prelude.{◌≡◌, ◌↔◌, ◌∷◌, [], ◌<◌, ◌^◌, IfSome, IfNone, IfOk, IfErr, OnErr, IsSome, IsErr, string_bytes};
 ghost use Rattle.std.specs.Str.Parse.{digits_value};
 ghost use Rattle.blob_script.specs.Tokens.{tokens, bytes_of, number_of, IsNumber};
 
@@ -43,7 +42,7 @@ impl<'a> Tokens<'a> {
         if self.rest.is_empty() {
             return None;
         }
-        while let Some((piece, rest)) = split(self.rest) {
+        while let Some((piece, rest)) = self.rest.split_once(' ') {
             self.rest = rest;
             if !piece.is_empty() {
                 return Some(piece);
@@ -54,35 +53,6 @@ impl<'a> Tokens<'a> {
             return None;
         }
         Some(last)
-    }
-}
-
-/// Returns the position of the first space if it is among the first sixteen bytes.
-#[inline(always)]
-fn near_space(bytes: &[u8]) -> Option<usize>
-    ensures within { IfSome result (λ at. at < length bytes.now) }
-    ensures space { IfSome result (λ at. slice_index bytes.now at ≡ 32) }
-    ensures first { IfSome result (λ at. position_or_len (λ byte. byte == 32) bytes.now ≡ at) }
-{
-    'bytes: for i in 0..bytes.len().min(16) {
-        if bytes[i] == b' ' {
-            return Some(i);
-        }
-    }
-    None
-}
-
-/// Splits a text at its first space. Most tokens are short, so the first bytes are compared one by one.
-#[inline(always)]
-fn split(text: &str) -> Option<(&str, &str)>
-    ensures some { IfSome result (λ parts. position_or_len (λ byte. byte == 32) text.now < length text.now) }
-    ensures before { IfSome result (λ parts. parts.0.now ≡ before_first (λ byte. byte == 32) text.now) }
-    ensures after { IfSome result (λ parts. parts.1.now ≡ after_first (λ byte. byte == 32) text.now) }
-    ensures none { IfNone result (position_or_len (λ byte. byte == 32) text.now ≡ length text.now) }
-{
-    match near_space(text.as_bytes()) {
-        Some(at) => Some((&text[..at], &text[at + 1..])),
-        None => text.split_once(' '),
     }
 }
 
