@@ -1,6 +1,7 @@
 pub mod Adding
 pub mod Answering
 pub mod Putting
+pub mod Registry
 pub mod TextLines
 pub mod TypedCalls
 pub mod Values

@@ -10,6 +10,7 @@ use Rattle.blob_script.specs.Lines.{Call, line_of}
 use Rattle.blob_lab.specs.Scripts.{Script, lines_of, script_of, with_line}
 use Rattle.blob_lab_model.specs.States.{start}
 use Rattle.blob_lab_store.specs.Tables.{images_of}
+use Rattle.blob_sessions.specs.Debts.{IsNew}
 use Rattle.blob_sessions.specs.declared.kept.Kept.{Kept}
 use Rattle.blob_sessions.specs.declared.preamble.Preamble.{Preamble}
 
@@ -48,6 +49,7 @@ pub record IsMadeOf (k : Kept) (lines : List (List ℕ)) : Type 0 where
   pub stands : LabStandsFor k.lab (start script.images script.words script.config)
   pub config : k.config ≡ script.config
   pub last : k.last ≡ None
+  pub debts : IsNew k.debts
 
 -- what was kept of the lines so far
 pub record Says (p : Preamble) (s : Script) : Type 0 where

@@ -18,7 +18,7 @@ abbrev pub typed_versions : TypedCall → Option (Option AcceptedVersions)
 typed_versions asked = if nat_lt asked.first 65536 && nat_lt asked.last 65536 then Some (accepted_versions false asked.first asked.last) else None
 
 -- the call in the row of this kind
-abbrev pub by_kind : ℕ → List (ℕ × Option Act) → Option Act
+abbrev pub by_kind : {T : Type 0} → ℕ → List (ℕ × Option T) → Option T
 by_kind kind [] = None
 by_kind kind (row ∷ rows) = if kind == row.0 then row.1 else by_kind kind rows
 

@@ -1,9 +1,12 @@
 // The registry of durability debt that a session has as well as its laboratory, with its opens and its tokens by number.
-ghost use Rattle.std.specs.Prelude.{◌≡◌, [], option_copied, option_map, OnErr};
-ghost use Rattle.blob_debt.specs.Debts.{IsUnchanged, Represents};
-ghost use Rattle.blob_debt.specs.History.{Clear, Close, Fail, Forget};
+ghost use Rattle.std.specs.Prelude.{◌≡◌, option_copied, option_map, OnErr};
+ghost use Rattle.blob_debt.specs.Debts.{IsUnchanged};
+ghost use Rattle.blob_debt.specs.History.{Clear, Fail};
 ghost use Rattle.blob_header.specs.Refusals.{refusal_of, refused};
-ghost use Rattle.blob_sessions.specs.Debts.{OpenSteps, RecordsCall, kept_at, no_debt, plain_refusal};
+ghost use Rattle.blob_sessions.specs.Debts.{AdmitsName, ChangesOpen, ClosesOpen, Forgets, IsNew, MakesCall};
+ghost use Rattle.blob_sessions.specs.Debts.{MakesDebtCall, Performs, Release, ReturnsDebtAt, ReturnsIsSettled};
+ghost use Rattle.blob_sessions.specs.Debts.{flag_reply, found_reply, kept_at, no_debt, plain_refusal};
+ghost use Rattle.blob_sessions.specs.Debts.{reply_of, settle_act};
 
 use crate::ran::{BAD_CALL, DONE};
 use crate::refusals::{
@@ -81,7 +84,7 @@ impl DebtReply {
     }
 
     fn told(flag: bool) -> DebtReply
-        ensures { result ≡ record (no_debt DONE) { flag = flag } }
+        ensures { result ≡ flag_reply flag }
     {
         let mut reply = DebtReply::stopped(DONE);
         reply.flag = flag;
@@ -100,7 +103,7 @@ pub struct Debts {
 impl Debts {
     /// A registry in which nothing happened. Doesn't allocate.
     pub fn new(alloc: Global) -> Debts
-        ensures { Represents result.pending [] }
+        ensures { IsNew result }
     {
         Debts {
             pending: Pending::new(alloc),
@@ -122,16 +125,21 @@ impl Debts {
         settle_all(tokens, &mut pending);
     }
 
-    /// Makes a call of the registry.
+    /// Makes a call of the registry and returns what the registry returned.
     ///
-    /// `BAD_CALL` if the kind or the failure is unknown or the partition isn't UTF-8, with nothing changed.
+    /// Errors, with nothing changed:
+    /// - `BAD_CALL` if the kind or the failure is unknown, `FAIL` has no failure, or the partition isn't UTF-8.
+    /// - `NO_HANDLE` if no open, token or predecessor is kept under the number.
+    /// - `MEMORY`, or the status of the registry's error.
     pub fn apply(
         &mut self,
         alloc: Global,
         asked: &DebtCall,
         partition: &[u8],
         name: &[u8],
-    ) -> DebtReply {
+    ) -> DebtReply
+        ensures { MakesDebtCall self.old self.new asked.now partition.now name.now result }
+    {
         let Ok(partition) = std::str::from_utf8(partition) else {
             return DebtReply::stopped(BAD_CALL);
         };
@@ -151,7 +159,9 @@ impl Debts {
         outcome: Result<(), Error>,
         partition: &str,
         name: &[u8],
-    ) -> Result<DebtReply, Error> {
+    ) -> Result<DebtReply, Error>
+        ensures { MakesCall self.old self.new asked.now (refused outcome) partition.now name.now (reply_of result) }
+    {
         match asked.kind {
             ADMIT => self.admit(partition, name, asked.flag),
             RELEASE => self.release(asked.number),
@@ -179,6 +189,7 @@ impl Debts {
     }
 
     fn admit(&mut self, partition: &str, name: &[u8], existing: bool) -> Result<DebtReply, Error>
+        ensures call { AdmitsName self.old self.new partition.now name.now existing (reply_of result) }
         ensures refused { OnErr result (IsUnchanged self.old.pending self.new.pending) }
     {
         self.opens.reserve(1)?;
@@ -197,6 +208,7 @@ impl Debts {
     }
 
     fn release(&mut self, number: usize) -> Result<DebtReply, Error>
+        ensures call { Performs self.old self.new (Release number) (reply_of result) }
         ensures refused { OnErr result (IsUnchanged self.old.pending self.new.pending) }
     {
         self.tokens.reserve(1)?;
@@ -222,6 +234,8 @@ impl Debts {
         dirty: bool,
         failure: Option<Error>,
     ) -> Result<DebtReply, Error>
+        ensures call { Performs self.old self.new
+            (settle_act partition.now name.now number dirty failure) (reply_of result) }
         ensures refused { OnErr result (IsUnchanged self.old.pending self.new.pending) }
     {
         let key = (
@@ -238,7 +252,9 @@ impl Debts {
         Ok(DebtReply::stopped(DONE))
     }
 
-    fn debt(&self, number: usize) -> Result<DebtReply, Error> {
+    fn debt(&self, number: usize) -> Result<DebtReply, Error>
+        ensures { ReturnsDebtAt self.now number (reply_of result) }
+    {
         let Some(generation) = open_at(&self.opens, number) else {
             return Ok(DebtReply::stopped(NO_HANDLE));
         };
@@ -248,7 +264,7 @@ impl Debts {
 
     /// Records an outcome. Returns whether there is such an open.
     fn clear(&mut self, number: usize, outcome: Result<(), Error>) -> bool
-        ensures { OpenSteps self.old self.new number (λ generation. Clear generation (refused outcome)) }
+        ensures { ChangesOpen self.old self.new number (λ g. Clear g (refused outcome)) (found_reply result) }
     {
         let Some(generation) = open_at(&self.opens, number) else {
             return false;
@@ -260,7 +276,7 @@ impl Debts {
 
     /// Keeps a failure. Returns whether there is such an open.
     fn fail(&mut self, number: usize, error: Error) -> bool
-        ensures { OpenSteps self.old self.new number (λ generation. Fail generation (refusal_of error)) }
+        ensures { ChangesOpen self.old self.new number (λ g. Fail g (refusal_of error)) (found_reply result) }
     {
         let Some(generation) = open_at(&self.opens, number) else {
             return false;
@@ -271,7 +287,7 @@ impl Debts {
 
     /// Closes an open. Returns whether there is such an open.
     fn close(&mut self, number: usize) -> bool
-        ensures { OpenSteps self.old self.new number Close }
+        ensures { ClosesOpen self.old self.new number (found_reply result) }
     {
         if number >= self.opens.len() {
             return false;
@@ -284,13 +300,15 @@ impl Debts {
     }
 
     fn forget(&mut self, partition: &str, name: Option<&[u8]>) -> DebtReply
-        ensures { RecordsCall self.old self.new (Forget partition.now (option_copied name.entry)) }
+        ensures { Forgets self.old self.new partition.now (option_copied name.entry) result }
     {
         self.pending.forget(partition, name);
         DebtReply::stopped(DONE)
     }
 
-    fn is_settled(&self, number: usize) -> DebtReply {
+    fn is_settled(&self, number: usize) -> DebtReply
+        ensures { ReturnsIsSettled self.now number result }
+    {
         match self.predecessors.get(number) {
             Some(receiver) => DebtReply::told(self.pending.is_settled(receiver)),
             None => DebtReply::stopped(NO_HANDLE),
@@ -298,7 +316,9 @@ impl Debts {
     }
 }
 
-fn found(is_there: bool) -> DebtReply {
+fn found(is_there: bool) -> DebtReply
+    ensures { result ≡ found_reply is_there }
+{
     DebtReply::stopped(if is_there { DONE } else { NO_HANDLE })
 }
 

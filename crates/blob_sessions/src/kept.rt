@@ -4,6 +4,7 @@ ghost use Rattle.blob_script.specs.Acts.{act_of};
 ghost use Rattle.blob_script.specs.Lines.{Blank, line_of};
 ghost use Rattle.blob_script.specs.Settings.{configured};
 ghost use Rattle.blob_sessions.specs.Applying.{Applies};
+ghost use Rattle.blob_sessions.specs.Debts.{IsNew, MakesDebtCall};
 ghost use Rattle.blob_sessions.specs.Sessions.{RunsLine, AnswersRead, AnswersWrite, ReadsCall, IsNoCall, Makes, TellsAgain};
 ghost use Rattle.blob_sessions.specs.Typed.{last_reply};
 ghost use Rattle.blob_sessions.specs.Words.{TakesWords, TellsWordsLeft};
@@ -46,6 +47,7 @@ impl Kept {
         ensures lab { result.lab ≡ lab }
         ensures config { result.config ≡ config }
         ensures last { result.last ≡ None }
+        ensures debts { IsNew result.debts }
     {
         Kept {
             lab,
@@ -55,7 +57,8 @@ impl Kept {
         }
     }
 
-    /// Makes a call of the registry of durability debt. The laboratory doesn't change.
+    /// Makes a call of the registry of durability debt and returns what the registry returned. The laboratory doesn't
+    /// change. The errors are those of `Debts::apply`.
     pub fn owe(
         &mut self,
         alloc: Global,
@@ -63,7 +66,8 @@ impl Kept {
         partition: &[u8],
         name: &[u8],
     ) -> DebtReply
-        ensures { self.new ≡ record self.old { debts = self.new.debts } }
+        ensures call { MakesDebtCall self.old.debts self.new.debts asked.now partition.now name.now result }
+        ensures kept { self.new ≡ record self.old { debts = self.new.debts } }
     {
         self.debts.apply(alloc, asked, partition, name)
     }
