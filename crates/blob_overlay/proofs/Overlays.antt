@@ -1,7 +1,7 @@
 -- Overlays and resizes as the results of loops and of calls of `Vec`.
-use Rattle.std.proofs.Common.{[], ◌≡◌, ⊎_elim, ℕ, ◌+◌, ◌-◌, ◌<◌, ◌≤◌, max, Bool, true, false, List, ◌++◌, length, get_or, take, drop, set, replicate, refl, sym, ◌∙◌, ap, arith, ◌≢◌, true≢false, ◌&&◌, ltb, length-append, length-take, length-drop, length-set, get_or-set_same, get_or-set_other}
+use Rattle.std.proofs.Common.{[], ◌≡◌, ⊎_elim, ℕ, ◌+◌, ◌-◌, ◌<◌, ◌≤◌, max, Bool, true, false, List, ◌++◌, length, get_or, take, drop, set, replicate, refl, sym, ◌∙◌, ap, arith, ◌≢◌, true≢false, ◌&&◌, ltb, length-append, append-nil, length-take, length-drop, length-set, get_or-set_same, get_or-set_other}
 use Rattle.std.proofs.lemmas.Bool.{cases_lt, cases_eq, le-ltb, lt-ltb, and_parts, and_from, and_left, and_right}
-use Rattle.std.proofs.lemmas.List.{get_or_past, get_or_append_left, get_or-append_right, get_or-take, get_or-drop, get_or-replicate, length-replicate}
+use Rattle.std.proofs.lemmas.List.{get_or_past, get_or_append_left, get_or-append_right, get_or-take, get_or-drop, get_or-replicate, length-replicate, drop_all, take_all}
 use Rattle.blob_model.proofs.Agrees.{alike, overlay_same}
 use Rattle.blob_model.specs.Bytes.{reach, overlay_by, overlay, resized}
 use Rattle.blob_model.proofs.Bytes.{above_chosen, reach_below, length-overlay_by, at_chosen, at_other, length-resized, at_resized, past_resized, same_bytes, none_chosen, picks}
@@ -87,21 +87,37 @@ pasted x o k b is h = same_bytes _ _
         ∙ get_or-drop k (drop o x) (p - o - length b) 0 ∙ get_or-drop o x _ 0 ∙ ap (λ q. get_or x q 0) (omega (arith, is))
         ∙ sym (at_other x o b (λ _. true) p (λ _ u. absurd (omega arith)))
 
--- two runs written one after the other over existing bytes
-pub overlay_more : (x : List ℕ) (o : ℕ) (a b : List ℕ) (c : ℕ → Bool) → reach o (length (a ++ b)) c ≤ length x
+-- the last selected byte of two lists is the last of the second or, if that has none, of the first
+reach_more : (o m n : ℕ) (c : ℕ → Bool) → reach o (m + n) c ≡ max (reach o m c) (reach (o + m) n (λ i. c (m + i)))
+reach_more o m n c = at_most (above n) (below n)
+  where
+    above : (n : ℕ) → reach o (m + n) c ≤ max (reach o m c) (reach (o + m) n (λ i. c (m + i)))
+    above n = reach_below o (m + n) c (max (reach o m c) (reach (o + m) n (λ i. c (m + i)))) (λ i l e. ⊎_elim
+        (λ h. let up = above_chosen o m c i h e in omega arith)
+        (λ h. let up = above_chosen (o + m) n (λ j. c (m + j)) (i - m) (omega arith) (ap c (omega arith) ∙ e) in omega arith)
+        (cases_lt i m))
+
+    below : (n : ℕ) → max (reach o m c) (reach (o + m) n (λ i. c (m + i))) ≤ reach o (m + n) c
+    below n =
+        let one = reach_below o m c (reach o (m + n) c) (λ i l e. above_chosen o (m + n) c i (omega arith) e) in
+        let two = reach_below (o + m) n (λ i. c (m + i)) (reach o (m + n) c) (λ i l e. let up = above_chosen o (m + n) c (m + i) (omega arith) e in omega arith) in
+        omega arith
+
+    at_most : {a b : ℕ} → a ≤ b → b ≤ a → a ≡ b
+    at_most h k = omega arith
+
+-- two lists of bytes written one after the other
+pub overlay_more : (x : List ℕ) (o : ℕ) (a b : List ℕ) (c : ℕ → Bool)
     → overlay_by (overlay_by x o a c) (o + length a) b (λ i. c (length a + i)) ≡ overlay_by x o (a ++ b) c
-overlay_more x o a b c h = same_bytes _ _
-    (omega (arith, len, length-overlay_by (overlay_by x o a c) (o + length a) b (λ i. c (length a + i)), length-overlay_by x o (a ++ b) c, h, small))
+overlay_more x o a b c = same_bytes _ _
+    (omega (arith, len, length-overlay_by (overlay_by x o a c) (o + length a) b (λ i. c (length a + i)), length-overlay_by x o (a ++ b) c, reach_more o (length a) (length b) c, ap (λ n. reach o n c) all))
     (λ p. ⊎_elim (λ h. at p h) (λ out. ⊎_elim (λ h. first_at p out h) (λ out'. neither p out out') (picks o (length a) c p)) (picks (o + length a) (length b) (λ i. c (length a + i)) p))
   where
     all : length (a ++ b) ≡ length a + length b
     all = length-append a b
 
-    len : length (overlay_by x o a c) ≡ length x
-    len = omega (arith, length-overlay_by x o a c, h, reach_below o (length a) c (length x) (λ i l e. omega (arith, h, above_chosen o (length (a ++ b)) c i (omega (arith, all)) e)))
-
-    small : reach (o + length a) (length b) (λ i. c (length a + i)) ≤ length x
-    small = reach_below (o + length a) (length b) (λ i. c (length a + i)) (length x) (λ i l e. omega (arith, h, above_chosen o (length (a ++ b)) c (length a + i) (omega (arith, all)) e))
+    len : length (overlay_by x o a c) ≡ max (length x) (reach o (length a) c)
+    len = length-overlay_by x o a c
 
     at : (p : ℕ) → (o + length a ≤ p) × (p < o + length a + length b) × (c (length a + (p - (o + length a))) ≡ true)
         → get_or (overlay_by (overlay_by x o a c) (o + length a) b (λ i. c (length a + i))) p 0 ≡ get_or (overlay_by x o (a ++ b) c) p 0
@@ -178,3 +194,7 @@ lay_less x o b c i e = overlay_same x o b _ _ (λ j h. ⊎_elim
 
 pub lay_end : (x : List ℕ) (o : ℕ) (b : List ℕ) (c : ℕ → Bool) (i : ℕ) → length b ≤ i → overlay_by x o b (first i c) ≡ overlay_by x o b c
 lay_end x o b c i h = overlay_same x o b (first i c) c (λ j l. ap (λ t. t && c j) (lt-ltb j i (omega arith)))
+
+-- a vector after all its bytes are written through a slice
+pub written_back : (x y : List ℕ) (n : ℕ) → n ≡ length x → length y ≡ length x → take n (y ++ drop (length y) x) ≡ y
+written_back x y n e l = ap (λ r. take n (y ++ r)) (drop_all (length y) x (omega (arith, l))) ∙ ap (take n) (append-nil y) ∙ take_all n y (omega (arith, e, l))

@@ -1,11 +1,10 @@
 //! Writes and resizes of a vector of bytes. A call that can fail reserves capacity first. The rest does not allocate.
 ghost use Rattle.std.specs.Prelude.{◌≡◌, ◌≤◌, ◌<◌, ◌+◌, ◌^◌, length, max, drop, true, IsOk, OnOk, OnErr, vec_capacity};
-ghost use Rattle.std.specs.List.{flat_map, list_all};
+ghost use Rattle.std.specs.List.{list_all};
 ghost use Rattle.blob_model.specs.Bytes.{overlay, overlay_by, reach, resized};
 ghost use Rattle.blob_model.specs.Runs.{picked};
 ghost use Rattle.blob_overlay.specs.Overlays.{AreNow, Grows, GrowsToSelected, WritesSelected};
 
-use blob_base::IoBufs;
 use std::alloc::AllocError;
 
 /// Reserves capacity for `len` bytes in all. The only error is out of memory.
@@ -51,7 +50,7 @@ pub fn reach_of(offset: usize, keep: &[bool]) -> usize
     end
 }
 
-/// Writes a run over existing bytes.
+/// Writes all bytes over existing bytes.
 fn copy_over(bytes: &mut [u8], offset: usize, run: &[u8])
     requires { offset + length run.now ≤ length bytes.old }
     ensures { bytes.new ≡ overlay bytes.old offset run.now }
@@ -60,20 +59,7 @@ fn copy_over(bytes: &mut [u8], offset: usize, run: &[u8])
     bytes[offset..end].copy_from_slice(run);
 }
 
-/// Writes the pieces of a run one after another over existing bytes.
-fn copy_pieces(bytes: &mut [u8], offset: usize, pieces: &[Vec<u8>])
-    requires fits { offset + length (flat_map (λ p. p.items) pieces.now) < 2 ^ 64 }
-    requires inside { offset + length (flat_map (λ p. p.items) pieces.now) ≤ length bytes.old }
-    ensures { bytes.new ≡ overlay bytes.old offset (flat_map (λ p. p.items) pieces.now) }
-{
-    let mut at = offset;
-    for piece in pieces {
-        copy_over(bytes, at, piece);
-        at += piece.len();
-    }
-}
-
-/// Writes the selected bytes of one piece one by one.
+/// Writes the selected bytes one by one.
 fn copy_some(bytes: &mut [u8], offset: usize, run: &[u8], keep: &[bool])
     requires same { length keep.now ≡ length run.now }
     requires fits { offset + length run.now < 2 ^ 64 }
@@ -94,7 +80,7 @@ fn are_all(keep: &[bool]) -> bool
     keep.iter().all(|kept| *kept)
 }
 
-/// Writes the selected bytes of one piece over existing bytes.
+/// Writes the selected bytes over existing bytes.
 pub fn copy_chosen(bytes: &mut [u8], offset: usize, run: &[u8], keep: &[bool])
     requires same { length keep.now ≡ length run.now }
     requires fits { offset + length run.now < 2 ^ 64 }
@@ -108,38 +94,9 @@ pub fn copy_chosen(bytes: &mut [u8], offset: usize, run: &[u8], keep: &[bool])
     }
 }
 
-/// Writes the selected bytes of a run over existing bytes, one piece after another.
-pub fn copy_chosen_pieces(bytes: &mut [u8], offset: usize, pieces: &[Vec<u8>], keep: &[bool])
-    requires same { length keep.now ≡ length (flat_map (λ p. p.items) pieces.now) }
-    requires fits { offset + length (flat_map (λ p. p.items) pieces.now) < 2 ^ 64 }
-    requires inside { reach offset (length (flat_map (λ p. p.items) pieces.now)) (picked keep.now) ≤ length bytes.old }
-    ensures { bytes.new ≡ overlay_by bytes.old offset (flat_map (λ p. p.items) pieces.now) (picked keep.now) }
-{
-    let mut done = 0;
-    for piece in pieces {
-        let end = done + piece.len();
-        let part = &keep[done..end];
-        copy_chosen(bytes, offset + done, piece, part);
-        done = end;
-    }
-}
-
-/// Writes a run, within the capacity.
-pub fn lay(bytes: &mut Vec<u8>, offset: usize, run: &IoBufs)
-    requires fits { offset + length run.now < 2 ^ 64 }
-    requires room { offset + length run.now ≤ vec_capacity bytes.old }
-    ensures { AreNow bytes.old bytes.new (overlay bytes.old.items offset run.now) }
-{
-    let len = run.remaining();
-    if len == 0 {
-        return;
-    }
-    grow(bytes, offset + len);
-    copy_pieces(bytes.as_mut_slice(), offset, run.pieces());
-}
-
-/// Writes one piece, within the capacity.
-pub fn lay_slice(bytes: &mut Vec<u8>, offset: usize, run: &[u8])
+/// Writes all bytes, within the capacity.
+#[inline(always)]
+pub fn lay(bytes: &mut Vec<u8>, offset: usize, run: &[u8])
     requires fits { offset + length run.now < 2 ^ 64 }
     requires room { offset + length run.now ≤ vec_capacity bytes.old }
     ensures { AreNow bytes.old bytes.new (overlay bytes.old.items offset run.now) }
@@ -164,25 +121,9 @@ fn grow_to_selected(bytes: &mut Vec<u8>, offset: usize, keep: &[bool]) -> Result
     Ok(())
 }
 
-/// Writes the selected bytes of a run. `keep[i]` selects byte `i`. The bytes grow only as far as the last selected
-/// byte. The only error is out of memory, if the capacity is too small. The bytes are unchanged then.
+/// Writes the selected bytes. `keep[i]` selects byte `i`. The vector grows only as far as the last selected byte. The
+/// only error is out of memory, if the capacity is too small. The bytes are unchanged then.
 pub fn write_chosen(
-    bytes: &mut Vec<u8>,
-    offset: usize,
-    run: &IoBufs,
-    keep: &[bool],
-) -> Result<(), AllocError>
-    requires same { length keep.now ≡ length run.now }
-    requires fits { offset + length run.now < 2 ^ 64 }
-    ensures { WritesSelected result bytes.old bytes.new offset run.now keep.now }
-{
-    grow_to_selected(bytes, offset, keep)?;
-    copy_chosen_pieces(bytes.as_mut_slice(), offset, run.pieces(), keep);
-    Ok(())
-}
-
-/// Writes the selected bytes of one piece, as `write_chosen`.
-pub fn write_chosen_slice(
     bytes: &mut Vec<u8>,
     offset: usize,
     run: &[u8],
@@ -194,26 +135,6 @@ pub fn write_chosen_slice(
 {
     grow_to_selected(bytes, offset, keep)?;
     copy_chosen(bytes.as_mut_slice(), offset, run, keep);
-    Ok(())
-}
-
-/// Writes a run. The only error is out of memory, if the capacity is too small. The bytes are unchanged then.
-pub fn write(bytes: &mut Vec<u8>, offset: usize, run: &IoBufs) -> Result<(), AllocError>
-    requires { offset + length run.now < 2 ^ 64 }
-    ensures { Grows result bytes.old bytes.new (offset + length run.now) (overlay bytes.old.items offset run.now) }
-{
-    make_room(bytes, offset + run.remaining())?;
-    lay(bytes, offset, run);
-    Ok(())
-}
-
-/// Truncates, or extends with zeros. The only error is out of memory, if the capacity is too small. The bytes are
-/// unchanged then.
-pub fn resize(bytes: &mut Vec<u8>, len: usize) -> Result<(), AllocError>
-    ensures { Grows result bytes.old bytes.new len (resized bytes.old.items len) }
-{
-    make_room(bytes, len)?;
-    set_len(bytes, len);
     Ok(())
 }
 

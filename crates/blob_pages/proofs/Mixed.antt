@@ -1,8 +1,7 @@
 -- The selected bytes of a run over the existing bytes, as one run.
-use Rattle.std.proofs.Common.{[], ◌∷◌, ◌≡◌, ⊎_elim, ℕ, ◌+◌, ◌-◌, ◌<◌, ◌≤◌, min, Bool, true, List, length, get_or, take, drop, refl, sym, ◌∙◌, ap, arith, Vec, Global, append-nil}
+use Rattle.std.proofs.Common.{◌≡◌, ⊎_elim, ℕ, ◌+◌, ◌-◌, ◌<◌, ◌≤◌, min, Bool, true, List, length, get_or, take, drop, refl, sym, ◌∙◌, ap, arith}
 use Rattle.std.proofs.lemmas.Bool.{cases_lt, cases_Bool}
 use Rattle.std.proofs.lemmas.List.{get_or_past, get_or-take, get_or-drop, length-take}
-use Rattle.std.specs.List.{flat_map}
 use Rattle.blob_model.specs.Bytes.{overlay, overlay_by, resized, reach}
 use Rattle.blob_model.proofs.Bytes.{same_bytes, length-overlay_by, reach_below, reach_all, above_chosen, at_chosen, at_other, at_resized, picks}
 
@@ -44,9 +43,3 @@ range_at x y t o end from count ef ec ey et i h = ap (λ l. get_or l i 0) et ∙
     (λ lt. ap (λ l. get_or l i 0) ey ∙ get_or-take count (drop from x) i 0 lt ∙ get_or-drop from x i 0 ∙ ap (λ k. get_or x k 0) (omega (arith, ef, ec, lt)))
     (λ ge. get_or_past y i 0 (omega (arith, ge, ap length ey, length-take count (drop from x))) ∙ sym (get_or_past x (o + i) 0 (omega (arith, ef, ec, ge, h))))
     (cases_lt i count)
-
--- a run of one piece
-pub one_piece : (ps : List (Vec ℕ Global)) (v : Vec ℕ Global) → length ps ≡ 1 → v ≡ get_or ps 0 v → flat_map (λ p. p.items) ps ≡ v.items
-one_piece [] v one is = absurd (omega (arith, one))
-one_piece (a ∷ []) v one is = append-nil a.items ∙ ap (λ (w : Vec ℕ Global). w.items) (sym is)
-one_piece (a ∷ b ∷ ps) v one is = absurd (omega (arith, one))

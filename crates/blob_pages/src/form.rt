@@ -3,9 +3,8 @@ ghost use Rattle.std.specs.Prelude.{◌≡◌, ◌≤◌, ◌<◌, ◌+◌, ◌^
 ghost use Rattle.blob_model.specs.Bytes.{overlay, overlay_by, reach, resized};
 ghost use Rattle.blob_model.specs.Runs.{picked};
 
-use crate::page_writes::{lay_mixed, lay_mixed_slice, lay_run, paged};
+use crate::page_writes::{lay_mixed, paged};
 use crate::pages::{PAGE, Pages};
-use blob_base::IoBufs;
 use blob_overlay::overlay;
 use std::alloc::{AllocError, Global};
 
@@ -131,20 +130,20 @@ impl Form {
         }
     }
 
-    /// Writes a run to pages. Returns false if a page can't be allocated.
-    fn try_lay(&mut self, offset: usize, run: &IoBufs) -> bool
+    /// Writes all bytes to pages. Returns false if a page can't be allocated.
+    fn try_lay(&mut self, offset: usize, run: &[u8]) -> bool
         requires fits { offset + length run.now < 2 ^ 64 }
         requires room { offset + length run.now ≤ capacity self.old }
         ensures { Tried result self.old self.new (overlay (content self.old) offset run.now) }
     {
         match self {
             Form::Flat(_) => false,
-            Form::Paged(pages) => lay_run(pages, offset, run).is_ok(),
+            Form::Paged(pages) => pages.overlay(offset, run).is_ok(),
         }
     }
 
-    /// Writes a run to pages, or to one vector if a page can't be allocated.
-    fn lay_pages(&mut self, offset: usize, run: &IoBufs)
+    /// Writes all bytes to pages, or to one vector if a page can't be allocated.
+    fn lay_pages(&mut self, offset: usize, run: &[u8])
         requires fits { offset + length run.now < 2 ^ 64 }
         requires room { offset + length run.now ≤ capacity self.old }
         ensures { Becomes self.old self.new (overlay (content self.old) offset run.now) }
@@ -156,8 +155,9 @@ impl Form {
         }
     }
 
-    /// Writes a run, within the capacity.
-    pub fn lay(&mut self, offset: usize, run: &IoBufs)
+    /// Writes all bytes, within the capacity.
+    #[inline(always)]
+    pub fn lay(&mut self, offset: usize, run: &[u8])
         requires fits { offset + length run.now < 2 ^ 64 }
         requires room { offset + length run.now ≤ capacity self.old }
         ensures { Becomes self.old self.new (overlay (content self.old) offset run.now) }
@@ -168,45 +168,8 @@ impl Form {
         }
     }
 
-    /// Writes one piece to pages. Returns false if a page can't be allocated.
-    fn try_lay_slice(&mut self, offset: usize, run: &[u8]) -> bool
-        requires fits { offset + length run.now < 2 ^ 64 }
-        requires room { offset + length run.now ≤ capacity self.old }
-        ensures { Tried result self.old self.new (overlay (content self.old) offset run.now) }
-    {
-        match self {
-            Form::Flat(_) => false,
-            Form::Paged(pages) => pages.overlay(offset, run).is_ok(),
-        }
-    }
-
-    /// Writes one piece to pages, or to one vector if a page can't be allocated.
-    fn lay_slice_pages(&mut self, offset: usize, run: &[u8])
-        requires fits { offset + length run.now < 2 ^ 64 }
-        requires room { offset + length run.now ≤ capacity self.old }
-        ensures { Becomes self.old self.new (overlay (content self.old) offset run.now) }
-    {
-        if !self.try_lay_slice(offset, run) {
-            let mut flat = self.flattened();
-            overlay::lay_slice(&mut flat, offset, run);
-            *self = Form::Flat(flat);
-        }
-    }
-
-    /// Writes one piece, within the capacity.
-    pub fn lay_slice(&mut self, offset: usize, run: &[u8])
-        requires fits { offset + length run.now < 2 ^ 64 }
-        requires room { offset + length run.now ≤ capacity self.old }
-        ensures { Becomes self.old self.new (overlay (content self.old) offset run.now) }
-    {
-        match self {
-            Form::Flat(bytes) => overlay::lay_slice(bytes, offset, run),
-            Form::Paged(_) => self.lay_slice_pages(offset, run),
-        }
-    }
-
     /// Writes the selected bytes to pages. Returns false if a page can't be allocated.
-    fn try_lay_chosen(&mut self, offset: usize, run: &IoBufs, keep: &[bool]) -> bool
+    fn try_lay_chosen(&mut self, offset: usize, run: &[u8], keep: &[bool]) -> bool
         requires same { length keep.now ≡ length run.now }
         requires fits { offset + length run.now < 2 ^ 64 }
         requires room { reach offset (length run.now) (picked keep.now) ≤ capacity self.old }
@@ -219,7 +182,7 @@ impl Form {
     }
 
     /// Writes the selected bytes to pages, or to one vector if a page can't be allocated.
-    fn lay_chosen_pages(&mut self, offset: usize, run: &IoBufs, keep: &[bool])
+    fn lay_chosen_pages(&mut self, offset: usize, run: &[u8], keep: &[bool])
         requires same { length keep.now ≡ length run.now }
         requires fits { offset + length run.now < 2 ^ 64 }
         requires room { reach offset (length run.now) (picked keep.now) ≤ capacity self.old }
@@ -232,8 +195,8 @@ impl Form {
         }
     }
 
-    /// Writes the selected bytes of a run, within the capacity.
-    pub fn lay_chosen(&mut self, offset: usize, run: &IoBufs, keep: &[bool])
+    /// Writes the selected bytes, within the capacity.
+    pub fn lay_chosen(&mut self, offset: usize, run: &[u8], keep: &[bool])
         requires same { length keep.now ≡ length run.now }
         requires fits { offset + length run.now < 2 ^ 64 }
         requires room { reach offset (length run.now) (picked keep.now) ≤ capacity self.old }
@@ -242,46 +205,6 @@ impl Form {
         match self {
             Form::Flat(bytes) => overlay::write_chosen(bytes, offset, run, keep).unwrap(),
             Form::Paged(_) => self.lay_chosen_pages(offset, run, keep),
-        }
-    }
-
-    /// Writes the selected bytes of one piece to pages. Returns false if a page can't be allocated.
-    fn try_lay_chosen_slice(&mut self, offset: usize, run: &[u8], keep: &[bool]) -> bool
-        requires same { length keep.now ≡ length run.now }
-        requires fits { offset + length run.now < 2 ^ 64 }
-        requires room { reach offset (length run.now) (picked keep.now) ≤ capacity self.old }
-        ensures { Tried result self.old self.new (overlay_by (content self.old) offset run.now (picked keep.now)) }
-    {
-        match self {
-            Form::Flat(_) => false,
-            Form::Paged(pages) => lay_mixed_slice(pages, offset, run, keep).is_ok(),
-        }
-    }
-
-    /// Writes the selected bytes of one piece to pages, or to one vector if a page can't be allocated.
-    fn lay_chosen_slice_pages(&mut self, offset: usize, run: &[u8], keep: &[bool])
-        requires same { length keep.now ≡ length run.now }
-        requires fits { offset + length run.now < 2 ^ 64 }
-        requires room { reach offset (length run.now) (picked keep.now) ≤ capacity self.old }
-        ensures { Becomes self.old self.new (overlay_by (content self.old) offset run.now (picked keep.now)) }
-    {
-        if !self.try_lay_chosen_slice(offset, run, keep) {
-            let mut flat = self.flattened();
-            overlay::write_chosen_slice(&mut flat, offset, run, keep).unwrap();
-            *self = Form::Flat(flat);
-        }
-    }
-
-    /// Writes the selected bytes of one piece, within the capacity.
-    pub fn lay_chosen_slice(&mut self, offset: usize, run: &[u8], keep: &[bool])
-        requires same { length keep.now ≡ length run.now }
-        requires fits { offset + length run.now < 2 ^ 64 }
-        requires room { reach offset (length run.now) (picked keep.now) ≤ capacity self.old }
-        ensures { Becomes self.old self.new (overlay_by (content self.old) offset run.now (picked keep.now)) }
-    {
-        match self {
-            Form::Flat(bytes) => overlay::write_chosen_slice(bytes, offset, run, keep).unwrap(),
-            Form::Paged(_) => self.lay_chosen_slice_pages(offset, run, keep),
         }
     }
 

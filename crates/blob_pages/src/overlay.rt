@@ -2,11 +2,13 @@
 //! capacity never fails: if a page can't be allocated, the bytes move to one vector that was reserved with the
 //! capacity.
 ghost use Rattle.std.specs.Prelude.{◌≡◌, ◌≤◌, ◌<◌, ◌+◌, ◌^◌, length, max, OnOk, OnErr};
-ghost use Rattle.blob_model.specs.Bytes.{overlay, resized};
+ghost use Rattle.blob_model.specs.Bytes.{overlay, overlay_by, reach, resized};
+ghost use Rattle.blob_model.specs.Runs.{picked};
 ghost use Rattle.blob_pages.specs.Stored.{AreNow, Grows, WritesSelected};
 
 use crate::bytes::Bytes;
 use blob_base::IoBufs;
+use blob_overlay::overlay::reach_of;
 use std::alloc::AllocError;
 
 /// Reserves capacity for `len` bytes in all. The only error is out of memory.
@@ -33,16 +35,47 @@ pub fn lay(bytes: &mut Bytes, offset: usize, run: &IoBufs)
     requires room { offset + length run.now ≤ bytes.old.capacity }
     ensures { AreNow bytes.old bytes.new (overlay bytes.old.items offset run.now) }
 {
-    bytes.form.lay(offset, run);
+    let mut at = offset;
+    for piece in run.pieces() {
+        lay_slice(bytes, at, piece);
+        at += piece.len();
+    }
 }
 
 /// Writes one piece, within the capacity.
+#[inline(always)]
 pub fn lay_slice(bytes: &mut Bytes, offset: usize, run: &[u8])
     requires fits { offset + length run.now < 2 ^ 64 }
     requires room { offset + length run.now ≤ bytes.old.capacity }
     ensures { AreNow bytes.old bytes.new (overlay bytes.old.items offset run.now) }
 {
-    bytes.form.lay_slice(offset, run);
+    bytes.form.lay(offset, run);
+}
+
+/// Writes the selected bytes of one piece, within the capacity.
+fn lay_chosen_slice(bytes: &mut Bytes, offset: usize, run: &[u8], keep: &[bool])
+    requires same { length keep.now ≡ length run.now }
+    requires fits { offset + length run.now < 2 ^ 64 }
+    requires room { reach offset (length run.now) (picked keep.now) ≤ bytes.old.capacity }
+    ensures { AreNow bytes.old bytes.new (overlay_by bytes.old.items offset run.now (picked keep.now)) }
+{
+    bytes.form.lay_chosen(offset, run, keep);
+}
+
+/// Writes the selected bytes of a run, within the capacity.
+fn lay_chosen(bytes: &mut Bytes, offset: usize, run: &IoBufs, keep: &[bool])
+    requires same { length keep.now ≡ length run.now }
+    requires fits { offset + length run.now < 2 ^ 64 }
+    requires room { reach offset (length run.now) (picked keep.now) ≤ bytes.old.capacity }
+    ensures { AreNow bytes.old bytes.new (overlay_by bytes.old.items offset run.now (picked keep.now)) }
+{
+    let mut done = 0;
+    for piece in run.pieces() {
+        let end = done + piece.len();
+        let part = &keep[done..end];
+        lay_chosen_slice(bytes, offset + done, piece, part);
+        done = end;
+    }
 }
 
 /// Writes the selected bytes of a run. `keep[i]` selects byte `i`. The bytes grow only as far as the last selected
@@ -57,9 +90,8 @@ pub fn write_chosen(
     requires fits { offset + length run.now < 2 ^ 64 }
     ensures { WritesSelected result bytes.old bytes.new offset run.now keep.now }
 {
-    let end = blob_overlay::overlay::reach_of(offset, keep);
-    bytes.form.reserve(end)?;
-    bytes.form.lay_chosen(offset, run, keep);
+    make_room(bytes, reach_of(offset, keep))?;
+    lay_chosen(bytes, offset, run, keep);
     Ok(())
 }
 
@@ -74,9 +106,8 @@ pub fn write_chosen_slice(
     requires fits { offset + length run.now < 2 ^ 64 }
     ensures { WritesSelected result bytes.old bytes.new offset run.now keep.now }
 {
-    let end = blob_overlay::overlay::reach_of(offset, keep);
-    bytes.form.reserve(end)?;
-    bytes.form.lay_chosen_slice(offset, run, keep);
+    make_room(bytes, reach_of(offset, keep))?;
+    lay_chosen_slice(bytes, offset, run, keep);
     Ok(())
 }
 

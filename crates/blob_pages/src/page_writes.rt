@@ -1,40 +1,12 @@
-// Writes of runs to pages.
+// Writes of selected bytes to pages.
 ghost use Rattle.std.specs.Prelude.{◌≡◌, ◌≤◌, ◌<◌, ◌+◌, ◌^◌, length, IfOk};
 ghost use Rattle.blob_model.specs.Bytes.{overlay, overlay_by, reach};
 ghost use Rattle.blob_model.specs.Runs.{picked};
 ghost use Rattle.blob_pages.specs.Values.{bytes, room, Tries, IsRange, IsSelectedWrite};
 
 use crate::pages::Pages;
-use blob_base::IoBufs;
 use blob_overlay::overlay;
 use std::alloc::{AllocError, Global};
-
-/// Copies a run of several pieces into one. The only error is out of memory.
-fn gathered(run: &IoBufs) -> Result<Vec<u8>, AllocError>
-    ensures { IfOk result (λ all. all.items ≡ run.now) }
-{
-    let Ok(all) = run.copied() else {
-        return Err(AllocError);
-    };
-    let Ok(all) = all.coalesce() else {
-        return Err(AllocError);
-    };
-    Ok(all)
-}
-
-/// Writes a run to pages, within their capacity. The only error is out of memory. The bytes are unchanged then.
-pub fn lay_run(pages: &mut Pages, offset: usize, run: &IoBufs) -> Result<(), AllocError>
-    requires fits { offset + length run.now < 2 ^ 64 }
-    requires room { offset + length run.now ≤ room pages.old }
-    ensures { Tries result pages.old pages.new (overlay (bytes pages.old) offset run.now) }
-{
-    let pieces = run.pieces();
-    if pieces.len() == 1 {
-        return pages.overlay(offset, pieces[0].as_slice());
-    }
-    let all = gathered(run)?;
-    pages.overlay(offset, all.as_slice())
-}
 
 /// Copies a range of the bytes, with zeros after the last byte. The only error is out of memory.
 fn range_of(alloc: Global, pages: &Pages, offset: usize, end: usize) -> Result<Vec<u8>, AllocError>
@@ -50,29 +22,8 @@ fn range_of(alloc: Global, pages: &Pages, offset: usize, end: usize) -> Result<V
     Ok(all)
 }
 
-/// Copies a range of the bytes, with the selected bytes of a run over them. The only error is out of memory.
+/// Copies a range of the bytes, with the selected bytes of a write over them. The only error is out of memory.
 fn mixed(
-    alloc: Global,
-    pages: &Pages,
-    offset: usize,
-    end: usize,
-    run: &IoBufs,
-    keep: &[bool],
-) -> Result<Vec<u8>, AllocError>
-    requires same { length keep.now ≡ length run.now }
-    requires fits { offset + length run.now < 2 ^ 64 }
-    requires some { offset < end }
-    requires end { end ≡ reach offset (length run.now) (picked keep.now) }
-    ensures len { IfOk result (λ all. offset + length all.items ≡ end) }
-    ensures laid { IfOk result (λ all. IsSelectedWrite all.items (bytes pages.now) offset run.now keep.now) }
-{
-    let mut all = range_of(alloc, pages, offset, end)?;
-    overlay::copy_chosen_pieces(all.as_mut_slice(), 0, run.pieces(), keep);
-    Ok(all)
-}
-
-/// Copies a range of the bytes, with the selected bytes of one piece over them. The only error is out of memory.
-fn mixed_slice(
     alloc: Global,
     pages: &Pages,
     offset: usize,
@@ -92,29 +43,9 @@ fn mixed_slice(
     Ok(all)
 }
 
-/// Writes the selected bytes of a run to pages, within their capacity. The only error is out of memory. The bytes are
-/// unchanged then.
+/// Writes the selected bytes to pages, within their capacity. The only error is out of memory. The bytes are unchanged
+/// then.
 pub fn lay_mixed(
-    pages: &mut Pages,
-    offset: usize,
-    run: &IoBufs,
-    keep: &[bool],
-) -> Result<(), AllocError>
-    requires same { length keep.now ≡ length run.now }
-    requires fits { offset + length run.now < 2 ^ 64 }
-    requires room { reach offset (length run.now) (picked keep.now) ≤ room pages.old }
-    ensures { Tries result pages.old pages.new (overlay_by (bytes pages.old) offset run.now (picked keep.now)) }
-{
-    let end = overlay::reach_of(offset, keep);
-    if end <= offset {
-        return Ok(());
-    }
-    let all = mixed(pages.alloc(), pages, offset, end, run, keep)?;
-    pages.overlay(offset, all.as_slice())
-}
-
-/// Writes the selected bytes of one piece, as `lay_mixed`.
-pub fn lay_mixed_slice(
     pages: &mut Pages,
     offset: usize,
     run: &[u8],
@@ -129,7 +60,7 @@ pub fn lay_mixed_slice(
     if end <= offset {
         return Ok(());
     }
-    let all = mixed_slice(pages.alloc(), pages, offset, end, run, keep)?;
+    let all = mixed(pages.alloc(), pages, offset, end, run, keep)?;
     pages.overlay(offset, all.as_slice())
 }
 

@@ -2,25 +2,21 @@ use Rattle.std.proofs.Common.{◌≡◌, ◌∙◌, ap, refl, rules, length, max
 use Rattle.blob_model.specs.Bytes.{overlay_by, reach}
 use Rattle.blob_model.specs.Runs.{picked}
 use Rattle.blob_model.proofs.Bytes.{length-resized}
-use Rattle.blob_overlay.proofs.Overlays.{lay_padded}
-use Rattle.blob_overlay.proofs.Pieces.{flat, written_back}
+use Rattle.blob_overlay.proofs.Overlays.{lay_padded, written_back}
 use Rattle.blob_overlay.proofs.overlay.write_chosen.Goals as goal
 
-pub copy_chosen_pieces-requires-clause-same : goal.copy_chosen_pieces-requires-clause-same
-copy_chosen_pieces-requires-clause-same c = omega (arith, c.requires.same, ap length c.pieces.ensures)
-
-pub copy_chosen_pieces-requires-clause-inside : goal.copy_chosen_pieces-requires-clause-inside
-copy_chosen_pieces-requires-clause-inside c =
+pub copy_chosen-requires-clause-inside : goal.copy_chosen-requires-clause-inside
+copy_chosen-requires-clause-inside c =
     let keep = c.args.keep.now in
     let end = reach c.args.offset (length keep) (picked keep) in
     let far : end ≡ reach c.args.offset (length c.args.run.now) (picked keep) = ap (λ n. reach c.args.offset n (picked keep)) c.requires.same in
-    rw c.pieces.ensures (omega (
+    omega (
       arith,
       far,
       ap length c.as_mut_slice.ensures.value,
       ap length c.in_ok-grow_to_selected.ensures.ok,
       length-resized c.args.bytes.now.items (max (length c.args.bytes.now.items) end),
-    ))
+    )
 
 pub returns : goal.returns
 returns c =
@@ -29,12 +25,11 @@ returns c =
     let grown = c.grow_to_selected.new.bytes.items in
     let end = reach c.args.offset (length keep) (picked keep) in
     let far : end ≡ reach c.args.offset (length c.args.run.now) (picked keep) = ap (λ n. reach c.args.offset n (picked keep)) c.requires.same in
-    let copied : c.copy_chosen_pieces.new.bytes ≡ overlay_by grown c.args.offset c.args.run.now (picked keep) =
-    c.copy_chosen_pieces.ensures ∙ ap (λ x. overlay_by x c.args.offset (flat c.pieces.result.now) (picked keep)) c.as_mut_slice.ensures.value
-    ∙ ap (λ b. overlay_by grown c.args.offset b (picked keep)) c.pieces.ensures in
-    let len : length c.copy_chosen_pieces.new.bytes ≡ length grown = omega (arith, c.copy_chosen_pieces.auto.bytes, ap length c.as_mut_slice.ensures.value) in record {
-      ok = written_back grown c.copy_chosen_pieces.new.bytes _ (omega arith) len
-          ∙ lay_padded old grown c.copy_chosen_pieces.new.bytes c.args.offset c.args.run.now (picked keep) end far c.in_ok-grow_to_selected.ensures.ok copied;
+    let copied : c.copy_chosen.new.bytes ≡ overlay_by grown c.args.offset c.args.run.now (picked keep) =
+    c.copy_chosen.ensures ∙ ap (λ x. overlay_by x c.args.offset c.args.run.now (picked keep)) c.as_mut_slice.ensures.value in
+    let len : length c.copy_chosen.new.bytes ≡ length grown = omega (arith, c.copy_chosen.auto.bytes, ap length c.as_mut_slice.ensures.value) in record {
+      ok = written_back grown c.copy_chosen.new.bytes _ (omega arith) len
+          ∙ lay_padded old grown c.copy_chosen.new.bytes c.args.offset c.args.run.now (picked keep) end far c.in_ok-grow_to_selected.ensures.ok copied;
       err = tt;
       succeeds = λ _. refl;
       capacity = search rules;

@@ -1,4 +1,4 @@
-use Rattle.std.proofs.Common.{◌^◌, ◌<◌, ◌+◌, ◌++◌, ◌∙◌, ap, length, take, drop, arith}
+use Rattle.std.proofs.Common.{◌^◌, ◌<◌, ◌++◌, ◌∙◌, ap, length, take, drop, arith}
 use Rattle.blob_pages.specs.Paged.{bytes_in}
 use Rattle.blob_pages.proofs.Paged.{length-bytes_in}
 use Rattle.blob_pages.proofs.pages.Pages.append.Goals as goal

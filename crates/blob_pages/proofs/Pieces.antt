@@ -1,12 +1,12 @@
 -- A run in pieces, written piece by piece.
 use Rattle.std.proofs.Common.{◌≡◌, ℕ, ◌+◌, ◌-◌, ◌<◌, ◌≤◌, ◌∙◌, Bool, true, false, List, [], ◌∷◌, ◌++◌, length, take, drop, get_or, Vec, Global, ap, sym, arith, length-append, append-nil}
 use Rattle.std.proofs.lemmas.Grind.{flat_map-append}
-use Rattle.std.proofs.lemmas.List.{take_more, get_or-take, get_or-drop, take-append-drop, drop_all, take_all}
+use Rattle.std.proofs.lemmas.List.{take_more, get_or-take, get_or-drop, take-append-drop}
 use Rattle.std.specs.List.{flat_map, slice_range}
 use Rattle.blob_model.specs.Bytes.{overlay, overlay_by, reach}
 use Rattle.blob_model.specs.Runs.{picked}
 use Rattle.blob_model.proofs.Agrees.{overlay_same}
-use Rattle.blob_model.proofs.Bytes.{reach_below, above_chosen, length-overlay_by}
+use Rattle.blob_model.proofs.Bytes.{reach_below, above_chosen}
 use Rattle.blob_overlay.proofs.Overlays.{overlay_more}
 
 -- all bytes of the pieces
@@ -14,7 +14,7 @@ abbrev pub flat : List (Vec ℕ Global) → List ℕ
 flat ps = flat_map (λ p. p.items) ps
 
 module _ (ps : List (Vec ℕ Global)) (i : ℕ) (v : Vec ℕ Global) (h : i < length ps) (is : v ≡ get_or ps i v) where
-  pub flat_more : flat (take (i + 1) ps) ≡ flat (take i ps) ++ v.items
+  flat_more : flat (take (i + 1) ps) ≡ flat (take i ps) ++ v.items
   flat_more = ap flat (take_more ps i v h ∙ ap (λ w. take i ps ++ (w ∷ [])) (sym is)) ∙ flat_map-append (λ p. p.items) (take i ps) (v ∷ []) ∙ ap (λ l. flat (take i ps) ++ l) (append-nil v.items)
 
   pub length-flat_more : length (flat (take (i + 1) ps)) ≡ length (flat (take i ps)) + length v.items
@@ -24,10 +24,10 @@ module _ (ps : List (Vec ℕ Global)) (i : ℕ) (v : Vec ℕ Global) (h : i < le
   flat_within = omega (arith, length-flat_more, sym (ap length (ap flat (take-append-drop (i + 1) ps))), ap length (flat_map-append (λ p. p.items) (take (i + 1) ps) (drop (i + 1) ps)), length-append (flat (take (i + 1) ps)) (flat (drop (i + 1) ps)))
 
   -- after one more piece
-  pub copied_more : (x y z : List ℕ) (o at : ℕ) → o + length (flat ps) ≤ length x → at ≡ o + length (flat (take i ps)) → y ≡ overlay x o (flat (take i ps)) → z ≡ overlay y at v.items
+  pub laid_more : (x y z : List ℕ) (o at : ℕ) → at ≡ o + length (flat (take i ps)) → y ≡ overlay x o (flat (take i ps)) → z ≡ overlay y at v.items
       → z ≡ overlay x o (flat (take (i + 1) ps))
-  copied_more x y z o at fits eat ey ez = ez ∙ ap (λ l. overlay l at v.items) ey ∙ ap (λ a. overlay (overlay x o (flat (take i ps))) a v.items) eat
-      ∙ overlay_more x o (flat (take i ps)) v.items (λ _. true) (reach_below o _ (λ _. true) (length x) (λ j l _. omega (arith, fits, flat_within, length-append (flat (take i ps)) v.items)))
+  laid_more x y z o at eat ey ez = ez ∙ ap (λ l. overlay l at v.items) ey ∙ ap (λ a. overlay (overlay x o (flat (take i ps))) a v.items) eat
+      ∙ overlay_more x o (flat (take i ps)) v.items (λ _. true)
       ∙ ap (overlay x o) (sym flat_more)
 
   -- which bytes of the piece are selected
@@ -35,26 +35,18 @@ module _ (ps : List (Vec ℕ Global)) (i : ℕ) (v : Vec ℕ Global) (h : i < le
       → picked (slice_range keep done end) j ≡ picked keep (length (flat (take i ps)) + j)
   part keep done end ed ee j l = get_or-take (end - done) (drop done keep) j false (omega arith) ∙ get_or-drop done keep j false ∙ ap (λ q. get_or keep q false) (omega arith)
 
-  -- the last selected byte of the piece is within the existing bytes
-  pub chosen_room : (x y : List ℕ) (o done end : ℕ) (keep : List Bool) → reach o (length (flat ps)) (picked keep) ≤ length x → done ≡ length (flat (take i ps)) → end ≡ done + length v.items
-      → y ≡ overlay_by x o (flat (take i ps)) (picked keep) → reach (o + done) (length v.items) (picked (slice_range keep done end)) ≤ length y
-  chosen_room x y o done end keep room ed ee ey = reach_below (o + done) (length v.items) (picked (slice_range keep done end)) (length y)
-      (λ j l e. omega (arith, ed, room, ap length ey, length-overlay_by x o (flat (take i ps)) (picked keep), above_chosen o (length (flat ps)) (picked keep) (length (flat (take i ps)) + j) (omega (arith, flat_within, l)) (sym (part keep done end ed ee j l) ∙ e)))
+  -- the last selected byte of the piece is at most the last of the run
+  pub chosen_below : (o done end : ℕ) (keep : List Bool) → done ≡ length (flat (take i ps)) → end ≡ done + length v.items
+      → reach (o + done) (length v.items) (picked (slice_range keep done end)) ≤ reach o (length (flat ps)) (picked keep)
+  chosen_below o done end keep ed ee = reach_below (o + done) (length v.items) (picked (slice_range keep done end)) (reach o (length (flat ps)) (picked keep))
+      (λ j l e. omega (arith, ed, above_chosen o (length (flat ps)) (picked keep) (length (flat (take i ps)) + j) (omega (arith, flat_within, l)) (sym (part keep done end ed ee j l) ∙ e)))
 
   -- after the selected bytes of one more piece
-  pub chosen_more : (x y z : List ℕ) (o done end : ℕ) (keep : List Bool) → reach o (length (flat ps)) (picked keep) ≤ length x → done ≡ length (flat (take i ps)) → end ≡ done + length v.items
+  pub chosen_more : (x y z : List ℕ) (o done end : ℕ) (keep : List Bool) → done ≡ length (flat (take i ps)) → end ≡ done + length v.items
       → y ≡ overlay_by x o (flat (take i ps)) (picked keep) → z ≡ overlay_by y (o + done) v.items (picked (slice_range keep done end)) → z ≡ overlay_by x o (flat (take (i + 1) ps)) (picked keep)
-  chosen_more x y z o done end keep room ed ee ey ez = ez
+  chosen_more x y z o done end keep ed ee ey ez = ez
       ∙ overlay_same y (o + done) v.items (picked (slice_range keep done end)) (λ j. picked keep (length (flat (take i ps)) + j)) (part keep done end ed ee)
       ∙ ap (λ l. overlay_by l (o + done) v.items (λ j. picked keep (length (flat (take i ps)) + j))) ey
       ∙ ap (λ d. overlay_by (overlay_by x o (flat (take i ps)) (picked keep)) (o + d) v.items (λ j. picked keep (length (flat (take i ps)) + j))) ed
-      ∙ overlay_more x o (flat (take i ps)) v.items (picked keep) small
+      ∙ overlay_more x o (flat (take i ps)) v.items (picked keep)
       ∙ ap (λ l. overlay_by x o l (picked keep)) (sym flat_more)
-    where
-      small : reach o (length (flat (take i ps) ++ v.items)) (picked keep) ≤ length x
-      small = reach_below o (length (flat (take i ps) ++ v.items)) (picked keep) (length x)
-          (λ j l e. omega (arith, room, above_chosen o (length (flat ps)) (picked keep) j (omega (arith, l, flat_within, length-append (flat (take i ps)) v.items)) e))
-
--- a vector after all its bytes are written through a slice
-pub written_back : (x y : List ℕ) (n : ℕ) → n ≡ length x → length y ≡ length x → take n (y ++ drop (length y) x) ≡ y
-written_back x y n e l = ap (λ r. take n (y ++ r)) (drop_all (length y) x (omega (arith, l))) ∙ ap (take n) (append-nil y) ∙ take_all n y (omega (arith, e, l))
