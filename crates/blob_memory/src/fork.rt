@@ -10,12 +10,12 @@ impl Storage {
 
     /// Makes a second store with the same files and the same next number. No later call on one store changes the other.
     ///
-    /// A file of more than 64 KB shares its pages with the fork, except those that SYNC writes or a crash wrote since
-    /// its last sync. These pages and smaller files are copied. The counts of shared pages aren't atomic, so a fork stays
-    /// on its store's thread.
+    /// For a blob of more than 64 KB the two share each page that hasn't changed since a sync. Other pages, smaller blobs
+    /// and raw files are copied; reserved capacity isn't. The counts of shared pages aren't atomic, so a fork stays on its
+    /// store's thread.
     ///
-    /// A handle that is current in the store is current in the fork too. Later the two stores give the same numbers to
-    /// different incarnations, so use a handle that is opened then only with its own store.
+    /// A handle that is current in the store is current in the fork too. From then on both give out the same numbers, so
+    /// use a handle that is opened later only with its own store.
     ///
     /// # Errors
     ///
