@@ -4,6 +4,7 @@ pub mod Directories
 pub mod Exchanges
 pub mod Exits
 pub mod Fed
+pub mod Forks
 pub mod ListingOf
 pub mod Kept
 pub mod Lent

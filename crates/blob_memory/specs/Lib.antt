@@ -4,6 +4,7 @@ pub mod Audit
 pub mod Contents
 pub mod ContentsLends
 pub mod Feeds
+pub mod Forks
 pub mod Found
 pub mod ItemLends
 pub mod Laws

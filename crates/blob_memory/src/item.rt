@@ -8,6 +8,7 @@ ghost use Rattle.blob_memory.specs.ItemLends.{LendsBytes};
 use crate::origin::Origin;
 use blob_base::{BlobVersion, Layout};
 use blob_pages::Bytes;
+use std::alloc::AllocError;
 
 /// A blob that an open has accepted. The layout and the version represent its header, so no write can change it.
 #[derive(Drop)]
@@ -26,6 +27,25 @@ pub enum Item {
     /// Raw bytes with the header, which no open has accepted.
     Raw(Vec<u8>),
     Held(Held),
+}
+
+impl Clone for Item {
+    ghost use Rattle.blob_memory.specs.Forks.{IsCopy};
+
+    ghost is_clone = { IsCopy };
+
+    /// Copies the item, and its bytes by `Bytes::copy`. The only error is out of memory.
+    fn clone(&self) -> Result<Item, AllocError> {
+        match self {
+            Item::Raw(bytes) => Ok(Item::Raw(Vec::from_slice(*bytes.allocator(), bytes)?)),
+            Item::Held(held) => Ok(Item::Held(Held {
+                number: held.number,
+                layout: held.layout,
+                version: held.version,
+                bytes: held.bytes.copy()?,
+            })),
+        }
+    }
 }
 
 impl Held {

@@ -5,6 +5,7 @@ mod audit;
 pub mod blob;
 mod borrowed;
 mod contents;
+pub mod fork;
 mod found;
 pub mod images;
 mod item;

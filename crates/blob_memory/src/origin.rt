@@ -7,8 +7,8 @@ use std::marker::Model;
 
 /// The incarnation of a blob that a handle was opened on.
 ///
-/// It identifies one incarnation of the store that returned it, and of stores built from that store's snapshots. It
-/// means nothing to any other store: there the same names and numbers can be in use.
+/// It identifies one incarnation of the store that returned it, of that store's later forks, and of stores built from
+/// its snapshots. It means nothing to any other store: there the same names and numbers can be in use.
 #[derive(Drop)]
 pub struct Origin {
     partition: String,

@@ -5,6 +5,7 @@ ghost use Rattle.blob_header.specs.Checksum.{crc32c};
 ghost use Rattle.blob_memory.specs.Listing.{listing_of, raw_at};
 ghost use Rattle.blob_memory.specs.Partitions.{item_at, is_there, without_partition, AreItemNames, AreKeys, SetsItem, SetsPartition};
 ghost use Rattle.blob_memory.specs.Contents.{current_bytes};
+ghost use Rattle.blob_memory.specs.Forks.{IsCopyIn};
 ghost use Rattle.blob_memory.specs.TableLends.{LendsItem, LendsBytesAt};
 ghost use Rattle.std.specs.Borrow.{sem};
 ghost use Rattle.std.specs.Option.{option_copied_mut};
@@ -44,6 +45,18 @@ impl Partitions {
             alloc,
             names: BTreeMap::new(alloc),
         }
+    }
+
+    /// Copies all partitions, names and items. The only error is out of memory.
+    pub fn copy(&self) -> Result<Partitions, AllocError>
+        ensures items { IfOk result (λ copy. (p n : List ℕ) → IsCopyIn (item_at self.now p n) (item_at copy p n)) }
+        ensures partitions { IfOk result (λ copy. (p : List ℕ) → is_there copy p ≡ is_there self.now p) }
+        ensures listing { IfOk result (λ copy. listing_of copy ≡ listing_of self.now) }
+    {
+        Ok(Partitions {
+            alloc: self.alloc,
+            names: self.names.clone()?,
+        })
     }
 
     /// Returns whether a partition exists.

@@ -86,6 +86,7 @@ pub enum Own {
     SetRaw,
     Audit,
     Rebuild,
+    Fork,
     Swap,
     Origin,
     Retain,
@@ -132,7 +133,7 @@ pub enum Debt {
 type Row = (&'static str, &'static str, Ask);
 
 // A word, the letters of its arguments, and the call.
-static CALLS: [Row; 98] = [
+static CALLS: [Row; 99] = [
     ("resolve", "bvv", Ask::Value(Value::Resolve)),
     ("parse", "bllvv", Ask::Value(Value::Parse)),
     ("maybetorn", "bllvv", Ask::Value(Value::MaybeTorn)),
@@ -194,6 +195,7 @@ static CALLS: [Row; 98] = [
     ("setraw", "pab", Ask::Own(Own::SetRaw)),
     ("audit", "", Ask::Own(Own::Audit)),
     ("rebuild", "", Ask::Own(Own::Rebuild)),
+    ("fork", "", Ask::Own(Own::Fork)),
     ("swap", "", Ask::Own(Own::Swap)),
     ("origin", "n", Ask::Own(Own::Origin)),
     ("retain", "nnwc", Ask::Own(Own::Retain)),

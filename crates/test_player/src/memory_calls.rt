@@ -55,6 +55,12 @@ impl MemoryPlace {
         Ok(done(()))
     }
 
+    // Sets a fork of the store aside.
+    fn fork(&mut self) -> Result<Found, Error> {
+        self.aside = self.place.store.fork()?;
+        Ok(done(()))
+    }
+
     // Swaps the store with the one that was set aside.
     fn swap(&mut self) -> Result<Found, Error> {
         mem::swap(&mut self.place.store, &mut self.aside);
@@ -94,6 +100,7 @@ impl MemoryPlace {
             }
             Own::Audit => Ok(Found::Sum(self.place.store.audit())),
             Own::Rebuild => self.rebuild(),
+            Own::Fork => self.fork(),
             Own::Swap => self.swap(),
             Own::ReadSlice | Own::WriteFrom => self.borrow(own, args),
             Own::Origin

@@ -54,6 +54,10 @@ pub fn audit(store: &Memory) -> [u8; 4] {
     store.audit()
 }
 
+pub fn fork(store: &Memory) -> Result<Memory, Error> {
+    store.fork()
+}
+
 pub fn take_snapshot(store: &mut Memory) -> Snapshot {
     store.take_snapshot()
 }

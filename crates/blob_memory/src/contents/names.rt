@@ -28,6 +28,20 @@ impl Contents {
         }
     }
 
+    /// Copies the contents. The only error is out of memory.
+    pub fn copy(&self) -> Result<Contents, AllocError>
+        ensures directory { IfOk result (λ copy. directory_of copy ≡ directory_of self.now) }
+        ensures durable { IfOk result (λ copy. durable_of copy ≡ durable_of self.now) }
+        ensures listing { IfOk result (λ copy. listing_at copy ≡ listing_at self.now) }
+    {
+        Ok(Contents {
+            alloc: self.alloc,
+            partitions: self.partitions.copy()?,
+            next: self.next,
+            first: self.first,
+        })
+    }
+
     /// Returns the number of the next incarnation.
     pub fn next(&self) -> u64
         ensures { result ≡ (directory_of self.now).next }
