@@ -8,7 +8,7 @@ use Rattle.blob_header.specs.declared.error.Error.{Error}
 use Rattle.blob_model.specs.Bytes.{resized, written}
 use Rattle.blob_model.specs.Durable.{durable_without, with_overlay}
 use Rattle.blob_model.specs.Live.{live_written}
-use Rattle.blob_header.specs.Refusals.{Refusal, refused}
+use Rattle.blob_header.specs.Refusals.{Refusal, error_of}
 
 -- An error of the first call, or a result of the second, by a handle and a store as the first left them.
 pub data InTurn {B S : Type 0} (first : Option Refusal → Type 0) (left : B → S → Type 0) (second : B → S → Option Refusal → Type 0) : Option Refusal → Type 0 where
@@ -64,4 +64,4 @@ abbrev pub WritesAndRemoves : {S H O B : Type 0} → StorageGhosts S H O → han
     → B → S → ℕ → List ℕ → List ℕ → List ℕ → Result (Unit {0}) Error → Type 0
 WritesAndRemoves {S} {H} {O} {B} store handle b s offset bytes p n result = InTurn (handle.allows_write b s offset bytes true)
     (λ (b' : B) s'. (store.durable s' ≡ with_overlay (store.durable s) (handle.place b) offset bytes) × (store.directory s' ≡ store.directory s))
-    (λ b' s'. store.allows_remove s' p (Some n)) (refused result)
+    (λ b' s'. store.allows_remove s' p (Some n)) (error_of result)

@@ -4,7 +4,7 @@ use Rattle.std.specs.Prelude.{Result, Ok, Err, OnErr, IsSome, is_some, ◌==◌}
 use Rattle.blob_base.specs.HandleCalls as call
 use Rattle.blob_base.specs.declared.storage.Durable as stores
 use Rattle.blob_base.specs.declared.storage.Blob as handles
-use Rattle.blob_header.specs.Refusals.{Refusal, Memory, OffsetOverflow, refused}
+use Rattle.blob_header.specs.Refusals.{Refusal, Memory, OffsetOverflow, error_of}
 use Rattle.blob_header.specs.declared.error.Error.{Error}
 use Rattle.blob_model.specs.Directory.{is_current}
 use Rattle.blob_model.specs.Live.{live_after}
@@ -124,11 +124,11 @@ of_room_refused direct old new rs reserves (Some refusal) some only (inr h) u = 
 
 -- a write of which nothing must be recorded
 pub unrecorded_plain : {R T : Type 0} (direct sync : Bool) (old new : View R) (offset : ℕ) (bytes : List ℕ) (result : Result T Error) → sync ≡ false → loose (retention old.config.write_rate) old.next_write offset bytes ≡ [] →
-    Wrote direct old new (unrecorded sync offset bytes) (refused result) → OnErr result (new.size ≡ old.size) → SameRest old new → Recorded direct true old new (plain offset bytes) (refused result)
+    Wrote direct old new (unrecorded sync offset bytes) (error_of result) → OnErr result (new.size ≡ old.size) → SameRest old new → Recorded direct true old new (plain offset bytes) (error_of result)
 unrecorded_plain {R} {T} direct sync old new offset bytes result is none w size rest =
-    go result (subst (λ (s : Bool). Wrote direct old new (unrecorded s offset bytes) (refused result)) is w) size
+    go result (subst (λ (s : Bool). Wrote direct old new (unrecorded s offset bytes) (error_of result)) is w) size
   where
-    go : (x : Result T Error) → Wrote direct old new (unrecorded false offset bytes) (refused x) → OnErr x (new.size ≡ old.size) → Recorded direct true old new (plain offset bytes) (refused x)
+    go : (x : Result T Error) → Wrote direct old new (unrecorded false offset bytes) (error_of x) → OnErr x (new.size ≡ old.size) → Recorded direct true old new (plain offset bytes) (error_of x)
     go (Ok x) wrote any = record {
       wrote = record { done = wrote.done; refused = wrote.refused; memory = wrote.memory; stale = wrote.stale; directory = wrote.directory; place = wrote.place };
       done = λ ok. subst (λ (es : List Entry). Logs old new es) (sym none)

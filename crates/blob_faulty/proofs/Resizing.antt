@@ -4,7 +4,7 @@ use Rattle.std.specs.Prelude.{Result, Ok, Err, OnErr}
 use Rattle.rand_core.specs.Stream.{Stream}
 use Rattle.blob_base.specs.declared.storage.Blob as handles
 use Rattle.blob_base.specs.declared.storage.Durable as stores
-use Rattle.blob_header.specs.Refusals.{Refusal, Injected, refused}
+use Rattle.blob_header.specs.Refusals.{Refusal, Injected, error_of}
 use Rattle.blob_header.specs.declared.error.Error.{Error}
 use Rattle.blob_model.specs.Log.{Entry, Resized}
 use Rattle.blob_draws.specs.Answers.{Allowed, or_memory}
@@ -48,8 +48,8 @@ survives direct old new len (Some refusal) w = record {
 }
 
 -- it was done, or refused, and nothing is recorded of it
-pub done_only : {R T : Type 0} (direct : Bool) (old new : View R) (len : ℕ) (result : Result T Error) → Wrote direct old new (cut len []) (refused result) → OnErr result (new.size ≡ old.size) → new.durable ≡ old.durable → SameRest old new →
-    ResizedBy (Resizes false) direct old new len (refused result)
+pub done_only : {R T : Type 0} (direct : Bool) (old new : View R) (len : ℕ) (result : Result T Error) → Wrote direct old new (cut len []) (error_of result) → OnErr result (new.size ≡ old.size) → new.durable ≡ old.durable → SameRest old new →
+    ResizedBy (Resizes false) direct old new len (error_of result)
 done_only direct old new len (Ok x) w size durable rest = record {
   done = λ ok. w.done refl;
   recorded = λ ok. logs;
@@ -84,7 +84,7 @@ done_only direct old new len (Err e) w size durable rest = record {
     same = record { size = size; pending = rest.pending; next_write = rest.next_write; next_marker = rest.next_marker }
 
 -- refused, nothing is recorded of it
-pub unrecorded_by : {R T : Type 0} (old new : View R) (result : Result T Error) (refusal : Refusal) → OnErr result (new.size ≡ old.size) → SameRest old new → refused result ≡ Some refusal → SameRecords old new
+pub unrecorded_by : {R T : Type 0} (old new : View R) (result : Result T Error) (refusal : Refusal) → OnErr result (new.size ≡ old.size) → SameRest old new → error_of result ≡ Some refusal → SameRecords old new
 unrecorded_by old new (Ok x) refusal size rest is = absurd (cc)
 unrecorded_by old new (Err e) refusal size rest is = record { size = size; pending = rest.pending; next_write = rest.next_write; next_marker = rest.next_marker }
 

@@ -8,7 +8,7 @@ use Rattle.blob_model.specs.Directory.{Directory}
 use Rattle.blob_model.specs.Durable.{Durable, with_at, with_changed}
 use Rattle.blob_model.specs.Pending.{Marker}
 use Rattle.blob_model.specs.Places.{Place}
-use Rattle.blob_header.specs.Refusals.{Refusal, refused}
+use Rattle.blob_header.specs.Refusals.{Refusal, error_of}
 use Rattle.blob_model.proofs.FileSteps.{stands_synced, stands_begun}
 use Rattle.blob_faulty.specs.declared.blob.Blob.{Blob}
 use Rattle.blob_faulty.specs.declared.storage.Storage.{Storage}
@@ -46,10 +46,10 @@ pub refused_steps : {S R O B : Type 0} (store : stores.Ghosts S O) (handle : han
 refused_steps store handle b c old new rng answer synced some files s =
     keeps_stands store.place _ _ _ _ old new files synced.directory (synced.refused some) (records_of store handle b c old new rng (synced.unrecorded some) synced.config) s
 
-pub err_by : {T P : Type 0} (r : Result T Error) → (IsSome (refused r) → P) → OnErr r P
+pub err_by : {T P : Type 0} (r : Result T Error) → (IsSome (error_of r) → P) → OnErr r P
 err_by (Ok x) h = tt
 err_by (Err e) h = h refl
 
-pub when_ok : {T P : Type 0} (r : Result T Error) → refused r ≡ None → OnOk r P → P
+pub when_ok : {T P : Type 0} (r : Result T Error) → error_of r ≡ None → OnOk r P → P
 when_ok (Ok x) is h = h
 when_ok (Err e) is h = absurd (cc)

@@ -10,7 +10,7 @@ use Rattle.blob_model.specs.Live.{live_written, all_written}
 use Rattle.blob_model.specs.Order.{held_at}
 use Rattle.blob_model.specs.Pending.{Waiting, Cut, laid}
 use Rattle.blob_model.specs.Places.{Place}
-use Rattle.blob_header.specs.Refusals.{Refusal, WriteFailed, refused}
+use Rattle.blob_header.specs.Refusals.{Refusal, WriteFailed, error_of}
 use Rattle.blob_header.specs.declared.error.Error.{Error}
 use Rattle.blob_base.specs.declared.storage.Durable as stores
 use Rattle.blob_base.specs.declared.storage.Blob as handles
@@ -159,14 +159,14 @@ no_runs direct old rs none = subst (λ (x : List Run). Recorded direct direct ol
 
 -- a run and those after it
 pub then_runs : {R T : Type 0} (direct : Bool) (old mid new : View R) (r : Run) (rs : List Run) (answer : Option Refusal) (result : Result T Error) → answer ≡ None →
-    OnErr result (refused result ≡ Some WriteFailed) → OnErr result (direct ≡ false) → is_current old.directory old.place ≡ true →
-    Recorded direct true old mid (laid_runs (r ∷ [])) answer → Recorded direct direct mid new (laid_runs rs) (refused result) → Recorded direct direct old new (laid_runs (r ∷ rs)) (refused result)
+    OnErr result (error_of result ≡ Some WriteFailed) → OnErr result (direct ≡ false) → is_current old.directory old.place ≡ true →
+    Recorded direct true old mid (laid_runs (r ∷ [])) answer → Recorded direct direct mid new (laid_runs rs) (error_of result) → Recorded direct direct old new (laid_runs (r ∷ rs)) (error_of result)
 then_runs {R} {T} direct old mid new r rs answer result ok failed indirect now first rest = go result failed indirect rest
   where
     left : LeavesRuns old mid (r ∷ rs) rs
     left = one_less direct old old mid (r ∷ rs) r rs answer ok (record { live = refl; durable = refl; size = refl; logs = λ later k. k; directory = refl; place = refl; config = refl; rng = refl }) first
 
-    go : (x : Result T Error) → OnErr x (refused x ≡ Some WriteFailed) → OnErr x (direct ≡ false) → Recorded direct direct mid new (laid_runs rs) (refused x) → Recorded direct direct old new (laid_runs (r ∷ rs)) (refused x)
+    go : (x : Result T Error) → OnErr x (error_of x ≡ Some WriteFailed) → OnErr x (direct ≡ false) → Recorded direct direct mid new (laid_runs rs) (error_of x) → Recorded direct direct old new (laid_runs (r ∷ rs)) (error_of x)
     go (Ok x) never direct_too w =
         let bytes = w.wrote.done refl in
         done_now direct old new (laid_runs (r ∷ rs)) now (record { live = bytes.live ∙ left.live; durable = bytes.durable ∙ left.durable; size = bytes.size ∙ left.size }) (left.logs new (w.done refl))

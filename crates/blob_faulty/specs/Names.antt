@@ -11,7 +11,7 @@ use Rattle.blob_model.specs.Files.{Files, after_open, after_remove, is_removed_b
 use Rattle.blob_model.specs.Opening.{IsOpened}
 use Rattle.blob_model.specs.Pending.{Pending}
 use Rattle.blob_model.specs.Places.{Place}
-use Rattle.blob_header.specs.Refusals.{Refusal, refused}
+use Rattle.blob_header.specs.Refusals.{Refusal, error_of}
 use Rattle.blob_header.specs.declared.error.Error.{Error}
 use Rattle.blob_header.specs.Versions.{lower, upper}
 use Rattle.blob_header.specs.declared.version.BlobVersion.{BlobVersion}
@@ -62,7 +62,7 @@ abbrev pub MayRemoveNamed : {S R O : Type 0} → (R → Stream) → (S → List 
 MayRemoveNamed stream allows w p name = MayRemove stream allows w p (option_copied name)
 
 abbrev pub RemovesNamed : {S R O T : Type 0} → stores.Ghosts S O → (R → Stream) → (S → List ℕ → Option (List ℕ) → Option Refusal → S → Type 0) → Storage S R O → List ℕ → Option (Bor (List ℕ)) → Result T Error → Storage S R O → Type 0
-RemovesNamed store stream asked before p name result after = Removes store stream asked before p (option_copied name) (refused result) after
+RemovesNamed store stream asked before p name result after = Removes store stream asked before p (option_copied name) (error_of result) after
 
 -- the store inside shows the same directory and durable bytes
 abbrev pub SameStore : {S R O : Type 0} → stores.Ghosts S O → Storage S R O → Storage S R O → Type 0

@@ -9,7 +9,7 @@ ghost use Rattle.blob_model.specs.Live.{live_written};
 ghost use Rattle.blob_base.specs.Options.{is_sync};
 ghost use Rattle.blob_model.specs.Pending.{Marker};
 ghost use Rattle.blob_model.specs.Places.{Place};
-ghost use Rattle.blob_header.specs.Refusals.{Refusal, refused, Memory, IsMemory};
+ghost use Rattle.blob_header.specs.Refusals.{Refusal, error_of, Memory, IsMemory};
 ghost use Rattle.blob_draws.specs.Answers.{injected_or, allows_resize as answers_resize, allows_start};
 ghost use Rattle.blob_faulty.specs.Allowed.{MayWrite};
 ghost use Rattle.blob_draws.specs.Fates.{after_write};
@@ -64,8 +64,8 @@ impl<B> Blob<B> {
     where
         B: blob_base::Blob<S>,
         P: Payload<S, B>,
-        ensures allowed { MayWrite B.Blob self.old store.old R.stream offset (P.bytes bytes) sync (refused result) }
-        ensures leaves { WriteLeaves S.Durable B.Blob R.stream offset (P.bytes bytes) sync self.old store.old (refused result) self.new store.new }
+        ensures allowed { MayWrite B.Blob self.old store.old R.stream offset (P.bytes bytes) sync (error_of result) }
+        ensures leaves { WriteLeaves S.Durable B.Blob R.stream offset (P.bytes bytes) sync self.old store.old (error_of result) self.new store.new }
         ensures live { OnOk result (B.live self.new.inner ≡ live_written sync (B.live self.old.inner) offset (P.bytes bytes)) }
         ensures synced { OnOk result (WritesIfSync S.Durable B.Blob self.old store.old store.new sync offset (P.bytes bytes)) }
         ensures plain { OnOk result (sync ≡ false → S.durable store.new.inner ≡ S.durable store.old.inner) }

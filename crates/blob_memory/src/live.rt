@@ -1,7 +1,7 @@
 // The live bytes of a handle.
 ghost use Rattle.std.specs.Prelude.{◌≡◌, ◌≤◌, ◌<◌, ◌+◌, ◌^◌, ℕ, None, Some, OnOk, IfOk, OnErr, length, if◌then◌else◌};
 ghost use Rattle.blob_model.specs.Bytes.{written};
-ghost use Rattle.blob_header.specs.Refusals.{refused, OffsetOverflow, IsMemory};
+ghost use Rattle.blob_header.specs.Refusals.{error_of, OffsetOverflow, IsMemory};
 ghost use Rattle.blob_memory.specs.Answers.{is_uncounted};
 
 use blob_base::{Error, IoBufs};
@@ -12,7 +12,7 @@ use blob_pages::{Bytes, overlay};
 pub fn logical_end(start: u64, offset: u64, len: usize) -> Result<usize, Error>
     ensures end { IfOk result (λ end. end ≡ offset + len) }
     ensures counted { OnOk result (offset + start + len < 2 ^ 64) }
-    ensures refusal { refused result ≡ (if is_uncounted (offset + start + len) then Some OffsetOverflow else None) }
+    ensures refusal { error_of result ≡ (if is_uncounted (offset + start + len) then Some OffsetOverflow else None) }
 {
     let Some(raw) = offset.checked_add(start) else {
         return Err(Error::OffsetOverflow);

@@ -2,7 +2,7 @@
 ghost use Rattle.std.specs.Prelude.{◌≡◌, ◌<◌, ◌≤◌, ℕ, true, None, length, OnOk, IfOk};
 ghost use Rattle.hex.specs.Hex.{encode_lower};
 ghost use Rattle.blob_header.specs.PartitionName.{is_partition_name};
-ghost use Rattle.blob_header.specs.Refusals.{refused, refusal_of, BlobMissing};
+ghost use Rattle.blob_header.specs.Refusals.{error_of, refusal_of, BlobMissing};
 ghost use Rattle.blob_memory.specs.Answers.{OrMemory, partition_refusal};
 ghost use Rattle.blob_memory.specs.Contents.{empty_directory};
 ghost use Rattle.blob_memory.specs.Store.{place, live};
@@ -93,7 +93,7 @@ impl Storage {
 
     /// Checks that a partition's name is valid and that the partition exists.
     fn find_partition(&self, partition: &str) -> Result<(), Error>
-        ensures allowed { OrMemory (partition_refusal (directory self.now) partition.now) (refused result) }
+        ensures allowed { OrMemory (partition_refusal (directory self.now) partition.now) (error_of result) }
         ensures valid { OnOk result (is_partition_name partition.now ≡ true) }
         ensures there { OnOk result ((directory self.now).has_partition partition.now ≡ true) }
     {

@@ -6,7 +6,7 @@ ghost use Rattle.blob_model.specs.Durable.{with_changed};
 ghost use Rattle.blob_base.specs.Handles.{outcome_of};
 ghost use Rattle.blob_model.specs.Live.{live_written, live_after};
 ghost use Rattle.blob_base.specs.Options.{is_sync};
-ghost use Rattle.blob_header.specs.Refusals.{Refusal, refused, IsMemory};
+ghost use Rattle.blob_header.specs.Refusals.{Refusal, error_of, IsMemory};
 
 use blob_base::{Durable, Error, Handle, IoBufs, IoBufsMut, ReadOptions, WriteOptions};
 use std::marker::Model;

@@ -3,7 +3,7 @@ ghost use Rattle.std.specs.Prelude.{◌≡◌, ◌≢◌, ◌≤◌, ◌+◌, �
 ghost use Rattle.std.specs.Range.{range_inclusive_exhausted};
 ghost use Rattle.hex.specs.Hex.{encode_lower};
 ghost use Rattle.blob_base.specs.StoreChanges.{DropsBytes, DropsNames, SameFiles};
-ghost use Rattle.blob_header.specs.Refusals.{refused, refusal_of, BlobAlreadyOpen, FailsWith, GenerationsExhausted, IsMemory, IsMemoryError};
+ghost use Rattle.blob_header.specs.Refusals.{error_of, refusal_of, BlobAlreadyOpen, FailsWith, GenerationsExhausted, IsMemory, IsMemoryError};
 ghost use Rattle.blob_header.specs.Versions.{lower, upper};
 ghost use Rattle.blob_opens.specs.OpenNames.{opened, closed, ended, none_open, with_registration, IsExhausted};
 ghost use Rattle.blob_opens.specs.Opens.{names_of, next_registration, registration_of, store_handle, HasNoNumber, OpensHandle, RegistryOpens};
@@ -58,7 +58,7 @@ impl Opens {
     ) -> Result<(Blob<S::Blob>, u64, BlobVersion), Error>
         requires fresh { range_inclusive_exhausted versions ≡ false }
         requires some { lower versions ≤ upper versions }
-        ensures answer { RegistryOpens S.Storage self.old store.old store.new partition.now name.now versions (refused result) }
+        ensures answer { RegistryOpens S.Storage self.old store.old store.new partition.now name.now versions (error_of result) }
         ensures exhausted { IsExhausted (names_of self.old) partition.now name.now → FailsWith result GenerationsExhausted }
         ensures registered { OnOk result (names_of self.new ≡ opened (names_of self.old) partition.now name.now) }
         ensures err { OnErr result (names_of self.new ≡ names_of self.old) }
@@ -106,8 +106,8 @@ impl Opens {
         partition: &str,
         name: Option<&[u8]>,
     ) -> Result<(), Error>
-        ensures allowed { S.allows_remove store.old partition.now (option_copied name.entry) (refused result) }
-        ensures leaves { S.leaves_remove store.old partition.now (option_copied name.entry) (refused result) store.new }
+        ensures allowed { S.allows_remove store.old partition.now (option_copied name.entry) (error_of result) }
+        ensures leaves { S.leaves_remove store.old partition.now (option_copied name.entry) (error_of result) store.new }
         ensures directory { OnOk result (DropsNames S.Durable store.old store.new partition.now (option_copied name.entry)) }
         ensures durable { OnOk result (DropsBytes S.Durable store.old store.new partition.now (option_copied name.entry)) }
         ensures kept { OnErr result (SameFiles S.Durable store.old store.new) }

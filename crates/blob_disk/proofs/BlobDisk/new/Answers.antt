@@ -7,7 +7,7 @@ use Rattle.blob_model.specs.Durable.{Durable}
 use Rattle.blob_model.specs.Files.{Files, wrapped, after_open}
 use Rattle.blob_model.specs.Places.{Place}
 use Rattle.blob_model.specs.Rates.{Rate}
-use Rattle.blob_header.specs.Refusals.{refused, refusal_of}
+use Rattle.blob_header.specs.Refusals.{error_of, refusal_of}
 use Rattle.blob_disk.proofs.BlobDisk.new.Goals as goal
 use Rattle.blob_disk.proofs.Opening.{memory_alone, opens_again, refused_alone}
 use Rattle.blob_disk.proofs.Outcomes.{configured_here, configured_openable, configured_whole}
@@ -45,7 +45,7 @@ pub returns-in_err-blob-clause-memory : goal.returns-in_err-blob-clause-memory
 returns-in_err-blob-clause-memory g c =
     let s = c.new-store.result in
     let answer = refusal_of c.in_err-blob.field-0.0 in
-    let said : refused c.from_residual.result ≡ Some answer = search rules in
+    let said : error_of c.from_residual.result ≡ Some answer = search rules in
     let unset : (config_of s).open_rate ≡ None = search rules in
     let never : IsNever (config_of s).open_rate = subst (λ (rate : Option Rate). IsNever rate) (sym unset) tt in
     let made : directory (inner_of s) ≡ directory c.new-memory.result = ap directory c.new-store.ensures.inner in

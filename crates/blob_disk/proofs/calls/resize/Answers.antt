@@ -2,7 +2,7 @@ use Rattle.std.proofs.Common.{List, ℕ, length, refl, sym, ◌∙◌, ap, subst
 use Rattle.std.proofs.lemmas.Result.{on_ok_weaker}
 use Rattle.blob_model.specs.Bytes.{resized}
 use Rattle.blob_model.proofs.Bytes.{length-resized}
-use Rattle.blob_header.specs.Refusals.{refused}
+use Rattle.blob_header.specs.Refusals.{error_of}
 use Rattle.blob_disk.proofs.Adding.{current_now, cut_so}
 use Rattle.blob_disk.proofs.Outcomes.{at_place}
 use Rattle.blob_disk.proofs.calls.resize.Goals as goal
@@ -17,7 +17,7 @@ returns g c =
     let b = c.args.blob.now in
     let w = c.args.store.now in
     let stream = g.R.Rng.stream (rng_of w) in
-    let answer = refused c.resize.result in
+    let answer = error_of c.resize.result in
     let fate = (resize_fate (config_of w).resize_rate (size_of b) c.args.len stream).0 in
     let es = recorded_resize fate c.args.len answer in
     let now = current_now b w c.requires.here in

@@ -2,7 +2,7 @@ use Rattle.std.proofs.Common.{◌≡◌, ℕ, ◌+◌, List, [], ◌∷◌, ◌+
 use Rattle.std.proofs.lemmas.List.{map_more}
 use Rattle.std.specs.Global.{Global}
 use Rattle.std.specs.Prelude.{Vec, is_ok}
-use Rattle.blob_header.specs.Refusals.{refused}
+use Rattle.blob_header.specs.Refusals.{error_of}
 use Rattle.blob_log.specs.Runs.{Appends, AppendsAll}
 use Rattle.blob_log.specs.Held.{HoldsRecords, record_bytes, acknowledged}
 use Rattle.blob_log.proofs.Running.{appends_more, if_done, if_failed, ok_told}
@@ -28,7 +28,7 @@ loop-entry-preserved g c =
       place = c.append.ensures.place ∙ c.loop-entry.invariant.place;
       ran =
           let one : Appends g.R.Rng.stream c.loop-entry.log c.loop-entry.store entry done c.append.new.self c.append.new.store = record {
-            answer = refused c.append.result;
+            answer = error_of c.append.result;
             is = c.in_ok-done.ensures.0;
             memory = c.in_ok-done.ensures.1;
             may = c.append.ensures.answer;

@@ -1,7 +1,7 @@
 use Rattle.std.proofs.Common.{rules, ◌≡◌, ◌<◌, List, ◌++◌, ◌∷◌, [], ℕ, length, true, false, arith, refl, sym, subst, ap, ◌∙◌}
 use Rattle.std.proofs.lemmas.Grind.{common_steps}
 use Rattle.std.specs.Prelude.{Result, Ok, Err, OnErr, Option, Some, None}
-use Rattle.blob_header.specs.Refusals.{Refusal, refused, refusal_of, Memory}
+use Rattle.blob_header.specs.Refusals.{Refusal, error_of, refusal_of, Memory}
 use Rattle.blob_model.specs.Bytes.{lies}
 use Rattle.blob_model.specs.Files.{Files, all_logged}
 use Rattle.blob_model.specs.Live.{live_written}
@@ -110,12 +110,12 @@ returns-then-entry-clause-answer g c = TooLong (omega (arith, c.if-entry.true))
 
 pub returns-in_err-frame_of-clause-answer : goal.returns-in_err-frame_of-clause-answer
 returns-in_err-frame_of-clause-answer g c =
-    let e : refused c.from_residual.result ≡ Some Memory = first_of (search rules, grind (arith, common_steps)) in
+    let e : error_of c.from_residual.result ≡ Some Memory = first_of (search rules, grind (arith, common_steps)) in
     rw e NoMemory
 
 pub returns-in_err-bytes-clause-answer : goal.returns-in_err-bytes-clause-answer
 returns-in_err-bytes-clause-answer g c =
-    let e : refused c.from_residual-in_err-bytes.result ≡ Some Memory = first_of (search rules, grind (arith, common_steps)) in
+    let e : error_of c.from_residual-in_err-bytes.result ≡ Some Memory = first_of (search rules, grind (arith, common_steps)) in
     rw e NoMemory
 
 pub returns-in_default-clause-answer : goal.returns-in_default-clause-answer
@@ -123,7 +123,7 @@ returns-in_default-clause-answer g c = Uncounted (omega (arith, c.in_default.ens
 
 pub returns-in_err-write_at-clause-answer : goal.returns-in_err-write_at-clause-answer
 returns-in_err-write_at-clause-answer g c =
-    let e : refused c.from_residual-in_err-write_at.result ≡ Some (refusal_of c.in_err-write_at.field-0.0) = search rules in
+    let e : error_of c.from_residual-in_err-write_at.result ≡ Some (refusal_of c.in_err-write_at.field-0.0) = search rules in
     rw e (asked _ _ _ c.in_ok-bytes.bytes _ (c.in_ok-bytes.ensures.ok ∙ c.in_ok-frame_of.ensures) c.in_err-write_at.ensures.allowed)
 
 pub returns-clause-answer : goal.returns-clause-answer

@@ -1,6 +1,6 @@
 use Rattle.std.proofs.Common.{rules, refl, ◌≡◌, Some, None, is_some, true, sym, ap, ◌∙◌, arith}
 use Rattle.std.proofs.lemmas.Bool.{false≢true}
-use Rattle.blob_header.specs.Refusals.{refused, refusal_of, Memory}
+use Rattle.blob_header.specs.Refusals.{error_of, refusal_of, Memory}
 use Rattle.blob_opens.specs.OpenNames.{Accepted, Declined, NoMemory, ended}
 use Rattle.blob_opens.specs.Opens.{names_of}
 use Rattle.blob_names.specs.Names.{with_name}
@@ -9,12 +9,12 @@ use Rattle.blob_opens.proofs.opens.Opens.open.Goals as goal
 
 pub returns-in_err-refusal-clause-answer : goal.returns-in_err-refusal-clause-answer
 returns-in_err-refusal-clause-answer g c =
-    let e : refused c.from_residual.result ≡ Some Memory = search rules in
+    let e : error_of c.from_residual.result ≡ Some Memory = search rules in
     rw e (NoMemory refl)
 
 pub returns-in_err-open_versioned-clause-answer : goal.returns-in_err-open_versioned-clause-answer
 returns-in_err-open_versioned-clause-answer g c =
-    let e : refused c.from_residual-in_err-open_versioned.result ≡ Some (refusal_of c.in_err-open_versioned.field-0.0) = search rules in
+    let e : error_of c.from_residual-in_err-open_versioned.result ≡ Some (refusal_of c.in_err-open_versioned.field-0.0) = search rules in
     let there : is_some ((names_of c.args.self.now).registered c.args.partition.now c.args.name.now) ≡ true = search rules in
     rw e (Declined _ (λ last. absurd (false≢true (sym (ap is_some last.free) ∙ there))) (c.in_err-open_versioned.ensures.allowed, c.in_err-open_versioned.ensures.leaves) c.in_err-open_versioned.ensures.err)
 
@@ -26,7 +26,7 @@ returns-then-is_some-clause-answer g c =
 pub returns-in_err-registration-clause-answer : goal.returns-in_err-registration-clause-answer
 returns-in_err-registration-clause-answer g c =
     let free : (names_of c.args.self.now).registered c.args.partition.now c.args.name.now ≡ None = search rules in
-    let e : refused c.from_residual-in_err-registration.result ≡ Some (refusal_of c.in_err-registration.field-0.0) = search rules in
+    let e : error_of c.from_residual-in_err-registration.result ≡ Some (refusal_of c.in_err-registration.field-0.0) = search rules in
     rw e (unregistered _ _ _ _ _ _ _ _ c.in_err-registration.ensures.refused free refl)
 
 pub returns-in-Ok-clause-answer : goal.returns-in-Ok-clause-answer
