@@ -1,7 +1,7 @@
 // The storage traits and their laws.
 ghost use Rattle.std.specs.Prelude.{◌≡◌, ◌≢◌, ◌⊎◌, ◌+◌, ◌≤◌, ◌<◌, ◌^◌, ◌↔◌, ℕ, List, [], Bool, true, false, Option, Some, None, is_some, IsSome, IsTrue, OnOk, OnErr, IfOk, length, take, drop, option_copied};
 ghost use Rattle.std.specs.Range.{range_inclusive_exhausted};
-ghost use Rattle.blob_model.specs.Bytes.{resized};
+ghost use Rattle.blob_model.specs.Bytes.{resize};
 ghost use Rattle.blob_model.specs.Directory.{Directory, is_current};
 ghost use Rattle.blob_model.specs.Durable.{Durable};
 ghost use Rattle.blob_model.specs.Live.{live_written};
@@ -193,7 +193,7 @@ pub trait Blob<S: Durable> {
     fn resize(&mut self, store: &mut S, len: u64) -> Result<(), Error>
         ensures allowed { allows_resize self.old store.old len (error_of result) }
         ensures leaves { leaves (Resize len) self.old store.old (error_of result) self.new store.new }
-        ensures live { OnOk result (live self.new ≡ resized (live self.old) len) }
+        ensures live { OnOk result (live self.new ≡ resize (live self.old) len) }
         ensures memory { IsMemory result → live self.new ≡ live self.old }
         ensures direct_live { is_direct ≡ true → OnErr result (live self.new ≡ live self.old) }
         ensures durable { S.durable store.new ≡ S.durable store.old }

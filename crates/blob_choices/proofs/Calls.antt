@@ -4,8 +4,8 @@ use Rattle.std.specs.Prelude.{◌&&◌, ◌==◌}
 use Rattle.std.specs.Option.{option_or}
 use Rattle.hex.specs.Hex.{encode_lower}
 use Rattle.rand_core.specs.Stream.{Stream}
-use Rattle.blob_model.specs.Draws.{Row, chosen_by, drawn}
-use Rattle.blob_model.specs.Files.{after_crash, all_logged, all_needs, started}
+use Rattle.blob_model.specs.Draws.{Row, chosen_by, draw_rows}
+use Rattle.blob_model.specs.Files.{after_crash, all_logged, all_needs, start_sync}
 use Rattle.blob_model.specs.Rates.{Rate}
 use Rattle.blob_header.specs.Refusals.{Refusal, Injected, GenerationsExhausted, BlobAlreadyOpen}
 use Rattle.blob_memory.specs.Answers.{read_refusal, sync_refusal, open_refusal, partition_refusal, remove_refusal}
@@ -61,7 +61,7 @@ denied_by v h fails =
 abbrev begun_by : State → ℕ → Held → Bool → Option Refusal → Stream → State
 begun_by v number h fails None left =
     record v {
-      files = elim (denied_by v h fails) [ None ↦ started v.files h.place h.live | Some refusal ↦ v.files ];
+      files = elim (denied_by v h fails) [ None ↦ start_sync v.files h.place h.live | Some refusal ↦ v.files ];
       handles = set v.handles number (Some (held_after v h StartSync None));
       syncs = v.syncs ++ Some (record { outcome = denied_by v h fails }) ∷ [];
       stream = left;
@@ -101,17 +101,17 @@ abbrev crashed_by : State → List Row → Option Refusal → Stream → State
 crashed_by v rows None left = record v { files = after_crash v.files (chosen_by rows); stream = left }
 crashed_by v rows (Some refusal) left = with_stream v left
 
-crashes : (v : State) (s : Stream) (refusal : Option Refusal) (left : Stream) → crashed_by v (drawn s (all_needs v.files.log)).0 refusal left ≡ after (with_stream v s) Crash refusal left
+crashes : (v : State) (s : Stream) (refusal : Option Refusal) (left : Stream) → crashed_by v (draw_rows s (all_needs v.files.log)).0 refusal left ≡ after (with_stream v s) Crash refusal left
 crashes v s None left = refl
 crashes v s (Some refusal) left = refl
 
 decided_crash : (v : State) → IsDecided (outcome v Crash)
 decided_crash v =
     decided_same
-    (λ s. let d = drawn s (all_needs v.files.log) in ((told.Crashed d.0, crashed_by v d.0), d.1))
+    (λ s. let d = draw_rows s (all_needs v.files.log) in ((told.Crashed d.0, crashed_by v d.0), d.1))
     (outcome v Crash)
-    (λ s. ap (λ (next : Option Refusal → Stream → State). ((told.Crashed (drawn s (all_needs v.files.log)).0, next), (drawn s (all_needs v.files.log)).1)) (λ i refusal left. crashes v s refusal left i))
-    (decided_map (λ s. drawn s (all_needs v.files.log)) (λ rows. (told.Crashed rows, crashed_by v rows)) (decided_drawn (all_needs v.files.log)))
+    (λ s. ap (λ (next : Option Refusal → Stream → State). ((told.Crashed (draw_rows s (all_needs v.files.log)).0, next), (draw_rows s (all_needs v.files.log)).1)) (λ i refusal left. crashes v s refusal left i))
+    (decided_map (λ s. draw_rows s (all_needs v.files.log)) (λ rows. (told.Crashed rows, crashed_by v rows)) (decided_drawn (all_needs v.files.log)))
 
 -- The other calls.
 

@@ -5,7 +5,7 @@ use Rattle.std.proofs.lemmas.Bool.{cond-true, eq-eqb}
 use Rattle.rand_core.specs.Stream.{Stream}
 use Rattle.blob_model.specs.Draws.{positions}
 use Rattle.blob_model.specs.Live.{is_idle}
-use Rattle.blob_model.specs.Rates.{Rate, sampled}
+use Rattle.blob_model.specs.Rates.{Rate, sample}
 use Rattle.blob_model.specs.declared.mode.PartialWriteMode.{PartialWriteMode}
 use Rattle.blob_draws.specs.declared.config.Config.{Config}
 use Rattle.blob_draws.specs.declared.config.ResizeConfig.{ResizeConfig}
@@ -38,18 +38,18 @@ decided_write config sync offset bytes =
     (λ _. decided_if (nat_lt (2 ^ 64 - 1) (offset + length bytes)) (λ s. (Uncounted, s)) (drawn_fate config sync offset (length bytes)) (λ _. decided_none Uncounted) (λ _. decided_drawn_fate config sync offset (length bytes)))
 
 -- a partial rate of zero
-never : (rate : Rate) → rate.numerator ≡ 0 → (s : Stream) → sampled rate s ≡ (false, s)
-unfolding sampled
+never : (rate : Rate) → rate.numerator ≡ 0 → (s : Stream) → sample rate s ≡ (false, s)
+unfolding sample
 never rate none s = cond-true (eqb rate.numerator 0) (false, s) _ (eq-eqb rate.numerator 0 none)
 
-decided_partly : (rate : Rate) (size len : ℕ) → rate.numerator ≡ 0 → IsDecided (λ s. partly size len (sampled rate s))
-decided_partly rate size len zero = decided_same (λ s. (Stays, s)) (λ s. partly size len (sampled rate s)) (λ s. sym (ap (partly size len) (never rate zero s))) (decided_none Stays)
+decided_partly : (rate : Rate) (size len : ℕ) → rate.numerator ≡ 0 → IsDecided (λ s. partly size len (sample rate s))
+decided_partly rate size len zero = decided_same (λ s. (Stays, s)) (λ s. partly size len (sample rate s)) (λ s. sym (ap (partly size len) (never rate zero s))) (decided_none Stays)
 
 pub decided_resize : (config : Option ResizeConfig) (size len : ℕ) → IfSome config (λ c. c.partial_rate.numerator ≡ 0) → IsDecided (resize_fate config size len)
 decided_resize None size len none = decided_none (Resizes false)
 decided_resize (Some c) size len none =
-    let survives : Stream → ResizeFate × Stream = λ s. (let e = sampled c.failure_rate s in (Resizes e.0, e.1)) in
-    decided_then (sampled c.failure_rate) (λ fails s. cond fails (partly size len (sampled c.partial_rate s)) (survives s)) (decided_sampled c.failure_rate)
-    (λ s. decided_if (sampled c.failure_rate s).0 (λ r. partly size len (sampled c.partial_rate r)) survives
+    let survives : Stream → ResizeFate × Stream = λ s. (let e = sample c.failure_rate s in (Resizes e.0, e.1)) in
+    decided_then (sample c.failure_rate) (λ fails s. cond fails (partly size len (sample c.partial_rate s)) (survives s)) (decided_sampled c.failure_rate)
+    (λ s. decided_if (sample c.failure_rate s).0 (λ r. partly size len (sample c.partial_rate r)) survives
     (λ _. decided_partly c.partial_rate size len none)
-    (λ _. decided_map (sampled c.failure_rate) (λ b. Resizes b) (decided_sampled c.failure_rate)))
+    (λ _. decided_map (sample c.failure_rate) (λ b. Resizes b) (decided_sampled c.failure_rate)))

@@ -6,7 +6,7 @@ use Rattle.blob_model.specs.Draws.{positions}
 use Rattle.blob_model.specs.Live.{is_idle}
 use Rattle.blob_model.specs.Log.{Write}
 use Rattle.blob_model.specs.declared.mode.PartialWriteMode.{PartialWriteMode}
-use Rattle.blob_model.specs.Rates.{Rate, sampled}
+use Rattle.blob_model.specs.Rates.{Rate, sample}
 use Rattle.blob_draws.specs.declared.config.Config.{Config}
 use Rattle.blob_draws.specs.declared.config.ResizeConfig.{ResizeConfig}
 use Rattle.blob_draws.specs.declared.config.WriteConfig.{WriteConfig}
@@ -14,7 +14,7 @@ use Rattle.blob_draws.specs.declared.config.WriteConfig.{WriteConfig}
 -- one draw; a rate that isn't set takes no word and is never true
 abbrev pub draw : Option Rate → Stream → Bool × Stream
 draw None stream = (false, stream)
-draw (Some rate) stream = sampled rate stream
+draw (Some rate) stream = sample rate stream
 
 -- how the retained bytes of a write are selected, if the retention rate is set and isn't zero
 abbrev pub retention : Option WriteConfig → Option (PartialWriteMode × Rate)
@@ -67,8 +67,8 @@ partly size len d =
 abbrev pub resize_fate : Option ResizeConfig → ℕ → ℕ → Stream → ResizeFate × Stream
 resize_fate None size len stream = (Resizes false, stream)
 resize_fate (Some c) size len stream =
-    let d = sampled c.failure_rate stream in
-    if d.0 then partly size len (sampled c.partial_rate d.1) else (let e = sampled c.failure_rate d.1 in (Resizes e.0, e.1))
+    let d = sample c.failure_rate stream in
+    if d.0 then partly size len (sample c.partial_rate d.1) else (let e = sample c.failure_rate d.1 in (Resizes e.0, e.1))
 
 -- a write as it is recorded
 abbrev pub issued : ℕ → ℕ → List ℕ → WriteConfig → Write

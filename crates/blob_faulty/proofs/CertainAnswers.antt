@@ -6,7 +6,7 @@ use Rattle.std.proofs.lemmas.Bool.Decides.{nat_tests}
 use Rattle.rand_core.specs.Stream.{Stream}
 use Rattle.blob_model.specs.Live.{is_idle}
 use Rattle.blob_model.specs.declared.mode.PartialWriteMode.{PartialWriteMode}
-use Rattle.blob_model.specs.Rates.{Rate, sampled}
+use Rattle.blob_model.specs.Rates.{Rate, sample}
 use Rattle.blob_header.specs.Refusals.{Refusal, OffsetOverflow, Injected}
 use Rattle.blob_model.specs.Runs.{runs}
 use Rattle.blob_draws.specs.declared.config.Config.{Config}
@@ -30,20 +30,20 @@ is_same : (n m : ℕ) → n ≡ m → (n == m) ≡ true
 is_same n m h = grind (arith, nat_tests)
 
 pub never_drawn : (rate : Option Rate) (stream : Stream) → IsNever rate → draw rate stream ≡ (false, stream)
-unfolding sampled
+unfolding sample
 never_drawn None stream never = refl
 never_drawn (Some rate) stream never = cond-true (rate.numerator == 0) _ _ (is_zero rate.numerator never)
 
 pub always_drawn : (rate : Option Rate) (stream : Stream) → IsAlways rate → draw rate stream ≡ (true, stream)
-unfolding sampled
+unfolding sample
 always_drawn None stream always = absurd always
 always_drawn (Some rate) stream always = cond-false (rate.numerator == 0) _ _ (isnt_zero rate.numerator always.0) ∙ cond-true (rate.numerator == rate.denominator) _ _ (is_same rate.numerator rate.denominator always.1)
 
 never_resized : (config : Option ResizeConfig) (size len : ℕ) (stream : Stream) → IsNever (resize_failure config) → (resize_fate config size len stream).0 ≡ Resizes false
 never_resized None size len stream never = refl
 never_resized (Some c) size len stream never =
-    let drawn : sampled c.failure_rate stream ≡ (false, stream) = never_drawn (Some c.failure_rate) stream never in
-    ap (λ (d : Bool × Stream). (cond d.0 (partly size len (sampled c.partial_rate d.1)) (Resizes (sampled c.failure_rate d.1).0, (sampled c.failure_rate d.1).1)).0) drawn ∙ ap (λ (d : Bool × Stream). Resizes d.0) drawn
+    let drawn : sample c.failure_rate stream ≡ (false, stream) = never_drawn (Some c.failure_rate) stream never in
+    ap (λ (d : Bool × Stream). (cond d.0 (partly size len (sample c.partial_rate d.1)) (Resizes (sample c.failure_rate d.1).0, (sample c.failure_rate d.1).1)).0) drawn ∙ ap (λ (d : Bool × Stream). Resizes d.0) drawn
 
 abbrev is_resized : ResizeFate → Bool
 is_resized (Resizes survives) = true
@@ -57,8 +57,8 @@ either_fails false r s = refl
 always_unresized : (config : Option ResizeConfig) (size len : ℕ) (stream : Stream) → IsAlways (resize_failure config) → is_resized (resize_fate config size len stream).0 ≡ false
 always_unresized None size len stream always = absurd always
 always_unresized (Some c) size len stream always =
-    let d = sampled c.partial_rate stream in
-    ap (λ (d : Bool × Stream). is_resized (cond d.0 (partly size len (sampled c.partial_rate d.1)) (Resizes (sampled c.failure_rate d.1).0, (sampled c.failure_rate d.1).1)).0) (always_drawn (Some c.failure_rate) stream always)
+    let d = sample c.partial_rate stream in
+    ap (λ (d : Bool × Stream). is_resized (cond d.0 (partly size len (sample c.partial_rate d.1)) (Resizes (sample c.failure_rate d.1).0, (sample c.failure_rate d.1).1)).0) (always_drawn (Some c.failure_rate) stream always)
     ∙ either_fails (d.0 && nat_lt 1 (max size len - min size len)) (size_between (min size len) (max size len) d.1) d.1
 
 -- the outcome and the rest of the stream after the draws of a write that doesn't fail

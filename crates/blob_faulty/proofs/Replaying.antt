@@ -9,9 +9,9 @@ use Rattle.blob_model.specs.Durable.{Durable, with_changed}
 use Rattle.blob_model.specs.Holes.{Holes, in_holes, need_in}
 use Rattle.blob_model.specs.Log.{Choices, Write}
 use Rattle.blob_model.specs.Order.{ListAt, held_at, has_list}
-use Rattle.blob_model.specs.Pending.{Pending, has_marker, replay, taken, end_of, ends}
+use Rattle.blob_model.specs.Pending.{Pending, has_marker, replay, bare_choices, end_of, ends}
 use Rattle.blob_model.specs.Places.{Place, same_place}
-use Rattle.blob_model.specs.Runs.{picked}
+use Rattle.blob_model.specs.Runs.{is_chosen}
 use Rattle.blob_model.specs.SamePlace.{same_place_exact}
 use Rattle.blob_model.specs.Stands.{replayed_at}
 use Rattle.blob_model.proofs.Agrees.{overlay_same}
@@ -71,7 +71,7 @@ covered_at start end o len s e i k is_s is_e h a b c = same_test (between s i k)
 
 -- the choices that are applied are those of the bare bytes
 pub masked : (w : Write) (hs : Holes) (t : Choices) (kept : List Bool) (x : List ℕ) → ((i : ℕ) → i < length w.bytes → get_or kept i false ≡ (not (in_holes hs (w.offset + i)) && t w.number i)) →
-    overlay_by x w.offset w.bytes (picked kept) ≡ overlay_by x w.offset w.bytes (taken (need_in w hs) t)
+    overlay_by x w.offset w.bytes (is_chosen kept) ≡ overlay_by x w.offset w.bytes (bare_choices (need_in w hs) t)
 masked w hs t kept x h = overlay_same x w.offset w.bytes _ _ (λ i l. h i l ∙ sym (ap (λ (b : Bool). (b && not (in_holes hs (w.offset + i))) && t w.number i) (lies_in w.offset (length w.bytes) (w.offset + i) (omega arith) (omega arith))))
 
 -- an incarnation that ended has none

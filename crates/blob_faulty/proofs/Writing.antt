@@ -1,14 +1,14 @@
 -- Steps of writes, on what is seen of a handle and its wrapper.
 use Rattle.std.proofs.Common.{◌≡◌, ℕ, ◌+◌, ◌<◌, Bool, true, false, true≢false, List, [], ◌∷◌, ◌++◌, length, Option, Some, None, refl, sym, ◌∙◌, ap, ap₂, subst, arith}
 use Rattle.std.specs.Prelude.{Result, Ok, Err, OnErr}
-use Rattle.blob_model.specs.Bytes.{overlay, written}
+use Rattle.blob_model.specs.Bytes.{overlay, write_live}
 use Rattle.blob_model.specs.Directory.{Directory, is_current}
 use Rattle.blob_model.specs.Durable.{Durable, with_at, with_changed}
-use Rattle.blob_model.specs.Files.{Files, logged, all_logged}
+use Rattle.blob_model.specs.Files.{Files, log_entry, all_logged}
 use Rattle.blob_model.specs.Log.{Entry, Loose, Kept, Resized, Write, need_of}
 use Rattle.blob_model.specs.Live.{live_written, all_written}
 use Rattle.blob_model.specs.Order.{held_at}
-use Rattle.blob_model.specs.Pending.{Waiting, Cut, laid}
+use Rattle.blob_model.specs.Pending.{Waiting, Cut, apply_durable}
 use Rattle.blob_model.specs.Places.{Place}
 use Rattle.blob_header.specs.Refusals.{Refusal, WriteFailed, error_of}
 use Rattle.blob_header.specs.declared.error.Error.{Error}
@@ -54,7 +54,7 @@ loose_logs old new w some is names same lists write marker files below s =
 
 -- a durable range
 pub kept_logs : {R : Type 0} (old new : View R) (p : ℕ) (b : List ℕ) → 0 < length b → new.directory ≡ old.directory → new.durable ≡ with_changed old.durable old.place (λ x. overlay x p b) →
-    ((a : Place) → held_at new.held a ≡ with_at (held_at old.held) old.place (laid p b (held_at old.held old.place)) a) →
+    ((a : Place) → held_at new.held a ≡ with_at (held_at old.held) old.place (apply_durable p b (held_at old.held old.place)) a) →
     new.next_write ≡ old.next_write → new.next_marker ≡ old.next_marker → Logs old new (Kept p b ∷ [])
 kept_logs old new p b some names over lists write marker files below s =
     told new _ old.directory old.next_write old.next_marker names write marker
@@ -76,7 +76,7 @@ logs_then old mid new e es place names first later files below s =
     subst (λ (o : Place). (f : Files) → o.number < mid.directory.next → ViewFor mid f → ViewFor new (all_logged f o es)) place later in
     let step : (f : Files) → old.place.number < old.directory.next → ViewFor mid f → ViewFor new (all_logged f old.place es) =
     subst (λ (d : Directory). (f : Files) → old.place.number < d.next → ViewFor mid f → ViewFor new (all_logged f old.place es)) names there in
-    step (logged files old.place e) below (first files below s)
+    step (log_entry files old.place e) below (first files below s)
 
 -- the next of the runs that are left
 pub one_less : {R : Type 0} (direct : Bool) (old mid new : View R) (all : List Run) (r : Run) (left : List Run) (answer : Option Refusal) → answer ≡ None →
@@ -227,6 +227,6 @@ drawn_adds {S} {R} {O} origin names bytes w rng o es none files below s =
     subst (λ (entries : List Entry). Stands origin names bytes (record w { rng = rng }) (all_logged files o entries)) (sym none) s
 
 -- a SYNC write of some bytes that was done
-pub some_written : (live : List ℕ) (p : ℕ) (b : List ℕ) → 0 < length b → live_written true live p b ≡ written live p b
+pub some_written : (live : List ℕ) (p : ℕ) (b : List ℕ) → 0 < length b → live_written true live p b ≡ write_live live p b
 some_written live p [] some = absurd (omega arith)
 some_written live p (x ∷ b) some = refl

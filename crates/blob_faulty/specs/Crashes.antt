@@ -2,7 +2,7 @@
 use Rattle.std.specs.Prelude.{◌≡◌, ◌<◌, ◌+◌, ℕ, List, Bool, false, not, ◌&&◌, length, slice_index_or, Vec}
 use Rattle.std.specs.Global.{Global}
 use Rattle.rand_core.specs.Stream.{Stream}
-use Rattle.blob_model.specs.Draws.{drawn, chosen_by}
+use Rattle.blob_model.specs.Draws.{draw_rows, chosen_by}
 use Rattle.blob_model.specs.Durable.{Durable, with_changed}
 use Rattle.blob_model.specs.Files.{Files, all_needs, after_crash}
 use Rattle.blob_model.specs.Holes.{in_holes}
@@ -28,7 +28,7 @@ chosen_in rows = chosen_by (rows_in rows)
 
 -- if the wrapper represented files, the generator drew these rows, for the writes that need a draw in their logs
 abbrev pub CrashDraws : {R : Type 0} → (R → Stream) → OverMemory R → OverMemory R → Selections → Type 0
-CrashDraws stream before after kept = (files : Files) → IsFor before files → (table_of kept, stream (rng_of after)) ≡ drawn (stream (rng_of before)) (all_needs files.log)
+CrashDraws stream before after kept = (files : Files) → IsFor before files → (table_of kept, stream (rng_of after)) ≡ draw_rows (stream (rng_of before)) (all_needs files.log)
 
 -- and it represents the files after a crash that keeps these
 abbrev pub CrashLeaves : {R : Type 0} → OverMemory R → OverMemory R → Selections → Type 0

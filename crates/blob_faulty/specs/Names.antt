@@ -5,7 +5,7 @@ use Rattle.std.specs.Range.{range_inclusive_exhausted}
 use Rattle.std.specs.declared.ops.RangeInclusive.{RangeInclusive}
 use Rattle.rand_core.specs.Stream.{Stream}
 use Rattle.blob_base.specs.declared.storage.Durable as stores
-use Rattle.blob_model.specs.Directory.{Directory, removed}
+use Rattle.blob_model.specs.Directory.{Directory, directory_without}
 use Rattle.blob_model.specs.Durable.{Durable, durable_without}
 use Rattle.blob_model.specs.Files.{Files, after_open, after_remove, is_removed_by}
 use Rattle.blob_model.specs.Opening.{IsOpened}
@@ -75,7 +75,7 @@ Steps place directory durable before after step = (files : Files) →
 
 -- the directory, the durable bytes and the files without what a removal takes away
 abbrev pub RemovesNames : {S R O : Type 0} → stores.Ghosts S O → Storage S R O → Storage S R O → List ℕ → Option (List ℕ) → Type 0
-RemovesNames store before after p n = store.directory (inner_of after) ≡ removed (store.directory (inner_of before)) p n
+RemovesNames store before after p n = store.directory (inner_of after) ≡ directory_without (store.directory (inner_of before)) p n
 
 abbrev pub RemovesBytes : {S R O : Type 0} → stores.Ghosts S O → Storage S R O → Storage S R O → List ℕ → Option (List ℕ) → Type 0
 RemovesBytes store before after p n = store.durable (inner_of after) ≡ durable_without (store.durable (inner_of before)) p n
@@ -120,7 +120,7 @@ module _ {S R O : Type 0} (store : stores.Ghosts S O) (stream : R → Stream) wh
 
   abbrev pub DoneRemovals : (S → List ℕ → Option (List ℕ) → Option Refusal → S → Type 0) → Type 0
   DoneRemovals asked = (before after : Storage S R O) (p : List ℕ) (n : Option (List ℕ)) →
-      store.directory (inner_of after) ≡ removed (store.directory (inner_of before)) p n → store.durable (inner_of after) ≡ durable_without (store.durable (inner_of before)) p n →
+      store.directory (inner_of after) ≡ directory_without (store.directory (inner_of before)) p n → store.durable (inner_of after) ≡ durable_without (store.durable (inner_of before)) p n →
       RemoveLeaves store.place stream (asked (inner_of before) p n None) None (is_removed_by (store.directory (inner_of before)) p n) before after →
       Steps store.place store.directory store.durable before after (λ files. after_remove files p n)
 

@@ -4,7 +4,7 @@ use Rattle.blob_model.specs.Directory.{Directory}
 use Rattle.blob_model.specs.Durable.{Durable}
 use Rattle.blob_model.specs.Files.{Files, all_logged}
 use Rattle.blob_model.specs.Log.{Entry, need_of}
-use Rattle.blob_model.specs.Pending.{Pending, Waiting, finished}
+use Rattle.blob_model.specs.Pending.{Pending, Waiting, finish}
 use Rattle.blob_model.specs.Places.{Place}
 use Rattle.blob_model.specs.Stands.{StandsFor}
 use Rattle.blob_draws.specs.declared.config.Config.{Config}
@@ -36,7 +36,7 @@ pending_of place w = list_of place w.lists.all.lists.items
 -- a pending list after the started sync with a marker, if there is one, is finished
 abbrev pub finished_by : Option ℕ → List Pending → List Pending
 finished_by None list = list
-finished_by (Some marker) list = finished marker list
+finished_by (Some marker) list = finish marker list
 
 -- the numbers still to be given, and the configuration, stay
 pub record KeepsNumbers {S R O : Type 0} (old new : Storage S R O) : Type 0 where

@@ -1,6 +1,6 @@
 -- The effect of a write on a handle and on its wrapper.
 use Rattle.std.specs.Prelude.{◌≡◌, ◌≢◌, ◌⊎◌, ℕ, ◌<◌, ◌+◌, max, Bool, true, false, List, [], ◌∷◌, ◌++◌, length, Option, Some, None, IsSome}
-use Rattle.blob_model.specs.Bytes.{overlay, resized}
+use Rattle.blob_model.specs.Bytes.{overlay, resize}
 use Rattle.blob_model.specs.Directory.{Directory, is_current}
 use Rattle.blob_model.specs.Durable.{Durable, with_changed, with_at}
 use Rattle.blob_model.specs.Files.{Files, all_logged}
@@ -203,7 +203,7 @@ pub record LeavesRuns {R : Type 0} (old new : View R) (all left : List Run) : Ty
 -- A resize.
 
 abbrev pub live_cut : List ℕ → ℕ → Option Refusal → List ℕ
-live_cut live len None = resized live len
+live_cut live len None = resize live len
 live_cut live len (Some refusal) = live
 
 -- with what is recorded of it
@@ -212,7 +212,7 @@ cut len entries v = record { live = live_cut v.live len; durable = v.durable; si
 
 -- by its drawn outcome
 pub record ResizedBy {R : Type 0} (fate : ResizeFate) (direct : Bool) (old new : View R) (len : ℕ) (answer : Option Refusal) : Type 0 where
-  pub done : answer ≡ None → HasBytes new (resized old.live len) old.durable len
+  pub done : answer ≡ None → HasBytes new (resize old.live len) old.durable len
   pub recorded : answer ≡ None → Logs old new (recorded_resize fate len None)
   -- with any result, by a store that injects nothing
   pub live : direct ≡ true → new.live ≡ live_of_resize fate old.live len answer

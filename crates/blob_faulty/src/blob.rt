@@ -1,7 +1,7 @@
 //! A handle of the wrapper.
 ghost use Rattle.std.specs.Prelude.{◌≡◌, ◌≢◌, ◌+◌, ◌≤◌, ◌++◌, ◌∷◌, List, ℕ, [], Bool, true, false, Option, Some, None, IsSome, OnOk, OnErr, IfOk, length, take, drop};
 ghost use Rattle.std.proofs.lemmas.Bool.{false≢true};
-ghost use Rattle.blob_model.specs.Bytes.{overlay, resized};
+ghost use Rattle.blob_model.specs.Bytes.{overlay, resize};
 ghost use Rattle.blob_model.specs.Directory.{is_current};
 ghost use Rattle.blob_model.specs.Durable.{with_changed, with_at};
 ghost use Rattle.blob_base.specs.Handles.{outcome_of, marker_of};

@@ -6,7 +6,7 @@ use Rattle.std.specs.Cmp.Lexicographic.{bytes_decides}
 use Rattle.std.proofs.lemmas.Bool.{cond_both, cond-false, false≢true}
 use Rattle.rand_core.specs.Stream.{Stream}
 use Rattle.blob_header.specs.declared.layout.Layout.{Layout}
-use Rattle.blob_model.specs.Directory.{Directory, File, Raw, Incarnation, removed}
+use Rattle.blob_model.specs.Directory.{Directory, File, Raw, Incarnation, directory_without}
 use Rattle.blob_model.specs.Files.{Files, with_opening, after_open, raw_again, durable_at}
 use Rattle.blob_header.specs.Header.{region}
 use Rattle.blob_model.specs.Opening.{Opening, Continues, Begins, Declines, opening, place_of}
@@ -79,7 +79,7 @@ of_again bytes p n (Some (Incarnation number layout v)) version is =
 raw_of : (file : Option File) (version : ℕ) → ((layout : Layout) × (data_bytes : List ℕ) × (file ≡ Some (Raw (region layout version ++ data_bytes)))) → IsOf file version
 raw_of file version (layout, data_bytes, same) = subst (λ (x : Option File). IsOf x version) (sym same) (layout, data_bytes, refl)
 
-of_removed : (d : Directory) (q : List ℕ) (m : Option (List ℕ)) (p n : List ℕ) (version : ℕ) → removes (Remove q m) None p n ≡ false → IsOf (d.file p n) version → IsOf ((removed d q m).file p n) version
+of_removed : (d : Directory) (q : List ℕ) (m : Option (List ℕ)) (p n : List ℕ) (version : ℕ) → removes (Remove q m) None p n ≡ false → IsOf (d.file p n) version → IsOf ((directory_without d q m).file p n) version
 of_removed d q None p n version stays is = subst (λ (x : Option File). IsOf x version) (sym (cond-false (bytes_eq q p) None (d.file p n) stays)) is
 of_removed d q (Some m) p n version stays is = by_tests (bytes_eq q p) (bytes_eq m n) stays where
   by_tests : (b c : Bool) → (b && c) ≡ false → IsOf (cond b (cond c None (d.file p n)) (d.file p n)) version

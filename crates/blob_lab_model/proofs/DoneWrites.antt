@@ -8,7 +8,7 @@ use Rattle.std.proofs.lemmas.Bool.{false≢true}
 use Rattle.std.proofs.lemmas.Option.{none-some}
 use Rattle.rand_core.specs.Stream.{Stream}
 use Rattle.std.specs.Option.{option_or}
-use Rattle.blob_model.specs.Bytes.{written}
+use Rattle.blob_model.specs.Bytes.{write_live}
 use Rattle.blob_model.specs.Directory.{Directory}
 use Rattle.blob_model.specs.Log.{Kept}
 use Rattle.blob_model.specs.Places.{Place}
@@ -87,7 +87,7 @@ module _ (v : State) (h : Held) (offset : ℕ) (bytes : List ℕ) (done : IsDone
   pub kept_whole : recorded_write v.config v.files.next_write v.stream true offset bytes None ≡ Kept offset bytes ∷ []
   kept_whole = ap (λ (f : WriteFate). (write_changes f (retention v.config.write_rate) true offset bytes None).entries v.files.next_write) done
 
-  pub live_whole : live_of_write v.config v.stream true h.live offset bytes None ≡ written h.live offset bytes
+  pub live_whole : live_of_write v.config v.stream true h.live offset bytes None ≡ write_live h.live offset bytes
   live_whole = ap (λ (f : WriteFate). (write_changes f (retention v.config.write_rate) true offset bytes None).live h.live) done
 
   pub size_whole : size_of_write v.config v.stream true h.size offset bytes None ≡ max h.size (offset + length bytes)

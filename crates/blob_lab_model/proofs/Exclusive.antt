@@ -8,7 +8,7 @@ use Rattle.rand_core.specs.Stream.{Stream}
 use Rattle.std.specs.Option.{option_or}
 use Rattle.blob_model.specs.Directory.{Directory, File, Raw, Incarnation, current, place_in, is_current, is_that}
 use Rattle.blob_header.specs.Header.{data_start}
-use Rattle.blob_model.specs.Files.{Files, admitted, after_open, reopened}
+use Rattle.blob_model.specs.Files.{Files, admit, after_open, reopen}
 use Rattle.blob_model.specs.Opening.{place_of}
 use Rattle.blob_model.specs.Places.{Place}
 use Rattle.blob_header.specs.Refusals.{Refusal, Memory, BlobAlreadyOpen, GenerationsExhausted}
@@ -121,7 +121,7 @@ new_handle f s p n (Some o) of h new =
 
 exclusive_opened : (v : State) (p n : List ℕ) (versions : AcceptedVersions) (left : Stream) (refusal : Option Refusal) → (refusal ≡ None → v.names.registered p n ≡ None) → Exclusive v → Exclusive (exclusively_opened v p n versions refusal)
 exclusive_opened v p n versions left None free x =
-    let f = admitted (after_open v.files p n versions.0 versions.1) p n in
+    let f = admit (after_open v.files p n versions.0 versions.1) p n in
     let slot = option_map (held_on f (Some (record { partition = p; name = n; number = v.names.next }))) (current f.directory p n) in
     added f.directory v.names v.handles p n slot (new_handle f v.names p n (current f.directory p n) (current_of f.directory p n)) (free refl)
     (aged v.files.directory f.directory v.names v.handles (ages v (Open p n (Some versions)) None left) x)
@@ -157,7 +157,7 @@ exclusive_crashed v (Some refusal) x = x
 -- no incarnation is current in a rebuilt store
 exclusive_rebuilt : (v : State) (left : Stream) → Exclusive v → Exclusive (rebuilt v)
 exclusive_rebuilt v left x =
-    let y = aged v.files.directory (reopened v.files).directory v.names v.handles (ages v Reopen None left) x in
+    let y = aged v.files.directory (reopen v.files).directory v.names v.handles (ages v Reopen None left) x in
     record {
       opens = λ i h here now. absurd (false≢true (sym (none_current v.files h.place) ∙ now));
       below = y.below;
@@ -173,7 +173,7 @@ exclusive_after v (Configure config) answered left x strict answers = x
 exclusive_after v (Open p n None) answered left x strict answers = x
 exclusive_after v (Open p n (Some versions)) answered left x strict answers = exclusive_opened v p n versions left (refused_by answered) (open_free v p n versions answered left answers) x
 exclusive_after v (OpenLoose p n versions) answered left x strict answers = absurd (false≢true (sym strict))
-exclusive_after v (Admit p n) answered left x strict answers = aged v.files.directory (admitted v.files p n).directory v.names v.handles (ages v (Admit p n) None left) x
+exclusive_after v (Admit p n) answered left x strict answers = aged v.files.directory (admit v.files p n).directory v.names v.handles (ages v (Admit p n) None left) x
 exclusive_after v (Close number) answered left x strict answers = exclusive_closed v number (kept_at v.handles number) refl x
 exclusive_after v (Through number ask) answered left x strict answers = exclusive_asked v number (kept_at v.handles number) ask (refused_by answered) refl x
 exclusive_after v (Finish number) answered left x strict answers = x

@@ -5,7 +5,7 @@ use Rattle.std.specs.Str.{bytes_eq}
 use Rattle.std.proofs.lemmas.Bool.{cond_both, false≢true, true_from_ne_false}
 use Rattle.std.proofs.lemmas.List.Elements.{All-set, All-push, All-weaker}
 use Rattle.std.proofs.lemmas.Option.{none-some, same_Some}
-use Rattle.blob_model.specs.Directory.{Directory, File, is_current, is_that, removed}
+use Rattle.blob_model.specs.Directory.{Directory, File, is_current, is_that, directory_without}
 use Rattle.blob_model.specs.Places.{Place}
 use Rattle.std.specs.Prelude.{option_and_then}
 use Rattle.blob_lab_model.specs.Steps.{unregistered}
@@ -145,10 +145,10 @@ put_back d s handles number h g here place registration x =
 -- A removal.
 
 -- a name with a current incarnation afterwards isn't ended
-ended_open : (d : Directory) (s : OpenNames) (p : List ℕ) (n : Option (List ℕ)) (o : Place) (registration : Option Registration) → is_current (removed d p n) o ≡ true → IsOpenBy s o registration → IsOpenBy (ended s p n) o registration
+ended_open : (d : Directory) (s : OpenNames) (p : List ℕ) (n : Option (List ℕ)) (o : Place) (registration : Option Registration) → is_current (directory_without d p n) o ≡ true → IsOpenBy s o registration → IsOpenBy (ended s p n) o registration
 ended_open d s p n o registration now is_open = record { by = is_open.by; held = is_open.held; partition = is_open.partition; name = is_open.name; number = number n now }
   where
-    number : (n : Option (List ℕ)) → is_current (removed d p n) o ≡ true → (ended s p n).registered o.partition o.name ≡ Some is_open.by.number
+    number : (n : Option (List ℕ)) → is_current (directory_without d p n) o ≡ true → (ended s p n).registered o.partition o.name ≡ Some is_open.by.number
     number (Some n) now = with_at_is s.registered p n o.partition o.name None (Some is_open.by.number)
         (λ partition name.
         let file : cond (bytes_eq p o.partition) (cond (bytes_eq n o.name) None (d.file o.partition o.name)) (d.file o.partition o.name) ≡ None =
@@ -159,9 +159,9 @@ ended_open d s p n o registration now is_open = record { by = is_open.by; held =
         (λ partition. absurd (false≢true (sym (ap (λ b. is_that (cond b None (d.file o.partition o.name)) o.number o.start) partition) ∙ now)))
         (λ _. is_open.number)
 
-pub ended_names : (d : Directory) (s : OpenNames) (handles : List (Option Held)) (p : List ℕ) (n : Option (List ℕ)) → Ages d (removed d p n) → AreExclusive d s handles → AreExclusive (removed d p n) (ended s p n) handles
+pub ended_names : (d : Directory) (s : OpenNames) (handles : List (Option Held)) (p : List ℕ) (n : Option (List ℕ)) → Ages d (directory_without d p n) → AreExclusive d s handles → AreExclusive (directory_without d p n) (ended s p n) handles
 ended_names d s handles p n ages x =
-    let y = aged d (removed d p n) s handles ages x in
+    let y = aged d (directory_without d p n) s handles ages x in
     record {
       opens = λ i h here now. ended_open d s p n h.place h.registration now (y.opens i h here now);
       below = y.below;

@@ -1,8 +1,8 @@
 -- Each call that doesn't touch a fixed byte keeps it fixed.
 use Rattle.std.proofs.Common.{◌≡◌, ℕ, ◌<◌, ◌≤◌, List, [], false, Option, Some, None, refl}
 use Rattle.rand_core.specs.Stream.{Stream}
-use Rattle.blob_model.specs.Draws.{chosen_by, drawn}
-use Rattle.blob_model.specs.Files.{log_of, all_needs, after_open, admitted}
+use Rattle.blob_model.specs.Draws.{chosen_by, draw_rows}
+use Rattle.blob_model.specs.Files.{log_of, all_needs, after_open, admit}
 use Rattle.blob_model.specs.Places.{Place}
 use Rattle.blob_header.specs.Refusals.{Refusal, BlobAlreadyOpen}
 use Rattle.blob_script.specs.Acts.{Ask, AcceptedVersions, Act, Configure, Open, OpenLoose, Admit, Close, Through, Finish, Remove, Scan, Crash, Reopen}
@@ -32,7 +32,7 @@ module _ (v : State) (b : Byte) (sound : IsSound v) (firm : HasFirm v b) where
   exclusive : (p n : List ℕ) (versions : AcceptedVersions) (refusal : Option Refusal) → HasFirm (exclusively_opened v p n versions refusal) b
   exclusive p n versions None =
       let f = after_open v.files p n versions.0 versions.1 in
-      firm_held (admitted f p n) v.handles p n (Some (record { partition = p; name = n; number = v.names.next })) b (firm_admitted f v.handles p n b (opens p n versions))
+      firm_held (admit f p n) v.handles p n (Some (record { partition = p; name = n; number = v.names.next })) b (firm_admitted f v.handles p n b (opens p n versions))
   exclusive p n versions (Some (BlobAlreadyOpen q m)) = opens p n versions
   exclusive p n versions (Some refusal) = firm
 
@@ -49,7 +49,7 @@ module _ (v : State) (b : Byte) (sound : IsSound v) (firm : HasFirm v b) where
   removes p n (Some refusal) out = firm
 
   crashes : (refusal : Option Refusal) → HasFirm (crash_step v refusal) b
-  crashes None = firm_crashed v.files v.handles (chosen_by (drawn v.stream (all_needs v.files.log)).0) b firm
+  crashes None = firm_crashed v.files v.handles (chosen_by (draw_rows v.stream (all_needs v.files.log)).0) b firm
   crashes (Some refusal) = firm
 
   pub firm_after : (act : Act) (refusal : Option Refusal) (left : Stream) → reaches v act refusal b ≡ false → HasFirm (after v act refusal left) b

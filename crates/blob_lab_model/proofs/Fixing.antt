@@ -6,7 +6,7 @@ use Rattle.std.proofs.lemmas.Option.{same_Some}
 use Rattle.rand_core.specs.Stream.{Stream}
 use Rattle.blob_header.specs.declared.layout.Layout.{Layout}
 use Rattle.blob_model.specs.Directory.{Directory, File, Raw, Incarnation, current, place_in, is_that, is_current}
-use Rattle.blob_model.specs.Files.{Files, all_logged, published, admitted, admitted_at, after_open, durable_at}
+use Rattle.blob_model.specs.Files.{Files, all_logged, publish, admit, admitted_at, after_open, durable_at}
 use Rattle.blob_model.specs.Log.{Entry}
 use Rattle.blob_model.specs.Persistence.{HasByte, IsFixed}
 use Rattle.blob_model.specs.Places.{Place, same_place}
@@ -145,7 +145,7 @@ module _ (v : State) (p n : List ℕ) (versions : AcceptedVersions) (answered : 
       let names = of_parts v.files.directory b p n own in
       let file : found.directory.file b.partition b.name ≡ Some (Incarnation number layout version) = sym (ap (λ (d : Directory). d.file b.partition b.name) (admitted_directory found p n)) ∙ e in
       let here : current found.directory p n ≡ Some o = (λ i. current found.directory (names.0 i) (names.1 i)) ∙ ap (place_in b.partition b.name) file in
-      let same : admitted found p n ≡ published found o (durable_at found o) = ap (admitted_at found) here in
+      let same : admit found p n ≡ publish found o (durable_at found o) = ap (admitted_at found) here in
       let kept : durable_at opened.files o ≡ durable_at found o = ap (λ (f : Files). durable_at f o) same ∙ durable_published found o (durable_at found o) o ∙ cond-true (same_place o o) _ _ (same_self o) in
       subst (λ (f : Files). IsFixed b.position b.value f o) (sym same) (fixed_by_open found o b.position b.value (subst (λ (y : List ℕ). HasByte b.position b.value y) kept has))
 

@@ -3,7 +3,7 @@ use Rattle.std.proofs.Common.{◌≡◌, ℕ, ◌<◌, ◌≤◌, ◌++◌, List
 use Rattle.std.proofs.lemmas.List.Elements.{All-head, All-tail}
 use Rattle.rand_core.specs.Stream.{Stream}
 use Rattle.blob_model.specs.Directory.{current}
-use Rattle.blob_model.specs.Files.{Files, log_of, logged, all_logged, published, admitted, admitted_at, with_opening, after_open, after_remove, is_removed_by, durable_at}
+use Rattle.blob_model.specs.Files.{Files, log_of, log_entry, all_logged, publish, admit, admitted_at, with_opening, after_open, after_remove, is_removed_by, durable_at}
 use Rattle.blob_model.specs.Log.{Entry}
 use Rattle.blob_model.specs.Opening.{Opening, Continues, Begins, Declines, opening}
 use Rattle.blob_model.specs.Places.{Place, same_place}
@@ -34,12 +34,12 @@ IsFresh f = (o : Place) → f.directory.next ≤ o.number → log_of f.log o ≡
 fresh_all : (f : Files) (o : Place) (es : List Entry) → o.number < f.directory.next → IsFresh f → IsFresh (all_logged f o es)
 fresh_all f o [] below fresh = fresh
 fresh_all f o (e ∷ es) below fresh =
-    fresh_all (logged f o e) o es below (λ a past. still_fresh o a f.directory.next _ (log_of f.log a) (log_of f.log o ++ e ∷ []) below past (log_push_at f.log e o a) (fresh a past))
+    fresh_all (log_entry f o e) o es below (λ a past. still_fresh o a f.directory.next _ (log_of f.log a) (log_of f.log o ++ e ∷ []) below past (log_push_at f.log e o a) (fresh a past))
 
-fresh_published : (f : Files) (o : Place) (x : List ℕ) → IsFresh f → IsFresh (published f o x)
+fresh_published : (f : Files) (o : Place) (x : List ℕ) → IsFresh f → IsFresh (publish f o x)
 fresh_published f o x fresh a past = still_none (same_place o a) _ (log_of f.log a) (log_without f.log (same_place o) a) (fresh a past)
 
-fresh_admitted : (f : Files) (p n : List ℕ) → IsFresh f → IsFresh (admitted f p n)
+fresh_admitted : (f : Files) (p n : List ℕ) → IsFresh f → IsFresh (admit f p n)
 fresh_admitted f p n fresh = go (current f.directory p n) where
   go : (o : Option Place) → IsFresh (admitted_at f o)
   go None = fresh

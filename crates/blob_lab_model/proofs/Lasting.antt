@@ -6,7 +6,7 @@ use Rattle.std.proofs.lemmas.Option.{none-some, same_Some}
 use Rattle.rand_core.specs.Stream.{Stream}
 use Rattle.std.specs.Option.{option_or}
 use Rattle.blob_model.specs.Directory.{Directory, Incarnation, current, place_in}
-use Rattle.blob_model.specs.Files.{Files, with_opening, after_open, admitted, durable_at}
+use Rattle.blob_model.specs.Files.{Files, with_opening, after_open, admit, durable_at}
 use Rattle.blob_model.specs.Opening.{Opening, Continues, Begins, Declines, opening, place_of}
 use Rattle.blob_model.specs.Persistence.{HasByte}
 use Rattle.blob_model.specs.Places.{Place}
@@ -81,7 +81,7 @@ opened_current f p n first last (Begins layout version live) e free = record {
 }
 opened_current f p n first last (Declines refusal) e free = absurd (none-some refusal (sym free))
 
-found_current : (v : State) (p n : List ℕ) (versions : AcceptedVersions) → open_denial v p n versions.0 versions.1 ≡ None → HasCurrent (admitted (after_open v.files p n versions.0 versions.1) p n) p n
+found_current : (v : State) (p n : List ℕ) (versions : AcceptedVersions) → open_denial v p n versions.0 versions.1 ≡ None → HasCurrent (admit (after_open v.files p n versions.0 versions.1) p n) p n
 found_current v p n versions free =
     let later = or_then_none (refused_if GenerationsExhausted (is_unnumbered v.names p n)) (option_or (loose_denial v p n versions.0 versions.1) (open_already v.names p n)) free in
     let loose = or_then_none (loose_denial v p n versions.0 versions.1) (open_already v.names p n) later.1 in
@@ -107,7 +107,7 @@ firm_current f handles p n b o own is firm = by_firm firm where
 
 opens_with : (v : State) (act : Act) (answered : Reply) (left : Stream) (b : Byte) → Answers v act answered left → HasFirm (after v act (refused_by answered) left) b → Opens (after v act (refused_by answered) left) act answered b
 opens_with v (Open p n (Some versions)) (reply.Opened handle size version) left b a firm = λ own.
-    let f = admitted (after_open v.files p n versions.0 versions.1) p n in
+    let f = admit (after_open v.files p n versions.0 versions.1) p n in
     let registration : Option Registration = Some (record { partition = p; name = n; number = v.names.next }) in
     let tells = ⊎_elim (λ memory. absurd (none-some Memory memory.1)) (λ told. told.0) (exclusive_told v p n versions (reply.Opened handle size version) left a) in
     let free = sym (denied (reply.Opened handle size version) (open_denial v p n versions.0 versions.1) (answers.told_opened v p n versions) refl tells) in

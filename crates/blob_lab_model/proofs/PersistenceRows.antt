@@ -3,9 +3,9 @@ use Rattle.std.proofs.Common.{◌≡◌, ◌≤◌, ◌<◌, ℕ, List, [], ◌�
 use Rattle.std.specs.Prelude.{codes}
 use Rattle.rand_core.specs.Steps.{stream_of}
 use Rattle.rand_core.specs.Stream.{next_u64}
-use Rattle.blob_model.specs.Bytes.{overlay_by, resized}
+use Rattle.blob_model.specs.Bytes.{overlay_by, resize}
 use Rattle.blob_model.specs.Draws.{front}
-use Rattle.blob_model.specs.Rates.{sampled}
+use Rattle.blob_model.specs.Rates.{sample}
 use Rattle.blob_header.specs.Refusals.{Injected}
 use Rattle.blob_draws.specs.declared.config.Config.{Config}
 use Rattle.blob_model.specs.declared.mode.PartialWriteMode.TheVariants.{Prefix}
@@ -45,17 +45,17 @@ written = done (done (start [] (only (0 ∷ 18446744073709551615 ∷ [])) cleare
 
 -- a sync fixes the live bytes
 sync_fixes : Fixes written (Through 0 Sync) None (byte 0 97)
-unfolding overlay_by resized
+unfolding overlay_by resize
 sync_fixes = (refl, (omega arith, refl))
 
 -- so does a started sync if its outcome is Ok, before it is finished
 start_fixes : Fixes written (Through 0 StartSync) None (byte 0 97)
-unfolding overlay_by resized
+unfolding overlay_by resize
 start_fixes = (refl, refl, (omega arith, refl))
 
 -- but no byte past their end
 none_past_the_end : Fixes written (Through 0 Sync) None (byte 3 0) → ⊥
-unfolding overlay_by resized
+unfolding overlay_by resize
 none_past_the_end fixes = let low : 3 < 3 = fixes.1.0 in omega arith
 
 abbrev synced : State
@@ -93,7 +93,7 @@ loosened = done synced (Through 0 (Write 1 (88 ∷ 89 ∷ []) false))
 
 -- a SYNC write fixes its own bytes, and not the zeros before them
 sync_write_fixes : Fixes loosened (Through 0 (Write 4 (90 ∷ []) true)) None (byte 4 90)
-unfolding sampled
+unfolding sample
 sync_write_fixes = (refl, omega arith, (omega arith, refl))
 
 gap_isn't_fixed : Fixes loosened (Through 0 (Write 4 (90 ∷ []) true)) None (byte 3 0) → ⊥
@@ -104,12 +104,12 @@ abbrev kept : State
 kept = done (done (done (done loosened (Through 0 (Write 4 (90 ∷ []) true))) Crash) (Close 0)) opens
 
 reads : (answer kept (Through 1 (Read 0 5))).0 ≡ told.Bytes (97 ∷ 88 ∷ 99 ∷ 0 ∷ 90 ∷ [])
-unfolding overlay_by resized front sampled next_u64 stream_of
+unfolding overlay_by resize front sample next_u64 stream_of
 reads = refl
 
 -- an open fixes all durable bytes that it finds
 open_fixes : Fixes (done (done (done loosened (Through 0 (Write 4 (90 ∷ []) true))) Crash) (Close 0)) opens None (byte 1 88)
-unfolding overlay_by resized front sampled next_u64 stream_of
+unfolding overlay_by resize front sample next_u64 stream_of
 open_fixes = (refl, (omega arith, refl))
 
 -- Why opens must be exclusive: a sync through another handle changes a byte that a SYNC write fixed, and no call
@@ -131,5 +131,5 @@ sync_reaches_none : reaches fixed (Through 0 Sync) None (byte 0 98) ≡ false
 sync_reaches_none = refl
 
 changed_all_the_same : HasDurably (done fixed (Through 0 Sync)).files (byte 0 97)
-unfolding overlay_by resized
+unfolding overlay_by resize
 changed_all_the_same = (omega arith, refl)

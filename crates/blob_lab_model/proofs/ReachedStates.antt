@@ -9,8 +9,8 @@ use Rattle.std.proofs.lemmas.Option.{IfSome_then, get_or_from_slice_get, slice_g
 use Rattle.std.proofs.lemmas.List.Elements.{All-nil, All-push, All-set, All-weaker}
 use Rattle.rand_core.specs.Stream.{Stream}
 use Rattle.blob_header.specs.declared.layout.Layout.{Layout}
-use Rattle.blob_model.specs.Directory.{Directory, File, Raw, Incarnation, current, is_current, with_file, removed}
-use Rattle.blob_model.specs.Files.{Files, with_opening, after_open, admitted, raw_again, durable_at}
+use Rattle.blob_model.specs.Directory.{Directory, File, Raw, Incarnation, current, is_current, with_file, directory_without}
+use Rattle.blob_model.specs.Files.{Files, with_opening, after_open, admit, raw_again, durable_at}
 use Rattle.blob_model.specs.Opening.{Opening, Continues, Begins, Declines, opening}
 use Rattle.blob_header.specs.PartitionName.{is_partition_name}
 use Rattle.blob_model.specs.Places.{Place}
@@ -61,7 +61,7 @@ valid_opened f p n (Continues number layout version) name valid = valid
 valid_opened f p n (Begins layout version live) name valid = λ q m. valid_with f.directory.file p n q m (Some (Incarnation f.directory.next layout version)) (name refl) (valid q m)
 valid_opened f p n (Declines refusal) name valid = valid
 
-valid_removed : (d : Directory) (p : List ℕ) (n : Option (List ℕ)) → AreValid d → AreValid (removed d p n)
+valid_removed : (d : Directory) (p : List ℕ) (n : Option (List ℕ)) → AreValid d → AreValid (directory_without d p n)
 valid_removed d p (Some n) valid = λ q m. valid_with d.file p n q m None tt (valid q m)
 valid_removed d p None valid = λ q m. cond_both (bytes_eq p q) None (d.file q m) (IsValid q) (λ _. tt) (λ _. valid q m)
 
@@ -157,7 +157,7 @@ module _ (v : State) (rest : Stream) (h : Holds v) where
   holds_exclusive p n versions None valid =
       holds_more v (after v (Open p n (Some versions)) None rest) p n (Some (record { partition = p; name = n; number = v.names.next })) h
       (ages v (Open p n (Some versions)) None rest)
-      (valid_by (after_open v.files p n versions.0 versions.1).directory (admitted (after_open v.files p n versions.0 versions.1) p n).directory
+      (valid_by (after_open v.files p n versions.0 versions.1).directory (admit (after_open v.files p n versions.0 versions.1) p n).directory
       (admitted_directory (after_open v.files p n versions.0 versions.1) p n) (opened_valid v p n versions.0 versions.1 h (valid refl)))
       refl
   holds_exclusive p n versions (Some (BlobAlreadyOpen q m)) valid =
@@ -212,7 +212,7 @@ holds_after v (OpenLoose p n None) reply left h a = holds_same v (after v (OpenL
 holds_after v (OpenLoose p n (Some versions)) reply left h a = holds_loose v left h p n versions (refused_by reply) (loose_valid v p n versions reply left a)
 holds_after v (Admit p n) reply left h a =
     holds_same v (after v (Admit p n) (refused_by reply) left) h (ages v (Admit p n) (refused_by reply) left)
-    (valid_by v.files.directory (admitted v.files p n).directory (admitted_directory v.files p n) h.valid) refl
+    (valid_by v.files.directory (admit v.files p n).directory (admitted_directory v.files p n) h.valid) refl
 holds_after v (Close number) reply left h a = closed_at v left h number (refused_by reply)
 holds_after v (Through number ask) reply left h a =
     asked_at v left h number (kept_at v.handles number) ask (may_grow v (Through number ask)) reply left (kept_tracked v.files.directory v.handles number h.handles) a

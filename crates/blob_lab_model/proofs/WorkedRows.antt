@@ -2,12 +2,12 @@
 use Rattle.std.proofs.Common.{◌≡◌, ℕ, List, [], ◌∷◌, true, false, Some, None, refl}
 use Rattle.std.specs.Prelude.{codes}
 use Rattle.hex.specs.Hex.{encode_lower}
-use Rattle.blob_model.specs.Bytes.{overlay_by, resized}
+use Rattle.blob_model.specs.Bytes.{overlay_by, resize}
 use Rattle.blob_header.specs.Checksum.{crc32c, low_bits, with_bit}
 use Rattle.blob_model.specs.Draws.{front}
 use Rattle.blob_header.specs.Header.{region}
 use Rattle.blob_header.specs.Parse.{page_tests}
-use Rattle.blob_model.specs.Rates.{sampled}
+use Rattle.blob_model.specs.Rates.{sample}
 use Rattle.blob_header.specs.Refusals.{BlobAlreadyOpen}
 use Rattle.blob_header.specs.Resolve.{resolution, is_torn}
 use Rattle.blob_draws.specs.declared.config.Config.{Config}
@@ -51,15 +51,15 @@ written = done (done (done opened (Through 0 Sync)) (Through 0 (Write 0 (97 ∷ 
 
 -- the handle reads both writes
 live_read : (answer written (Through 0 (Read 0 3))).0 ≡ told.Bytes (97 ∷ 88 ∷ 99 ∷ [])
-unfolding overlay_by resized sampled
+unfolding overlay_by resize sample
 live_read = refl
 
 -- the pending write is drawn, with one choice per byte
 crash_draws : (answer written Crash).0 ≡ told.Crashed ((0, true ∷ true ∷ true ∷ []) ∷ [])
-unfolding front sampled
+unfolding front sample
 crash_draws = refl
 
 -- after the crash, the SYNC write is on top
 crash_leaves : (answer (done (done (done written Crash) Reopen) opens) (Through 1 (Read 0 3))).0 ≡ told.Bytes (97 ∷ 88 ∷ 99 ∷ [])
-unfolding front sampled overlay_by resized resolution region is_torn page_tests crc32c low_bits with_bit
+unfolding front sample overlay_by resize resolution region is_torn page_tests crc32c low_bits with_bit
 crash_leaves = refl

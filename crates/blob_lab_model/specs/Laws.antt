@@ -6,9 +6,9 @@ use Rattle.blob_header.specs.Refusals.{Refusal}
 use Rattle.blob_header.specs.declared.layout.Layout.{Layout}
 use Rattle.blob_header.specs.declared.version.BlobVersion.{BlobVersion}
 use Rattle.blob_model.specs.Directory.{Incarnation, is_current}
-use Rattle.blob_model.specs.Draws.{chosen_by, drawn}
+use Rattle.blob_model.specs.Draws.{chosen_by, draw_rows}
 use Rattle.blob_model.specs.Files.{Files, all_needs, durable_at, is_removed_by, log_of}
-use Rattle.blob_model.specs.Log.{crashed}
+use Rattle.blob_model.specs.Log.{replay_log}
 use Rattle.blob_model.specs.Opening.{Begins, place_of}
 use Rattle.blob_model.specs.Places.{Place, same_place}
 use Rattle.blob_draws.specs.Faults.{draw}
@@ -33,7 +33,7 @@ use Rattle.blob_lab_model.specs.States.{Held, Image, State, held_on, start}
 -- a crash replies with the rows that it draws for the writes that the log needs, and takes their words
 abbrev pub CrashRepliesWithItsRows : Type 0
 CrashRepliesWithItsRows = (v : State)
-    → answer v Crash ≡ (told.Crashed (drawn v.stream (all_needs v.files.log)).0, (drawn v.stream (all_needs v.files.log)).1)
+    → answer v Crash ≡ (told.Crashed (draw_rows v.stream (all_needs v.files.log)).0, (draw_rows v.stream (all_needs v.files.log)).1)
 
 -- a crash changes no header
 abbrev pub CrashKeepsHeaders : Type 0
@@ -42,7 +42,7 @@ CrashKeepsHeaders = (v : State) (refusal : Option Refusal) (rest : Stream) → (
 -- a crash leaves of each incarnation its base with the uncut log replayed over it, by the drawn rows
 abbrev pub CrashReplaysTheLog : Type 0
 CrashReplaysTheLog = (v : State) (rest : Stream) (o : Place)
-    → durable_at (after v Crash None rest).files o ≡ crashed (v.files.base o) (log_of v.files.log o) (chosen_by (drawn v.stream (all_needs v.files.log)).0)
+    → durable_at (after v Crash None rest).files o ≡ replay_log (v.files.base o) (log_of v.files.log o) (chosen_by (draw_rows v.stream (all_needs v.files.log)).0)
 
 -- another crash right after it changes nothing
 abbrev pub CrashAgainChangesNothing : Type 0

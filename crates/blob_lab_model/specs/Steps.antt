@@ -5,7 +5,7 @@ use Rattle.hex.specs.Hex.{encode_lower}
 use Rattle.blob_header.specs.Refusals.{Refusal, Injected, GenerationsExhausted, BlobAlreadyOpen}
 use Rattle.blob_memory.specs.Answers.{sync_refusal, open_refusal, partition_refusal, remove_refusal}
 use Rattle.blob_model.specs.Directory.{Directory}
-use Rattle.blob_model.specs.Files.{Files, started}
+use Rattle.blob_model.specs.Files.{Files, start_sync}
 use Rattle.blob_model.specs.Opening.{Opening, opening}
 use Rattle.blob_model.specs.Places.{Place}
 use Rattle.blob_draws.specs.Changes.{lacks_number}
@@ -74,7 +74,7 @@ reaches_through v slot ask b = elim slot [ None ↦ false | Some h ↦ is_on v.f
 
 -- files after a started sync with this outcome
 abbrev pub begun : Files → Held → Option Refusal → Files
-begun f h None = started f h.place h.live
+begun f h None = start_sync f h.place h.live
 begun f h (Some refusal) = f
 
 -- open names after an exclusive open ends; an open that isn't exclusive has no registration

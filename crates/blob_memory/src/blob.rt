@@ -1,6 +1,6 @@
 //! A handle on a blob of the memory store.
 ghost use Rattle.std.specs.Prelude.{◌≡◌, ℕ, ◌≤◌, ◌+◌, ◌≢◌, [], true, false, None, OnOk, IfOk, OnErr, length, take, drop};
-ghost use Rattle.blob_model.specs.Bytes.{resized, written};
+ghost use Rattle.blob_model.specs.Bytes.{resize, write_live};
 ghost use Rattle.blob_model.specs.Directory.{Directory, is_current};
 ghost use Rattle.blob_model.specs.Durable.{with_overlay};
 ghost use Rattle.blob_model.specs.Live.{live_after};

@@ -1,6 +1,6 @@
 //! Handles of exclusive opens.
 ghost use Rattle.std.specs.Prelude.{◌≡◌, ◌≢◌, ◌+◌, ◌≤◌, ℕ, List, [], Bool, true, false, Option, Some, None, IsSome, OnOk, OnErr, IfOk, length, take, drop};
-ghost use Rattle.blob_model.specs.Bytes.{overlay, resized};
+ghost use Rattle.blob_model.specs.Bytes.{overlay, resize};
 ghost use Rattle.blob_model.specs.Directory.{is_current};
 ghost use Rattle.blob_model.specs.Durable.{with_changed};
 ghost use Rattle.blob_base.specs.Handles.{outcome_of};

@@ -5,7 +5,7 @@ use Rattle.std.proofs.lemmas.List.{append-nil, drop-drop, drop_all, take_all, ta
 use Rattle.std.proofs.Math.Seq.{take-add}
 use Rattle.blob_pages.specs.declared.page.Page.{Page}
 use Rattle.std.proofs.lemmas.List.FromFn.{length-map-range_with_len, get_or-map-range_with_len}
-use Rattle.blob_model.specs.Bytes.{overlay, resized, reach}
+use Rattle.blob_model.specs.Bytes.{overlay, resize, reach}
 use Rattle.blob_model.proofs.Bytes.{same_bytes, length-resized, at_resized, past_resized, length-overlay_by, reach_below, reach_all, at_chosen, at_other}
 use Rattle.blob_pages.specs.Paged.{page_size, bytes_in, page_bytes, is_owned, byte_at, owned_at, AreFull, AreOwned, Keeps, KeepsOwned, Extends, Lays, spliced}
 
@@ -228,7 +228,7 @@ pub extended_bytes : (a b : List Page) (n : ℕ) → n ≤ page_size * length a 
 extended_bytes a b n h x = same_bytes_in a b n (λ p l. x.bytes p (omega (arith, l, h)))
 
 -- zeros written after the bytes
-pub blanked : (a b : List Page) (n m : ℕ) → n ≤ m → Lays a b n (replicate (m - n) 0) → bytes_in b m ≡ resized (bytes_in a n) m
+pub blanked : (a b : List Page) (n m : ℕ) → n ≤ m → Lays a b n (replicate (m - n) 0) → bytes_in b m ≡ resize (bytes_in a n) m
 blanked a b n m le l = same_bytes _ _ (omega (arith, length-bytes_in b m, length-resized (bytes_in a n) m)) (λ p. ⊎_elim
     (λ h. at_bytes_in b m p h ∙ ⊎_elim
     (λ low. l.outside p (inl low) ∙ sym (at_bytes_in a n p low))
@@ -238,7 +238,7 @@ blanked a b n m le l = same_bytes _ _ (omega (arith, length-bytes_in b m, length
     (cases_lt p m))
 
 -- a truncation
-pub cut_bytes : (a : List Page) (n m : ℕ) → m ≤ n → bytes_in a m ≡ resized (bytes_in a n) m
+pub cut_bytes : (a : List Page) (n m : ℕ) → m ≤ n → bytes_in a m ≡ resize (bytes_in a n) m
 cut_bytes a n m le = same_bytes _ _ (omega (arith, length-bytes_in a m, length-resized (bytes_in a n) m)) (λ p. ⊎_elim
     (λ h. at_bytes_in a m p h ∙ sym (at_bytes_in a n p (omega (arith, h, le))) ∙ sym (at_resized (bytes_in a n) m p h))
     (λ h. past_bytes_in a m p h ∙ sym (past_resized (bytes_in a n) m p h))
@@ -277,16 +277,16 @@ pub owned_same : (a : List Page) → KeepsOwned a a
 owned_same a = record { each = λ i e. e }
 
 -- zeros that the overlay covers, or would add itself, don't change its result
-pub overlay_grown : (x : List ℕ) (o : ℕ) (b : List ℕ) (n : ℕ) → n ≡ max (length x) (reach o (length b) (λ _. true)) → overlay (resized x n) o b ≡ overlay x o b
+pub overlay_grown : (x : List ℕ) (o : ℕ) (b : List ℕ) (n : ℕ) → n ≡ max (length x) (reach o (length b) (λ _. true)) → overlay (resize x n) o b ≡ overlay x o b
 overlay_grown x o b n is = same_bytes _ _
-    (omega (arith, is, length-overlay_by (resized x n) o b (λ _. true), length-overlay_by x o b (λ _. true), length-resized x n))
+    (omega (arith, is, length-overlay_by (resize x n) o b (λ _. true), length-overlay_by x o b (λ _. true), length-resized x n))
     (λ p. ⊎_elim
     (λ low. other p (λ ge _. absurd (omega (arith, low, ge))))
-    (λ ge. ⊎_elim (λ lt. at_chosen (resized x n) o b (λ _. true) p ge lt refl ∙ sym (at_chosen x o b (λ _. true) p ge lt refl)) (λ past. other p (λ _ u. absurd (omega (arith, past, u)))) (cases_lt p (o + length b)))
+    (λ ge. ⊎_elim (λ lt. at_chosen (resize x n) o b (λ _. true) p ge lt refl ∙ sym (at_chosen x o b (λ _. true) p ge lt refl)) (λ past. other p (λ _ u. absurd (omega (arith, past, u)))) (cases_lt p (o + length b)))
     (cases_lt p o))
   where
-    other : (p : ℕ) → (o ≤ p → p < o + length b → true ≡ false) → get_or (overlay (resized x n) o b) p 0 ≡ get_or (overlay x o b) p 0
-    other p out = at_other (resized x n) o b (λ _. true) p out
+    other : (p : ℕ) → (o ≤ p → p < o + length b → true ≡ false) → get_or (overlay (resize x n) o b) p 0 ≡ get_or (overlay x o b) p 0
+    other p out = at_other (resize x n) o b (λ _. true) p out
         ∙ ⊎_elim (λ h. at_resized x n p h) (λ h. past_resized x n p h ∙ sym (get_or_past x p 0 (omega (arith, h, is)))) (cases_lt p n)
         ∙ sym (at_other x o b (λ _. true) p out)
 

@@ -2,7 +2,7 @@
 //! capacity never fails: if a page can't be allocated, the bytes move to one vector that was reserved with the
 //! capacity.
 ghost use Rattle.std.specs.Prelude.{◌≡◌, ◌≤◌, ◌<◌, ◌+◌, ◌^◌, length, max, OnOk, OnErr};
-ghost use Rattle.blob_model.specs.Bytes.{overlay, resized};
+ghost use Rattle.blob_model.specs.Bytes.{overlay, resize};
 ghost use Rattle.blob_pages.specs.Stored.{AreNow, Grows, WritesSelected};
 
 use crate::bytes::Bytes;
@@ -20,7 +20,7 @@ pub fn make_room(bytes: &mut Bytes, len: usize) -> Result<(), AllocError>
 /// Extends the bytes with zeros to `len`, within the capacity. Does nothing if they are that long already.
 pub fn grow(bytes: &mut Bytes, len: usize)
     requires { len ≤ bytes.old.capacity }
-    ensures { AreNow bytes.old bytes.new (resized bytes.old.items (max (length bytes.old.items) len)) }
+    ensures { AreNow bytes.old bytes.new (resize bytes.old.items (max (length bytes.old.items) len)) }
 {
     if bytes.len() < len {
         bytes.form.set_len(len);
@@ -103,7 +103,7 @@ pub fn write_slice(bytes: &mut Bytes, offset: usize, run: &[u8]) -> Result<(), A
 /// Truncates, or extends with zeros. The only error is out of memory, if the capacity is too small. The bytes are
 /// unchanged then.
 pub fn resize(bytes: &mut Bytes, len: usize) -> Result<(), AllocError>
-    ensures { Grows result bytes.old bytes.new len (resized bytes.old.items len) }
+    ensures { Grows result bytes.old bytes.new len (resize bytes.old.items len) }
 {
     make_room(bytes, len)?;
     bytes.form.set_len(len);

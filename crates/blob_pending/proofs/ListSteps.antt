@@ -8,7 +8,7 @@ use Rattle.blob_model.specs.Places.{Place, same_place}
 use Rattle.blob_model.specs.SamePlace.{same_place_exact, same_back, same_self, apart_at}
 use Rattle.blob_model.specs.Durable.{with_at}
 use Rattle.blob_model.specs.Order.{ListAt, held_at, has_list, ArePlacesApart}
-use Rattle.blob_model.specs.Pending.{Pending, finished}
+use Rattle.blob_model.specs.Pending.{Pending, finish}
 use Rattle.blob_pending.specs.Rooms.{HasRoomsFor}
 use Rattle.blob_pending.specs.Views.{left_in}
 use Rattle.blob_pending.specs.Lists.{is_list_of, IsAt, held_by, held, list_of, HasRoom, HasRoomIn, HasRangesAt, finished_in}
@@ -220,9 +220,9 @@ below_set {X} P xs k x h below one m d l = ⊎_elim
     (cases_eq m k)
 
 -- each list changed by its own place
-pub held_at_finished : (marker : ℕ) (hs : List ListAt) (o : Place) → held_at (map (finished_in marker) hs) o ≡ finished marker (held_at hs o)
+pub held_at_finished : (marker : ℕ) (hs : List ListAt) (o : Place) → held_at (map (finished_in marker) hs) o ≡ finish marker (held_at hs o)
 held_at_finished marker [] o = refl
-held_at_finished marker (x ∷ hs) o = cond_both (same_place x.0 o) x.1 (held_at hs o) (λ r. cond (same_place x.0 o) (finished marker x.1) (held_at (map (finished_in marker) hs) o) ≡ finished marker r)
+held_at_finished marker (x ∷ hs) o = cond_both (same_place x.0 o) x.1 (held_at hs o) (λ r. cond (same_place x.0 o) (finish marker x.1) (held_at (map (finished_in marker) hs) o) ≡ finish marker r)
     (λ y. cond-true (same_place x.0 o) _ _ y) (λ n. cond-false (same_place x.0 o) _ _ n ∙ held_at_finished marker hs o)
 
 has_finished : (marker : ℕ) (hs : List ListAt) (o : Place) → has_list (map (finished_in marker) hs) o ≡ has_list hs o

@@ -4,7 +4,7 @@ use Rattle.std.proofs.Common.{get_or}
 use Rattle.blob_model.specs.Directory.{Directory, is_current}
 use Rattle.blob_model.specs.Durable.{with_at}
 use Rattle.blob_model.specs.Places.{Place, same_place}
-use Rattle.blob_model.specs.Pending.{Pending, finished, has_barrier, laid}
+use Rattle.blob_model.specs.Pending.{Pending, finish, has_barrier, apply_durable}
 use Rattle.blob_model.specs.Order.{ListAt, held_at}
 use Rattle.blob_model.specs.Holes.{Holes}
 use Rattle.blob_pending.specs.Rooms.{AreWithin, HasRoomsFor}
@@ -32,7 +32,7 @@ IsCopyFor copy list bytes = has_barrier list ≡ true → copy ≡ bytes
 
 -- a list after a durable range of n bytes; `copy` has its bytes if it is queued
 abbrev pub LaysRange : ℕ → ℕ → List ℕ → List Pending → List Pending → Type 0
-LaysRange offset n copy old new = (bytes : List ℕ) → length bytes ≡ n → IsCopyFor copy old bytes → new ≡ laid offset bytes old
+LaysRange offset n copy old new = (bytes : List ℕ) → length bytes ≡ n → IsCopyFor copy old bytes → new ≡ apply_durable offset bytes old
 
 -- the list at i is the first of an incarnation
 pub record IsAt (hs : List ListAt) (i : ℕ) (o : Place) : Type 0 where
@@ -58,7 +58,7 @@ pub record Becomes {O : Type 0} (old new : Incarnation O) (q : List Pending) : T
 
 -- the same of an incarnation's list
 abbrev pub LaysInto : {O : Type 0} → ℕ → ℕ → List ℕ → Incarnation O → Incarnation O → Type 0
-LaysInto offset n copy old new = (bytes : List ℕ) → length bytes ≡ n → IsCopyFor copy (left_in old.entries.items) bytes → Becomes old new (laid offset bytes (left_in old.entries.items))
+LaysInto offset n copy old new = (bytes : List ℕ) → length bytes ≡ n → IsCopyFor copy (left_in old.entries.items) bytes → Becomes old new (apply_durable offset bytes (left_in old.entries.items))
 
 -- there is a list at i, and it has this capacity
 pub record HasRoomIn {O : Type 0} (is : List (Incarnation O)) (i : ℕ) (what : Room) : Type 0 where
@@ -85,7 +85,7 @@ IsCopyAt place is i bytes copy = (o : Place) → IsAt (held place is) i o → Is
 -- the lists after a durable range in the list at i; `copy` has its bytes if it is queued there
 abbrev pub LaysAt : {O : Type 0} → (O → Place) → List (Incarnation O) → List (Incarnation O) → ℕ → ℕ → ℕ → List ℕ → Type 0
 LaysAt place old new i offset len copy = (o : Place) → IsAt (held place old) i o → (bytes : List ℕ) → length bytes ≡ len → IsCopyFor copy (list_of place old o) bytes
-    → (a : Place) → list_of place new a ≡ with_at (list_of place old) o (laid offset bytes (list_of place old o)) a
+    → (a : Place) → list_of place new a ≡ with_at (list_of place old) o (apply_durable offset bytes (list_of place old o)) a
 
 -- the list at i is of the same incarnation as before
 abbrev pub StaysAt : {O : Type 0} → (O → Place) → List (Incarnation O) → List (Incarnation O) → ℕ → Type 0
@@ -97,7 +97,7 @@ HasRangesAt {O} is i hs = (d : Incarnation O) → HasRoomsFor hs (get_or is i d)
 
 -- one list after a started sync is finished
 abbrev pub finished_in : ℕ → ListAt → ListAt
-finished_in marker h = (h.0, finished marker h.1)
+finished_in marker h = (h.0, finish marker h.1)
 
 -- of each list it is noted whether its incarnation was current
 abbrev pub AreNoted : {O : Type 0} → (O → Place) → Directory → List (Incarnation O) → Type 0
@@ -117,7 +117,7 @@ RetiresList place old new o = (a : Place) → list_of place new a ≡ with_at (l
 
 -- the started sync with this marker is finished in each list
 abbrev pub FinishesLists : {O : Type 0} → (O → Place) → List (Incarnation O) → List (Incarnation O) → ℕ → Type 0
-FinishesLists place old new marker = (o : Place) → list_of place new o ≡ finished marker (list_of place old o)
+FinishesLists place old new marker = (o : Place) → list_of place new o ≡ finish marker (list_of place old o)
 
 -- of incarnations that were current when this was noted and aren't any more nothing is pending, of others the same
 abbrev pub RetiresEnded : {O : Type 0} → (O → Place) → Directory → List (Incarnation O) → List (Incarnation O) → Type 0

@@ -1,6 +1,6 @@
 use Rattle.std.proofs.Common.{◌≡◌, ◌+◌, ◌-◌, ◌∙◌, ap, sym, length, arith, take, drop}
 use Rattle.blob_model.specs.Bytes.{overlay_by}
-use Rattle.blob_model.specs.Runs.{picked}
+use Rattle.blob_model.specs.Runs.{is_chosen}
 use Rattle.blob_overlay.proofs.Overlays.{overlay_none}
 use Rattle.blob_overlay.proofs.Pieces.{flat_within, length-flat_more, chosen_more, chosen_room}
 use Rattle.blob_overlay.proofs.overlay.copy_chosen_pieces.Goals as goal
@@ -39,5 +39,5 @@ loop-piece-preserved c =
       done = omega (arith, n, c.loop-piece.invariant.done, length-flat_more c.args.pieces.now c.loop-piece.piece-index c.piece-item.result (omega arith) c.piece-item.is);
       laid = chosen_more c.args.pieces.now c.loop-piece.piece-index c.piece-item.result (omega arith) c.piece-item.is c.args.bytes.now c.loop-piece.bytes _ c.args.offset c.loop-piece.done (c.loop-piece.done + c.len.result) c.args.keep.now
           c.requires.inside c.loop-piece.invariant.done (omega (arith, n)) c.loop-piece.invariant.laid
-          (c.copy_chosen.ensures ∙ ap (λ b. overlay_by c.loop-piece.bytes (c.args.offset + c.loop-piece.done) b (picked (take (c.loop-piece.done + c.len.result - c.loop-piece.done) (drop c.loop-piece.done c.args.keep.now)))) c.deref.ensures.value);
+          (c.copy_chosen.ensures ∙ ap (λ b. overlay_by c.loop-piece.bytes (c.args.offset + c.loop-piece.done) b (is_chosen (take (c.loop-piece.done + c.len.result - c.loop-piece.done) (drop c.loop-piece.done c.args.keep.now)))) c.deref.ensures.value);
     }

@@ -5,7 +5,7 @@ use Rattle.blob_model.specs.Directory.{current}
 use Rattle.blob_model.specs.Files.{is_removed_by}
 use Rattle.blob_model.specs.Order.{ListAt, held_at}
 use Rattle.blob_model.specs.Places.{Place}
-use Rattle.blob_model.specs.Stands.{retired}
+use Rattle.blob_model.specs.Stands.{retire}
 use Rattle.blob_model.proofs.FileSteps.{stands_admitted}
 use Rattle.blob_memory.specs.Store.{directory, durable}
 use Rattle.blob_pending.specs.declared.incarnation.Incarnation.{Incarnation}
@@ -19,7 +19,7 @@ use Rattle.blob_faulty.proofs.admit.Storage+blob_memory+Storage+R.admit.Goals as
 kept : (g : Over) (c : goal.After-self-1 g) → held (λ (o : Place). o) c.drop_current.new.lists.items ≡ filter (λ h. not (is_removed_by (directory c.args.self.now.inner) c.args.partition.now (Some c.args.name.now) h.0)) (held (λ (o : Place). o) c.args.self.now.lists.all.lists.items)
 kept g c = ap (held (λ (o : Place). o)) c.drop_current.ensures ∙ held_filter (λ (o : Place). o) (λ o. not (is_removed_by (directory c.args.self.now.inner) c.args.partition.now (Some c.args.name.now) o)) c.args.self.now.lists.all.lists.items
 
-pending : (g : Over) (c : goal.After-self-1 g) (a : Place) → held_at (held (λ (o : Place). o) c.drop_current.new.lists.items) a ≡ retired (held_at (held (λ (o : Place). o) c.args.self.now.lists.all.lists.items)) (current (directory c.args.self.now.inner) c.args.partition.now c.args.name.now) a
+pending : (g : Over) (c : goal.After-self-1 g) (a : Place) → held_at (held (λ (o : Place). o) c.drop_current.new.lists.items) a ≡ retire (held_at (held (λ (o : Place). o) c.args.self.now.lists.all.lists.items)) (current (directory c.args.self.now.inner) c.args.partition.now c.args.name.now) a
 pending g c a = ap (λ (hs : List ListAt). held_at hs a) (kept g c) ∙ held_at_filter (held (λ (o : Place). o) c.args.self.now.lists.all.lists.items) (is_removed_by (directory c.args.self.now.inner) c.args.partition.now (Some c.args.name.now)) a
     ∙ admits_current (directory c.args.self.now.inner) c.args.partition.now c.args.name.now (held_at (held (λ (o : Place). o) c.args.self.now.lists.all.lists.items)) a
 

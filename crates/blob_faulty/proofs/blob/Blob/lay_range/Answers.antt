@@ -3,7 +3,7 @@ use Rattle.std.proofs.lemmas.Grind.{common_steps}
 use Rattle.blob_model.specs.Durable.{with_at}
 use Rattle.blob_model.specs.Log.{Kept}
 use Rattle.blob_model.specs.Order.{held_at}
-use Rattle.blob_model.specs.Pending.{laid}
+use Rattle.blob_model.specs.Pending.{apply_durable}
 use Rattle.blob_model.specs.Places.{Place}
 use Rattle.blob_pending.specs.Lists.{held, IsAt}
 use Rattle.blob_faulty.specs.Writes.{View, Logs, seen}
@@ -24,7 +24,7 @@ old g c = seen g.S.Durable g.B.Blob c.args.self.now c.args.store.now
 abbrev new : (g : Over) (c : goal.After-lay g) → View g.row.R.Denot
 new g c = seen g.S.Durable g.B.Blob (record c.args.self.now { inner = c.write_at.new.self; size = c.max-self.result }) (record c.args.store.now { inner = c.write_at.new.store; lists = c.lay.new.self })
 
-lists : (g : Over) (c : goal.After-lay g) (a : Place) → held_at (new g c).held a ≡ with_at (held_at (old g c).held) (old g c).place (laid c.args.offset c.args.bytes (held_at (old g c).held (old g c).place)) a
+lists : (g : Over) (c : goal.After-lay g) (a : Place) → held_at (new g c).held a ≡ with_at (held_at (old g c).held) (old g c).place (apply_durable c.args.offset c.args.bytes (held_at (old g c).held (old g c).place)) a
 lists g c = c.lay.ensures.lists (old g c).place c.requires.room.at c.args.bytes (sym c.remaining-len.ensures) c.requires.copied
 
 pub returns-clause-recorded : goal.returns-clause-recorded

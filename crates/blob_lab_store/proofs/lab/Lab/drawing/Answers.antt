@@ -4,7 +4,7 @@ use Rattle.std.proofs.lemmas.Iterator.Consumers.{YieldsList-end}
 use Rattle.std.proofs.lemmas.List.{map-append, map-id}
 use Rattle.blob_model.specs.Directory.{Directory}
 use Rattle.blob_model.specs.Durable.{Durable}
-use Rattle.blob_model.specs.Files.{wrapped}
+use Rattle.blob_model.specs.Files.{wrap}
 use Rattle.blob_model.specs.Places.{Place}
 use Rattle.blob_faulty.specs.Wrapper.{Stands, inner_of as store_of}
 use Rattle.blob_memory.specs.Contents.{directory_raw}
@@ -31,8 +31,8 @@ nothing_durable : (f : Durable) → ((o : Place) → f o ≡ None) → (o : Plac
 nothing_durable f none o x e = let n = none o in absurd (cc)
 
 -- a newly made wrapper represents the files of its store's directory
-made_for : (w : Wrapper) (s : memory.Storage) (d : Directory) → store_of w ≡ s → directory s ≡ d → Stands (λ o. o) (directory s) (durable s) w (wrapped (directory s) (λ o. []) 0 0) → IsFor w (wrapped d (λ o. []) 0 0)
-made_for w s d store names h = subst (λ (e : Directory). IsFor w (wrapped e (λ o. []) 0 0)) names (subst (λ (q : memory.Storage). Stands (λ o. o) (directory q) (durable q) w (wrapped (directory s) (λ o. []) 0 0)) (sym store) h)
+made_for : (w : Wrapper) (s : memory.Storage) (d : Directory) → store_of w ≡ s → directory s ≡ d → Stands (λ o. o) (directory s) (durable s) w (wrap (directory s) (λ o. []) 0 0) → IsFor w (wrap d (λ o. []) 0 0)
+made_for w s d store names h = subst (λ (e : Directory). IsFor w (wrap e (λ o. []) 0 0)) names (subst (λ (q : memory.Storage). Stands (λ o. o) (directory q) (durable q) w (wrap (directory s) (λ o. []) 0 0)) (sym store) h)
 
 pub loop-partition-preserved : goal.loop-partition-preserved
 loop-partition-preserved c =
