@@ -50,7 +50,7 @@ with_held v p n f registration = record v { files = f; handles = v.handles ++ op
 
 -- an exclusive open admits the name; if the name was open already, what the store's open created stays
 abbrev pub exclusively_opened : State → List ℕ → List ℕ → AcceptedVersions → Option Refusal → State
-exclusively_opened v p n versions None = with_held (record v { names = names.opened v.names p n }) p n
+exclusively_opened v p n versions None = with_held (record v { names = names.open_name v.names p n }) p n
     (admit (after_open v.files p n versions.0 versions.1) p n) (Some (record { partition = p; name = n; number = v.names.next }))
 exclusively_opened v p n versions (Some (BlobAlreadyOpen q m)) = record v { files = after_open v.files p n versions.0 versions.1 }
 exclusively_opened v p n versions (Some refusal) = v
@@ -66,10 +66,10 @@ changed v (OpenLoose p n (Some versions)) None = with_held v p n (after_open v.f
 changed v (Admit p n) refusal = record v { files = admit v.files p n }
 changed v (Close number) refusal =
     let registration = option_and_then (λ h. h.registration) (kept_at v.handles number) in
-    record v { names = option_map_or (names.closed v.names) registration v.names; handles = set v.handles number None }
+    record v { names = option_map_or (names.release v.names) registration v.names; handles = set v.handles number None }
 changed v (Through number ask) refusal = asked v number (kept_at v.handles number) ask refusal
 changed v (Finish number) refusal = record v { syncs = set v.syncs number None }
-changed v (Remove p n) None = record v { files = after_remove v.files p n; names = names.ended v.names p n }
+changed v (Remove p n) None = record v { files = after_remove v.files p n; names = names.end_names v.names p n }
 changed v Crash None = record v { files = after_crash v.files (chosen_by (draw_rows v.stream (all_needs v.files.log)).0) }
 changed v Reopen refusal = record v { files = reopen v.files; names = none_open v.names.next; syncs = map (λ slot. None) v.syncs }
 changed v act refusal = v

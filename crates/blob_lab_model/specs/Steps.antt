@@ -79,7 +79,7 @@ begun f h (Some refusal) = f
 
 -- open names after an exclusive open ends; an open that isn't exclusive has no registration
 abbrev pub unregistered : OpenNames → Option Registration → OpenNames
-unregistered s registration = option_map_or (names.closed s) registration s
+unregistered s registration = option_map_or (names.release s) registration s
 
 -- a state with one handle closed
 abbrev pub with_closed : State → ℕ → Option Held → State

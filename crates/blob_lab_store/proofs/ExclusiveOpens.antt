@@ -144,7 +144,7 @@ module _ (lab lab' : Lab) (p n : List ℕ) (first last : ℕ) where
       → h.registration ≡ Some (record { partition = p; name = n; number = (names_of lab.opens).next }) → handles_of lab'.handles ≡ handles_of lab.handles ++ Some h ∷ []
       → directory (store_of lab'.wrapper) ≡ directory (store_of w) → durable (store_of lab'.wrapper) ≡ durable (store_of w)
       → (names_of lab.opens).registered p n ≡ None → (names_of lab.opens).next < 2 ^ 64 - 1 → IsOpenAllowed lab.wrapper p n first last None
-      → names_of lab'.opens ≡ names.opened (names_of lab.opens) p n → syncs_of lab'.syncs ≡ syncs_of lab.syncs → config_of lab'.wrapper ≡ config_of lab.wrapper → stream_of lab'.wrapper ≡ drawn_left
+      → names_of lab'.opens ≡ names.open_name (names_of lab.opens) p n → syncs_of lab'.syncs ≡ syncs_of lab.syncs → config_of lab'.wrapper ≡ config_of lab.wrapper → stream_of lab'.wrapper ≡ drawn_left
       → ((f : Files) → IsFor lab.wrapper f → IsFor lab'.wrapper (admit (after_open f p n first last) p n)) → Performs lab (Open p n (Some (first, last))) (reply.Opened number size ver) lab'
   exclusive_done w o live version h number size ver opens count long is place bytes tracked registered table same-names same-bytes free left a names syncs config stream stands = performs lab lab' (Open p n (Some (first, last))) (reply.Opened number size ver)
       (λ f s.

@@ -24,7 +24,7 @@ use Rattle.blob_lab_model.specs.Steps.{remove_denial, scan_denial}
 use Rattle.blob_lab_model.specs.Steps as steps
 use Rattle.blob_lab_store.specs.LabStands.{LabStandsFor, Performs, stream_of}
 use Rattle.blob_faulty.specs.Keeps.{IsFor}
-use Rattle.blob_opens.specs.OpenNames.{ended, none_open}
+use Rattle.blob_opens.specs.OpenNames.{end_names, none_open}
 use Rattle.blob_opens.specs.Opens.{names_of}
 use Rattle.blob_lab_model.specs.States.{AreGiven}
 use Rattle.blob_lab_store.specs.Tables.{handles_of, syncs_of}
@@ -120,7 +120,7 @@ module _ (lab lab' : Lab) (handles : handles_of lab'.handles ≡ handles_of lab.
     remove_denied : (answer : Option Refusal) → IsRemoveAllowed answer → OrMemory (remove_denied_by (directory (store_of lab.wrapper))) answer
     remove_denied answer a = drawn_denial (draw (config_of lab.wrapper).remove_rate (stream_of lab.wrapper)).0 (OrMemory (remove_refusal (directory (store_of lab.wrapper)) p n)) (remove_refusal (directory (store_of lab.wrapper)) p n) (λ answer' m. m) answer a
 
-    pub remove_done : IsRemoveAllowed None → names_of lab'.opens ≡ ended (names_of lab.opens) p n → ((f : Files) → IsFor lab.wrapper f → IsFor lab'.wrapper (after_remove f p n)) → Performs lab (Remove p n) reply.Done lab'
+    pub remove_done : IsRemoveAllowed None → names_of lab'.opens ≡ end_names (names_of lab.opens) p n → ((f : Files) → IsFor lab.wrapper f → IsFor lab'.wrapper (after_remove f p n)) → Performs lab (Remove p n) reply.Done lab'
     remove_done a names stands = performs lab lab' (Remove p n) reply.Done
         (λ f s.
         done_answers reply.Done (remove_denial (state_of lab f) p n) told.Done (stream_of lab'.wrapper) ((draw (config_of lab.wrapper).remove_rate (stream_of lab.wrapper)).1) tt

@@ -20,7 +20,7 @@ use Rattle.std.proofs.lemmas.Map.Views.{lookup-from_Contains, Contains-from_look
 use Rattle.blob_memory.specs.Audit.{Listed, listed_cmp, IsListing}
 use Rattle.blob_memory.specs.declared.item.Item.{Item}
 use Rattle.blob_memory.specs.Listing.{Names, raw_bytes, raw_in, listed, listing_in, listing_all, AreOrdered, AreOrderedNames, AreAllOrdered}
-use Rattle.blob_names.specs.Names.{found, below}
+use Rattle.blob_names.specs.Names.{value_at, below}
 use Rattle.blob_memory.proofs.Listings.{by_bytes, lookup_by_bytes, keys_by_bytes, sorted_by_bytes}
 
 empty : {X : Type 0} (x : X) → Contains [] x → ⊥
@@ -143,12 +143,12 @@ is_listing m outer inner = record {
   each : (b : Listed) → Contains (listing_all m.entries) b → raw_in m b.partition b.name ≡ Some b.bytes
   each b h =
       let k = all_contains m.entries inner b h in
-      let there : found string_bytes m b.partition ≡ Some k.0 = lookup_by_bytes string_bytes m.entries b.partition ∙ lookup-from_Contains nat_list_eq_equiv b.partition k.0 (by_bytes string_bytes m.entries) outer_keys k.1 in
-      ap (λ r. option_map raw_bytes (below (found (λ j. j.items)) r b.name)) there ∙ sym (lookup_raws k.0.entries b.name) ∙ lookup-from_Contains nat_list_eq_equiv b.name b.bytes (raws k.0.entries) (inner_keys k.0 k.3) k.2
+      let there : value_at string_bytes m b.partition ≡ Some k.0 = lookup_by_bytes string_bytes m.entries b.partition ∙ lookup-from_Contains nat_list_eq_equiv b.partition k.0 (by_bytes string_bytes m.entries) outer_keys k.1 in
+      ap (λ r. option_map raw_bytes (below (value_at (λ j. j.items)) r b.name)) there ∙ sym (lookup_raws k.0.entries b.name) ∙ lookup-from_Contains nat_list_eq_equiv b.name b.bytes (raws k.0.entries) (inner_keys k.0 k.3) k.2
 
   all : (b : Listed) → raw_in m b.partition b.name ≡ Some b.bytes → Contains (listing_all m.entries) b
-  all b h = go (found string_bytes m b.partition) refl h where
-    go : (r : Option Names) → found string_bytes m b.partition ≡ r → option_map raw_bytes (below (found (λ j. j.items)) r b.name) ≡ Some b.bytes → Contains (listing_all m.entries) b
+  all b h = go (value_at string_bytes m b.partition) refl h where
+    go : (r : Option Names) → value_at string_bytes m b.partition ≡ r → option_map raw_bytes (below (value_at (λ j. j.items)) r b.name) ≡ Some b.bytes → Contains (listing_all m.entries) b
     go None e h = absurd cc
     go (Some names) e h = all_back m.entries (b.partition, names) (b.name, b.bytes)
         (Contains-from_lookup (λ x y. (bytes_decides x y).0) b.partition names (by_bytes string_bytes m.entries) (sym (lookup_by_bytes string_bytes m.entries b.partition) ∙ e))

@@ -1,7 +1,7 @@
 use Rattle.std.proofs.Common.{rules, refl, ◌≡◌, Some, None, is_some, true, sym, ap, ◌∙◌, arith}
 use Rattle.std.proofs.lemmas.Bool.{false≢true}
 use Rattle.blob_header.specs.Refusals.{error_of, refusal_of, Memory}
-use Rattle.blob_opens.specs.OpenNames.{Accepted, Declined, NoMemory, ended}
+use Rattle.blob_opens.specs.OpenNames.{Accepted, Declined, NoMemory, end_names}
 use Rattle.blob_opens.specs.Opens.{names_of}
 use Rattle.blob_names.specs.Names.{with_name}
 use Rattle.blob_opens.proofs.OpenNames.{taken_back, held, unregistered, is_made}
@@ -45,8 +45,8 @@ returns-in-Err-clause-err g c =
     let partition : c.deref.result.now ≡ r.partition = search rules in
     let name : c.deref-in-Err.result.now ≡ r.name = search rules in
     c.withdraw.ensures
-    ∙ ap (λ q. ended (names_of c.register.new.self) q (Some c.deref-in-Err.result.now)) partition
-    ∙ ap (λ m. ended (names_of c.register.new.self) r.partition (Some m)) name
-    ∙ ap (λ t. ended t r.partition (Some r.name)) c.in_ok-registration.ensures.registered
-    ∙ ap (λ q. ended (record s { registered = with_name s.registered c.args.partition.now c.args.name.now (Some s.next) }) q.partition (Some q.name)) c.in_ok-registration.ensures.ok
+    ∙ ap (λ q. end_names (names_of c.register.new.self) q (Some c.deref-in-Err.result.now)) partition
+    ∙ ap (λ m. end_names (names_of c.register.new.self) r.partition (Some m)) name
+    ∙ ap (λ t. end_names t r.partition (Some r.name)) c.in_ok-registration.ensures.registered
+    ∙ ap (λ q. end_names (record s { registered = with_name s.registered c.args.partition.now c.args.name.now (Some s.next) }) q.partition (Some q.name)) c.in_ok-registration.ensures.ok
     ∙ taken_back s c.args.partition.now c.args.name.now (Some s.next) free
