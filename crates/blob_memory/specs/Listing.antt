@@ -42,12 +42,12 @@ abbrev pub listed_of : List ℕ → List ℕ → Item → Listed
 listed_of p n item = record { partition = p; name = n; bytes = raw_bytes item }
 
 -- an entry of a partition in a listing
-abbrev pub listed : List ℕ → Vec ℕ Global × Item → Listed
-listed p e = listed_of p e.0.items e.1
+abbrev pub listing_entry : List ℕ → Vec ℕ Global × Item → Listed
+listing_entry p e = listed_of p e.0.items e.1
 
 -- the blobs of a partition
 abbrev pub listing_in : List ℕ → List (Vec ℕ Global × Item) → List Listed
-listing_in p es = map (listed p) es
+listing_in p es = map (listing_entry p) es
 
 -- the blobs of some partitions
 abbrev pub listing_all : List (String Global × Names) → List Listed

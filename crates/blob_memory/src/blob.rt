@@ -116,7 +116,7 @@ impl Blob {
 }
 
 impl blob_base::Blob<Storage> for Blob {
-    ghost use Rattle.blob_memory.specs.AnswerLaws.{reads_alike, stale_refused, uninjected, resize_uninjected, done_within, plain_done_within, reserve_refused, within_room};
+    ghost use Rattle.blob_memory.specs.AnswerLaws.{reads_alike, stale_refused, write_uninjected, resize_uninjected, done_within, plain_done_within, reserve_refused, within_room};
     ghost use Rattle.blob_memory.specs.Answers.{OrMemory, AllowsWrite, end_refusal, sync_refusal};
     ghost use Rattle.blob_memory.specs.Leaves.{Leaves};
     ghost use Rattle.blob_memory.specs.Store.{place, live, directory, durable, live_room, room, room_for};
@@ -151,7 +151,7 @@ impl blob_base::Blob<Storage> for Blob {
 
     ghost stale_refused = { stale_refused };
 
-    ghost uninjected = { uninjected };
+    ghost uninjected = { write_uninjected };
 
     ghost resize_uninjected = { resize_uninjected };
 

@@ -28,7 +28,7 @@ pub struct Storage {
 impl Durable for Storage {
     ghost use Rattle.blob_model.specs.Places.{same_place};
     ghost use Rattle.blob_memory.specs.Store.{directory, durable};
-    ghost use Rattle.blob_memory.specs.Laws.{currents, given};
+    ghost use Rattle.blob_memory.specs.Laws.{currents, current_below_next};
 
     type Origin = Origin;
 
@@ -44,7 +44,7 @@ impl Durable for Storage {
 
     ghost currents = { λ s. currents s.contents };
 
-    ghost given = { λ s. given s.contents };
+    ghost given = { λ s. current_below_next s.contents };
 
     /// Returns whether the incarnation is still its name's current one. Does not allocate.
     fn is_current(&self, origin: &Origin) -> bool {
