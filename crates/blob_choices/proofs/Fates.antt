@@ -9,7 +9,7 @@ use Rattle.blob_model.specs.Rates.{Rate, sample}
 use Rattle.blob_model.specs.declared.mode.PartialWriteMode.{PartialWriteMode}
 use Rattle.blob_draws.specs.declared.config.Config.{Config}
 use Rattle.blob_draws.specs.declared.config.ResizeConfig.{ResizeConfig}
-use Rattle.blob_draws.specs.Faults.{WriteFate, Idle, Uncounted, Done, Unsynced, Failed, ResizeFate, Resizes, Stays, draw, retention, failed, drawn_fate, write_fate, partly, resize_fate}
+use Rattle.blob_draws.specs.Faults.{WriteFate, Idle, Uncounted, Done, Unsynced, Failed, ResizeFate, Resizes, Stays, draw, retention, failure, drawn_fate, write_fate, partly, resize_fate}
 use Rattle.blob_choices.specs.Decided.{IsDecided}
 use Rattle.blob_choices.proofs.Deciding.{decided_none, decided_same, decided_then, decided_map, decided_if}
 use Rattle.blob_choices.proofs.Draws.{decided_sampled, decided_positions}
@@ -18,7 +18,7 @@ pub decided_draw : (rate : Option Rate) → IsDecided (draw rate)
 decided_draw None = decided_none false
 decided_draw (Some rate) = decided_sampled rate
 
-decided_failed : (kept : Option (PartialWriteMode × Rate)) (offset len : ℕ) → IsDecided (failed kept offset len)
+decided_failed : (kept : Option (PartialWriteMode × Rate)) (offset len : ℕ) → IsDecided (failure kept offset len)
 decided_failed None offset len = decided_none (Failed [])
 decided_failed (Some kept) offset len = decided_map (positions kept.0 kept.1 offset len) (λ bs. Failed bs) (decided_positions kept.0 kept.1 offset len)
 
@@ -27,8 +27,8 @@ decided_drawn_fate config sync offset len =
     let d : Stream → Bool × Stream = draw (option_map (λ c. c.failure_rate) config.write_rate) in
     let synced : Stream → WriteFate × Stream = λ s. (let e = draw config.sync_rate s in (cond e.0 Unsynced Done, e.1)) in
     let plain : Stream → WriteFate × Stream = λ s. cond sync (synced s) (Done, s) in
-    decided_then d (λ fails s. cond fails (failed (retention config.write_rate) offset len s) (plain s)) (decided_draw (option_map (λ c. c.failure_rate) config.write_rate))
-    (λ s. decided_if (d s).0 (failed (retention config.write_rate) offset len) plain
+    decided_then d (λ fails s. cond fails (failure (retention config.write_rate) offset len s) (plain s)) (decided_draw (option_map (λ c. c.failure_rate) config.write_rate))
+    (λ s. decided_if (d s).0 (failure (retention config.write_rate) offset len) plain
     (λ _. decided_failed (retention config.write_rate) offset len)
     (λ _. decided_if sync synced (λ r. (Done, r)) (λ _. decided_map (draw config.sync_rate) (λ b. cond b Unsynced Done) (decided_draw config.sync_rate)) (λ _. decided_none Done)))
 

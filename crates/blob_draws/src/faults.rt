@@ -1,7 +1,7 @@
 //! The draws of a call, made before the inner store is called.
 ghost use Rattle.std.specs.Prelude.{◌≡◌, ◌<◌, ◌+◌, ◌^◌, Some, None, IfOk, OnErr, length, replicate, false, IfSome};
 ghost use Rattle.blob_header.specs.Refusals.{IsMemory};
-ghost use Rattle.blob_draws.specs.Faults.{draw, retention, failed, drawn_fate, partly, resize_fate, size_between};
+ghost use Rattle.blob_draws.specs.Faults.{draw, retention, failure, drawn_fate, partly, resize_fate, size_between};
 ghost use Rattle.blob_model.specs.Rates.{sample};
 ghost use Rattle.blob_draws.specs.Fates.{retention_of, write_failure, write_fate_of, resize_fate_of, DrawsOutcome, IsSized};
 
@@ -73,7 +73,7 @@ fn draw_kept<R: Rng>(
     rng: &mut R,
 ) -> Result<WriteFate, Error>
     requires { offset + len < 2 ^ 64 }
-    ensures ok { IfOk result (DrawsOutcome (failed (retention config) offset len) (R.stream rng.old) (R.stream rng.new)) }
+    ensures ok { IfOk result (DrawsOutcome (failure (retention config) offset len) (R.stream rng.old) (R.stream rng.new)) }
     ensures sized { IfOk result (λ fate. IsSized len (write_fate_of fate)) }
     ensures memory { OnErr result (IsMemory result) }
 {

@@ -5,7 +5,7 @@ use Rattle.blob_header.specs.Refusals.{Refusal, Injected, WriteFailed, error_of}
 use Rattle.blob_header.specs.declared.error.Error.{Error}
 use Rattle.blob_model.specs.Log.{Entry}
 use Rattle.blob_model.specs.Runs.{Run, runs}
-use Rattle.blob_draws.specs.Answers.{Allowed, or_memory, allows_laid, allows_runs, last_end, numbered, injected_for}
+use Rattle.blob_draws.specs.Answers.{Allowed, or_memory, allows_laid, allows_runs, last_end, exhausted_or, injected_for}
 use Rattle.blob_draws.specs.Faults.{WriteFate, Done, Unsynced, Failed, retention}
 use Rattle.blob_faulty.specs.Writes.{View, Logs, Recorded, WroteBy, plain, laid_runs}
 use Rattle.blob_faulty.proofs.Fating.{done_plainly, of_synced}
@@ -99,12 +99,12 @@ done_failed chosen direct old new sync offset bytes w = record {
 }
 
 -- a fault in place of Ok, and a refusal that stays
-pub fault_allowed : (lacks : Bool) (inner : Allowed) → or_memory (numbered lacks inner) None → or_memory (numbered lacks (injected_for inner)) (Some Injected)
+pub fault_allowed : (lacks : Bool) (inner : Allowed) → or_memory (exhausted_or lacks inner) None → or_memory (exhausted_or lacks (injected_for inner)) (Some Injected)
 fault_allowed lacks inner (inl memory) = absurd (cc)
 fault_allowed true inner (inr e) = absurd (cc)
 fault_allowed false inner (inr h) = inr (inl (refl, h))
 
-pub refusal_allowed : (lacks : Bool) (inner : Allowed) (answer : Option Refusal) → IsSome answer → or_memory (numbered lacks inner) answer → or_memory (numbered lacks (injected_for inner)) answer
+pub refusal_allowed : (lacks : Bool) (inner : Allowed) (answer : Option Refusal) → IsSome answer → or_memory (exhausted_or lacks inner) answer → or_memory (exhausted_or lacks (injected_for inner)) answer
 refusal_allowed lacks inner answer some (inl memory) = inl memory
 refusal_allowed true inner answer some (inr e) = inr e
 refusal_allowed false inner answer some (inr h) = inr (inr (some, h))

@@ -22,7 +22,7 @@ use Rattle.blob_model.proofs.Persistence.{fixed_all, fixed_by_write, fixed_by_op
 use Rattle.blob_faulty.specs.declared.storage.Storage.{Storage}
 use Rattle.blob_faulty.specs.Keeps.{KeepsBytes}
 use Rattle.blob_faulty.specs.Names.{Steps}
-use Rattle.blob_draws.specs.Recorded.{kept}
+use Rattle.blob_draws.specs.Recorded.{kept_entries}
 use Rattle.blob_faulty.specs.Wrapper.{Adds, Stands, inner_of}
 
 -- another name's incarnation
@@ -87,7 +87,7 @@ module _ {S R O : Type 0} (place : O → Place) (names : S → Directory) (bytes
       keeps_beside out = stepped bytes (all_logged k.files o es) added (λ q lt. fixed_all k.files o o q (get_or bytes q 0) es (λ _. out q lt) (k.fixed q lt))
 
     -- one write that is kept, right after the bytes
-    pub keeps_more : (more : List ℕ) → Adds place (names (inner_of old)) (bytes_of (inner_of old)) (bytes_of (inner_of new)) old new o (kept (length bytes) more) → Keeps new o (bytes ++ more)
+    pub keeps_more : (more : List ℕ) → Adds place (names (inner_of old)) (bytes_of (inner_of old)) (bytes_of (inner_of new)) old new o (kept_entries (length bytes) more) → Keeps new o (bytes ++ more)
     keeps_more [] adds = subst (λ (b : List ℕ). Keeps new o b) (sym (append-nil bytes)) (keeps_beside [] adds (λ q lt. refl))
     keeps_more (y ∷ ys) adds = stepped (bytes ++ y ∷ ys) (all_logged k.files o (Kept (length bytes) (y ∷ ys) ∷ [])) (added (Kept (length bytes) (y ∷ ys) ∷ []) adds) (λ q lt.
         ⊎_elim

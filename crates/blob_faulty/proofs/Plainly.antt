@@ -18,9 +18,9 @@ use Rattle.blob_model.specs.Places.{Place}
 use Rattle.blob_model.specs.Runs.{Run}
 use Rattle.blob_draws.specs.declared.config.WriteConfig.{WriteConfig}
 use Rattle.blob_draws.specs.Changes.{lacks_number, loose}
-use Rattle.blob_draws.specs.Answers.{Allowed, numbered, or_memory}
-use Rattle.blob_draws.specs.Faults.{issued, retention}
-use Rattle.blob_pending.specs.Lists.{IsAt, SameLists, held, list_of}
+use Rattle.blob_draws.specs.Answers.{Allowed, exhausted_or, or_memory}
+use Rattle.blob_draws.specs.Faults.{new_write, retention}
+use Rattle.blob_pending.specs.Lists.{IsAt, SameLists, lists_of, list_of}
 use Rattle.blob_faulty.specs.declared.blob.Blob.{Blob}
 use Rattle.blob_faulty.specs.declared.storage.Storage.{Storage}
 use Rattle.blob_faulty.specs.Allowed.{MayWritePlain}
@@ -43,7 +43,7 @@ module _ {S R O B : Type 0} (store : stores.Ghosts S O) (handle : handles.Ghosts
   -- the inner store alone is another
   pub same_rest : w' ≡ record w { inner = w'.inner } → SameRest (seen store handle b w) (seen store handle c w')
   same_rest e = record {
-    pending = λ o. ap (λ (x : Storage S R O). held_at (seen store handle c x).held o) e;
+    pending = λ o. ap (λ (x : Storage S R O). held_at (seen store handle c x).lists_of o) e;
     next_write = ap (λ (x : Storage S R O). x.next_write) e;
     next_marker = ap (λ (x : Storage S R O). x.next_marker) e;
     config = ap (λ (x : Storage S R O). x.config) e;
@@ -175,7 +175,7 @@ module _ {S R O B : Type 0} (store : stores.Ghosts S O) (handle : handles.Ghosts
 
   -- done, and recorded in that capacity
   pub pushed : (n : Storage S R O) (sync : Bool) (list : ℕ) (config : WriteConfig) → sync ≡ false → 0 < length bytes → retention w.config.write_rate ≡ Some (config.mode, config.retention_rate) →
-      m ≡ record w { lists = m.lists } → SameLists store.place w.lists.all.lists.items m.lists.all.lists.items → IsAt (held store.place m.lists.all.lists.items) list (handle.place b.inner) →
+      m ≡ record w { lists = m.lists } → SameLists store.place w.lists.all.lists.items m.lists.all.lists.items → IsAt (lists_of store.place m.lists.all.lists.items) list (handle.place b.inner) →
       d ≡ record m { inner = d.inner } → Wrote handle.is_direct (seen store handle b m) (seen store handle c d) (unrecorded sync offset bytes) None →
       GainsWrite store.place d n list offset bytes config → n ≡ record d { lists = n.lists; next_write = d.next_write + 1 } → Recorded handle.is_direct true (seen store handle b w) (seen store handle c n) (plain offset bytes) None
   pushed n true list config is some retained room same at rest wrote gains last = absurd (cc)
@@ -211,14 +211,14 @@ module _ {S R O B : Type 0} (store : stores.Ghosts S O) (handle : handles.Ghosts
       number = ap (λ (s : Storage S R O). s.next_write) rest ∙ ap (λ (s : Storage S R O). s.next_write) room
 
       write : Write
-      write = issued w.next_write offset bytes config
+      write = new_write w.next_write offset bytes config
 
       entries : loose (retention w.config.write_rate) w.next_write offset bytes ≡ Loose write ∷ []
       entries = ap (λ (k : Option (PartialWriteMode × Rate)). loose k w.next_write offset bytes) retained ∙ loose_some (config.mode, config.retention_rate) w.next_write offset bytes some
 
       lists : (a : Place) → list_of store.place n.lists.all.lists.items a ≡ with_at (pending_of store.place w) (handle.place b.inner) (pending_of store.place w (handle.place b.inner) ++ Waiting (need_of write []) ∷ []) a
-      lists = subst (λ (k : ℕ). (a : Place) → list_of store.place n.lists.all.lists.items a ≡ with_at (pending_of store.place w) (handle.place b.inner) (pending_of store.place w (handle.place b.inner) ++ Waiting (need_of (issued k offset bytes config) []) ∷ []) a) number
-          (pushed_at store.place w m d d.inner n.lists list (handle.place b.inner) (Waiting (need_of (issued d.next_write offset bytes config) [])) same at rest gains)
+      lists = subst (λ (k : ℕ). (a : Place) → list_of store.place n.lists.all.lists.items a ≡ with_at (pending_of store.place w) (handle.place b.inner) (pending_of store.place w (handle.place b.inner) ++ Waiting (need_of (new_write k offset bytes config) []) ∷ []) a) number
+          (pushed_at store.place w m d d.inner n.lists list (handle.place b.inner) (Waiting (need_of (new_write d.next_write offset bytes config) [])) same at rest gains)
 
 -- What it may return.
 
@@ -227,7 +227,7 @@ has_number retained next [] left = refl
 has_number false next (x ∷ bytes) left = refl
 has_number true next (x ∷ bytes) left = left
 
-pub with_number : (lacks : Bool) (inner : Allowed) (answer : Option Refusal) → lacks ≡ false → inner answer → or_memory (numbered lacks inner) answer
+pub with_number : (lacks : Bool) (inner : Allowed) (answer : Option Refusal) → lacks ≡ false → inner answer → or_memory (exhausted_or lacks inner) answer
 with_number true inner answer is h = absurd (cc)
 with_number false inner answer is h = inr h
 

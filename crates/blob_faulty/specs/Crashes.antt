@@ -11,7 +11,7 @@ use Rattle.blob_model.specs.Order.{ArePlacesApart}
 use Rattle.blob_model.specs.Pending.{replay}
 use Rattle.blob_model.specs.Places.{Place}
 use Rattle.blob_model.specs.Stands.{replayed_at}
-use Rattle.blob_pending.specs.Lists.{held, list_of}
+use Rattle.blob_pending.specs.Lists.{lists_of, list_of}
 use Rattle.blob_pending.specs.Ranges.{ranges}
 use Rattle.blob_draws.specs.Rows.{rows_in, table_of}
 use Rattle.blob_pending.specs.Views.{left_in}
@@ -40,7 +40,7 @@ ReplaysPending before after kept = (o : Place) → durable (inner_of after) o �
 
 -- the same of the lists of the code, and their rows
 abbrev pub ReplaysLists : List (Incarnation Place) → List (ℕ × Vec Bool Global) → Durable → Durable → Type 0
-ReplaysLists lists rows before after = ArePlacesApart (held (λ o. o) lists) → (o : Place) → after o ≡ replayed_at (chosen_by (rows_in rows)) (list_of (λ o. o) lists o) (before o)
+ReplaysLists lists rows before after = ArePlacesApart (lists_of (λ o. o) lists) → (o : Place) → after o ≡ replayed_at (chosen_by (rows_in rows)) (list_of (λ o. o) lists o) (before o)
 
 -- one list of the code, over its incarnation
 abbrev pub ReplaysList : Incarnation Place → List (ℕ × Vec Bool Global) → Durable → Durable → Type 0

@@ -18,7 +18,7 @@ use Rattle.blob_memory.specs.declared.storage.Storage as memory
 use Rattle.blob_draws.specs.declared.config.Config.{Config}
 use Rattle.blob_draws.specs.declared.config.ResizeConfig.{ResizeConfig}
 use Rattle.blob_draws.specs.Faults.{ResizeFate, resize_fate}
-use Rattle.blob_draws.specs.Recorded.{kept, recorded_write, recorded_resize, live_of_write, live_of_resize, size_of_write, size_of_resize}
+use Rattle.blob_draws.specs.Recorded.{kept_entries, recorded_write, recorded_resize, live_of_write, live_of_resize, size_of_write, size_of_resize}
 use Rattle.blob_faulty.specs.declared.blob.Blob.{Blob}
 use Rattle.blob_faulty.specs.declared.storage.Storage.{Storage}
 use Rattle.blob_faulty.specs.Certain.{IsNever, partial_resizes}
@@ -72,7 +72,7 @@ ResizesCut = (config : Option ResizeConfig) (size len : ℕ) (stream : Stream) (
 abbrev pub SyncWritesKept : {S R O B : Type 0} → handles.Ghosts (Blob B) (Storage S R O) O → (R → Stream) → Type 0
 SyncWritesKept {S} {R} {O} {B} wrapped stream = (b : Blob B) (s : Storage S R O) (offset : ℕ) (bytes : List ℕ) →
     wrapped.allows_write b s offset bytes true None →
-    recorded_write (config_of s) (next_write_of s) (stream (rng_of s)) true offset bytes None ≡ kept offset bytes
+    recorded_write (config_of s) (next_write_of s) (stream (rng_of s)) true offset bytes None ≡ kept_entries offset bytes
 
 -- what a write records and what it changes of live bytes lies in its range
 abbrev pub RecordedInRange : Type 0

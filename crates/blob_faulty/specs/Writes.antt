@@ -17,7 +17,7 @@ use Rattle.blob_base.specs.declared.storage.Blob as handles
 use Rattle.blob_faulty.specs.declared.blob.Blob.{Blob}
 use Rattle.blob_draws.specs.declared.config.Config.{Config}
 use Rattle.blob_faulty.specs.declared.storage.Storage.{Storage}
-use Rattle.blob_pending.specs.Lists.{held}
+use Rattle.blob_pending.specs.Lists.{lists_of}
 use Rattle.blob_faulty.specs.Asked.{AsksLaid, InnerReached, InnerRefused, InnerRefusedInRoom}
 use Rattle.blob_faulty.specs.Pieces.{first_after}
 use Rattle.blob_faulty.specs.Wrapper.{pending_of}
@@ -46,7 +46,7 @@ seen store handle b w = record {
   place = handle.place b.inner;
   live = handle.live b.inner;
   size = b.size;
-  held = held store.place w.lists.all.lists.items;
+  held = lists_of store.place w.lists.all.lists.items;
   next_write = w.next_write;
   next_marker = w.next_marker;
   config = w.config;

@@ -3,7 +3,7 @@ ghost use Rattle.std.specs.Prelude.{◌≡◌, ◌<◌, ◌≤◌, ℕ, false, l
 ghost use Rattle.blob_model.specs.Bytes.{between};
 ghost use Rattle.blob_model.specs.Holes.{in_holes};
 ghost use Rattle.blob_model.specs.Pending.{has_marker, replay, replay_entry, end_of, ends};
-ghost use Rattle.blob_pending.specs.Lists.{held, held_by};
+ghost use Rattle.blob_pending.specs.Lists.{lists_of, held_by};
 ghost use Rattle.blob_pending.specs.Ranges.{ranges};
 ghost use Rattle.blob_pending.specs.Replays.{width, widest, widest_of_all};
 ghost use Rattle.blob_faulty.specs.Crashes.{chosen_in, ChoosesUncovered, ReplaysList, ReplaysLists, StaysChosen};
@@ -137,7 +137,7 @@ pub fn replay_all(
 )
     requires numbered { AreNumbered rows.now }
     requires ready { All (λ list. IsReady inner.old (held_by (λ o. o) list)) lists.now }
-    requires width { widest_of_all (held (λ o. o) lists.now) ≤ vec_capacity chosen.old }
+    requires width { widest_of_all (lists_of (λ o. o) lists.now) ≤ vec_capacity chosen.old }
     ensures durable { ReplaysLists lists.now rows.now (durable inner.old) (durable inner.new) }
     ensures directory { directory inner.new ≡ directory inner.old }
 {

@@ -16,12 +16,12 @@ use Rattle.blob_pending.specs.declared.room.Room.TheVariants as room
 abbrev pub held_by : {O : Type 0} → (O → Place) → Incarnation O → ListAt
 held_by place i = (place i.origin, left_in i.entries.items)
 
-abbrev pub held : {O : Type 0} → (O → Place) → List (Incarnation O) → List ListAt
-held place is = map (held_by place) is
+abbrev pub lists_of : {O : Type 0} → (O → Place) → List (Incarnation O) → List ListAt
+lists_of place is = map (held_by place) is
 
 -- the pending list of an incarnation, empty if it has none
 abbrev pub list_of : {O : Type 0} → (O → Place) → List (Incarnation O) → Place → List Pending
-list_of place is = held_at (held place is)
+list_of place is = held_at (lists_of place is)
 
 abbrev pub is_list_of : Place → ListAt → Bool
 is_list_of o h = same_place h.0 o
@@ -67,7 +67,7 @@ pub record HasRoomIn {O : Type 0} (is : List (Incarnation O)) (i : ℕ) (what : 
 
 -- it is that of an incarnation
 pub record IsRoomAt {O : Type 0} (place : O → Place) (is : List (Incarnation O)) (i : ℕ) (o : Place) (what : Room) : Type 0 where
-  pub at : IsAt (held place is) i o
+  pub at : IsAt (lists_of place is) i o
   pub here : HasRoomIn is i what
 
 -- what is pending of each incarnation stays
@@ -76,20 +76,20 @@ SameLists place old new = (o : Place) → list_of place new o ≡ list_of place 
 
 -- the list at i alone is another, by whichever incarnation it is of
 abbrev pub ChangesAt : {O : Type 0} → (O → Place) → List (Incarnation O) → List (Incarnation O) → ℕ → (List Pending → List Pending) → Type 0
-ChangesAt place old new i change = (o : Place) → IsAt (held place old) i o → (a : Place) → list_of place new a ≡ with_at (list_of place old) o (change (list_of place old o)) a
+ChangesAt place old new i change = (o : Place) → IsAt (lists_of place old) i o → (a : Place) → list_of place new a ≡ with_at (list_of place old) o (change (list_of place old o)) a
 
 -- the list at i, of any incarnation, gets these bytes if it queues a durable range of them
 abbrev pub IsCopyAt : {O : Type 0} → (O → Place) → List (Incarnation O) → ℕ → List ℕ → List ℕ → Type 0
-IsCopyAt place is i bytes copy = (o : Place) → IsAt (held place is) i o → IsCopyFor copy (list_of place is o) bytes
+IsCopyAt place is i bytes copy = (o : Place) → IsAt (lists_of place is) i o → IsCopyFor copy (list_of place is o) bytes
 
 -- the lists after a durable range in the list at i; `copy` has its bytes if it is queued there
 abbrev pub LaysAt : {O : Type 0} → (O → Place) → List (Incarnation O) → List (Incarnation O) → ℕ → ℕ → ℕ → List ℕ → Type 0
-LaysAt place old new i offset len copy = (o : Place) → IsAt (held place old) i o → (bytes : List ℕ) → length bytes ≡ len → IsCopyFor copy (list_of place old o) bytes
+LaysAt place old new i offset len copy = (o : Place) → IsAt (lists_of place old) i o → (bytes : List ℕ) → length bytes ≡ len → IsCopyFor copy (list_of place old o) bytes
     → (a : Place) → list_of place new a ≡ with_at (list_of place old) o (apply_durable offset bytes (list_of place old o)) a
 
 -- the list at i is of the same incarnation as before
 abbrev pub StaysAt : {O : Type 0} → (O → Place) → List (Incarnation O) → List (Incarnation O) → ℕ → Type 0
-StaysAt place old new i = (o : Place) → IsAt (held place old) i o → IsAt (held place new) i o
+StaysAt place old new i = (o : Place) → IsAt (lists_of place old) i o → IsAt (lists_of place new) i o
 
 -- the list at i can take these durable ranges
 abbrev pub HasRangesAt : {O : Type 0} → List (Incarnation O) → ℕ → Holes → Type 0
@@ -125,6 +125,6 @@ RetiresEnded place now old new = (noted : Directory) → AreNoted place noted ol
 
 -- the list at i is of an incarnation and can take these durable ranges
 pub record HasRoomAt {O : Type 0} (place : O → Place) (is : List (Incarnation O)) (i : ℕ) (o : Place) (hs : Holes) : Type 0 where
-  pub at : IsAt (held place is) i o
+  pub at : IsAt (lists_of place is) i o
   pub inside : i < length is
   pub ranges : HasRangesAt is i hs

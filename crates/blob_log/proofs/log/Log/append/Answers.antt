@@ -7,7 +7,7 @@ use Rattle.blob_model.specs.Files.{Files, all_logged}
 use Rattle.blob_model.specs.Live.{live_written}
 use Rattle.blob_model.specs.Log.{Entry, Kept}
 use Rattle.blob_model.specs.Places.{Place}
-use Rattle.blob_faulty.specs.Recorded.{kept, recorded_write}
+use Rattle.blob_faulty.specs.Recorded.{kept_entries, recorded_write}
 use Rattle.blob_faulty.specs.Keeps.{IsFor, Keeps}
 use Rattle.blob_faulty.specs.Wrapper.{config_of, next_write_of, rng_of}
 use Rattle.blob_log.specs.Frames.{frame, frames}
@@ -49,7 +49,7 @@ returns-clause-acknowledged g c = λ records h.
 -- What else is left.
 
 -- a write of some bytes is kept as one
-kept_some : (offset : ℕ) (bytes : List ℕ) → 0 < length bytes → kept offset bytes ≡ Kept offset bytes ∷ []
+kept_some : (offset : ℕ) (bytes : List ℕ) → 0 < length bytes → kept_entries offset bytes ≡ Kept offset bytes ∷ []
 kept_some offset [] some = absurd (omega arith)
 kept_some offset (b ∷ bytes) some = refl
 
@@ -63,7 +63,7 @@ returns-clause-appended g c = λ files stands.
     let some : 0 < length (frame r) = omega (arith, length_frame r) in
     let now = w.current refl (λ e. omega (arith, ap length (sym is ∙ e), some)) in
     let all : recorded_write (config_of c.args.store.now) (next_write_of c.args.store.now) (g.R.Rng.stream (rng_of c.args.store.now)) true log.end bytes None ≡ Kept log.end (frame r) ∷ [] =
-    c.writes.ensures.whole log.blob c.args.store.now log.end bytes w.allowed ∙ ap (kept log.end) is ∙ kept_some log.end (frame r) some in
+    c.writes.ensures.whole log.blob c.args.store.now log.end bytes w.allowed ∙ ap (kept_entries log.end) is ∙ kept_some log.end (frame r) some in
     subst (λ (es : List Entry). IsFor c.write_at.new.store (all_logged files (log_place log) es)) all
     (c.recorded.ensures.stands c.args.store.now c.write_at.new.store (log_place log)
     (recorded_write (config_of c.args.store.now) (next_write_of c.args.store.now) (g.R.Rng.stream (rng_of c.args.store.now)) true log.end bytes None) files now w.directory stands (w.leaves.recorded refl))
