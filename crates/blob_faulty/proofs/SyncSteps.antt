@@ -15,7 +15,7 @@ use Rattle.blob_faulty.specs.declared.storage.Storage.{Storage}
 use Rattle.blob_faulty.specs.Names.{Steps}
 use Rattle.blob_faulty.specs.Syncs.{Publishes, Starts}
 use Rattle.blob_faulty.specs.Wrapper.{pending_of, next_write_of, next_marker_of, KeepsRecords}
-use Rattle.blob_faulty.specs.Writes.{SameRecords, Synced, seen}
+use Rattle.blob_faulty.specs.Writes.{SameRecords, Synced, view_of}
 use Rattle.blob_faulty.proofs.Adding.{numbered_so, at_each, keeps_stands}
 
 -- a sync
@@ -38,11 +38,11 @@ marker_starts place names bytes bytes' old new o live over lists write marker fi
 
 -- a refused one records nothing, and leaves the files
 pub records_of : {S R O B : Type 0} (store : stores.Ghosts S O) (handle : handles.Ghosts B S O) (b c : Blob B) (old new : Storage S R O) (rng : R) →
-    SameRecords (seen store handle b (record old { rng = rng })) (seen store handle c new) → new.config ≡ old.config → KeepsRecords store.place old new
+    SameRecords (view_of store handle b (record old { rng = rng })) (view_of store handle c new) → new.config ≡ old.config → KeepsRecords store.place old new
 records_of store handle b c old new rng k config = record { pending = k.pending; numbers = record { next_write = k.next_write; next_marker = k.next_marker; config = config } }
 
 pub refused_steps : {S R O B : Type 0} (store : stores.Ghosts S O) (handle : handles.Ghosts B S O) (b c : Blob B) (old new : Storage S R O) (rng : R) (answer : Option Refusal) →
-    Synced (seen store handle b (record old { rng = rng })) (seen store handle c new) answer → IsSome answer → Steps store.place store.directory store.durable old new (λ files. files)
+    Synced (view_of store handle b (record old { rng = rng })) (view_of store handle c new) answer → IsSome answer → Steps store.place store.directory store.durable old new (λ files. files)
 refused_steps store handle b c old new rng answer synced some files s =
     keeps_stands store.place _ _ _ _ old new files synced.directory (synced.refused some) (records_of store handle b c old new rng (synced.unrecorded some) synced.config) s
 

@@ -22,7 +22,7 @@ use Rattle.blob_faulty.specs.declared.blob.Blob.{Blob}
 use Rattle.blob_faulty.specs.declared.storage.Storage.{Storage}
 use Rattle.blob_draws.specs.Changes.{size_of_runs}
 use Rattle.blob_faulty.specs.Wrapper.{pending_of, Stands, Adds}
-use Rattle.blob_faulty.specs.Writes.{View, seen, ViewFor, Logs, SameRecords, HasBytes, Unchanged, Effect, Recorded, LeavesRuns, durable_written, all_changed, live_of_runs, laid_runs}
+use Rattle.blob_faulty.specs.Writes.{View, view_of, ViewFor, Logs, SameRecords, HasBytes, Unchanged, Effect, Recorded, LeavesRuns, durable_written, all_changed, live_of_runs, laid_runs}
 
 -- by the option that was given
 pub durable_by : (sync : Bool) (x f : Durable) (o : Place) (p : ℕ) (b : List ℕ) → (sync ≡ true → x ≡ with_changed f o (λ y. overlay y p b)) → (sync ≡ false → x ≡ f) → x ≡ durable_written sync f o p b
@@ -215,7 +215,7 @@ runs_after {R} direct whole old mid new rs answer u w = record {
 
 -- what a handle and its wrapper log, after a draw, as the wrapper's files have it
 pub adds_of : {S R O B : Type 0} (store : stores.Ghosts S O) (handle : handles.Ghosts B S O) (b b' : Blob B) (w w' : Storage S R O) (rng : R) (es es' : List Entry) →
-    store.directory w'.inner ≡ store.directory w.inner → es ≡ es' → Logs (seen store handle b (record w { rng = rng })) (seen store handle b' w') es' →
+    store.directory w'.inner ≡ store.directory w.inner → es ≡ es' → Logs (view_of store handle b (record w { rng = rng })) (view_of store handle b' w') es' →
     Adds store.place (store.directory w.inner) (store.durable w.inner) (store.durable w'.inner) w w' (handle.place b.inner) es
 adds_of {S} {R} {O} {B} store handle b b' w w' rng es es' names same logs files below s =
     subst (λ (entries : List Entry). Stands store.place (store.directory w.inner) (store.durable w'.inner) w' (all_logged files (handle.place b.inner) entries)) (sym same)

@@ -26,8 +26,8 @@ pub record AreVersions (versions : RangeInclusive BlobVersion) : Type 0 where
   pub some : lower versions ≤ upper versions
 
 -- pending lists, where those of some incarnations are retired
-abbrev pub emptied : (Place → Bool) → (Place → List Pending) → Place → List Pending
-emptied gone lists o = cond (gone o) [] (lists o)
+abbrev pub retire_where : (Place → Bool) → (Place → List Pending) → Place → List Pending
+retire_where gone lists o = cond (gone o) [] (lists o)
 
 -- an open, by what it may leave of the inner store
 pub record OpenLeaves {S R O : Type 0} (place : O → Place) (stream : R → Stream) (asked : S → Type 0) (before after : Storage S R O) : Type 0 where
@@ -45,7 +45,7 @@ pub record RemoveLeaves {S R O : Type 0} (place : O → Place) (stream : R → S
   -- if it is true, the inner store isn't called
   pub inner : MatchBool (draw (config_of before).remove_rate (stream (rng_of before))).0 (inner_of after ≡ inner_of before) (asked (inner_of after))
   -- after Ok, the pending lists of the incarnations that end are retired, and no others
-  pub retired : answer ≡ None → (o : Place) → pending_of place after o ≡ emptied ends (pending_of place before) o
+  pub retired : answer ≡ None → (o : Place) → pending_of place after o ≡ retire_where ends (pending_of place before) o
   -- after a refusal the same is pending
   pub kept : IsSome answer → (o : Place) → pending_of place after o ≡ pending_of place before o
   pub numbers : KeepsNumbers before after

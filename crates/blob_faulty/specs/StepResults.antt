@@ -15,7 +15,7 @@ use Rattle.blob_faulty.specs.declared.blob.Blob.{Blob}
 use Rattle.blob_faulty.specs.declared.storage.Storage.{Storage}
 use Rattle.blob_faulty.specs.Asked.{Asks, AsksRuns, AsksWrite}
 use Rattle.blob_faulty.specs.Wrapper.{inner_of, inside}
-use Rattle.blob_faulty.specs.Writes.{FailsBy, ReachesBy, Records, RecordsRuns, ResizesBy, Writes, WritesBy, cut, laid_runs, plain, unrecorded}
+use Rattle.blob_faulty.specs.Writes.{FailsBy, ReachesBy, Records, RecordsRuns, ResizesBy, Writes, WritesBy, resize_effect, laid_runs, plain, unrecorded_write}
 
 -- The calls of the inner blob, of a handle and its wrapper before a step and after it.
 
@@ -41,7 +41,7 @@ module _ {S R O B T : Type 0} (handle : handles.Ghosts B S O) (b : Blob B) (befo
 module _ {S R O B T : Type 0} (store : stores.Ghosts S O) (handle : handles.Ghosts B S O) (b : Blob B) (before : Storage S R O) (c : Blob B) (after : Storage S R O) where
   -- a write without SYNC of which nothing is recorded
   abbrev pub WritesUnrecorded : ℕ → List ℕ → Result T Error → Type 0
-  WritesUnrecorded offset bytes result = Writes store handle b before c after (unrecorded false offset bytes) (error_of result)
+  WritesUnrecorded offset bytes result = Writes store handle b before c after (unrecorded_write false offset bytes) (error_of result)
 
   -- one that is pending if retention is set
   abbrev pub RecordsPlain : ℕ → List ℕ → Result T Error → Type 0
@@ -53,7 +53,7 @@ module _ {S R O B T : Type 0} (store : stores.Ghosts S O) (handle : handles.Ghos
 
   -- a resize that survives a crash
   abbrev pub RecordsResize : ℕ → Result T Error → Type 0
-  RecordsResize len result = Records store handle b before c after (cut len (Resized len ∷ [])) (error_of result)
+  RecordsResize len result = Records store handle b before c after (resize_effect len (Resized len ∷ [])) (error_of result)
 
   -- the kept runs of a failed write
   abbrev pub LaysKept : ℕ → List ℕ → List Bool → Result T Error → Type 0

@@ -8,7 +8,7 @@ ghost use Rattle.blob_faulty.specs.Allowed.{MayResizeAs};
 ghost use Rattle.blob_faulty.specs.Asked.{AsksResize};
 ghost use Rattle.blob_faulty.specs.StepResults.{CallsInner, MayCallInner, RecordsResize, ResizesAs, ReachesAs};
 ghost use Rattle.blob_faulty.specs.Wrapper.{KeepsDurable};
-ghost use Rattle.blob_faulty.specs.Writes.{Writes, cut};
+ghost use Rattle.blob_faulty.specs.Writes.{Writes, resize_effect};
 
 use crate::blob::Blob;
 use crate::storage::Storage;
@@ -28,7 +28,7 @@ impl<B> Blob<B> {
         B: blob_base::Blob<S>,
         ensures allowed { B.allows_resize self.old.inner store.old.inner len (error_of result) }
         ensures asked { CallsInner B.Blob self.old store.old self.new store.new (Resize len) result }
-        ensures wrote { Writes S.Durable B.Blob self.old store.old self.new store.new (cut len []) (error_of result) }
+        ensures wrote { Writes S.Durable B.Blob self.old store.old self.new store.new (resize_effect len []) (error_of result) }
         ensures untracked { OnErr result (self.new.size ≡ self.old.size) }
         ensures durable { S.durable store.new.inner ≡ S.durable store.old.inner }
         ensures rest { store.new ≡ record store.old { inner = store.new.inner } }

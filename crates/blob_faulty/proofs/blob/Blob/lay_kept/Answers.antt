@@ -11,7 +11,7 @@ use Rattle.blob_model.specs.Runs.{Run, runs, AreRunsApart}
 use Rattle.blob_faulty.specs.declared.write_runs.Piece.{Piece}
 use Rattle.blob_draws.specs.Answers.{or_memory, allows_runs, last_end}
 use Rattle.blob_faulty.specs.Pieces.{runs_in}
-use Rattle.blob_faulty.specs.Writes.{View, Recorded, LaysFront, seen, laid_runs}
+use Rattle.blob_faulty.specs.Writes.{View, Recorded, LaysFront, view_of, laid_runs}
 use Rattle.blob_faulty.proofs.Plainly.{of_room_refused}
 use Rattle.blob_faulty.proofs.FailedSteps.{no_runs_in, runs_of_none, end_by_last}
 use Rattle.blob_faulty.proofs.Fated.{room_allowed}
@@ -47,8 +47,8 @@ lay_runs-requires-clause-within g c direct now k d h =
 
 pub returns-clause-laid : goal.returns-clause-laid
 returns-clause-laid g c =
-    let old : View g.row.R.Denot = seen g.S.Durable g.B.Blob c.args.self.now c.args.store.now in
-    let new : View g.row.R.Denot = seen g.S.Durable g.B.Blob c.lay_runs.new.self c.lay_runs.new.store in
+    let old : View g.row.R.Denot = view_of g.S.Durable g.B.Blob c.args.self.now c.args.store.now in
+    let new : View g.row.R.Denot = view_of g.S.Durable g.B.Blob c.lay_runs.new.self c.lay_runs.new.store in
     let same : runs_in c.in_ok-pieces.pieces.items ≡ runs c.args.offset (g.P.Payload.bytes c.args.bytes) c.args.kept.now = c.in_ok-pieces.ensures.ok ∙ ap (λ (b : List ℕ). runs c.args.offset b c.args.kept.now) (c.in_ok-bytes.ensures.ok ∙ c.in_ok-owned.ensures.ok) in
     subst (λ (rs : List Run). Recorded g.B.Blob.is_direct g.B.Blob.is_direct old new (laid_runs rs) (error_of c.lay_runs.result)) same
     (runs_after g.B.Blob.is_direct g.B.Blob.is_direct old _ new (runs_in c.in_ok-pieces.pieces.items) (error_of c.lay_runs.result) c.reserve_runs.ensures.unchanged c.lay_runs.ensures.laid.recorded)
@@ -96,7 +96,7 @@ returns-clause-front g c is =
     let same : runs_in c.in_ok-pieces.pieces.items ≡ runs c.args.offset (g.P.Payload.bytes c.args.bytes) c.args.kept.now = c.in_ok-pieces.ensures.ok ∙ ap (λ (b : List ℕ). runs c.args.offset b c.args.kept.now) (c.in_ok-bytes.ensures.ok ∙ c.in_ok-owned.ensures.ok) in
     let room : Asks g.B.Blob c.args.self.now c.args.store.now c.reserve_runs.new.self c.reserve_runs.new.store (Reserve (last_end 0 (runs_in c.in_ok-pieces.pieces.items))) None =
     subst (λ (ps : List Piece). Asks g.B.Blob c.args.self.now c.args.store.now c.reserve_runs.new.self c.reserve_runs.new.store (Reserve (last_end 0 (runs_in ps))) None) c.deref.ensures.value c.in_ok-list.ensures.asked in
-    subst (λ (rs : List Run). LaysFront (InnerRefusedInRoom g.B.Blob c.args.self.now c.args.store.now r.new.self r.new.store rs) (seen g.S.Durable g.B.Blob c.args.self.now c.args.store.now) (seen g.S.Durable g.B.Blob r.new.self r.new.store) rs) same
+    subst (λ (rs : List Run). LaysFront (InnerRefusedInRoom g.B.Blob c.args.self.now c.args.store.now r.new.self r.new.store rs) (view_of g.S.Durable g.B.Blob c.args.self.now c.args.store.now) (view_of g.S.Durable g.B.Blob r.new.self r.new.store) rs) same
     (front_in_room g.B.Blob.leaves _ _ _ _ _ _ _ _ _ (runs_in c.in_ok-pieces.pieces.items) c.reserve_runs.ensures.unchanged (asked_of g.B.Blob c.args.self.now c.args.store.now c.reserve_runs.new.self c.reserve_runs.new.store room) (r.ensures.laid.front is))
 
 pub returns-then-is_empty-2-clause-laid : goal.returns-then-is_empty-2-clause-laid

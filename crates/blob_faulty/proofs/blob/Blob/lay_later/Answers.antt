@@ -12,7 +12,7 @@ use Rattle.blob_pending.proofs.HoleRoom.{first_at}
 use Rattle.blob_faulty.proofs.RunSteps.{ok_holds, is_refused, is_done, popped, later_within, first_within}
 use Rattle.blob_base.specs.HandleCalls.{Write}
 use Rattle.blob_faulty.specs.Asked.{Made, run_calls}
-use Rattle.blob_faulty.specs.Writes.{seen}
+use Rattle.blob_faulty.specs.Writes.{view_of}
 use Rattle.blob_faulty.proofs.Asking.{then_made}
 use Rattle.blob_faulty.proofs.Fronts.{up_to_first, up_to_next, front_refused, some_refusal}
 use Rattle.blob_faulty.proofs.Writing.{one_less, all_laid, later_refused}
@@ -84,7 +84,7 @@ loop-run-init g c = record {
   within = c.requires.within;
   some = λ none. none;
   left = record { live = refl; durable = refl; size = refl; logs = λ later k. k; directory = refl; place = refl; config = refl; rng = refl };
-  laid = up_to_first g.B.Blob.leaves c.args.self.now.inner c.args.store.now.inner (seen g.S.Durable g.B.Blob c.args.self.now c.args.store.now) (runs_in c.args.pieces.items);
+  laid = up_to_first g.B.Blob.leaves c.args.self.now.inner c.args.store.now.inner (view_of g.S.Durable g.B.Blob c.args.self.now c.args.store.now) (runs_in c.args.pieces.items);
   asked = λ answer x y made. made;
 }
 
