@@ -10,7 +10,7 @@ use Rattle.blob_model.specs.Rates.{Rate, sample}
 use Rattle.blob_model.specs.declared.mode.PartialWriteMode.{PartialWriteMode}
 use Rattle.blob_model.specs.declared.mode.PartialWriteMode.TheVariants.{Prefix, Subset, Sectors}
 use Rattle.blob_tree.specs.Trees.{Leaf, Choice, IsLeaf}
-use Rattle.blob_lab_model.specs.Scripted.{Left, scripted}
+use Rattle.blob_lab_model.specs.Scripted.{Left, scripted_stream}
 use Rattle.blob_choices.specs.Decided.{HasU64Words, path_stream, zeros, IsDecided}
 use Rattle.blob_choices.proofs.Deciding.{decided_none, decided_then, decided_map, decided_if}
 
@@ -35,7 +35,7 @@ below_less rate a b le h =
     let more : a * rate.denominator ≤ b * rate.denominator = mul-le-mul_right rate.denominator le in
     le-ltb (b * rate.denominator) (rate.numerator * 2 ^ 64) (omega (arith, was, more))
 
-takes_word : (rate : Rate) (path : List Bool) (tail : Left) → IsLeaf (Choice Leaf Leaf) path → by_word rate (path_stream path tail) ≡ ((by_word rate (path_stream path zeros)).0, scripted tail)
+takes_word : (rate : Rate) (path : List Bool) (tail : Left) → IsLeaf (Choice Leaf Leaf) path → by_word rate (path_stream path tail) ≡ ((by_word rate (path_stream path zeros)).0, scripted_stream tail)
 unfolding next_u64 stream_of
 takes_word rate [] tail a = absurd a
 takes_word rate (true ∷ []) tail a = refl

@@ -3,7 +3,7 @@ use Rattle.std.specs.Prelude.{◌≡◌, ℕ, Bool, List, [], ◌∷◌, if◌th
 use Rattle.std.specs.Global.{Global}
 use Rattle.blob_script.specs.declared.call.Call.{Call}
 use Rattle.blob_script.specs.declared.reply.Reply.{Reply}
-use Rattle.blob_script.specs.Settings.{cleared}
+use Rattle.blob_script.specs.Settings.{no_rates}
 use Rattle.blob_lab_store.specs.Tables.{images_of}
 use Rattle.blob_tree.specs.WordsLeft.{EndsAfter}
 use Rattle.blob_lab_model.specs.Runs.{LeadsTo}
@@ -26,12 +26,12 @@ image_of image = (string_bytes image.0, image.1.items, image.2.items)
 
 -- the state in which each run of a script starts, except the words
 abbrev pub start_of : Script → State
-start_of script = start (images_of script.images.items) (only []) cleared
+start_of script = start (images_of script.images.items) (only []) no_rates
 
 -- a run over these words gives these replies, and leaves this number of words
 abbrev pub Ran : Images → List Call → List ℕ → List Reply → Option ℕ → Type 0
 Ran images calls words replies left =
-    (w : State) × LeadsTo (start (images_of images) (only words) cleared) calls replies w
+    (w : State) × LeadsTo (start (images_of images) (only words) no_rates) calls replies w
     × IfSome left (λ n. EndsAfter w.stream n)
 
 -- the leaf is that of the path, continued by true outcomes, in each tree that decides the run

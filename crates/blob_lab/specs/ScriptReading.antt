@@ -19,7 +19,7 @@ use Rattle.blob_script.specs.Lines.{Said, line_of}
 use Rattle.blob_script.specs.Replies.{reply_line}
 use Rattle.blob_lab.specs.Scripts.{IsPrinted, Prints, Run, Script, lines_of, no_script, with_line, with_lines}
 use Rattle.blob_lab.specs.Streams.{AppendsPart, OfBytes, reader_of, writer_of}
-use Rattle.blob_script.specs.Settings.{cleared}
+use Rattle.blob_script.specs.Settings.{no_rates}
 use Rattle.blob_lab_model.specs.Runs.{LeadsTo}
 use Rattle.blob_lab_model.specs.States.{State, start}
 use Rattle.blob_lab_store.specs.Tables.{images_of}
@@ -83,11 +83,11 @@ pub record TakesPart (s t : Script) (lines left : List (List ℕ)) : Type 0 wher
 pub record Begins (lab : Lab) (s : Script) (line : List ℕ) (act : Act) (config : Config) : Type 0 where
   pub none : s.calls ≡ []
   pub adds : AddsCall s line act config
-  pub stands : LabStandsFor lab (start s.images s.words cleared)
+  pub stands : LabStandsFor lab (start s.images s.words no_rates)
 
 -- a laboratory was created from a script's images and words, without rates
 abbrev pub IsCreatedFrom : Lab → Script → Type 0
-IsCreatedFrom lab s = LabStandsFor lab (start s.images s.words cleared)
+IsCreatedFrom lab s = LabStandsFor lab (start s.images s.words no_rates)
 
 -- the script of the preamble so far
 abbrev pub preamble_of : Preamble → Config → Script
@@ -142,7 +142,7 @@ pub record HasReplies (s : Script) (printed : List ℕ) (w : State) : Type 0 whe
   pub calls : List Call
   pub replies : List Reply
   pub are : map act_of calls ≡ s.calls
-  pub run : LeadsTo (start s.images s.words cleared) calls replies w
+  pub run : LeadsTo (start s.images s.words no_rates) calls replies w
   pub lines : printed ≡ flat_map printed_reply replies
 
 -- the output of the lines before the line with this number was added, and with that line they aren't a script; numbers

@@ -8,7 +8,7 @@ use Rattle.std.proofs.lemmas.Option.{none-some, same_Some}
 use Rattle.blob_model.specs.Directory.{Directory, File, is_current, is_that, directory_without}
 use Rattle.blob_model.specs.Places.{Place}
 use Rattle.std.specs.Prelude.{option_and_then}
-use Rattle.blob_lab_model.specs.Steps.{unregistered}
+use Rattle.blob_lab_model.specs.Steps.{close_registration}
 use Rattle.blob_lab_model.specs.Answers.{kept_at}
 use Rattle.blob_lab_model.specs.Exclusive.{IsOpenBy}
 use Rattle.blob_names.specs.Names.{with_name}
@@ -90,11 +90,11 @@ emptied d s t handles number next stays x = record {
 }
 
 pub closed_one : (d : Directory) (s : OpenNames) (handles : List (Option Held)) (number : ℕ) (slot : Option Held) → kept_at handles number ≡ slot
-    → AreExclusive d s handles → AreExclusive d (unregistered s (option_and_then (λ h. h.registration) slot)) (set handles number None)
+    → AreExclusive d s handles → AreExclusive d (close_registration s (option_and_then (λ h. h.registration) slot)) (set handles number None)
 closed_one d s handles number None here x = emptied d s s handles number refl (λ i k other was is_open. is_open) x
 closed_one d s handles number (Some h) here x = by_registration h.registration refl
   where
-    by_registration : (registration : Option Registration) → h.registration ≡ registration → AreExclusive d (unregistered s registration) (set handles number None)
+    by_registration : (registration : Option Registration) → h.registration ≡ registration → AreExclusive d (close_registration s registration) (set handles number None)
     by_registration None by = emptied d s s handles number refl (λ i k other was is_open. is_open) x
     by_registration (Some r) by =
         emptied d s (release s r) handles number refl

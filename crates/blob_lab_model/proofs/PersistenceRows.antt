@@ -10,10 +10,10 @@ use Rattle.blob_header.specs.Refusals.{Injected}
 use Rattle.blob_draws.specs.declared.config.Config.{Config}
 use Rattle.blob_model.specs.declared.mode.PartialWriteMode.TheVariants.{Prefix}
 use Rattle.blob_script.specs.Acts.{Act, Open, OpenLoose, Configure, Close, Through, Read, Write, Resize, Sync, StartSync, Crash, Remove}
-use Rattle.blob_lab_model.specs.After.{after}
+use Rattle.blob_lab_model.specs.After.{after_act}
 use Rattle.blob_lab_model.specs.Answers.{answer}
 use Rattle.blob_lab_model.specs.Fixed.{Byte, reaches, Fixes, HasDurably}
-use Rattle.blob_script.specs.Settings.{cleared}
+use Rattle.blob_script.specs.Settings.{no_rates}
 use Rattle.blob_lab_model.specs.Scripted.{only}
 use Rattle.blob_lab_model.specs.States.{State, start}
 use Rattle.blob_script.specs.Told as told
@@ -32,16 +32,16 @@ opens = Open partition name (Some (0, 0))
 
 -- a crash keeps a prefix of an unsynced write, with rate 1/2 per byte
 abbrev halving : Config
-halving = record cleared { write_rate = Some (record { failure_rate = record { numerator = 0; denominator = 1 }; retention_rate = record { numerator = 1; denominator = 2 }; mode = Prefix }) }
+halving = record no_rates { write_rate = Some (record { failure_rate = record { numerator = 0; denominator = 1 }; retention_rate = record { numerator = 1; denominator = 2 }; mode = Prefix }) }
 
 -- a state after a call that returns Ok
 abbrev done : State → Act → State
-done v act = after v act None (answer v act).1
+done v act = after_act v act None (answer v act).1
 
 -- Bytes that stay.
 
 abbrev written : State
-written = done (done (start [] (only (0 ∷ 18446744073709551615 ∷ [])) cleared) opens) (Through 0 (Write 0 (97 ∷ 98 ∷ 99 ∷ []) false))
+written = done (done (start [] (only (0 ∷ 18446744073709551615 ∷ [])) no_rates) opens) (Through 0 (Write 0 (97 ∷ 98 ∷ 99 ∷ []) false))
 
 -- a sync fixes the live bytes
 sync_fixes : Fixes written (Through 0 Sync) None (byte 0 97)
@@ -116,7 +116,7 @@ open_fixes = (refl, (omega arith, refl))
 -- touched it.
 
 abbrev first : State
-first = done (done (done (start [] (only []) cleared) opens) (Through 0 (Write 0 (97 ∷ []) false))) (Through 0 Sync)
+first = done (done (done (start [] (only []) no_rates) opens) (Through 0 (Write 0 (97 ∷ []) false))) (Through 0 Sync)
 
 abbrev both : State
 both = done first (OpenLoose partition name (Some (0, 0)))

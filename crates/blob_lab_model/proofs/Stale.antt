@@ -19,8 +19,8 @@ use Rattle.blob_memory.specs.Answers.{missing, sync_refusal}
 use Rattle.blob_model.specs.SamePlace.{parts, same_place_exact}
 use Rattle.blob_model.proofs.Durables.{others_logged, others_published}
 use Rattle.blob_script.specs.Acts.{Ask, Read, Write, Resize, Size, Sync, StartSync, Act, Configure, Open, OpenLoose, Admit, Close, Through, Finish, Remove, Scan, Crash, Reopen}
-use Rattle.blob_lab_model.specs.After.{after, asked, files_after, held_after, exclusively_opened}
-use Rattle.blob_lab_model.specs.Steps.{begun, sync_denial, removal_step as removal, crash_step, loosely_opened}
+use Rattle.blob_lab_model.specs.After.{after_act, after_ask, files_after, held_after, exclusively_opened}
+use Rattle.blob_lab_model.specs.Steps.{files_after_start, sync_denial, removal_step as removal, crash_step, loosely_opened}
 use Rattle.blob_lab_model.specs.Answers.{kept_at}
 use Rattle.blob_lab_model.specs.Denials.{refused_if, start_denial}
 use Rattle.blob_lab_model.specs.States.{State, Held}
@@ -119,7 +119,7 @@ pub logged_directory : (f : Files) (o : Place) (es : List Entry) → (all_logged
 logged_directory f o [] = refl
 logged_directory f o (e ∷ es) = logged_directory (log_entry f o e) o es
 
-begun_directory : (f : Files) (h : Held) (outcome : Option Refusal) → (begun f h outcome).directory ≡ f.directory
+begun_directory : (f : Files) (h : Held) (outcome : Option Refusal) → (files_after_start f h outcome).directory ≡ f.directory
 begun_directory f h None = refl
 begun_directory f h (Some refusal) = refl
 
@@ -139,7 +139,7 @@ place_after v h (Write offset bytes sync) refusal = refl
 place_after v h (Resize len) refusal = refl
 place_after v h ask refusal = refl
 
-through_ages : (v : State) (number : ℕ) (slot : Option Held) (ask : Ask) (refusal : Option Refusal) → Ages v.files.directory (asked v number slot ask refusal).files.directory
+through_ages : (v : State) (number : ℕ) (slot : Option Held) (ask : Ask) (refusal : Option Refusal) → Ages v.files.directory (after_ask v number slot ask refusal).files.directory
 through_ages v number None ask refusal = same_age v.files.directory
 through_ages v number (Some h) ask refusal = by_same v.files.directory (files_after v h ask refusal).directory (asked_directory v h ask refusal)
 
@@ -160,7 +160,7 @@ crash_ages : (v : State) (refusal : Option Refusal) → Ages v.files.directory (
 crash_ages v None = same_age v.files.directory
 crash_ages v (Some refusal) = same_age v.files.directory
 
-pub ages : (v : State) (act : Act) (refusal : Option Refusal) (rest : Stream) → Ages v.files.directory (after v act refusal rest).files.directory
+pub ages : (v : State) (act : Act) (refusal : Option Refusal) (rest : Stream) → Ages v.files.directory (after_act v act refusal rest).files.directory
 ages v (Configure config) refusal rest = same_age v.files.directory
 ages v (Open p n None) refusal rest = same_age v.files.directory
 ages v (Open p n (Some versions)) refusal rest = exclusive_ages v p n versions refusal
@@ -180,7 +180,7 @@ other_logged : (f : Files) (o a : Place) (es : List Entry) → same_place o a �
 other_logged f o a [] other = refl
 other_logged f o a (e ∷ es) other = other_logged (log_entry f o e) o a es other ∙ (others_logged f o e a other).0
 
-other_begun : (f : Files) (h : Held) (outcome : Option Refusal) (a : Place) → same_place h.place a ≡ false → durable_at (begun f h outcome) a ≡ durable_at f a
+other_begun : (f : Files) (h : Held) (outcome : Option Refusal) (a : Place) → same_place h.place a ≡ false → durable_at (files_after_start f h outcome) a ≡ durable_at f a
 other_begun f h None a other = (others_published f h.place h.live a other).0
 other_begun f h (Some refusal) a other = refl
 
@@ -219,7 +219,7 @@ stale_start v h stale undrawn left =
 pub stale_begun : (v : State) (h : Held) (refusal : Option Refusal) → is_current v.files.directory h.place ≡ false → files_after v h StartSync refusal ≡ v.files
 stale_begun v h (Some refusal) stale = refl
 stale_begun v h None stale = go (draw v.config.sync_rate v.stream).0 (v.files.next_marker == 2 ^ 64 - 1) (is_current v.files.directory h.place) stale where
-  go : (drawn exhausted now : Bool) → now ≡ false → begun v.files h (option_or (refused_if Injected drawn) (option_or (refused_if GenerationsExhausted exhausted) (if now then None else Some (missing h.place)))) ≡ v.files
+  go : (drawn exhausted now : Bool) → now ≡ false → files_after_start v.files h (option_or (refused_if Injected drawn) (option_or (refused_if GenerationsExhausted exhausted) (if now then None else Some (missing h.place)))) ≡ v.files
   go true exhausted now e = refl
   go false true now e = refl
   go false false false e = refl

@@ -13,10 +13,10 @@ use Rattle.blob_header.specs.Resolve.{resolution, is_torn}
 use Rattle.blob_draws.specs.declared.config.Config.{Config}
 use Rattle.blob_model.specs.declared.mode.PartialWriteMode.TheVariants.{Prefix}
 use Rattle.blob_script.specs.Acts.{Act, Open, Configure, Through, Read, Write, Sync, Crash, Reopen}
-use Rattle.blob_lab_model.specs.After.{after}
+use Rattle.blob_lab_model.specs.After.{after_act}
 use Rattle.blob_lab_model.specs.Answers.{answer}
-use Rattle.blob_lab_model.specs.Scripted.{scripted, only}
-use Rattle.blob_script.specs.Settings.{cleared}
+use Rattle.blob_lab_model.specs.Scripted.{scripted_stream, only}
+use Rattle.blob_script.specs.Settings.{no_rates}
 use Rattle.blob_lab_model.specs.States.{State, start}
 use Rattle.blob_script.specs.Told as told
 
@@ -30,16 +30,16 @@ abbrev opens : Act
 opens = Open partition name (Some (0, 0))
 
 abbrev retaining : Config
-retaining = record cleared { write_rate = Some (record { failure_rate = record { numerator = 0; denominator = 1 }; retention_rate = record { numerator = 1; denominator = 1 }; mode = Prefix }) }
+retaining = record no_rates { write_rate = Some (record { failure_rate = record { numerator = 0; denominator = 1 }; retention_rate = record { numerator = 1; denominator = 1 }; mode = Prefix }) }
 
 abbrev done : State → Act → State
-done v act = after v act None (scripted ([], None))
+done v act = after_act v act None (scripted_stream ([], None))
 
 abbrev opened : State
-opened = done (done (start [] (only []) cleared) (Configure retaining)) opens
+opened = done (done (start [] (only []) no_rates) (Configure retaining)) opens
 
 -- the first open creates the blob
-first_open : (answer (start [] (only []) cleared) opens).0 ≡ told.Opened 0 0 0
+first_open : (answer (start [] (only []) no_rates) opens).0 ≡ told.Opened 0 0 0
 first_open = refl
 
 -- a second one fails

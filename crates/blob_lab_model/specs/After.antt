@@ -36,9 +36,9 @@ abbrev pub syncs_after : State → Held → Ask → Option Refusal → List (Opt
 syncs_after v h StartSync None = v.syncs ++ Some (record { outcome = start_denial v h }) ∷ []
 syncs_after v h ask refusal = v.syncs
 
-abbrev pub asked : State → ℕ → Option Held → Ask → Option Refusal → State
-asked v number None ask refusal = v
-asked v number (Some h) ask refusal =
+abbrev pub after_ask : State → ℕ → Option Held → Ask → Option Refusal → State
+after_ask v number None ask refusal = v
+after_ask v number (Some h) ask refusal =
     let handles = set v.handles number (Some (held_after v h ask refusal)) in
     record v { files = files_after v h ask refusal; handles = handles; syncs = syncs_after v h ask refusal }
 
@@ -59,20 +59,20 @@ exclusively_opened v p n versions (Some refusal) = v
 
 -- the state except the generator; a crash keeps the drawn bytes; a rebuild closes all names and drops all started
 -- syncs, but numbers aren't reused, and handles stay
-abbrev pub changed : State → Act → Option Refusal → State
-changed v (Configure config) refusal = record v { config = config }
-changed v (Open p n (Some versions)) refusal = exclusively_opened v p n versions refusal
-changed v (OpenLoose p n (Some versions)) None = with_held v p n (after_open v.files p n versions.0 versions.1) None
-changed v (Admit p n) refusal = record v { files = admit v.files p n }
-changed v (Close number) refusal =
+abbrev pub apply_act : State → Act → Option Refusal → State
+apply_act v (Configure config) refusal = record v { config = config }
+apply_act v (Open p n (Some versions)) refusal = exclusively_opened v p n versions refusal
+apply_act v (OpenLoose p n (Some versions)) None = with_held v p n (after_open v.files p n versions.0 versions.1) None
+apply_act v (Admit p n) refusal = record v { files = admit v.files p n }
+apply_act v (Close number) refusal =
     let registration = option_and_then (λ h. h.registration) (kept_at v.handles number) in
     record v { names = option_map_or (names.release v.names) registration v.names; handles = set v.handles number None }
-changed v (Through number ask) refusal = asked v number (kept_at v.handles number) ask refusal
-changed v (Finish number) refusal = record v { syncs = set v.syncs number None }
-changed v (Remove p n) None = record v { files = after_remove v.files p n; names = names.end_names v.names p n }
-changed v Crash None = record v { files = after_crash v.files (chosen_by (draw_rows v.stream (all_needs v.files.log)).0) }
-changed v Reopen refusal = record v { files = reopen v.files; names = none_open v.names.next; syncs = map (λ slot. None) v.syncs }
-changed v act refusal = v
+apply_act v (Through number ask) refusal = after_ask v number (kept_at v.handles number) ask refusal
+apply_act v (Finish number) refusal = record v { syncs = set v.syncs number None }
+apply_act v (Remove p n) None = record v { files = after_remove v.files p n; names = names.end_names v.names p n }
+apply_act v Crash None = record v { files = after_crash v.files (chosen_by (draw_rows v.stream (all_needs v.files.log)).0) }
+apply_act v Reopen refusal = record v { files = reopen v.files; names = none_open v.names.next; syncs = map (λ slot. None) v.syncs }
+apply_act v act refusal = v
 
-abbrev pub after : State → Act → Option Refusal → Stream → State
-after v act refusal left = record (changed v act refusal) { stream = left }
+abbrev pub after_act : State → Act → Option Refusal → Stream → State
+after_act v act refusal left = record (apply_act v act refusal) { stream = left }

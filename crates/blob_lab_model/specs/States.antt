@@ -9,7 +9,7 @@ use Rattle.blob_draws.specs.declared.config.Config.{Config}
 use Rattle.blob_opens.specs.OpenNames.{OpenNames, Registration, none_open}
 use Rattle.rand_xoshiro.specs.SplitMix64.{splitmix_seed}
 use Rattle.rand_xoshiro.specs.Xoshiro256.{of_seed}
-use Rattle.blob_lab_model.specs.Scripted.{Words, scripted}
+use Rattle.blob_lab_model.specs.Scripted.{Words, scripted_stream}
 
 -- an open handle
 pub record Held : Type 0 where
@@ -53,7 +53,7 @@ start_on images stream config =
     record { files = files; config = config; stream = stream; names = none_open 0; handles = []; syncs = [] }
 
 abbrev pub start : List Image → Words → Config → State
-start images words config = start_on images (scripted (words.given, option_map (λ seed. of_seed (splitmix_seed 32 seed)) words.seed)) config
+start images words config = start_on images (scripted_stream (words.given, option_map (λ seed. of_seed (splitmix_seed 32 seed)) words.seed)) config
 
 -- the incarnation of each handle has a number below the next one
 abbrev pub AreGiven : ℕ → List (Option Held) → Type 0

@@ -14,7 +14,7 @@ use Rattle.blob_memory.specs.Store.{directory, durable}
 use Rattle.blob_script.specs.declared.reply.Reply.{Reply}
 use Rattle.blob_script.specs.declared.reply.Reply.TheVariants.{Done, Failed, Started}
 use Rattle.blob_script.specs.Acts.{Sync}
-use Rattle.blob_lab_model.specs.Steps.{begun, sync_denial}
+use Rattle.blob_lab_model.specs.Steps.{files_after_start, sync_denial}
 use Rattle.blob_lab_model.specs.Denials.{refused_if, start_denial}
 use Rattle.blob_lab_store.specs.LabStands.{Wrapper, Wraps, PerformsAsk, StartsSync, stream_of}
 use Rattle.blob_faulty.specs.Keeps.{IsFor}
@@ -80,7 +80,7 @@ module _ (w w' : Wrapper) (h : Held) (syncs : List (Option states.Started)) (nam
   -- what a started sync leaves of the files, by its outcome
   begins : (f : Files) (outcome : Option Refusal)
       → (outcome ≡ None → Stands (λ o. o) (directory (store_of w)) (durable (store_of w')) w' (start_sync f h.place h.live))
-      → (IsSome outcome → durable (store_of w') ≡ durable (store_of w)) → (IsSome outcome → KeepsRecords (λ o. o) w w') → IsFor w f → IsFor w' (begun f h outcome)
+      → (IsSome outcome → durable (store_of w') ≡ durable (store_of w)) → (IsSome outcome → KeepsRecords (λ o. o) w w') → IsFor w f → IsFor w' (files_after_start f h outcome)
   begins f None starts bytes kept s = subst (λ (d : Directory). Stands (λ o. o) d (durable (store_of w')) w' (start_sync f h.place h.live)) (sym names) (starts refl)
   begins f (Some r) starts bytes kept s = stands_kept w w' f names (bytes refl) (kept refl) s
 
@@ -92,8 +92,8 @@ module _ (w w' : Wrapper) (h : Held) (syncs : List (Option states.Started)) (nam
     stands = λ v u below.
         let u' = subst (Wraps w) (sym (as_seen w v u)) u in
         record {
-          files = subst (λ (x : State). IsFor w' (begun x.files h (start_denial x h))) (as_seen w v u)
-              (subst (λ (x : Option Refusal). IsFor w' (begun v.files h x)) (outcome_is outcome a other v u')
+          files = subst (λ (x : State). IsFor w' (files_after_start x.files h (start_denial x h))) (as_seen w v u)
+              (subst (λ (x : Option Refusal). IsFor w' (files_after_start v.files h x)) (outcome_is outcome a other v u')
               (begins v.files outcome (λ done. starts v.files (subst (λ (d : Directory). h.place.number < d.next) (sym u.files.directory) below) done u.files) bytes kept u.files));
           config = config ∙ u.config;
           stream = refl;

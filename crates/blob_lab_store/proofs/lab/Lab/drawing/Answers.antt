@@ -12,7 +12,7 @@ use Rattle.blob_memory.specs.Store.{directory, durable}
 use Rattle.blob_memory.specs.declared.storage.Storage as memory
 use Rattle.blob_lab_store.specs.LabStands.{Wrapper}
 use Rattle.blob_faulty.specs.Keeps.{IsFor}
-use Rattle.blob_lab_model.specs.Scripted.{scripted}
+use Rattle.blob_lab_model.specs.Scripted.{scripted_stream}
 use Rattle.blob_lab_model.specs.States.{Image, empty_directory, with_image}
 use Rattle.blob_lab_model.specs.Steps.{with_images}
 use Rattle.blob_lab_store.specs.Tables.{images_of}
@@ -61,7 +61,7 @@ returns-clause-stands c =
       wrapper = record {
         files = made_for c.new.result c.loop-partition.store _ c.new.ensures.inner (inv.directory ∙ ap (λ (is : List (String Global × Vec ℕ Global × Vec ℕ Global)). with_images empty_directory (images_of is)) all) (c.new.ensures.files (λ o. []) (nothing_durable (durable c.loop-partition.store) inv.durable));
         config = c.new.ensures.config;
-        stream = ap scripted c.new.ensures.rng;
+        stream = ap scripted_stream c.new.ensures.rng;
       };
       names = c.new-2.ensures;
       handles = c.new-3.ensures;
