@@ -13,7 +13,7 @@ use Rattle.blob_tree.specs.WordsLeft.{EndsAfter, word_at}
 use Rattle.blob_lab_model.specs.Runs.{LeadsTo}
 use Rattle.blob_lab_model.specs.Scripted.{Left, scripted_stream}
 use Rattle.blob_lab_model.specs.States.{State}
-use Rattle.blob_tree.specs.Trees.{DecisionTree, Leaf, Choice, IsLeaf, depth, extended, outcome_word, words_of}
+use Rattle.blob_tree.specs.Trees.{DecisionTree, Leaf, Choice, IsLeaf, depth, extend_path, outcome_word, words_of}
 use Rattle.blob_tree.proofs.Visits.{extended-resized}
 use Rattle.blob_choices.specs.Decided.{Decides, path_stream, zeros}
 use Rattle.blob_choices.specs.Explored.{RunsAlong, RepliesAre, sentinel_words}
@@ -54,7 +54,7 @@ none_left left e some =
 
 -- Paths.
 
-leaf_extended : (t : DecisionTree) (p : List Bool) → IsLeaf t (extended (depth t p) p)
+leaf_extended : (t : DecisionTree) (p : List Bool) → IsLeaf t (extend_path (depth t p) p)
 leaf_extended Leaf p = tt
 leaf_extended (Choice if_true if_false) [] = leaf_extended if_true []
 leaf_extended (Choice if_true if_false) (true ∷ p) = leaf_extended if_true p
@@ -86,7 +86,7 @@ depth_padded (Choice if_true if_false) (true ∷ path) spare h = ap suc (depth_p
 depth_padded (Choice if_true if_false) (false ∷ path) spare h = ap suc (depth_padded if_false path spare (omega arith))
 
 -- nor do they change its first outcomes
-extended_padded : (d : ℕ) (path : List Bool) (spare : ℕ) → d ≤ length path + spare → extended d (path ++ (replicate spare true ++ false ∷ [])) ≡ extended d path
+extended_padded : (d : ℕ) (path : List Bool) (spare : ℕ) → d ≤ length path + spare → extend_path d (path ++ (replicate spare true ++ false ∷ [])) ≡ extend_path d path
 extended_padded zero [] spare h = refl
 extended_padded zero (o ∷ path) spare h = refl
 extended_padded (suc d) [] zero h = absurd (omega arith)
@@ -126,23 +126,23 @@ module _ (v w : State) (calls : List Call) (replies : List Reply) (t : DecisionT
       ∙ ap (λ (u : State). u.stream) (next_stream (acts_of calls) v s (f s).1 (f s).1)
 
   -- the run of a path's words: its result and the rest of the words
-  whole_of : (p : List Bool) → f (scripted_stream (words_of p, None)) ≡ ((f (path_stream (extended (depth t p) p) zeros)).0, scripted_stream (words_of (drop (depth t p) p), None))
+  whole_of : (p : List Bool) → f (scripted_stream (words_of p, None)) ≡ ((f (path_stream (extend_path (depth t p) p) zeros)).0, scripted_stream (words_of (drop (depth t p) p), None))
   whole_of p =
       let d : ℕ = depth t p in
       let tail : Left = (words_of (drop d p), None) in
-      let whole : extended d p ≡ take d p ++ replicate (d - length p) true = sym (extended-resized d p) in
-      let ws : words_of (extended d p) ≡ words_of (take d p) ++ replicate (d - length p) 0 =
+      let whole : extend_path d p ≡ take d p ++ replicate (d - length p) true = sym (extended-resized d p) in
+      let ws : words_of (extend_path d p) ≡ words_of (take d p) ++ replicate (d - length p) 0 =
       ap words_of whole ∙ map-append outcome_word (take d p) (replicate (d - length p) true) ∙ ap (λ (xs : List ℕ). words_of (take d p) ++ xs) (words_true (d - length p)) in
-      let same : path_stream (extended d p) tail ≡ scripted_stream (words_of p, None) = ap (λ (xs : List ℕ). scripted_stream (xs ++ words_of (drop d p), None)) ws ∙ joined d p in
-      ap f (sym same) ∙ D.takes (extended d p) tail (leaf_extended t p)
+      let same : path_stream (extend_path d p) tail ≡ scripted_stream (words_of p, None) = ap (λ (xs : List ℕ). scripted_stream (xs ++ words_of (drop d p), None)) ws ∙ joined d p in
+      ap f (sym same) ∙ D.takes (extend_path d p) tail (leaf_extended t p)
 
   rest_of : (p : List Bool) → (f (scripted_stream (words_of p, None))).1 ≡ scripted_stream (words_of (drop (depth t p) p), None)
   rest_of p = ap (λ (o : (List Told × (Stream → State)) × Stream). o.1) (whole_of p)
 
   -- a run of these words is one along the path to their leaf
-  runs_along : (p : List Bool) → LeadsTo (with_stream v (scripted_stream (words_of p, None))) calls replies w → RunsAlong v calls (extended (depth t p) p) replies
+  runs_along : (p : List Bool) → LeadsTo (with_stream v (scripted_stream (words_of p, None))) calls replies w → RunsAlong v calls (extend_path (depth t p) p) replies
   runs_along p run =
-      let q : List Bool = extended (depth t p) p in
+      let q : List Bool = extend_path (depth t p) p in
       let x : List Told × (Stream → State) = (f (path_stream q zeros)).0 in
       let s : Stream = scripted_stream (words_of p, None) in
       let ends = sound calls replies (with_stream v s) w there run in
@@ -159,7 +159,7 @@ module _ (v w : State) (calls : List Call) (replies : List Reply) (t : DecisionT
       )
 
   pub left_counts : (path : List Bool) (spare left : ℕ) → LeadsTo (with_stream v (scripted_stream (sentinel_words path spare, None))) calls replies w → EndsAfter w.stream left → 0 < left
-      → (depth t path + left ≡ length path + spare + 1) × (depth t path ≤ length path + spare) × RunsAlong v calls (extended (depth t path) path) replies
+      → (depth t path + left ≡ length path + spare + 1) × (depth t path ≤ length path + spare) × RunsAlong v calls (extend_path (depth t path) path) replies
   left_counts path spare left run e some =
       let q : List Bool = padded path spare in
       let p : List Bool = q ++ false ∷ [] in
@@ -187,7 +187,7 @@ module _ (v w : State) (calls : List Call) (replies : List Reply) (t : DecisionT
       let most : depth t path ≤ length path + spare = omega (arith, same, within, len) in
       let L : List ℕ → Type 0 = λ xs. LeadsTo (with_stream v (scripted_stream (xs, None))) calls replies w in
       let R : List Bool → Type 0 = λ q. RunsAlong v calls q replies in
-      let to : extended d p ≡ extended (depth t path) path =
-      ap (λ (n : ℕ). extended n p) (sym same) ∙ ap (extended (depth t path)) parts ∙ extended_padded (depth t path) path spare most in
+      let to : extend_path d p ≡ extend_path (depth t path) path =
+      ap (λ (n : ℕ). extend_path n p) (sym same) ∙ ap (extend_path (depth t path)) parts ∙ extended_padded (depth t path) path spare most in
       (omega (arith, count, fewer, within, same, len), most, subst R to (runs_along p (subst L (sym (given_words path spare)) run))))
       (cases_lt (length q) d)

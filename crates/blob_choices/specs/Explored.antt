@@ -8,7 +8,7 @@ use Rattle.blob_tree.specs.WordsLeft.{EndsAfter}
 use Rattle.blob_lab_model.specs.Runs.{LeadsTo}
 use Rattle.blob_lab_model.specs.Scripted.{Left, scripted_stream}
 use Rattle.blob_lab_model.specs.States.{State}
-use Rattle.blob_tree.specs.Trees.{DecisionTree, IsLeaf, depth, extended, leaves, words_of}
+use Rattle.blob_tree.specs.Trees.{DecisionTree, IsLeaf, depth, extend_path, leaves, words_of}
 use Rattle.blob_choices.specs.Decided.{Decides, HasU64Words, path_stream, zeros}
 use Rattle.blob_choices.specs.Outcomes.{NoneOutOfMemory, acts_of, run_outcome, with_stream}
 
@@ -31,7 +31,7 @@ RunsAlong v calls path replies = (w : State) × ((tail : Left) → LeadsTo (with
 abbrev pub LeftCountsTaken : Type 0
 LeftCountsTaken = (v w : State) (calls : List Call) (replies : List Reply) (t : DecisionTree) (path : List Bool) (spare left : ℕ) → Decides (run_outcome v (acts_of calls)) t
     → NoneOutOfMemory replies → LeadsTo (with_stream v (scripted_stream (sentinel_words path spare, zeros.1))) calls replies w → EndsAfter w.stream left → 0 < left
-    → (depth t path + left ≡ length path + spare + 1) × (depth t path ≤ length path + spare) × RunsAlong v calls (extended (depth t path) path) replies
+    → (depth t path + left ≡ length path + spare + 1) × (depth t path ≤ length path + spare) × RunsAlong v calls (extend_path (depth t path) path) replies
 
 -- each run over 64-bit words is one along the path to a leaf
 abbrev pub LeavesAreAllRuns : Type 0
