@@ -8,7 +8,7 @@ use Rattle.blob_model.specs.Opened.{IsNamed}
 use Rattle.blob_header.specs.Fronts.{BeginsWith}
 use Rattle.blob_header.specs.Refusals.{error_of, refusal_of, Memory}
 use Rattle.blob_log.specs.declared.sessions.Session.{Session}
-use Rattle.blob_log.specs.Held.{record_bytes, acknowledged, log_place}
+use Rattle.blob_log.specs.Held.{record_bytes, acknowledged_records, log_place}
 use Rattle.blob_log.specs.Refused.{NotRecovered, NoMemory, Done}
 use Rattle.blob_log.specs.Runs.{AllRun, RunTo, SessionRuns}
 use Rattle.blob_log.proofs.Running.{crash_drawn, runs_more}
@@ -76,10 +76,10 @@ loop-entries-preserved g c =
           };
       survive = λ files stands.
           let h = c.in_ok-answers.ensures.held (record_bytes before.items) (c.loop-entries.invariant.held files stands) in
-          let found = c.in_ok-again.ensures.found o (record_bytes before.items ++ acknowledged answers.items (record_bytes c.deref.result.now)) named h.short (c.crash.ensures.keeps o _ h.kept) in
+          let found = c.in_ok-again.ensures.found o (record_bytes before.items ++ acknowledged_records answers.items (record_bytes c.deref.result.now)) named h.short (c.crash.ensures.keeps o _ h.kept) in
           survive_more c.loop-entries.done.items c.push.new.self.items session c.args.sessions.now c.loop-entries.entries-index c.entries-item.result (record_bytes c.in_ok-again.after.items)
           (c.loop-entries.invariant.survive files stands) c.loop-entries.invariant.count c.loop-entries-test.true c.entries-item.is c.in_ok-push.ensures.items
-          (subst (λ (l : List (Vec ℕ Global)). BeginsWith (record_bytes before.items ++ acknowledged answers.items (record_bytes l)) (record_bytes c.in_ok-again.after.items)) c.deref.ensures.value found.1);
+          (subst (λ (l : List (Vec ℕ Global)). BeginsWith (record_bytes before.items ++ acknowledged_records answers.items (record_bytes l)) (record_bytes c.in_ok-again.after.items)) c.deref.ensures.value found.1);
     }
 
 pub returns-clause-ran : goal.returns-clause-ran
