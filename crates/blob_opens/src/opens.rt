@@ -6,7 +6,7 @@ ghost use Rattle.blob_base.specs.StoreChanges.{DropsBytes, DropsNames, SameFiles
 ghost use Rattle.blob_header.specs.Refusals.{error_of, refusal_of, BlobAlreadyOpen, FailsWith, GenerationsExhausted, IsMemory, IsMemoryError};
 ghost use Rattle.blob_header.specs.Versions.{lower, upper};
 ghost use Rattle.blob_opens.specs.OpenNames.{open_name, release, end_names, none_open, with_registration, IsExhausted};
-ghost use Rattle.blob_opens.specs.Opens.{names_of, next_registration, registration_of, store_handle, HasNoNumber, OpensHandle, RegistryOpens};
+ghost use Rattle.blob_opens.specs.Opens.{names_of, next_registration, registration_of, store_handle, EndsNames, HasNoNumber, OpensHandle, OpensName};
 
 pub mod history;
 
@@ -58,7 +58,7 @@ impl Opens {
     ) -> Result<(Blob<S::Blob>, u64, BlobVersion), Error>
         requires fresh { range_inclusive_exhausted versions ≡ false }
         requires some { lower versions ≤ upper versions }
-        ensures answer { RegistryOpens S.Storage self.old store.old store.new partition.now name.now versions (error_of result) }
+        ensures answer { OpensName S.Storage self.old store.old store.new partition.now name.now versions (error_of result) }
         ensures exhausted { IsExhausted (names_of self.old) partition.now name.now → FailsWith result GenerationsExhausted }
         ensures registered { OnOk result (names_of self.new ≡ open_name (names_of self.old) partition.now name.now) }
         ensures err { OnErr result (names_of self.new ≡ names_of self.old) }
@@ -111,7 +111,7 @@ impl Opens {
         ensures directory { OnOk result (DropsNames S.Durable store.old store.new partition.now (option_copied name.entry)) }
         ensures durable { OnOk result (DropsBytes S.Durable store.old store.new partition.now (option_copied name.entry)) }
         ensures kept { OnErr result (SameFiles S.Durable store.old store.new) }
-        ensures ended { OnOk result (names_of self.new ≡ end_names (names_of self.old) partition.now (option_copied name.entry)) }
+        ensures ended { OnOk result (EndsNames self.old self.new partition.now (option_copied name.entry)) }
         ensures err { OnErr result (names_of self.new ≡ names_of self.old) }
     {
         store.remove(partition, name)?;
@@ -129,7 +129,7 @@ impl Opens {
     ) -> Result<R, Error>
         requires { F.pre call }
         ensures answer { F.post call result }
-        ensures ended { OnOk result (names_of self.new ≡ end_names (names_of self.old) partition.now (option_copied name.entry)) }
+        ensures ended { OnOk result (EndsNames self.old self.new partition.now (option_copied name.entry)) }
         ensures err { OnErr result (names_of self.new ≡ names_of self.old) }
     {
         let replaced = call()?;

@@ -8,7 +8,7 @@ ghost use Rattle.blob_model.specs.Pending.{Marker, is_marker};
 ghost use Rattle.blob_header.specs.Refusals.{IsMemory};
 ghost use Rattle.blob_pending.specs.Rooms.{CanCut, KeepsRest};
 ghost use Rattle.blob_pending.specs.Views.{view, left_in};
-ghost use Rattle.blob_pending.specs.Lists.{lists_of, IsAt, HasRoomIn, IsRoomAt, HasRangesAt, SameLists, ChangesAt, IsCopyAt, LaysAt, AreDistinct, finished_in, AreNoted, StaysAt, RetiresEnded, RetiresList, FinishesLists, is_kept};
+ghost use Rattle.blob_pending.specs.Lists.{lists_of, IsAt, HasListAt, HasRoomIn, IsRoomAt, HasRangesAt, SameLists, ChangesAt, IsCopyAt, LaysAt, AreDistinct, finished_in, AreNoted, StaysAt, RetiresEnded, RetiresList, FinishesLists, is_kept};
 
 use crate::entry::Entry;
 use crate::incarnation::Incarnation;
@@ -31,7 +31,7 @@ pub struct Lists<S: Durable> {
 
 /// Completes a started sync in each list.
 fn finish_each<O>(lists: &mut [Incarnation<O>], marker: u64)
-    ensures { (place : O → Place) → lists_of place lists.new ≡ map (finished_in marker) (lists_of place lists.old) }
+    ensures { (p : O → Place) → lists_of p lists.new ≡ map (finished_in marker) (lists_of p lists.old) }
 {
     for list in lists.iter_mut() {
         list.finish(marker);
@@ -40,7 +40,7 @@ fn finish_each<O>(lists: &mut [Incarnation<O>], marker: u64)
 
 /// Does `finish_each` for the lists of a vector.
 fn finish_all<O>(lists: &mut Vec<Incarnation<O>>, marker: u64)
-    ensures { (place : O → Place) → lists_of place lists.new.items ≡ map (finished_in marker) (lists_of place lists.old.items) }
+    ensures { (p : O → Place) → lists_of p lists.new.items ≡ map (finished_in marker) (lists_of p lists.old.items) }
 {
     finish_each(lists.as_mut_slice(), marker);
 }
@@ -111,7 +111,7 @@ impl<S: Durable> Lists<S> {
     fn add(&mut self, origin: S::Origin) -> Result<(), AllocError>
         requires { has_list (lists_of S.place self.old.all.lists.items) (S.place origin) ≡ false }
         ensures same { SameLists S.place self.old.all.lists.items self.new.all.lists.items }
-        ensures ok { OnOk result (IsAt (lists_of S.place self.new.all.lists.items) (vec_len self.old.all.lists) (S.place origin)) }
+        ensures ok { OnOk result (HasListAt S.place self.new.all.lists.items (vec_len self.old.all.lists) (S.place origin)) }
         ensures len { OnOk result (vec_len self.new.all.lists ≡ vec_len self.old.all.lists + 1) }
     {
         let alloc = *self.all.lists.allocator();
