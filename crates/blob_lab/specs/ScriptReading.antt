@@ -1,5 +1,5 @@
 -- How the lines of a script are read, if the reader's remaining bytes are known.
-use Rattle.std.specs.Prelude.{◌≡◌, ◌≢◌, ◌⊎◌, ℕ, ◌+◌, List, [], ◌∷◌, ◌++◌, length, map, Option, Some, None, IfSome, IsSomeAnd}
+use Rattle.std.specs.Prelude.{◌≡◌, ◌≢◌, ◌⊎◌, ℕ, ◌+◌, List, [], ◌∷◌, ◌++◌, length, map, Option, Some, None, Result, IfErr, IfSome, IsSomeAnd}
 use Rattle.std.specs.List.{flat_map}
 use Rattle.std.specs.Io.Iter.{u64_saturate}
 use Rattle.std.specs.Io.KnownBytes.{Appends}
@@ -193,6 +193,10 @@ PrintsFrom remaining contents lab first lines i o o' = (s : Script) (line : List
 abbrev pub PrintsFromUpTo : {R W : Type 0} → (R → Option (List ℕ)) → (W → Option (List ℕ)) → Lab → Call → Lines → Input R → Input R → Output W → Output W → Ending → Type 0
 PrintsFromUpTo remaining contents lab first lines i i' o o' ending = (s : Script) (line : List ℕ) → Begins lab s line (act_of first) lines.config
     → Run remaining contents i i' o o' (λ all left. PrintsUpTo ending s lines.number (line ∷ lines_of all) (lines_of left))
+
+-- if the calls end with a failure, up to it
+abbrev pub IfCut : {R W T : Type 0} → (R → Option (List ℕ)) → (W → Option (List ℕ)) → Lab → Call → Lines → Input R → Input R → Output W → Output W → Result T Ending → Type 0
+IfCut remaining contents lab first lines i i' o o' result = IfErr result (PrintsFromUpTo remaining contents lab first lines i i' o o')
 
 -- a call was run, and the line of its reply was added like this
 abbrev pub AddsReply : {W : Type 0} → (W → Option (List ℕ)) → Lab → Call → Lab → Output W → Output W → (Option (List ℕ) → Option (List ℕ) → List ℕ → Type 0) → Type 0
