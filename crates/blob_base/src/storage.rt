@@ -153,8 +153,7 @@ pub trait Blob<S: Durable> {
     /// # Errors
     ///
     /// - `OffsetOverflow` if the range's end, plus the header, overflows 64 bits. Nothing changes.
-    /// - `BlobMissing` if a SYNC write isn't empty and the handle is stale. It changes the live bytes, but no durable
-    ///   byte.
+    /// - `BlobMissing` if a SYNC write isn't empty and the handle is stale. Only the live bytes change.
     /// - `Memory`. Nothing changes.
     ///
     /// A wrapper may also return `Injected`, `WriteFailed` and `GenerationsExhausted`.
@@ -330,8 +329,7 @@ pub trait Storage: Durable {
     /// # Errors
     ///
     /// `PartitionNameInvalid`; then `BlobCorrupt` with the reason, or `BlobVersionMismatch`, in the order of checks in
-    /// docs/FORMATS.md; `GenerationsExhausted` if no number is left for a new incarnation; `Memory`. A wrapper may
-    /// return `Injected` before these. The files are unchanged.
+    /// docs/FORMATS.md; `GenerationsExhausted` if no number is left for a new incarnation; `Memory`.
     fn open_versioned(
         &mut self,
         partition: &str,
@@ -367,8 +365,7 @@ pub trait Storage: Durable {
     ///
     /// # Errors
     ///
-    /// `PartitionNameInvalid`, `PartitionMissing`, then `BlobMissing` if the name doesn't exist; `Memory` for their
-    /// strings. A wrapper may return `Injected` before these. Nothing is removed.
+    /// `PartitionNameInvalid`, `PartitionMissing`, then `BlobMissing` if the name doesn't exist; `Memory`.
     fn remove(&mut self, partition: &str, name: Option<&[u8]>) -> Result<(), Error>
         ensures allowed { allows_remove self.old partition.now (option_copied name.entry) (error_of result) }
         ensures leaves { leaves_remove self.old partition.now (option_copied name.entry) (error_of result) self.new }
@@ -380,7 +377,7 @@ pub trait Storage: Durable {
     ///
     /// # Errors
     ///
-    /// `PartitionNameInvalid`, then `PartitionMissing`; `Memory`. A wrapper may return `Injected` before these.
+    /// `PartitionNameInvalid`, then `PartitionMissing`; `Memory`.
     fn scan(&mut self, partition: &str) -> Result<Vec<Vec<u8>>, Error>
         ensures allowed { allows_scan self.old partition.now (error_of result) }
         ensures leaves { leaves_scan self.old partition.now (error_of result) self.new }
