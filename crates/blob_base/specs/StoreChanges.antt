@@ -2,7 +2,7 @@
 use Rattle.std.specs.Prelude.{◌≡◌, ℕ, ◌≤◌, List, Bool, true, false, Option, Result, OnOk}
 use Rattle.blob_base.specs.declared.storage.Durable as stores
 use Rattle.blob_header.specs.declared.error.Error.{Error}
-use Rattle.blob_model.specs.Directory.{is_current, removed}
+use Rattle.blob_model.specs.Directory.{is_current, directory_without}
 use Rattle.blob_model.specs.Durable.{durable_without, with_changed, with_overlay}
 use Rattle.blob_model.specs.Places.{Place}
 
@@ -34,7 +34,7 @@ module _ {S O : Type 0} (store : stores.Ghosts S O) (s : S) where
 
   -- the directory loses this name, or with None this partition
   abbrev pub DropsNames : S → List ℕ → Option (List ℕ) → Type 0
-  DropsNames s' p n = store.directory s' ≡ removed (store.directory s) p n
+  DropsNames s' p n = store.directory s' ≡ directory_without (store.directory s) p n
 
   -- the durable bytes of this name are dropped, or with None those of this partition
   abbrev pub DropsBytes : S → List ℕ → Option (List ℕ) → Type 0

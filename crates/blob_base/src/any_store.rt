@@ -1,12 +1,12 @@
 // Operations over any store. They rely only on the laws of the traits.
 ghost use Rattle.std.specs.Prelude.{◌≡◌, ◌+◌, ◌<◌, ◌≤◌, ℕ, List, [], true, false, Some, None, OnOk, OnErr, IfOk, length, option_copied};
-ghost use Rattle.blob_model.specs.Bytes.{resized, written};
+ghost use Rattle.blob_model.specs.Bytes.{resize, write_live};
 ghost use Rattle.blob_base.specs.Callers.{BeforeOrBetween, MayWriteLive, MayWriteOnErr, MayWriteRange, PublishesResize, PublishesWrite, ResizesAndStarts, WriteDrops, WritesAndRemoves, WritesAndSyncs};
 ghost use Rattle.blob_base.specs.StoreChanges.{DropsNames, Overlays};
 ghost use Rattle.blob_model.specs.Directory.{is_current};
 ghost use Rattle.blob_model.specs.Live.{live_written};
 ghost use Rattle.blob_base.specs.Options.{is_sync};
-ghost use Rattle.blob_header.specs.Refusals.{refused, IsMemory};
+ghost use Rattle.blob_header.specs.Refusals.{error_of, IsMemory};
 
 use crate::{Blob, Durable, IoBufs, Storage, WriteOptions};
 use blob_header::Error;
@@ -24,8 +24,8 @@ pub fn write_and_sync<S: Durable, B: Blob<S>>(
     plain: WriteOptions,
 ) -> Result<(), Error>
     requires { is_sync plain ≡ false }
-    ensures answer { WritesAndSyncs S.Durable B.Blob blob.old store.old offset bytes (refused result) }
-    ensures live { OnOk result (B.live blob.new ≡ written (B.live blob.old) offset bytes) }
+    ensures answer { WritesAndSyncs S.Durable B.Blob blob.old store.old offset bytes (error_of result) }
+    ensures live { OnOk result (B.live blob.new ≡ write_live (B.live blob.old) offset bytes) }
     ensures durable { OnOk result (PublishesWrite S.Durable B.Blob blob.old store.old store.new offset bytes) }
     ensures directory { S.directory store.new ≡ S.directory store.old }
 {
@@ -44,12 +44,12 @@ pub fn resize_and_start_sync<S: Storage, B: Blob<S>>(
     blob: &mut B,
     len: u64,
 ) -> Result<(), Error>
-    ensures answer { ResizesAndStarts S.Durable B.Blob blob.old store.old len (refused result) }
-    ensures live { OnOk result (B.live blob.new ≡ resized (B.live blob.old) len) }
+    ensures answer { ResizesAndStarts S.Durable B.Blob blob.old store.old len (error_of result) }
+    ensures live { OnOk result (B.live blob.new ≡ resize (B.live blob.old) len) }
     ensures durable { OnOk result (PublishesResize S.Durable B.Blob blob.old store.old store.new len) }
 
     // after an error
-    ensures memory { IsMemory result → BeforeOrBetween (B.live blob.old) (resized (B.live blob.old) len) (B.live blob.new) }
+    ensures memory { IsMemory result → BeforeOrBetween (B.live blob.old) (resize (B.live blob.old) len) (B.live blob.new) }
     ensures err { OnErr result (S.durable store.new ≡ S.durable store.old) }
 
     ensures directory { S.directory store.new ≡ S.directory store.old }
@@ -107,7 +107,7 @@ pub fn write_within_room<S: Durable, B: Blob<S>>(
     requires direct { B.is_direct ≡ true }
     requires current { is_current (S.directory store.old) (B.place blob.old) ≡ true }
     requires inside { offset + length bytes ≤ end }
-    ensures reserved { OnErr result (B.allows_reserve blob.old store.old end (refused result)) }
+    ensures reserved { OnErr result (B.allows_reserve blob.old store.old end (error_of result)) }
     ensures done { IfOk result (λ done. done ≡ Ok tt) }
     ensures live { OnOk result (B.live blob.new ≡ live_written true (B.live blob.old) offset bytes) }
     ensures durable { OnOk result (Overlays S.Durable store.old store.new (B.place blob.old) offset bytes) }
@@ -136,9 +136,9 @@ pub fn plain_write_within_room<S: Durable, B: Blob<S>>(
     requires direct { B.is_direct ≡ true }
     requires some { 0 < offset + length bytes }
     requires inside { offset + length bytes ≤ end }
-    ensures reserved { OnErr result (B.allows_reserve blob.old store.old end (refused result)) }
+    ensures reserved { OnErr result (B.allows_reserve blob.old store.old end (error_of result)) }
     ensures done { IfOk result (λ done. done ≡ Ok tt) }
-    ensures live { OnOk result (B.live blob.new ≡ written (B.live blob.old) offset bytes) }
+    ensures live { OnOk result (B.live blob.new ≡ write_live (B.live blob.old) offset bytes) }
     ensures err { OnErr result (B.live blob.new ≡ B.live blob.old) }
     ensures durable { S.durable store.new ≡ S.durable store.old }
     ensures directory { S.directory store.new ≡ S.directory store.old }

@@ -1,6 +1,6 @@
 ghost use Rattle.std.specs.Prelude.{◌≡◌, ◌<◌, ◌≤◌, ◌+◌, ◌↔◌, IsTrue, List, ℕ, [], ◌++◌, length, OnOk, OnErr, IfOk};
 ghost use Rattle.std.specs.List.{flat_map};
-ghost use Rattle.blob_header.specs.Refusals.{refused, OffsetOverflow, IsMemory};
+ghost use Rattle.blob_header.specs.Refusals.{error_of, OffsetOverflow, IsMemory};
 
 use blob_header::error::Error;
 use std::alloc::Global;
@@ -54,7 +54,7 @@ impl IoBufs {
     pub fn push(&mut self, piece: Vec<u8>) -> Result<(), Error>
         ensures ok { OnOk result (self.new ≡ self.old ++ piece.items) }
         ensures err { OnErr result (self.new ≡ self.old) }
-        ensures overflow { (refused result ≡ Some OffsetOverflow) ↔ (usize.MAX < length self.old + length piece.items) }
+        ensures overflow { (error_of result ≡ Some OffsetOverflow) ↔ (usize.MAX < length self.old + length piece.items) }
         ensures memory { OnErr result (length self.old + length piece.items ≤ usize.MAX → IsMemory result) }
     {
         let Some(total) = self.len.checked_add(piece.len()) else {

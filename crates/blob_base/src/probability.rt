@@ -1,7 +1,7 @@
 ghost use Rattle.std.specs.Prelude.{◌≡◌, ◌<◌, ◌≤◌, ◌↔◌, IsTrue, IsSome, IfSome};
 ghost use Rattle.std.proofs.Common.{rules};
 ghost use Rattle.std.specs.Cmp.Rules.{comparing};
-ghost use Rattle.blob_model.specs.Rates.{sampled, same_rate};
+ghost use Rattle.blob_model.specs.Rates.{sample, same_rate};
 
 use rand_core::Rng;
 use std::marker::Model;
@@ -79,9 +79,9 @@ impl Probability {
 
     /// Makes one draw. A rate of zero is never true and a rate of one always; neither takes a word. Any other rate
     /// takes one 64-bit word `w` and is true if `w * denominator < numerator * 2^64`.
-    #[tactic(auto, unfolding(blob_model::specs::Rates::sampled))]
+    #[tactic(auto, unfolding(blob_model::specs::Rates::sample))]
     pub fn sample<R: Rng>(&self, rng: &mut R) -> bool
-        ensures { (result, R.stream rng.new) ≡ sampled self.now (R.stream rng.old) }
+        ensures { (result, R.stream rng.new) ≡ sample self.now (R.stream rng.old) }
     {
         if self.numerator == 0 {
             return false;

@@ -1,7 +1,7 @@
 // The storage traits and their laws.
 ghost use Rattle.std.specs.Prelude.{◌≡◌, ◌≢◌, ◌⊎◌, ◌+◌, ◌≤◌, ◌<◌, ◌^◌, ◌↔◌, ℕ, List, [], Bool, true, false, Option, Some, None, is_some, IsSome, IsTrue, OnOk, OnErr, IfOk, length, take, drop, option_copied};
 ghost use Rattle.std.specs.Range.{range_inclusive_exhausted};
-ghost use Rattle.blob_model.specs.Bytes.{resized};
+ghost use Rattle.blob_model.specs.Bytes.{resize};
 ghost use Rattle.blob_model.specs.Directory.{Directory, is_current};
 ghost use Rattle.blob_model.specs.Durable.{Durable};
 ghost use Rattle.blob_model.specs.Live.{live_written};
@@ -11,7 +11,7 @@ ghost use Rattle.blob_base.specs.Handles.{outcome_of, outcome_error, marker_of, 
 ghost use Rattle.blob_base.specs.Options.{is_sync, IsSync};
 ghost use Rattle.blob_base.specs.Writes.{live_after_write};
 ghost use Rattle.blob_model.specs.Places.{Place, same_place};
-ghost use Rattle.blob_header.specs.Refusals.{Refusal, refused, Memory, Injected, OffsetOverflow, IsMemory};
+ghost use Rattle.blob_header.specs.Refusals.{Refusal, error_of, Memory, Injected, OffsetOverflow, IsMemory};
 ghost use Rattle.blob_header.specs.Versions.{lower, upper};
 
 use crate::{Handle, IoBufs, IoBufsMut, ReadOptions, WriteOptions};
@@ -112,8 +112,8 @@ pub trait Blob<S: Durable> {
         len: usize,
         options: ReadOptions,
     ) -> Result<IoBufsMut, Error>
-        ensures allowed { allows_read self.now store.old offset len (refused result) }
-        ensures leaves { leaves (Read offset len) self.now store.old (refused result) self.now store.new }
+        ensures allowed { allows_read self.now store.old offset len (error_of result) }
+        ensures leaves { leaves (Read offset len) self.now store.old (error_of result) self.now store.new }
         ensures within { OnOk result (offset + len ≤ length (live self.now)) }
         ensures bytes { IfOk result (λ read. read.bytes ≡ take len (drop offset (live self.now))) }
         ensures directory { S.directory store.new ≡ S.directory store.old }
@@ -134,8 +134,8 @@ pub trait Blob<S: Durable> {
         options: ReadOptions,
     ) -> Result<IoBufsMut, Error>
         requires { len ≤ buf.capacity }
-        ensures allowed { allows_read_buf self.now store.old offset len (refused result) }
-        ensures leaves { leaves (Read offset len) self.now store.old (refused result) self.now store.new }
+        ensures allowed { allows_read_buf self.now store.old offset len (error_of result) }
+        ensures leaves { leaves (Read offset len) self.now store.old (error_of result) self.now store.new }
         ensures within { OnOk result (offset + len ≤ length (live self.now)) }
         ensures bytes { IfOk result (λ read. read.bytes ≡ take len (drop offset (live self.now))) }
         ensures buffer { IfOk result (λ read. buf.capacity ≤ read.capacity) }
@@ -153,8 +153,7 @@ pub trait Blob<S: Durable> {
     /// # Errors
     ///
     /// - `OffsetOverflow` if the range's end, plus the header, overflows 64 bits. Nothing changes.
-    /// - `BlobMissing` if a SYNC write isn't empty and the handle is stale. It changes the live bytes, but no durable
-    ///   byte.
+    /// - `BlobMissing` if a SYNC write isn't empty and the handle is stale. Only the live bytes change.
     /// - `Memory`. Nothing changes.
     ///
     /// A wrapper may also return `Injected`, `WriteFailed` and `GenerationsExhausted`.
@@ -165,8 +164,8 @@ pub trait Blob<S: Durable> {
         bytes: IoBufs,
         options: WriteOptions,
     ) -> Result<(), Error>
-        ensures allowed { allows_write self.old store.old offset bytes (is_sync options) (refused result) }
-        ensures leaves { leaves (Write offset bytes (is_sync options)) self.old store.old (refused result) self.new store.new }
+        ensures allowed { allows_write self.old store.old offset bytes (is_sync options) (error_of result) }
+        ensures leaves { leaves (Write offset bytes (is_sync options)) self.old store.old (error_of result) self.new store.new }
         ensures live { OnOk result (live self.new ≡ live_written (is_sync options) (live self.old) offset bytes) }
         ensures synced { OnOk result (IsSync options → Overlays S.Durable store.old store.new (place self.old) offset bytes) }
         ensures current { OnOk result (IsSync options → bytes ≢ [] → IsCurrentIn S.Durable store.old (place self.old)) }
@@ -191,9 +190,9 @@ pub trait Blob<S: Durable> {
     /// `OffsetOverflow` if the length, plus the header, overflows 64 bits, or `Memory`. Nothing changes. A wrapper may
     /// also return `Injected`; the length may then be any from the old to the requested one.
     fn resize(&mut self, store: &mut S, len: u64) -> Result<(), Error>
-        ensures allowed { allows_resize self.old store.old len (refused result) }
-        ensures leaves { leaves (Resize len) self.old store.old (refused result) self.new store.new }
-        ensures live { OnOk result (live self.new ≡ resized (live self.old) len) }
+        ensures allowed { allows_resize self.old store.old len (error_of result) }
+        ensures leaves { leaves (Resize len) self.old store.old (error_of result) self.new store.new }
+        ensures live { OnOk result (live self.new ≡ resize (live self.old) len) }
         ensures memory { IsMemory result → live self.new ≡ live self.old }
         ensures direct_live { is_direct ≡ true → OnErr result (live self.new ≡ live self.old) }
         ensures durable { S.durable store.new ≡ S.durable store.old }
@@ -206,8 +205,8 @@ pub trait Blob<S: Durable> {
     ///
     /// `BlobMissing` if the handle is stale; `Memory`. A wrapper may also return `Injected`. No durable byte changes.
     fn sync(&mut self, store: &mut S) -> Result<(), Error>
-        ensures allowed { allows_sync self.old store.old (refused result) }
-        ensures leaves { leaves Sync self.old store.old (refused result) self.new store.new }
+        ensures allowed { allows_sync self.old store.old (error_of result) }
+        ensures leaves { leaves Sync self.old store.old (error_of result) self.new store.new }
         ensures synced { OnOk result (Publishes S.Durable store.old store.new (place self.old) (live self.old)) }
         ensures current { OnOk result (IsCurrentIn S.Durable store.old (place self.old)) }
         ensures err { OnErr result (S.durable store.new ≡ S.durable store.old) }
@@ -242,8 +241,8 @@ pub trait Blob<S: Durable> {
     ///
     /// `OffsetOverflow` if the end, plus the header, overflows 64 bits, which is checked first; `Memory`.
     fn reserve(&mut self, store: &mut S, end: u64) -> Result<(), Error>
-        ensures allowed { allows_reserve self.old store.old end (refused result) }
-        ensures leaves { leaves (Reserve end) self.old store.old (refused result) self.new store.new }
+        ensures allowed { allows_reserve self.old store.old end (error_of result) }
+        ensures leaves { leaves (Reserve end) self.old store.old (error_of result) self.new store.new }
         ensures room { ReservesRoom S.Durable store.old is_direct (place self.old) result end (room self.new store.new) }
         ensures live_room { is_direct ≡ true → OnOk result (end ≤ live_room self.new) }
         ensures kept { room self.old store.old ≤ room self.new store.new }
@@ -330,8 +329,7 @@ pub trait Storage: Durable {
     /// # Errors
     ///
     /// `PartitionNameInvalid`; then `BlobCorrupt` with the reason, or `BlobVersionMismatch`, in the order of checks in
-    /// docs/FORMATS.md; `GenerationsExhausted` if no number is left for a new incarnation; `Memory`. A wrapper may
-    /// return `Injected` before these. The files are unchanged.
+    /// docs/FORMATS.md; `GenerationsExhausted` if no number is left for a new incarnation; `Memory`.
     fn open_versioned(
         &mut self,
         partition: &str,
@@ -340,8 +338,8 @@ pub trait Storage: Durable {
     ) -> Result<(Self::Blob, u64, BlobVersion), Error>
         requires fresh { range_inclusive_exhausted versions ≡ false }
         requires some { lower versions ≤ upper versions }
-        ensures allowed { allows_open self.old partition.now name.now (lower versions) (upper versions) (refused result) }
-        ensures leaves { OpenLeft leaves_open self.old self.new partition.now name.now versions (refused result) }
+        ensures allowed { allows_open self.old partition.now name.now (lower versions) (upper versions) (error_of result) }
+        ensures leaves { OpenLeft leaves_open self.old self.new partition.now name.now versions (error_of result) }
         ensures opened { IfOk result (OpensFor Self.Durable Self.Blob.Blob self.old self.new partition.now name.now versions) }
         ensures size { IfOk result (λ opened. opened.1 ≡ length (Self.Blob.live opened.0)) }
         ensures kept_size { IfOk result (λ opened. keeps_size opened.0 opened.1) }
@@ -350,8 +348,8 @@ pub trait Storage: Durable {
     /// Opens the blob for `DEFAULT_BLOB_VERSION` only. Returns a handle and the number of its live bytes. Errors as
     /// `open_versioned`.
     fn open(&mut self, partition: &str, name: &[u8]) -> Result<(Self::Blob, u64), Error>
-        ensures allowed { allows_open self.old partition.now name.now 0 0 (refused result) }
-        ensures leaves { leaves_open self.old partition.now name.now 0 0 (refused result) self.new }
+        ensures allowed { allows_open self.old partition.now name.now 0 0 (error_of result) }
+        ensures leaves { leaves_open self.old partition.now name.now 0 0 (error_of result) self.new }
         ensures opened { IfOk result (OpensDefault Self.Durable Self.Blob.Blob self.old self.new partition.now name.now) }
         ensures size { IfOk result (λ opened. opened.1 ≡ length (Self.Blob.live opened.0)) }
         ensures kept_size { IfOk result (λ opened. keeps_size opened.0 opened.1) }
@@ -367,11 +365,10 @@ pub trait Storage: Durable {
     ///
     /// # Errors
     ///
-    /// `PartitionNameInvalid`, `PartitionMissing`, then `BlobMissing` if the name doesn't exist; `Memory` for their
-    /// strings. A wrapper may return `Injected` before these. Nothing is removed.
+    /// `PartitionNameInvalid`, `PartitionMissing`, then `BlobMissing` if the name doesn't exist; `Memory`.
     fn remove(&mut self, partition: &str, name: Option<&[u8]>) -> Result<(), Error>
-        ensures allowed { allows_remove self.old partition.now (option_copied name.entry) (refused result) }
-        ensures leaves { leaves_remove self.old partition.now (option_copied name.entry) (refused result) self.new }
+        ensures allowed { allows_remove self.old partition.now (option_copied name.entry) (error_of result) }
+        ensures leaves { leaves_remove self.old partition.now (option_copied name.entry) (error_of result) self.new }
         ensures directory { OnOk result (DropsNames Self.Durable self.old self.new partition.now (option_copied name.entry)) }
         ensures durable { OnOk result (DropsBytes Self.Durable self.old self.new partition.now (option_copied name.entry)) }
         ensures err { OnErr result (SameFiles Self.Durable self.old self.new) };
@@ -380,10 +377,10 @@ pub trait Storage: Durable {
     ///
     /// # Errors
     ///
-    /// `PartitionNameInvalid`, then `PartitionMissing`; `Memory`. A wrapper may return `Injected` before these.
+    /// `PartitionNameInvalid`, then `PartitionMissing`; `Memory`.
     fn scan(&mut self, partition: &str) -> Result<Vec<Vec<u8>>, Error>
-        ensures allowed { allows_scan self.old partition.now (refused result) }
-        ensures leaves { leaves_scan self.old partition.now (refused result) self.new }
+        ensures allowed { allows_scan self.old partition.now (error_of result) }
+        ensures leaves { leaves_scan self.old partition.now (error_of result) self.new }
         ensures names { IfOk result (ListsNames (Self.directory self.old) partition.now) }
         ensures there { OnOk result (IsTrue ((Self.directory self.old).has_partition partition.now)) }
         ensures directory { Self.directory self.new ≡ Self.directory self.old }
@@ -395,7 +392,7 @@ pub trait Storage: Durable {
     /// The handle must come from a sync through this store: its marker is a number, so another wrapper would drop the
     /// entries up to its own marker of this number.
     fn finish(&mut self, handle: Handle) -> Result<(), Error>
-        ensures outcome { refused result ≡ refused (outcome_of handle) }
+        ensures outcome { error_of result ≡ error_of (outcome_of handle) }
         ensures leaves { leaves_finish self.old (marker_of handle) self.new }
         ensures directory { Self.directory self.new ≡ Self.directory self.old }
         ensures durable { Self.durable self.new ≡ Self.durable self.old };

@@ -3,7 +3,7 @@ use Rattle.std.proofs.Common.{◌≡◌, ℕ, Bool, true, false, cond, List, [],
 use Rattle.std.proofs.lemmas.List.{map-append}
 use Rattle.rand_core.specs.Stream.{Stream}
 use Rattle.blob_tree.specs.Trees.{DecisionTree, Leaf, Choice, IsLeaf, outcome_word, words_of}
-use Rattle.blob_lab_model.specs.Scripted.{Left, scripted}
+use Rattle.blob_lab_model.specs.Scripted.{Left, scripted_stream}
 use Rattle.blob_choices.specs.Decided.{HasU64Words, path_stream, zeros, Decides, IsDecided}
 
 -- Trees.
@@ -42,7 +42,7 @@ parts (Choice if_true if_false) k (false ∷ path) a =
 
 pub stream_parts : (p q : List Bool) (tail : Left) → path_stream (p ++ q) tail ≡ path_stream p (words_of q ++ tail.0, tail.1)
 stream_parts p q tail =
-    ap (λ (ws : List ℕ). scripted (ws, tail.1)) (ap (λ (ws : List ℕ). ws ++ tail.0) (map-append outcome_word p q) ∙ append_assoc (words_of p) (words_of q) tail.0)
+    ap (λ (ws : List ℕ). scripted_stream (ws, tail.1)) (ap (λ (ws : List ℕ). ws ++ tail.0) (map-append outcome_word p q) ∙ append_assoc (words_of p) (words_of q) tail.0)
 
 -- One draw after another.
 
@@ -50,7 +50,7 @@ stream_parts p q tail =
 abbrev here : {X : Type 0} → X → Stream → X × Stream
 here x s = (x, s)
 
-takes_none : {X : Type 0} (x : X) (path : List Bool) (tail : Left) → IsLeaf Leaf path → here x (path_stream path tail) ≡ here x (scripted tail)
+takes_none : {X : Type 0} (x : X) (path : List Bool) (tail : Left) → IsLeaf Leaf path → here x (path_stream path tail) ≡ here x (scripted_stream tail)
 takes_none x [] tail a = refl
 takes_none x (o ∷ path) tail a = absurd a
 
@@ -71,19 +71,19 @@ module _ {X Y : Type 0} (f : Stream → X × Stream) (g : X → Stream → Y × 
   k path = (G (path_stream path zeros)).0
 
   -- along a path in two parts
-  along : (p q : List Bool) (tail : Left) → IsLeaf t p → IsLeaf (k p) q → both (path_stream (p ++ q) tail) ≡ ((g (f (path_stream p zeros)).0 (path_stream q zeros)).0, scripted tail)
+  along : (p q : List Bool) (tail : Left) → IsLeaf t p → IsLeaf (k p) q → both (path_stream (p ++ q) tail) ≡ ((g (f (path_stream p zeros)).0 (path_stream q zeros)).0, scripted_stream tail)
   along p q tail a b =
       ap both (stream_parts p q tail)
       ∙ ap (λ (r : X × Stream). g r.0 r.1) (F.takes p (words_of q ++ tail.0, tail.1) a)
       ∙ (G (path_stream p zeros)).1.takes q tail b
 
-  takes_both : (path : List Bool) (tail : Left) → IsLeaf (graft t k) path → both (path_stream path tail) ≡ ((both (path_stream path zeros)).0, scripted tail)
+  takes_both : (path : List Bool) (tail : Left) → IsLeaf (graft t k) path → both (path_stream path tail) ≡ ((both (path_stream path zeros)).0, scripted_stream tail)
   takes_both path tail a =
       let r = parts t k path a in
-      let P : List Bool → Type 0 = λ path. both (path_stream path tail) ≡ ((both (path_stream path zeros)).0, scripted tail) in
+      let P : List Bool → Type 0 = λ path. both (path_stream path tail) ≡ ((both (path_stream path zeros)).0, scripted_stream tail) in
       subst P (sym r.whole)
       (along r.first r.second tail r.above r.below
-      ∙ ap (λ (y : Y). (y, scripted tail)) (sym (ap (λ (d : Y × Stream). d.0) (along r.first r.second zeros r.above r.below))))
+      ∙ ap (λ (y : Y). (y, scripted_stream tail)) (sym (ap (λ (d : Y × Stream). d.0) (along r.first r.second zeros r.above r.below))))
 
   covers_both : (s : Stream) → HasU64Words s → (path : List Bool) × IsLeaf (graft t k) path × ((both (path_stream path zeros)).0 ≡ (both s).0)
   covers_both s h =

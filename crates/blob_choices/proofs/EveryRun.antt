@@ -5,7 +5,7 @@ use Rattle.rand_core.specs.Stream.{Stream}
 use Rattle.blob_script.specs.declared.call.Call.{Call}
 use Rattle.blob_script.specs.Told.{Told}
 use Rattle.blob_lab_model.specs.Runs.{LeadsTo}
-use Rattle.blob_lab_model.specs.Scripted.{Left, scripted}
+use Rattle.blob_lab_model.specs.Scripted.{Left, scripted_stream}
 use Rattle.blob_lab_model.specs.States.{State}
 use Rattle.blob_tree.specs.Trees.{DecisionTree, Leaf, Choice, IsLeaf, leaves}
 use Rattle.blob_choices.specs.Decided.{Decides, path_stream}
@@ -51,5 +51,5 @@ hold_every_run v calls t D s w replies words there run =
     let P : (Stream → (List Told × (Stream → State)) × Stream) → Type 0 = λ f. Decides f t in
     let (p, leaf, go) = leaf_of u w calls replies t (subst P (sym same) D) words there run in
     let (i, lt, here) = listed t p leaf in
-    let Q : List Bool → Type 0 = λ q. (tail : Left) → LeadsTo (with_stream v (path_stream q tail)) calls replies (with_stream w (scripted tail)) in
+    let Q : List Bool → Type 0 = λ q. (tail : Left) → LeadsTo (with_stream v (path_stream q tail)) calls replies (with_stream w (scripted_stream tail)) in
     (i, lt, subst Q (sym (here [])) go)

@@ -8,9 +8,9 @@ use Rattle.blob_script.specs.declared.reply.Reply.TheVariants as reply
 use Rattle.blob_script.specs.Acts.{Act, act_of}
 use Rattle.blob_script.specs.Told as told
 use Rattle.blob_script.specs.Told.{Told, Tells, refused_by}
-use Rattle.blob_lab_model.specs.After.{after}
+use Rattle.blob_lab_model.specs.After.{after_act}
 use Rattle.blob_lab_model.specs.Runs.{LeadsTo}
-use Rattle.blob_lab_model.specs.Scripted.{Left, scripted}
+use Rattle.blob_lab_model.specs.Scripted.{Left, scripted_stream}
 use Rattle.blob_lab_model.specs.States.{State}
 use Rattle.blob_tree.specs.Trees.{DecisionTree, IsLeaf}
 use Rattle.blob_choices.specs.Decided.{Decides, HasU64Words, path_stream}
@@ -59,7 +59,7 @@ sound (c ∷ calls) (r ∷ replies) v w there (left, inl m, run) = absurd (there
 sound (c ∷ calls) (r ∷ replies) v w there (left, inr a, run) =
     let act : Act = act_of c in
     let o : Outcome × Stream = outcome v act v.stream in
-    let e = sound calls replies (after v act (refused_by r) left) w there.1 run in
+    let e = sound calls replies (after_act v act (refused_by r) left) w there.1 run in
     let same : refusal_in o.0.0 ≡ refused_by r = same_refusal r o.0.0 a.0 in
     let E : Option Refusal → Stream → Type 0 = λ refusal s. Ends (o.0.1 refusal s) w calls replies in
     let e' : Ends (o.0.1 (refusal_in o.0.0) o.1) w calls replies = subst (λ (refusal : Option Refusal). E refusal o.1) (sym same) (subst (E (refused_by r)) a.1 e) in
@@ -86,7 +86,7 @@ complete (c ∷ calls) (r ∷ replies) v tells =
 -- each run is one of a leaf's words
 pub leaf_of : (v w : State) (calls : List Call) (replies : List Reply) (t : DecisionTree) → Decides (run_outcome v (acts_of calls)) t → HasU64Words v.stream
     → NoneOutOfMemory replies → LeadsTo v calls replies w
-    → (path : List Bool) × IsLeaf t path × ((tail : Left) → LeadsTo (with_stream v (path_stream path tail)) calls replies (with_stream w (scripted tail)))
+    → (path : List Bool) × IsLeaf t path × ((tail : Left) → LeadsTo (with_stream v (path_stream path tail)) calls replies (with_stream w (scripted_stream tail)))
 leaf_of v w calls replies t D words there run =
     let f : Stream → (List Told × (Stream → State)) × Stream = run_outcome v (acts_of calls) in
     let (p, leaf, e) = D.covers v.stream words in
@@ -95,13 +95,13 @@ leaf_of v w calls replies t D words there run =
       leaf,
       λ tail.
           let u : State = with_stream v (path_stream p tail) in
-          let same : run_outcome u (acts_of calls) u.stream ≡ ((f v.stream).0, scripted tail) =
-          any_stream (acts_of calls) v (path_stream p tail) (path_stream p tail) ∙ D.takes p tail leaf ∙ ap (λ (x : List Told × (Stream → State)). (x, scripted tail)) e in
+          let same : run_outcome u (acts_of calls) u.stream ≡ ((f v.stream).0, scripted_stream tail) =
+          any_stream (acts_of calls) v (path_stream p tail) (path_stream p tail) ∙ D.takes p tail leaf ∙ ap (λ (x : List Told × (Stream → State)). (x, scripted_stream tail)) e in
           let T : (List Told × (Stream → State)) × Stream → Type 0 = λ o. RepliesAre replies o.0.0 in
           let L : State → Type 0 = λ s. LeadsTo u calls replies s in
           let done = complete calls replies u (subst T (sym same) ends.replied) in
-          let to : (run_outcome u (acts_of calls) u.stream).0.1 (run_outcome u (acts_of calls) u.stream).1 ≡ with_stream w (scripted tail) =
+          let to : (run_outcome u (acts_of calls) u.stream).0.1 (run_outcome u (acts_of calls) u.stream).1 ≡ with_stream w (scripted_stream tail) =
           ap (λ (o : (List Told × (Stream → State)) × Stream). o.0.1 o.1) same
-          ∙ next_stream (acts_of calls) v v.stream (scripted tail) (f v.stream).1 ∙ ap (λ (s : State). with_stream s (scripted tail)) (sym ends.state) in
+          ∙ next_stream (acts_of calls) v v.stream (scripted_stream tail) (f v.stream).1 ∙ ap (λ (s : State). with_stream s (scripted_stream tail)) (sym ends.state) in
           subst L to done,
     )

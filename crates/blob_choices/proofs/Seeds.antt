@@ -3,7 +3,7 @@ use Rattle.std.proofs.Common.{◌≤◌, ℕ, zero, suc, ◌+◌, ◌-◌, ◌^�
 use Rattle.std.specs.Int.{w64, to_le_bytes}
 use Rattle.rand_core.specs.Stream.{Call, u32_call, u64_call, bytes_call}
 use Rattle.rand_core.specs.Steps.{Steps, stream_of, steps_u64_low, state_after, word_bytes}
-use Rattle.blob_lab_model.specs.Scripted.{Left, scripted, next_of}
+use Rattle.blob_lab_model.specs.Scripted.{Left, scripted_stream, next_of}
 use Rattle.blob_choices.specs.Decided.{HasU64Words}
 
 abbrev Fit : Left → Type 0
@@ -29,6 +29,6 @@ calls_fit (u32_call ∷ before) left fit = calls_fit before (next_of left).1 (st
 calls_fit (u64_call ∷ before) left fit = calls_fit before (next_of left).1 (step_fits left fit).1
 calls_fit (bytes_call n ∷ before) left fit = calls_fit before (G.fill_bytes n left).1 (bytes_fit (to_le_bytes w64) ((n + 7) / 8) left fit)
 
-pub seeds_fit : (given : List ℕ) (tail : Option (List ℕ)) → All (λ word. word ≤ 2 ^ 64 - 1) given → HasU64Words (scripted (given, tail))
+pub seeds_fit : (given : List ℕ) (tail : Option (List ℕ)) → All (λ word. word ≤ 2 ^ 64 - 1) given → HasU64Words (scripted_stream (given, tail))
 unfolding stream_of
 seeds_fit given tail fit = record { fit = λ before. (step_fits (state_after G before (given, tail)) (calls_fit before (given, tail) fit)).0 }

@@ -8,7 +8,7 @@ use Rattle.rand_core.specs.Stream.{Stream, next_u64}
 use Rattle.rand_core.specs.Steps.{stream_of}
 use Rattle.rand.specs.Uniform.{canon}
 use Rattle.rand.specs.Draw.{draw_map}
-use Rattle.blob_lab_model.specs.Scripted.{Left, scripted}
+use Rattle.blob_lab_model.specs.Scripted.{Left, scripted_stream}
 use Rattle.blob_choices.specs.Decided.{HasU64Words}
 use Rattle.blob_choices.specs.Sizes.{SizesHaveWords, size_word, size_words, sizes_between, takes_second}
 use Rattle.blob_choices.proofs.Draws.{next_fits, next_words}
@@ -50,21 +50,21 @@ no_carry : (low n : ℕ) → low < 2 ^ 64 → nat_le (2 ^ 64) (low + 0 * n / 2 ^
 no_carry low n fits = lt-leb (2 ^ 64) (low + 0 * n / 2 ^ 64) (omega (arith, fits))
 
 draws_word : (n w : ℕ) (more : Bool) (tail : Left) → takes_second n w ≡ more
-    → canon (2 ^ 64) next_u64 n (scripted ((if more then w ∷ 0 ∷ [] else w ∷ []) ++ tail.0, tail.1)) ≡ (w * n / 2 ^ 64, scripted tail)
+    → canon (2 ^ 64) next_u64 n (scripted_stream ((if more then w ∷ 0 ∷ [] else w ∷ []) ++ tail.0, tail.1)) ≡ (w * n / 2 ^ 64, scripted_stream tail)
 unfolding canon next_u64 stream_of
 draws_word n w true tail e =
     let low : ℕ = w * n % 2 ^ 64 in
     let high : ℕ = w * n / 2 ^ 64 in
     cond-true (takes_second n w) _ _ e
-    ∙ ap (λ (x : ℕ). (x, scripted tail))
+    ∙ ap (λ (x : ℕ). (x, scripted_stream tail))
     (cond-false (nat_le (2 ^ 64) (low + 0 * n / 2 ^ 64)) (high + 1) high (no_carry low n (mod-lt (w * n) (omega arith))))
 draws_word n w false tail e = cond-false (takes_second n w) _ _ e
 
 takes_words : (n k : ℕ) (tail : Left) → 0 < n → n ≤ 2 ^ 64
-    → canon (2 ^ 64) next_u64 n (scripted (size_words n k ++ tail.0, tail.1)) ≡ (k, scripted tail)
+    → canon (2 ^ 64) next_u64 n (scripted_stream (size_words n k ++ tail.0, tail.1)) ≡ (k, scripted_stream tail)
 takes_words n k tail some fits =
     draws_word n (size_word n k) (takes_second n (size_word n k)) tail refl
-    ∙ ap (λ (x : ℕ). (x, scripted tail)) (rounded_high n k some fits)
+    ∙ ap (λ (x : ℕ). (x, scripted_stream tail)) (rounded_high n k some fits)
 
 one_word : (n k : ℕ) → 0 < n → n ≤ 2 ^ 63 → size_words n k ≡ size_word n k ∷ []
 one_word n k some few =

@@ -6,10 +6,10 @@ use Rattle.blob_script.specs.declared.call.Call.{Call}
 use Rattle.blob_script.specs.declared.reply.Reply.{Reply}
 use Rattle.blob_script.specs.Acts.{Act, Ask, Configure, Open, OpenLoose, Admit, Close, Through, Finish, Remove, Scan, Crash, Reopen, act_of}
 use Rattle.blob_script.specs.Told.{Tells, refused_by}
-use Rattle.blob_lab_model.specs.After.{after, asked}
+use Rattle.blob_lab_model.specs.After.{after_act, after_ask}
 use Rattle.blob_lab_model.specs.Answers.{answer, kept_at}
 use Rattle.blob_lab_model.specs.Runs.{LeadsTo}
-use Rattle.blob_lab_model.specs.Scripted.{Left, scripted}
+use Rattle.blob_lab_model.specs.Scripted.{Left, scripted_stream}
 use Rattle.blob_lab_model.specs.States.{State, Held}
 use Rattle.blob_tree.specs.Trees.{DecisionTree, IsLeaf, words_of}
 use Rattle.blob_choices.specs.Decided.{HasU64Words, Decides, IsDecided, path_stream, zeros}
@@ -19,12 +19,12 @@ use Rattle.blob_choices.proofs.Deciding.{decided_none, decided_then, decided_map
 
 -- The configuration.
 
-asked_config : (v : State) (number : ℕ) (slot : Option Held) (ask : Ask) (refusal : Option Refusal) → (asked v number slot ask refusal).config ≡ v.config
+asked_config : (v : State) (number : ℕ) (slot : Option Held) (ask : Ask) (refusal : Option Refusal) → (after_ask v number slot ask refusal).config ≡ v.config
 asked_config v number None ask refusal = refl
 asked_config v number (Some h) ask refusal = refl
 
 -- a call leaves one that draws no size, too
-still_none : (v : State) (act : Act) (refusal : Option Refusal) (left : Stream) → HasNoPartialResize v.config → SetsNoPartialResize act → HasNoPartialResize (after v act refusal left).config
+still_none : (v : State) (act : Act) (refusal : Option Refusal) (left : Stream) → HasNoPartialResize v.config → SetsNoPartialResize act → HasNoPartialResize (after_act v act refusal left).config
 still_none v (Configure config) refusal left none set = set
 still_none v (Open p n None) refusal left none set = none
 still_none v (Open p n (Some versions)) None left none set = none
@@ -61,7 +61,7 @@ decided_run (act ∷ acts) v none set =
 
 -- this run of calls, along some path
 abbrev Along : State → List Call → List Reply → State → Type 0
-Along v calls replies w = (path : List Bool) × ((tail : Left) → LeadsTo (with_stream v (path_stream path tail)) calls replies (with_stream w (scripted tail)))
+Along v calls replies w = (path : List Bool) × ((tail : Left) → LeadsTo (with_stream v (path_stream path tail)) calls replies (with_stream w (scripted_stream tail)))
 
 -- one more call before the others
 module _ (v w : State) (call : Call) (reply : Reply) (calls : List Call) (replies : List Reply) (t : DecisionTree) (D : Decides (outcome v (act_of call)) t) (p q : List Bool) (leaf : IsLeaf t p) where
@@ -69,20 +69,20 @@ module _ (v w : State) (call : Call) (reply : Reply) (calls : List Call) (replie
   act = act_of call
 
   module _ (e : (outcome v act (path_stream p zeros)).0 ≡ (outcome v act v.stream).0) (tells : Tells reply (answer v act).0) (left : Stream)
-      (rest : (tail : Left) → LeadsTo (with_stream (after v act (refused_by reply) left) (path_stream q tail)) calls replies (with_stream w (scripted tail))) where
-    along : (tail : Left) → LeadsTo (with_stream v (path_stream (p ++ q) tail)) (call ∷ calls) (reply ∷ replies) (with_stream w (scripted tail))
+      (rest : (tail : Left) → LeadsTo (with_stream (after_act v act (refused_by reply) left) (path_stream q tail)) calls replies (with_stream w (scripted_stream tail))) where
+    along : (tail : Left) → LeadsTo (with_stream v (path_stream (p ++ q) tail)) (call ∷ calls) (reply ∷ replies) (with_stream w (scripted_stream tail))
     along tail =
         let c : Left = (words_of q ++ tail.0, tail.1) in
-        let same : outcome v act (path_stream p c) ≡ ((outcome v act v.stream).0, scripted c) = D.takes p c leaf ∙ ap (λ (x : Outcome). (x, scripted c)) e in
+        let same : outcome v act (path_stream p c) ≡ ((outcome v act v.stream).0, scripted_stream c) = D.takes p c leaf ∙ ap (λ (x : Outcome). (x, scripted_stream c)) e in
         let T : Outcome × Stream → Type 0 = λ o. Tells reply o.0.0 in
-        let N : Outcome × Stream → Type 0 = λ o. LeadsTo (o.0.1 (refused_by reply) (scripted c)) calls replies (with_stream w (scripted tail)) in
-        let P : Stream → Type 0 = λ s. LeadsTo (with_stream v s) (call ∷ calls) (reply ∷ replies) (with_stream w (scripted tail)) in
+        let N : Outcome × Stream → Type 0 = λ o. LeadsTo (o.0.1 (refused_by reply) (scripted_stream c)) calls replies (with_stream w (scripted_stream tail)) in
+        let P : Stream → Type 0 = λ s. LeadsTo (with_stream v s) (call ∷ calls) (reply ∷ replies) (with_stream w (scripted_stream tail)) in
         subst P (sym (stream_parts p q tail))
-        (scripted c, inr (subst T (sym same) tells, sym (ap (λ (o : Outcome × Stream). o.1) same)), subst N (sym same) (rest tail))
+        (scripted_stream c, inr (subst T (sym same) tells, sym (ap (λ (o : Outcome × Stream). o.1) same)), subst N (sym same) (rest tail))
 
 pub two_words : (calls : List Call) (replies : List Reply) (v w : State) → HasU64Words v.stream → HasNoPartialResize v.config → SetNoPartialResize (acts_of calls)
     → NoneOutOfMemory replies → LeadsTo v calls replies w → Along v calls replies w
-two_words [] [] v w words none set there same = ([], λ tail. ap (λ (u : State). with_stream u (scripted tail)) same)
+two_words [] [] v w words none set there same = ([], λ tail. ap (λ (u : State). with_stream u (scripted_stream tail)) same)
 two_words [] (r ∷ replies) v w words none set there run = absurd run
 two_words (c ∷ calls) [] v w words none set there run = absurd run
 two_words (c ∷ calls) (r ∷ replies) v w words none set there (left, inl m, run) = absurd (there.0 m.1)
@@ -91,5 +91,5 @@ two_words (c ∷ calls) (r ∷ replies) v w words none set there (left, inr a, r
     let (t, D) = decided_call v act none in
     let (p, leaf, e) = D.covers v.stream words in
     let later : HasU64Words left = subst HasU64Words (sym a.1) (D.words v.stream words) in
-    let (q, rest) = two_words calls replies (after v act (refused_by r) left) w later (still_none v act (refused_by r) left none set.0) set.1 there.1 run in
+    let (q, rest) = two_words calls replies (after_act v act (refused_by r) left) w later (still_none v act (refused_by r) left none set.0) set.1 there.1 run in
     (p ++ q, along v w c r calls replies t D p q leaf e a.0 left rest)

@@ -3,7 +3,7 @@ use Rattle.std.proofs.Common.{◌≡◌, ◌⊎◌, ℕ, zero, suc, List, [], �
 use Rattle.std.specs.Int.{w64, to_le_bytes}
 use Rattle.rand_core.specs.Stream.{Call, u32_call, u64_call, bytes_call}
 use Rattle.rand_core.specs.Steps.{Steps, stream_of, steps_u64_low, state_after, word_bytes}
-use Rattle.blob_lab_model.specs.Scripted.{Left, scripted, next_of}
+use Rattle.blob_lab_model.specs.Scripted.{Left, scripted_stream, next_of}
 
 -- the same words, except one zero at the end
 abbrev Same : Left → Left → Type 0
@@ -44,7 +44,7 @@ calls (u32_call ∷ cs) a b h = calls cs (next_of a).1 (next_of b).1 (steps a b 
 calls (u64_call ∷ cs) a b h = calls cs (next_of a).1 (next_of b).1 (steps a b h).1
 calls (bytes_call n ∷ cs) a b h = calls cs (G.fill_bytes n a).1 (G.fill_bytes n b).1 (fills (to_le_bytes w64) ((n + 7) / 8) a b h).1
 
-streams : (a b : Left) → Same a b → scripted a ≡ scripted b
+streams : (a b : Left) → Same a b → scripted_stream a ≡ scripted_stream b
 unfolding stream_of
 streams a b h =
     let word : (cs : List Call) → (next_of (state_after G cs a)).0 ≡ (next_of (state_after G cs b)).0 = λ cs. (steps (state_after G cs a) (state_after G cs b) (calls cs a b h)).0 in
@@ -52,8 +52,8 @@ streams a b h =
     λ cs n. ap (take n) (fills (to_le_bytes w64) ((n + 7) / 8) (state_after G cs a) (state_after G cs b) (calls cs a b h)).0 in
     λ i. record { u32_after = λ cs. word cs i % 2 ^ 32; u64_after = λ cs. word cs i; bytes_after = λ cs n. bytes cs n i }
 
-pub zero_tails : (n : ℕ) (ws : List ℕ) → scripted (ws ++ replicate n 0, None) ≡ scripted (ws, None)
-zero_tails zero ws = ap (λ (xs : List ℕ). scripted (xs, None)) (append-nil ws)
+pub zero_tails : (n : ℕ) (ws : List ℕ) → scripted_stream (ws ++ replicate n 0, None) ≡ scripted_stream (ws, None)
+zero_tails zero ws = ap (λ (xs : List ℕ). scripted_stream (xs, None)) (append-nil ws)
 zero_tails (suc n) ws =
-    ap (λ (xs : List ℕ). scripted (xs, None)) (sym (append_assoc ws (0 ∷ []) (replicate n 0)))
+    ap (λ (xs : List ℕ). scripted_stream (xs, None)) (sym (append_assoc ws (0 ∷ []) (replicate n 0)))
     ∙ zero_tails n (ws ++ 0 ∷ []) ∙ streams (ws ++ 0 ∷ [], None) (ws, None) (inr (ws, refl, refl))

@@ -8,7 +8,7 @@ use Rattle.blob_script.specs.declared.reply.Reply.{Reply}
 use Rattle.blob_script.specs.Acts.{Act, Configure, act_of}
 use Rattle.blob_script.specs.Told as told
 use Rattle.blob_script.specs.Told.{Told, refused_by}
-use Rattle.blob_lab_model.specs.After.{after}
+use Rattle.blob_lab_model.specs.After.{after_act}
 use Rattle.blob_lab_model.specs.Answers.{answer}
 use Rattle.blob_lab_model.specs.States.{State}
 
@@ -20,7 +20,7 @@ abbrev pub Outcome : Type 0
 Outcome = Told × (Option Refusal → Stream → State)
 
 abbrev pub outcome : State → Act → Stream → Outcome × Stream
-outcome v act s = let a = answer (with_stream v s) act in ((a.0, after (with_stream v s) act), a.1)
+outcome v act s = let a = answer (with_stream v s) act in ((a.0, after_act (with_stream v s) act), a.1)
 
 -- A partial resize draws a size, which two words don't decide. It never happens if its rate is zero or no resize rate is set.
 abbrev pub HasNoPartialResize : Config → Type 0

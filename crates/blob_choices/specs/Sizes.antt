@@ -3,7 +3,7 @@ use Rattle.std.specs.Prelude.{◌≡◌, ◌<◌, ◌≤◌, ◌+◌, ◌-◌, �
 use Rattle.std.specs.Prelude.{List, [], ◌∷◌, ◌++◌}
 use Rattle.rand_core.specs.Stream.{Stream}
 use Rattle.blob_draws.specs.Faults.{size_between}
-use Rattle.blob_lab_model.specs.Scripted.{Left, scripted}
+use Rattle.blob_lab_model.specs.Scripted.{Left, scripted_stream}
 use Rattle.blob_choices.specs.Decided.{HasU64Words}
 
 -- the number of sizes strictly between two others
@@ -24,7 +24,7 @@ size_words n k = if takes_second n (size_word n k) then size_word n k ∷ 0 ∷ 
 -- The words of a size draw this size, and no other word is taken. Each draw returns one of the sizes.
 pub record HasSizeWords (low high : ℕ) : Type 0 where
   pub takes : (k : ℕ) (tail : Left) → k < sizes_between low high
-      → size_between low high (scripted (size_words (sizes_between low high) k ++ tail.0, tail.1)) ≡ (low + 1 + k, scripted tail)
+      → size_between low high (scripted_stream (size_words (sizes_between low high) k ++ tail.0, tail.1)) ≡ (low + 1 + k, scripted_stream tail)
   pub covers : (s : Stream) → HasU64Words s
       → (k : ℕ) × (k < sizes_between low high) × ((size_between low high s).0 ≡ low + 1 + k)
   pub words : (s : Stream) → HasU64Words s → HasU64Words (size_between low high s).1

@@ -4,7 +4,7 @@ use Rattle.blob_script.specs.declared.call.Call.{Call}
 use Rattle.blob_script.specs.declared.reply.Reply.{Reply}
 use Rattle.blob_script.specs.Acts.{Act}
 use Rattle.blob_lab_model.specs.Runs.{LeadsTo}
-use Rattle.blob_lab_model.specs.Scripted.{Left, scripted}
+use Rattle.blob_lab_model.specs.Scripted.{Left, scripted_stream}
 use Rattle.blob_lab_model.specs.States.{State}
 use Rattle.blob_choices.specs.Decided.{HasU64Words, IsDecided, path_stream}
 use Rattle.blob_choices.specs.Outcomes.{HasNoPartialResize, NoneOutOfMemory, SetNoPartialResize, acts_of, outcome, run_outcome, with_stream}
@@ -22,4 +22,4 @@ RunsAreDecided = (v : State) (acts : List Act) → HasNoPartialResize v.config �
 abbrev pub TwoWordsSuffice : Type 0
 TwoWordsSuffice = (v w : State) (calls : List Call) (replies : List Reply) → HasU64Words v.stream → HasNoPartialResize v.config → SetNoPartialResize (acts_of calls)
     → NoneOutOfMemory replies → LeadsTo v calls replies w
-    → (path : List Bool) × ((tail : Left) → LeadsTo (with_stream v (path_stream path tail)) calls replies (with_stream w (scripted tail)))
+    → (path : List Bool) × ((tail : Left) → LeadsTo (with_stream v (path_stream path tail)) calls replies (with_stream w (scripted_stream tail)))

@@ -1,9 +1,9 @@
 //! Two words suffice to explore every run. Each law is the contract of a function that does nothing.
 
 ghost use Rattle.std.specs.Prelude.{ℕ, List, Option};
-ghost use Rattle.blob_model.specs.Draws.{drawn, positions};
+ghost use Rattle.blob_model.specs.Draws.{draw_rows, positions};
 ghost use Rattle.blob_model.specs.Log.{Need};
-ghost use Rattle.blob_model.specs.Rates.{Rate, sampled};
+ghost use Rattle.blob_model.specs.Rates.{Rate, sample};
 ghost use Rattle.blob_model.specs.declared.mode.PartialWriteMode.{PartialWriteMode};
 ghost use Rattle.blob_choices.specs.Decided.{IsDecided};
 ghost use Rattle.blob_choices.specs.Explored.{LeavesAreAllRuns, LeavesHoldEveryRun, LeftCountsTaken, SeedsHaveU64Words};
@@ -12,9 +12,9 @@ ghost use Rattle.blob_choices.specs.TwoWords.{CallsAreDecided, RunsAreDecided, T
 
 /// A decision tree describes one draw of a rate, the draws of one write, and those of a crash.
 pub fn draws()
-    ensures one { (rate : Rate) → IsDecided (sampled rate) }
+    ensures one { (rate : Rate) → IsDecided (sample rate) }
     ensures write { (mode : PartialWriteMode) (rate : Rate) (o n : ℕ) → IsDecided (positions mode rate o n) }
-    ensures crash { (needs : List Need) → IsDecided (λ s. drawn s needs) }
+    ensures crash { (needs : List Need) → IsDecided (λ s. draw_rows s needs) }
 {}
 
 /// Without partial resizes, a decision tree describes each call and each run of calls: the replies and the state after them.

@@ -2,7 +2,7 @@
 use Rattle.std.proofs.Common.{◌≡◌, ℕ, List, [], ◌∷◌, Bool, true, false, ◌&&◌, is_none, Option, Some, None, if◌then◌else◌, refl, sym, ap, ◌∙◌, cond, option_map, Result, Ok, Err}
 use Rattle.std.specs.Str.{bytes_eq}
 use Rattle.std.proofs.lemmas.Bool.{false≢true}
-use Rattle.blob_header.specs.Refusals.{refusal_of, refused}
+use Rattle.blob_header.specs.Refusals.{refusal_of, error_of}
 use Rattle.blob_names.specs.declared.names.Names.{Names}
 use Rattle.blob_debt.specs.declared.pending.Pending.{Pending}
 use Rattle.blob_debt.specs.declared.pending.entry.Entry.{Entry}
@@ -49,7 +49,7 @@ keeps_all_forgotten old new p h is k = record { standing = λ q m. ap (λ f. sta
 pub no_name : (c : Change) (es : List Event) → standing_of None ≡ standing es → with_operation (operation_of c) es ≡ es
 no_name (change.Release g token) es e = ap (λ s. if is_this_number s.latest g && is_none s.settling then Released token ∷ es else es) (sym e)
 no_name (change.Settle token dirty failed) es e = ap (λ s. if is_this_number s.settling token then Settled dirty (option_map refusal_of failed) ∷ es else es) (sym e)
-no_name (change.Clear g outcome) es e = ap (λ s. if is_this_number s.latest g then clear_event (refused outcome) ∷ es else es) (sym e)
+no_name (change.Clear g outcome) es e = ap (λ s. if is_this_number s.latest g then clear_event (error_of outcome) ∷ es else es) (sym e)
 no_name (change.Close g) es e = ap (λ s. if is_this_number s.latest g then Closed ∷ es else es) (sym e)
 
 pub keeps_nothing : (old new : Names Entry) (p n : List ℕ) (c : Change) (h : History)

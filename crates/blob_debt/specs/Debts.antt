@@ -7,7 +7,7 @@ use Rattle.std.specs.BTreeSet.{contains}
 use Rattle.std.specs.Ordering.{nat_cmp}
 use Rattle.blob_header.specs.declared.error.Error.{Error}
 use Rattle.hex.specs.Hex.{encode_lower}
-use Rattle.blob_header.specs.Refusals.{Refusal, refusal_of, refused, BlobAlreadyOpen, Memory}
+use Rattle.blob_header.specs.Refusals.{Refusal, refusal_of, error_of, BlobAlreadyOpen, Memory}
 use Rattle.blob_names.specs.declared.names.Names.{Names}
 use Rattle.blob_debt.specs.declared.pending.Pending.{Pending}
 use Rattle.blob_debt.specs.declared.pending.entry.Entry.{Entry}
@@ -40,7 +40,7 @@ is_standing_over s = needs_no_entry s.live s.settling s.debt s.failure
 abbrev pub operation_of : Change → Operation
 operation_of (change.Release g token) = Release g token
 operation_of (change.Settle token dirty failed) = Settle token dirty (option_map refusal_of failed)
-operation_of (change.Clear g outcome) = Clear g (refused outcome)
+operation_of (change.Clear g outcome) = Clear g (error_of outcome)
 operation_of (change.Close g) = Close g
 
 -- an entry after a change, by the name's events: none if nothing is left to report

@@ -5,7 +5,7 @@
 //! calls: a call's result follows from any history that the registry represents, and the registry then represents that history
 //! with the call added.
 ghost use Rattle.std.specs.Prelude.{◌≡◌, ◌≢◌, IsErr, is_some, Ok, ◌∷◌, [], OnErr, OnOk, IfOk, not, option_map, option_copied, Some, None, false, ◌⊎◌, ◌<◌, ◌^◌, ◌-◌};
-ghost use Rattle.blob_header.specs.Refusals.{refusal_of, refused, IsMemory};
+ghost use Rattle.blob_header.specs.Refusals.{refusal_of, error_of, IsMemory};
 ghost use Rattle.blob_debt.specs.History.{History, To, Admit, Release, Settle, Clear, Fail, Close, Forget, Skip, latest, release_result, debt_for, events, is_outstanding};
 ghost use Rattle.blob_debt.specs.Debts.{Represents, IsUnchanged, IsOpenedEntry, HoldsNames, AnswersOpen, AnswersOrMemory, after_admit, after_release, entry_denial, operation_of, key_events, entry_report, to_key, by_open, RecordsCall};
 
@@ -125,7 +125,7 @@ impl Pending {
     /// Rejects a name with an open that isn't closed, or with a retained failure.
     fn check_closed(&self, partition: &str, name: &[u8], entry: &Entry) -> Result<(), Error>
         ensures ok { OnOk result ((entry.now.is_live ≡ false) × (entry.now.failure ≡ None)) }
-        ensures err { OnErr result (IsMemory result ⊎ (refused result ≡ entry_denial entry.now partition.now name.now)) }
+        ensures err { OnErr result (IsMemory result ⊎ (error_of result ≡ entry_denial entry.now partition.now name.now)) }
     {
         if entry.is_live {
             let partition = String::from_str(self.alloc, partition)?;
@@ -232,7 +232,7 @@ impl Pending {
     /// Records the outcome of flushing the debt: success ends the debt, a failure is retained. Success doesn't end a retained
     /// failure. Ignored unless the generation is the name's latest. Allocates nothing.
     pub fn clear(&mut self, key: &(String, Vec<u8>), id: GenerationId, outcome: Result<(), Error>)
-        ensures { RecordsCall self.old self.new (to_key key.now (Clear id (refused outcome))) }
+        ensures { RecordsCall self.old self.new (to_key key.now (Clear id (error_of outcome))) }
     {
         let generation = id.number;
         change(

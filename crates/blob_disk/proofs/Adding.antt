@@ -5,11 +5,11 @@ use Rattle.std.proofs.lemmas.Option.{none-some, same_Some}
 use Rattle.std.specs.Prelude.{option_map, codes}
 use Rattle.blob_model.specs.Directory.{is_current}
 use Rattle.blob_model.specs.Files.{Files, all_logged}
-use Rattle.blob_model.specs.Log.{Entry, Choices, crashed}
+use Rattle.blob_model.specs.Log.{Entry, Choices, replay_log}
 use Rattle.blob_model.specs.Pending.{Pending}
 use Rattle.blob_model.specs.Places.{Place}
 use Rattle.blob_model.specs.Stands.{replayed_at}
-use Rattle.blob_model.specs.Bytes.{resized}
+use Rattle.blob_model.specs.Bytes.{resize}
 use Rattle.blob_model.proofs.Opened.{current_is}
 use Rattle.blob_faulty.specs.Keeps.{OverMemory}
 use Rattle.blob_disk.proofs.Crashes.{one_way}
@@ -26,26 +26,26 @@ pub current_now : {R : Type 0} (b : Opened) (w : OverMemory R) → IsCurrent b w
 current_now b w here = current_is (directory (inner_of w)) (codes "disk") (codes "0") (place (inside b)) here
 
 -- an outcome after it is one before it with the mutation done
-pub follows : (P : List ℕ → List ℕ → Type 0) (es : List Entry) (x x' : List ℕ) (q q' : List Pending) (v v' : Option (List ℕ)) → P x x' → ((d : List ℕ) (t : Choices) → P d (crashed d es t)) →
-    ((t : Choices) → replayed_at t q' v' ≡ option_map (λ d. crashed d es t) (replayed_at t q v)) → Follows P (MayLeave x q v) (MayLeave x' q' v')
+pub follows : (P : List ℕ → List ℕ → Type 0) (es : List Entry) (x x' : List ℕ) (q q' : List Pending) (v v' : Option (List ℕ)) → P x x' → ((d : List ℕ) (t : Choices) → P d (replay_log d es t)) →
+    ((t : Choices) → replayed_at t q' v' ≡ option_map (λ d. replay_log d es t) (replayed_at t q v)) → Follows P (MayLeave x q v) (MayLeave x' q' v')
 follows P es x x' q q' v v' seen takes step c (inl e) = (x, inl refl, subst (λ (z : List ℕ). P x z) (sym e) seen)
 follows P es x x' q q' v v' seen takes step c (inr (t, e)) = here (replayed_at t q v) refl (sym (step t) ∙ e)
   where
-    here : (r : Option (List ℕ)) → replayed_at t q v ≡ r → option_map (λ d. crashed d es t) r ≡ Some c → (d : List ℕ) × MayLeave x q v d × P d c
+    here : (r : Option (List ℕ)) → replayed_at t q v ≡ r → option_map (λ d. replay_log d es t) r ≡ Some c → (d : List ℕ) × MayLeave x q v d × P d c
     here None is h = absurd (none-some c h)
-    here (Some d) is h = (d, inr (t, is), subst (λ (z : List ℕ). P d z) (same_Some (crashed d es t) c h) (takes d t))
+    here (Some d) is h = (d, inr (t, is), subst (λ (z : List ℕ). P d z) (same_Some (replay_log d es t) c h) (takes d t))
 
 -- and an outcome before it leads to the one after it by the same choices
-pub leads : (P : List ℕ → List ℕ → Type 0) (es : List Entry) (x x' : List ℕ) (q q' : List Pending) (v v' : Option (List ℕ)) → P x x' → ((d : List ℕ) (t : Choices) → P d (crashed d es t)) →
-    ((t : Choices) → replayed_at t q' v' ≡ option_map (λ d. crashed d es t) (replayed_at t q v)) → Leads P (MayLeave x q v) (MayLeave x' q' v')
+pub leads : (P : List ℕ → List ℕ → Type 0) (es : List Entry) (x x' : List ℕ) (q q' : List Pending) (v v' : Option (List ℕ)) → P x x' → ((d : List ℕ) (t : Choices) → P d (replay_log d es t)) →
+    ((t : Choices) → replayed_at t q' v' ≡ option_map (λ d. replay_log d es t) (replayed_at t q v)) → Leads P (MayLeave x q v) (MayLeave x' q' v')
 leads P es x x' q q' v v' seen takes step c (inl e) = (x', inl refl, subst (λ (z : List ℕ). P z x') (sym e) seen)
 leads P es x x' q q' v v' seen takes step c (inr (t, e)) =
-    (crashed c es t, inr (t, step t ∙ ap (λ (r : Option (List ℕ)). option_map (λ d. crashed d es t) r) e), takes c t)
+    (replay_log c es t, inr (t, step t ∙ ap (λ (r : Option (List ℕ)). option_map (λ d. replay_log d es t) r) e), takes c t)
 
 pub file_leads : {R : Type 0} (P : List ℕ → List ℕ → Type 0) (es : List Entry) (b b' : Opened) (w w' : OverMemory R) → IsStanding w → place (inside b') ≡ place (inside b) →
-    P (live (inside b)) (live (inside b')) → ((d : List ℕ) (t : Choices) → P d (crashed d es t)) →
+    P (live (inside b)) (live (inside b')) → ((d : List ℕ) (t : Choices) → P d (replay_log d es t)) →
     ((f : Files) (t : Choices) → Stands (λ o. o) (directory (inner_of w)) (durable (inner_of w)) w f →
-    replayed_at t (pending_of (λ o. o) w' (place (inside b))) (durable (inner_of w') (place (inside b))) ≡ option_map (λ x. crashed x es t) (replayed_at t (pending_of (λ o. o) w (place (inside b))) (durable (inner_of w) (place (inside b))))) →
+    replayed_at t (pending_of (λ o. o) w' (place (inside b))) (durable (inner_of w') (place (inside b))) ≡ option_map (λ x. replay_log x es t) (replayed_at t (pending_of (λ o. o) w (place (inside b))) (durable (inner_of w) (place (inside b))))) →
     Leads P (outcomes b w) (outcomes b' w')
 file_leads P es b b' w w' standing at seen takes left =
     leads P es (live (inside b)) (live (inside b')) (pending_of (λ (o : Place). o) w (place (inside b))) (pending_of (λ (o : Place). o) w' (place (inside b'))) (durable (inner_of w) (place (inside b))) (durable (inner_of w') (place (inside b'))) seen takes
@@ -53,9 +53,9 @@ file_leads P es b b' w w' standing at seen takes left =
 
 -- the same of the file
 pub file_follows : {R : Type 0} (P : List ℕ → List ℕ → Type 0) (es : List Entry) (b b' : Opened) (w w' : OverMemory R) → IsStanding w → place (inside b') ≡ place (inside b) →
-    P (live (inside b)) (live (inside b')) → ((d : List ℕ) (t : Choices) → P d (crashed d es t)) →
+    P (live (inside b)) (live (inside b')) → ((d : List ℕ) (t : Choices) → P d (replay_log d es t)) →
     ((f : Files) (t : Choices) → Stands (λ o. o) (directory (inner_of w)) (durable (inner_of w)) w f →
-    replayed_at t (pending_of (λ o. o) w' (place (inside b))) (durable (inner_of w') (place (inside b))) ≡ option_map (λ x. crashed x es t) (replayed_at t (pending_of (λ o. o) w (place (inside b))) (durable (inner_of w) (place (inside b))))) →
+    replayed_at t (pending_of (λ o. o) w' (place (inside b))) (durable (inner_of w') (place (inside b))) ≡ option_map (λ x. replay_log x es t) (replayed_at t (pending_of (λ o. o) w (place (inside b))) (durable (inner_of w) (place (inside b))))) →
     Follows P (outcomes b w) (outcomes b' w')
 file_follows P es b b' w w' standing at seen takes left =
     follows P es (live (inside b)) (live (inside b')) (pending_of (λ (o : Place). o) w (place (inside b))) (pending_of (λ (o : Place). o) w' (place (inside b'))) (durable (inner_of w) (place (inside b))) (durable (inner_of w') (place (inside b'))) seen takes
@@ -89,7 +89,7 @@ pub wrote : {R : Type 0} (b b' : Opened) (w w' : OverMemory R) (es : List Entry)
     WritesSome offset bytes (live (inside b)) (live (inside b')) → ((t : Choices) → LaysSome offset bytes es t) →
     ((f : Files) → Stands (λ o. o) (directory (inner_of w)) (durable (inner_of w)) w f → Stands (λ o. o) (directory (inner_of w')) (durable (inner_of w')) w' (all_logged f (place (inside b)) es)) →
     ((f : Files) (t : Choices) → Stands (λ o. o) (directory (inner_of w)) (durable (inner_of w)) w f →
-    replayed_at t (pending_of (λ o. o) w' (place (inside b))) (durable (inner_of w') (place (inside b))) ≡ option_map (λ x. crashed x es t) (replayed_at t (pending_of (λ o. o) w (place (inside b))) (durable (inner_of w) (place (inside b))))) →
+    replayed_at t (pending_of (λ o. o) w' (place (inside b))) (durable (inner_of w') (place (inside b))) ≡ option_map (λ x. replay_log x es t) (replayed_at t (pending_of (λ o. o) w (place (inside b))) (durable (inner_of w) (place (inside b))))) →
     IsWritten b b' w w' offset bytes
 wrote b b' w w' es offset bytes standing named at config tracked some laid stands left = record {
   others = mixed_some offset bytes (live (inside b)) (live (inside b')) some;
@@ -107,20 +107,20 @@ pub record IsResized {R : Type 0} (b b' : Opened) (w w' : OverMemory R) (len : �
   pub crash : Follows (Cut len) (outcomes b w) (outcomes b' w')
   pub leads : Leads (Cut len) (outcomes b w) (outcomes b' w')
 
-either_cut : (len : ℕ) (x y : List ℕ) → (y ≡ x) ⊎ (y ≡ resized x len) → Cut len x y
+either_cut : (len : ℕ) (x y : List ℕ) → (y ≡ x) ⊎ (y ≡ resize x len) → Cut len x y
 either_cut len x y (inl e) = subst (λ (z : List ℕ). Cut len x z) (sym e) (cut_not len x)
 either_cut len x y (inr e) = subst (λ (z : List ℕ). Cut len x z) (sym e) (cut_to len x)
 
 pub cut_so : {R : Type 0} (b b' : Opened) (w w' : OverMemory R) (es : List Entry) (len : ℕ) → IsStanding w →
     directory (inner_of w') ≡ directory (inner_of w) → place (inside b') ≡ place (inside b) → config_of w' ≡ config_of w → IsTracked b' →
-    (live (inside b') ≡ live (inside b)) ⊎ (live (inside b') ≡ resized (live (inside b)) len) → ((t : Choices) (x : List ℕ) → (crashed x es t ≡ x) ⊎ (crashed x es t ≡ resized x len)) →
+    (live (inside b') ≡ live (inside b)) ⊎ (live (inside b') ≡ resize (live (inside b)) len) → ((t : Choices) (x : List ℕ) → (replay_log x es t ≡ x) ⊎ (replay_log x es t ≡ resize x len)) →
     ((f : Files) → Stands (λ o. o) (directory (inner_of w)) (durable (inner_of w)) w f → Stands (λ o. o) (directory (inner_of w')) (durable (inner_of w')) w' (all_logged f (place (inside b)) es)) →
     ((f : Files) (t : Choices) → Stands (λ o. o) (directory (inner_of w)) (durable (inner_of w)) w f →
-    replayed_at t (pending_of (λ o. o) w' (place (inside b))) (durable (inner_of w') (place (inside b))) ≡ option_map (λ x. crashed x es t) (replayed_at t (pending_of (λ o. o) w (place (inside b))) (durable (inner_of w) (place (inside b))))) →
+    replayed_at t (pending_of (λ o. o) w' (place (inside b))) (durable (inner_of w') (place (inside b))) ≡ option_map (λ x. replay_log x es t) (replayed_at t (pending_of (λ o. o) w (place (inside b))) (durable (inner_of w) (place (inside b))))) →
     IsResized b b' w w' len
 cut_so b b' w w' es len standing named at config tracked seen cut stands left = record {
   others = either_cut len (live (inside b)) (live (inside b')) seen;
   keeps = keeps_added es b b' w w' named at config tracked stands;
-  crash = file_follows (Cut len) es b b' w w' standing at (either_cut len (live (inside b)) (live (inside b')) seen) (λ d t. either_cut len d (crashed d es t) (cut t d)) left;
-  leads = file_leads (Cut len) es b b' w w' standing at (either_cut len (live (inside b)) (live (inside b')) seen) (λ d t. either_cut len d (crashed d es t) (cut t d)) left;
+  crash = file_follows (Cut len) es b b' w w' standing at (either_cut len (live (inside b)) (live (inside b')) seen) (λ d t. either_cut len d (replay_log d es t) (cut t d)) left;
+  leads = file_leads (Cut len) es b b' w w' standing at (either_cut len (live (inside b)) (live (inside b')) seen) (λ d t. either_cut len d (replay_log d es t) (cut t d)) left;
 }

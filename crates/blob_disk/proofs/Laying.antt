@@ -1,6 +1,6 @@
 -- Bytes that are written over a file, and a new length, in the terms of a disk: `Torn`, `Mixed`, `Cut` and `Holds`.
 use Rattle.std.proofs.Common.{◌≡◌, ◌⊎◌, ℕ, ◌+◌, ◌-◌, ◌<◌, ◌≤◌, max, List, length, Bool, true, false, get_or, refl, ◌∙◌, ap, inl, inr, arith}
-use Rattle.blob_model.specs.Bytes.{overlay_by, reach, resized, written}
+use Rattle.blob_model.specs.Bytes.{overlay_by, reach, resize, write_live}
 use Rattle.blob_model.proofs.Bytes.{length-overlay_by, length-resized, reach_all, reach_below, at_chosen, at_other, at_resized, picks}
 use Rattle.blob_faulty.specs.Outcomes.{WritesSome}
 use Rattle.sqlite_disk.specs.Disk.{Torn, Mixed, Cut, Holds}
@@ -31,7 +31,7 @@ mixed_over o b c x = record {
     here i (inr isnt) = inl (at_other x o b c (o + i) isnt)
 
 -- a resize that is done
-pub cut_to : (n : ℕ) (x : List ℕ) → Cut n x (resized x n)
+pub cut_to : (n : ℕ) (x : List ℕ) → Cut n x (resize x n)
 cut_to n x = record {
   no_shorter = omega (arith, length-resized x n);
   no_longer = omega (arith, length-resized x n);
@@ -47,7 +47,7 @@ cut_not n x = record {
 }
 
 -- and one that reaches another length
-pub partly_refused : (x : List ℕ) → length x ≡ 20 → Cut 50 x (resized x 70) → ⊥
+pub partly_refused : (x : List ℕ) → length x ≡ 20 → Cut 50 x (resize x 70) → ⊥
 partly_refused x e k = omega (arith, e, length-resized x 70, k.no_longer)
 
 -- what a write does to live bytes
@@ -63,7 +63,7 @@ mixed_some o b x y w = record {
 }
   where
     grown : List ℕ
-    grown = resized x w.grown
+    grown = resize x w.grown
 
     len : length y ≡ max w.grown (reach o (length b) w.chosen)
     len = ap (λ (z : List ℕ). length z) w.is ∙ length-overlay_by grown o b w.chosen ∙ ap (λ (n : ℕ). max n (reach o (length b) w.chosen)) (length-resized x w.grown)
@@ -80,14 +80,14 @@ mixed_some o b x y w = record {
     here i in_grown (inr isnt) = inl (same (o + i) ∙ at_other grown o b w.chosen (o + i) isnt ∙ at_resized x w.grown (o + i) in_grown)
 
 -- after a complete write the file holds all of its bytes
-pub holds_written : (o : ℕ) (b x : List ℕ) → 0 < length b → Holds (written x o b) o b
+pub holds_written : (o : ℕ) (b x : List ℕ) → 0 < length b → Holds (write_live x o b) o b
 holds_written o b x some = record {
   within = omega (arith, length-overlay_by grown o b (λ _. true), reach_all o (length b) some);
   each = λ i h. at_chosen grown o b (λ _. true) (o + i) (omega arith) (omega (arith, h)) refl ∙ ap (λ (p : ℕ). get_or b p 0) (back i);
 }
   where
     grown : List ℕ
-    grown = resized x (max (length x) o)
+    grown = resize x (max (length x) o)
 
     back : (i : ℕ) → (o + i) - o ≡ i
     back i = omega arith

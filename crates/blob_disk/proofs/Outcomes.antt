@@ -16,7 +16,7 @@ use Rattle.blob_disk.specs.Outcomes.{MayLeave, Opened, KeepsOutcomes, LeavesDisk
 use Rattle.blob_draws.specs.declared.config.Config.{Config}
 use Rattle.blob_faulty.specs.Certain.{IsNever, partial_resizes}
 use Rattle.blob_faulty.specs.Wrapper.{Stands, KeepsRecords, inner_of, config_of, pending_of, inside}
-use Rattle.blob_model.specs.Files.{Files, published}
+use Rattle.blob_model.specs.Files.{Files, publish}
 use Rattle.blob_faulty.specs.Lends.{with_config}
 use Rattle.blob_faulty.specs.Syncs.{Publishes}
 use Rattle.blob_memory.specs.Answers.{open_refusal}
@@ -87,7 +87,7 @@ pub keeps_synced : {R : Type 0} (b b' : Opened) (w w' : OverMemory R) → direct
     Publishes (λ o. o) (directory (inner_of w)) (durable (inner_of w)) (durable (inner_of w')) w w' (place (inside b)) (live (inside b)) →
     place (inside b') ≡ place (inside b) → config_of w' ≡ config_of w → (IsTracked b → IsTracked b') → LeavesDisk b w b' w'
 keeps_synced b b' w w' named p at config tracked = record {
-  standing = λ s. ∥∥₁_map s (λ f. (published f.0 (place (inside b)) (live (inside b)), subst (λ d. Stands (λ o. o) d (durable (inner_of w')) w' (published f.0 (place (inside b)) (live (inside b)))) (sym named) (p f.0 f.1)));
+  standing = λ s. ∥∥₁_map s (λ f. (publish f.0 (place (inside b)) (live (inside b)), subst (λ d. Stands (λ o. o) d (durable (inner_of w')) w' (publish f.0 (place (inside b)) (live (inside b)))) (sym named) (p f.0 f.1)));
   tracked = tracked;
   directory = named;
   place = at;

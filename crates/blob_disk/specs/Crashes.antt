@@ -2,7 +2,7 @@
 use Rattle.std.specs.Prelude.{◌≡◌, ◌⊎◌, ℕ, Bool, List, Option, Some, None}
 use Rattle.rand_core.specs.Stream.{Stream}
 use Rattle.blob_header.specs.Refusals.{Refusal, Memory}
-use Rattle.blob_model.specs.Draws.{Row, drawn, chosen_by}
+use Rattle.blob_model.specs.Draws.{Row, draw_rows, chosen_by}
 use Rattle.blob_model.specs.Files.{Files, all_needs}
 use Rattle.blob_model.specs.Stands.{replayed_at}
 use Rattle.blob_draws.specs.Answers.{injected_or}
@@ -13,7 +13,7 @@ use Rattle.blob_disk.specs.Outcomes.{Opened, durable_at, pending_at}
 
 -- the rows that a crash draws for the writes that it may lose, and the rest of the stream
 abbrev pub crash_draws : {R : Type 0} → (R → Stream) → OverMemory R → Files → List Row × Stream
-crash_draws stream w files = drawn (stream (rng_of w)) (all_needs files.log)
+crash_draws stream w files = draw_rows (stream (rng_of w)) (all_needs files.log)
 
 -- what these rows leave of the blob that a handle is on
 abbrev pub IsLeft : {R : Type 0} → (R → Stream) → Opened → OverMemory R → List ℕ → Type 0

@@ -1,7 +1,7 @@
 //! The calls of the wrapper that a disk makes, each by what it does to the outcomes of a crash.
 ghost use Rattle.std.specs.Prelude.{◌≡◌, ◌⊎◌, ◌≤◌, ◌<◌, ℕ, List, Some, false, length, OnOk, OnErr};
 ghost use Rattle.std.specs.IoError.{error_kind};
-ghost use Rattle.blob_header.specs.Refusals.{refusal_of, refused};
+ghost use Rattle.blob_header.specs.Refusals.{refusal_of, error_of};
 ghost use Rattle.blob_faulty.specs.OverMemory.{MayReadInto};
 ghost use Rattle.blob_faulty.specs.Wrapper.{inner_of, KeepsRecords};
 ghost use Rattle.blob_memory.specs.Store.{durable};
@@ -46,7 +46,7 @@ pub(crate) fn read<R: Rng>(
     buf: &mut [u8],
 ) -> Result<(), Error>
     ensures bytes { OnOk result (Holds (live_of blob.now) at buf.new) }
-    ensures allowed { MayReadInto R.stream blob.now store.old at (length buf.old) (refused result) }
+    ensures allowed { MayReadInto R.stream blob.now store.old at (length buf.old) (error_of result) }
     ensures keeps { LeavesDisk blob.now store.old blob.now store.new }
     ensures outcomes { KeepsOutcomes blob.now store.old blob.now store.new }
 {
@@ -66,7 +66,7 @@ pub(crate) fn write<R: Rng>(
     ensures written { OnOk result (0 < length bytes.now → Holds (live_of blob.new) at bytes.now) }
     ensures others { Torn at (length bytes.now) (live_of blob.old) (live_of blob.new) }
     ensures keeps { LeavesDisk blob.old store.old blob.new store.new }
-    ensures allowed { ⟦<Handle as Blob<Wrapper<R>>>⟧.allows_write blob.old store.old at bytes.now false (refused result) }
+    ensures allowed { ⟦<Handle as Blob<Wrapper<R>>>⟧.allows_write blob.old store.old at bytes.now false (error_of result) }
     ensures durable { OnOk result (durable_at blob.new store.new ≡ durable_at blob.old store.old) }
     ensures mixes { Mixed at bytes.now (live_of blob.old) (live_of blob.new) }
     ensures mixed { Follows (Mixed at bytes.now) (outcomes blob.old store.old) (outcomes blob.new store.new) }
@@ -90,7 +90,7 @@ pub(crate) fn resize<R: Rng>(
     requires { IsFile blob.old store.old }
     ensures len { OnOk result (length (live_of blob.new) ≡ len) }
     ensures others { Cut len (live_of blob.old) (live_of blob.new) }
-    ensures allowed { ⟦<Handle as Blob<Wrapper<R>>>⟧.allows_resize blob.old store.old len (refused result) }
+    ensures allowed { ⟦<Handle as Blob<Wrapper<R>>>⟧.allows_resize blob.old store.old len (error_of result) }
     ensures durable { durable_at blob.new store.new ≡ durable_at blob.old store.old }
     ensures keeps { LeavesDisk blob.old store.old blob.new store.new }
     ensures crash { Follows (Cut len) (outcomes blob.old store.old) (outcomes blob.new store.new) }
@@ -108,7 +108,7 @@ pub(crate) fn sync<R: Rng>(store: &mut Wrapper<R>, blob: &mut Handle) -> Result<
     ensures durable { OnOk result (Only (live_of blob.old) (outcomes blob.new store.new)) }
     ensures keeps { LeavesDisk blob.old store.old blob.new store.new }
     ensures live { live_of blob.new ≡ live_of blob.old }
-    ensures allowed { ⟦<Handle as Blob<Wrapper<R>>>⟧.allows_sync blob.old store.old (refused result) }
+    ensures allowed { ⟦<Handle as Blob<Wrapper<R>>>⟧.allows_sync blob.old store.old (error_of result) }
     ensures kept { OnErr result (KeepsOutcomes blob.old store.old blob.new store.new) }
     ensures crash { (c : List ℕ) → outcomes blob.new store.new c → outcomes blob.old store.old c }
 {
@@ -121,7 +121,7 @@ pub(crate) fn sync<R: Rng>(store: &mut Wrapper<R>, blob: &mut Handle) -> Result<
 fn reopen<R: Rng>(store: &mut Wrapper<R>, blob: &mut Handle) -> Result<(), Error>
     requires here { IsCurrent blob.old store.old }
     requires openable { IsOpenable store.old }
-    ensures answer { MayReopen R.stream store.old (refused result) }
+    ensures answer { MayReopen R.stream store.old (error_of result) }
     ensures found { OnOk result (durable_at blob.old store.old ≡ Some (live_of blob.new)) }
     ensures kept { OnErr result (live_of blob.new ≡ live_of blob.old) }
     ensures live { (live_of blob.new ≡ live_of blob.old) ⊎ (durable_at blob.old store.old ≡ Some (live_of blob.new)) }
@@ -145,7 +145,7 @@ fn reopen<R: Rng>(store: &mut Wrapper<R>, blob: &mut Handle) -> Result<(), Error
 pub(crate) fn lose<R: Rng>(store: &mut Wrapper<R>, blob: &mut Handle) -> Result<(), Error>
     requires here { IsCurrent blob.old store.old }
     requires openable { IsOpenable store.old }
-    ensures answer { MayCrash R.stream store.old (refused result) }
+    ensures answer { MayCrash R.stream store.old (error_of result) }
     ensures drawn { OnOk result (IsLeft R.stream blob.old store.old (live_of blob.new)) }
     ensures lost { OnOk result (IsDrawn blob.old store.old (live_of blob.new)) }
     ensures kept { OnErr result (live_of blob.new ≡ live_of blob.old) }

@@ -164,7 +164,7 @@ impl<R: Rng> Disk for BlobDisk<R> {
 
 impl<R: Rng> BlobDisk<R> {
     ghost use Rattle.std.specs.Prelude.{◌≡◌, ℕ, List, true, OnOk, OnErr};
-    ghost use Rattle.blob_header.specs.Refusals.{refused};
+    ghost use Rattle.blob_header.specs.Refusals.{error_of};
     ghost use Rattle.blob_disk.specs.Calls.{blob_of, counts_of, crash_of, faults_of, is_usable_of, outcomes_of, seen_of, store_of};
     ghost use Rattle.blob_disk.specs.Crashes.{IsLeft, MayCrash};
     ghost use Rattle.blob_disk.specs.Drawn.{MayDraw, rates_of};
@@ -177,7 +177,7 @@ impl<R: Rng> BlobDisk<R> {
     /// - `Memory` if memory runs out for the crash or the open.
     /// - `Injected` if the draw of the open, which comes after those of the crash, is true.
     pub fn try_crash(&mut self) -> Result<(), Error>
-        ensures answer { MayCrash R.stream (store_of self.old) (refused result) }
+        ensures answer { MayCrash R.stream (store_of self.old) (error_of result) }
         ensures drawn { OnOk result (IsLeft R.stream (blob_of self.old) (store_of self.old) (seen_of self.new)) }
         ensures lost { OnOk result (MayDraw self.old (seen_of self.new)) }
         ensures kept { OnErr result (seen_of self.new ≡ seen_of self.old) }
@@ -197,13 +197,13 @@ impl<R: Rng> BlobDisk<R> {
 
 impl<R: Rng> Crash for BlobDisk<R> {
     ghost use Rattle.std.specs.Prelude.{◌≡◌, ℕ, List, true, OnOk, OnErr};
-    ghost use Rattle.blob_header.specs.Refusals.{refused};
+    ghost use Rattle.blob_header.specs.Refusals.{error_of};
     ghost use Rattle.blob_disk.specs.Calls.{KeepsSettings, blob_of, counts_of, crash_of, faults_of, is_usable_of, outcomes_of, seen_of, store_of};
     ghost use Rattle.blob_disk.specs.Crashes.{IsLeft, MayCrash};
 
     /// Crashes as `try_crash` does. From then on `last_crash` returns the result.
     fn crash(&mut self)
-        ensures answer { MayCrash R.stream (store_of self.old) (refused (crash_of self.new)) }
+        ensures answer { MayCrash R.stream (store_of self.old) (error_of (crash_of self.new)) }
         ensures drawn { OnOk (crash_of self.new) (IsLeft R.stream (blob_of self.old) (store_of self.old) (seen_of self.new)) }
         ensures kept { OnErr (crash_of self.new) (seen_of self.new ≡ seen_of self.old) }
         ensures left { outcomes_of self.old (seen_of self.new) }

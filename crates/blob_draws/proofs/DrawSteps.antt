@@ -2,7 +2,7 @@
 use Rattle.std.proofs.Common.{◌≡◌, ℕ, suc, ◌+◌, ◌-◌, ◌<◌, ◌≤◌, Bool, true, false, ◌||◌, cond, eqb, ◌%◌, List, [], ◌∷◌, ◌++◌, replicate, sym, ◌∙◌, ap, ap₂, arith, append_assoc, append-nil}
 use Rattle.std.proofs.lemmas.Bool.{ne_eqb}
 use Rattle.rand_core.specs.Stream.{Stream}
-use Rattle.blob_model.specs.Rates.{Rate, sampled}
+use Rattle.blob_model.specs.Rates.{Rate, sample}
 use Rattle.blob_model.specs.Draws.{front, each, sectors, with_first}
 
 -- choices that were drawn, before those that will be
@@ -12,7 +12,7 @@ joined done rest = (done ++ rest.0, rest.1)
 joined_one : (done : List Bool) (b : Bool) (rest : List Bool × Stream) → joined done (with_first b rest) ≡ joined (done ++ b ∷ []) rest
 joined_one done b rest = ap (λ (xs : List Bool). (xs, rest.1)) (sym (append_assoc done (b ∷ []) rest.0))
 
-pub each_more : (rate : Rate) (len i : ℕ) (s s' : Stream) (done : List Bool) (b : Bool) → i < len → (b, s') ≡ sampled rate s → joined (done ++ b ∷ []) (each rate (len - (i + 1)) s') ≡ joined done (each rate (len - i) s)
+pub each_more : (rate : Rate) (len i : ℕ) (s s' : Stream) (done : List Bool) (b : Bool) → i < len → (b, s') ≡ sample rate s → joined (done ++ b ∷ []) (each rate (len - (i + 1)) s') ≡ joined done (each rate (len - i) s)
 unfolding each
 each_more rate len i s s' done b h e = sym (ap (λ n. joined done (each rate n s)) left ∙ step (len - (i + 1)))
   where
@@ -30,7 +30,7 @@ each_all rate len i s done h = ap (λ n. joined done (each rate n s)) zeros ∙ 
     zeros = omega arith
 
 -- a kept prefix: one more kept byte, the first lost byte, and the end
-pub front_more : (rate : Rate) (len i : ℕ) (s s' : Stream) (done : List Bool) (b : Bool) → i < len → (b, s') ≡ sampled rate s → b ≡ true → joined (done ++ true ∷ []) (front rate (len - (i + 1)) s') ≡ joined done (front rate (len - i) s)
+pub front_more : (rate : Rate) (len i : ℕ) (s s' : Stream) (done : List Bool) (b : Bool) → i < len → (b, s') ≡ sample rate s → b ≡ true → joined (done ++ true ∷ []) (front rate (len - (i + 1)) s') ≡ joined done (front rate (len - i) s)
 unfolding front
 front_more rate len i s s' done b h e t = sym (ap (λ n. joined done (front rate n s)) left ∙ step (len - (i + 1)))
   where
@@ -40,7 +40,7 @@ front_more rate len i s s' done b h e t = sym (ap (λ n. joined done (front rate
     step : (n : ℕ) → joined done (front rate (suc n) s) ≡ joined (done ++ true ∷ []) (front rate n s')
     step n = ap (λ (d : Bool × Stream). joined done (cond d.0 (with_first true (front rate n d.1)) (replicate (suc n) false, d.1))) (sym e ∙ ap (λ (x : Bool). (x, s')) t) ∙ joined_one done true (front rate n s')
 
-pub front_lost : (rate : Rate) (len i : ℕ) (s s' : Stream) (done all : List Bool) (b : Bool) → i < len → (b, s') ≡ sampled rate s → b ≡ false → all ≡ done ++ replicate (len - i) false → (all, s') ≡ joined done (front rate (len - i) s)
+pub front_lost : (rate : Rate) (len i : ℕ) (s s' : Stream) (done all : List Bool) (b : Bool) → i < len → (b, s') ≡ sample rate s → b ≡ false → all ≡ done ++ replicate (len - i) false → (all, s') ≡ joined done (front rate (len - i) s)
 unfolding front
 front_lost rate len i s s' done all b h e f is = ap (λ (xs : List Bool). (xs, s')) is ∙ sym (ap (λ n. joined done (front rate n s)) left ∙ step (len - (i + 1)) ∙ ap (λ n. joined done (replicate n false, s')) (sym left))
   where
@@ -58,7 +58,7 @@ front_all rate len i s done h = ap (λ n. joined done (front rate n s)) zeros �
     zeros = omega arith
 
 -- sectors
-pub sectors_more : (rate : Rate) (size o len i : ℕ) (s s' : Stream) (done : List Bool) (last b : Bool) → i < len → (b, s') ≡ cond (eqb i 0 || eqb ((o + i) % size) 0) (sampled rate s) (last, s) →
+pub sectors_more : (rate : Rate) (size o len i : ℕ) (s s' : Stream) (done : List Bool) (last b : Bool) → i < len → (b, s') ≡ cond (eqb i 0 || eqb ((o + i) % size) 0) (sample rate s) (last, s) →
     joined (done ++ b ∷ []) (sectors rate size (o + (i + 1)) (eqb (i + 1) 0) b (len - (i + 1)) s') ≡ joined done (sectors rate size (o + i) (eqb i 0) last (len - i) s)
 unfolding sectors
 sectors_more rate size o len i s s' done last b h e =

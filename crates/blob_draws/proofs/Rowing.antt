@@ -8,7 +8,7 @@ use Rattle.std.proofs.lemmas.List.{get_or_default}
 use Rattle.std.proofs.lemmas.List.Sorted.{IsPermutation-trans, IsPermutation-sym, IsPermutation-map}
 use Rattle.rand_core.specs.Stream.{Stream}
 use Rattle.blob_model.specs.Directory.{Directory}
-use Rattle.blob_model.specs.Draws.{Row, with_first, positions, drawn, row_of}
+use Rattle.blob_model.specs.Draws.{Row, with_first, positions, draw_rows, row_of}
 use Rattle.blob_model.specs.Durable.{Durable}
 use Rattle.blob_model.specs.Files.{Files, all_needs}
 use Rattle.blob_model.specs.Log.{Need}
@@ -26,7 +26,7 @@ abbrev pub joined_rows : List Row → List Row × Stream → List Row × Stream
 joined_rows done rest = (done ++ rest.0, rest.1)
 
 -- the rows of the pending writes are the rows of their draws
-pub rows_same : (s : Stream) (ns : List Need) → rows_drawn s (drawings_of ns) ≡ drawn s ns
+pub rows_same : (s : Stream) (ns : List Need) → rows_drawn s (drawings_of ns) ≡ draw_rows s ns
 rows_same s [] = refl
 rows_same s (n ∷ ns) = ap (λ (r : List Row × Stream). with_first (n.write.number, (positions n.write.mode n.write.rate n.write.offset (length n.write.bytes) s).0) r) (rows_same (positions n.write.mode n.write.rate n.write.offset (length n.write.bytes) s).1 ns)
 

@@ -1,7 +1,7 @@
 -- The tracked size of a handle that doesn't find its blob missing stays the length of its live bytes.
 use Rattle.std.proofs.Common.{◌≡◌, ℕ, ◌+◌, max, Bool, true, false, List, [], ◌∷◌, length, Option, Some, None, refl, sym, ◌∙◌, ap, arith}
 use Rattle.rand_core.specs.Stream.{Stream}
-use Rattle.blob_model.specs.Bytes.{resized, written}
+use Rattle.blob_model.specs.Bytes.{resize, write_live}
 use Rattle.blob_model.specs.Live.{all_written}
 use Rattle.blob_header.specs.Refusals.{Refusal, BlobMissing, Injected}
 use Rattle.blob_model.specs.Runs.{Run, runs}
@@ -17,18 +17,18 @@ abbrev IsFound : Option Refusal → Type 0
 IsFound answer = (p n : List ℕ) → answer ≡ Some (BlobMissing p n) → ⊥
 
 -- a write grows bytes to its end
-pub length-written : (x : List ℕ) (o : ℕ) (b : List ℕ) → length (written x o b) ≡ max (length x) (o + length b)
-length-written x o [] = length-overlay_by (resized x (max (length x) o)) o [] (λ _. true) ∙ omega (arith, length-resized x (max (length x) o))
+pub length-written : (x : List ℕ) (o : ℕ) (b : List ℕ) → length (write_live x o b) ≡ max (length x) (o + length b)
+length-written x o [] = length-overlay_by (resize x (max (length x) o)) o [] (λ _. true) ∙ omega (arith, length-resized x (max (length x) o))
 length-written x o (b ∷ bs) =
-    length-overlay_by (resized x (max (length x) o)) o (b ∷ bs) (λ _. true)
+    length-overlay_by (resize x (max (length x) o)) o (b ∷ bs) (λ _. true)
     ∙ omega (arith, length-resized x (max (length x) o), reach_all o (length (b ∷ bs)) (omega arith))
 
-write_sized : (size : ℕ) (live : List ℕ) (o : ℕ) (b : List ℕ) → size ≡ length live → max size (o + length b) ≡ length (written live o b)
+write_sized : (size : ℕ) (live : List ℕ) (o : ℕ) (b : List ℕ) → size ≡ length live → max size (o + length b) ≡ length (write_live live o b)
 write_sized size live o b e = ap (λ k. max k (o + length b)) e ∙ sym (length-written live o b)
 
 runs_sized : (size : ℕ) (live : List ℕ) (rs : List Run) → size ≡ length live → size_of_runs size rs ≡ length (all_written live rs)
 runs_sized size live [] e = e
-runs_sized size live (r ∷ rs) e = runs_sized (max size (r.0 + length r.1)) (written live r.0 r.1) rs (write_sized size live r.0 r.1 e)
+runs_sized size live (r ∷ rs) e = runs_sized (max size (r.0 + length r.1)) (write_live live r.0 r.1) rs (write_sized size live r.0 r.1 e)
 
 changes_sized : (fate : WriteFate) (retained : Option (PartialWriteMode × Rate)) (sync : Bool) (size : ℕ) (live : List ℕ) (o : ℕ) (b : List ℕ) (answer : Option Refusal) → IsFound answer → size ≡ length live →
     (write_changes fate retained sync o b answer).size size ≡ length ((write_changes fate retained sync o b answer).live live)

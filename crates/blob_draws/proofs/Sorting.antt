@@ -7,19 +7,19 @@ use Rattle.std.proofs.lemmas.Bool.{cond_both, eq-eqb, ne_eqb}
 use Rattle.std.proofs.lemmas.List.{get_or-map, length-map}
 use Rattle.std.proofs.lemmas.List.Sums.{sum_by-cons}
 use Rattle.std.proofs.lemmas.List.Sorted.{IsPermutation-refl, IsPermutation-trans, IsPermutation-cons, IsPermutation-middle, IsPermutation-sym, IsPermutation-append_left, All-permutation, sum_by-IsPermutation}
-use Rattle.blob_model.specs.Order.{placed, all_placed}
+use Rattle.blob_model.specs.Order.{insert_by, all_placed}
 
 -- elements brought in order one after another are the same elements
-placed_moves : {X : Type 0} (key : X → ℕ) (x : X) (ys : List X) → IsPermutation (x ∷ ys) (placed key x ys)
+placed_moves : {X : Type 0} (key : X → ℕ) (x : X) (ys : List X) → IsPermutation (x ∷ ys) (insert_by key x ys)
 placed_moves key x [] = IsPermutation-refl (x ∷ [])
-placed_moves {X} key x (y ∷ ys) = cond_both (nat_lt (key y) (key x)) (y ∷ placed key x ys) (x ∷ y ∷ ys) (λ (r : List X). IsPermutation (x ∷ y ∷ ys) r)
-    (λ _. IsPermutation-trans (x ∷ y ∷ ys) (y ∷ x ∷ ys) (y ∷ placed key x ys) (IsPermutation-sym (y ∷ x ∷ ys) (x ∷ y ∷ ys) (IsPermutation-middle (y ∷ []) x ys)) (IsPermutation-cons y (x ∷ ys) (placed key x ys) (placed_moves key x ys)))
+placed_moves {X} key x (y ∷ ys) = cond_both (nat_lt (key y) (key x)) (y ∷ insert_by key x ys) (x ∷ y ∷ ys) (λ (r : List X). IsPermutation (x ∷ y ∷ ys) r)
+    (λ _. IsPermutation-trans (x ∷ y ∷ ys) (y ∷ x ∷ ys) (y ∷ insert_by key x ys) (IsPermutation-sym (y ∷ x ∷ ys) (x ∷ y ∷ ys) (IsPermutation-middle (y ∷ []) x ys)) (IsPermutation-cons y (x ∷ ys) (insert_by key x ys) (placed_moves key x ys)))
     (λ _. IsPermutation-refl (x ∷ y ∷ ys))
 
 all_placed_moves : {X : Type 0} (key : X → ℕ) (done xs : List X) → IsPermutation (done ++ xs) (all_placed key done xs)
 all_placed_moves {X} key done [] = subst (λ (l : List X). IsPermutation l done) (sym (append-nil done)) (IsPermutation-refl done)
-all_placed_moves key done (x ∷ xs) = IsPermutation-trans (done ++ x ∷ xs) (x ∷ (done ++ xs)) (all_placed key (placed key x done) xs) (IsPermutation-middle done x xs)
-    (IsPermutation-trans ((x ∷ done) ++ xs) (placed key x done ++ xs) (all_placed key (placed key x done) xs) (IsPermutation-append_left xs (x ∷ done) (placed key x done) (placed_moves key x done)) (all_placed_moves key (placed key x done) xs))
+all_placed_moves key done (x ∷ xs) = IsPermutation-trans (done ++ x ∷ xs) (x ∷ (done ++ xs)) (all_placed key (insert_by key x done) xs) (IsPermutation-middle done x xs)
+    (IsPermutation-trans ((x ∷ done) ++ xs) (insert_by key x done ++ xs) (all_placed key (insert_by key x done) xs) (IsPermutation-append_left xs (x ∷ done) (insert_by key x done) (placed_moves key x done)) (all_placed_moves key (insert_by key x done) xs))
 
 pub placed_permutes : {X : Type 0} (key : X → ℕ) (xs : List X) → IsPermutation xs (all_placed key [] xs)
 placed_permutes key xs = all_placed_moves key [] xs

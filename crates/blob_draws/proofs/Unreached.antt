@@ -2,11 +2,11 @@
 use Rattle.std.proofs.Common.{◌≡◌, ℕ, ◌+◌, ◌-◌, ◌<◌, ◌≤◌, min, max, ◌&&◌, ◌||◌, List, [], ◌∷◌, Bool, true, false, Option, Some, None, refl, ap, length, take, arith, nat_lt, nat_le}
 use Rattle.std.proofs.lemmas.Bool.{leb-false, lt-leb, cond_both, or_parts}
 use Rattle.rand_core.specs.Stream.{Stream}
-use Rattle.blob_model.specs.Bytes.{lies, written}
+use Rattle.blob_model.specs.Bytes.{lies, write_live}
 use Rattle.blob_model.specs.Live.{all_written}
 use Rattle.blob_model.specs.declared.mode.PartialWriteMode.{PartialWriteMode}
 use Rattle.blob_model.specs.Persistence.{HasByte, any_touches}
-use Rattle.blob_model.specs.Rates.{Rate, sampled}
+use Rattle.blob_model.specs.Rates.{Rate, sample}
 use Rattle.blob_header.specs.Refusals.{Refusal, Injected, BlobMissing}
 use Rattle.blob_model.specs.Runs.{Run, runs, kept_runs}
 use Rattle.blob_model.proofs.Persistence.{runs_untouched, has_written, has_runs, has_resized}
@@ -48,7 +48,7 @@ first_has p v live [] out has = has
 first_has p v live (r ∷ rs) out has = has_written live p v r.0 r.1 (or_parts (lies r.0 (length r.1) p) (any_touches p (kept_runs rs)) out).0 has
 
 module _ (p v offset : ℕ) (bytes : List ℕ) (out : lies offset (length bytes) p ≡ false) (live : List ℕ) (has : HasByte p v live) where
-  there : HasByte p v (written live offset bytes)
+  there : HasByte p v (write_live live offset bytes)
   there = has_written live p v offset bytes out has
 
   changes_have : (fate : WriteFate) (retained : Option (PartialWriteMode × Rate)) (sync : Bool) (answer : Option Refusal) → HasByte p v ((write_changes fate retained sync offset bytes answer).live live)
@@ -91,9 +91,9 @@ IsAbove low (Reaches size) = low < size
 pub reached_above : (rate : Option ResizeConfig) (size len : ℕ) (stream : Stream) → IsAbove (min size len) (resize_fate rate size len stream).0
 reached_above None size len stream = tt
 reached_above (Some c) size len stream =
-    let d = sampled c.failure_rate stream in
-    cond_both d.0 (partly size len (sampled c.partial_rate d.1)) (Resizes (sampled c.failure_rate d.1).0, (sampled c.failure_rate d.1).1) (λ r. IsAbove (min size len) r.0)
-    (λ _. part (sampled c.partial_rate d.1)) (λ _. tt)
+    let d = sample c.failure_rate stream in
+    cond_both d.0 (partly size len (sample c.partial_rate d.1)) (Resizes (sample c.failure_rate d.1).0, (sample c.failure_rate d.1).1) (λ r. IsAbove (min size len) r.0)
+    (λ _. part (sample c.partial_rate d.1)) (λ _. tt)
   where
     part : (d : Bool × Stream) → IsAbove (min size len) (partly size len d).0
     part d = cond_both {A = ResizeFate × Stream} (d.0 && nat_lt 1 (max size len - min size len)) _ (Stays, d.1) (λ r. IsAbove (min size len) r.0) (λ _. omega arith) (λ _. tt)

@@ -26,9 +26,9 @@ injected_for inner answer = ((answer ≡ Some Injected) × inner None) ⊎ (IsSo
 abbrev pub or_memory : Allowed → Allowed
 or_memory inner answer = (answer ≡ Some Memory) ⊎ inner answer
 
-abbrev pub numbered : Bool → Allowed → Allowed
-numbered true inner answer = answer ≡ Some GenerationsExhausted
-numbered false inner answer = inner answer
+abbrev pub exhausted_or : Bool → Allowed → Allowed
+exhausted_or true inner answer = answer ≡ Some GenerationsExhausted
+exhausted_or false inner answer = inner answer
 
 -- one call and then another: what the first refuses is the answer
 abbrev pub one_then : Allowed → Allowed → Allowed
@@ -52,12 +52,12 @@ allows_runs writes reserves direct (r ∷ rs) answer = one_then (reserves (last_
 
 abbrev pub allows_done : (ℕ → List ℕ → Bool → Allowed) → Bool → ℕ → Bool → ℕ → List ℕ → Allowed
 allows_done writes retained next true offset bytes answer = writes offset bytes true answer
-allows_done writes retained next false offset bytes answer = numbered (lacks_number retained next bytes) (writes offset bytes false) answer
+allows_done writes retained next false offset bytes answer = exhausted_or (lacks_number retained next bytes) (writes offset bytes false) answer
 
 -- by a drawn outcome: there is no other
 abbrev pub allows_fate : WriteFate → (ℕ → List ℕ → Bool → Allowed) → (ℕ → Allowed) → Bool → Bool → ℕ → Bool → ℕ → List ℕ → Allowed
 allows_fate Done writes reserves direct retained next sync offset bytes answer = allows_done writes retained next sync offset bytes answer
-allows_fate Unsynced writes reserves direct retained next sync offset bytes answer = numbered (lacks_number retained next bytes) (injected_for (writes offset bytes false)) answer
+allows_fate Unsynced writes reserves direct retained next sync offset bytes answer = exhausted_or (lacks_number retained next bytes) (injected_for (writes offset bytes false)) answer
 allows_fate (Failed kept) writes reserves direct retained next sync offset bytes answer = injected_for (allows_runs writes reserves direct (runs offset bytes kept)) answer
 allows_fate fate writes reserves direct retained next sync offset bytes answer = ⊥
 
@@ -75,4 +75,4 @@ allows_resize resizes (Reaches size) len answer = or_memory (injected_for (resiz
 -- a started sync takes a number for its marker
 abbrev pub allows_start : Bool → ℕ → Allowed → Allowed
 allows_start true next inner answer = answer ≡ Some Injected
-allows_start false next inner answer = numbered (next == 2 ^ 64 - 1) (or_memory inner) answer
+allows_start false next inner answer = exhausted_or (next == 2 ^ 64 - 1) (or_memory inner) answer

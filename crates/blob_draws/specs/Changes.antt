@@ -1,7 +1,7 @@
 -- What a write or a resize adds to the log and how it changes its handle, over a store that injects nothing. Any other store may
 -- fail a call in part, and its `Injected` can't be distinguished from the wrapper's.
 use Rattle.std.specs.Prelude.{ℕ, ◌+◌, ◌-◌, ◌^◌, ◌==◌, max, Bool, true, false, ◌&&◌, List, [], ◌∷◌, length, take, fold, Option, Some, None, if◌then◌else◌}
-use Rattle.blob_model.specs.Bytes.{resized}
+use Rattle.blob_model.specs.Bytes.{resize}
 use Rattle.blob_model.specs.Live.{all_written}
 use Rattle.blob_model.specs.Log.{Entry, Kept, Loose, Resized}
 use Rattle.blob_model.specs.declared.mode.PartialWriteMode.{PartialWriteMode}
@@ -40,7 +40,7 @@ changes_when_stale rs = record (laying rs (λ number. [])) { size = λ size. siz
 
 -- a resize to this length, which survives a crash or not
 abbrev pub changes_of_length : ℕ → Bool → Changes
-changes_of_length len survives = record { entries = λ number. if survives then Resized len ∷ [] else []; live = λ live. resized live len; size = λ size. len }
+changes_of_length len survives = record { entries = λ number. if survives then Resized len ∷ [] else []; live = λ live. resize live len; size = λ size. len }
 
 -- by outcome and result: a SYNC write that doesn't fail is durable as a whole. A plain write may be lost, and so may a SYNC
 -- write if its sync fails. A failed write keeps its runs. If the incarnation has ended, the live bytes have the SYNC write,

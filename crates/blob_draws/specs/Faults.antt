@@ -6,7 +6,7 @@ use Rattle.blob_model.specs.Draws.{positions}
 use Rattle.blob_model.specs.Live.{is_idle}
 use Rattle.blob_model.specs.Log.{Write}
 use Rattle.blob_model.specs.declared.mode.PartialWriteMode.{PartialWriteMode}
-use Rattle.blob_model.specs.Rates.{Rate, sampled}
+use Rattle.blob_model.specs.Rates.{Rate, sample}
 use Rattle.blob_draws.specs.declared.config.Config.{Config}
 use Rattle.blob_draws.specs.declared.config.ResizeConfig.{ResizeConfig}
 use Rattle.blob_draws.specs.declared.config.WriteConfig.{WriteConfig}
@@ -14,7 +14,7 @@ use Rattle.blob_draws.specs.declared.config.WriteConfig.{WriteConfig}
 -- one draw; a rate that isn't set takes no word and is never true
 abbrev pub draw : Option Rate → Stream → Bool × Stream
 draw None stream = (false, stream)
-draw (Some rate) stream = sampled rate stream
+draw (Some rate) stream = sample rate stream
 
 -- how the retained bytes of a write are selected, if the retention rate is set and isn't zero
 abbrev pub retention : Option WriteConfig → Option (PartialWriteMode × Rate)
@@ -29,15 +29,15 @@ pub data WriteFate : Type 0 where
   Unsynced : WriteFate  -- it is a SYNC write and its sync fails
   Failed : List Bool → WriteFate  -- it fails and keeps the chosen bytes
 
-abbrev pub failed : Option (PartialWriteMode × Rate) → ℕ → ℕ → Stream → WriteFate × Stream
-failed None offset len stream = (Failed [], stream)
-failed (Some kept) offset len stream = let d = positions kept.0 kept.1 offset len stream in (Failed d.0, d.1)
+abbrev pub failure : Option (PartialWriteMode × Rate) → ℕ → ℕ → Stream → WriteFate × Stream
+failure None offset len stream = (Failed [], stream)
+failure (Some kept) offset len stream = let d = positions kept.0 kept.1 offset len stream in (Failed d.0, d.1)
 
 -- of a write that draws: whether it fails, and whether the sync of a SYNC write does that didn't
 abbrev pub drawn_fate : Config → Bool → ℕ → ℕ → Stream → WriteFate × Stream
 drawn_fate config sync offset len stream =
     let d = draw (option_map (λ c. c.failure_rate) config.write_rate) stream in
-    if d.0 then failed (retention config.write_rate) offset len d.1
+    if d.0 then failure (retention config.write_rate) offset len d.1
     else if sync then (let e = draw config.sync_rate d.1 in (if e.0 then Unsynced else Done, e.1))
     else (Done, d.1)
 
@@ -67,9 +67,9 @@ partly size len d =
 abbrev pub resize_fate : Option ResizeConfig → ℕ → ℕ → Stream → ResizeFate × Stream
 resize_fate None size len stream = (Resizes false, stream)
 resize_fate (Some c) size len stream =
-    let d = sampled c.failure_rate stream in
-    if d.0 then partly size len (sampled c.partial_rate d.1) else (let e = sampled c.failure_rate d.1 in (Resizes e.0, e.1))
+    let d = sample c.failure_rate stream in
+    if d.0 then partly size len (sample c.partial_rate d.1) else (let e = sample c.failure_rate d.1 in (Resizes e.0, e.1))
 
 -- a write as it is recorded
-abbrev pub issued : ℕ → ℕ → List ℕ → WriteConfig → Write
-issued number offset bytes config = record { number = number; offset = offset; bytes = bytes; mode = config.mode; rate = config.retention_rate }
+abbrev pub new_write : ℕ → ℕ → List ℕ → WriteConfig → Write
+new_write number offset bytes config = record { number = number; offset = offset; bytes = bytes; mode = config.mode; rate = config.retention_rate }

@@ -7,9 +7,9 @@ use Rattle.blob_draws.specs.declared.config.Config.{Config}
 use Rattle.blob_draws.specs.Changes.{Changes, write_changes, resize_changes}
 use Rattle.blob_draws.specs.Faults.{ResizeFate, retention, write_fate}
 
-abbrev pub kept : ℕ → List ℕ → List Entry
-kept offset [] = []
-kept offset (b ∷ bytes) = Kept offset (b ∷ bytes) ∷ []
+abbrev pub kept_entries : ℕ → List ℕ → List Entry
+kept_entries offset [] = []
+kept_entries offset (b ∷ bytes) = Kept offset (b ∷ bytes) ∷ []
 
 -- by the draws of a write
 abbrev pub written_by : Config → Stream → Bool → ℕ → List ℕ → Option Refusal → Changes

@@ -1,8 +1,8 @@
 //! The draws of a call, made before the inner store is called.
 ghost use Rattle.std.specs.Prelude.{◌≡◌, ◌<◌, ◌+◌, ◌^◌, Some, None, IfOk, OnErr, length, replicate, false, IfSome};
 ghost use Rattle.blob_header.specs.Refusals.{IsMemory};
-ghost use Rattle.blob_draws.specs.Faults.{draw, retention, failed, drawn_fate, partly, resize_fate, size_between};
-ghost use Rattle.blob_model.specs.Rates.{sampled};
+ghost use Rattle.blob_draws.specs.Faults.{draw, retention, failure, drawn_fate, partly, resize_fate, size_between};
+ghost use Rattle.blob_model.specs.Rates.{sample};
 ghost use Rattle.blob_draws.specs.Fates.{retention_of, write_failure, write_fate_of, resize_fate_of, DrawsOutcome, IsSized};
 
 use crate::config::{Config, ResizeConfig, WriteConfig};
@@ -73,7 +73,7 @@ fn draw_kept<R: Rng>(
     rng: &mut R,
 ) -> Result<WriteFate, Error>
     requires { offset + len < 2 ^ 64 }
-    ensures ok { IfOk result (DrawsOutcome (failed (retention config) offset len) (R.stream rng.old) (R.stream rng.new)) }
+    ensures ok { IfOk result (DrawsOutcome (failure (retention config) offset len) (R.stream rng.old) (R.stream rng.new)) }
     ensures sized { IfOk result (λ fate. IsSized len (write_fate_of fate)) }
     ensures memory { OnErr result (IsMemory result) }
 {
@@ -120,7 +120,7 @@ fn draw_between<R: Rng>(low: u64, high: u64, rng: &mut R) -> u64
 
 /// Draws the outcome of a resize that fails.
 fn draw_partial<R: Rng>(config: ResizeConfig, size: u64, len: u64, rng: &mut R) -> ResizeFate
-    ensures { (resize_fate_of result, R.stream rng.new) ≡ partly size len (sampled config.partial_rate (R.stream rng.old)) }
+    ensures { (resize_fate_of result, R.stream rng.new) ≡ partly size len (sample config.partial_rate (R.stream rng.old)) }
 {
     let partial = config.partial_rate.sample(rng);
     let (low, high) = (size.min(len), size.max(len));

@@ -8,7 +8,7 @@ use Rattle.blob_script.specs.declared.reply.Reply.{Reply}
 use Rattle.blob_script.specs.Told.{refused_by}
 use Rattle.blob_lab_store.specs.Tables.{images_of}
 use Rattle.blob_lab_model.specs.States.{Image}
-use Rattle.blob_tree.specs.Trees.{DecisionTree, depth, extended, outcome_word, words_of}
+use Rattle.blob_tree.specs.Trees.{DecisionTree, depth, extend_path, outcome_word, words_of}
 use Rattle.blob_choices.specs.Decided.{Decides}
 use Rattle.blob_choices.specs.Explored.{LeftCountsTaken, RunsAlong, sentinel_words}
 use Rattle.blob_choices.specs.Outcomes.{NoneOutOfMemory, acts_of, run_outcome}
@@ -26,7 +26,7 @@ images_more xs all new x y i before now same more =
     ∙ sym (ap images_of more ∙ map-append image_of (take i xs) (x ∷ []))
 
 -- the words of a path and of true outcomes after it
-taken_words : (d spare : ℕ) (path : List Bool) → d ≤ length path + spare → take d (words_of path ++ replicate spare 0) ≡ words_of (extended d path)
+taken_words : (d spare : ℕ) (path : List Bool) → d ≤ length path + spare → take d (words_of path ++ replicate spare 0) ≡ words_of (extend_path d path)
 taken_words zero zero [] h = refl
 taken_words zero (suc spare) [] h = refl
 taken_words zero spare (o ∷ path) h = refl
@@ -37,7 +37,7 @@ taken_words (suc d) spare (o ∷ path) h = ap (λ (ws : List ℕ). outcome_word 
 -- the path and the replies of a run of these words
 abbrev pub Took : Script → List Bool → List ℕ → List Reply → Type 0
 Took script path words replies = (t : DecisionTree) → Decides (run_outcome (start_of script) (acts_of script.calls.items)) t
-    → (words ≡ words_of (extended (depth t path) path)) × RunsAlong (start_of script) script.calls.items (extended (depth t path) path) replies
+    → (words ≡ words_of (extend_path (depth t path) path)) × RunsAlong (start_of script) script.calls.items (extend_path (depth t path) path) replies
 
 -- the words that a run took of those that were given
 takes_words : LeftCountsTaken → (script : Script) (path : List Bool) (spare left : ℕ) (replies : List Reply) → NoneOutOfMemory replies

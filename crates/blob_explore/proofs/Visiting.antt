@@ -1,7 +1,7 @@
 -- One more leaf of an exploration.
 use Rattle.std.proofs.Common.{◌≡◌, ℕ, zero, suc, Bool, true, false, not, if◌then◌else◌, List, [], ◌∷◌, length, Option, Some, None, refl, sym, ap, ◌∙◌}
 use Rattle.std.proofs.lemmas.List.{length-map}
-use Rattle.blob_tree.specs.Trees.{DecisionTree, Advances, depth, extended, left_after, if_more, left_from, outcome_word, words_of}
+use Rattle.blob_tree.specs.Trees.{DecisionTree, Advances, depth, extend_path, left_after, if_more, left_from, outcome_word, words_of}
 use Rattle.blob_choices.specs.Decided.{Decides}
 use Rattle.blob_choices.specs.Explored.{RunsAlong}
 use Rattle.blob_choices.specs.Outcomes.{acts_of, run_outcome}
@@ -10,7 +10,7 @@ use Rattle.blob_explore.specs.declared.exploration.Exploration.{Exploration}
 use Rattle.blob_explore.specs.declared.exploration.Leaf.{Leaf}
 use Rattle.blob_explore.specs.declared.script.Script.{Script}
 
-length-extended : (n : ℕ) (path : List Bool) → length (extended n path) ≡ n
+length-extended : (n : ℕ) (path : List Bool) → length (extend_path n path) ≡ n
 length-extended zero path = refl
 length-extended (suc n) [] = ap suc (length-extended n [])
 length-extended (suc n) (o ∷ path) = ap suc (length-extended n path)
@@ -25,12 +25,12 @@ pub record IsNext (script : Script) (path : List Bool) (leaf : Leaf) (next : Opt
 pub is_next : (script : Script) (path : List Bool) (leaf : Leaf) (taken : ℕ) (next : Option (List Bool)) → TakesPath script path leaf
     → taken ≡ length leaf.words.items → Advances path taken next → (t : DecisionTree) → Decides (run_outcome (start_of script) (acts_of script.calls.items)) t → IsNext script path leaf next t
 is_next script path leaf taken next takes count advances t D =
-    let here : List Bool = extended (depth t path) path in
+    let here : List Bool = extend_path (depth t path) path in
     let (is, runs) = takes t D in
     let deep : depth t path ≡ taken = sym (count ∙ ap length is ∙ length-map here outcome_word ∙ length-extended (depth t path) path) in
     record {
       here = here;
-      first = advances t deep ∙ ap (λ (n : ℕ). extended n path ∷ left_after t next) (sym deep);
+      first = advances t deep ∙ ap (λ (n : ℕ). extend_path n path ∷ left_after t next) (sym deep);
       words = is;
       replies = runs;
     }

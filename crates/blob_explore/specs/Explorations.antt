@@ -3,13 +3,13 @@ use Rattle.std.specs.Prelude.{◌≡◌, ℕ, Bool, List, [], ◌∷◌, if◌th
 use Rattle.std.specs.Global.{Global}
 use Rattle.blob_script.specs.declared.call.Call.{Call}
 use Rattle.blob_script.specs.declared.reply.Reply.{Reply}
-use Rattle.blob_script.specs.Settings.{cleared}
+use Rattle.blob_script.specs.Settings.{no_rates}
 use Rattle.blob_lab_store.specs.Tables.{images_of}
 use Rattle.blob_tree.specs.WordsLeft.{EndsAfter}
 use Rattle.blob_lab_model.specs.Runs.{LeadsTo}
 use Rattle.blob_lab_model.specs.Scripted.{only}
 use Rattle.blob_lab_model.specs.States.{Image, State, start}
-use Rattle.blob_tree.specs.Trees.{DecisionTree, depth, extended, left_after, words_of}
+use Rattle.blob_tree.specs.Trees.{DecisionTree, depth, extend_path, left_after, words_of}
 use Rattle.blob_choices.specs.Decided.{Decides}
 use Rattle.blob_choices.specs.Explored.{RunsAlong}
 use Rattle.blob_choices.specs.Outcomes.{SetNoPartialResize, acts_of, run_outcome}
@@ -26,19 +26,19 @@ image_of image = (string_bytes image.0, image.1.items, image.2.items)
 
 -- the state in which each run of a script starts, except the words
 abbrev pub start_of : Script → State
-start_of script = start (images_of script.images.items) (only []) cleared
+start_of script = start (images_of script.images.items) (only []) no_rates
 
 -- a run over these words gives these replies, and leaves this number of words
 abbrev pub Ran : Images → List Call → List ℕ → List Reply → Option ℕ → Type 0
 Ran images calls words replies left =
-    (w : State) × LeadsTo (start (images_of images) (only words) cleared) calls replies w
+    (w : State) × LeadsTo (start (images_of images) (only words) no_rates) calls replies w
     × IfSome left (λ n. EndsAfter w.stream n)
 
 -- the leaf is that of the path, continued by true outcomes, in each tree that decides the run
 abbrev pub TakesPath : Script → List Bool → Leaf → Type 0
 TakesPath script path leaf = (t : DecisionTree) → Decides (run_outcome (start_of script) (acts_of script.calls.items)) t
-    → (leaf.words.items ≡ words_of (extended (depth t path) path))
-    × RunsAlong (start_of script) script.calls.items (extended (depth t path) path) leaf.replies.items
+    → (leaf.words.items ≡ words_of (extend_path (depth t path) path))
+    × RunsAlong (start_of script) script.calls.items (extend_path (depth t path) path) leaf.replies.items
 
 abbrev pub explored_script : Exploration → Script
 explored_script e = e.script
@@ -48,8 +48,8 @@ abbrev pub path_of : Exploration → Option (List Bool)
 path_of e = if e.is_done then None else Some e.explorer
 
 -- the leaves that are still to visit
-abbrev pub left : Exploration → DecisionTree → List (List Bool)
-left e t = left_after t (path_of e)
+abbrev pub remaining_leaves : Exploration → DecisionTree → List (List Bool)
+remaining_leaves e t = left_after t (path_of e)
 
 -- the tree decides the draws of its calls
 abbrev pub DecidesRun : Exploration → DecisionTree → Type 0
@@ -59,7 +59,7 @@ DecidesRun e t = Decides (run_outcome (start_of e.script) (acts_of e.script.call
 -- replies are those of the run along the path.
 pub record Visits (e : Exploration) (leaf : Leaf) (e' : Exploration) (t : DecisionTree) : Type 0 where
   pub path : List Bool
-  pub first : left e t ≡ path ∷ left e' t
+  pub first : remaining_leaves e t ≡ path ∷ remaining_leaves e' t
   pub words : leaf.words.items ≡ words_of path
   pub replies : RunsAlong (start_of e.script) e.script.calls.items path leaf.replies.items
 

@@ -8,7 +8,7 @@ use Rattle.blob_choices.specs.Decided.{Decides}
 use Rattle.blob_choices.specs.Explored.{HoldEveryRun, RunsAlong}
 use Rattle.blob_choices.specs.Outcomes.{SetNoPartialResize, acts_of, run_outcome}
 use Rattle.blob_explore.specs.Distinct.{Distinct, LeafText, outcomes_in, outcomes_of}
-use Rattle.blob_explore.specs.Explorations.{left, explored_script, start_of}
+use Rattle.blob_explore.specs.Explorations.{remaining_leaves, explored_script, start_of}
 use Rattle.blob_explore.specs.Printed.{exploration_text}
 use Rattle.blob_explore.specs.ScriptTexts.{IsScriptOf}
 use Rattle.blob_explore.specs.declared.exploration.Exploration.{Exploration}
@@ -16,12 +16,12 @@ use Rattle.blob_explore.specs.declared.outcomes.Explored.{Explored}
 use Rattle.blob_explore.specs.declared.script.Script.{Script}
 
 -- the lines of these replies
-abbrev pub printed : List Reply → List ℕ
-printed replies = flat_map (λ reply. reply_line reply ++ 10 ∷ []) replies
+abbrev pub reply_lines : List Reply → List ℕ
+reply_lines replies = flat_map (λ reply. reply_line reply ++ 10 ∷ []) replies
 
 -- the text of an outcome: the lines of all replies, or of the last one
-abbrev pub shown : Bool → List Reply → List ℕ
-shown last replies = printed (drop (if last then length replies - 1 else 0) replies)
+abbrev pub replies_text : Bool → List Reply → List ℕ
+replies_text last replies = reply_lines (drop (if last then length replies - 1 else 0) replies)
 
 -- a visited leaf: its path, and the replies of the run along it
 pub record Visited : Type 0 where
@@ -36,7 +36,7 @@ RunsAlongPath script leaf = RunsAlong (start_of script) script.calls.items leaf.
 
 -- the words of its path, and the lines of its replies, or of the last one
 abbrev pub shown_leaf : Bool → Visited → LeafText
-shown_leaf last leaf = record { words = words_of leaf.path; text = shown last leaf.replies }
+shown_leaf last leaf = record { words = words_of leaf.path; text = replies_text last leaf.replies }
 
 -- An exploration has visited the first leaves of the decision tree of the script's runs, all of them if it is
 -- complete. The outcomes are those of these leaves: each with the number of leaves that have it and the words of the
@@ -76,6 +76,6 @@ pub record Exploring (script : Script) (last : Bool) (e : Exploration) (count : 
   pub explored : explored_script e ≡ script
   pub visited : List Visited
   pub many : length visited ≡ count
-  pub paths : map path_to visited ++ left e t ≡ leaves t
+  pub paths : map path_to visited ++ remaining_leaves e t ≡ leaves t
   pub replies : AllByRecursion (RunsAlongPath script) visited
   pub outcomes : found ≡ outcomes_of (map (shown_leaf last) visited)

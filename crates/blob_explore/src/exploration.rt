@@ -2,7 +2,7 @@
 ghost use Rattle.std.specs.Prelude.{◌≡◌, ◌≢◌, [], None, IfOk, IfSome, IfNone, OnErr};
 ghost use Rattle.std.specs.Bool.{OnFalse, OnTrue};
 ghost use Rattle.blob_tree.specs.Trees.{DecisionTree, leaves};
-ghost use Rattle.blob_explore.specs.Explorations.{VisitsNext, explored_script, left, path_of};
+ghost use Rattle.blob_explore.specs.Explorations.{VisitsNext, explored_script, remaining_leaves, path_of};
 
 use crate::run::visit;
 use crate::script::Script;
@@ -35,7 +35,7 @@ impl Exploration {
     /// Starts before the first leaf. Allocates nothing.
     pub fn new(alloc: Global, script: Script) -> Exploration
         ensures script { explored_script result ≡ script }
-        ensures all { (t : DecisionTree) → left result t ≡ leaves t }
+        ensures all { (t : DecisionTree) → remaining_leaves result t ≡ leaves t }
     {
         Exploration {
             script,
@@ -48,7 +48,7 @@ impl Exploration {
 
     /// Whether every leaf was visited.
     pub fn is_done(&self) -> bool
-        ensures done { OnTrue result ((t : DecisionTree) → left self.now t ≡ []) }
+        ensures done { OnTrue result ((t : DecisionTree) → remaining_leaves self.now t ≡ []) }
         ensures more { OnFalse result (path_of self.now ≢ None) }
     {
         self.is_done

@@ -1,6 +1,6 @@
 //! The distinct outcomes of a script.
 ghost use Rattle.std.specs.Prelude.{◌≡◌, ◌≤◌, ◌-◌, IfOk, false, if◌then◌else◌, string_bytes};
-ghost use Rattle.blob_explore.specs.Outcomes.{IsExplored, shown};
+ghost use Rattle.blob_explore.specs.Outcomes.{IsExplored, replies_text};
 
 use crate::exploration::Exploration;
 use crate::script::Script;
@@ -58,7 +58,7 @@ pub fn explore(alloc: Global, script: Script, limit: u64, last: bool) -> Result<
 
 /// Returns the text of a leaf: the lines of its replies, or of the last one.
 fn text_of(alloc: Global, replies: &[Reply], last: bool) -> Result<String, Error>
-    ensures { IfOk result (λ text. string_bytes text ≡ shown last replies.now) }
+    ensures { IfOk result (λ text. string_bytes text ≡ replies_text last replies.now) }
 {
     let mut text = String::new(alloc);
     let from = first_shown(replies.len(), last);

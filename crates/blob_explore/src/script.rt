@@ -3,7 +3,7 @@ ghost use Rattle.std.specs.Prelude.{◌≡◌, [], Some, IfOk, OnOk};
 ghost use Rattle.std.specs.Bool.{OnFalse};
 ghost use Rattle.blob_script.specs.Acts.{act_of};
 ghost use Rattle.blob_script.specs.Lines.{said_by};
-ghost use Rattle.blob_script.specs.Settings.{cleared};
+ghost use Rattle.blob_script.specs.Settings.{no_rates};
 ghost use Rattle.blob_choices.specs.Outcomes.{HasNoPartialResize, SetNoPartialResize, SetsNoPartialResize, acts_of};
 ghost use Rattle.blob_explore.specs.Explorations.{AddsNoPartialResize};
 ghost use Rattle.blob_explore.specs.ScriptTexts.{AddsCall, AddsImage, AddsLine, AddsSaid, AddsSetting, IsScriptOf};
@@ -95,7 +95,7 @@ impl Reading {
     fn new(alloc: Global) -> Reading
         ensures calls { result.calls.items ≡ [] }
         ensures images { result.images.items ≡ [] }
-        ensures config { result.config ≡ cleared }
+        ensures config { result.config ≡ no_rates }
     {
         Reading {
             images: Vec::new(alloc),

@@ -16,7 +16,7 @@ use Rattle.blob_model.proofs.Bytes.{same_bytes, length-overlay_by, at_other}
 use Rattle.blob_model.proofs.FileSteps.{stands_same}
 use Rattle.blob_faulty.specs.declared.storage.Storage.{Storage}
 use Rattle.blob_draws.specs.Changes.{loose}
-use Rattle.blob_draws.specs.Recorded.{kept}
+use Rattle.blob_draws.specs.Recorded.{kept_entries}
 use Rattle.blob_faulty.specs.Wrapper.{pending_of, KeepsRecords, Stands}
 
 -- StandsFor at other numbers
@@ -34,7 +34,7 @@ keeps_stands place names names' bytes bytes' old new files named same k s =
     (stands_same names names' bytes bytes' (pending_of place old) (pending_of place new) _ _ files named (at_each same) k.pending s)
 
 -- what is recorded of a write with bytes
-pub kept_some : (o : ℕ) (b : List ℕ) → 0 < length b → kept o b ≡ Kept o b ∷ []
+pub kept_some : (o : ℕ) (b : List ℕ) → 0 < length b → kept_entries o b ≡ Kept o b ∷ []
 kept_some o [] h = absurd (omega arith)
 kept_some o (x ∷ b) h = refl
 

@@ -7,12 +7,12 @@ use Rattle.rand_core.specs.Stream.{Stream}
 use Rattle.blob_header.specs.Fronts.{BeginsWith}
 use Rattle.blob_header.specs.Refusals.{Refusal}
 use Rattle.blob_model.specs.Directory.{current}
-use Rattle.blob_model.specs.Files.{Files, after_open, admitted}
+use Rattle.blob_model.specs.Files.{Files, after_open, admit}
 use Rattle.blob_model.specs.Opened.{IsNamed}
 use Rattle.blob_model.specs.Opening.{IsOpened}
 use Rattle.blob_model.specs.Pending.{Pending}
 use Rattle.blob_model.specs.Places.{Place, same_place}
-use Rattle.blob_model.specs.Stands.{retired}
+use Rattle.blob_model.specs.Stands.{retire}
 use Rattle.blob_model.proofs.NameSteps.{read_by_open}
 use Rattle.blob_model.proofs.Opened.{current_opened, named_opened, goes_on}
 use Rattle.blob_draws.specs.Faults.{draw}
@@ -27,7 +27,7 @@ use Rattle.blob_memory.specs.declared.storage.Storage as memory
 use Rattle.blob_faulty.proofs.Keeping.{keeps_found, kept_front, current_named}
 
 -- the same lists, retired
-retired_same : (f g : Place → List Pending) (c : Option Place) (a : Place) → ((o : Place) → f o ≡ g o) → retired f c a ≡ retired g c a
+retired_same : (f g : Place → List Pending) (c : Option Place) (a : Place) → ((o : Place) → f o ≡ g o) → retire f c a ≡ retire g c a
 retired_same f g None a same = same a
 retired_same f g (Some o) a same = ap (λ (x : List Pending). cond (same_place o a) [] x) (same a)
 
@@ -39,7 +39,7 @@ leaves_admitted stream p n before mid after w now = record {
   retired = λ e o.
       now.pending o
       ∙ retired_same (pending_of (λ a. a) mid) (pending_of (λ a. a) before) (current (directory (inner_of mid)) p n) o w.records.pending
-      ∙ ap (λ (s : memory.Storage). retired (pending_of (λ a. a) before) (current (directory s) p n) o) (sym now.inner);
+      ∙ ap (λ (s : memory.Storage). retire (pending_of (λ a. a) before) (current (directory s) p n) o) (sym now.inner);
   kept = λ some. absurd (false≢true some);
   numbers = record {
     next_write = now.numbers.next_write ∙ w.records.numbers.next_write;
@@ -62,7 +62,7 @@ leaves_alone stream p n before after r w = record {
 -- what is kept: `mid` is the wrapper between the two
 module _ {R : Type 0} (p n : List ℕ) (first last : ℕ) (before mid after : OverMemory R) (o : Place) (live : List ℕ) (version : ℕ)
     (opens : IsOpened (directory (inner_of before)) (durable (inner_of before)) (directory (inner_of mid)) (durable (inner_of mid)) p n first last o live version)
-    (steps : OpensAlone before mid p n first last) (inside : inner_of after ≡ inner_of mid) (stands : (f : Files) → IsFor mid f → IsFor after (admitted f p n)) where
+    (steps : OpensAlone before mid p n first last) (inside : inner_of after ≡ inner_of mid) (stands : (f : Files) → IsFor mid f → IsFor after (admit f p n)) where
   pub opened_admitted : IsOpened (directory (inner_of before)) (durable (inner_of before)) (directory (inner_of after)) (durable (inner_of after)) p n first last o live version
   opened_admitted =
       subst (λ (s : memory.Storage). IsOpened (directory (inner_of before)) (durable (inner_of before)) (directory s) (durable s) p n first last o live version) (sym inside) opens

@@ -8,7 +8,7 @@ use Rattle.blob_header.specs.Header.{data_start}
 use Rattle.blob_model.specs.Files.{is_removed_by}
 use Rattle.blob_model.specs.Pending.{Pending}
 use Rattle.blob_model.specs.Places.{Place, same_place}
-use Rattle.blob_model.specs.Stands.{retired}
+use Rattle.blob_model.specs.Stands.{retire}
 
 -- whether that is the place
 abbrev is_place : Option Place → Place → Bool
@@ -52,9 +52,9 @@ is_current_place d p n a = ⊎_elim
     (λ y. ap (λ (b : Bool). (b && bytes_eq n a.name) && is_current d a) y ∙ sym (other_name p n a (d.file p n) y))
     (cases_Bool (bytes_eq p a.partition))
 
-retired_at : (lists : Place → List Pending) (o : Option Place) (a : Place) → cond (is_place o a) [] (lists a) ≡ retired lists o a
+retired_at : (lists : Place → List Pending) (o : Option Place) (a : Place) → cond (is_place o a) [] (lists a) ≡ retire lists o a
 retired_at lists None a = refl
 retired_at lists (Some o) a = refl
 
-pub admits_current : (d : Directory) (p n : List ℕ) (lists : Place → List Pending) (a : Place) → cond (is_removed_by d p (Some n) a) [] (lists a) ≡ retired lists (current d p n) a
+pub admits_current : (d : Directory) (p n : List ℕ) (lists : Place → List Pending) (a : Place) → cond (is_removed_by d p (Some n) a) [] (lists a) ≡ retire lists (current d p n) a
 admits_current d p n lists a = ap (λ (b : Bool). cond b [] (lists a)) (is_current_place d p n a) ∙ retired_at lists (current d p n) a

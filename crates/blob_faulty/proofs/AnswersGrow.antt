@@ -7,7 +7,7 @@ use Rattle.blob_header.specs.Refusals.{Refusal, OffsetOverflow}
 use Rattle.blob_model.specs.Runs.{Run, runs}
 use Rattle.blob_draws.specs.declared.config.Config.{Config}
 use Rattle.blob_draws.specs.Changes.{lacks_number}
-use Rattle.blob_draws.specs.Answers.{Allowed, injected_for, or_memory, numbered, last_end, allows_laid, allows_runs, allows_fate, allows_write}
+use Rattle.blob_draws.specs.Answers.{Allowed, injected_for, or_memory, exhausted_or, last_end, allows_laid, allows_runs, allows_fate, allows_write}
 use Rattle.blob_draws.specs.Fates.{has_uncounted_end}
 use Rattle.blob_draws.specs.Faults.{WriteFate, Done, Unsynced, Failed, drawn_fate, retention}
 
@@ -19,7 +19,7 @@ more_memory : (less more : Allowed) → ((a : Option Refusal) → less a → mor
 more_memory less more grow a (inl h) = inl h
 more_memory less more grow a (inr h) = inr (grow a h)
 
-more_numbered : (lacks : Bool) (less more : Allowed) → ((a : Option Refusal) → less a → more a) → (a : Option Refusal) → numbered lacks less a → numbered lacks more a
+more_numbered : (lacks : Bool) (less more : Allowed) → ((a : Option Refusal) → less a → more a) → (a : Option Refusal) → exhausted_or lacks less a → exhausted_or lacks more a
 more_numbered true less more grow a h = h
 more_numbered false less more grow a h = grow a h
 

@@ -6,17 +6,17 @@ use Rattle.std.proofs.lemmas.Bool.Decides.{nat_tests}
 use Rattle.rand_core.specs.Stream.{Stream}
 use Rattle.blob_model.specs.Live.{is_idle}
 use Rattle.blob_model.specs.declared.mode.PartialWriteMode.{PartialWriteMode}
-use Rattle.blob_model.specs.Rates.{Rate, sampled}
+use Rattle.blob_model.specs.Rates.{Rate, sample}
 use Rattle.blob_header.specs.Refusals.{Refusal, OffsetOverflow, Injected}
 use Rattle.blob_model.specs.Runs.{runs}
 use Rattle.blob_draws.specs.declared.config.Config.{Config}
 use Rattle.blob_draws.specs.declared.config.ResizeConfig.{ResizeConfig}
 use Rattle.blob_faulty.specs.AnswerLaws.{injected_none, numbered_none, memory_none, uncounted_none}
 use Rattle.blob_draws.specs.Changes.{lacks_number}
-use Rattle.blob_draws.specs.Answers.{Allowed, injected_or, injected_for, or_memory, numbered, allows_runs, allows_done, allows_fate, allows_write, allows_resize, allows_start}
+use Rattle.blob_draws.specs.Answers.{Allowed, injected_or, injected_for, or_memory, exhausted_or, allows_runs, allows_done, allows_fate, allows_write, allows_resize, allows_start}
 use Rattle.blob_faulty.specs.Certain.{IsNever, IsAlways, resize_failure}
 use Rattle.blob_draws.specs.Fates.{write_failure, has_uncounted_end}
-use Rattle.blob_draws.specs.Faults.{draw, retention, WriteFate, Done, Unsynced, Failed, failed, drawn_fate, ResizeFate, Resizes, Stays, Reaches, partly, resize_fate, size_between}
+use Rattle.blob_draws.specs.Faults.{draw, retention, WriteFate, Done, Unsynced, Failed, failure, drawn_fate, ResizeFate, Resizes, Stays, Reaches, partly, resize_fate, size_between}
 
 -- The draws.
 
@@ -30,20 +30,20 @@ is_same : (n m : ℕ) → n ≡ m → (n == m) ≡ true
 is_same n m h = grind (arith, nat_tests)
 
 pub never_drawn : (rate : Option Rate) (stream : Stream) → IsNever rate → draw rate stream ≡ (false, stream)
-unfolding sampled
+unfolding sample
 never_drawn None stream never = refl
 never_drawn (Some rate) stream never = cond-true (rate.numerator == 0) _ _ (is_zero rate.numerator never)
 
 pub always_drawn : (rate : Option Rate) (stream : Stream) → IsAlways rate → draw rate stream ≡ (true, stream)
-unfolding sampled
+unfolding sample
 always_drawn None stream always = absurd always
 always_drawn (Some rate) stream always = cond-false (rate.numerator == 0) _ _ (isnt_zero rate.numerator always.0) ∙ cond-true (rate.numerator == rate.denominator) _ _ (is_same rate.numerator rate.denominator always.1)
 
 never_resized : (config : Option ResizeConfig) (size len : ℕ) (stream : Stream) → IsNever (resize_failure config) → (resize_fate config size len stream).0 ≡ Resizes false
 never_resized None size len stream never = refl
 never_resized (Some c) size len stream never =
-    let drawn : sampled c.failure_rate stream ≡ (false, stream) = never_drawn (Some c.failure_rate) stream never in
-    ap (λ (d : Bool × Stream). (cond d.0 (partly size len (sampled c.partial_rate d.1)) (Resizes (sampled c.failure_rate d.1).0, (sampled c.failure_rate d.1).1)).0) drawn ∙ ap (λ (d : Bool × Stream). Resizes d.0) drawn
+    let drawn : sample c.failure_rate stream ≡ (false, stream) = never_drawn (Some c.failure_rate) stream never in
+    ap (λ (d : Bool × Stream). (cond d.0 (partly size len (sample c.partial_rate d.1)) (Resizes (sample c.failure_rate d.1).0, (sample c.failure_rate d.1).1)).0) drawn ∙ ap (λ (d : Bool × Stream). Resizes d.0) drawn
 
 abbrev is_resized : ResizeFate → Bool
 is_resized (Resizes survives) = true
@@ -57,8 +57,8 @@ either_fails false r s = refl
 always_unresized : (config : Option ResizeConfig) (size len : ℕ) (stream : Stream) → IsAlways (resize_failure config) → is_resized (resize_fate config size len stream).0 ≡ false
 always_unresized None size len stream always = absurd always
 always_unresized (Some c) size len stream always =
-    let d = sampled c.partial_rate stream in
-    ap (λ (d : Bool × Stream). is_resized (cond d.0 (partly size len (sampled c.partial_rate d.1)) (Resizes (sampled c.failure_rate d.1).0, (sampled c.failure_rate d.1).1)).0) (always_drawn (Some c.failure_rate) stream always)
+    let d = sample c.partial_rate stream in
+    ap (λ (d : Bool × Stream). is_resized (cond d.0 (partly size len (sample c.partial_rate d.1)) (Resizes (sample c.failure_rate d.1).0, (sample c.failure_rate d.1).1)).0) (always_drawn (Some c.failure_rate) stream always)
     ∙ either_fails (d.0 && nat_lt 1 (max size len - min size len)) (size_between (min size len) (max size len) d.1) d.1
 
 -- the outcome and the rest of the stream after the draws of a write that doesn't fail
@@ -70,7 +70,7 @@ not_failed config sync stream = if sync then synced_or_not (draw config.sync_rat
 
 never_failed : (config : Config) (sync : Bool) (offset len : ℕ) (stream : Stream) → IsNever (write_failure config.write_rate) → (sync ≡ true → IsNever config.sync_rate) → (drawn_fate config sync offset len stream).0 ≡ Done
 never_failed config sync offset len stream no_write no_sync =
-    ap (λ (d : Bool × Stream). (cond d.0 (failed (retention config.write_rate) offset len d.1) (not_failed config sync d.1)).0) (never_drawn (write_failure config.write_rate) stream no_write) ∙ done sync no_sync
+    ap (λ (d : Bool × Stream). (cond d.0 (failure (retention config.write_rate) offset len d.1) (not_failed config sync d.1)).0) (never_drawn (write_failure config.write_rate) stream no_write) ∙ done sync no_sync
   where
     done : (s : Bool) → (s ≡ true → IsNever config.sync_rate) → (not_failed config s stream).0 ≡ Done
     done true never = ap (λ (d : Bool × Stream). (synced_or_not d).0) (never_drawn config.sync_rate stream (never refl))
@@ -80,19 +80,19 @@ abbrev is_done : WriteFate → Bool
 is_done Done = true
 is_done fate = false
 
-failed_not : (kept : Option (PartialWriteMode × Rate)) (offset len : ℕ) (stream : Stream) → is_done (failed kept offset len stream).0 ≡ false
+failed_not : (kept : Option (PartialWriteMode × Rate)) (offset len : ℕ) (stream : Stream) → is_done (failure kept offset len stream).0 ≡ false
 failed_not None offset len stream = refl
 failed_not (Some kept) offset len stream = refl
 
 always_failed : (config : Config) (sync : Bool) (offset len : ℕ) (stream : Stream) → IsAlways (write_failure config.write_rate) → is_done (drawn_fate config sync offset len stream).0 ≡ false
 always_failed config sync offset len stream always =
-    ap (λ (d : Bool × Stream). is_done (cond d.0 (failed (retention config.write_rate) offset len d.1) (not_failed config sync d.1)).0) (always_drawn (write_failure config.write_rate) stream always)
+    ap (λ (d : Bool × Stream). is_done (cond d.0 (failure (retention config.write_rate) offset len d.1) (not_failed config sync d.1)).0) (always_drawn (write_failure config.write_rate) stream always)
     ∙ failed_not (retention config.write_rate) offset len stream
 
 always_unsynced : (config : Config) (offset len : ℕ) (stream : Stream) → IsAlways config.sync_rate → is_done (drawn_fate config true offset len stream).0 ≡ false
 always_unsynced config offset len stream always = go (draw (write_failure config.write_rate) stream).0 (draw (write_failure config.write_rate) stream).1
   where
-    go : (b : Bool) (s : Stream) → is_done (cond b (failed (retention config.write_rate) offset len s) (not_failed config true s)).0 ≡ false
+    go : (b : Bool) (s : Stream) → is_done (cond b (failure (retention config.write_rate) offset len s) (not_failed config true s)).0 ≡ false
     go true s = failed_not (retention config.write_rate) offset len s
     go false s = ap (λ (d : Bool × Stream). is_done (synced_or_not d).0) (always_drawn config.sync_rate s always)
 
@@ -101,8 +101,8 @@ always_unsynced config offset len stream always = go (draw (write_failure config
 pub quiet_draw : (rate : Option Rate) (stream : Stream) (inner : Allowed) (answer : Option Refusal) → IsNever rate → injected_or (draw rate stream).0 inner answer ↔ inner answer
 quiet_draw rate stream inner answer never = subst (λ (d : Bool × Stream). injected_or d.0 inner answer ↔ inner answer) (sym (never_drawn rate stream never)) (λ h. h, λ h. h)
 
-numbered_same : (lacks : Bool) (inner : Allowed) (answer : Option Refusal) → lacks ≡ false → numbered lacks inner answer ↔ inner answer
-numbered_same lacks inner answer none = subst (λ (b : Bool). numbered b inner answer ↔ inner answer) (sym none) (λ h. h, λ h. h)
+numbered_same : (lacks : Bool) (inner : Allowed) (answer : Option Refusal) → lacks ≡ false → exhausted_or lacks inner answer ↔ inner answer
+numbered_same lacks inner answer none = subst (λ (b : Bool). exhausted_or b inner answer ↔ inner answer) (sym none) (λ h. h, λ h. h)
 
 pub quiet_start : (rate : Option Rate) (stream : Stream) (next : ℕ) (inner : Allowed) (answer : Option Refusal) → IsNever rate → next < 2 ^ 64 - 1 → allows_start (draw rate stream).0 next inner answer ↔ or_memory inner answer
 quiet_start rate stream next inner answer never left =
@@ -148,7 +148,7 @@ memory_injected : (inner : Allowed) → or_memory inner (Some Injected) → inne
 memory_injected inner (inl e) = cc
 memory_injected inner (inr h) = h
 
-numbered_injected : (lacks : Bool) (inner : Allowed) → numbered lacks inner (Some Injected) → inner (Some Injected)
+numbered_injected : (lacks : Bool) (inner : Allowed) → exhausted_or lacks inner (Some Injected) → inner (Some Injected)
 numbered_injected true inner e = cc
 numbered_injected false inner h = h
 

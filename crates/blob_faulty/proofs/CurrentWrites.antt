@@ -8,7 +8,7 @@ use Rattle.blob_model.specs.Places.{Place}
 use Rattle.blob_header.specs.Refusals.{Refusal, BlobMissing, OffsetOverflow}
 use Rattle.blob_model.specs.Runs.{Run, runs}
 use Rattle.blob_draws.specs.declared.config.Config.{Config}
-use Rattle.blob_draws.specs.Answers.{Allowed, or_memory, injected_for, numbered, one_then, allows_laid, allows_runs, allows_fate, allows_write}
+use Rattle.blob_draws.specs.Answers.{Allowed, or_memory, injected_for, exhausted_or, one_then, allows_laid, allows_runs, allows_fate, allows_write}
 use Rattle.blob_draws.specs.Fates.{has_uncounted_end}
 use Rattle.blob_draws.specs.Faults.{WriteFate, Done, Unsynced, Failed, drawn_fate}
 use Rattle.blob_memory.specs.Answers as memory
@@ -26,7 +26,7 @@ module _ (p n : List ℕ) where
   not_memory inner never (inl e) = cc
   not_memory inner never (inr h) = never h
 
-  not_numbered : (lacks : Bool) (inner : Allowed) → IsNot inner gone → numbered lacks inner gone → ⊥
+  not_numbered : (lacks : Bool) (inner : Allowed) → IsNot inner gone → exhausted_or lacks inner gone → ⊥
   not_numbered true inner never e = cc
   not_numbered false inner never h = never h
 

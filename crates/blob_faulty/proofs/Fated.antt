@@ -1,11 +1,11 @@
 -- What a write with a drawn outcome leaves, and what it may then return.
 use Rattle.std.proofs.Common.{◌≡◌, ◌≢◌, ℕ, Bool, true, false, List, [], ◌∷◌, Option, Some, None, inl, inr, refl, sym, ◌∙◌, subst}
 use Rattle.std.specs.Prelude.{Result, Ok, Err, OnErr, IsSome}
-use Rattle.blob_header.specs.Refusals.{Refusal, Injected, WriteFailed, refused}
+use Rattle.blob_header.specs.Refusals.{Refusal, Injected, WriteFailed, error_of}
 use Rattle.blob_header.specs.declared.error.Error.{Error}
 use Rattle.blob_model.specs.Log.{Entry}
 use Rattle.blob_model.specs.Runs.{Run, runs}
-use Rattle.blob_draws.specs.Answers.{Allowed, or_memory, allows_laid, allows_runs, last_end, numbered, injected_for}
+use Rattle.blob_draws.specs.Answers.{Allowed, or_memory, allows_laid, allows_runs, last_end, exhausted_or, injected_for}
 use Rattle.blob_draws.specs.Faults.{WriteFate, Done, Unsynced, Failed, retention}
 use Rattle.blob_faulty.specs.Writes.{View, Logs, Recorded, WroteBy, plain, laid_runs}
 use Rattle.blob_faulty.proofs.Fating.{done_plainly, of_synced}
@@ -99,12 +99,12 @@ done_failed chosen direct old new sync offset bytes w = record {
 }
 
 -- a fault in place of Ok, and a refusal that stays
-pub fault_allowed : (lacks : Bool) (inner : Allowed) → or_memory (numbered lacks inner) None → or_memory (numbered lacks (injected_for inner)) (Some Injected)
+pub fault_allowed : (lacks : Bool) (inner : Allowed) → or_memory (exhausted_or lacks inner) None → or_memory (exhausted_or lacks (injected_for inner)) (Some Injected)
 fault_allowed lacks inner (inl memory) = absurd (cc)
 fault_allowed true inner (inr e) = absurd (cc)
 fault_allowed false inner (inr h) = inr (inl (refl, h))
 
-pub refusal_allowed : (lacks : Bool) (inner : Allowed) (answer : Option Refusal) → IsSome answer → or_memory (numbered lacks inner) answer → or_memory (numbered lacks (injected_for inner)) answer
+pub refusal_allowed : (lacks : Bool) (inner : Allowed) (answer : Option Refusal) → IsSome answer → or_memory (exhausted_or lacks inner) answer → or_memory (exhausted_or lacks (injected_for inner)) answer
 refusal_allowed lacks inner answer some (inl memory) = inl memory
 refusal_allowed true inner answer some (inr e) = inr e
 refusal_allowed false inner answer some (inr h) = inr (inr (some, h))
@@ -114,10 +114,10 @@ pub first_allowed : (writes : ℕ → List ℕ → Bool → Allowed) (direct : B
 first_allowed writes direct all r rs answer e h = subst (λ (x : List Run). allows_laid writes direct x answer) (sym e) (inl h)
 
 pub laid_allowed : {T : Type 0} (writes : ℕ → List ℕ → Bool → Allowed) (direct : Bool) (all : List Run) (r : Run) (rs : List Run) (result : Result T Error) → all ≡ r ∷ rs → writes r.0 r.1 true None →
-    OnErr result (refused result ≡ Some WriteFailed) → OnErr result (direct ≡ false) → OnErr result (rs ≢ []) → allows_laid writes direct all (refused result)
+    OnErr result (error_of result ≡ Some WriteFailed) → OnErr result (direct ≡ false) → OnErr result (rs ≢ []) → allows_laid writes direct all (error_of result)
 laid_allowed {T} writes direct all r rs (Ok x) e h failed indirect some = first_allowed writes direct all r rs None e h
 laid_allowed {T} writes direct all r rs (Err x) e h failed indirect some =
-    subst (λ (runs : List Run). allows_laid writes direct runs (refused {T = T} (Err x))) (sym e) (inr (failed, indirect, some, h))
+    subst (λ (runs : List Run). allows_laid writes direct runs (error_of {T = T} (Err x))) (sym e) (inr (failed, indirect, some, h))
 
 -- the reservation for them is refused
 pub room_allowed : (writes : ℕ → List ℕ → Bool → Allowed) (reserves : ℕ → Allowed) (direct : Bool) (all rs : List Run) (answer : Option Refusal) → rs ≡ all → rs ≢ [] → IsSome answer → or_memory (reserves (last_end 0 rs)) answer → or_memory (allows_runs writes reserves direct all) answer

@@ -9,7 +9,7 @@ use Rattle.blob_model.specs.Rates.{Rate}
 use Rattle.blob_header.specs.Refusals.{Refusal, OffsetOverflow, BlobMissing, Injected, Memory}
 use Rattle.blob_model.specs.Runs.{Run, runs}
 use Rattle.blob_draws.specs.declared.config.Config.{Config}
-use Rattle.blob_draws.specs.Answers.{Allowed, or_memory, numbered, allows_laid, allows_runs, last_end}
+use Rattle.blob_draws.specs.Answers.{Allowed, or_memory, exhausted_or, allows_laid, allows_runs, last_end}
 use Rattle.blob_draws.specs.Fates.{has_uncounted_end}
 use Rattle.blob_draws.specs.Faults.{WriteFate, Done, Unsynced, Failed, drawn_fate, write_fate, retention}
 use Rattle.blob_faulty.specs.Pieces.{first_after}
@@ -70,16 +70,16 @@ refused_by fate direct whole old new sync offset bytes effect refusal table othe
 }
 
 -- a store that injects nothing doesn't answer the wrapper's own refusal
-uninjected : (lacks : Bool) (inner : Allowed) (refusal : Refusal) → (inner (Some Injected) → ⊥) → or_memory (numbered lacks inner) (Some refusal) → refusal ≢ Injected
+uninjected : (lacks : Bool) (inner : Allowed) (refusal : Refusal) → (inner (Some Injected) → ⊥) → or_memory (exhausted_or lacks inner) (Some refusal) → refusal ≢ Injected
 uninjected lacks inner refusal never (inl memory) is = cc
 uninjected true inner refusal never (inr a) is = cc
 uninjected false inner refusal never (inr a) is = never (subst (λ (x : Refusal). inner (Some x)) is a)
 
 pub unsynced_refused : {R : Type 0} (direct : Bool) (old new : View R) (sync : Bool) (offset : ℕ) (bytes : List ℕ) (lacks : Bool) (inner : Allowed) (answer : Option Refusal) (refusal : Refusal) → answer ≡ Some refusal →
-    (direct ≡ true → inner (Some Injected) → ⊥) → or_memory (numbered lacks inner) answer → Recorded direct true old new (plain offset bytes) answer → WroteBy Unsynced direct old new sync offset bytes (Some refusal)
+    (direct ≡ true → inner (Some Injected) → ⊥) → or_memory (exhausted_or lacks inner) answer → Recorded direct true old new (plain offset bytes) answer → WroteBy Unsynced direct old new sync offset bytes (Some refusal)
 unsynced_refused {R} direct old new sync offset bytes lacks inner answer refusal is never allowed w =
     refused_by Unsynced direct true old new sync offset bytes (plain offset bytes) refusal
-    (λ d. of_unsynced sync old.live old.size old.next_write offset bytes (retention old.config.write_rate) refusal (uninjected lacks inner refusal (never d) (subst (λ (a : Option Refusal). or_memory (numbered lacks inner) a) is allowed)))
+    (λ d. of_unsynced sync old.live old.size old.next_write offset bytes (retention old.config.write_rate) refusal (uninjected lacks inner refusal (never d) (subst (λ (a : Option Refusal). or_memory (exhausted_or lacks inner) a) is allowed)))
     (λ is. cc) (λ _. refl) (subst (λ (a : Option Refusal). Recorded direct true old new (plain offset bytes) a) is w)
 
 pub failed_refused : {R : Type 0} (chosen : List Bool) (direct : Bool) (old new : View R) (sync : Bool) (offset : ℕ) (bytes : List ℕ) (answer : Option Refusal) (refusal : Refusal) → answer ≡ Some refusal →

@@ -7,7 +7,7 @@ use Rattle.blob_base.specs.declared.storage.Blob as handles
 use Rattle.blob_header.specs.Refusals.{Refusal, Memory, OffsetOverflow, WriteFailed}
 use Rattle.blob_model.specs.Durable.{with_at}
 use Rattle.blob_model.specs.Order.{held_at}
-use Rattle.blob_model.specs.Pending.{Pending, laid}
+use Rattle.blob_model.specs.Pending.{Pending, apply_durable}
 use Rattle.blob_model.specs.Places.{Place, same_place}
 use Rattle.blob_model.specs.Runs.{Run, all_behind}
 use Rattle.blob_model.specs.SamePlace.{same_at, same_self}
@@ -22,7 +22,7 @@ use Rattle.blob_faulty.proofs.Asking.{once, then_made}
 -- runs one after another
 behind_both : (q : List Pending) (rs ss : List Run) → all_behind q (rs ++ ss) ≡ all_behind (all_behind q rs) ss
 behind_both q [] ss = refl
-behind_both q (r ∷ rs) ss = behind_both (laid r.0 r.1 q) rs ss
+behind_both q (r ∷ rs) ss = behind_both (apply_durable r.0 r.1 q) rs ss
 
 size_both : (n : ℕ) (rs ss : List Run) → size_of_runs n (rs ++ ss) ≡ size_of_runs (size_of_runs n rs) ss
 size_both n [] ss = refl

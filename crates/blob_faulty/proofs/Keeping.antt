@@ -7,7 +7,7 @@ use Rattle.std.specs.Cmp.Lexicographic.{bytes_decides}
 use Rattle.std.specs.Str.{bytes_eq}
 use Rattle.blob_model.specs.Directory.{Directory, File, Incarnation, current, place_in, place_made, with_file}
 use Rattle.blob_model.specs.Durable.{Durable}
-use Rattle.blob_model.specs.Files.{Files, all_logged, after_crash, after_open, admitted, admitted_at, with_opening}
+use Rattle.blob_model.specs.Files.{Files, all_logged, after_crash, after_open, admit, admitted_at, with_opening}
 use Rattle.blob_header.specs.Fronts.{BeginsWith}
 use Rattle.blob_model.specs.Log.{Entry, Kept, Choices}
 use Rattle.blob_model.specs.Opened.{IsNamed}
@@ -22,7 +22,7 @@ use Rattle.blob_model.proofs.Persistence.{fixed_all, fixed_by_write, fixed_by_op
 use Rattle.blob_faulty.specs.declared.storage.Storage.{Storage}
 use Rattle.blob_faulty.specs.Keeps.{KeepsBytes}
 use Rattle.blob_faulty.specs.Names.{Steps}
-use Rattle.blob_draws.specs.Recorded.{kept}
+use Rattle.blob_draws.specs.Recorded.{kept_entries}
 use Rattle.blob_faulty.specs.Wrapper.{Adds, Stands, inner_of}
 
 -- another name's incarnation
@@ -74,8 +74,8 @@ module _ {S R O : Type 0} (place : O → Place) (names : S → Directory) (bytes
     keeps_crashed t steps = stepped bytes (after_crash k.files t) (steps k.files k.stands) (λ q lt. fixed_crashed k.files o q (get_or bytes q 0) t (k.fixed q lt))
 
     -- it retires what is pending of a name
-    pub keeps_admitted : (p n : List ℕ) → Steps place names bytes_of old new (λ files. admitted files p n) → Keeps new o bytes
-    keeps_admitted p n steps = stepped bytes (admitted k.files p n) (steps k.files k.stands) (λ q lt. fixed_admitted k.files o q (get_or bytes q 0) p n (k.fixed q lt))
+    pub keeps_admitted : (p n : List ℕ) → Steps place names bytes_of old new (λ files. admit files p n) → Keeps new o bytes
+    keeps_admitted p n steps = stepped bytes (admit k.files p n) (steps k.files k.stands) (λ q lt. fixed_admitted k.files o q (get_or bytes q 0) p n (k.fixed q lt))
 
     -- it records mutations of the incarnation
     module _ (es : List Entry) (adds : Adds place (names (inner_of old)) (bytes_of (inner_of old)) (bytes_of (inner_of new)) old new o es) where
@@ -87,7 +87,7 @@ module _ {S R O : Type 0} (place : O → Place) (names : S → Directory) (bytes
       keeps_beside out = stepped bytes (all_logged k.files o es) added (λ q lt. fixed_all k.files o o q (get_or bytes q 0) es (λ _. out q lt) (k.fixed q lt))
 
     -- one write that is kept, right after the bytes
-    pub keeps_more : (more : List ℕ) → Adds place (names (inner_of old)) (bytes_of (inner_of old)) (bytes_of (inner_of new)) old new o (kept (length bytes) more) → Keeps new o (bytes ++ more)
+    pub keeps_more : (more : List ℕ) → Adds place (names (inner_of old)) (bytes_of (inner_of old)) (bytes_of (inner_of new)) old new o (kept_entries (length bytes) more) → Keeps new o (bytes ++ more)
     keeps_more [] adds = subst (λ (b : List ℕ). Keeps new o b) (sym (append-nil bytes)) (keeps_beside [] adds (λ q lt. refl))
     keeps_more (y ∷ ys) adds = stepped (bytes ++ y ∷ ys) (all_logged k.files o (Kept (length bytes) (y ∷ ys) ∷ [])) (added (Kept (length bytes) (y ∷ ys) ∷ []) adds) (λ q lt.
         ⊎_elim
@@ -134,13 +134,13 @@ module _ {S R O : Type 0} (place : O → Place) (names : S → Directory) (bytes
       front_of bytes live (λ q lt. subst (λ (x : List ℕ). HasByte q (get_or bytes q 0) x) (sym is) (k.fixed q lt).durable)
 
   -- what an open finds durable is kept, once it is admitted
-  pub keeps_found : (old new : Storage S R O) (o : Place) (live p n : List ℕ) (f : Files) → IsFor old f → inner_of new ≡ inner_of old → IsFor new (admitted f p n) → IsNamed o p n
+  pub keeps_found : (old new : Storage S R O) (o : Place) (live p n : List ℕ) (f : Files) → IsFor old f → inner_of new ≡ inner_of old → IsFor new (admit f p n) → IsNamed o p n
       → current (names (inner_of old)) p n ≡ Some o → bytes_of (inner_of old) o ≡ Some live → o.number < (names (inner_of old)).next → Keeps new o live
   keeps_found old new o live p n f stands inside after named here holds given =
       let is = durable_is _ _ _ _ _ f o live holds stands in
       let now : current f.directory p n ≡ Some o = ap (λ (d : Directory). current d p n) (sym stands.directory) ∙ here in
       record {
-        files = admitted f p n;
+        files = admit f p n;
         stands = after;
         here = ap (λ (s : S). current (names s) o.partition o.name) inside
             ∙ subst (λ (q : List ℕ). current (names (inner_of old)) q o.name ≡ Some o) (sym named.partition) (subst (λ (m : List ℕ). current (names (inner_of old)) p m ≡ Some o) (sym named.name) here);

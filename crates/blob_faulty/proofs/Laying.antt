@@ -3,13 +3,13 @@ use Rattle.std.proofs.Common.{◌≡◌, ◌⊎◌, ⊎_elim, ℕ, ◌+◌, ◌-
 use Rattle.std.proofs.lemmas.Bool.{cond_both, cases_lt}
 use Rattle.std.proofs.lemmas.List.{get_or_past}
 use Rattle.rand_core.specs.Stream.{Stream}
-use Rattle.blob_model.specs.Bytes.{overlay_by, overlay, resized, written}
+use Rattle.blob_model.specs.Bytes.{overlay_by, overlay, resize, write_live}
 use Rattle.blob_model.specs.Live.{all_written}
-use Rattle.blob_model.specs.Log.{Choices, Kept, crashed}
+use Rattle.blob_model.specs.Log.{Choices, Kept, replay_log}
 use Rattle.blob_model.specs.declared.mode.PartialWriteMode.{PartialWriteMode}
-use Rattle.blob_model.specs.Rates.{Rate, sampled}
+use Rattle.blob_model.specs.Rates.{Rate, sample}
 use Rattle.blob_header.specs.Refusals.{Refusal, BlobMissing, Injected}
-use Rattle.blob_model.specs.Runs.{Run, runs, kept_runs, all_laid, picked}
+use Rattle.blob_model.specs.Runs.{Run, runs, kept_runs, all_laid, is_chosen}
 use Rattle.blob_model.proofs.Bytes.{length-overlay_by, length-resized, reach_all, at_other, at_chosen, at_resized, past_resized, same_bytes, none_chosen, picks}
 use Rattle.blob_model.proofs.Runs.{AreSome, laid_runs, runs_some}
 use Rattle.blob_draws.specs.declared.config.Config.{Config}
@@ -28,7 +28,7 @@ module _ (o : ℕ) (b : List ℕ) (t : Choices) where
   none_laid : LaysSome o b [] t
   none_laid = (λ _. false, λ x. sym (none_chosen x o b))
 
-all_kept : (rs : List Run) (x : List ℕ) (t : Choices) → crashed x (kept_runs rs) t ≡ all_laid x rs
+all_kept : (rs : List Run) (x : List ℕ) (t : Choices) → replay_log x (kept_runs rs) t ≡ all_laid x rs
 all_kept [] x t = refl
 all_kept (r ∷ rs) x t = all_kept rs (overlay x r.0 r.1) t
 
@@ -41,7 +41,7 @@ kept_laid : (o : ℕ) (b : List ℕ) (t : Choices) → LaysSome o b (Kept o b �
 kept_laid o b t = (λ _. true, λ y. refl)
 
 runs_laid : (o : ℕ) (b : List ℕ) (c : List Bool) (t : Choices) → LaysSome o b (kept_runs (runs o b c)) t
-runs_laid o b c t = (picked c, λ x. all_kept (runs o b c) x t ∙ laid_runs o b c x)
+runs_laid o b c t = (is_chosen c, λ x. all_kept (runs o b c) x t ∙ laid_runs o b c x)
 
 changes_laid : (fate : WriteFate) (k : Option (PartialWriteMode × Rate)) (n : ℕ) (sync : Bool) (o : ℕ) (b : List ℕ) (answer : Option Refusal) (t : Choices) → LaysSome o b ((write_changes fate k sync o b answer).entries n) t
 changes_laid Done k n true o b None t = kept_laid o b t
@@ -70,14 +70,14 @@ whole_so false low r s e = tt
 whole_fate : (c : Option ResizeConfig) (size len : ℕ) (stream : Stream) → IsNever (partial_resizes c) → IsWhole (resize_fate c size len stream).0
 whole_fate None size len stream never = tt
 whole_fate (Some c) size len stream never =
-    let d = sampled c.failure_rate stream in
-    let e = sampled c.partial_rate d.1 in
-    cond_both d.0 (partly size len e) (Resizes (sampled c.failure_rate d.1).0, (sampled c.failure_rate d.1).1) (λ (x : ResizeFate × Stream). IsWhole x.0)
+    let d = sample c.failure_rate stream in
+    let e = sample c.partial_rate d.1 in
+    cond_both d.0 (partly size len e) (Resizes (sample c.failure_rate d.1).0, (sample c.failure_rate d.1).1) (λ (x : ResizeFate × Stream). IsWhole x.0)
     (λ _. whole_so e.0 (nat_lt 1 (max size len - min size len)) (size_between (min size len) (max size len) e.1) e.1 (ap (λ (x : Bool × Stream). x.0) (never_drawn (Some c.partial_rate) d.1 never)))
     (λ _. tt)
 
 fate_resizes : (fate : ResizeFate) (len : ℕ) (answer : Option Refusal) (t : Choices) (x : List ℕ) → IsWhole fate →
-    (crashed x (recorded_resize fate len answer) t ≡ x) ⊎ (crashed x (recorded_resize fate len answer) t ≡ resized x len)
+    (replay_log x (recorded_resize fate len answer) t ≡ x) ⊎ (replay_log x (recorded_resize fate len answer) t ≡ resize x len)
 fate_resizes (Resizes true) len None t x whole = inr refl
 fate_resizes (Resizes false) len None t x whole = inl refl
 fate_resizes (Resizes survives) len (Some r) t x whole = inl refl
@@ -85,17 +85,17 @@ fate_resizes Stays len answer t x whole = inl refl
 fate_resizes (Reaches size) len answer t x whole = absurd whole
 
 pub resize_laid : (c : Option ResizeConfig) (size len : ℕ) (stream : Stream) (answer : Option Refusal) (t : Choices) → IsNever (partial_resizes c) → (x : List ℕ) →
-    (crashed x (recorded_resize (resize_fate c size len stream).0 len answer) t ≡ x) ⊎ (crashed x (recorded_resize (resize_fate c size len stream).0 len answer) t ≡ resized x len)
+    (replay_log x (recorded_resize (resize_fate c size len stream).0 len answer) t ≡ x) ⊎ (replay_log x (recorded_resize (resize_fate c size len stream).0 len answer) t ≡ resize x len)
 resize_laid c size len stream answer t never x = fate_resizes (resize_fate c size len stream).0 len answer t x (whole_fate c size len stream never)
 
-fate_live : (fate : ResizeFate) (len : ℕ) (answer : Option Refusal) (live : List ℕ) → IsWhole fate → (live_of_resize fate live len answer ≡ live) ⊎ (live_of_resize fate live len answer ≡ resized live len)
+fate_live : (fate : ResizeFate) (len : ℕ) (answer : Option Refusal) (live : List ℕ) → IsWhole fate → (live_of_resize fate live len answer ≡ live) ⊎ (live_of_resize fate live len answer ≡ resize live len)
 fate_live (Resizes survives) len None live whole = inr refl
 fate_live (Resizes survives) len (Some r) live whole = inl refl
 fate_live Stays len answer live whole = inl refl
 fate_live (Reaches size) len answer live whole = absurd whole
 
 pub resize_live : (c : Option ResizeConfig) (size len : ℕ) (stream : Stream) (live : List ℕ) (answer : Option Refusal) → IsNever (partial_resizes c) →
-    (live_of_resize (resize_fate c size len stream).0 live len answer ≡ live) ⊎ (live_of_resize (resize_fate c size len stream).0 live len answer ≡ resized live len)
+    (live_of_resize (resize_fate c size len stream).0 live len answer ≡ live) ⊎ (live_of_resize (resize_fate c size len stream).0 live len answer ≡ resize live len)
 resize_live c size len stream live answer never = fate_live (resize_fate c size len stream).0 len answer live (whole_fate c size len stream never)
 
 -- Live bytes.
@@ -103,22 +103,22 @@ resize_live c size len stream live answer never = fate_live (resize_fate c size 
 abbrev IsFound : Option Refusal → Type 0
 IsFound answer = (p n : List ℕ) → answer ≡ Some (BlobMissing p n) → ⊥
 
-grown_bytes : (x : List ℕ) (n p : ℕ) → length x ≤ n → get_or (resized x n) p 0 ≡ get_or x p 0
+grown_bytes : (x : List ℕ) (n p : ℕ) → length x ≤ n → get_or (resize x n) p 0 ≡ get_or x p 0
 grown_bytes x n p h = ⊎_elim (λ below. at_resized x n p below) (λ past. past_resized x n p past ∙ sym (get_or_past x p 0 (omega arith))) (cases_lt p n)
 
-resized_self : (x : List ℕ) → resized x (length x) ≡ x
+resized_self : (x : List ℕ) → resize x (length x) ≡ x
 resized_self x = same_bytes _ _ (length-resized x (length x)) (λ p. grown_bytes x (length x) p (omega arith))
 
-written_some : (x : List ℕ) (o : ℕ) (b : List ℕ) → 0 < length b → written x o b ≡ overlay x o b
+written_some : (x : List ℕ) (o : ℕ) (b : List ℕ) → 0 < length b → write_live x o b ≡ overlay x o b
 written_some x o b some = same_bytes _ _ len (λ p. at p (picks o (length b) (λ _. true) p))
   where
     grown : List ℕ
-    grown = resized x (max (length x) o)
+    grown = resize x (max (length x) o)
 
-    len : length (written x o b) ≡ length (overlay x o b)
+    len : length (write_live x o b) ≡ length (overlay x o b)
     len = length-written x o b ∙ omega (arith, length-overlay_by x o b (λ _. true), reach_all o (length b) some)
 
-    at : (p : ℕ) → ((o ≤ p) × (p < o + length b) × (true ≡ true)) ⊎ (o ≤ p → p < o + length b → true ≡ false) → get_or (written x o b) p 0 ≡ get_or (overlay x o b) p 0
+    at : (p : ℕ) → ((o ≤ p) × (p < o + length b) × (true ≡ true)) ⊎ (o ≤ p → p < o + length b → true ≡ false) → get_or (write_live x o b) p 0 ≡ get_or (overlay x o b) p 0
     at p (inl (low, high, e)) = at_chosen grown o b (λ _. true) p low high refl ∙ sym (at_chosen x o b (λ _. true) p low high refl)
     at p (inr isnt) = at_other grown o b (λ _. true) p isnt ∙ grown_bytes x (max (length x) o) p (omega arith) ∙ sym (at_other x o b (λ _. true) p isnt)
 
@@ -133,11 +133,11 @@ module _ (live : List ℕ) (o : ℕ) (b : List ℕ) where
   none_written : WritesSome o b live live
   none_written = subst (λ (x : List ℕ). WritesSome o b live x) (none_chosen live o b) (laid_some (λ _. false))
 
-  all_bytes : WritesSome o b live (written live o b)
+  all_bytes : WritesSome o b live (write_live live o b)
   all_bytes = record { grown = max (length live) o; chosen = λ _. true; no_shorter = omega arith; no_longer = omega arith; is = refl }
 
   runs_written : (c : List Bool) → WritesSome o b live (all_written live (runs o b c))
-  runs_written c = subst (λ (x : List ℕ). WritesSome o b live x) (sym (all_written_some (runs o b c) live (runs_some o b c) ∙ laid_runs o b c live)) (laid_some (picked c))
+  runs_written c = subst (λ (x : List ℕ). WritesSome o b live x) (sym (all_written_some (runs o b c) live (runs_some o b c) ∙ laid_runs o b c live)) (laid_some (is_chosen c))
 
 changes_written : (fate : WriteFate) (k : Option (PartialWriteMode × Rate)) (sync : Bool) (live : List ℕ) (o : ℕ) (b : List ℕ) (answer : Option Refusal) → IsFound answer → WritesSome o b live ((write_changes fate k sync o b answer).live live)
 changes_written Done k true live o b None found = all_bytes live o b

@@ -2,7 +2,7 @@
 use Rattle.std.proofs.Common.{◌≡◌, ℕ, List, Option, Some, None, sym, subst, refl}
 use Rattle.std.specs.Prelude.{is_some}
 use Rattle.blob_model.specs.Places.{Place}
-use Rattle.blob_model.specs.Directory.{Directory, is_current, removed}
+use Rattle.blob_model.specs.Directory.{Directory, is_current, directory_without}
 use Rattle.blob_model.specs.Durable.{Durable, durable_without}
 use Rattle.blob_model.specs.Files.{after_open, after_remove, is_removed_by}
 use Rattle.blob_model.specs.Opening.{IsOpened}
@@ -10,7 +10,7 @@ use Rattle.blob_model.specs.Stands.{StandsFor}
 use Rattle.blob_model.proofs.FileSteps.{stands_same, stands_done}
 use Rattle.blob_model.proofs.NameSteps.{stands_opened, stands_removed}
 use Rattle.blob_faulty.specs.declared.storage.Storage.{Storage}
-use Rattle.blob_faulty.specs.Names.{Steps, emptied}
+use Rattle.blob_faulty.specs.Names.{Steps, retire_where}
 use Rattle.blob_faulty.specs.Wrapper.{inner_of, pending_of, next_write_of, next_marker_of, KeepsNumbers, KeepsRecords, finished_by}
 use Rattle.blob_faulty.proofs.Adding.{numbered_so, at_each, keeps_stands}
 
@@ -31,8 +31,8 @@ opened_steps place directory durable before after p n first last o live version 
 -- a removal that returned Ok
 pub removed_steps : {S R O : Type 0} (place : O → Place) (directory : S → Directory) (durable : S → Durable) (before after : Storage S R O) (p : List ℕ) (n : Option (List ℕ)) →
     ((o : Place) → is_some (durable (inner_of before) o) ≡ is_current (directory (inner_of before)) o) →
-    directory (inner_of after) ≡ removed (directory (inner_of before)) p n → durable (inner_of after) ≡ durable_without (durable (inner_of before)) p n →
-    ((o : Place) → pending_of place after o ≡ emptied (is_removed_by (directory (inner_of before)) p n) (pending_of place before) o) → KeepsNumbers before after →
+    directory (inner_of after) ≡ directory_without (directory (inner_of before)) p n → durable (inner_of after) ≡ durable_without (durable (inner_of before)) p n →
+    ((o : Place) → pending_of place after o ≡ retire_where (is_removed_by (directory (inner_of before)) p n) (pending_of place before) o) → KeepsNumbers before after →
     Steps place directory durable before after (λ files. after_remove files p n)
 removed_steps place directory durable before after p n currents named kept retired numbers files s =
     numbered_so _ _ (pending_of place after) _ _ _ _ (after_remove files p n) numbers.next_write numbers.next_marker

@@ -4,7 +4,7 @@ use Rattle.std.specs.Prelude.{Result, Ok, Err, OnErr, IsSome, is_some, ◌==◌}
 use Rattle.blob_base.specs.HandleCalls as call
 use Rattle.blob_base.specs.declared.storage.Durable as stores
 use Rattle.blob_base.specs.declared.storage.Blob as handles
-use Rattle.blob_header.specs.Refusals.{Refusal, Memory, OffsetOverflow, refused}
+use Rattle.blob_header.specs.Refusals.{Refusal, Memory, OffsetOverflow, error_of}
 use Rattle.blob_header.specs.declared.error.Error.{Error}
 use Rattle.blob_model.specs.Directory.{is_current}
 use Rattle.blob_model.specs.Live.{live_after}
@@ -18,15 +18,15 @@ use Rattle.blob_model.specs.Places.{Place}
 use Rattle.blob_model.specs.Runs.{Run}
 use Rattle.blob_draws.specs.declared.config.WriteConfig.{WriteConfig}
 use Rattle.blob_draws.specs.Changes.{lacks_number, loose}
-use Rattle.blob_draws.specs.Answers.{Allowed, numbered, or_memory}
-use Rattle.blob_draws.specs.Faults.{issued, retention}
-use Rattle.blob_pending.specs.Lists.{IsAt, SameLists, held, list_of}
+use Rattle.blob_draws.specs.Answers.{Allowed, exhausted_or, or_memory}
+use Rattle.blob_draws.specs.Faults.{new_write, retention}
+use Rattle.blob_pending.specs.Lists.{IsAt, SameLists, lists_of, list_of}
 use Rattle.blob_faulty.specs.declared.blob.Blob.{Blob}
 use Rattle.blob_faulty.specs.declared.storage.Storage.{Storage}
 use Rattle.blob_faulty.specs.Allowed.{MayWritePlain}
 use Rattle.blob_faulty.specs.Asked.{Asks}
 use Rattle.blob_faulty.specs.Wrapper.{GainsWrite, pending_of}
-use Rattle.blob_faulty.specs.Writes.{View, Effect, HasBytes, Logs, Recorded, SameRecords, Unchanged, Wrote, laid_runs, live_of_runs, plain, seen, unrecorded}
+use Rattle.blob_faulty.specs.Writes.{View, Effect, HasBytes, Logs, Recorded, SameRecords, Unchanged, Wrote, laid_runs, live_of_runs, plain, view_of, unrecorded_write}
 use Rattle.blob_faulty.proofs.Adding.{loose_some}
 use Rattle.blob_faulty.proofs.RoomSteps.{pushed_at}
 use Rattle.blob_faulty.proofs.Writing.{same_logs, loose_logs}
@@ -41,9 +41,9 @@ pub record SameRest {R : Type 0} (old new : View R) : Type 0 where
 
 module _ {S R O B : Type 0} (store : stores.Ghosts S O) (handle : handles.Ghosts B S O) (b c : Blob B) (w w' : Storage S R O) where
   -- the inner store alone is another
-  pub same_rest : w' ≡ record w { inner = w'.inner } → SameRest (seen store handle b w) (seen store handle c w')
+  pub same_rest : w' ≡ record w { inner = w'.inner } → SameRest (view_of store handle b w) (view_of store handle c w')
   same_rest e = record {
-    pending = λ o. ap (λ (x : Storage S R O). held_at (seen store handle c x).held o) e;
+    pending = λ o. ap (λ (x : Storage S R O). held_at (view_of store handle c x).lists_of o) e;
     next_write = ap (λ (x : Storage S R O). x.next_write) e;
     next_marker = ap (λ (x : Storage S R O). x.next_marker) e;
     config = ap (λ (x : Storage S R O). x.config) e;
@@ -51,7 +51,7 @@ module _ {S R O B : Type 0} (store : stores.Ghosts S O) (handle : handles.Ghosts
   }
 
   -- the lists alone are others, which hold the same
-  pub relisted : c.inner ≡ b.inner → c.size ≡ b.size → w' ≡ record w { lists = w'.lists } → SameLists store.place w.lists.all.lists.items w'.lists.all.lists.items → Unchanged (seen store handle b w) (seen store handle c w')
+  pub relisted : c.inner ≡ b.inner → c.size ≡ b.size → w' ≡ record w { lists = w'.lists } → SameLists store.place w.lists.all.lists.items w'.lists.all.lists.items → Unchanged (view_of store handle b w) (view_of store handle c w')
   relisted inside size e same = record {
     bytes = record { live = ap handle.live inside; durable = ap (λ (x : Storage S R O). store.durable x.inner) e; size = size };
     records = record { size = size; pending = same; next_write = ap (λ (x : Storage S R O). x.next_write) e; next_marker = ap (λ (x : Storage S R O). x.next_marker) e };
@@ -124,11 +124,11 @@ of_room_refused direct old new rs reserves (Some refusal) some only (inr h) u = 
 
 -- a write of which nothing must be recorded
 pub unrecorded_plain : {R T : Type 0} (direct sync : Bool) (old new : View R) (offset : ℕ) (bytes : List ℕ) (result : Result T Error) → sync ≡ false → loose (retention old.config.write_rate) old.next_write offset bytes ≡ [] →
-    Wrote direct old new (unrecorded sync offset bytes) (refused result) → OnErr result (new.size ≡ old.size) → SameRest old new → Recorded direct true old new (plain offset bytes) (refused result)
+    Wrote direct old new (unrecorded_write sync offset bytes) (error_of result) → OnErr result (new.size ≡ old.size) → SameRest old new → Recorded direct true old new (plain offset bytes) (error_of result)
 unrecorded_plain {R} {T} direct sync old new offset bytes result is none w size rest =
-    go result (subst (λ (s : Bool). Wrote direct old new (unrecorded s offset bytes) (refused result)) is w) size
+    go result (subst (λ (s : Bool). Wrote direct old new (unrecorded_write s offset bytes) (error_of result)) is w) size
   where
-    go : (x : Result T Error) → Wrote direct old new (unrecorded false offset bytes) (refused x) → OnErr x (new.size ≡ old.size) → Recorded direct true old new (plain offset bytes) (refused x)
+    go : (x : Result T Error) → Wrote direct old new (unrecorded_write false offset bytes) (error_of x) → OnErr x (new.size ≡ old.size) → Recorded direct true old new (plain offset bytes) (error_of x)
     go (Ok x) wrote any = record {
       wrote = record { done = wrote.done; refused = wrote.refused; memory = wrote.memory; stale = wrote.stale; directory = wrote.directory; place = wrote.place };
       done = λ ok. subst (λ (es : List Entry). Logs old new es) (sym none)
@@ -150,8 +150,8 @@ unrecorded_plain {R} {T} direct sync old new offset bytes result is none w size 
 -- After a reservation for its entry: `m` has that capacity, `d` is `m` after the inner blob's write.
 module _ {S R O B : Type 0} (store : stores.Ghosts S O) (handle : handles.Ghosts B S O) (b c : Blob B) (w m d : Storage S R O) (offset : ℕ) (bytes : List ℕ) where
   -- refused by the inner blob
-  pub refused_behind : (sync : Bool) (answer : Option Refusal) → sync ≡ false → IsSome answer → Unchanged (seen store handle b w) (seen store handle b m) → SameRest (seen store handle b m) (seen store handle c d) → c.size ≡ b.size →
-      Wrote handle.is_direct (seen store handle b m) (seen store handle c d) (unrecorded sync offset bytes) answer → Recorded handle.is_direct true (seen store handle b w) (seen store handle c d) (plain offset bytes) answer
+  pub refused_behind : (sync : Bool) (answer : Option Refusal) → sync ≡ false → IsSome answer → Unchanged (view_of store handle b w) (view_of store handle b m) → SameRest (view_of store handle b m) (view_of store handle c d) → c.size ≡ b.size →
+      Wrote handle.is_direct (view_of store handle b m) (view_of store handle c d) (unrecorded_write sync offset bytes) answer → Recorded handle.is_direct true (view_of store handle b w) (view_of store handle c d) (plain offset bytes) answer
   refused_behind sync None is some u rest size wrote = absurd (cc)
   refused_behind true (Some refusal) is some u rest size wrote = absurd (cc)
   refused_behind false (Some refusal) is some u rest size wrote = record {
@@ -170,14 +170,14 @@ module _ {S R O B : Type 0} (store : stores.Ghosts S O) (handle : handles.Ghosts
     rng = rest.rng ∙ u.rng;
   }
     where
-      same : SameRecords (seen store handle b w) (seen store handle c d)
+      same : SameRecords (view_of store handle b w) (view_of store handle c d)
       same = record { size = size; pending = λ o. rest.pending o ∙ u.records.pending o; next_write = rest.next_write ∙ u.records.next_write; next_marker = rest.next_marker ∙ u.records.next_marker }
 
   -- done, and recorded in that capacity
   pub pushed : (n : Storage S R O) (sync : Bool) (list : ℕ) (config : WriteConfig) → sync ≡ false → 0 < length bytes → retention w.config.write_rate ≡ Some (config.mode, config.retention_rate) →
-      m ≡ record w { lists = m.lists } → SameLists store.place w.lists.all.lists.items m.lists.all.lists.items → IsAt (held store.place m.lists.all.lists.items) list (handle.place b.inner) →
-      d ≡ record m { inner = d.inner } → Wrote handle.is_direct (seen store handle b m) (seen store handle c d) (unrecorded sync offset bytes) None →
-      GainsWrite store.place d n list offset bytes config → n ≡ record d { lists = n.lists; next_write = d.next_write + 1 } → Recorded handle.is_direct true (seen store handle b w) (seen store handle c n) (plain offset bytes) None
+      m ≡ record w { lists = m.lists } → SameLists store.place w.lists.all.lists.items m.lists.all.lists.items → IsAt (lists_of store.place m.lists.all.lists.items) list (handle.place b.inner) →
+      d ≡ record m { inner = d.inner } → Wrote handle.is_direct (view_of store handle b m) (view_of store handle c d) (unrecorded_write sync offset bytes) None →
+      GainsWrite store.place d n list offset bytes config → n ≡ record d { lists = n.lists; next_write = d.next_write + 1 } → Recorded handle.is_direct true (view_of store handle b w) (view_of store handle c n) (plain offset bytes) None
   pushed n true list config is some retained room same at rest wrote gains last = absurd (cc)
   pushed n false list config is some retained room same at rest wrote gains last = record {
     wrote = record {
@@ -188,8 +188,8 @@ module _ {S R O B : Type 0} (store : stores.Ghosts S O) (handle : handles.Ghosts
       directory = directory;
       place = wrote.place;
     };
-    done = λ ok. subst (λ (es : List Entry). Logs (seen store handle b w) (seen store handle c n) es) (sym entries)
-        (loose_logs (seen store handle b w) (seen store handle c n) write some refl directory durable lists
+    done = λ ok. subst (λ (es : List Entry). Logs (view_of store handle b w) (view_of store handle c n) es) (sym entries)
+        (loose_logs (view_of store handle b w) (view_of store handle c n) write some refl directory durable lists
         (ap (λ (s : Storage S R O). s.next_write) last ∙ ap (λ (k : ℕ). k + 1) number)
         (ap (λ (s : Storage S R O). s.next_marker) last ∙ ap (λ (s : Storage S R O). s.next_marker) rest ∙ ap (λ (s : Storage S R O). s.next_marker) room));
     refused = λ whole r. absurd (cc);
@@ -198,7 +198,7 @@ module _ {S R O B : Type 0} (store : stores.Ghosts S O) (handle : handles.Ghosts
     rng = ap (λ (s : Storage S R O). s.rng) last ∙ ap (λ (s : Storage S R O). s.rng) rest ∙ ap (λ (s : Storage S R O). s.rng) room;
   }
     where
-      x : HasBytes (seen store handle c d) (live_after false (handle.live b.inner) offset bytes None) (store.durable m.inner) (max b.size (offset + length bytes))
+      x : HasBytes (view_of store handle c d) (live_after false (handle.live b.inner) offset bytes None) (store.durable m.inner) (max b.size (offset + length bytes))
       x = wrote.done refl
 
       durable : store.durable n.inner ≡ store.durable w.inner
@@ -211,14 +211,14 @@ module _ {S R O B : Type 0} (store : stores.Ghosts S O) (handle : handles.Ghosts
       number = ap (λ (s : Storage S R O). s.next_write) rest ∙ ap (λ (s : Storage S R O). s.next_write) room
 
       write : Write
-      write = issued w.next_write offset bytes config
+      write = new_write w.next_write offset bytes config
 
       entries : loose (retention w.config.write_rate) w.next_write offset bytes ≡ Loose write ∷ []
       entries = ap (λ (k : Option (PartialWriteMode × Rate)). loose k w.next_write offset bytes) retained ∙ loose_some (config.mode, config.retention_rate) w.next_write offset bytes some
 
       lists : (a : Place) → list_of store.place n.lists.all.lists.items a ≡ with_at (pending_of store.place w) (handle.place b.inner) (pending_of store.place w (handle.place b.inner) ++ Waiting (need_of write []) ∷ []) a
-      lists = subst (λ (k : ℕ). (a : Place) → list_of store.place n.lists.all.lists.items a ≡ with_at (pending_of store.place w) (handle.place b.inner) (pending_of store.place w (handle.place b.inner) ++ Waiting (need_of (issued k offset bytes config) []) ∷ []) a) number
-          (pushed_at store.place w m d d.inner n.lists list (handle.place b.inner) (Waiting (need_of (issued d.next_write offset bytes config) [])) same at rest gains)
+      lists = subst (λ (k : ℕ). (a : Place) → list_of store.place n.lists.all.lists.items a ≡ with_at (pending_of store.place w) (handle.place b.inner) (pending_of store.place w (handle.place b.inner) ++ Waiting (need_of (new_write k offset bytes config) []) ∷ []) a) number
+          (pushed_at store.place w m d d.inner n.lists list (handle.place b.inner) (Waiting (need_of (new_write d.next_write offset bytes config) [])) same at rest gains)
 
 -- What it may return.
 
@@ -227,7 +227,7 @@ has_number retained next [] left = refl
 has_number false next (x ∷ bytes) left = refl
 has_number true next (x ∷ bytes) left = left
 
-pub with_number : (lacks : Bool) (inner : Allowed) (answer : Option Refusal) → lacks ≡ false → inner answer → or_memory (numbered lacks inner) answer
+pub with_number : (lacks : Bool) (inner : Allowed) (answer : Option Refusal) → lacks ≡ false → inner answer → or_memory (exhausted_or lacks inner) answer
 with_number true inner answer is h = absurd (cc)
 with_number false inner answer is h = inr h
 

@@ -10,17 +10,17 @@ use Rattle.blob_header.specs.Refusals.{OffsetOverflow}
 use Rattle.blob_model.specs.Runs.{runs}
 use Rattle.blob_draws.specs.declared.config.Config.{Config}
 use Rattle.blob_draws.specs.Changes.{lacks_number, write_changes}
-use Rattle.blob_draws.specs.Answers.{Allowed, allows_write, allows_fate, allows_runs, or_memory, numbered, injected_for}
+use Rattle.blob_draws.specs.Answers.{Allowed, allows_write, allows_fate, allows_runs, or_memory, exhausted_or, injected_for}
 use Rattle.blob_draws.specs.Fates.{has_uncounted_end}
 use Rattle.blob_draws.specs.Faults.{WriteFate, Uncounted, Done, Unsynced, Failed, drawn_fate, retention}
-use Rattle.blob_draws.specs.Recorded.{kept, recorded_write}
+use Rattle.blob_draws.specs.Recorded.{kept_entries, recorded_write}
 
 -- an Ok is no fault in place of one
 no_fault : (inner : Allowed) → injected_for inner None → ⊥
 no_fault inner (inl h) = let e = h.0 in cc
 no_fault inner (inr h) = absurd (false≢true h.0)
 
-no_numbered : (b : Bool) (inner : Allowed) → numbered b (injected_for inner) None → ⊥
+no_numbered : (b : Bool) (inner : Allowed) → exhausted_or b (injected_for inner) None → ⊥
 no_numbered true inner e = cc
 no_numbered false inner h = no_fault inner h
 
@@ -39,7 +39,7 @@ module _ (writes : ℕ → List ℕ → Bool → Allowed) (reserves : ℕ → Al
 
   pub recorded_whole : (config : Config) (next : ℕ) (stream : Stream) (at : ℕ) (bytes : List ℕ)
       → allows_write writes reserves direct config next stream at bytes true None
-      → recorded_write config next stream true at bytes None ≡ kept at bytes
+      → recorded_write config next stream true at bytes None ≡ kept_entries at bytes
   unfolding allows_write
   recorded_whole config next stream at [] h = refl
   recorded_whole config next stream at (y ∷ ys) h =

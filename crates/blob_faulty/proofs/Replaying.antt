@@ -9,9 +9,9 @@ use Rattle.blob_model.specs.Durable.{Durable, with_changed}
 use Rattle.blob_model.specs.Holes.{Holes, in_holes, need_in}
 use Rattle.blob_model.specs.Log.{Choices, Write}
 use Rattle.blob_model.specs.Order.{ListAt, held_at, has_list}
-use Rattle.blob_model.specs.Pending.{Pending, has_marker, replay, taken, end_of, ends}
+use Rattle.blob_model.specs.Pending.{Pending, has_marker, replay, bare_choices, end_of, ends}
 use Rattle.blob_model.specs.Places.{Place, same_place}
-use Rattle.blob_model.specs.Runs.{picked}
+use Rattle.blob_model.specs.Runs.{is_chosen}
 use Rattle.blob_model.specs.SamePlace.{same_place_exact}
 use Rattle.blob_model.specs.Stands.{replayed_at}
 use Rattle.blob_model.proofs.Agrees.{overlay_same}
@@ -20,7 +20,7 @@ use Rattle.blob_memory.specs.declared.storage.Storage.{Storage}
 use Rattle.blob_memory.specs.Store.{directory, HasCrashRoom}
 use Rattle.blob_pending.specs.declared.entry.Entry.{Entry}
 use Rattle.blob_pending.specs.declared.incarnation.Incarnation.{Incarnation}
-use Rattle.blob_pending.specs.Lists.{held, held_by}
+use Rattle.blob_pending.specs.Lists.{lists_of, held_by}
 use Rattle.blob_pending.specs.Replays.{width, widest, widest_of_all, unmarked}
 use Rattle.blob_faulty.specs.Ready.{IsReady}
 use Rattle.blob_pending.specs.Views.{view, is_left, left_in}
@@ -71,7 +71,7 @@ covered_at start end o len s e i k is_s is_e h a b c = same_test (between s i k)
 
 -- the choices that are applied are those of the bare bytes
 pub masked : (w : Write) (hs : Holes) (t : Choices) (kept : List Bool) (x : List ℕ) → ((i : ℕ) → i < length w.bytes → get_or kept i false ≡ (not (in_holes hs (w.offset + i)) && t w.number i)) →
-    overlay_by x w.offset w.bytes (picked kept) ≡ overlay_by x w.offset w.bytes (taken (need_in w hs) t)
+    overlay_by x w.offset w.bytes (is_chosen kept) ≡ overlay_by x w.offset w.bytes (bare_choices (need_in w hs) t)
 masked w hs t kept x h = overlay_same x w.offset w.bytes _ _ (λ i l. h i l ∙ sym (ap (λ (b : Bool). (b && not (in_holes hs (w.offset + i))) && t w.number i) (lies_in w.offset (length w.bytes) (w.offset + i) (omega arith) (omega arith))))
 
 -- an incarnation that ended has none
@@ -105,7 +105,7 @@ replay_first t h hs f f' a alone told = ap (replayed_at t (held_at hs a)) told �
     go (Some x) = refl
 
 -- the lists lay no more than the widest
-pub widest_in : {O : Type 0} (place : O → Place) (is : List (Incarnation O)) (i : ℕ) (x : Incarnation O) → i < length is → x ≡ get_or is i x → widest (left_in x.entries.items) ≤ widest_of_all (held place is)
+pub widest_in : {O : Type 0} (place : O → Place) (is : List (Incarnation O)) (i : ℕ) (x : Incarnation O) → i < length is → x ≡ get_or is i x → widest (left_in x.entries.items) ≤ widest_of_all (lists_of place is)
 widest_in place [] i x h e = absurd (omega arith)
 widest_in {O} place (y ∷ is) zero x h e = omega (arith, ap (λ (z : Incarnation O). widest (left_in z.entries.items)) e)
 widest_in place (y ∷ is) (suc i) x h e = omega (arith, widest_in place is i x (omega arith) e)
@@ -130,8 +130,8 @@ ready_more s s' is i x h e same room before here k d l = ⊎_elim
     (cases_eq k i)
 
 -- one list further
-pub held_more : (is : List (Incarnation Place)) (i : ℕ) (x : Incarnation Place) → i < length is → x ≡ get_or is i x → held (λ (o : Place). o) (drop i is) ≡ held_by (λ (o : Place). o) x ∷ held (λ (o : Place). o) (drop (i + 1) is)
-held_more is i x h e = at_drop_more (λ (l : List (Incarnation Place)). held (λ (o : Place). o) l) is i x h ∙ ap (λ (y : Incarnation Place). held_by (λ (o : Place). o) y ∷ held (λ (o : Place). o) (drop (i + 1) is)) (sym e)
+pub held_more : (is : List (Incarnation Place)) (i : ℕ) (x : Incarnation Place) → i < length is → x ≡ get_or is i x → lists_of (λ (o : Place). o) (drop i is) ≡ held_by (λ (o : Place). o) x ∷ lists_of (λ (o : Place). o) (drop (i + 1) is)
+held_more is i x h e = at_drop_more (λ (l : List (Incarnation Place)). lists_of (λ (o : Place). o) l) is i x h ∙ ap (λ (y : Incarnation Place). held_by (λ (o : Place). o) y ∷ lists_of (λ (o : Place). o) (drop (i + 1) is)) (sym e)
 
 -- a prefix of a row, and false after it
 pub padded : (row xs ys : List Bool) (count len : ℕ) → count ≡ min (length row) len → xs ≡ take count row → ys ≡ take len xs ++ replicate (len - length xs) false → (i : ℕ) → i < len → get_or ys i false ≡ get_or row i false

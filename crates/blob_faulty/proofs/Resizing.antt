@@ -4,7 +4,7 @@ use Rattle.std.specs.Prelude.{Result, Ok, Err, OnErr}
 use Rattle.rand_core.specs.Stream.{Stream}
 use Rattle.blob_base.specs.declared.storage.Blob as handles
 use Rattle.blob_base.specs.declared.storage.Durable as stores
-use Rattle.blob_header.specs.Refusals.{Refusal, Injected, refused}
+use Rattle.blob_header.specs.Refusals.{Refusal, Injected, error_of}
 use Rattle.blob_header.specs.declared.error.Error.{Error}
 use Rattle.blob_model.specs.Log.{Entry, Resized}
 use Rattle.blob_draws.specs.Answers.{Allowed, or_memory}
@@ -15,11 +15,11 @@ use Rattle.blob_faulty.specs.declared.storage.Storage.{Storage}
 use Rattle.blob_faulty.specs.Asked.{AsksResize}
 use Rattle.blob_faulty.specs.HandleLeaves.{AddsToLog, ResizeLeaves, Untouched}
 use Rattle.blob_faulty.specs.Wrapper.{KeepsDurable, KeepsNumbers}
-use Rattle.blob_faulty.specs.Writes.{View, Logs, ReachesBy, Recorded, ResizedBy, SameRecords, Wrote, cut, seen}
+use Rattle.blob_faulty.specs.Writes.{View, Logs, ReachesBy, Recorded, ResizedBy, SameRecords, Wrote, resize_effect, view_of}
 use Rattle.blob_faulty.proofs.Plainly.{SameRest}
 use Rattle.blob_faulty.proofs.Writing.{adds_of, same_logs}
 
-survives : {R : Type 0} (direct : Bool) (old new : View R) (len : ℕ) (answer : Option Refusal) → Recorded direct true old new (cut len (Resized len ∷ [])) answer → ResizedBy (Resizes true) direct old new len answer
+survives : {R : Type 0} (direct : Bool) (old new : View R) (len : ℕ) (answer : Option Refusal) → Recorded direct true old new (resize_effect len (Resized len ∷ [])) answer → ResizedBy (Resizes true) direct old new len answer
 survives direct old new len None w = record {
   done = λ ok. w.wrote.done refl;
   recorded = λ ok. w.done refl;
@@ -48,8 +48,8 @@ survives direct old new len (Some refusal) w = record {
 }
 
 -- it was done, or refused, and nothing is recorded of it
-pub done_only : {R T : Type 0} (direct : Bool) (old new : View R) (len : ℕ) (result : Result T Error) → Wrote direct old new (cut len []) (refused result) → OnErr result (new.size ≡ old.size) → new.durable ≡ old.durable → SameRest old new →
-    ResizedBy (Resizes false) direct old new len (refused result)
+pub done_only : {R T : Type 0} (direct : Bool) (old new : View R) (len : ℕ) (result : Result T Error) → Wrote direct old new (resize_effect len []) (error_of result) → OnErr result (new.size ≡ old.size) → new.durable ≡ old.durable → SameRest old new →
+    ResizedBy (Resizes false) direct old new len (error_of result)
 done_only direct old new len (Ok x) w size durable rest = record {
   done = λ ok. w.done refl;
   recorded = λ ok. logs;
@@ -84,7 +84,7 @@ done_only direct old new len (Err e) w size durable rest = record {
     same = record { size = size; pending = rest.pending; next_write = rest.next_write; next_marker = rest.next_marker }
 
 -- refused, nothing is recorded of it
-pub unrecorded_by : {R T : Type 0} (old new : View R) (result : Result T Error) (refusal : Refusal) → OnErr result (new.size ≡ old.size) → SameRest old new → refused result ≡ Some refusal → SameRecords old new
+pub unrecorded_by : {R T : Type 0} (old new : View R) (result : Result T Error) (refusal : Refusal) → OnErr result (new.size ≡ old.size) → SameRest old new → error_of result ≡ Some refusal → SameRecords old new
 unrecorded_by old new (Ok x) refusal size rest is = absurd (cc)
 unrecorded_by old new (Err e) refusal size rest is = record { size = size; pending = rest.pending; next_write = rest.next_write; next_marker = rest.next_marker }
 
@@ -105,7 +105,7 @@ stays direct old len = record {
 }
 
 -- it reaches a length of its own
-reaches : {R : Type 0} (size : ℕ) (direct : Bool) (old new : View R) (len : ℕ) → Recorded direct true old new (cut size (Resized size ∷ [])) None → ResizedBy (Reaches size) direct old new len (Some Injected)
+reaches : {R : Type 0} (size : ℕ) (direct : Bool) (old new : View R) (len : ℕ) → Recorded direct true old new (resize_effect size (Resized size ∷ [])) None → ResizedBy (Reaches size) direct old new len (Some Injected)
 reaches size direct old new len w = record {
   done = λ ok. absurd (cc);
   recorded = λ ok. absurd (cc);
@@ -135,7 +135,7 @@ refused_by_inner inner refusal never (inl memory) is = cc
 refused_by_inner inner refusal never (inr h) is = never (subst (λ (x : Refusal). inner (Some x)) is h)
 
 pub reaches_none : {R : Type 0} (size : ℕ) (direct : Bool) (old new : View R) (len : ℕ) (inner : Allowed) (answer : Option Refusal) (refusal : Refusal) → answer ≡ Some refusal → (direct ≡ true → inner (Some Injected) → ⊥) → or_memory inner answer →
-    Recorded direct true old new (cut size (Resized size ∷ [])) answer → ResizedBy (Reaches size) direct old new len answer
+    Recorded direct true old new (resize_effect size (Resized size ∷ [])) answer → ResizedBy (Reaches size) direct old new len answer
 reaches_none size direct old new len inner None refusal is never allowed w = absurd (cc)
 reaches_none {R} size direct old new len inner (Some other) refusal is never allowed w = record {
   done = λ ok. absurd (cc);
@@ -159,18 +159,18 @@ module _ {R : Type 0} (fate : ResizeFate) (direct : Bool) (old new : View R) (le
   pub of_fate : (known : ResizeFate) → fate ≡ known → ResizedBy known direct old new len answer → ResizedBy fate direct old new len answer
   of_fate known is r = subst (λ (f : ResizeFate). ResizedBy f direct old new len answer) (sym is) r
 
-  pub of_survives : fate ≡ Resizes true → Recorded direct true old new (cut len (Resized len ∷ [])) answer → ResizedBy fate direct old new len answer
+  pub of_survives : fate ≡ Resizes true → Recorded direct true old new (resize_effect len (Resized len ∷ [])) answer → ResizedBy fate direct old new len answer
   of_survives is w = of_fate (Resizes true) is (survives direct old new len answer w)
 
 pub of_stays : {R : Type 0} (fate : ResizeFate) (direct : Bool) (old : View R) (len : ℕ) → fate ≡ Stays → ResizedBy fate direct old old len (Some Injected)
 of_stays fate direct old len is = of_fate fate direct old old len (Some Injected) Stays is (stays direct old len)
 
-pub of_reaches : {R : Type 0} (fate : ResizeFate) (direct : Bool) (old new : View R) (len size : ℕ) → fate ≡ Reaches size → Recorded direct true old new (cut size (Resized size ∷ [])) None → ResizedBy fate direct old new len (Some Injected)
+pub of_reaches : {R : Type 0} (fate : ResizeFate) (direct : Bool) (old new : View R) (len size : ℕ) → fate ≡ Reaches size → Recorded direct true old new (resize_effect size (Resized size ∷ [])) None → ResizedBy fate direct old new len (Some Injected)
 of_reaches fate direct old new len size is w = of_fate fate direct old new len (Some Injected) (Reaches size) is (reaches size direct old new len w)
 
 -- What it leaves, by what was drawn.
 pub resize_leaves : {S R O B : Type 0} (store : stores.Ghosts S O) (handle : handles.Ghosts B S O) (stream : R → Stream) (b c : Blob B) (w w' : Storage S R O) (rng : R) (len : ℕ) (answer : Option Refusal) (fate : ResizeFate) (drawn : ResizeFate × Stream) →
-    (fate, stream rng) ≡ drawn → AsksResize handle b w c w' fate len answer → ResizedBy fate handle.is_direct (seen store handle b (record w { rng = rng })) (seen store handle c w') len answer → ReachesBy store handle b (record w { rng = rng }) c w' fate answer → KeepsDurable store.durable (record w { rng = rng }) w' →
+    (fate, stream rng) ≡ drawn → AsksResize handle b w c w' fate len answer → ResizedBy fate handle.is_direct (view_of store handle b (record w { rng = rng })) (view_of store handle c w') len answer → ReachesBy store handle b (record w { rng = rng }) c w' fate answer → KeepsDurable store.durable (record w { rng = rng }) w' →
     ResizeLeaves store handle stream len drawn.0 drawn.1 b w answer c w'
 resize_leaves {S} {R} {O} {B} store handle stream b c w w' rng len answer fate drawn is asked resized reached kept =
     subst (λ (d : ResizeFate × Stream). ResizeLeaves store handle stream len d.0 d.1 b w answer c w') is (record {
@@ -190,8 +190,8 @@ resize_leaves {S} {R} {O} {B} store handle stream b c w w' rng len answer fate d
     numbers : KeepsNumbers w w'
     numbers = record { next_write = kept.numbers.next_write; next_marker = kept.numbers.next_marker; config = kept.numbers.config }
 
-    logged : (a : Option Refusal) → Logs (seen store handle b (record w { rng = rng })) (seen store handle c w') (recorded_resize fate len a) → AddsToLog store handle b w w' (recorded_resize fate len a)
+    logged : (a : Option Refusal) → Logs (view_of store handle b (record w { rng = rng })) (view_of store handle c w') (recorded_resize fate len a) → AddsToLog store handle b w w' (recorded_resize fate len a)
     logged a logs = adds_of store handle b c w w' rng (recorded_resize fate len a) (recorded_resize fate len a) resized.directory refl logs
 
-    untouched : SameRecords (seen store handle b (record w { rng = rng })) (seen store handle c w') → Untouched store b w c w'
+    untouched : SameRecords (view_of store handle b (record w { rng = rng })) (view_of store handle c w') → Untouched store b w c w'
     untouched k = record { records = record { pending = k.pending; numbers = numbers }; size = k.size }

@@ -4,7 +4,7 @@ use Rattle.std.specs.Prelude.{Result, Ok, Err, OnOk, is_err}
 use Rattle.std.proofs.lemmas.Bool.{false≢true}
 use Rattle.std.proofs.lemmas.List.{reverse-append}
 use Rattle.blob_header.specs.declared.error.Error.{Error}
-use Rattle.blob_header.specs.Refusals.{Refusal, refused, refusal_of}
+use Rattle.blob_header.specs.Refusals.{Refusal, error_of, refusal_of}
 use Rattle.blob_model.specs.Runs.{Run}
 use Rattle.blob_faulty.specs.declared.write_runs.Piece.{Piece}
 use Rattle.blob_faulty.specs.Pieces.{run_of, runs_in, EndsWithin}
@@ -14,11 +14,11 @@ pub ok_holds : {T E P : Type 0} (r : Result T E) → is_err r ≡ false → OnOk
 ok_holds (Ok x) n h = h
 ok_holds (Err e) n h = absurd (false≢true (sym n))
 
-pub is_refused : {T : Type 0} (r : Result T Error) → is_err r ≡ true → (x : Refusal) × (refused r ≡ Some x)
+pub is_refused : {T : Type 0} (r : Result T Error) → is_err r ≡ true → (x : Refusal) × (error_of r ≡ Some x)
 is_refused (Ok x) y = absurd (false≢true y)
 is_refused (Err e) y = (refusal_of e, refl)
 
-pub is_done : {T : Type 0} (r : Result T Error) → is_err r ≡ false → refused r ≡ None
+pub is_done : {T : Type 0} (r : Result T Error) → is_err r ≡ false → error_of r ≡ None
 is_done (Ok x) n = refl
 is_done (Err e) n = absurd (false≢true (sym n))
 

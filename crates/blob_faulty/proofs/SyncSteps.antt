@@ -8,14 +8,14 @@ use Rattle.blob_model.specs.Directory.{Directory}
 use Rattle.blob_model.specs.Durable.{Durable, with_at, with_changed}
 use Rattle.blob_model.specs.Pending.{Marker}
 use Rattle.blob_model.specs.Places.{Place}
-use Rattle.blob_header.specs.Refusals.{Refusal, refused}
+use Rattle.blob_header.specs.Refusals.{Refusal, error_of}
 use Rattle.blob_model.proofs.FileSteps.{stands_synced, stands_begun}
 use Rattle.blob_faulty.specs.declared.blob.Blob.{Blob}
 use Rattle.blob_faulty.specs.declared.storage.Storage.{Storage}
 use Rattle.blob_faulty.specs.Names.{Steps}
 use Rattle.blob_faulty.specs.Syncs.{Publishes, Starts}
 use Rattle.blob_faulty.specs.Wrapper.{pending_of, next_write_of, next_marker_of, KeepsRecords}
-use Rattle.blob_faulty.specs.Writes.{SameRecords, Synced, seen}
+use Rattle.blob_faulty.specs.Writes.{SameRecords, Synced, view_of}
 use Rattle.blob_faulty.proofs.Adding.{numbered_so, at_each, keeps_stands}
 
 -- a sync
@@ -38,18 +38,18 @@ marker_starts place names bytes bytes' old new o live over lists write marker fi
 
 -- a refused one records nothing, and leaves the files
 pub records_of : {S R O B : Type 0} (store : stores.Ghosts S O) (handle : handles.Ghosts B S O) (b c : Blob B) (old new : Storage S R O) (rng : R) →
-    SameRecords (seen store handle b (record old { rng = rng })) (seen store handle c new) → new.config ≡ old.config → KeepsRecords store.place old new
+    SameRecords (view_of store handle b (record old { rng = rng })) (view_of store handle c new) → new.config ≡ old.config → KeepsRecords store.place old new
 records_of store handle b c old new rng k config = record { pending = k.pending; numbers = record { next_write = k.next_write; next_marker = k.next_marker; config = config } }
 
 pub refused_steps : {S R O B : Type 0} (store : stores.Ghosts S O) (handle : handles.Ghosts B S O) (b c : Blob B) (old new : Storage S R O) (rng : R) (answer : Option Refusal) →
-    Synced (seen store handle b (record old { rng = rng })) (seen store handle c new) answer → IsSome answer → Steps store.place store.directory store.durable old new (λ files. files)
+    Synced (view_of store handle b (record old { rng = rng })) (view_of store handle c new) answer → IsSome answer → Steps store.place store.directory store.durable old new (λ files. files)
 refused_steps store handle b c old new rng answer synced some files s =
     keeps_stands store.place _ _ _ _ old new files synced.directory (synced.refused some) (records_of store handle b c old new rng (synced.unrecorded some) synced.config) s
 
-pub err_by : {T P : Type 0} (r : Result T Error) → (IsSome (refused r) → P) → OnErr r P
+pub err_by : {T P : Type 0} (r : Result T Error) → (IsSome (error_of r) → P) → OnErr r P
 err_by (Ok x) h = tt
 err_by (Err e) h = h refl
 
-pub when_ok : {T P : Type 0} (r : Result T Error) → refused r ≡ None → OnOk r P → P
+pub when_ok : {T P : Type 0} (r : Result T Error) → error_of r ≡ None → OnOk r P → P
 when_ok (Ok x) is h = h
 when_ok (Err e) is h = absurd (cc)

@@ -17,7 +17,7 @@ use Rattle.blob_faulty.specs.declared.blob.Blob.{Blob}
 use Rattle.blob_faulty.specs.declared.storage.Storage.{Storage}
 use Rattle.blob_faulty.specs.Asked.{InnerMade, Unasked, AsksWrite, AsksDrawn}
 use Rattle.blob_faulty.specs.HandleLeaves.{WriteLeaves, LeavesFailed, AddsToLog, Untouched, size_written}
-use Rattle.blob_faulty.specs.Writes.{WroteBy, FailedBy, SameRecords, Logs, seen}
+use Rattle.blob_faulty.specs.Writes.{WroteBy, FailedBy, SameRecords, Logs, view_of}
 use Rattle.blob_faulty.proofs.Adding.{nothing_not}
 use Rattle.blob_faulty.proofs.Fating.{drawn_so}
 use Rattle.blob_faulty.proofs.Writing.{adds_of, drawn_adds}
@@ -79,7 +79,7 @@ pub write_leaves : {S R O B : Type 0} (store : stores.Ghosts S O) (handle : hand
     (sync ≡ true → bytes ≢ []) → offset + length bytes < 2 ^ 64 →
     fate ≡ (drawn_fate w.config sync offset (length bytes) (stream w.rng)).0 → stream rng ≡ (drawn_fate w.config sync offset (length bytes) (stream w.rng)).1 →
     AsksWrite handle b w c w' fate sync offset bytes answer →
-    WroteBy fate handle.is_direct (seen store handle b (record w { rng = rng })) (seen store handle c w') sync offset bytes answer →
+    WroteBy fate handle.is_direct (view_of store handle b (record w { rng = rng })) (view_of store handle c w') sync offset bytes answer →
     (answer ≡ Some WriteFailed → FailedBy store handle b (record w { rng = rng }) c w' fate offset bytes) →
     WriteLeaves store handle stream offset bytes sync b w answer c w'
 write_leaves {S} {R} {O} {B} store handle stream b c w w' rng sync offset bytes answer fate some fits is left asked wrote failed = record {
@@ -97,11 +97,11 @@ write_leaves {S} {R} {O} {B} store handle stream b c w w' rng sync offset bytes 
   failed = λ early. subst (λ (f : WriteFate). LeavesFailed store handle f offset bytes b w c w') is (left_by fate (failed early));
 }
   where
-    logged : (a : Option Refusal) → Logs (seen store handle b (record w { rng = rng })) (seen store handle c w') ((write_changes fate (retention w.config.write_rate) sync offset bytes a).entries w.next_write) →
+    logged : (a : Option Refusal) → Logs (view_of store handle b (record w { rng = rng })) (view_of store handle c w') ((write_changes fate (retention w.config.write_rate) sync offset bytes a).entries w.next_write) →
         AddsToLog store handle b w w' (recorded_write w.config w.next_write (stream w.rng) sync offset bytes a)
     logged a logs = adds_of store handle b c w w' rng _ _ wrote.directory (ap (λ (c : Changes). c.entries w.next_write) (changes_so w.config (stream w.rng) sync offset bytes a fate some fits is)) logs
 
-    untouched : SameRecords (seen store handle b (record w { rng = rng })) (seen store handle c w') → Untouched store b w c w'
+    untouched : SameRecords (view_of store handle b (record w { rng = rng })) (view_of store handle c w') → Untouched store b w c w'
     untouched k = record { records = record { pending = k.pending; numbers = record { next_write = k.next_write; next_marker = k.next_marker; config = wrote.config } }; size = k.size }
 
     left_by : (f : WriteFate) → FailedBy store handle b (record w { rng = rng }) c w' f offset bytes → LeavesFailed store handle f offset bytes b w c w'

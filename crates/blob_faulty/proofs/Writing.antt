@@ -1,16 +1,16 @@
 -- Steps of writes, on what is seen of a handle and its wrapper.
 use Rattle.std.proofs.Common.{◌≡◌, ℕ, ◌+◌, ◌<◌, Bool, true, false, true≢false, List, [], ◌∷◌, ◌++◌, length, Option, Some, None, refl, sym, ◌∙◌, ap, ap₂, subst, arith}
 use Rattle.std.specs.Prelude.{Result, Ok, Err, OnErr}
-use Rattle.blob_model.specs.Bytes.{overlay, written}
+use Rattle.blob_model.specs.Bytes.{overlay, write_live}
 use Rattle.blob_model.specs.Directory.{Directory, is_current}
 use Rattle.blob_model.specs.Durable.{Durable, with_at, with_changed}
-use Rattle.blob_model.specs.Files.{Files, logged, all_logged}
+use Rattle.blob_model.specs.Files.{Files, log_entry, all_logged}
 use Rattle.blob_model.specs.Log.{Entry, Loose, Kept, Resized, Write, need_of}
 use Rattle.blob_model.specs.Live.{live_written, all_written}
 use Rattle.blob_model.specs.Order.{held_at}
-use Rattle.blob_model.specs.Pending.{Waiting, Cut, laid}
+use Rattle.blob_model.specs.Pending.{Waiting, Cut, apply_durable}
 use Rattle.blob_model.specs.Places.{Place}
-use Rattle.blob_header.specs.Refusals.{Refusal, WriteFailed, refused}
+use Rattle.blob_header.specs.Refusals.{Refusal, WriteFailed, error_of}
 use Rattle.blob_header.specs.declared.error.Error.{Error}
 use Rattle.blob_base.specs.declared.storage.Durable as stores
 use Rattle.blob_base.specs.declared.storage.Blob as handles
@@ -22,7 +22,7 @@ use Rattle.blob_faulty.specs.declared.blob.Blob.{Blob}
 use Rattle.blob_faulty.specs.declared.storage.Storage.{Storage}
 use Rattle.blob_draws.specs.Changes.{size_of_runs}
 use Rattle.blob_faulty.specs.Wrapper.{pending_of, Stands, Adds}
-use Rattle.blob_faulty.specs.Writes.{View, seen, ViewFor, Logs, SameRecords, HasBytes, Unchanged, Effect, Recorded, LeavesRuns, durable_written, all_changed, live_of_runs, laid_runs}
+use Rattle.blob_faulty.specs.Writes.{View, view_of, ViewFor, Logs, SameRecords, HasBytes, Unchanged, Effect, Recorded, LeavesRuns, durable_written, all_changed, live_of_runs, laid_runs}
 
 -- by the option that was given
 pub durable_by : (sync : Bool) (x f : Durable) (o : Place) (p : ℕ) (b : List ℕ) → (sync ≡ true → x ≡ with_changed f o (λ y. overlay y p b)) → (sync ≡ false → x ≡ f) → x ≡ durable_written sync f o p b
@@ -54,7 +54,7 @@ loose_logs old new w some is names same lists write marker files below s =
 
 -- a durable range
 pub kept_logs : {R : Type 0} (old new : View R) (p : ℕ) (b : List ℕ) → 0 < length b → new.directory ≡ old.directory → new.durable ≡ with_changed old.durable old.place (λ x. overlay x p b) →
-    ((a : Place) → held_at new.held a ≡ with_at (held_at old.held) old.place (laid p b (held_at old.held old.place)) a) →
+    ((a : Place) → held_at new.held a ≡ with_at (held_at old.held) old.place (apply_durable p b (held_at old.held old.place)) a) →
     new.next_write ≡ old.next_write → new.next_marker ≡ old.next_marker → Logs old new (Kept p b ∷ [])
 kept_logs old new p b some names over lists write marker files below s =
     told new _ old.directory old.next_write old.next_marker names write marker
@@ -76,7 +76,7 @@ logs_then old mid new e es place names first later files below s =
     subst (λ (o : Place). (f : Files) → o.number < mid.directory.next → ViewFor mid f → ViewFor new (all_logged f o es)) place later in
     let step : (f : Files) → old.place.number < old.directory.next → ViewFor mid f → ViewFor new (all_logged f old.place es) =
     subst (λ (d : Directory). (f : Files) → old.place.number < d.next → ViewFor mid f → ViewFor new (all_logged f old.place es)) names there in
-    step (logged files old.place e) below (first files below s)
+    step (log_entry files old.place e) below (first files below s)
 
 -- the next of the runs that are left
 pub one_less : {R : Type 0} (direct : Bool) (old mid new : View R) (all : List Run) (r : Run) (left : List Run) (answer : Option Refusal) → answer ≡ None →
@@ -159,14 +159,14 @@ no_runs direct old rs none = subst (λ (x : List Run). Recorded direct direct ol
 
 -- a run and those after it
 pub then_runs : {R T : Type 0} (direct : Bool) (old mid new : View R) (r : Run) (rs : List Run) (answer : Option Refusal) (result : Result T Error) → answer ≡ None →
-    OnErr result (refused result ≡ Some WriteFailed) → OnErr result (direct ≡ false) → is_current old.directory old.place ≡ true →
-    Recorded direct true old mid (laid_runs (r ∷ [])) answer → Recorded direct direct mid new (laid_runs rs) (refused result) → Recorded direct direct old new (laid_runs (r ∷ rs)) (refused result)
+    OnErr result (error_of result ≡ Some WriteFailed) → OnErr result (direct ≡ false) → is_current old.directory old.place ≡ true →
+    Recorded direct true old mid (laid_runs (r ∷ [])) answer → Recorded direct direct mid new (laid_runs rs) (error_of result) → Recorded direct direct old new (laid_runs (r ∷ rs)) (error_of result)
 then_runs {R} {T} direct old mid new r rs answer result ok failed indirect now first rest = go result failed indirect rest
   where
     left : LeavesRuns old mid (r ∷ rs) rs
     left = one_less direct old old mid (r ∷ rs) r rs answer ok (record { live = refl; durable = refl; size = refl; logs = λ later k. k; directory = refl; place = refl; config = refl; rng = refl }) first
 
-    go : (x : Result T Error) → OnErr x (refused x ≡ Some WriteFailed) → OnErr x (direct ≡ false) → Recorded direct direct mid new (laid_runs rs) (refused x) → Recorded direct direct old new (laid_runs (r ∷ rs)) (refused x)
+    go : (x : Result T Error) → OnErr x (error_of x ≡ Some WriteFailed) → OnErr x (direct ≡ false) → Recorded direct direct mid new (laid_runs rs) (error_of x) → Recorded direct direct old new (laid_runs (r ∷ rs)) (error_of x)
     go (Ok x) never direct_too w =
         let bytes = w.wrote.done refl in
         done_now direct old new (laid_runs (r ∷ rs)) now (record { live = bytes.live ∙ left.live; durable = bytes.durable ∙ left.durable; size = bytes.size ∙ left.size }) (left.logs new (w.done refl))
@@ -215,7 +215,7 @@ runs_after {R} direct whole old mid new rs answer u w = record {
 
 -- what a handle and its wrapper log, after a draw, as the wrapper's files have it
 pub adds_of : {S R O B : Type 0} (store : stores.Ghosts S O) (handle : handles.Ghosts B S O) (b b' : Blob B) (w w' : Storage S R O) (rng : R) (es es' : List Entry) →
-    store.directory w'.inner ≡ store.directory w.inner → es ≡ es' → Logs (seen store handle b (record w { rng = rng })) (seen store handle b' w') es' →
+    store.directory w'.inner ≡ store.directory w.inner → es ≡ es' → Logs (view_of store handle b (record w { rng = rng })) (view_of store handle b' w') es' →
     Adds store.place (store.directory w.inner) (store.durable w.inner) (store.durable w'.inner) w w' (handle.place b.inner) es
 adds_of {S} {R} {O} {B} store handle b b' w w' rng es es' names same logs files below s =
     subst (λ (entries : List Entry). Stands store.place (store.directory w.inner) (store.durable w'.inner) w' (all_logged files (handle.place b.inner) entries)) (sym same)
@@ -227,6 +227,6 @@ drawn_adds {S} {R} {O} origin names bytes w rng o es none files below s =
     subst (λ (entries : List Entry). Stands origin names bytes (record w { rng = rng }) (all_logged files o entries)) (sym none) s
 
 -- a SYNC write of some bytes that was done
-pub some_written : (live : List ℕ) (p : ℕ) (b : List ℕ) → 0 < length b → live_written true live p b ≡ written live p b
+pub some_written : (live : List ℕ) (p : ℕ) (b : List ℕ) → 0 < length b → live_written true live p b ≡ write_live live p b
 some_written live p [] some = absurd (omega arith)
 some_written live p (x ∷ b) some = refl

@@ -7,11 +7,11 @@ use Rattle.blob_header.specs.Refusals.{Refusal}
 use Rattle.blob_header.specs.Versions.{lower, upper}
 use Rattle.blob_header.specs.declared.version.BlobVersion.{BlobVersion}
 use Rattle.blob_model.specs.Directory.{Directory, current}
-use Rattle.blob_model.specs.Files.{Files, after_open, admitted, is_removed_by}
+use Rattle.blob_model.specs.Files.{Files, after_open, admit, is_removed_by}
 use Rattle.blob_model.specs.Opened.{IsNamed}
 use Rattle.blob_model.specs.Opening.{IsOpened}
 use Rattle.blob_model.specs.Places.{Place}
-use Rattle.blob_model.specs.Stands.{retired}
+use Rattle.blob_model.specs.Stands.{retire}
 use Rattle.blob_memory.specs.Answers.{OrMemory, open_refusal}
 use Rattle.blob_memory.specs.Store.{directory, durable, place, live}
 use Rattle.blob_memory.specs.declared.blob.Blob as memory_blob
@@ -30,8 +30,8 @@ is_of_another directory p n list = not (is_removed_by directory p (Some n) list.
 
 -- what is pending of a name's current incarnation is retired
 pub record Admits {R : Type 0} (before after : OverMemory R) (p n : List ℕ) : Type 0 where
-  pub pending : (o : Place) → pending_of (λ o. o) after o ≡ retired (pending_of (λ o. o) before) (current (directory (inner_of before)) p n) o
-  pub stands : (files : Files) → IsFor before files → IsFor after (admitted files p n)
+  pub pending : (o : Place) → pending_of (λ o. o) after o ≡ retire (pending_of (λ o. o) before) (current (directory (inner_of before)) p n) o
+  pub stands : (files : Files) → IsFor before files → IsFor after (admit files p n)
   pub keeps : LosesNothing before after
   -- nothing is drawn, and the inner store isn't asked
   pub rng : rng_of after ≡ rng_of before
@@ -45,7 +45,7 @@ pub record AdmittedOpenLeaves {S R O : Type 0} (place : O → Place) (names : S 
   -- if it is true, the inner store isn't called
   pub inner : MatchBool (draw (config_of before).open_rate (stream (rng_of before))).0 (inner_of after ≡ inner_of before) (asked (inner_of after))
   -- after Ok, the pending list of the name's current incarnation is retired, and no other
-  pub retired : answer ≡ None → (o : Place) → pending_of place after o ≡ retired (pending_of place before) (current (names (inner_of after)) p n) o
+  pub retired : answer ≡ None → (o : Place) → pending_of place after o ≡ retire (pending_of place before) (current (names (inner_of after)) p n) o
   -- after a refusal the same is pending
   pub kept : IsSome answer → (o : Place) → pending_of place after o ≡ pending_of place before o
   pub numbers : KeepsNumbers before after
@@ -66,7 +66,7 @@ module _ {R : Type 0} (before after : OverMemory R) (p n : List ℕ) (first last
   OpensAlone = Steps (λ o. o) directory durable before after (λ files. after_open files p n first last)
 
   abbrev pub OpensAdmitted : Type 0
-  OpensAdmitted = Steps (λ o. o) directory durable before after (λ files. admitted (after_open files p n first last) p n)
+  OpensAdmitted = Steps (λ o. o) directory durable before after (λ files. admit (after_open files p n first last) p n)
 
   -- what the store's own open may answer
   abbrev pub MayOpen : (R → Stream) → Option Refusal → Type 0

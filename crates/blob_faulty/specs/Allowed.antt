@@ -11,7 +11,7 @@ use Rattle.blob_model.specs.Holes.{Holes}
 use Rattle.blob_model.specs.Places.{Place}
 use Rattle.blob_model.specs.Runs.{Run}
 use Rattle.blob_draws.specs.Changes.{lacks_number}
-use Rattle.blob_draws.specs.Answers.{Allowed, or_memory, numbered, last_end, allows_fate, allows_laid, allows_resize, allows_runs, allows_write}
+use Rattle.blob_draws.specs.Answers.{Allowed, or_memory, exhausted_or, last_end, allows_fate, allows_laid, allows_resize, allows_runs, allows_write}
 use Rattle.blob_draws.specs.Fates.{write_fate_of, resize_fate_of}
 use Rattle.blob_draws.specs.Faults.{WriteFate, retention}
 use Rattle.blob_draws.specs.declared.faults.ResizeFate as drawn_resize
@@ -39,7 +39,7 @@ module _ {S R O B : Type 0} (handle : handles.Ghosts B S O) (b : Blob B) (w : St
 
   -- a plain write, which needs a number if it is recorded
   abbrev pub MayWritePlain : ℕ → List ℕ → Allowed
-  MayWritePlain offset bytes = or_memory (numbered (lacks_number (is_some (retention (config_of w).write_rate)) (next_write_of w) bytes) (InnerWrites offset bytes false))
+  MayWritePlain offset bytes = or_memory (exhausted_or (lacks_number (is_some (retention (config_of w).write_rate)) (next_write_of w) bytes) (InnerWrites offset bytes false))
 
   -- a write with a drawn outcome
   abbrev pub MayWriteBy : WriteFate → Bool → ℕ → List ℕ → Allowed

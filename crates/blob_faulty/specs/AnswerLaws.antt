@@ -7,7 +7,7 @@ use Rattle.blob_header.specs.Refusals.{Refusal, OffsetOverflow, Memory}
 use Rattle.blob_model.specs.Runs.{runs}
 use Rattle.blob_draws.specs.declared.config.Config.{Config}
 use Rattle.blob_draws.specs.Changes.{lacks_number}
-use Rattle.blob_draws.specs.Answers.{Allowed, or_memory, injected_or, injected_for, numbered, allows_runs, allows_fate, allows_write}
+use Rattle.blob_draws.specs.Answers.{Allowed, or_memory, injected_or, injected_for, exhausted_or, allows_runs, allows_fate, allows_write}
 use Rattle.blob_draws.specs.Fates.{has_uncounted_end}
 use Rattle.blob_draws.specs.Faults.{WriteFate, Done, Unsynced, Failed, drawn_fate, retention}
 
@@ -21,7 +21,7 @@ pub injected_none : (inner : Allowed) → injected_for inner None → ⊥
 injected_none inner (inl a) = cc
 injected_none inner (inr a) = false≢true a.0
 
-pub numbered_none : (lacks : Bool) (inner : Allowed) → (inner None → ⊥) → numbered lacks inner None → ⊥
+pub numbered_none : (lacks : Bool) (inner : Allowed) → (inner None → ⊥) → exhausted_or lacks inner None → ⊥
 numbered_none true inner never a = cc
 numbered_none false inner never a = never a
 

@@ -2,7 +2,7 @@
 use Rattle.std.specs.Prelude.{◌≡◌, ◌<◌, ◌+◌, ℕ, List, Bool, false, not, ◌&&◌, length, slice_index_or, Vec}
 use Rattle.std.specs.Global.{Global}
 use Rattle.rand_core.specs.Stream.{Stream}
-use Rattle.blob_model.specs.Draws.{drawn, chosen_by}
+use Rattle.blob_model.specs.Draws.{draw_rows, chosen_by}
 use Rattle.blob_model.specs.Durable.{Durable, with_changed}
 use Rattle.blob_model.specs.Files.{Files, all_needs, after_crash}
 use Rattle.blob_model.specs.Holes.{in_holes}
@@ -11,7 +11,7 @@ use Rattle.blob_model.specs.Order.{ArePlacesApart}
 use Rattle.blob_model.specs.Pending.{replay}
 use Rattle.blob_model.specs.Places.{Place}
 use Rattle.blob_model.specs.Stands.{replayed_at}
-use Rattle.blob_pending.specs.Lists.{held, list_of}
+use Rattle.blob_pending.specs.Lists.{lists_of, list_of}
 use Rattle.blob_pending.specs.Ranges.{ranges}
 use Rattle.blob_draws.specs.Rows.{rows_in, table_of}
 use Rattle.blob_pending.specs.Views.{left_in}
@@ -28,7 +28,7 @@ chosen_in rows = chosen_by (rows_in rows)
 
 -- if the wrapper represented files, the generator drew these rows, for the writes that need a draw in their logs
 abbrev pub CrashDraws : {R : Type 0} → (R → Stream) → OverMemory R → OverMemory R → Selections → Type 0
-CrashDraws stream before after kept = (files : Files) → IsFor before files → (table_of kept, stream (rng_of after)) ≡ drawn (stream (rng_of before)) (all_needs files.log)
+CrashDraws stream before after kept = (files : Files) → IsFor before files → (table_of kept, stream (rng_of after)) ≡ draw_rows (stream (rng_of before)) (all_needs files.log)
 
 -- and it represents the files after a crash that keeps these
 abbrev pub CrashLeaves : {R : Type 0} → OverMemory R → OverMemory R → Selections → Type 0
@@ -40,7 +40,7 @@ ReplaysPending before after kept = (o : Place) → durable (inner_of after) o �
 
 -- the same of the lists of the code, and their rows
 abbrev pub ReplaysLists : List (Incarnation Place) → List (ℕ × Vec Bool Global) → Durable → Durable → Type 0
-ReplaysLists lists rows before after = ArePlacesApart (held (λ o. o) lists) → (o : Place) → after o ≡ replayed_at (chosen_by (rows_in rows)) (list_of (λ o. o) lists o) (before o)
+ReplaysLists lists rows before after = ArePlacesApart (lists_of (λ o. o) lists) → (o : Place) → after o ≡ replayed_at (chosen_by (rows_in rows)) (list_of (λ o. o) lists o) (before o)
 
 -- one list of the code, over its incarnation
 abbrev pub ReplaysList : Incarnation Place → List (ℕ × Vec Bool Global) → Durable → Durable → Type 0

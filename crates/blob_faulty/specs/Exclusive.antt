@@ -2,7 +2,7 @@
 use Rattle.std.specs.Prelude.{◌≡◌, ℕ, List, Option, Some, None, Result}
 use Rattle.std.specs.declared.ops.RangeInclusive.{RangeInclusive}
 use Rattle.rand_core.specs.Stream.{Stream}
-use Rattle.blob_header.specs.Refusals.{Refusal, refused}
+use Rattle.blob_header.specs.Refusals.{Refusal, error_of}
 use Rattle.blob_header.specs.declared.error.Error.{Error}
 use Rattle.blob_header.specs.Versions.{lower, upper}
 use Rattle.blob_header.specs.declared.version.BlobVersion.{BlobVersion}
@@ -35,7 +35,7 @@ module _ {R : Type 0} (before after : OverMemory R) (p n : List ℕ) (first last
 -- the same for a range of versions and a registry
 module _ {R : Type 0} (before after : OverMemory R) (p n : List ℕ) (versions : RangeInclusive BlobVersion) where
   abbrev pub AnswersExclusive : {T : Type 0} → (R → Stream) → Opens → Result T Error → Type 0
-  AnswersExclusive stream registry result = ExclusiveAnswer before after p n (lower versions) (upper versions) stream (names_of registry) (refused result)
+  AnswersExclusive stream registry result = ExclusiveAnswer before after p n (lower versions) (upper versions) stream (names_of registry) (error_of result)
 
   -- what an accepted one finds: the registry's handle, the size and the version
   abbrev pub FindsExclusive : registered.Blob (Blob memory_blob.Blob) × ℕ × BlobVersion → Type 0

@@ -5,13 +5,13 @@ use Rattle.std.specs.Range.{range_inclusive_exhausted}
 use Rattle.std.specs.declared.ops.RangeInclusive.{RangeInclusive}
 use Rattle.rand_core.specs.Stream.{Stream}
 use Rattle.blob_base.specs.declared.storage.Durable as stores
-use Rattle.blob_model.specs.Directory.{Directory, removed}
+use Rattle.blob_model.specs.Directory.{Directory, directory_without}
 use Rattle.blob_model.specs.Durable.{Durable, durable_without}
 use Rattle.blob_model.specs.Files.{Files, after_open, after_remove, is_removed_by}
 use Rattle.blob_model.specs.Opening.{IsOpened}
 use Rattle.blob_model.specs.Pending.{Pending}
 use Rattle.blob_model.specs.Places.{Place}
-use Rattle.blob_header.specs.Refusals.{Refusal, refused}
+use Rattle.blob_header.specs.Refusals.{Refusal, error_of}
 use Rattle.blob_header.specs.declared.error.Error.{Error}
 use Rattle.blob_header.specs.Versions.{lower, upper}
 use Rattle.blob_header.specs.declared.version.BlobVersion.{BlobVersion}
@@ -26,8 +26,8 @@ pub record AreVersions (versions : RangeInclusive BlobVersion) : Type 0 where
   pub some : lower versions ≤ upper versions
 
 -- pending lists, where those of some incarnations are retired
-abbrev pub emptied : (Place → Bool) → (Place → List Pending) → Place → List Pending
-emptied gone lists o = cond (gone o) [] (lists o)
+abbrev pub retire_where : (Place → Bool) → (Place → List Pending) → Place → List Pending
+retire_where gone lists o = cond (gone o) [] (lists o)
 
 -- an open, by what it may leave of the inner store
 pub record OpenLeaves {S R O : Type 0} (place : O → Place) (stream : R → Stream) (asked : S → Type 0) (before after : Storage S R O) : Type 0 where
@@ -45,7 +45,7 @@ pub record RemoveLeaves {S R O : Type 0} (place : O → Place) (stream : R → S
   -- if it is true, the inner store isn't called
   pub inner : MatchBool (draw (config_of before).remove_rate (stream (rng_of before))).0 (inner_of after ≡ inner_of before) (asked (inner_of after))
   -- after Ok, the pending lists of the incarnations that end are retired, and no others
-  pub retired : answer ≡ None → (o : Place) → pending_of place after o ≡ emptied ends (pending_of place before) o
+  pub retired : answer ≡ None → (o : Place) → pending_of place after o ≡ retire_where ends (pending_of place before) o
   -- after a refusal the same is pending
   pub kept : IsSome answer → (o : Place) → pending_of place after o ≡ pending_of place before o
   pub numbers : KeepsNumbers before after
@@ -62,7 +62,7 @@ abbrev pub MayRemoveNamed : {S R O : Type 0} → (R → Stream) → (S → List 
 MayRemoveNamed stream allows w p name = MayRemove stream allows w p (option_copied name)
 
 abbrev pub RemovesNamed : {S R O T : Type 0} → stores.Ghosts S O → (R → Stream) → (S → List ℕ → Option (List ℕ) → Option Refusal → S → Type 0) → Storage S R O → List ℕ → Option (Bor (List ℕ)) → Result T Error → Storage S R O → Type 0
-RemovesNamed store stream asked before p name result after = Removes store stream asked before p (option_copied name) (refused result) after
+RemovesNamed store stream asked before p name result after = Removes store stream asked before p (option_copied name) (error_of result) after
 
 -- the store inside shows the same directory and durable bytes
 abbrev pub SameStore : {S R O : Type 0} → stores.Ghosts S O → Storage S R O → Storage S R O → Type 0
@@ -75,7 +75,7 @@ Steps place directory durable before after step = (files : Files) →
 
 -- the directory, the durable bytes and the files without what a removal takes away
 abbrev pub RemovesNames : {S R O : Type 0} → stores.Ghosts S O → Storage S R O → Storage S R O → List ℕ → Option (List ℕ) → Type 0
-RemovesNames store before after p n = store.directory (inner_of after) ≡ removed (store.directory (inner_of before)) p n
+RemovesNames store before after p n = store.directory (inner_of after) ≡ directory_without (store.directory (inner_of before)) p n
 
 abbrev pub RemovesBytes : {S R O : Type 0} → stores.Ghosts S O → Storage S R O → Storage S R O → List ℕ → Option (List ℕ) → Type 0
 RemovesBytes store before after p n = store.durable (inner_of after) ≡ durable_without (store.durable (inner_of before)) p n
@@ -120,7 +120,7 @@ module _ {S R O : Type 0} (store : stores.Ghosts S O) (stream : R → Stream) wh
 
   abbrev pub DoneRemovals : (S → List ℕ → Option (List ℕ) → Option Refusal → S → Type 0) → Type 0
   DoneRemovals asked = (before after : Storage S R O) (p : List ℕ) (n : Option (List ℕ)) →
-      store.directory (inner_of after) ≡ removed (store.directory (inner_of before)) p n → store.durable (inner_of after) ≡ durable_without (store.durable (inner_of before)) p n →
+      store.directory (inner_of after) ≡ directory_without (store.directory (inner_of before)) p n → store.durable (inner_of after) ≡ durable_without (store.durable (inner_of before)) p n →
       RemoveLeaves store.place stream (asked (inner_of before) p n None) None (is_removed_by (store.directory (inner_of before)) p n) before after →
       Steps store.place store.directory store.durable before after (λ files. after_remove files p n)
 

@@ -4,11 +4,11 @@ use Rattle.rand_core.specs.Stream.{Stream}
 use Rattle.blob_base.specs.declared.storage.Blob as handles
 use Rattle.blob_base.specs.declared.storage.Durable as stores
 use Rattle.blob_header.specs.Refusals.{Refusal, BlobMissing}
-use Rattle.blob_model.specs.Bytes.{lies, overlay_by, resized}
+use Rattle.blob_model.specs.Bytes.{lies, overlay_by, resize}
 use Rattle.blob_model.specs.Directory.{is_current}
 use Rattle.blob_model.specs.Durable.{Durable}
 use Rattle.blob_model.specs.Files.{Files, all_logged}
-use Rattle.blob_model.specs.Log.{Entry, Choices, crashed}
+use Rattle.blob_model.specs.Log.{Entry, Choices, replay_log}
 use Rattle.blob_model.specs.Persistence.{HasByte, any_touches}
 use Rattle.blob_model.specs.Places.{Place}
 use Rattle.blob_model.specs.Stands.{replayed_at}
@@ -18,7 +18,7 @@ use Rattle.blob_memory.specs.declared.storage.Storage as memory
 use Rattle.blob_draws.specs.declared.config.Config.{Config}
 use Rattle.blob_draws.specs.declared.config.ResizeConfig.{ResizeConfig}
 use Rattle.blob_draws.specs.Faults.{ResizeFate, resize_fate}
-use Rattle.blob_draws.specs.Recorded.{kept, recorded_write, recorded_resize, live_of_write, live_of_resize, size_of_write, size_of_resize}
+use Rattle.blob_draws.specs.Recorded.{kept_entries, recorded_write, recorded_resize, live_of_write, live_of_resize, size_of_write, size_of_resize}
 use Rattle.blob_faulty.specs.declared.blob.Blob.{Blob}
 use Rattle.blob_faulty.specs.declared.storage.Storage.{Storage}
 use Rattle.blob_faulty.specs.Certain.{IsNever, partial_resizes}
@@ -30,7 +30,7 @@ left_of place durable w t o = replayed_at t (pending_of place w o) (durable (inn
 
 -- entries of which a crash applies some of these bytes at this offset, and makes no other change
 abbrev pub LaysSome : ℕ → List ℕ → List Entry → Choices → Type 0
-LaysSome offset bytes entries t = (chosen : ℕ → Bool) × ((x : List ℕ) → crashed x entries t ≡ overlay_by x offset bytes chosen)
+LaysSome offset bytes entries t = (chosen : ℕ → Bool) × ((x : List ℕ) → replay_log x entries t ≡ overlay_by x offset bytes chosen)
 
 -- bytes, extended by zeros at most up to an offset, with some of a write's bytes over them there
 pub record WritesSome (offset : ℕ) (bytes old new : List ℕ) : Type 0 where
@@ -38,7 +38,7 @@ pub record WritesSome (offset : ℕ) (bytes old new : List ℕ) : Type 0 where
   pub chosen : ℕ → Bool
   pub no_shorter : length old ≤ grown
   pub no_longer : grown ≤ max (length old) offset
-  pub is : new ≡ overlay_by (resized old grown) offset bytes chosen
+  pub is : new ≡ overlay_by (resize old grown) offset bytes chosen
 
 -- What calls are recorded as.
 
@@ -57,7 +57,7 @@ module _ (R : Type 0) {S O : Type 0} (store : stores.Ghosts S O) where
       is_current (store.directory (inner_of before)) o ≡ true → store.directory (inner_of after) ≡ store.directory (inner_of before) →
       Stands store.place (store.directory (inner_of before)) (store.durable (inner_of before)) before files →
       Adds store.place (store.directory (inner_of before)) (store.durable (inner_of before)) (store.durable (inner_of after)) before after o entries →
-      left_of store.place store.durable after t o ≡ option_map (λ x. crashed x entries t) (left_of store.place store.durable before t o)
+      left_of store.place store.durable after t o ≡ option_map (λ x. replay_log x entries t) (left_of store.place store.durable before t o)
 
 -- a crash applies some bytes of a write, and of a resize the requested length or nothing
 abbrev pub WritesLay : Type 0
@@ -66,13 +66,13 @@ WritesLay = (config : Config) (number : ℕ) (stream : Stream) (sync : Bool) (of
 
 abbrev pub ResizesCut : Type 0
 ResizesCut = (config : Option ResizeConfig) (size len : ℕ) (stream : Stream) (answer : Option Refusal) (t : Choices) → IsNever (partial_resizes config) → (x : List ℕ) →
-    (crashed x (recorded_resize (resize_fate config size len stream).0 len answer) t ≡ x) ⊎ (crashed x (recorded_resize (resize_fate config size len stream).0 len answer) t ≡ resized x len)
+    (replay_log x (recorded_resize (resize_fate config size len stream).0 len answer) t ≡ x) ⊎ (replay_log x (recorded_resize (resize_fate config size len stream).0 len answer) t ≡ resize x len)
 
 -- a SYNC write that was done is one write that is kept whole
 abbrev pub SyncWritesKept : {S R O B : Type 0} → handles.Ghosts (Blob B) (Storage S R O) O → (R → Stream) → Type 0
 SyncWritesKept {S} {R} {O} {B} wrapped stream = (b : Blob B) (s : Storage S R O) (offset : ℕ) (bytes : List ℕ) →
     wrapped.allows_write b s offset bytes true None →
-    recorded_write (config_of s) (next_write_of s) (stream (rng_of s)) true offset bytes None ≡ kept offset bytes
+    recorded_write (config_of s) (next_write_of s) (stream (rng_of s)) true offset bytes None ≡ kept_entries offset bytes
 
 -- what a write records and what it changes of live bytes lies in its range
 abbrev pub RecordedInRange : Type 0
@@ -109,4 +109,4 @@ WriteBytes = (config : Config) (stream : Stream) (sync : Bool) (live : List ℕ)
 
 abbrev pub ResizeBytes : Type 0
 ResizeBytes = (config : Option ResizeConfig) (size len : ℕ) (stream : Stream) (live : List ℕ) (answer : Option Refusal) → IsNever (partial_resizes config) →
-    (live_of_resize (resize_fate config size len stream).0 live len answer ≡ live) ⊎ (live_of_resize (resize_fate config size len stream).0 live len answer ≡ resized live len)
+    (live_of_resize (resize_fate config size len stream).0 live len answer ≡ live) ⊎ (live_of_resize (resize_fate config size len stream).0 live len answer ≡ resize live len)

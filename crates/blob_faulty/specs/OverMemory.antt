@@ -5,7 +5,7 @@ use Rattle.blob_base.specs.declared.options.WriteOptions.{WriteOptions}
 use Rattle.blob_base.specs.declared.storage.Blob as handles
 use Rattle.blob_base.specs.declared.storage.Durable as stores
 use Rattle.blob_base.specs.Options.{is_sync}
-use Rattle.blob_header.specs.Refusals.{refused}
+use Rattle.blob_header.specs.Refusals.{error_of}
 use Rattle.blob_header.specs.declared.error.Error.{Error}
 use Rattle.blob_model.specs.Durable.{Durable}
 use Rattle.blob_model.specs.Places.{Place}
@@ -48,7 +48,7 @@ module _ {R : Type 0} (stream : R → Stream) (offset : ℕ) (bytes : List ℕ) 
   MayWriteFrom = MayWrite memory_handle b before stream offset bytes (is_sync options)
 
   abbrev pub WriteFromLeaves : {T : Type 0} → Result T Error → Blob memory_blob.Blob → OverMemory R → Type 0
-  WriteFromLeaves result c after = WriteLeaves memory_store memory_handle stream offset bytes (is_sync options) b before (refused result) c after
+  WriteFromLeaves result c after = WriteLeaves memory_store memory_handle stream offset bytes (is_sync options) b before (error_of result) c after
 
 -- the handle's incarnation has ended
 abbrev pub IsStaleHandle : {R : Type 0} → Blob memory_blob.Blob → OverMemory R → Type 0

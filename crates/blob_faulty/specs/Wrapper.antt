@@ -4,12 +4,12 @@ use Rattle.blob_model.specs.Directory.{Directory}
 use Rattle.blob_model.specs.Durable.{Durable}
 use Rattle.blob_model.specs.Files.{Files, all_logged}
 use Rattle.blob_model.specs.Log.{Entry, need_of}
-use Rattle.blob_model.specs.Pending.{Pending, Waiting, finished}
+use Rattle.blob_model.specs.Pending.{Pending, Waiting, finish}
 use Rattle.blob_model.specs.Places.{Place}
 use Rattle.blob_model.specs.Stands.{StandsFor}
 use Rattle.blob_draws.specs.declared.config.Config.{Config}
 use Rattle.blob_draws.specs.declared.config.WriteConfig.{WriteConfig}
-use Rattle.blob_draws.specs.Faults.{issued}
+use Rattle.blob_draws.specs.Faults.{new_write}
 use Rattle.blob_faulty.specs.declared.storage.Storage.{Storage}
 use Rattle.blob_faulty.specs.declared.blob.Blob.{Blob}
 use Rattle.blob_pending.specs.Lists.{list_of, ChangesAt}
@@ -36,7 +36,7 @@ pending_of place w = list_of place w.lists.all.lists.items
 -- a pending list after the started sync with a marker, if there is one, is finished
 abbrev pub finished_by : Option ℕ → List Pending → List Pending
 finished_by None list = list
-finished_by (Some marker) list = finished marker list
+finished_by (Some marker) list = finish marker list
 
 -- the numbers still to be given, and the configuration, stay
 pub record KeepsNumbers {S R O : Type 0} (old new : Storage S R O) : Type 0 where
@@ -57,7 +57,7 @@ pub record KeepsRecords {S R O : Type 0} (place : O → Place) (old new : Storag
 -- a write is added at the end of the list at this index
 abbrev pub GainsWrite : {S R O : Type 0} → (O → Place) → Storage S R O → Storage S R O → ℕ → ℕ → List ℕ → WriteConfig → Type 0
 GainsWrite place old new list offset bytes config =
-    ChangesAt place old.lists.all.lists.items new.lists.all.lists.items list (λ q. q ++ Waiting (need_of (issued (next_write_of old) offset bytes config) []) ∷ [])
+    ChangesAt place old.lists.all.lists.items new.lists.all.lists.items list (λ q. q ++ Waiting (need_of (new_write (next_write_of old) offset bytes config) []) ∷ [])
 
 -- a wrapper over a store with this directory and these durable bytes represents files
 abbrev pub Stands : {S R O : Type 0} → (O → Place) → Directory → Durable → Storage S R O → Files → Type 0

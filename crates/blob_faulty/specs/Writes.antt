@@ -1,6 +1,6 @@
 -- The effect of a write on a handle and on its wrapper.
 use Rattle.std.specs.Prelude.{◌≡◌, ◌≢◌, ◌⊎◌, ℕ, ◌<◌, ◌+◌, max, Bool, true, false, List, [], ◌∷◌, ◌++◌, length, Option, Some, None, IsSome}
-use Rattle.blob_model.specs.Bytes.{overlay, resized}
+use Rattle.blob_model.specs.Bytes.{overlay, resize}
 use Rattle.blob_model.specs.Directory.{Directory, is_current}
 use Rattle.blob_model.specs.Durable.{Durable, with_changed, with_at}
 use Rattle.blob_model.specs.Files.{Files, all_logged}
@@ -17,7 +17,7 @@ use Rattle.blob_base.specs.declared.storage.Blob as handles
 use Rattle.blob_faulty.specs.declared.blob.Blob.{Blob}
 use Rattle.blob_draws.specs.declared.config.Config.{Config}
 use Rattle.blob_faulty.specs.declared.storage.Storage.{Storage}
-use Rattle.blob_pending.specs.Lists.{held}
+use Rattle.blob_pending.specs.Lists.{lists_of}
 use Rattle.blob_faulty.specs.Asked.{AsksLaid, InnerReached, InnerRefused, InnerRefusedInRoom}
 use Rattle.blob_faulty.specs.Pieces.{first_after}
 use Rattle.blob_faulty.specs.Wrapper.{pending_of}
@@ -39,14 +39,14 @@ pub record View (R : Type 0) : Type 0 where
   pub rng : R
 
 -- by what the inner store and its handles show
-abbrev pub seen : {S R O B : Type 0} → stores.Ghosts S O → handles.Ghosts B S O → Blob B → Storage S R O → View R
-seen store handle b w = record {
+abbrev pub view_of : {S R O B : Type 0} → stores.Ghosts S O → handles.Ghosts B S O → Blob B → Storage S R O → View R
+view_of store handle b w = record {
   directory = store.directory w.inner;
   durable = store.durable w.inner;
   place = handle.place b.inner;
   live = handle.live b.inner;
   size = b.size;
-  held = held store.place w.lists.all.lists.items;
+  held = lists_of store.place w.lists.all.lists.items;
   next_write = w.next_write;
   next_marker = w.next_marker;
   config = w.config;
@@ -134,8 +134,8 @@ durable_written true durable o offset bytes = with_changed durable o (λ x. over
 durable_written false durable o offset bytes = durable
 
 -- a write of the inner blob, of which nothing is recorded
-abbrev pub unrecorded : {R : Type 0} → Bool → ℕ → List ℕ → View R → Effect
-unrecorded sync offset bytes v = record {
+abbrev pub unrecorded_write : {R : Type 0} → Bool → ℕ → List ℕ → View R → Effect
+unrecorded_write sync offset bytes v = record {
   live = live_after sync v.live offset bytes;
   durable = durable_written sync v.durable v.place offset bytes;
   size = max v.size (offset + length bytes);
@@ -203,16 +203,16 @@ pub record LeavesRuns {R : Type 0} (old new : View R) (all left : List Run) : Ty
 -- A resize.
 
 abbrev pub live_cut : List ℕ → ℕ → Option Refusal → List ℕ
-live_cut live len None = resized live len
+live_cut live len None = resize live len
 live_cut live len (Some refusal) = live
 
 -- with what is recorded of it
-abbrev pub cut : {R : Type 0} → ℕ → List Entry → View R → Effect
-cut len entries v = record { live = live_cut v.live len; durable = v.durable; size = len; entries = entries }
+abbrev pub resize_effect : {R : Type 0} → ℕ → List Entry → View R → Effect
+resize_effect len entries v = record { live = live_cut v.live len; durable = v.durable; size = len; entries = entries }
 
 -- by its drawn outcome
 pub record ResizedBy {R : Type 0} (fate : ResizeFate) (direct : Bool) (old new : View R) (len : ℕ) (answer : Option Refusal) : Type 0 where
-  pub done : answer ≡ None → HasBytes new (resized old.live len) old.durable len
+  pub done : answer ≡ None → HasBytes new (resize old.live len) old.durable len
   pub recorded : answer ≡ None → Logs old new (recorded_resize fate len None)
   -- with any result, by a store that injects nothing
   pub live : direct ≡ true → new.live ≡ live_of_resize fate old.live len answer
@@ -252,48 +252,48 @@ Holds old new list = (o : Place) → held_at new.held o ≡ with_at (held_at old
 
 module _ {S R O B : Type 0} (store : stores.Ghosts S O) (handle : handles.Ghosts B S O) (b : Blob B) (w : Storage S R O) (b' : Blob B) (w' : Storage S R O) where
   abbrev pub StaysUnchanged : Type 0
-  StaysUnchanged = Unchanged (seen store handle b w) (seen store handle b' w')
+  StaysUnchanged = Unchanged (view_of store handle b w) (view_of store handle b' w')
 
   abbrev pub Writes : (View R → Effect) → Option Refusal → Type 0
-  Writes effect answer = Wrote handle.is_direct (seen store handle b w) (seen store handle b' w') effect answer
+  Writes effect answer = Wrote handle.is_direct (view_of store handle b w) (view_of store handle b' w') effect answer
 
   abbrev pub Records : (View R → Effect) → Option Refusal → Type 0
-  Records effect answer = Recorded handle.is_direct true (seen store handle b w) (seen store handle b' w') effect answer
+  Records effect answer = Recorded handle.is_direct true (view_of store handle b w) (view_of store handle b' w') effect answer
 
   -- if an error may come after runs that were written
   abbrev pub RecordsRuns : List Run → Option Refusal → Type 0
-  RecordsRuns rs answer = Recorded handle.is_direct handle.is_direct (seen store handle b w) (seen store handle b' w') (laid_runs rs) answer
+  RecordsRuns rs answer = Recorded handle.is_direct handle.is_direct (view_of store handle b w) (view_of store handle b' w') (laid_runs rs) answer
 
   abbrev pub LaidRuns : List Run → Type 0
-  LaidRuns rs = Lays (seen store handle b w) (seen store handle b' w') rs
+  LaidRuns rs = Lays (view_of store handle b w) (view_of store handle b' w') rs
 
   -- up to a run that the inner blob refused
   abbrev pub LaidFront : List Run → Type 0
-  LaidFront rs = LaysFront (InnerRefused handle b w b' w') (seen store handle b w) (seen store handle b' w') rs
+  LaidFront rs = LaysFront (InnerRefused handle b w b' w') (view_of store handle b w) (view_of store handle b' w') rs
 
   -- what a write that returns WriteFailed records, by its outcome
   abbrev pub FailedBy : WriteFate → ℕ → List ℕ → Type 0
-  FailedBy (Failed chosen) offset bytes = LaysFront (InnerRefusedInRoom handle b w b' w' (runs offset bytes chosen)) (seen store handle b w) (seen store handle b' w') (runs offset bytes chosen)
-  FailedBy fate offset bytes = SameRecords (seen store handle b w) (seen store handle b' w')
+  FailedBy (Failed chosen) offset bytes = LaysFront (InnerRefusedInRoom handle b w b' w' (runs offset bytes chosen)) (view_of store handle b w) (view_of store handle b' w') (runs offset bytes chosen)
+  FailedBy fate offset bytes = SameRecords (view_of store handle b w) (view_of store handle b' w')
 
   abbrev pub FailsBy : WriteFate → ℕ → List ℕ → Option Refusal → Type 0
   FailsBy fate offset bytes answer = answer ≡ Some WriteFailed → FailedBy fate offset bytes
 
   abbrev pub WritesBy : WriteFate → Bool → ℕ → List ℕ → Option Refusal → Type 0
-  WritesBy fate sync offset bytes answer = WroteBy fate handle.is_direct (seen store handle b w) (seen store handle b' w') sync offset bytes answer
+  WritesBy fate sync offset bytes answer = WroteBy fate handle.is_direct (view_of store handle b w) (view_of store handle b' w') sync offset bytes answer
 
   abbrev pub ResizesBy : ResizeFate → ℕ → Option Refusal → Type 0
-  ResizesBy fate len answer = ResizedBy fate handle.is_direct (seen store handle b w) (seen store handle b' w') len answer
+  ResizesBy fate len answer = ResizedBy fate handle.is_direct (view_of store handle b w) (view_of store handle b' w') len answer
 
   -- a fault records nothing, unless the inner blob resized to the drawn length
   abbrev pub ReachesBy : ResizeFate → Option Refusal → Type 0
-  ReachesBy fate answer = answer ≡ Some Injected → SameRecords (seen store handle b w) (seen store handle b' w') ⊎ InnerReached handle b w b' w' fate
+  ReachesBy fate answer = answer ≡ Some Injected → SameRecords (view_of store handle b w) (view_of store handle b' w') ⊎ InnerReached handle b w b' w' fate
 
   abbrev pub Syncs : Option Refusal → Type 0
-  Syncs answer = Synced (seen store handle b w) (seen store handle b' w') answer
+  Syncs answer = Synced (view_of store handle b w) (view_of store handle b' w') answer
 
   abbrev pub Retires : List Pending → Type 0
-  Retires list = Holds (seen store handle b w) (seen store handle b' w') list
+  Retires list = Holds (view_of store handle b w) (view_of store handle b' w') list
 
   -- the next marker is the last entry
   abbrev pub Marks : Type 0

@@ -1,7 +1,7 @@
 //! A handle of the wrapper.
 ghost use Rattle.std.specs.Prelude.{◌≡◌, ◌≢◌, ◌+◌, ◌≤◌, ◌++◌, ◌∷◌, List, ℕ, [], Bool, true, false, Option, Some, None, IsSome, OnOk, OnErr, IfOk, length, take, drop};
 ghost use Rattle.std.proofs.lemmas.Bool.{false≢true};
-ghost use Rattle.blob_model.specs.Bytes.{overlay, resized};
+ghost use Rattle.blob_model.specs.Bytes.{overlay, resize};
 ghost use Rattle.blob_model.specs.Directory.{is_current};
 ghost use Rattle.blob_model.specs.Durable.{with_changed, with_at};
 ghost use Rattle.blob_base.specs.Handles.{outcome_of, marker_of};
@@ -9,7 +9,7 @@ ghost use Rattle.blob_model.specs.Live.{live_written};
 ghost use Rattle.blob_base.specs.Options.{is_sync};
 ghost use Rattle.blob_model.specs.Pending.{Marker};
 ghost use Rattle.blob_model.specs.Places.{Place};
-ghost use Rattle.blob_header.specs.Refusals.{Refusal, refused, Memory, IsMemory};
+ghost use Rattle.blob_header.specs.Refusals.{Refusal, error_of, Memory, IsMemory};
 ghost use Rattle.blob_draws.specs.Answers.{injected_or, allows_resize as answers_resize, allows_start};
 ghost use Rattle.blob_faulty.specs.Allowed.{MayWrite};
 ghost use Rattle.blob_draws.specs.Fates.{after_write};
@@ -50,7 +50,7 @@ impl<B> Blob<B> {
 
 impl<B> Blob<B> {
     ghost use Rattle.blob_faulty.specs.Allowed.{IsCurrent, IsStale, WritesIfSync};
-    ghost use Rattle.blob_faulty.specs.HandleLeaves.{WriteLeaves};
+    ghost use Rattle.blob_faulty.specs.HandleLeaves.{Leaves};
 
     /// Performs `write_at` of owned pieces and `write_from` of a slice: draws the outcome, then carries it out.
     #[tactic(auto, unfolding(blob_draws::specs::Answers::allows_write))]
@@ -58,25 +58,25 @@ impl<B> Blob<B> {
         &mut self,
         store: &mut Storage<S, R>,
         offset: u64,
-        bytes: P,
+        buf: P,
         sync: bool,
     ) -> Result<(), Error>
     where
         B: blob_base::Blob<S>,
         P: Payload<S, B>,
-        ensures allowed { MayWrite B.Blob self.old store.old R.stream offset (P.bytes bytes) sync (refused result) }
-        ensures leaves { WriteLeaves S.Durable B.Blob R.stream offset (P.bytes bytes) sync self.old store.old (refused result) self.new store.new }
-        ensures live { OnOk result (B.live self.new.inner ≡ live_written sync (B.live self.old.inner) offset (P.bytes bytes)) }
-        ensures synced { OnOk result (WritesIfSync S.Durable B.Blob self.old store.old store.new sync offset (P.bytes bytes)) }
+        ensures allowed { MayWrite B.Blob self.old store.old R.stream offset (P.bytes buf) sync (error_of result) }
+        ensures leaves { Leaves S.Durable B.Blob R.Rng offset (P.bytes buf) sync self.old store.old result self.new store.new }
+        ensures live { OnOk result (B.live self.new.inner ≡ live_written sync (B.live self.old.inner) offset (P.bytes buf)) }
+        ensures synced { OnOk result (WritesIfSync S.Durable B.Blob self.old store.old store.new sync offset (P.bytes buf)) }
         ensures plain { OnOk result (sync ≡ false → S.durable store.new.inner ≡ S.durable store.old.inner) }
-        ensures current { OnOk result (sync ≡ true → P.bytes bytes ≢ [] → IsCurrent S.Durable B.Blob self.old store.old) }
+        ensures current { OnOk result (sync ≡ true → P.bytes buf ≢ [] → IsCurrent S.Durable B.Blob self.old store.old) }
         ensures stale { IsStale S.Durable B.Blob self.old store.old → S.durable store.new.inner ≡ S.durable store.old.inner }
         ensures memory_live { IsMemory result → B.live self.new.inner ≡ B.live self.old.inner }
         ensures memory_durable { IsMemory result → S.durable store.new.inner ≡ S.durable store.old.inner }
         ensures directory { S.directory store.new.inner ≡ S.directory store.old.inner }
         ensures place { B.place self.new.inner ≡ B.place self.old.inner }
     {
-        let len = bytes.len();
+        let len = buf.len();
         if sync && len == 0 {
             return Ok(());
         }
@@ -85,7 +85,7 @@ impl<B> Blob<B> {
         }
         let alloc = store.alloc();
         let fate = draw_write(alloc, &store.config, sync, offset, len, &mut store.rng)?;
-        self.write_by_fate(store, fate, offset, bytes, sync)
+        self.write_by_fate(store, fate, offset, buf, sync)
     }
 }
 

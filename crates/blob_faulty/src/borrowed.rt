@@ -1,6 +1,6 @@
 //! Reads into a borrowed slice and writes of one, over a memory store.
 ghost use Rattle.std.specs.Prelude.{◌≡◌, ◌≤◌, ◌+◌, true, false, OnOk, OnErr, length, take, drop};
-ghost use Rattle.blob_header.specs.Refusals.{refused, IsMemory};
+ghost use Rattle.blob_header.specs.Refusals.{error_of, IsMemory};
 ghost use Rattle.blob_model.specs.Live.{live_written};
 ghost use Rattle.blob_base.specs.Options.{is_sync};
 ghost use Rattle.blob_faulty.specs.HandleLeaves.{ReadLeaves};
@@ -30,7 +30,7 @@ impl Blob<blob_memory::Blob> {
         offset: u64,
         buf: &mut [u8],
     ) -> Result<(), Error>
-        ensures allowed { MayReadInto R.stream self.now store.old offset (length buf.old) (refused result) }
+        ensures allowed { MayReadInto R.stream self.now store.old offset (length buf.old) (error_of result) }
         ensures bytes { OnOk result (buf.new ≡ take (length buf.old) (drop offset (live (inside self.now)))) }
         ensures within { OnOk result (offset + length buf.old ≤ length (live (inside self.now))) }
         ensures err { OnErr result (buf.new ≡ buf.old) }
@@ -58,7 +58,7 @@ impl Blob<blob_memory::Blob> {
         bytes: &[u8],
         options: WriteOptions,
     ) -> Result<(), Error>
-        ensures allowed { MayWriteFrom R.stream offset bytes.now options self.old store.old (refused result) }
+        ensures allowed { MayWriteFrom R.stream offset bytes.now options self.old store.old (error_of result) }
         ensures leaves { WriteFromLeaves R.stream offset bytes.now options self.old store.old result self.new store.new }
         ensures live { OnOk result (live_of self.new ≡ live_written (is_sync options) (live_of self.old) offset bytes.now) }
         ensures synced { OnOk result (is_sync options ≡ true → MakesDurable self.old store.old store.new offset bytes.now) }

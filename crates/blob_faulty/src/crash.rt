@@ -5,7 +5,7 @@ ghost use Rattle.blob_header.specs.Refusals.{IsMemory};
 ghost use Rattle.blob_faulty.specs.Crashes.{CrashDraws, CrashLeaves, ReplaysPending};
 ghost use Rattle.blob_faulty.specs.Keeps.{Keeps};
 ghost use Rattle.blob_faulty.specs.Names.{Steps};
-ghost use Rattle.blob_pending.specs.Lists.{held, held_by};
+ghost use Rattle.blob_pending.specs.Lists.{lists_of, held_by};
 ghost use Rattle.blob_pending.specs.Replays.{widest_of_all};
 ghost use Rattle.blob_faulty.specs.Ready.{IsReady};
 ghost use Rattle.blob_faulty.specs.Wrapper.{KeepsNumbers, KeepsRecords, inner_of, pending_of};
@@ -26,7 +26,7 @@ use std::alloc::AllocError;
 
 /// Returns the length of the longest pending write or range.
 fn widest_of_all<O>(lists: &[Incarnation<O>]) -> usize
-    ensures { (place : O → Place) → result ≡ widest_of_all (held place lists.now) }
+    ensures { (place : O → Place) → result ≡ widest_of_all (lists_of place lists.now) }
 {
     let mut most = 0;
     for list in lists {

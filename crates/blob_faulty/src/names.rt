@@ -1,7 +1,7 @@
 //! Opens, removals, scans and finished syncs of the wrapper.
 ghost use Rattle.std.specs.Prelude.{◌≡◌, OnOk, OnErr, option_copied};
 ghost use Rattle.blob_base.specs.Handles.{outcome_of, marker_of};
-ghost use Rattle.blob_header.specs.Refusals.{refused};
+ghost use Rattle.blob_header.specs.Refusals.{error_of};
 ghost use Rattle.blob_draws.specs.Answers.{injected_or};
 ghost use Rattle.blob_draws.specs.Faults.{draw};
 ghost use Rattle.blob_faulty.specs.Names.{OpenLeaves, MayRemove, MayRemoveNamed, Removes, RemovesNamed, RemovesNames, RemovesBytes, RemovesFiles, ScanLeaves, FinishLeaves, SameStore, Steps};
@@ -25,7 +25,7 @@ impl<S: blob_base::Storage, R: Rng> Storage<S, R> {
     /// `Injected`; then those of the inner store: over memory `PartitionNameInvalid`, `PartitionMissing`, `BlobMissing`, or
     /// `Memory` for their texts. Nothing is removed or retired.
     pub fn remove_retired(&mut self, partition: &str, name: Option<&[u8]>) -> Result<Retired, Error>
-        ensures allowed { MayRemoveNamed R.stream S.allows_remove self.old partition.now name.entry (refused result) }
+        ensures allowed { MayRemoveNamed R.stream S.allows_remove self.old partition.now name.entry (error_of result) }
         ensures leaves { RemovesNamed S.Durable R.stream S.leaves_remove self.old partition.now name.entry result self.new }
         ensures directory { OnOk result (RemovesNames S.Durable self.old self.new partition.now (option_copied name.entry)) }
         ensures durable { OnOk result (RemovesBytes S.Durable self.old self.new partition.now (option_copied name.entry)) }

@@ -1,6 +1,6 @@
 //! Opens with `admit`, in one call.
 ghost use Rattle.std.specs.Prelude.{IfOk};
-ghost use Rattle.blob_header.specs.Refusals.{refused};
+ghost use Rattle.blob_header.specs.Refusals.{error_of};
 ghost use Rattle.blob_faulty.specs.Admitted.{AdmitsOpen, AdmitsVersions, FindsKept, FindsVersions};
 ghost use Rattle.blob_faulty.specs.Names.{AreVersions};
 
@@ -26,7 +26,7 @@ impl<R: Rng> Storage<blob_memory::Storage, R> {
         versions: RangeInclusive<BlobVersion>,
     ) -> Result<(Blob<blob_memory::Blob>, u64, BlobVersion), Error>
         requires { AreVersions versions }
-        ensures answer { AdmitsVersions self.old self.new partition.now name.now versions R.stream (refused result) }
+        ensures answer { AdmitsVersions self.old self.new partition.now name.now versions R.stream (error_of result) }
         ensures accepted { IfOk result (λ o. FindsVersions self.old self.new partition.now name.now versions o.0 o.1 o.2.0) }
     {
         opens::<blob_memory::Storage, R>();
@@ -46,7 +46,7 @@ impl<R: Rng> Storage<blob_memory::Storage, R> {
         partition: &str,
         name: &[u8],
     ) -> Result<(Blob<blob_memory::Blob>, u64), Error>
-        ensures answer { AdmitsOpen self.old self.new partition.now name.now 0 0 R.stream (refused result) }
+        ensures answer { AdmitsOpen self.old self.new partition.now name.now 0 0 R.stream (error_of result) }
         ensures accepted { IfOk result (λ o. FindsKept self.old self.new partition.now name.now 0 0 o.0 o.1 0) }
     {
         let versions = DEFAULT_BLOB_VERSION..=DEFAULT_BLOB_VERSION;

@@ -3,7 +3,7 @@ ghost use Rattle.std.specs.Prelude.{◌≡◌, OnOk, OnErr, IfOk};
 ghost use Rattle.blob_faulty.specs.Exclusive.{AnswersExclusive, FindsExclusive, next_registration};
 ghost use Rattle.blob_faulty.specs.Keeps.{LosesNothing};
 ghost use Rattle.blob_faulty.specs.Names.{AreVersions};
-ghost use Rattle.blob_opens.specs.OpenNames.{opened};
+ghost use Rattle.blob_opens.specs.OpenNames.{open_name};
 ghost use Rattle.blob_opens.specs.Opens.{names_of, registration_of};
 
 use crate::blob::Blob;
@@ -33,7 +33,7 @@ impl<R: Rng> Storage<blob_memory::Storage, R> {
     ) -> Result<(open::Blob<Blob<blob_memory::Blob>>, u64, BlobVersion), Error>
         requires { AreVersions versions }
         ensures answer { AnswersExclusive self.old self.new partition.now name.now versions R.stream registry.old result }
-        ensures registered { OnOk result (names_of registry.new ≡ opened (names_of registry.old) partition.now name.now) }
+        ensures registered { OnOk result (names_of registry.new ≡ open_name (names_of registry.old) partition.now name.now) }
         ensures err { OnErr result (names_of registry.new ≡ names_of registry.old) }
         ensures handle { IfOk result (λ o. registration_of o.0 ≡ next_registration registry.old partition.now name.now) }
         ensures accepted { IfOk result (λ o. FindsExclusive self.old self.new partition.now name.now versions o) }

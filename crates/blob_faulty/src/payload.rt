@@ -1,6 +1,6 @@
 //! The bytes of one write: owned pieces, or a borrowed slice.
 ghost use Rattle.std.specs.Prelude.{◌≡◌, ℕ, List, true, false, OnOk, OnErr, IfOk, length};
-ghost use Rattle.blob_header.specs.Refusals.{refused, IsMemory};
+ghost use Rattle.blob_header.specs.Refusals.{error_of, IsMemory};
 ghost use Rattle.blob_model.specs.Live.{live_written};
 ghost use Rattle.blob_base.specs.HandleCalls.{Write};
 ghost use Rattle.blob_faulty.specs.Allowed.{HasEnded};
@@ -33,8 +33,8 @@ pub(crate) trait Payload<S: Durable, B: blob_base::Blob<S>>: Drop {
     ///
     /// As the inner blob's `write_at`.
     fn write_plain(self, blob: &mut B, store: &mut S, offset: u64) -> Result<(), Error>
-        ensures allowed { B.allows_write blob.old store.old offset (bytes self) false (refused result) }
-        ensures leaves { B.leaves (Write offset (bytes self) false) blob.old store.old (refused result) blob.new store.new }
+        ensures allowed { B.allows_write blob.old store.old offset (bytes self) false (error_of result) }
+        ensures leaves { B.leaves (Write offset (bytes self) false) blob.old store.old (error_of result) blob.new store.new }
         ensures live { OnOk result (B.live blob.new ≡ live_written false (B.live blob.old) offset (bytes self)) }
         ensures durable { OnOk result (S.durable store.new ≡ S.durable store.old) }
         ensures memory { IsMemory result → (B.live blob.new ≡ B.live blob.old) × (S.durable store.new ≡ S.durable store.old) }

@@ -2,8 +2,8 @@
 ghost use Rattle.std.specs.Prelude.{◌≡◌, ◌<◌, ◌≤◌, ℕ, false, length, slice_index_or, vec_capacity, All};
 ghost use Rattle.blob_model.specs.Bytes.{between};
 ghost use Rattle.blob_model.specs.Holes.{in_holes};
-ghost use Rattle.blob_model.specs.Pending.{has_marker, replay, replayed, end_of, ends};
-ghost use Rattle.blob_pending.specs.Lists.{held, held_by};
+ghost use Rattle.blob_model.specs.Pending.{has_marker, replay, replay_entry, end_of, ends};
+ghost use Rattle.blob_pending.specs.Lists.{lists_of, held_by};
 ghost use Rattle.blob_pending.specs.Ranges.{ranges};
 ghost use Rattle.blob_pending.specs.Replays.{width, widest, widest_of_all};
 ghost use Rattle.blob_faulty.specs.Crashes.{chosen_in, ChoosesUncovered, ReplaysList, ReplaysLists, StaysChosen};
@@ -70,7 +70,7 @@ fn put_choices(chosen: &mut Vec<bool>, write: &PendingWrite, row: &[bool])
 fn replay_entry(bytes: &mut Bytes, entry: &Entry, rows: &[(u64, Vec<bool>)], chosen: &mut Vec<bool>)
     requires numbered { AreNumbered rows.now }
     requires room { CanReplay bytes.old (end_of (view entry.now)) (width (view entry.now)) chosen.old }
-    ensures bytes { AreNow bytes.old bytes.new (replayed bytes.old.items (view entry.now) (chosen_in rows.now)) }
+    ensures bytes { AreNow bytes.old bytes.new (replay_entry bytes.old.items (view entry.now) (chosen_in rows.now)) }
     ensures capacity { vec_capacity chosen.old ≤ vec_capacity chosen.new }
 {
     match entry {
@@ -137,7 +137,7 @@ pub fn replay_all(
 )
     requires numbered { AreNumbered rows.now }
     requires ready { All (λ list. IsReady inner.old (held_by (λ o. o) list)) lists.now }
-    requires width { widest_of_all (held (λ o. o) lists.now) ≤ vec_capacity chosen.old }
+    requires width { widest_of_all (lists_of (λ o. o) lists.now) ≤ vec_capacity chosen.old }
     ensures durable { ReplaysLists lists.now rows.now (durable inner.old) (durable inner.new) }
     ensures directory { directory inner.new ≡ directory inner.old }
 {

@@ -1,6 +1,6 @@
 //! Resizes of the inner blob, and what they record.
 ghost use Rattle.std.specs.Prelude.{◌≡◌, [], OnErr};
-ghost use Rattle.blob_header.specs.Refusals.{refused};
+ghost use Rattle.blob_header.specs.Refusals.{error_of};
 ghost use Rattle.blob_draws.specs.Answers.{or_memory};
 ghost use Rattle.blob_draws.specs.Fates.{resize_fate_of};
 ghost use Rattle.blob_base.specs.HandleCalls.{Resize};
@@ -8,7 +8,7 @@ ghost use Rattle.blob_faulty.specs.Allowed.{MayResizeAs};
 ghost use Rattle.blob_faulty.specs.Asked.{AsksResize};
 ghost use Rattle.blob_faulty.specs.StepResults.{CallsInner, MayCallInner, RecordsResize, ResizesAs, ReachesAs};
 ghost use Rattle.blob_faulty.specs.Wrapper.{KeepsDurable};
-ghost use Rattle.blob_faulty.specs.Writes.{Writes, cut};
+ghost use Rattle.blob_faulty.specs.Writes.{Writes, resize_effect};
 
 use crate::blob::Blob;
 use crate::storage::Storage;
@@ -26,9 +26,9 @@ impl<B> Blob<B> {
     ) -> Result<(), Error>
     where
         B: blob_base::Blob<S>,
-        ensures allowed { B.allows_resize self.old.inner store.old.inner len (refused result) }
+        ensures allowed { B.allows_resize self.old.inner store.old.inner len (error_of result) }
         ensures asked { CallsInner B.Blob self.old store.old self.new store.new (Resize len) result }
-        ensures wrote { Writes S.Durable B.Blob self.old store.old self.new store.new (cut len []) (refused result) }
+        ensures wrote { Writes S.Durable B.Blob self.old store.old self.new store.new (resize_effect len []) (error_of result) }
         ensures untracked { OnErr result (self.new.size ≡ self.old.size) }
         ensures durable { S.durable store.new.inner ≡ S.durable store.old.inner }
         ensures rest { store.new ≡ record store.old { inner = store.new.inner } }
@@ -46,7 +46,7 @@ impl<B> Blob<B> {
     ) -> Result<(), Error>
     where
         B: blob_base::Blob<S>,
-        ensures allowed { or_memory (B.allows_resize self.old.inner store.old.inner len) (refused result) }
+        ensures allowed { or_memory (B.allows_resize self.old.inner store.old.inner len) (error_of result) }
         ensures asked { MayCallInner B.Blob self.old store.old self.new store.new (Resize len) result }
         ensures recorded { RecordsResize S.Durable B.Blob self.old store.old self.new store.new len result }
         ensures kept { KeepsDurable S.durable store.old store.new }
@@ -67,8 +67,8 @@ impl<B> Blob<B> {
     ) -> Result<(), Error>
     where
         B: blob_base::Blob<S>,
-        ensures allowed { MayResizeAs B.Blob self.old store.old fate len (refused result) }
-        ensures asked { AsksResize B.Blob self.old store.old self.new store.new (resize_fate_of fate) len (refused result) }
+        ensures allowed { MayResizeAs B.Blob self.old store.old fate len (error_of result) }
+        ensures asked { AsksResize B.Blob self.old store.old self.new store.new (resize_fate_of fate) len (error_of result) }
         ensures resized { ResizesAs S.Durable B.Blob self.old store.old self.new store.new fate len result }
         ensures reached { ReachesAs S.Durable B.Blob self.old store.old self.new store.new fate result }
         ensures kept { KeepsDurable S.durable store.old store.new }

@@ -1,6 +1,6 @@
 //! Syncs of the inner blob, and what they retire.
 ghost use Rattle.std.specs.Prelude.{◌≡◌, ◌<◌, ◌+◌, ◌-◌, ◌^◌, [], OnOk, IfOk};
-ghost use Rattle.blob_header.specs.Refusals.{refused};
+ghost use Rattle.blob_header.specs.Refusals.{error_of};
 ghost use Rattle.blob_draws.specs.Answers.{or_memory};
 ghost use Rattle.blob_faulty.specs.HandleLeaves.{AsksSync, AsksStart};
 ghost use Rattle.blob_faulty.specs.Writes.{Syncs, Retires, Marks};
@@ -18,9 +18,9 @@ impl<B> Blob<B> {
     ) -> Result<(), Error>
     where
         B: blob_base::Blob<S>,
-        ensures allowed { B.allows_sync self.old.inner store.old.inner (refused result) }
-        ensures synced { Syncs S.Durable B.Blob self.old store.old self.new store.new (refused result) }
-        ensures asked { AsksSync B.Blob self.old store.old self.new store.new (refused result) }
+        ensures allowed { B.allows_sync self.old.inner store.old.inner (error_of result) }
+        ensures synced { Syncs S.Durable B.Blob self.old store.old self.new store.new (error_of result) }
+        ensures asked { AsksSync B.Blob self.old store.old self.new store.new (error_of result) }
         ensures retired { OnOk result (Retires S.Durable B.Blob self.old store.old self.new store.new []) }
         ensures next_marker { store.new.next_marker ≡ store.old.next_marker }
     {
@@ -37,9 +37,9 @@ impl<B> Blob<B> {
     where
         B: blob_base::Blob<S>,
         requires left { store.old.next_marker < 2 ^ 64 - 1 }
-        ensures allowed { or_memory (B.allows_start_sync self.old.inner store.old.inner) (refused result) }
-        ensures synced { Syncs S.Durable B.Blob self.old store.old self.new store.new (refused result) }
-        ensures asked { AsksStart B.Blob self.old store.old self.new store.new S.leaves_finish (refused result) }
+        ensures allowed { or_memory (B.allows_start_sync self.old.inner store.old.inner) (error_of result) }
+        ensures synced { Syncs S.Durable B.Blob self.old store.old self.new store.new (error_of result) }
+        ensures asked { AsksStart B.Blob self.old store.old self.new store.new S.leaves_finish (error_of result) }
         ensures marker { IfOk result (λ marker. marker ≡ store.old.next_marker) }
         ensures marked { OnOk result (Marks S.Durable B.Blob self.old store.old self.new store.new) }
         ensures next { OnOk result (store.new.next_marker ≡ store.old.next_marker + 1) }

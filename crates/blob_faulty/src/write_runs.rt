@@ -93,7 +93,7 @@ impl Piece {
 impl<B> Blob<B> {
     ghost use Rattle.std.specs.Prelude.{◌≢◌, ◌≤◌, [], true, false, Some, OnOk, OnErr, IfOk, All};
     ghost use Rattle.blob_model.specs.Directory.{is_current};
-    ghost use Rattle.blob_header.specs.Refusals.{refused, WriteFailed};
+    ghost use Rattle.blob_header.specs.Refusals.{error_of, WriteFailed};
     ghost use Rattle.blob_model.specs.Runs.{runs, AreRunsApart};
     ghost use Rattle.blob_faulty.specs.Allowed.{MayLay, MayLayKept, MayReserve, AllowsAsMuch, HasListRoom, HasInnerRoom, ReservesRoom};
     ghost use Rattle.blob_faulty.specs.Asked.{reserve_call};
@@ -113,8 +113,8 @@ impl<B> Blob<B> {
         requires room { HasListRoom S.Durable B.Blob self.old store.old list (extents (runs_in pieces.items)) }
         requires current { is_current (S.directory store.old.inner) (B.place self.old.inner) ≡ true }
         requires within { B.is_direct ≡ true → All (EndsWithin (B.room self.old.inner store.old.inner)) (runs_in pieces.items) }
-        ensures laid { LaysAll S.Durable B.Blob self.old store.old self.new store.new (runs_in pieces.items) (refused result) }
-        ensures failed { OnErr result (refused result ≡ Some WriteFailed) }
+        ensures laid { LaysAll S.Durable B.Blob self.old store.old self.new store.new (runs_in pieces.items) (error_of result) }
+        ensures failed { OnErr result (error_of result ≡ Some WriteFailed) }
         ensures indirect { OnErr result (B.is_direct ≡ false) }
         ensures some { OnErr result (runs_in pieces.items ≢ []) }
     {
@@ -143,8 +143,8 @@ impl<B> Blob<B> {
         B: blob_base::Blob<S>,
         requires room { HasListRoom S.Durable B.Blob self.old store.old list (extents (runs_in pieces.items)) }
         requires within { HasInnerRoom S.Durable B.Blob self.old store.old (runs_in pieces.items) }
-        ensures allowed { MayLay B.Blob self.old store.old (runs_in pieces.items) (refused result) }
-        ensures laid { LaysAll S.Durable B.Blob self.old store.old self.new store.new (runs_in pieces.items) (refused result) }
+        ensures allowed { MayLay B.Blob self.old store.old (runs_in pieces.items) (error_of result) }
+        ensures laid { LaysAll S.Durable B.Blob self.old store.old self.new store.new (runs_in pieces.items) (error_of result) }
     {
         let mut pieces = pieces;
         let Some(first) = pieces.pop() else {
@@ -169,7 +169,7 @@ impl<B> Blob<B> {
     where
         B: blob_base::Blob<S>,
         requires { AreRunsApart 0 (runs_in pieces.now) }
-        ensures allowed { MayReserve B.Blob self.old store.old (runs_in pieces.now) (refused result) }
+        ensures allowed { MayReserve B.Blob self.old store.old (runs_in pieces.now) (error_of result) }
         ensures asked { MayCallInner B.Blob self.old store.old self.new store.new (reserve_call (runs_in pieces.now)) result }
         ensures write_answers { AllowsAsMuch B.Blob self.old store.old self.new store.new }
         ensures room { ReservesRoom S.Durable B.Blob self.old store.old self.new store.new (runs_in pieces.now) result }
@@ -196,7 +196,7 @@ impl<B> Blob<B> {
         P: Payload<S, B>,
         requires fits { offset + length (P.bytes bytes) < 2 ^ 64 }
         requires sized { kept.now ≢ [] → length kept.now ≡ length (P.bytes bytes) }
-        ensures allowed { MayLayKept B.Blob self.old store.old (runs offset (P.bytes bytes) kept.now) (refused result) }
+        ensures allowed { MayLayKept B.Blob self.old store.old (runs offset (P.bytes bytes) kept.now) (error_of result) }
         ensures asked { AsksKept B.Blob self.old store.old self.new store.new offset (P.bytes bytes) kept.now result }
         ensures laid { LaysKept S.Durable B.Blob self.old store.old self.new store.new offset (P.bytes bytes) kept.now result }
         ensures front { LaysPart S.Durable B.Blob self.old store.old self.new store.new offset (P.bytes bytes) kept.now result }

@@ -1,6 +1,6 @@
 //! Writes of the inner blob, and what they record.
 ghost use Rattle.std.specs.Prelude.{◌≡◌, ◌≢◌, ◌≤◌, ◌<◌, ◌+◌, ◌-◌, ◌^◌, ◌∷◌, [], true, false, OnOk, OnErr, IfOk, length};
-ghost use Rattle.blob_header.specs.Refusals.{refused, IsMemory};
+ghost use Rattle.blob_header.specs.Refusals.{error_of, IsMemory};
 ghost use Rattle.blob_model.specs.Pending.{has_barrier};
 ghost use Rattle.blob_pending.specs.Lists.{HasRoomIn, IsRoomAt, SameLists};
 ghost use Rattle.blob_base.specs.HandleCalls.{Write};
@@ -82,7 +82,7 @@ impl<B> Blob<B> {
         B: blob_base::Blob<S>,
         P: Payload<S, B>,
         requires fits { offset + length (P.bytes bytes) < 2 ^ 64 }
-        ensures allowed { B.allows_write self.old.inner store.old.inner offset (P.bytes bytes) false (refused result) }
+        ensures allowed { B.allows_write self.old.inner store.old.inner offset (P.bytes bytes) false (error_of result) }
         ensures asked { CallsInner B.Blob self.old store.old self.new store.new (Write offset (P.bytes bytes) false) result }
         ensures wrote { WritesUnrecorded S.Durable B.Blob self.old store.old self.new store.new offset (P.bytes bytes) result }
         ensures untracked { OnErr result (self.new.size ≡ self.old.size) }
@@ -105,7 +105,7 @@ impl<B> Blob<B> {
         B: blob_base::Blob<S>,
         P: Payload<S, B>,
         requires fits { offset + length (P.bytes bytes) < 2 ^ 64 }
-        ensures allowed { MayWritePlain B.Blob self.old store.old offset (P.bytes bytes) (refused result) }
+        ensures allowed { MayWritePlain B.Blob self.old store.old offset (P.bytes bytes) (error_of result) }
         ensures asked { MayCallInner B.Blob self.old store.old self.new store.new (Write offset (P.bytes bytes) false) result }
         ensures recorded { RecordsPlain S.Durable B.Blob self.old store.old self.new store.new offset (P.bytes bytes) result }
     {
@@ -145,7 +145,7 @@ impl<B> Blob<B> {
         requires len { length copy.items ≤ length bytes }
         requires copied { has_barrier (pending_of S.place store.old (B.place self.old.inner)) ≡ true → copy.items ≡ bytes }
         requires room { HasListRoom S.Durable B.Blob self.old store.old list ((offset, offset + length bytes) ∷ []) }
-        ensures allowed { B.allows_write self.old.inner store.old.inner offset bytes true (refused result) }
+        ensures allowed { B.allows_write self.old.inner store.old.inner offset bytes true (error_of result) }
         ensures asked { CallsInner B.Blob self.old store.old self.new store.new (Write offset bytes true) result }
         ensures recorded { RecordsRun S.Durable B.Blob self.old store.old self.new store.new (offset, bytes) result }
         ensures laid { OnOk result (LaidRuns S.Durable B.Blob self.old store.old self.new store.new ((offset, bytes) ∷ [])) }
@@ -172,7 +172,7 @@ impl<B> Blob<B> {
         P: Payload<S, B>,
         requires some { P.bytes bytes ≢ [] }
         requires fits { offset + length (P.bytes bytes) < 2 ^ 64 }
-        ensures allowed { MayWriteSynced B.Blob self.old store.old offset (P.bytes bytes) (refused result) }
+        ensures allowed { MayWriteSynced B.Blob self.old store.old offset (P.bytes bytes) (error_of result) }
         ensures asked { MayCallInner B.Blob self.old store.old self.new store.new (Write offset (P.bytes bytes) true) result }
         ensures recorded { RecordsRun S.Durable B.Blob self.old store.old self.new store.new (offset, P.bytes bytes) result }
     {
@@ -199,7 +199,7 @@ impl<B> Blob<B> {
         requires some { sync ≡ true → P.bytes bytes ≢ [] }
         requires fits { offset + length (P.bytes bytes) < 2 ^ 64 }
         requires sized { IsSized (length (P.bytes bytes)) (write_fate_of fate) }
-        ensures allowed { MayWriteAs B.Blob self.old store.old fate sync offset (P.bytes bytes) (refused result) }
+        ensures allowed { MayWriteAs B.Blob self.old store.old fate sync offset (P.bytes bytes) (error_of result) }
         ensures asked { AsksAs B.Blob self.old store.old self.new store.new fate sync offset (P.bytes bytes) result }
         ensures wrote { WroteAs S.Durable B.Blob self.old store.old self.new store.new fate sync offset (P.bytes bytes) result }
         ensures failed { FailsAs S.Durable B.Blob self.old store.old self.new store.new fate offset (P.bytes bytes) result }

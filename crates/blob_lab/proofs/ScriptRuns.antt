@@ -15,7 +15,7 @@ use Rattle.blob_script.specs.Acts.{Act, act_of}
 use Rattle.blob_lab_store.specs.LabStands.{LabStandsFor, Performs}
 use Rattle.blob_lab.specs.ScriptReading.{OfLines, AddsCall, TakesCall, TakesBadCall, TakesPart, Begins, HasReplies, PrintsFront, PrintsBefore, PrintsUpTo, printed_reply, with_call}
 use Rattle.blob_lab.specs.Scripts.{Script, IsPrinted, Prints, lines_of, with_lines}
-use Rattle.blob_script.specs.Settings.{cleared}
+use Rattle.blob_script.specs.Settings.{no_rates}
 use Rattle.blob_lab_model.specs.States.{State, start}
 use Rattle.blob_lab.specs.Streams.{AppendsPart}
 use Rattle.blob_lab_model.proofs.RunSteps.{run_more}
@@ -144,7 +144,7 @@ module _ (s : Script) (first : ℕ) (old : Option (List ℕ)) (all : List (List 
           calls = a.answered.calls ++ call ∷ [];
           replies = a.answered.replies ++ reply ∷ [];
           are = map-append act_of a.answered.calls (call ∷ []) ∙ ap (λ acts. acts ++ act_of call ∷ []) a.answered.are;
-          run = run_more a.w a.answered.calls a.answered.replies (start t.images t.words cleared) call reply _ a.answered.run (performs.answers a.w a.stands);
+          run = run_more a.w a.answered.calls a.answered.replies (start t.images t.words no_rates) call reply _ a.answered.run (performs.answers a.w a.stands);
           lines = ap (λ p. p ++ printed_reply reply) a.answered.lines ∙ flat_map_more printed_reply [] a.answered.replies reply;
         },
         performs.stands a.w a.stands,
@@ -319,7 +319,7 @@ module _ (s : Script) (first : ℕ) (old : Option (List ℕ)) (line : List ℕ) 
   begins (Some xs) lab act config b = record {
     t = s;
     line = line;
-    w = start s.images s.words cleared;
+    w = start s.images s.words no_rates;
     printed = [];
     taken = record { front = []; parts = refl; makes = refl; counted = ap u64_saturate (omega arith) };
     adds = b.adds;

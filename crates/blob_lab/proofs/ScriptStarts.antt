@@ -15,13 +15,13 @@ use Rattle.blob_lab.specs.ScriptReading.{OfLines, TakesCall, TakesBadCall, Takes
 use Rattle.blob_lab.specs.Scripts.{Script, IsPrinted, Prints, lines_of, no_script, script_of, with_lines}
 use Rattle.blob_lab.specs.Streams.{AppendsPart}
 use Rattle.blob_lab_model.specs.Scripted.{only}
-use Rattle.blob_script.specs.Settings.{cleared}
+use Rattle.blob_script.specs.Settings.{no_rates}
 use Rattle.blob_lab_model.specs.States.{start}
 use Rattle.blob_lab_store.specs.Tables.{images_of}
 use Rattle.blob_lab.proofs.ScriptRuns.{kept_Appends, part_of_taken, printed_of}
 use Rattle.blob_lab.proofs.ScriptSteps.{more_lines, one_line}
 
-pub empty_preamble : (p : Preamble) (config : Config) → p.images.items ≡ [] → p.words.items ≡ [] → p.seed ≡ None → config ≡ cleared → preamble_of p config ≡ no_script
+pub empty_preamble : (p : Preamble) (config : Config) → p.images.items ≡ [] → p.words.items ≡ [] → p.seed ≡ None → config ≡ no_rates → preamble_of p config ≡ no_script
 empty_preamble p config images words seed same =
     ap (λ is. record { images = images_of is; words = record { given = p.words.items; seed = p.seed }; config = config; calls = [] }) images
     ∙ ap (λ ws. record { images = []; words = record { given = ws; seed = p.seed }; config = config; calls = [] }) words
@@ -31,7 +31,7 @@ empty_preamble p config images words seed same =
 -- No call has a reply.
 
 none_printed : (o : Option Script) (t : Script) → o ≡ Some t → t.calls ≡ [] → IsPrinted o []
-none_printed o t is none = printed_of o t [] (start t.images t.words cleared) is (record { calls = []; replies = []; are = sym none; run = refl; lines = refl })
+none_printed o t is none = printed_of o t [] (start t.images t.words no_rates) is (record { calls = []; replies = []; are = sym none; run = refl; lines = refl })
 
 none_added : (old new : Option (List ℕ)) → Keeps old new → Appends old new []
 none_added old new kept = Appends-kept old old new [] (Appends-nil old) kept
@@ -123,7 +123,7 @@ module _ (s : Script) (same : s ≡ no_script) (first : ℕ) (one : first ≡ 1)
   no_laboratory n act config (Some xs) (Some ys) call =
       nothing_of t (lines_of xs) (lines_of ys) call.front (call.line ∷ lines_of ys) old mid kept call.parts (inl (call.line, refl)) (ap (λ u. with_lines u call.front) (sym same) ∙ call.makes) none
 
-  module _ (n : ℕ) (act : Act) (config : Config) (lab : Lab) (stands : LabStandsFor lab (start t.images t.words cleared)) (new : Option (List ℕ)) where
+  module _ (n : ℕ) (act : Act) (config : Config) (lab : Lab) (stands : LabStandsFor lab (start t.images t.words no_rates)) (new : Option (List ℕ)) where
     pub all_lines : (a b : Option (List ℕ)) → OfLines a b (TakesCall s t first n act config)
         → ((s : Script) (line : List ℕ) → Begins lab s line act config → IfSome b (λ input. Prints (with_lines s (line ∷ lines_of input)) mid new)) → IfSome a (λ input. Prints (script_of (lines_of input)) old new)
     all_lines None b call prints = tt

@@ -17,7 +17,7 @@ use Rattle.blob_lab.specs.ScriptReading.{OfLines, TakesLine, TakesOne, TakesCall
 use Rattle.blob_lab.specs.Scripts.{Script, lines_of, with_said, with_line, with_lines}
 use Rattle.blob_script.specs.Tokens.{is_empty}
 use Rattle.blob_lab_model.specs.Scripted.{behind_seeded}
-use Rattle.blob_script.specs.Settings.{configured}
+use Rattle.blob_script.specs.Settings.{with_setting}
 use Rattle.blob_lab_store.specs.Tables.{images_of}
 
 -- One line.
@@ -30,11 +30,11 @@ line_said s line said made says makes = ap (option_and_then (with_said s)) says 
 pub said_call : (s : Script) (act : Act) (config : Config) → config ≡ s.config → with_said s (Call act) ≡ Some (with_call (record s { config = config }) act)
 said_call s act config e = ap (λ c. Some (with_call (record s { config = c }) act)) (sym e)
 
-pub said_setting : (s : Script) (setting : Setting) (before after : Config) (asked : LabCall) → s.config ≡ before → asked ≡ call.Configure (configured before setting) → after ≡ configured before setting
+pub said_setting : (s : Script) (setting : Setting) (before after : Config) (asked : LabCall) → s.config ≡ before → asked ≡ call.Configure (with_setting before setting) → after ≡ with_setting before setting
     → with_said s (Configure setting) ≡ Some (with_call (record s { config = after }) (act_of asked))
 said_setting s setting before after asked same whole kept =
-    ap (λ c. Some (with_call (record s { config = configured c setting }) (acts.Configure (configured c setting)))) same
-    ∙ ap (λ c. Some (with_call (record s { config = c }) (acts.Configure (configured before setting)))) (sym kept)
+    ap (λ c. Some (with_call (record s { config = with_setting c setting }) (acts.Configure (with_setting c setting)))) same
+    ∙ ap (λ c. Some (with_call (record s { config = c }) (acts.Configure (with_setting before setting)))) (sym kept)
     ∙ ap (λ a. Some (with_call (record s { config = after }) (act_of a))) (sym whole)
 
 -- images and words, before any call

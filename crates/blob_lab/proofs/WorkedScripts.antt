@@ -7,7 +7,7 @@ use lib.Utf8.{encode}
 use Rattle.blob_script.specs.Acts.{Close, Configure, Reopen}
 use Rattle.blob_lab.specs.Scripts.{lines_of, no_script, script_of}
 use Rattle.blob_lab_model.specs.Scripted.{only, behind_seeded}
-use Rattle.blob_script.specs.Settings.{cleared}
+use Rattle.blob_script.specs.Settings.{no_rates}
 
 no_line : lines_of [] ≡ []
 no_line = refl
@@ -25,11 +25,11 @@ unfolding is_utf8 chars encode decode_pairs
 blank_lines = refl
 
 words_and_calls : script_of (codes "words 7" ∷ codes "close 0" ∷ codes "reopen" ∷ [])
-    ≡ Some (record { images = []; words = only (7 ∷ []); config = cleared; calls = Close 0 ∷ Reopen ∷ [] })
+    ≡ Some (record { images = []; words = only (7 ∷ []); config = no_rates; calls = Close 0 ∷ Reopen ∷ [] })
 unfolding is_utf8 chars encode decode_pairs
 words_and_calls = refl
 
-setting_is_a_call : script_of (codes "config clear" ∷ []) ≡ Some (record { images = []; words = only []; config = cleared; calls = Configure cleared ∷ [] })
+setting_is_a_call : script_of (codes "config clear" ∷ []) ≡ Some (record { images = []; words = only []; config = no_rates; calls = Configure no_rates ∷ [] })
 unfolding is_utf8 chars encode decode_pairs
 setting_is_a_call = refl
 
@@ -39,7 +39,7 @@ unfolding is_utf8 chars encode decode_pairs
 words_too_late = refl
 
 -- one seed, among the words; a second one isn't a script
-seed_and_words : script_of (codes "words 7" ∷ codes "seed 042" ∷ codes "words 8" ∷ []) ≡ Some (record { images = []; words = behind_seeded (7 ∷ 8 ∷ []) 42; config = cleared; calls = [] })
+seed_and_words : script_of (codes "words 7" ∷ codes "seed 042" ∷ codes "words 8" ∷ []) ≡ Some (record { images = []; words = behind_seeded (7 ∷ 8 ∷ []) 42; config = no_rates; calls = [] })
 unfolding is_utf8 chars encode decode_pairs
 seed_and_words = refl
 

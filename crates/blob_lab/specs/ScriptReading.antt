@@ -1,5 +1,5 @@
 -- How the lines of a script are read, if the reader's remaining bytes are known.
-use Rattle.std.specs.Prelude.{◌≡◌, ◌≢◌, ◌⊎◌, ℕ, ◌+◌, List, [], ◌∷◌, ◌++◌, length, map, Option, Some, None, IfSome, IsSomeAnd}
+use Rattle.std.specs.Prelude.{◌≡◌, ◌≢◌, ◌⊎◌, ℕ, ◌+◌, List, [], ◌∷◌, ◌++◌, length, map, Option, Some, None, Result, IfErr, IfSome, IsSomeAnd}
 use Rattle.std.specs.List.{flat_map}
 use Rattle.std.specs.Io.Iter.{u64_saturate}
 use Rattle.std.specs.Io.KnownBytes.{Appends}
@@ -19,7 +19,7 @@ use Rattle.blob_script.specs.Lines.{Said, line_of}
 use Rattle.blob_script.specs.Replies.{reply_line}
 use Rattle.blob_lab.specs.Scripts.{IsPrinted, Prints, Run, Script, lines_of, no_script, with_line, with_lines}
 use Rattle.blob_lab.specs.Streams.{AppendsPart, OfBytes, reader_of, writer_of}
-use Rattle.blob_script.specs.Settings.{cleared}
+use Rattle.blob_script.specs.Settings.{no_rates}
 use Rattle.blob_lab_model.specs.Runs.{LeadsTo}
 use Rattle.blob_lab_model.specs.States.{State, start}
 use Rattle.blob_lab_store.specs.Tables.{images_of}
@@ -83,11 +83,11 @@ pub record TakesPart (s t : Script) (lines left : List (List ℕ)) : Type 0 wher
 pub record Begins (lab : Lab) (s : Script) (line : List ℕ) (act : Act) (config : Config) : Type 0 where
   pub none : s.calls ≡ []
   pub adds : AddsCall s line act config
-  pub stands : LabStandsFor lab (start s.images s.words cleared)
+  pub stands : LabStandsFor lab (start s.images s.words no_rates)
 
 -- a laboratory was created from a script's images and words, without rates
 abbrev pub IsCreatedFrom : Lab → Script → Type 0
-IsCreatedFrom lab s = LabStandsFor lab (start s.images s.words cleared)
+IsCreatedFrom lab s = LabStandsFor lab (start s.images s.words no_rates)
 
 -- the script of the preamble so far
 abbrev pub preamble_of : Preamble → Config → Script
@@ -142,7 +142,7 @@ pub record HasReplies (s : Script) (printed : List ℕ) (w : State) : Type 0 whe
   pub calls : List Call
   pub replies : List Reply
   pub are : map act_of calls ≡ s.calls
-  pub run : LeadsTo (start s.images s.words cleared) calls replies w
+  pub run : LeadsTo (start s.images s.words no_rates) calls replies w
   pub lines : printed ≡ flat_map printed_reply replies
 
 -- the output of the lines before the line with this number was added, and with that line they aren't a script; numbers
@@ -193,6 +193,10 @@ PrintsFrom remaining contents lab first lines i o o' = (s : Script) (line : List
 abbrev pub PrintsFromUpTo : {R W : Type 0} → (R → Option (List ℕ)) → (W → Option (List ℕ)) → Lab → Call → Lines → Input R → Input R → Output W → Output W → Ending → Type 0
 PrintsFromUpTo remaining contents lab first lines i i' o o' ending = (s : Script) (line : List ℕ) → Begins lab s line (act_of first) lines.config
     → Run remaining contents i i' o o' (λ all left. PrintsUpTo ending s lines.number (line ∷ lines_of all) (lines_of left))
+
+-- if the calls end with a failure, up to it
+abbrev pub IfCut : {R W T : Type 0} → (R → Option (List ℕ)) → (W → Option (List ℕ)) → Lab → Call → Lines → Input R → Input R → Output W → Output W → Result T Ending → Type 0
+IfCut remaining contents lab first lines i i' o o' result = IfErr result (PrintsFromUpTo remaining contents lab first lines i i' o o')
 
 -- a call was run, and the line of its reply was added like this
 abbrev pub AddsReply : {W : Type 0} → (W → Option (List ℕ)) → Lab → Call → Lab → Output W → Output W → (Option (List ℕ) → Option (List ℕ) → List ℕ → Type 0) → Type 0

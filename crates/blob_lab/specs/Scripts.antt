@@ -17,7 +17,7 @@ use Rattle.blob_script.specs.Replies.{reply_line}
 use Rattle.blob_script.specs.Tokens.{is_empty}
 use Rattle.blob_lab_model.specs.Runs.{LeadsTo}
 use Rattle.blob_lab_model.specs.Scripted.{Words, only, behind_seeded}
-use Rattle.blob_script.specs.Settings.{cleared, configured}
+use Rattle.blob_script.specs.Settings.{no_rates, with_setting}
 use Rattle.blob_lab_model.specs.States as states
 use Rattle.blob_lab_model.specs.States.{State, start}
 
@@ -41,7 +41,7 @@ with_said s Blank = Some s
 with_said s (Image p n bytes) = if is_empty s.calls then Some (record s { images = s.images ++ (p, n, bytes) ∷ [] }) else None
 with_said s (Given words) = if is_empty s.calls then Some (record s { words = record { given = s.words.given ++ words; seed = s.words.seed } }) else None
 with_said s (Seed seed) = if is_empty s.calls && is_none s.words.seed then Some (record s { words = behind_seeded s.words.given seed }) else None
-with_said s (Configure setting) = Some (record s { config = configured s.config setting; calls = s.calls ++ acts.Configure (configured s.config setting) ∷ [] })
+with_said s (Configure setting) = Some (record s { config = with_setting s.config setting; calls = s.calls ++ acts.Configure (with_setting s.config setting) ∷ [] })
 with_said s (Call act) = Some (record s { calls = s.calls ++ act ∷ [] })
 
 -- None if the line is bad or isn't allowed there
@@ -53,7 +53,7 @@ with_lines s [] = Some s
 with_lines s (line ∷ lines) = option_and_then (λ t. with_lines t lines) (with_line s line)
 
 abbrev pub no_script : Script
-no_script = record { images = []; words = only []; config = cleared; calls = [] }
+no_script = record { images = []; words = only []; config = no_rates; calls = [] }
 
 abbrev pub script_of : List (List ℕ) → Option Script
 script_of lines = with_lines no_script lines
@@ -64,7 +64,7 @@ script_of lines = with_lines no_script lines
 abbrev pub IsPrinted : Option Script → List ℕ → Type 0
 IsPrinted None printed = ⊥
 IsPrinted (Some s) printed = (calls : List LabCall) × (replies : List Reply) × (w : State) × (map act_of calls ≡ s.calls)
-    × LeadsTo (start s.images s.words cleared) calls replies w × (printed ≡ flat_map (λ reply. reply_line reply ++ 10 ∷ []) replies)
+    × LeadsTo (start s.images s.words no_rates) calls replies w × (printed ≡ flat_map (λ reply. reply_line reply ++ 10 ∷ []) replies)
 
 abbrev pub Prints : Option Script → Option (List ℕ) → Option (List ℕ) → Type 0
 Prints script old new = (printed : List ℕ) × IsPrinted script printed × Appends old new printed

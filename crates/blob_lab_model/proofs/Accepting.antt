@@ -6,7 +6,7 @@ use Rattle.std.specs.Cmp.Lexicographic.{bytes_decides}
 use Rattle.std.proofs.lemmas.Bool.{cond_both, cond-false, false≢true}
 use Rattle.rand_core.specs.Stream.{Stream}
 use Rattle.blob_header.specs.declared.layout.Layout.{Layout}
-use Rattle.blob_model.specs.Directory.{Directory, File, Raw, Incarnation, removed}
+use Rattle.blob_model.specs.Directory.{Directory, File, Raw, Incarnation, directory_without}
 use Rattle.blob_model.specs.Files.{Files, with_opening, after_open, raw_again, durable_at}
 use Rattle.blob_header.specs.Header.{region}
 use Rattle.blob_model.specs.Opening.{Opening, Continues, Begins, Declines, opening, place_of}
@@ -18,7 +18,7 @@ use Rattle.blob_script.specs.declared.call.Call.{Call}
 use Rattle.blob_script.specs.declared.reply.Reply.{Reply}
 use Rattle.blob_lab_model.specs.Accepted.{removes}
 use Rattle.blob_script.specs.Acts.{Ask, Act, Configure, Open, OpenLoose, Admit, Close, Through, Finish, Remove, Scan, Crash, Reopen, act_of}
-use Rattle.blob_lab_model.specs.After.{after, asked, exclusively_opened}
+use Rattle.blob_lab_model.specs.After.{after_act, after_ask, exclusively_opened}
 use Rattle.blob_lab_model.specs.Steps.{found_at, removal_step as removal, crash_step, loosely_opened}
 use Rattle.blob_lab_model.specs.Answers.{kept_at, opened_version}
 use Rattle.blob_lab_model.specs.Runs.{LeadsTo}
@@ -79,7 +79,7 @@ of_again bytes p n (Some (Incarnation number layout v)) version is =
 raw_of : (file : Option File) (version : ℕ) → ((layout : Layout) × (data_bytes : List ℕ) × (file ≡ Some (Raw (region layout version ++ data_bytes)))) → IsOf file version
 raw_of file version (layout, data_bytes, same) = subst (λ (x : Option File). IsOf x version) (sym same) (layout, data_bytes, refl)
 
-of_removed : (d : Directory) (q : List ℕ) (m : Option (List ℕ)) (p n : List ℕ) (version : ℕ) → removes (Remove q m) None p n ≡ false → IsOf (d.file p n) version → IsOf ((removed d q m).file p n) version
+of_removed : (d : Directory) (q : List ℕ) (m : Option (List ℕ)) (p n : List ℕ) (version : ℕ) → removes (Remove q m) None p n ≡ false → IsOf (d.file p n) version → IsOf ((directory_without d q m).file p n) version
 of_removed d q None p n version stays is = subst (λ (x : Option File). IsOf x version) (sym (cond-false (bytes_eq q p) None (d.file p n) stays)) is
 of_removed d q (Some m) p n version stays is = by_tests (bytes_eq q p) (bytes_eq m n) stays where
   by_tests : (b c : Bool) → (b && c) ≡ false → IsOf (cond b (cond c None (d.file p n)) (d.file p n)) version
@@ -107,9 +107,9 @@ module _ (v : State) (rest : Stream) (p n : List ℕ) (version : ℕ) (fits : ve
   loose_still q m versions None = of_opened v.files q m p n versions.0 versions.1 version fits is
   loose_still q m versions (Some refusal) = is
 
-  asked_still : (number : ℕ) (slot : Option Held) (ask : Ask) (refusal : Option Refusal) → Still (asked v number slot ask refusal)
+  asked_still : (number : ℕ) (slot : Option Held) (ask : Ask) (refusal : Option Refusal) → Still (after_ask v number slot ask refusal)
   asked_still number None ask refusal = is
-  asked_still number (Some h) ask refusal = by_same (asked v number (Some h) ask refusal) (asked_directory v h ask refusal)
+  asked_still number (Some h) ask refusal = by_same (after_ask v number (Some h) ask refusal) (asked_directory v h ask refusal)
 
   removal_still : (q : List ℕ) (m : Option (List ℕ)) (refusal : Option Refusal) → removes (Remove q m) refusal p n ≡ false → Still (removal v q m refusal)
   removal_still q m None stays = of_removed v.files.directory q m p n version stays is
@@ -119,7 +119,7 @@ module _ (v : State) (rest : Stream) (p n : List ℕ) (version : ℕ) (fits : ve
   crashed_still None = is
   crashed_still (Some refusal) = is
 
-  still_after : (act : Act) (refusal : Option Refusal) → removes act refusal p n ≡ false → Still (after v act refusal rest)
+  still_after : (act : Act) (refusal : Option Refusal) → removes act refusal p n ≡ false → Still (after_act v act refusal rest)
   still_after (Configure config) refusal stays = is
   still_after (Open q m None) refusal stays = is
   still_after (Open q m (Some versions)) refusal stays = exclusive_still q m versions refusal
@@ -140,4 +140,4 @@ still_run v [] [] w p n version fits keeps run is = subst (λ (x : State). IsOf 
 still_run v [] (r ∷ replies) w p n version fits keeps run is = absurd run
 still_run v (call ∷ calls) [] w p n version fits keeps run is = absurd run
 still_run v (call ∷ calls) (r ∷ replies) w p n version fits (stays, keeps) (left, a, run) is =
-    still_run (after v (act_of call) (refused_by r) left) calls replies w p n version fits keeps run (still_after v left p n version fits is (act_of call) (refused_by r) stays)
+    still_run (after_act v (act_of call) (refused_by r) left) calls replies w p n version fits keeps run (still_after v left p n version fits is (act_of call) (refused_by r) stays)

@@ -9,7 +9,7 @@ use Rattle.blob_model.specs.Places.{Place}
 use Rattle.blob_header.specs.Refusals.{Refusal, Memory, Injected, OffsetOverflow, GenerationsExhausted}
 use Rattle.blob_model.specs.Runs.{Run, runs, AreRunsApart}
 use Rattle.blob_draws.specs.Changes.{lacks_number, size_of_runs}
-use Rattle.blob_draws.specs.Answers.{Allowed, injected_or, injected_for, or_memory, numbered, last_end, one_then, allows_laid, allows_runs, allows_fate}
+use Rattle.blob_draws.specs.Answers.{Allowed, injected_or, injected_for, or_memory, exhausted_or, last_end, one_then, allows_laid, allows_runs, allows_fate}
 use Rattle.blob_draws.specs.Faults.{WriteFate, Idle, Uncounted, Done, Unsynced, Failed}
 use Rattle.rand_core.specs.Stream.{Stream}
 use Rattle.blob_memory.specs.Answers.{OrMemory, AllowsWrite, write_refusal, end_refusal, sync_refusal, is_uncounted, missing}
@@ -26,7 +26,7 @@ drawn_denial true inner expected i answer a = inr a
 drawn_denial false inner expected i answer a = i answer a
 
 -- then the number
-pub numbered_denial : (b : Bool) (inner : Allowed) (expected : Option Refusal) → Expects inner expected → Expects (numbered b inner) (option_or (refused_if GenerationsExhausted b) expected)
+pub numbered_denial : (b : Bool) (inner : Allowed) (expected : Option Refusal) → Expects inner expected → Expects (exhausted_or b inner) (option_or (refused_if GenerationsExhausted b) expected)
 numbered_denial true inner expected i answer a = inr a
 numbered_denial false inner expected i answer a = i answer a
 

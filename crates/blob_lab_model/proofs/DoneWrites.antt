@@ -8,7 +8,7 @@ use Rattle.std.proofs.lemmas.Bool.{false≢true}
 use Rattle.std.proofs.lemmas.Option.{none-some}
 use Rattle.rand_core.specs.Stream.{Stream}
 use Rattle.std.specs.Option.{option_or}
-use Rattle.blob_model.specs.Bytes.{written}
+use Rattle.blob_model.specs.Bytes.{write_live}
 use Rattle.blob_model.specs.Directory.{Directory}
 use Rattle.blob_model.specs.Log.{Kept}
 use Rattle.blob_model.specs.Places.{Place}
@@ -16,7 +16,7 @@ use Rattle.blob_header.specs.Refusals.{Refusal, Memory, GenerationsExhausted}
 use Rattle.blob_model.specs.Runs.{runs}
 use Rattle.blob_draws.specs.Changes.{lacks_number, write_changes}
 use Rattle.blob_draws.specs.Fates.{has_uncounted_end}
-use Rattle.blob_draws.specs.Faults.{WriteFate, Idle, Uncounted, Done, Unsynced, Failed, draw, failed, drawn_fate, write_fate, retention}
+use Rattle.blob_draws.specs.Faults.{WriteFate, Idle, Uncounted, Done, Unsynced, Failed, draw, failure, drawn_fate, write_fate, retention}
 use Rattle.blob_draws.specs.Recorded.{recorded_write, live_of_write, size_of_write}
 use Rattle.blob_script.specs.declared.reply.Reply.{Reply}
 use Rattle.blob_script.specs.Acts.{Write}
@@ -33,7 +33,7 @@ abbrev is_nothing : WriteFate → Bool
 is_nothing Idle = true
 is_nothing fate = false
 
-failed_some : (kept : Option (PartialWriteMode × Rate)) (offset len : ℕ) (stream : Stream) → is_nothing (failed kept offset len stream).0 ≡ false
+failed_some : (kept : Option (PartialWriteMode × Rate)) (offset len : ℕ) (stream : Stream) → is_nothing (failure kept offset len stream).0 ≡ false
 failed_some None offset len stream = refl
 failed_some (Some k) offset len stream = refl
 
@@ -44,7 +44,7 @@ drawn_some config sync offset len stream = go d.0 sync (draw config.sync_rate d.
     d = draw (option_map (λ c. c.failure_rate) config.write_rate) stream
 
     go : (fails s unsynced : Bool)
-        → is_nothing (if fails then failed (retention config.write_rate) offset len d.1 else if s then (if unsynced then Unsynced else Done, (draw config.sync_rate d.1).1) else (Done, d.1)).0 ≡ false
+        → is_nothing (if fails then failure (retention config.write_rate) offset len d.1 else if s then (if unsynced then Unsynced else Done, (draw config.sync_rate d.1).1) else (Done, d.1)).0 ≡ false
     go true s unsynced = failed_some (retention config.write_rate) offset len d.1
     go false true true = refl
     go false true false = refl
@@ -87,7 +87,7 @@ module _ (v : State) (h : Held) (offset : ℕ) (bytes : List ℕ) (done : IsDone
   pub kept_whole : recorded_write v.config v.files.next_write v.stream true offset bytes None ≡ Kept offset bytes ∷ []
   kept_whole = ap (λ (f : WriteFate). (write_changes f (retention v.config.write_rate) true offset bytes None).entries v.files.next_write) done
 
-  pub live_whole : live_of_write v.config v.stream true h.live offset bytes None ≡ written h.live offset bytes
+  pub live_whole : live_of_write v.config v.stream true h.live offset bytes None ≡ write_live h.live offset bytes
   live_whole = ap (λ (f : WriteFate). (write_changes f (retention v.config.write_rate) true offset bytes None).live h.live) done
 
   pub size_whole : size_of_write v.config v.stream true h.size offset bytes None ≡ max h.size (offset + length bytes)

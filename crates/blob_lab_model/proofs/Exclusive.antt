@@ -8,7 +8,7 @@ use Rattle.rand_core.specs.Stream.{Stream}
 use Rattle.std.specs.Option.{option_or}
 use Rattle.blob_model.specs.Directory.{Directory, File, Raw, Incarnation, current, place_in, is_current, is_that}
 use Rattle.blob_header.specs.Header.{data_start}
-use Rattle.blob_model.specs.Files.{Files, admitted, after_open, reopened}
+use Rattle.blob_model.specs.Files.{Files, admit, after_open, reopen}
 use Rattle.blob_model.specs.Opening.{place_of}
 use Rattle.blob_model.specs.Places.{Place}
 use Rattle.blob_header.specs.Refusals.{Refusal, Memory, BlobAlreadyOpen, GenerationsExhausted}
@@ -17,7 +17,7 @@ use Rattle.blob_draws.specs.declared.config.Config.{Config}
 use Rattle.blob_script.specs.declared.call.Call.{Call}
 use Rattle.blob_script.specs.declared.reply.Reply.{Reply}
 use Rattle.blob_script.specs.Acts.{Ask, Write, Resize, AcceptedVersions, Act, Configure, Open, OpenLoose, Admit, Close, Through, Finish, Remove, Scan, Crash, Reopen, act_of}
-use Rattle.blob_lab_model.specs.After.{after, asked, exclusively_opened, held_after}
+use Rattle.blob_lab_model.specs.After.{after_act, after_ask, exclusively_opened, held_after}
 use Rattle.blob_lab_model.specs.Steps.{is_unnumbered, loose_denial, open_already, open_denial, with_closed, with_images, removal_step as removal, crash_step, rebuilt}
 use Rattle.blob_lab_model.specs.Answers.{Answers, kept_at, told_opened}
 use Rattle.blob_lab_model.specs.Denials.{refused_if}
@@ -121,7 +121,7 @@ new_handle f s p n (Some o) of h new =
 
 exclusive_opened : (v : State) (p n : List ℕ) (versions : AcceptedVersions) (left : Stream) (refusal : Option Refusal) → (refusal ≡ None → v.names.registered p n ≡ None) → Exclusive v → Exclusive (exclusively_opened v p n versions refusal)
 exclusive_opened v p n versions left None free x =
-    let f = admitted (after_open v.files p n versions.0 versions.1) p n in
+    let f = admit (after_open v.files p n versions.0 versions.1) p n in
     let slot = option_map (held_on f (Some (record { partition = p; name = n; number = v.names.next }))) (current f.directory p n) in
     added f.directory v.names v.handles p n slot (new_handle f v.names p n (current f.directory p n) (current_of f.directory p n)) (free refl)
     (aged v.files.directory f.directory v.names v.handles (ages v (Open p n (Some versions)) None left) x)
@@ -139,11 +139,11 @@ registration_after v h (Write offset bytes sync) refusal = refl
 registration_after v h (Resize len) refusal = refl
 registration_after v h ask refusal = refl
 
-exclusive_asked : (v : State) (number : ℕ) (slot : Option Held) (ask : Ask) (refusal : Option Refusal) → kept_at v.handles number ≡ slot → Exclusive v → Exclusive (asked v number slot ask refusal)
+exclusive_asked : (v : State) (number : ℕ) (slot : Option Held) (ask : Ask) (refusal : Option Refusal) → kept_at v.handles number ≡ slot → Exclusive v → Exclusive (after_ask v number slot ask refusal)
 exclusive_asked v number None ask refusal here x = x
 exclusive_asked v number (Some h) ask refusal here x =
     let g = held_after v h ask refusal in
-    subst (λ (d : Directory). AreExclusive d v.names (asked v number (Some h) ask refusal).handles) (sym (asked_directory v h ask refusal))
+    subst (λ (d : Directory). AreExclusive d v.names (after_ask v number (Some h) ask refusal).handles) (sym (asked_directory v h ask refusal))
     (put_back v.files.directory v.names v.handles number h g here (place_after v h ask refusal) (registration_after v h ask refusal) x)
 
 exclusive_removed : (v : State) (p : List ℕ) (n : Option (List ℕ)) (left : Stream) (refusal : Option Refusal) → Exclusive v → Exclusive (removal v p n refusal)
@@ -157,7 +157,7 @@ exclusive_crashed v (Some refusal) x = x
 -- no incarnation is current in a rebuilt store
 exclusive_rebuilt : (v : State) (left : Stream) → Exclusive v → Exclusive (rebuilt v)
 exclusive_rebuilt v left x =
-    let y = aged v.files.directory (reopened v.files).directory v.names v.handles (ages v Reopen None left) x in
+    let y = aged v.files.directory (reopen v.files).directory v.names v.handles (ages v Reopen None left) x in
     record {
       opens = λ i h here now. absurd (false≢true (sym (none_current v.files h.place) ∙ now));
       below = y.below;
@@ -168,12 +168,12 @@ exclusive_rebuilt v left x =
 
 -- Any call.
 
-pub exclusive_after : (v : State) (act : Act) (answered : Reply) (left : Stream) → Exclusive v → is_loose act ≡ false → Answers v act answered left → Exclusive (after v act (refused_by answered) left)
+pub exclusive_after : (v : State) (act : Act) (answered : Reply) (left : Stream) → Exclusive v → is_loose act ≡ false → Answers v act answered left → Exclusive (after_act v act (refused_by answered) left)
 exclusive_after v (Configure config) answered left x strict answers = x
 exclusive_after v (Open p n None) answered left x strict answers = x
 exclusive_after v (Open p n (Some versions)) answered left x strict answers = exclusive_opened v p n versions left (refused_by answered) (open_free v p n versions answered left answers) x
 exclusive_after v (OpenLoose p n versions) answered left x strict answers = absurd (false≢true (sym strict))
-exclusive_after v (Admit p n) answered left x strict answers = aged v.files.directory (admitted v.files p n).directory v.names v.handles (ages v (Admit p n) None left) x
+exclusive_after v (Admit p n) answered left x strict answers = aged v.files.directory (admit v.files p n).directory v.names v.handles (ages v (Admit p n) None left) x
 exclusive_after v (Close number) answered left x strict answers = exclusive_closed v number (kept_at v.handles number) refl x
 exclusive_after v (Through number ask) answered left x strict answers = exclusive_asked v number (kept_at v.handles number) ask (refused_by answered) refl x
 exclusive_after v (Finish number) answered left x strict answers = x
@@ -189,7 +189,7 @@ exclusive_run [] [] v w x strict same = subst Exclusive same x
 exclusive_run [] (r ∷ replies) v w x strict run = absurd run
 exclusive_run (call ∷ calls) [] v w x strict run = absurd run
 exclusive_run (call ∷ calls) (r ∷ replies) v w x strict (left, answers, run) =
-    exclusive_run calls replies (after v (act_of call) (refused_by r) left) w
+    exclusive_run calls replies (after_act v (act_of call) (refused_by r) left) w
     (exclusive_after v (act_of call) r left x (All-head (λ c. is_loose (act_of c) ≡ false) call calls strict) answers)
     (All-tail (λ c. is_loose (act_of c) ≡ false) call calls strict) run
 

@@ -5,14 +5,14 @@ use Rattle.std.specs.Str.{bytes_eq}
 use Rattle.std.proofs.lemmas.Bool.{cond_both, false≢true, true_from_ne_false}
 use Rattle.std.proofs.lemmas.List.Elements.{All-set, All-push, All-weaker}
 use Rattle.std.proofs.lemmas.Option.{none-some, same_Some}
-use Rattle.blob_model.specs.Directory.{Directory, File, is_current, is_that, removed}
+use Rattle.blob_model.specs.Directory.{Directory, File, is_current, is_that, directory_without}
 use Rattle.blob_model.specs.Places.{Place}
 use Rattle.std.specs.Prelude.{option_and_then}
-use Rattle.blob_lab_model.specs.Steps.{unregistered}
+use Rattle.blob_lab_model.specs.Steps.{close_registration}
 use Rattle.blob_lab_model.specs.Answers.{kept_at}
 use Rattle.blob_lab_model.specs.Exclusive.{IsOpenBy}
 use Rattle.blob_names.specs.Names.{with_name}
-use Rattle.blob_opens.specs.OpenNames.{OpenNames, Registration, opened, closed, ended, unless_number}
+use Rattle.blob_opens.specs.OpenNames.{OpenNames, Registration, open_name, release, end_names, unless_number}
 use Rattle.blob_lab_model.specs.States.{Held, AreGiven}
 use Rattle.blob_lab_model.proofs.GivenHandles.{given_at}
 use Rattle.blob_lab_model.proofs.Slots.{kept_set, kept_emptied, kept_push}
@@ -64,7 +64,7 @@ at_name f p n q m partition name = ap (λ r. f r n) ((bytes_decides p q).0 parti
 -- Closing a handle.
 
 -- another name stays open
-closed_open : (s : OpenNames) (r : Registration) (o : Place) (registration : Option Registration) (is_open : IsOpenBy s o registration) → (is_open.by.number ≡ r.number → ⊥) → IsOpenBy (closed s r) o registration
+closed_open : (s : OpenNames) (r : Registration) (o : Place) (registration : Option Registration) (is_open : IsOpenBy s o registration) → (is_open.by.number ≡ r.number → ⊥) → IsOpenBy (release s r) o registration
 closed_open s r o registration is_open other = record {
   by = is_open.by;
   held = is_open.held;
@@ -90,14 +90,14 @@ emptied d s t handles number next stays x = record {
 }
 
 pub closed_one : (d : Directory) (s : OpenNames) (handles : List (Option Held)) (number : ℕ) (slot : Option Held) → kept_at handles number ≡ slot
-    → AreExclusive d s handles → AreExclusive d (unregistered s (option_and_then (λ h. h.registration) slot)) (set handles number None)
+    → AreExclusive d s handles → AreExclusive d (close_registration s (option_and_then (λ h. h.registration) slot)) (set handles number None)
 closed_one d s handles number None here x = emptied d s s handles number refl (λ i k other was is_open. is_open) x
 closed_one d s handles number (Some h) here x = by_registration h.registration refl
   where
-    by_registration : (registration : Option Registration) → h.registration ≡ registration → AreExclusive d (unregistered s registration) (set handles number None)
+    by_registration : (registration : Option Registration) → h.registration ≡ registration → AreExclusive d (close_registration s registration) (set handles number None)
     by_registration None by = emptied d s s handles number refl (λ i k other was is_open. is_open) x
     by_registration (Some r) by =
-        emptied d s (closed s r) handles number refl
+        emptied d s (release s r) handles number refl
         (λ i k other was is_open. closed_open s r k.place k.registration is_open (λ same. other (x.apart number i h k r is_open.by here was by is_open.held (sym same))))
         x
 
@@ -145,10 +145,10 @@ put_back d s handles number h g here place registration x =
 -- A removal.
 
 -- a name with a current incarnation afterwards isn't ended
-ended_open : (d : Directory) (s : OpenNames) (p : List ℕ) (n : Option (List ℕ)) (o : Place) (registration : Option Registration) → is_current (removed d p n) o ≡ true → IsOpenBy s o registration → IsOpenBy (ended s p n) o registration
+ended_open : (d : Directory) (s : OpenNames) (p : List ℕ) (n : Option (List ℕ)) (o : Place) (registration : Option Registration) → is_current (directory_without d p n) o ≡ true → IsOpenBy s o registration → IsOpenBy (end_names s p n) o registration
 ended_open d s p n o registration now is_open = record { by = is_open.by; held = is_open.held; partition = is_open.partition; name = is_open.name; number = number n now }
   where
-    number : (n : Option (List ℕ)) → is_current (removed d p n) o ≡ true → (ended s p n).registered o.partition o.name ≡ Some is_open.by.number
+    number : (n : Option (List ℕ)) → is_current (directory_without d p n) o ≡ true → (end_names s p n).registered o.partition o.name ≡ Some is_open.by.number
     number (Some n) now = with_at_is s.registered p n o.partition o.name None (Some is_open.by.number)
         (λ partition name.
         let file : cond (bytes_eq p o.partition) (cond (bytes_eq n o.name) None (d.file o.partition o.name)) (d.file o.partition o.name) ≡ None =
@@ -159,9 +159,9 @@ ended_open d s p n o registration now is_open = record { by = is_open.by; held =
         (λ partition. absurd (false≢true (sym (ap (λ b. is_that (cond b None (d.file o.partition o.name)) o.number o.start) partition) ∙ now)))
         (λ _. is_open.number)
 
-pub ended_names : (d : Directory) (s : OpenNames) (handles : List (Option Held)) (p : List ℕ) (n : Option (List ℕ)) → Ages d (removed d p n) → AreExclusive d s handles → AreExclusive (removed d p n) (ended s p n) handles
+pub ended_names : (d : Directory) (s : OpenNames) (handles : List (Option Held)) (p : List ℕ) (n : Option (List ℕ)) → Ages d (directory_without d p n) → AreExclusive d s handles → AreExclusive (directory_without d p n) (end_names s p n) handles
 ended_names d s handles p n ages x =
-    let y = aged d (removed d p n) s handles ages x in
+    let y = aged d (directory_without d p n) s handles ages x in
     record {
       opens = λ i h here now. ended_open d s p n h.place h.registration now (y.opens i h here now);
       below = y.below;
@@ -173,7 +173,7 @@ ended_names d s handles p n ages x =
 -- The handle of an accepted open.
 
 -- other names stay open
-opened_open : (s : OpenNames) (p n : List ℕ) (o : Place) (registration : Option Registration) → s.registered p n ≡ None → IsOpenBy s o registration → IsOpenBy (opened s p n) o registration
+opened_open : (s : OpenNames) (p n : List ℕ) (o : Place) (registration : Option Registration) → s.registered p n ≡ None → IsOpenBy s o registration → IsOpenBy (open_name s p n) o registration
 opened_open s p n o registration free is_open = record {
   by = is_open.by;
   held = is_open.held;
@@ -185,7 +185,7 @@ opened_open s p n o registration free is_open = record {
 }
 
 -- its own name is open by it
-opened_here : (s : OpenNames) (p n : List ℕ) (o : Place) (registration : Option Registration) → o.partition ≡ p → o.name ≡ n → registration ≡ Some (record { partition = p; name = n; number = s.next }) → IsOpenBy (opened s p n) o registration
+opened_here : (s : OpenNames) (p n : List ℕ) (o : Place) (registration : Option Registration) → o.partition ≡ p → o.name ≡ n → registration ≡ Some (record { partition = p; name = n; number = s.next }) → IsOpenBy (open_name s p n) o registration
 opened_here s p n o registration partition name held = record {
   by = record { partition = p; name = n; number = s.next };
   held = held;
@@ -211,7 +211,7 @@ module _ (d : Directory) (s : OpenNames) (handles : List (Option Held)) (p n : L
   old_number : (i : ℕ) (h : Held) (r : Registration) → kept_at handles i ≡ Some h → h.registration ≡ Some r → r.number ≡ s.next → ⊥
   old_number i h r here by same = let below : r.number < s.next = x.below i h r here by in omega (arith, same, below)
 
-  added_open : (i : ℕ) (h : Held) → kept_at (handles ++ slot ∷ []) i ≡ Some h → is_current d h.place ≡ true → IsOpenBy (opened s p n) h.place h.registration
+  added_open : (i : ℕ) (h : Held) → kept_at (handles ++ slot ∷ []) i ≡ Some h → is_current d h.place ≡ true → IsOpenBy (open_name s p n) h.place h.registration
   added_open i h here now =
       ⊎_elim
       (λ (new : (i ≡ length handles) × (slot ≡ Some h)). let m = made h new.1 in opened_here s p n h.place h.registration m.partition m.name m.registration)
@@ -244,7 +244,7 @@ module _ (d : Directory) (s : OpenNames) (handles : List (Option Held)) (p n : L
   slot_given None all = tt
   slot_given (Some h) all = x.current h.place (all h refl).current
 
-  pub added : AreExclusive d (opened s p n) (handles ++ slot ∷ [])
+  pub added : AreExclusive d (open_name s p n) (handles ++ slot ∷ [])
   added = record {
     opens = added_open;
     below = added_below;

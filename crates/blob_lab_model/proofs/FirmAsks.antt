@@ -12,7 +12,7 @@ use Rattle.blob_draws.specs.Changes.{resize_changes}
 use Rattle.blob_draws.specs.Recorded.{recorded_write}
 use Rattle.blob_script.specs.Acts.{Ask, Read, Write, Resize, Size, Sync, StartSync}
 use Rattle.blob_lab_model.specs.After.{files_after, held_after}
-use Rattle.blob_lab_model.specs.Steps.{reaches_through, begun}
+use Rattle.blob_lab_model.specs.Steps.{reaches_through, files_after_start}
 use Rattle.blob_lab_model.specs.Answers.{kept_at}
 use Rattle.blob_lab_model.specs.Denials.{start_denial}
 use Rattle.blob_lab_model.specs.Fixed.{Byte, is_on, asks_for}
@@ -40,7 +40,7 @@ held_live v h Sync refusal b out l = l
 held_live v h StartSync refusal b out l = l
 
 -- a started sync
-fixed_begun : (f : Files) (h : Held) (a : Place) (p v : ℕ) (outcome : Option Refusal) → (same_place h.place a ≡ true → HasByte p v h.live) → IsFixed p v f a → IsFixed p v (begun f h outcome) a
+fixed_begun : (f : Files) (h : Held) (a : Place) (p v : ℕ) (outcome : Option Refusal) → (same_place h.place a ≡ true → HasByte p v h.live) → IsFixed p v f a → IsFixed p v (files_after_start f h outcome) a
 fixed_begun f h a p v None has fixed = fixed_started f h.place a p v h.live has fixed
 fixed_begun f h a p v (Some refusal) has fixed = fixed
 

@@ -7,7 +7,7 @@ use Rattle.blob_header.specs.declared.layout.Layout.{Layout}
 use Rattle.blob_header.specs.declared.layout.Layout.TheVariants.{V0, V1}
 use Rattle.blob_header.specs.Checksum.{crc32c}
 use Rattle.blob_model.specs.Directory.{File, Raw, Incarnation, place_made}
-use Rattle.blob_model.specs.Files.{Files, log_of, made, with_opening, after_open}
+use Rattle.blob_model.specs.Files.{Files, log_of, create, with_opening, after_open}
 use Rattle.blob_header.specs.Header.{region, prelude, magic_of, layout_number}
 use Rattle.blob_model.specs.Opening.{Opening, Continues, Begins, Declines, opening}
 use Rattle.blob_model.specs.Persistence.{HasByte}
@@ -47,7 +47,7 @@ module _ (f : Files) (handles : List (Option Held)) (b : Byte)
     (given : (i : ℕ) (h : Held) → kept_at handles i ≡ Some h → h.place.number < f.directory.next)
     (fresh : (o : Place) → f.directory.next ≤ o.number → log_of f.log o ≡ []) where
   -- an incarnation of the name itself is created
-  begun : (layout : Layout) (version : ℕ) (bytes : List ℕ) → HasByte b.position b.value bytes → IsFirm (made f b.partition b.name layout version bytes) handles b
+  begun : (layout : Layout) (version : ℕ) (bytes : List ℕ) → HasByte b.position b.value bytes → IsFirm (create f b.partition b.name layout version bytes) handles b
   begun layout version bytes has =
       let o = place_made f.directory b.partition b.name layout in
       Now f.directory.next layout version
@@ -63,7 +63,7 @@ module _ (f : Files) (handles : List (Option Held)) (b : Byte)
     by_names true false u e = refl
     by_names false t u e = refl
 
-  beside : (p n : List ℕ) (l : Layout) (w : ℕ) (bytes : List ℕ) → is_of p (Some n) b ≡ false → IsFirm f handles b → IsFirm (made f p n l w bytes) handles b
+  beside : (p n : List ℕ) (l : Layout) (w : ℕ) (bytes : List ℕ) → is_of p (Some n) b ≡ false → IsFirm f handles b → IsFirm (create f p n l w bytes) handles b
   beside p n l w bytes other (Now number layout version e fixed live) =
       Now number layout version (file_beside f.directory.file p n (Some (Incarnation f.directory.next l w)) b other ∙ e)
       (fixed_beside f (at b number layout) b.position b.value p n l w bytes (fresh (place_made f.directory p n l) (omega arith)) (apart p n number layout l other) fixed) live

@@ -1,12 +1,12 @@
 -- Each call that doesn't touch a fixed byte keeps it fixed.
 use Rattle.std.proofs.Common.{◌≡◌, ℕ, ◌<◌, ◌≤◌, List, [], false, Option, Some, None, refl}
 use Rattle.rand_core.specs.Stream.{Stream}
-use Rattle.blob_model.specs.Draws.{chosen_by, drawn}
-use Rattle.blob_model.specs.Files.{log_of, all_needs, after_open, admitted}
+use Rattle.blob_model.specs.Draws.{chosen_by, draw_rows}
+use Rattle.blob_model.specs.Files.{log_of, all_needs, after_open, admit}
 use Rattle.blob_model.specs.Places.{Place}
 use Rattle.blob_header.specs.Refusals.{Refusal, BlobAlreadyOpen}
 use Rattle.blob_script.specs.Acts.{Ask, AcceptedVersions, Act, Configure, Open, OpenLoose, Admit, Close, Through, Finish, Remove, Scan, Crash, Reopen}
-use Rattle.blob_lab_model.specs.After.{after, asked, exclusively_opened}
+use Rattle.blob_lab_model.specs.After.{after_act, after_ask, exclusively_opened}
 use Rattle.blob_lab_model.specs.Steps.{reaches_through, loosely_opened, removal_step, crash_step}
 use Rattle.blob_lab_model.specs.Answers.{kept_at}
 use Rattle.blob_lab_model.specs.Fixed.{Byte, reaches}
@@ -32,7 +32,7 @@ module _ (v : State) (b : Byte) (sound : IsSound v) (firm : HasFirm v b) where
   exclusive : (p n : List ℕ) (versions : AcceptedVersions) (refusal : Option Refusal) → HasFirm (exclusively_opened v p n versions refusal) b
   exclusive p n versions None =
       let f = after_open v.files p n versions.0 versions.1 in
-      firm_held (admitted f p n) v.handles p n (Some (record { partition = p; name = n; number = v.names.next })) b (firm_admitted f v.handles p n b (opens p n versions))
+      firm_held (admit f p n) v.handles p n (Some (record { partition = p; name = n; number = v.names.next })) b (firm_admitted f v.handles p n b (opens p n versions))
   exclusive p n versions (Some (BlobAlreadyOpen q m)) = opens p n versions
   exclusive p n versions (Some refusal) = firm
 
@@ -40,7 +40,7 @@ module _ (v : State) (b : Byte) (sound : IsSound v) (firm : HasFirm v b) where
   loosely p n versions None = firm_held (after_open v.files p n versions.0 versions.1) v.handles p n None b (opens p n versions)
   loosely p n versions (Some refusal) = firm
 
-  asks : (number : ℕ) (slot : Option Held) (ask : Ask) (refusal : Option Refusal) → kept_at v.handles number ≡ slot → reaches_through v slot ask b ≡ false → HasFirm (asked v number slot ask refusal) b
+  asks : (number : ℕ) (slot : Option Held) (ask : Ask) (refusal : Option Refusal) → kept_at v.handles number ≡ slot → reaches_through v slot ask b ≡ false → HasFirm (after_ask v number slot ask refusal) b
   asks number None ask refusal here out = firm
   asks number (Some h) ask refusal here out = firm_asked v number h ask refusal b here out firm
 
@@ -49,10 +49,10 @@ module _ (v : State) (b : Byte) (sound : IsSound v) (firm : HasFirm v b) where
   removes p n (Some refusal) out = firm
 
   crashes : (refusal : Option Refusal) → HasFirm (crash_step v refusal) b
-  crashes None = firm_crashed v.files v.handles (chosen_by (drawn v.stream (all_needs v.files.log)).0) b firm
+  crashes None = firm_crashed v.files v.handles (chosen_by (draw_rows v.stream (all_needs v.files.log)).0) b firm
   crashes (Some refusal) = firm
 
-  pub firm_after : (act : Act) (refusal : Option Refusal) (left : Stream) → reaches v act refusal b ≡ false → HasFirm (after v act refusal left) b
+  pub firm_after : (act : Act) (refusal : Option Refusal) (left : Stream) → reaches v act refusal b ≡ false → HasFirm (after_act v act refusal left) b
   firm_after (Configure config) refusal left out = firm
   firm_after (Open p n None) refusal left out = firm
   firm_after (Open p n (Some versions)) refusal left out = exclusive p n versions refusal

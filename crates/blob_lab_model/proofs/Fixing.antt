@@ -6,7 +6,7 @@ use Rattle.std.proofs.lemmas.Option.{same_Some}
 use Rattle.rand_core.specs.Stream.{Stream}
 use Rattle.blob_header.specs.declared.layout.Layout.{Layout}
 use Rattle.blob_model.specs.Directory.{Directory, File, Raw, Incarnation, current, place_in, is_that, is_current}
-use Rattle.blob_model.specs.Files.{Files, all_logged, published, admitted, admitted_at, after_open, durable_at}
+use Rattle.blob_model.specs.Files.{Files, all_logged, publish, admit, admitted_at, after_open, durable_at}
 use Rattle.blob_model.specs.Log.{Entry}
 use Rattle.blob_model.specs.Persistence.{HasByte, IsFixed}
 use Rattle.blob_model.specs.Places.{Place, same_place}
@@ -16,8 +16,8 @@ use Rattle.blob_model.proofs.Durables.{durable_published}
 use Rattle.blob_model.proofs.Persistence.{fixed_by_write, new_written, fixed_by_sync, fixed_by_start, fixed_by_open}
 use Rattle.blob_script.specs.declared.reply.Reply.{Reply}
 use Rattle.blob_script.specs.Acts.{Ask, Read, Write, Resize, Size, Sync, StartSync, AcceptedVersions, Act, Open, Through}
-use Rattle.blob_lab_model.specs.After.{after, asked, files_after, held_after, exclusively_opened}
-use Rattle.blob_lab_model.specs.Steps.{write_denial, asks_memory, begun}
+use Rattle.blob_lab_model.specs.After.{after_act, after_ask, files_after, held_after, exclusively_opened}
+use Rattle.blob_lab_model.specs.Steps.{write_denial, asks_memory, files_after_start}
 use Rattle.blob_lab_model.specs.Answers.{Answers, IsAnswer, through, kept_at}
 use Rattle.blob_lab_model.specs.Denials.{start_denial}
 use Rattle.blob_lab_model.specs.Exclusive.{Sole}
@@ -77,7 +77,7 @@ module _ (v : State) (b : Byte) (number : ℕ) (h : Held) (here : kept_at v.hand
 
   start_firm : start_denial v h ≡ None → HasByte b.position b.value h.live → b.position < h.size → IsFirm (files_after v h StartSync None) (set v.handles number (Some h)) b
   start_firm free has size = through_firm StartSync
-      (subst (λ (x : Option Refusal). IsFixed b.position b.value (begun v.files h x) h.place) (sym free) (fixed_by_start v.files h.place b.position b.value h.live has))
+      (subst (λ (x : Option Refusal). IsFixed b.position b.value (files_after_start v.files h x) h.place) (sym free) (fixed_by_start v.files h.place b.position b.value h.live has))
       (record { live = has; size = size })
 
   abbrev Submits : ℕ → List ℕ → Type 0
@@ -101,7 +101,7 @@ counted v number h b (images, words, config, calls, replies, strict, run) here o
     omega (arith, has.0, current_sized v number h (images, words, config, calls, replies, run) here now)
 
 fixes_through : (v : State) (number : ℕ) (slot : Option Held) (ask : Ask) (answered : Reply) (left : Stream) (b : Byte) → ReachedExclusively v → kept_at v.handles number ≡ slot
-    → Answers v (Through number ask) answered left → refused_by answered ≡ None → FixesThrough v slot ask b → HasFirm (asked v number slot ask None) b
+    → Answers v (Through number ask) answered left → refused_by answered ≡ None → FixesThrough v slot ask b → HasFirm (after_ask v number slot ask None) b
 fixes_through v number None ask answered left b reached here answers done fixes = absurd fixes
 fixes_through v number (Some h) Sync answered left b reached here answers done fixes =
     sync_firm v b number h here fixes.0 (sole v (reached_exclusive v reached)) fixes.1 (counted v number h b reached here fixes.0 fixes.1)
@@ -145,7 +145,7 @@ module _ (v : State) (p n : List ℕ) (versions : AcceptedVersions) (answered : 
       let names = of_parts v.files.directory b p n own in
       let file : found.directory.file b.partition b.name ≡ Some (Incarnation number layout version) = sym (ap (λ (d : Directory). d.file b.partition b.name) (admitted_directory found p n)) ∙ e in
       let here : current found.directory p n ≡ Some o = (λ i. current found.directory (names.0 i) (names.1 i)) ∙ ap (place_in b.partition b.name) file in
-      let same : admitted found p n ≡ published found o (durable_at found o) = ap (admitted_at found) here in
+      let same : admit found p n ≡ publish found o (durable_at found o) = ap (admitted_at found) here in
       let kept : durable_at opened.files o ≡ durable_at found o = ap (λ (f : Files). durable_at f o) same ∙ durable_published found o (durable_at found o) o ∙ cond-true (same_place o o) _ _ (same_self o) in
       subst (λ (f : Files). IsFixed b.position b.value f o) (sym same) (fixed_by_open found o b.position b.value (subst (λ (y : List ℕ). HasByte b.position b.value y) kept has))
 
@@ -164,12 +164,12 @@ refused_none v (Through number ask) (Some refusal) b fixes = absurd fixes
 refused_none v (Open p n (Some versions)) (Some refusal) b fixes = absurd fixes
 refused_none v act (Some refusal) b fixes = absurd fixes
 
-pub fixes_firm : (v : State) (act : Act) (answered : Reply) (left : Stream) (b : Byte) → ReachedExclusively v → Answers v act answered left → Fixes v act (refused_by answered) b → HasFirm (after v act (refused_by answered) left) b
+pub fixes_firm : (v : State) (act : Act) (answered : Reply) (left : Stream) (b : Byte) → ReachedExclusively v → Answers v act answered left → Fixes v act (refused_by answered) b → HasFirm (after_act v act (refused_by answered) left) b
 fixes_firm v act answered left b reached answers fixes =
     let done = refused_none v act (refused_by answered) b fixes in
-    subst (λ (r : Option Refusal). HasFirm (after v act r left) b) (sym done) (by_act act answers (subst (λ (r : Option Refusal). Fixes v act r b) done fixes) done)
+    subst (λ (r : Option Refusal). HasFirm (after_act v act r left) b) (sym done) (by_act act answers (subst (λ (r : Option Refusal). Fixes v act r b) done fixes) done)
   where
-    by_act : (a : Act) → Answers v a answered left → Fixes v a None b → refused_by answered ≡ None → HasFirm (after v a None left) b
+    by_act : (a : Act) → Answers v a answered left → Fixes v a None b → refused_by answered ≡ None → HasFirm (after_act v a None left) b
     by_act (Through number ask) s f done = fixes_through v number (kept_at v.handles number) ask answered left b reached refl s done f
     by_act (Open p n (Some versions)) s f done = opened_firm v p n versions answered left b (reached_exclusive v reached) s done f.0 f.1
     by_act a s f done = absurd f

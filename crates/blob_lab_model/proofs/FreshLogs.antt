@@ -3,7 +3,7 @@ use Rattle.std.proofs.Common.{◌≡◌, ℕ, ◌<◌, ◌≤◌, ◌++◌, List
 use Rattle.std.proofs.lemmas.List.Elements.{All-head, All-tail}
 use Rattle.rand_core.specs.Stream.{Stream}
 use Rattle.blob_model.specs.Directory.{current}
-use Rattle.blob_model.specs.Files.{Files, log_of, logged, all_logged, published, admitted, admitted_at, with_opening, after_open, after_remove, is_removed_by, durable_at}
+use Rattle.blob_model.specs.Files.{Files, log_of, log_entry, all_logged, publish, admit, admitted_at, with_opening, after_open, after_remove, is_removed_by, durable_at}
 use Rattle.blob_model.specs.Log.{Entry}
 use Rattle.blob_model.specs.Opening.{Opening, Continues, Begins, Declines, opening}
 use Rattle.blob_model.specs.Places.{Place, same_place}
@@ -15,8 +15,8 @@ use Rattle.blob_draws.specs.Recorded.{recorded_write}
 use Rattle.blob_script.specs.declared.call.Call.{Call}
 use Rattle.blob_script.specs.declared.reply.Reply.{Reply}
 use Rattle.blob_script.specs.Acts.{Ask, Read, Write, Resize, Size, Sync, StartSync, AcceptedVersions, Act, Configure, Open, OpenLoose, Admit, Close, Through, Finish, Remove, Scan, Crash, Reopen, act_of}
-use Rattle.blob_lab_model.specs.After.{after, asked, files_after, exclusively_opened}
-use Rattle.blob_lab_model.specs.Steps.{begun, loosely_opened, removal_step, crash_step}
+use Rattle.blob_lab_model.specs.After.{after_act, after_ask, files_after, exclusively_opened}
+use Rattle.blob_lab_model.specs.Steps.{files_after_start, loosely_opened, removal_step, crash_step}
 use Rattle.blob_lab_model.specs.Answers.{kept_at}
 use Rattle.blob_lab_model.specs.Denials.{start_denial}
 use Rattle.blob_lab_model.specs.Reached.{is_loose, NoneLoose, ReachedExclusively}
@@ -34,12 +34,12 @@ IsFresh f = (o : Place) → f.directory.next ≤ o.number → log_of f.log o ≡
 fresh_all : (f : Files) (o : Place) (es : List Entry) → o.number < f.directory.next → IsFresh f → IsFresh (all_logged f o es)
 fresh_all f o [] below fresh = fresh
 fresh_all f o (e ∷ es) below fresh =
-    fresh_all (logged f o e) o es below (λ a past. still_fresh o a f.directory.next _ (log_of f.log a) (log_of f.log o ++ e ∷ []) below past (log_push_at f.log e o a) (fresh a past))
+    fresh_all (log_entry f o e) o es below (λ a past. still_fresh o a f.directory.next _ (log_of f.log a) (log_of f.log o ++ e ∷ []) below past (log_push_at f.log e o a) (fresh a past))
 
-fresh_published : (f : Files) (o : Place) (x : List ℕ) → IsFresh f → IsFresh (published f o x)
+fresh_published : (f : Files) (o : Place) (x : List ℕ) → IsFresh f → IsFresh (publish f o x)
 fresh_published f o x fresh a past = still_none (same_place o a) _ (log_of f.log a) (log_without f.log (same_place o) a) (fresh a past)
 
-fresh_admitted : (f : Files) (p n : List ℕ) → IsFresh f → IsFresh (admitted f p n)
+fresh_admitted : (f : Files) (p n : List ℕ) → IsFresh f → IsFresh (admit f p n)
 fresh_admitted f p n fresh = go (current f.directory p n) where
   go : (o : Option Place) → IsFresh (admitted_at f o)
   go None = fresh
@@ -54,7 +54,7 @@ fresh_removed : (f : Files) (p : List ℕ) (n : Option (List ℕ)) → IsFresh f
 fresh_removed f p None fresh a past = still_none (is_removed_by f.directory p None a) _ (log_of f.log a) (log_without f.log (is_removed_by f.directory p None) a) (fresh a past)
 fresh_removed f p (Some n) fresh a past = still_none (is_removed_by f.directory p (Some n) a) _ (log_of f.log a) (log_without f.log (is_removed_by f.directory p (Some n)) a) (fresh a past)
 
-fresh_begun : (f : Files) (h : Held) (outcome : Option Refusal) → IsFresh f → IsFresh (begun f h outcome)
+fresh_begun : (f : Files) (h : Held) (outcome : Option Refusal) → IsFresh f → IsFresh (files_after_start f h outcome)
 fresh_begun f h None fresh = λ a past. still_none (same_place h.place a) _ (log_of f.log a) (log_without f.log (same_place h.place) a) (fresh a past)
 fresh_begun f h (Some refusal) fresh = fresh
 
@@ -71,7 +71,7 @@ fresh_asked v h Size refusal below fresh = fresh
 -- Any call.
 
 module _ (v : State) (x : Exclusive v) (fresh : IsFresh v.files) where
-  through : (number : ℕ) (slot : Option Held) (ask : Ask) (refusal : Option Refusal) → kept_at v.handles number ≡ slot → IsFresh (asked v number slot ask refusal).files
+  through : (number : ℕ) (slot : Option Held) (ask : Ask) (refusal : Option Refusal) → kept_at v.handles number ≡ slot → IsFresh (after_ask v number slot ask refusal).files
   through number None ask refusal here = fresh
   through number (Some h) ask refusal here = fresh_asked v h ask refusal (given_at v.files.directory.next number v.handles h x.given here) fresh
 
@@ -92,7 +92,7 @@ module _ (v : State) (x : Exclusive v) (fresh : IsFresh v.files) where
   crashes None = λ o past. refl
   crashes (Some refusal) = fresh
 
-  fresh_after : (act : Act) (refusal : Option Refusal) (left : Stream) → IsFresh (after v act refusal left).files
+  fresh_after : (act : Act) (refusal : Option Refusal) (left : Stream) → IsFresh (after_act v act refusal left).files
   fresh_after (Configure config) refusal left = fresh
   fresh_after (Open p n None) refusal left = fresh
   fresh_after (Open p n (Some versions)) refusal left = exclusive p n versions refusal
@@ -114,7 +114,7 @@ fresh_run [] [] v w x fresh strict same = subst (λ (s : State). IsFresh s.files
 fresh_run [] (r ∷ replies) v w x fresh strict run = absurd run
 fresh_run (call ∷ calls) [] v w x fresh strict run = absurd run
 fresh_run (call ∷ calls) (r ∷ replies) v w x fresh strict (left, answers, run) =
-    fresh_run calls replies (after v (act_of call) (refused_by r) left) w
+    fresh_run calls replies (after_act v (act_of call) (refused_by r) left) w
     (exclusive_after v (act_of call) r left x (All-head (λ c. is_loose (act_of c) ≡ false) call calls strict) answers)
     (fresh_after v x fresh (act_of call) (refused_by r) left)
     (All-tail (λ c. is_loose (act_of c) ≡ false) call calls strict) run

@@ -6,7 +6,7 @@ use Rattle.std.proofs.lemmas.Option.{none-some, same_Some}
 use Rattle.rand_core.specs.Stream.{Stream}
 use Rattle.std.specs.Option.{option_or}
 use Rattle.blob_model.specs.Directory.{Directory, Incarnation, current, place_in}
-use Rattle.blob_model.specs.Files.{Files, with_opening, after_open, admitted, durable_at}
+use Rattle.blob_model.specs.Files.{Files, with_opening, after_open, admit, durable_at}
 use Rattle.blob_model.specs.Opening.{Opening, Continues, Begins, Declines, opening, place_of}
 use Rattle.blob_model.specs.Persistence.{HasByte}
 use Rattle.blob_model.specs.Places.{Place}
@@ -17,7 +17,7 @@ use Rattle.blob_script.specs.declared.call.Call.{Call}
 use Rattle.blob_script.specs.declared.reply.Reply.{Reply}
 use Rattle.blob_script.specs.declared.reply.Reply.TheVariants as reply
 use Rattle.blob_script.specs.Acts.{AcceptedVersions, Act, Open, act_of}
-use Rattle.blob_lab_model.specs.After.{after}
+use Rattle.blob_lab_model.specs.After.{after_act}
 use Rattle.blob_lab_model.specs.Answers as answers
 use Rattle.blob_lab_model.specs.Answers.{Answers, IsAnswer, kept_at, unless_denied}
 use Rattle.blob_lab_model.specs.Steps.{is_unnumbered, loose_denial, open_already, open_denial}
@@ -49,9 +49,9 @@ sound v reached = record {
   fresh = reached_fresh v reached;
 }
 
-reached_next : (v : State) (call : Call) (answered : Reply) (left : Stream) → ReachedExclusively v → is_loose (act_of call) ≡ false → Answers v (act_of call) answered left → ReachedExclusively (after v (act_of call) (refused_by answered) left)
+reached_next : (v : State) (call : Call) (answered : Reply) (left : Stream) → ReachedExclusively v → is_loose (act_of call) ≡ false → Answers v (act_of call) answered left → ReachedExclusively (after_act v (act_of call) (refused_by answered) left)
 reached_next v call answered left reached strict a =
-    reached_strictly v (after v (act_of call) (refused_by answered) left) (call ∷ []) (answered ∷ []) reached
+    reached_strictly v (after_act v (act_of call) (refused_by answered) left) (call ∷ []) (answered ∷ []) reached
     (All-cons (λ c. is_loose (act_of c) ≡ false) call [] strict (All-nil (λ c. is_loose (act_of c) ≡ false))) (left, a, refl)
 
 -- the same number of replies and calls
@@ -64,7 +64,7 @@ paired : (calls : List Call) (replies : List Reply) (v w : State) → LeadsTo v 
 paired [] [] v w run = tt
 paired [] (r ∷ replies) v w run = absurd run
 paired (call ∷ calls) [] v w run = absurd run
-paired (call ∷ calls) (r ∷ replies) v w (left, a, run) = paired calls replies (after v (act_of call) (refused_by r) left) w run
+paired (call ∷ calls) (r ∷ replies) v w (left, a, run) = paired calls replies (after_act v (act_of call) (refused_by r) left) w run
 
 -- The handle of an accepted open.
 
@@ -81,7 +81,7 @@ opened_current f p n first last (Begins layout version live) e free = record {
 }
 opened_current f p n first last (Declines refusal) e free = absurd (none-some refusal (sym free))
 
-found_current : (v : State) (p n : List ℕ) (versions : AcceptedVersions) → open_denial v p n versions.0 versions.1 ≡ None → HasCurrent (admitted (after_open v.files p n versions.0 versions.1) p n) p n
+found_current : (v : State) (p n : List ℕ) (versions : AcceptedVersions) → open_denial v p n versions.0 versions.1 ≡ None → HasCurrent (admit (after_open v.files p n versions.0 versions.1) p n) p n
 found_current v p n versions free =
     let later = or_then_none (refused_if GenerationsExhausted (is_unnumbered v.names p n)) (option_or (loose_denial v p n versions.0 versions.1) (open_already v.names p n)) free in
     let loose = or_then_none (loose_denial v p n versions.0 versions.1) (open_already v.names p n) later.1 in
@@ -105,9 +105,9 @@ firm_current f handles p n b o own is firm = by_firm firm where
       subst (λ (x : Place). HasByte b.position b.value (durable_at f x)) same fixed.durable
   by_firm (Behind layout version bytes e has) = absurd (none-some o (sym (ap (place_in b.partition b.name) e) ∙ here))
 
-opens_with : (v : State) (act : Act) (answered : Reply) (left : Stream) (b : Byte) → Answers v act answered left → HasFirm (after v act (refused_by answered) left) b → Opens (after v act (refused_by answered) left) act answered b
+opens_with : (v : State) (act : Act) (answered : Reply) (left : Stream) (b : Byte) → Answers v act answered left → HasFirm (after_act v act (refused_by answered) left) b → Opens (after_act v act (refused_by answered) left) act answered b
 opens_with v (Open p n (Some versions)) (reply.Opened handle size version) left b a firm = λ own.
-    let f = admitted (after_open v.files p n versions.0 versions.1) p n in
+    let f = admit (after_open v.files p n versions.0 versions.1) p n in
     let registration : Option Registration = Some (record { partition = p; name = n; number = v.names.next }) in
     let tells = ⊎_elim (λ memory. absurd (none-some Memory memory.1)) (λ told. told.0) (exclusive_told v p n versions (reply.Opened handle size version) left a) in
     let free = sym (denied (reply.Opened handle size version) (open_denial v p n versions.0 versions.1) (answers.told_opened v p n versions) refl tells) in
@@ -134,7 +134,7 @@ lasts (call ∷ calls) (r ∷ replies) v b reached strict pairs firm = (
       let next = firm_after v b (sound v reached) firm (act_of call) (refused_by r) left free in
       let first = All-head (λ c. is_loose (act_of c) ≡ false) call calls strict in
       let rest = All-tail (λ c. is_loose (act_of c) ≡ false) call calls strict in
-      (opens_with v (act_of call) r left b a next, lasts calls replies (after v (act_of call) (refused_by r) left) b (reached_next v call r left reached first a) rest pairs next),
+      (opens_with v (act_of call) r left b a next, lasts calls replies (after_act v (act_of call) (refused_by r) left) b (reached_next v call r left reached first a) rest pairs next),
 )
 
 persists : (calls : List Call) (replies : List Reply) (v : State) → ReachedExclusively v → NoneLoose calls → ArePaired calls replies → Persists v calls replies
@@ -144,7 +144,7 @@ persists (call ∷ calls) [] v reached strict pairs = absurd pairs
 persists (call ∷ calls) (r ∷ replies) v reached strict pairs = λ left a.
     let first = All-head (λ c. is_loose (act_of c) ≡ false) call calls strict in
     let rest = All-tail (λ c. is_loose (act_of c) ≡ false) call calls strict in
-    let w = after v (act_of call) (refused_by r) left in
+    let w = after_act v (act_of call) (refused_by r) left in
     let next : ReachedExclusively w = reached_next v call r left reached first a in
     (λ b fixes. lasts calls replies w b next rest pairs (fixes_firm v (act_of call) r left b reached a fixes), persists calls replies w next rest pairs)
 

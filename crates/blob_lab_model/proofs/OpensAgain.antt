@@ -22,7 +22,7 @@ use Rattle.blob_memory.specs.Answers.{opening_refusal, open_refusal}
 use Rattle.blob_script.specs.declared.reply.Reply.TheVariants as reply
 use Rattle.blob_lab_model.specs.Accepted.{opened_name, IsKept, Accepts, HasFileOf, IsCurrent, IsRaw, OpensAs, IsToldOf}
 use Rattle.blob_script.specs.Acts.{Act, Configure, Open, OpenLoose, Admit, Close, Through, Finish, Remove, Scan, Crash, Reopen, act_of}
-use Rattle.blob_lab_model.specs.After.{after}
+use Rattle.blob_lab_model.specs.After.{after_act}
 use Rattle.blob_lab_model.specs.Answers.{Answers, answer, opened_size, unless_denied, opened_version}
 use Rattle.blob_lab_model.specs.Answers as answers
 use Rattle.blob_lab_model.specs.Steps.{found_at, open_denial, loose_denial, is_unnumbered, open_already}
@@ -86,10 +86,10 @@ exclusively v p n first last free =
 -- the first call of a run
 module _ (v : State) (handle size : ℕ) (version : BlobVersion) (left : Stream) where
   abbrev Accepted : Act → List ℕ × List ℕ → Type 0
-  Accepted act name = IsOpened (after v act None left).files.directory name.0 name.1 version.0
+  Accepted act name = IsOpened (after_act v act None left).files.directory name.0 name.1 version.0
 
-  as_told : (act : Act) (p n : List ℕ) (told : ℕ) → version.0 ≡ told → IsOpened (after v act None left).files.directory p n told → Accepted act (p, n)
-  as_told act p n told same opened = subst (IsOpened (after v act None left).files.directory p n) (sym same) opened
+  as_told : (act : Act) (p n : List ℕ) (told : ℕ) → version.0 ≡ told → IsOpened (after_act v act None left).files.directory p n told → Accepted act (p, n)
+  as_told act p n told same opened = subst (IsOpened (after_act v act None left).files.directory p n) (sym same) opened
 
   accepted_exclusive : (p n : List ℕ) (versions : Option (ℕ × ℕ)) → Answers v (Open p n versions) (reply.Opened handle size version) left → Accepted (Open p n versions) (p, n)
   accepted_exclusive p n None (inl m) = absurd (false≢true m.0)
@@ -187,7 +187,7 @@ module _ (v : State) (p n : List ℕ) (first last version : ℕ) (accepts : Acce
 
 module _ (v : State) (rest : Stream) (p n : List ℕ) (first last version : ℕ) (accepts : Accepts v rest first last version) where
   abbrev again : State
-  again = after v Reopen None rest
+  again = after_act v Reopen None rest
 
   accepts_again : Accepts again again.stream first last version
   accepts_again = record { fits = accepts.fits; least = accepts.least; greatest = accepts.greatest; uninjected = accepts.uninjected; incarnation = accepts.incarnation; registration = accepts.registration }
@@ -218,8 +218,8 @@ record StillOf (w : State) (p n : List ℕ) (version : ℕ) : Type 0 where
 kept_still : (v w : State) (p n : List ℕ) (version : BlobVersion) → version.0 < 2 ^ 16 → IsKept v p n version w → StillOf w p n version.0
 kept_still v w p n version fits kept =
     let (left, a, run) = kept.run in
-    let first_open : IsOpened (after v (act_of kept.opening) None left).files.directory p n version.0 = accepted v kept.handle kept.size version left (act_of kept.opening) p n kept.opens a in
-    record { valid = first_open.valid; file = still_run (after v (act_of kept.opening) None left) kept.calls kept.replies w p n version.0 fits kept.keeps run first_open.file }
+    let first_open : IsOpened (after_act v (act_of kept.opening) None left).files.directory p n version.0 = accepted v kept.handle kept.size version left (act_of kept.opening) p n kept.opens a in
+    record { valid = first_open.valid; file = still_run (after_act v (act_of kept.opening) None left) kept.calls kept.replies w p n version.0 fits kept.keeps run first_open.file }
 
 -- it opens again
 pub opens_kept : (v w : State) (p n : List ℕ) (version : BlobVersion) (first last : ℕ) → IsKept v p n version w → Accepts w w.stream first last version.0 → w.names.registered p n ≡ None → OpensAs w p n first last version.0
@@ -229,7 +229,7 @@ opens_kept v w p n version first last kept accepts free =
 
 -- and in a rebuilt store
 pub opens_rebuilt : (v w : State) (p n : List ℕ) (version : BlobVersion) (first last : ℕ) (rest : Stream) → IsKept v p n version w → Accepts w rest first last version.0
-    → IsToldOf (after w Reopen None rest) p n version.0 (answer (after w Reopen None rest) (Open p n (Some (first, last)))).0
+    → IsToldOf (after_act w Reopen None rest) p n version.0 (answer (after_act w Reopen None rest) (Open p n (Some (first, last)))).0
 opens_rebuilt v w p n version first last rest kept accepts =
     let still = kept_still v w p n version accepts.fits kept in
     opens_of w rest p n first last version.0 accepts still.valid still.file

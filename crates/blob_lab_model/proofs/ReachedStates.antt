@@ -9,8 +9,8 @@ use Rattle.std.proofs.lemmas.Option.{IfSome_then, get_or_from_slice_get, slice_g
 use Rattle.std.proofs.lemmas.List.Elements.{All-nil, All-push, All-set, All-weaker}
 use Rattle.rand_core.specs.Stream.{Stream}
 use Rattle.blob_header.specs.declared.layout.Layout.{Layout}
-use Rattle.blob_model.specs.Directory.{Directory, File, Raw, Incarnation, current, is_current, with_file, removed}
-use Rattle.blob_model.specs.Files.{Files, with_opening, after_open, admitted, raw_again, durable_at}
+use Rattle.blob_model.specs.Directory.{Directory, File, Raw, Incarnation, current, is_current, with_file, directory_without}
+use Rattle.blob_model.specs.Files.{Files, with_opening, after_open, admit, raw_again, durable_at}
 use Rattle.blob_model.specs.Opening.{Opening, Continues, Begins, Declines, opening}
 use Rattle.blob_header.specs.PartitionName.{is_partition_name}
 use Rattle.blob_model.specs.Places.{Place}
@@ -19,7 +19,7 @@ use Rattle.blob_draws.specs.declared.config.Config.{Config}
 use Rattle.blob_script.specs.declared.call.Call.{Call}
 use Rattle.blob_script.specs.declared.reply.Reply.{Reply}
 use Rattle.blob_script.specs.Acts.{Ask, Size, Act, Configure, Open, OpenLoose, Admit, Close, Through, Finish, Remove, Scan, Crash, Reopen, act_of}
-use Rattle.blob_lab_model.specs.After.{after, asked, files_after, held_after}
+use Rattle.blob_lab_model.specs.After.{after_act, after_ask, files_after, held_after}
 use Rattle.blob_lab_model.specs.Steps.{with_images}
 use Rattle.blob_lab_model.specs.Answers.{Answers, IsAnswer, answer, through, may_grow, kept_at}
 use Rattle.blob_opens.specs.OpenNames.{Registration}
@@ -61,7 +61,7 @@ valid_opened f p n (Continues number layout version) name valid = valid
 valid_opened f p n (Begins layout version live) name valid = λ q m. valid_with f.directory.file p n q m (Some (Incarnation f.directory.next layout version)) (name refl) (valid q m)
 valid_opened f p n (Declines refusal) name valid = valid
 
-valid_removed : (d : Directory) (p : List ℕ) (n : Option (List ℕ)) → AreValid d → AreValid (removed d p n)
+valid_removed : (d : Directory) (p : List ℕ) (n : Option (List ℕ)) → AreValid d → AreValid (directory_without d p n)
 valid_removed d p (Some n) valid = λ q m. valid_with d.file p n q m None tt (valid q m)
 valid_removed d p None valid = λ q m. cond_both (bytes_eq p q) None (d.file q m) (IsValid q) (λ _. tt) (λ _. valid q m)
 
@@ -153,42 +153,42 @@ module _ (v : State) (rest : Stream) (h : Holds v) where
   abbrev d : Directory
   d = v.files.directory
 
-  holds_exclusive : (p n : List ℕ) (versions : ℕ × ℕ) (refusal : Option Refusal) → (made refusal ≡ true → is_partition_name p ≡ true) → Holds (after v (Open p n (Some versions)) refusal rest)
+  holds_exclusive : (p n : List ℕ) (versions : ℕ × ℕ) (refusal : Option Refusal) → (made refusal ≡ true → is_partition_name p ≡ true) → Holds (after_act v (Open p n (Some versions)) refusal rest)
   holds_exclusive p n versions None valid =
-      holds_more v (after v (Open p n (Some versions)) None rest) p n (Some (record { partition = p; name = n; number = v.names.next })) h
+      holds_more v (after_act v (Open p n (Some versions)) None rest) p n (Some (record { partition = p; name = n; number = v.names.next })) h
       (ages v (Open p n (Some versions)) None rest)
-      (valid_by (after_open v.files p n versions.0 versions.1).directory (admitted (after_open v.files p n versions.0 versions.1) p n).directory
+      (valid_by (after_open v.files p n versions.0 versions.1).directory (admit (after_open v.files p n versions.0 versions.1) p n).directory
       (admitted_directory (after_open v.files p n versions.0 versions.1) p n) (opened_valid v p n versions.0 versions.1 h (valid refl)))
       refl
   holds_exclusive p n versions (Some (BlobAlreadyOpen q m)) valid =
-      holds_same v (after v (Open p n (Some versions)) (Some (BlobAlreadyOpen q m)) rest) h (ages v (Open p n (Some versions)) (Some (BlobAlreadyOpen q m)) rest)
+      holds_same v (after_act v (Open p n (Some versions)) (Some (BlobAlreadyOpen q m)) rest) h (ages v (Open p n (Some versions)) (Some (BlobAlreadyOpen q m)) rest)
       (opened_valid v p n versions.0 versions.1 h (valid refl)) refl
   holds_exclusive p n versions (Some refusal) valid =
-      holds_same v (after v (Open p n (Some versions)) (Some refusal) rest) h (ages v (Open p n (Some versions)) (Some refusal) rest) h.valid refl
+      holds_same v (after_act v (Open p n (Some versions)) (Some refusal) rest) h (ages v (Open p n (Some versions)) (Some refusal) rest) h.valid refl
 
-  holds_loose : (p n : List ℕ) (versions : ℕ × ℕ) (refusal : Option Refusal) → (made refusal ≡ true → is_partition_name p ≡ true) → Holds (after v (OpenLoose p n (Some versions)) refusal rest)
+  holds_loose : (p n : List ℕ) (versions : ℕ × ℕ) (refusal : Option Refusal) → (made refusal ≡ true → is_partition_name p ≡ true) → Holds (after_act v (OpenLoose p n (Some versions)) refusal rest)
   holds_loose p n versions None valid =
-      holds_more v (after v (OpenLoose p n (Some versions)) None rest) p n None h (ages v (OpenLoose p n (Some versions)) None rest) (opened_valid v p n versions.0 versions.1 h (valid refl)) refl
+      holds_more v (after_act v (OpenLoose p n (Some versions)) None rest) p n None h (ages v (OpenLoose p n (Some versions)) None rest) (opened_valid v p n versions.0 versions.1 h (valid refl)) refl
   holds_loose p n versions (Some refusal) valid =
-      holds_same v (after v (OpenLoose p n (Some versions)) (Some refusal) rest) h (ages v (OpenLoose p n (Some versions)) (Some refusal) rest) h.valid refl
+      holds_same v (after_act v (OpenLoose p n (Some versions)) (Some refusal) rest) h (ages v (OpenLoose p n (Some versions)) (Some refusal) rest) h.valid refl
 
-  holds_removed : (p : List ℕ) (n : Option (List ℕ)) (refusal : Option Refusal) → Holds (after v (Remove p n) refusal rest)
-  holds_removed p n None = holds_same v (after v (Remove p n) None rest) h (ages v (Remove p n) None rest) (valid_removed d p n h.valid) refl
-  holds_removed p n (Some refusal) = holds_same v (after v (Remove p n) (Some refusal) rest) h (ages v (Remove p n) (Some refusal) rest) h.valid refl
+  holds_removed : (p : List ℕ) (n : Option (List ℕ)) (refusal : Option Refusal) → Holds (after_act v (Remove p n) refusal rest)
+  holds_removed p n None = holds_same v (after_act v (Remove p n) None rest) h (ages v (Remove p n) None rest) (valid_removed d p n h.valid) refl
+  holds_removed p n (Some refusal) = holds_same v (after_act v (Remove p n) (Some refusal) rest) h (ages v (Remove p n) (Some refusal) rest) h.valid refl
 
-  holds_crashed : (refusal : Option Refusal) → Holds (after v Crash refusal rest)
-  holds_crashed None = holds_same v (after v Crash None rest) h (ages v Crash None rest) h.valid refl
-  holds_crashed (Some refusal) = holds_same v (after v Crash (Some refusal) rest) h (ages v Crash (Some refusal) rest) h.valid refl
+  holds_crashed : (refusal : Option Refusal) → Holds (after_act v Crash refusal rest)
+  holds_crashed None = holds_same v (after_act v Crash None rest) h (ages v Crash None rest) h.valid refl
+  holds_crashed (Some refusal) = holds_same v (after_act v Crash (Some refusal) rest) h (ages v Crash (Some refusal) rest) h.valid refl
 
-  closed_at : (number : ℕ) (refusal : Option Refusal) → Holds (after v (Close number) refusal rest)
+  closed_at : (number : ℕ) (refusal : Option Refusal) → Holds (after_act v (Close number) refusal rest)
   closed_at number refusal = record { valid = h.valid; given = h.given; handles = All-set (Slot d) v.handles number None tt h.handles }
 
-  finished_at : (number : ℕ) (refusal : Option Refusal) → Holds (after v (Finish number) refusal rest)
+  finished_at : (number : ℕ) (refusal : Option Refusal) → Holds (after_act v (Finish number) refusal rest)
   finished_at number refusal = record { valid = h.valid; given = h.given; handles = h.handles }
 
   -- a call through a handle changes only that handle
   asked_at : (number : ℕ) (slot : Option Held) (ask : Ask) (grows : Bool) (reply : Reply) (left : Stream) → IfSome slot (IsTracked d) → IsAnswer grows (through v slot ask) reply left
-      → Holds (record (asked v number slot ask (refused_by reply)) { stream = rest })
+      → Holds (record (after_ask v number slot ask (refused_by reply)) { stream = rest })
   asked_at number None ask grows reply left tracked a = record { valid = h.valid; given = h.given; handles = h.handles }
   asked_at number (Some held) ask grows reply left tracked a =
       let held' = held_after v held ask (refused_by reply) in
@@ -204,24 +204,24 @@ module _ (v : State) (rest : Stream) (h : Holds v) where
       }
 
 -- a call with a possible reply
-pub holds_after : (v : State) (act : Act) (reply : Reply) (left : Stream) → Holds v → Answers v act reply left → Holds (after v act (refused_by reply) left)
-holds_after v (Configure config) reply left h a = holds_same v (after v (Configure config) (refused_by reply) left) h (ages v (Configure config) (refused_by reply) left) h.valid refl
-holds_after v (Open p n None) reply left h a = holds_same v (after v (Open p n None) (refused_by reply) left) h (ages v (Open p n None) (refused_by reply) left) h.valid refl
+pub holds_after : (v : State) (act : Act) (reply : Reply) (left : Stream) → Holds v → Answers v act reply left → Holds (after_act v act (refused_by reply) left)
+holds_after v (Configure config) reply left h a = holds_same v (after_act v (Configure config) (refused_by reply) left) h (ages v (Configure config) (refused_by reply) left) h.valid refl
+holds_after v (Open p n None) reply left h a = holds_same v (after_act v (Open p n None) (refused_by reply) left) h (ages v (Open p n None) (refused_by reply) left) h.valid refl
 holds_after v (Open p n (Some versions)) reply left h a = holds_exclusive v left h p n versions (refused_by reply) (exclusive_valid v p n versions reply left a)
-holds_after v (OpenLoose p n None) reply left h a = holds_same v (after v (OpenLoose p n None) (refused_by reply) left) h (ages v (OpenLoose p n None) (refused_by reply) left) h.valid refl
+holds_after v (OpenLoose p n None) reply left h a = holds_same v (after_act v (OpenLoose p n None) (refused_by reply) left) h (ages v (OpenLoose p n None) (refused_by reply) left) h.valid refl
 holds_after v (OpenLoose p n (Some versions)) reply left h a = holds_loose v left h p n versions (refused_by reply) (loose_valid v p n versions reply left a)
 holds_after v (Admit p n) reply left h a =
-    holds_same v (after v (Admit p n) (refused_by reply) left) h (ages v (Admit p n) (refused_by reply) left)
-    (valid_by v.files.directory (admitted v.files p n).directory (admitted_directory v.files p n) h.valid) refl
+    holds_same v (after_act v (Admit p n) (refused_by reply) left) h (ages v (Admit p n) (refused_by reply) left)
+    (valid_by v.files.directory (admit v.files p n).directory (admitted_directory v.files p n) h.valid) refl
 holds_after v (Close number) reply left h a = closed_at v left h number (refused_by reply)
 holds_after v (Through number ask) reply left h a =
     asked_at v left h number (kept_at v.handles number) ask (may_grow v (Through number ask)) reply left (kept_tracked v.files.directory v.handles number h.handles) a
 holds_after v (Finish number) reply left h a = finished_at v left h number (refused_by reply)
 holds_after v (Remove p n) reply left h a = holds_removed v left h p n (refused_by reply)
-holds_after v (Scan p) reply left h a = holds_same v (after v (Scan p) (refused_by reply) left) h (ages v (Scan p) (refused_by reply) left) h.valid refl
+holds_after v (Scan p) reply left h a = holds_same v (after_act v (Scan p) (refused_by reply) left) h (ages v (Scan p) (refused_by reply) left) h.valid refl
 holds_after v Crash reply left h a = holds_crashed v left h (refused_by reply)
 holds_after v Reopen reply left h a =
-    holds_same v (after v Reopen (refused_by reply) left) h (ages v Reopen (refused_by reply) left)
+    holds_same v (after_act v Reopen (refused_by reply) left) h (ages v Reopen (refused_by reply) left)
     (λ p n. valid_again (durable_at v.files) p n (v.files.directory.file p n)) refl
 
 -- calls one after another
@@ -230,7 +230,7 @@ holds_run v [] [] w h run = subst Holds run h
 holds_run v [] (reply ∷ replies) w h run = absurd run
 holds_run v (call ∷ calls) [] w h run = absurd run
 holds_run v (call ∷ calls) (reply ∷ replies) w h (left, a, run) =
-    holds_run (after v (act_of call) (refused_by reply) left) calls replies w (holds_after v (act_of call) reply left h a) run
+    holds_run (after_act v (act_of call) (refused_by reply) left) calls replies w (holds_after v (act_of call) reply left h a) run
 
 holds_start : (images : List Image) (words : Words) (config : Config) → Holds (start images words config)
 holds_start images words config = record {

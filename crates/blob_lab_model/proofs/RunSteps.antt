@@ -6,7 +6,7 @@ use Rattle.blob_draws.specs.declared.config.Config.{Config}
 use Rattle.blob_script.specs.declared.call.Call.{Call}
 use Rattle.blob_script.specs.declared.reply.Reply.{Reply}
 use Rattle.blob_script.specs.Acts.{act_of}
-use Rattle.blob_lab_model.specs.After.{after}
+use Rattle.blob_lab_model.specs.After.{after_act}
 use Rattle.blob_lab_model.specs.Answers.{Answers}
 use Rattle.blob_lab_model.specs.Reached.{is_loose, NoneLoose, Reached, ReachedExclusively}
 use Rattle.blob_lab_model.specs.Runs.{LeadsTo}
@@ -19,13 +19,13 @@ use Rattle.blob_lab_model.proofs.Stale.{Ages, ages}
 
 -- one more call at the end of a run
 pub run_more : (w : State) (calls : List Call) (replies : List Reply) (v : State) (call : Call) (reply : Reply) (left : Stream) → LeadsTo v calls replies w → Answers w (act_of call) reply left
-    → LeadsTo v (calls ++ call ∷ []) (replies ++ reply ∷ []) (after w (act_of call) (refused_by reply) left)
+    → LeadsTo v (calls ++ call ∷ []) (replies ++ reply ∷ []) (after_act w (act_of call) (refused_by reply) left)
 run_more w [] [] v call reply left same a =
-    (left, subst (λ (s : State). Answers s (act_of call) reply left) (sym same) a, ap (λ (s : State). after s (act_of call) (refused_by reply) left) same)
+    (left, subst (λ (s : State). Answers s (act_of call) reply left) (sym same) a, ap (λ (s : State). after_act s (act_of call) (refused_by reply) left) same)
 run_more w [] (r ∷ replies) v call reply left run a = absurd run
 run_more w (c ∷ calls) [] v call reply left run a = absurd run
 run_more w (c ∷ calls) (r ∷ replies) v call reply left (first, b, run) a =
-    (first, b, run_more w calls replies (after v (act_of c) (refused_by r) first) call reply left run a)
+    (first, b, run_more w calls replies (after_act v (act_of c) (refused_by r) first) call reply left run a)
 
 -- two runs in sequence
 pub run_append : (calls : List Call) (replies : List Reply) (more : List Call) (rest : List Reply) (v w u : State) → LeadsTo v calls replies w → LeadsTo w more rest u → LeadsTo v (calls ++ more) (replies ++ rest) u
@@ -33,7 +33,7 @@ run_append [] [] more rest v w u same next = subst (λ (s : State). LeadsTo s mo
 run_append [] (r ∷ replies) more rest v w u run next = absurd run
 run_append (c ∷ calls) [] more rest v w u run next = absurd run
 run_append (c ∷ calls) (r ∷ replies) more rest v w u (left, answers, run) next =
-    (left, answers, run_append calls replies more rest (after v (act_of c) (refused_by r) left) w u run next)
+    (left, answers, run_append calls replies more rest (after_act v (act_of c) (refused_by r) left) w u run next)
 
 -- calls from a reached state lead to a reached state
 
@@ -54,6 +54,6 @@ stale_ever [] [] v w o same below stale = subst (λ (s : State). is_current s.fi
 stale_ever [] (r ∷ replies) v w o run below stale = absurd run
 stale_ever (c ∷ calls) [] v w o run below stale = absurd run
 stale_ever (c ∷ calls) (r ∷ replies) v w o (left, answers, run) below stale =
-    let older : Ages v.files.directory (after v (act_of c) (refused_by r) left).files.directory = ages v (act_of c) (refused_by r) left in
+    let older : Ages v.files.directory (after_act v (act_of c) (refused_by r) left).files.directory = ages v (act_of c) (refused_by r) left in
     let next = older.next in
-    stale_ever calls replies (after v (act_of c) (refused_by r) left) w o run (omega arith) (older.stale o below stale)
+    stale_ever calls replies (after_act v (act_of c) (refused_by r) left) w o run (omega arith) (older.stale o below stale)

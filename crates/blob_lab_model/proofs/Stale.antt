@@ -5,9 +5,9 @@ use Rattle.std.specs.Str.{bytes_eq}
 use Rattle.rand_core.specs.Stream.{Stream}
 use Rattle.std.specs.Option.{option_or}
 use Rattle.blob_header.specs.declared.layout.Layout.{Layout}
-use Rattle.blob_model.specs.Directory.{Directory, File, Raw, Incarnation, current, is_that, is_current, with_file, directory_made, removed}
+use Rattle.blob_model.specs.Directory.{Directory, File, Raw, Incarnation, current, is_that, is_current, with_file, directory_made, directory_without}
 use Rattle.blob_header.specs.Header.{data_start}
-use Rattle.blob_model.specs.Files.{Files, with_opening, after_open, admitted, admitted_at, all_logged, logged, raw_again, reopened, durable_at}
+use Rattle.blob_model.specs.Files.{Files, with_opening, after_open, admit, admitted_at, all_logged, log_entry, raw_again, reopen, durable_at}
 use Rattle.blob_model.specs.Log.{Entry}
 use Rattle.blob_model.specs.Opening.{Opening, Continues, Begins, Declines, opening}
 use Rattle.blob_model.specs.Places.{Place, same_place}
@@ -19,8 +19,8 @@ use Rattle.blob_memory.specs.Answers.{missing, sync_refusal}
 use Rattle.blob_model.specs.SamePlace.{parts, same_place_exact}
 use Rattle.blob_model.proofs.Durables.{others_logged, others_published}
 use Rattle.blob_script.specs.Acts.{Ask, Read, Write, Resize, Size, Sync, StartSync, Act, Configure, Open, OpenLoose, Admit, Close, Through, Finish, Remove, Scan, Crash, Reopen}
-use Rattle.blob_lab_model.specs.After.{after, asked, files_after, held_after, exclusively_opened}
-use Rattle.blob_lab_model.specs.Steps.{begun, sync_denial, removal_step as removal, crash_step, loosely_opened}
+use Rattle.blob_lab_model.specs.After.{after_act, after_ask, files_after, held_after, exclusively_opened}
+use Rattle.blob_lab_model.specs.Steps.{files_after_start, sync_denial, removal_step as removal, crash_step, loosely_opened}
 use Rattle.blob_lab_model.specs.Answers.{kept_at}
 use Rattle.blob_lab_model.specs.Denials.{refused_if, start_denial}
 use Rattle.blob_lab_model.specs.States.{State, Held}
@@ -76,17 +76,17 @@ opened_ages f p n (Declines refusal) = same_age f.directory
 open_ages : (f : Files) (p n : List ℕ) (first last : ℕ) → Ages f.directory (after_open f p n first last).directory
 open_ages f p n first last = opened_ages f p n (opening p n (f.directory.file p n) first last)
 
-pub admitted_directory : (f : Files) (p n : List ℕ) → (admitted f p n).directory ≡ f.directory
+pub admitted_directory : (f : Files) (p n : List ℕ) → (admit f p n).directory ≡ f.directory
 admitted_directory f p n = go (current f.directory p n)
   where
     go : (o : Option Place) → (admitted_at f o).directory ≡ f.directory
     go None = refl
     go (Some o) = refl
 
-admitted_ages : (d : Directory) (f : Files) (p n : List ℕ) → Ages d f.directory → Ages d (admitted f p n).directory
+admitted_ages : (d : Directory) (f : Files) (p n : List ℕ) → Ages d f.directory → Ages d (admit f p n).directory
 admitted_ages d f p n ages = subst (λ (x : Directory). Ages d x) (sym (admitted_directory f p n)) ages
 
-removed_ages : (d : Directory) (p : List ℕ) (n : Option (List ℕ)) → Ages d (removed d p n)
+removed_ages : (d : Directory) (p : List ℕ) (n : Option (List ℕ)) → Ages d (directory_without d p n)
 removed_ages d p (Some n) = record {
   next = omega arith;
   stale = λ o below old. with_file_stale d.file p n o.partition o.name None o.number o.start refl old;
@@ -104,10 +104,10 @@ raw_stale bytes p n None number start = refl
 raw_stale bytes p n (Some (Raw x)) number start = refl
 raw_stale bytes p n (Some (Incarnation k layout version)) number start = refl
 
-pub none_current : (f : Files) (o : Place) → is_current (reopened f).directory o ≡ false
+pub none_current : (f : Files) (o : Place) → is_current (reopen f).directory o ≡ false
 none_current f o = raw_stale (durable_at f) o.partition o.name (f.directory.file o.partition o.name) o.number o.start
 
-reopened_ages : (f : Files) → Ages f.directory (reopened f).directory
+reopened_ages : (f : Files) → Ages f.directory (reopen f).directory
 reopened_ages f = record {
   next = omega arith;
   stale = λ o below old. none_current f o;
@@ -117,9 +117,9 @@ reopened_ages f = record {
 -- a call through a handle doesn't change the directory
 pub logged_directory : (f : Files) (o : Place) (es : List Entry) → (all_logged f o es).directory ≡ f.directory
 logged_directory f o [] = refl
-logged_directory f o (e ∷ es) = logged_directory (logged f o e) o es
+logged_directory f o (e ∷ es) = logged_directory (log_entry f o e) o es
 
-begun_directory : (f : Files) (h : Held) (outcome : Option Refusal) → (begun f h outcome).directory ≡ f.directory
+begun_directory : (f : Files) (h : Held) (outcome : Option Refusal) → (files_after_start f h outcome).directory ≡ f.directory
 begun_directory f h None = refl
 begun_directory f h (Some refusal) = refl
 
@@ -139,7 +139,7 @@ place_after v h (Write offset bytes sync) refusal = refl
 place_after v h (Resize len) refusal = refl
 place_after v h ask refusal = refl
 
-through_ages : (v : State) (number : ℕ) (slot : Option Held) (ask : Ask) (refusal : Option Refusal) → Ages v.files.directory (asked v number slot ask refusal).files.directory
+through_ages : (v : State) (number : ℕ) (slot : Option Held) (ask : Ask) (refusal : Option Refusal) → Ages v.files.directory (after_ask v number slot ask refusal).files.directory
 through_ages v number None ask refusal = same_age v.files.directory
 through_ages v number (Some h) ask refusal = by_same v.files.directory (files_after v h ask refusal).directory (asked_directory v h ask refusal)
 
@@ -160,7 +160,7 @@ crash_ages : (v : State) (refusal : Option Refusal) → Ages v.files.directory (
 crash_ages v None = same_age v.files.directory
 crash_ages v (Some refusal) = same_age v.files.directory
 
-pub ages : (v : State) (act : Act) (refusal : Option Refusal) (rest : Stream) → Ages v.files.directory (after v act refusal rest).files.directory
+pub ages : (v : State) (act : Act) (refusal : Option Refusal) (rest : Stream) → Ages v.files.directory (after_act v act refusal rest).files.directory
 ages v (Configure config) refusal rest = same_age v.files.directory
 ages v (Open p n None) refusal rest = same_age v.files.directory
 ages v (Open p n (Some versions)) refusal rest = exclusive_ages v p n versions refusal
@@ -178,9 +178,9 @@ ages v Reopen refusal rest = reopened_ages v.files
 -- a call through a handle doesn't change other incarnations
 other_logged : (f : Files) (o a : Place) (es : List Entry) → same_place o a ≡ false → durable_at (all_logged f o es) a ≡ durable_at f a
 other_logged f o a [] other = refl
-other_logged f o a (e ∷ es) other = other_logged (logged f o e) o a es other ∙ (others_logged f o e a other).0
+other_logged f o a (e ∷ es) other = other_logged (log_entry f o e) o a es other ∙ (others_logged f o e a other).0
 
-other_begun : (f : Files) (h : Held) (outcome : Option Refusal) (a : Place) → same_place h.place a ≡ false → durable_at (begun f h outcome) a ≡ durable_at f a
+other_begun : (f : Files) (h : Held) (outcome : Option Refusal) (a : Place) → same_place h.place a ≡ false → durable_at (files_after_start f h outcome) a ≡ durable_at f a
 other_begun f h None a other = (others_published f h.place h.live a other).0
 other_begun f h (Some refusal) a other = refl
 
@@ -219,7 +219,7 @@ stale_start v h stale undrawn left =
 pub stale_begun : (v : State) (h : Held) (refusal : Option Refusal) → is_current v.files.directory h.place ≡ false → files_after v h StartSync refusal ≡ v.files
 stale_begun v h (Some refusal) stale = refl
 stale_begun v h None stale = go (draw v.config.sync_rate v.stream).0 (v.files.next_marker == 2 ^ 64 - 1) (is_current v.files.directory h.place) stale where
-  go : (drawn exhausted now : Bool) → now ≡ false → begun v.files h (option_or (refused_if Injected drawn) (option_or (refused_if GenerationsExhausted exhausted) (if now then None else Some (missing h.place)))) ≡ v.files
+  go : (drawn exhausted now : Bool) → now ≡ false → files_after_start v.files h (option_or (refused_if Injected drawn) (option_or (refused_if GenerationsExhausted exhausted) (if now then None else Some (missing h.place)))) ≡ v.files
   go true exhausted now e = refl
   go false true now e = refl
   go false false false e = refl

@@ -3,8 +3,8 @@ use Rattle.std.specs.Prelude.{ℕ, List, [], ◌∷◌, ◌++◌, map, set, Opti
 use Rattle.std.specs.Option.{option_map_or}
 use Rattle.rand_core.specs.Stream.{Stream}
 use Rattle.blob_model.specs.Directory.{current}
-use Rattle.blob_model.specs.Draws.{chosen_by, drawn}
-use Rattle.blob_model.specs.Files.{Files, all_logged, started, admitted, after_open, after_remove, after_crash, reopened, all_needs, published}
+use Rattle.blob_model.specs.Draws.{chosen_by, draw_rows}
+use Rattle.blob_model.specs.Files.{Files, all_logged, start_sync, admit, after_open, after_remove, after_crash, reopen, all_needs, publish}
 use Rattle.blob_header.specs.Refusals.{Refusal, BlobAlreadyOpen}
 use Rattle.blob_draws.specs.Changes.{Changes, laying, write_changes, resize_changes}
 use Rattle.blob_draws.specs.Faults.{retention, write_fate, resize_fate}
@@ -25,8 +25,8 @@ ask_changes v h (Resize len) refusal = resize_changes (resize_fate v.config.resi
 ask_changes v h ask refusal = laying [] (λ number. [])
 
 abbrev pub files_after : State → Held → Ask → Option Refusal → Files
-files_after v h Sync None = published v.files h.place h.live
-files_after v h StartSync None = elim (start_denial v h) [ None ↦ started v.files h.place h.live | Some refusal ↦ v.files ]
+files_after v h Sync None = publish v.files h.place h.live
+files_after v h StartSync None = elim (start_denial v h) [ None ↦ start_sync v.files h.place h.live | Some refusal ↦ v.files ]
 files_after v h ask refusal = all_logged v.files h.place ((ask_changes v h ask refusal).entries v.files.next_write)
 
 abbrev pub held_after : State → Held → Ask → Option Refusal → Held
@@ -36,9 +36,9 @@ abbrev pub syncs_after : State → Held → Ask → Option Refusal → List (Opt
 syncs_after v h StartSync None = v.syncs ++ Some (record { outcome = start_denial v h }) ∷ []
 syncs_after v h ask refusal = v.syncs
 
-abbrev pub asked : State → ℕ → Option Held → Ask → Option Refusal → State
-asked v number None ask refusal = v
-asked v number (Some h) ask refusal =
+abbrev pub after_ask : State → ℕ → Option Held → Ask → Option Refusal → State
+after_ask v number None ask refusal = v
+after_ask v number (Some h) ask refusal =
     let handles = set v.handles number (Some (held_after v h ask refusal)) in
     record v { files = files_after v h ask refusal; handles = handles; syncs = syncs_after v h ask refusal }
 
@@ -50,8 +50,8 @@ with_held v p n f registration = record v { files = f; handles = v.handles ++ op
 
 -- an exclusive open admits the name; if the name was open already, what the store's open created stays
 abbrev pub exclusively_opened : State → List ℕ → List ℕ → AcceptedVersions → Option Refusal → State
-exclusively_opened v p n versions None = with_held (record v { names = names.opened v.names p n }) p n
-    (admitted (after_open v.files p n versions.0 versions.1) p n) (Some (record { partition = p; name = n; number = v.names.next }))
+exclusively_opened v p n versions None = with_held (record v { names = names.open_name v.names p n }) p n
+    (admit (after_open v.files p n versions.0 versions.1) p n) (Some (record { partition = p; name = n; number = v.names.next }))
 exclusively_opened v p n versions (Some (BlobAlreadyOpen q m)) = record v { files = after_open v.files p n versions.0 versions.1 }
 exclusively_opened v p n versions (Some refusal) = v
 
@@ -59,20 +59,20 @@ exclusively_opened v p n versions (Some refusal) = v
 
 -- the state except the generator; a crash keeps the drawn bytes; a rebuild closes all names and drops all started
 -- syncs, but numbers aren't reused, and handles stay
-abbrev pub changed : State → Act → Option Refusal → State
-changed v (Configure config) refusal = record v { config = config }
-changed v (Open p n (Some versions)) refusal = exclusively_opened v p n versions refusal
-changed v (OpenLoose p n (Some versions)) None = with_held v p n (after_open v.files p n versions.0 versions.1) None
-changed v (Admit p n) refusal = record v { files = admitted v.files p n }
-changed v (Close number) refusal =
+abbrev pub apply_act : State → Act → Option Refusal → State
+apply_act v (Configure config) refusal = record v { config = config }
+apply_act v (Open p n (Some versions)) refusal = exclusively_opened v p n versions refusal
+apply_act v (OpenLoose p n (Some versions)) None = with_held v p n (after_open v.files p n versions.0 versions.1) None
+apply_act v (Admit p n) refusal = record v { files = admit v.files p n }
+apply_act v (Close number) refusal =
     let registration = option_and_then (λ h. h.registration) (kept_at v.handles number) in
-    record v { names = option_map_or (names.closed v.names) registration v.names; handles = set v.handles number None }
-changed v (Through number ask) refusal = asked v number (kept_at v.handles number) ask refusal
-changed v (Finish number) refusal = record v { syncs = set v.syncs number None }
-changed v (Remove p n) None = record v { files = after_remove v.files p n; names = names.ended v.names p n }
-changed v Crash None = record v { files = after_crash v.files (chosen_by (drawn v.stream (all_needs v.files.log)).0) }
-changed v Reopen refusal = record v { files = reopened v.files; names = none_open v.names.next; syncs = map (λ slot. None) v.syncs }
-changed v act refusal = v
+    record v { names = option_map_or (names.release v.names) registration v.names; handles = set v.handles number None }
+apply_act v (Through number ask) refusal = after_ask v number (kept_at v.handles number) ask refusal
+apply_act v (Finish number) refusal = record v { syncs = set v.syncs number None }
+apply_act v (Remove p n) None = record v { files = after_remove v.files p n; names = names.end_names v.names p n }
+apply_act v Crash None = record v { files = after_crash v.files (chosen_by (draw_rows v.stream (all_needs v.files.log)).0) }
+apply_act v Reopen refusal = record v { files = reopen v.files; names = none_open v.names.next; syncs = map (λ slot. None) v.syncs }
+apply_act v act refusal = v
 
-abbrev pub after : State → Act → Option Refusal → Stream → State
-after v act refusal left = record (changed v act refusal) { stream = left }
+abbrev pub after_act : State → Act → Option Refusal → Stream → State
+after_act v act refusal left = record (apply_act v act refusal) { stream = left }

@@ -2,7 +2,7 @@
 use Rattle.std.specs.Prelude.{◌≡◌, ◌⊎◌, ℕ, ◌-◌, ◌^◌, ◌==◌, Bool, true, false, ◌&&◌, if◌then◌else◌, List, length, take, drop, Option, Some, None, is_some, is_none, slice_get, option_and_then, IsTrue}
 use Rattle.std.specs.Option.{option_or}
 use Rattle.rand_core.specs.Stream.{Stream}
-use Rattle.blob_model.specs.Draws.{drawn}
+use Rattle.blob_model.specs.Draws.{draw_rows}
 use Rattle.blob_model.specs.Files.{Files, all_needs, durable_at}
 use Rattle.blob_model.specs.Rates.{Rate}
 use Rattle.blob_model.specs.Opening.{Opening, Continues, Begins, Declines, opening, place_of}
@@ -83,7 +83,7 @@ answer v (Through number ask) = through v (kept_at v.handles number) ask
 answer v (Finish number) = (elim (kept_at v.syncs number) [ None ↦ told.NoHandle | Some s ↦ unless_denied s.outcome told.Done ], v.stream)
 answer v (Remove p n) = unless_drawn v v.config.remove_rate (remove_refusal v.files.directory p n) told.Done
 answer v (Scan p) = unless_drawn v v.config.scan_rate (partition_refusal v.files.directory p) (told.Names (λ n. is_some (v.files.directory.file p n)))
-answer v Crash = let d = drawn v.stream (all_needs v.files.log) in (told.Crashed d.0, d.1)
+answer v Crash = let d = draw_rows v.stream (all_needs v.files.log) in (told.Crashed d.0, d.1)
 answer v act = (told.Done, v.stream)
 
 -- whether a call may return `Memory`; through a number without a handle it never does

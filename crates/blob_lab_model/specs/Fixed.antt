@@ -14,7 +14,7 @@ use Rattle.blob_script.specs.declared.call.Call.{Call}
 use Rattle.blob_script.specs.declared.reply.Reply.{Reply}
 use Rattle.blob_script.specs.declared.reply.Reply.TheVariants.{Opened}
 use Rattle.blob_script.specs.Acts.{Ask, Write, Resize, Sync, StartSync, Act, Open, Through, Remove, act_of}
-use Rattle.blob_lab_model.specs.After.{after, exclusively_opened}
+use Rattle.blob_lab_model.specs.After.{after_act, exclusively_opened}
 use Rattle.blob_lab_model.specs.Answers.{Answers, kept_at}
 use Rattle.blob_lab_model.specs.Denials.{start_denial}
 use Rattle.blob_lab_model.specs.States.{State, Held}
@@ -94,13 +94,13 @@ abbrev pub Lasts : State → Byte → List Call → List Reply → Type 0
 Lasts v b [] [] = Has v b
 Lasts v b (call ∷ calls) (reply ∷ replies) = Has v b × ((left : Stream) → Answers v (act_of call) reply left →
     reaches v (act_of call) (refused_by reply) b ≡ false →
-    let w = after v (act_of call) (refused_by reply) left in Opens w (act_of call) reply b × Lasts w b calls replies)
+    let w = after_act v (act_of call) (refused_by reply) left in Opens w (act_of call) reply b × Lasts w b calls replies)
 Lasts v b calls replies = ⊥
 
 -- each byte that one of the calls fixes lasts through the calls after it
 abbrev pub Persists : State → List Call → List Reply → Type 0
 Persists v [] [] = Unit {0}
 Persists v (call ∷ calls) (reply ∷ replies) = (left : Stream) → Answers v (act_of call) reply left →
-    let w = after v (act_of call) (refused_by reply) left in
+    let w = after_act v (act_of call) (refused_by reply) left in
     ((b : Byte) → Fixes v (act_of call) (refused_by reply) b → Lasts w b calls replies) × Persists w calls replies
 Persists v calls replies = ⊥

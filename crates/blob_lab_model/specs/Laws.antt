@@ -6,9 +6,9 @@ use Rattle.blob_header.specs.Refusals.{Refusal}
 use Rattle.blob_header.specs.declared.layout.Layout.{Layout}
 use Rattle.blob_header.specs.declared.version.BlobVersion.{BlobVersion}
 use Rattle.blob_model.specs.Directory.{Incarnation, is_current}
-use Rattle.blob_model.specs.Draws.{chosen_by, drawn}
+use Rattle.blob_model.specs.Draws.{chosen_by, draw_rows}
 use Rattle.blob_model.specs.Files.{Files, all_needs, durable_at, is_removed_by, log_of}
-use Rattle.blob_model.specs.Log.{crashed}
+use Rattle.blob_model.specs.Log.{replay_log}
 use Rattle.blob_model.specs.Opening.{Begins, place_of}
 use Rattle.blob_model.specs.Places.{Place, same_place}
 use Rattle.blob_draws.specs.Faults.{draw}
@@ -20,7 +20,7 @@ use Rattle.blob_script.specs.declared.reply.Reply.{Reply}
 use Rattle.blob_script.specs.Acts.{Act, Ask, Crash, Open, Remove, Reopen, Size, StartSync, Through}
 use Rattle.blob_script.specs.Told as told
 use Rattle.blob_lab_model.specs.Accepted.{Accepts, HasFileOf, IsKept, IsToldOf, OpensAs, removes}
-use Rattle.blob_lab_model.specs.After.{after, files_after}
+use Rattle.blob_lab_model.specs.After.{after_act, files_after}
 use Rattle.blob_lab_model.specs.Answers.{answer, kept_at}
 use Rattle.blob_lab_model.specs.Denials.{start_denial}
 use Rattle.blob_lab_model.specs.Steps.{found_at, sync_denial}
@@ -33,21 +33,21 @@ use Rattle.blob_lab_model.specs.States.{Held, Image, State, held_on, start}
 -- a crash replies with the rows that it draws for the writes that the log needs, and takes their words
 abbrev pub CrashRepliesWithItsRows : Type 0
 CrashRepliesWithItsRows = (v : State)
-    → answer v Crash ≡ (told.Crashed (drawn v.stream (all_needs v.files.log)).0, (drawn v.stream (all_needs v.files.log)).1)
+    → answer v Crash ≡ (told.Crashed (draw_rows v.stream (all_needs v.files.log)).0, (draw_rows v.stream (all_needs v.files.log)).1)
 
 -- a crash changes no header
 abbrev pub CrashKeepsHeaders : Type 0
-CrashKeepsHeaders = (v : State) (refusal : Option Refusal) (rest : Stream) → (after v Crash refusal rest).files.directory ≡ v.files.directory
+CrashKeepsHeaders = (v : State) (refusal : Option Refusal) (rest : Stream) → (after_act v Crash refusal rest).files.directory ≡ v.files.directory
 
 -- a crash leaves of each incarnation its base with the uncut log replayed over it, by the drawn rows
 abbrev pub CrashReplaysTheLog : Type 0
 CrashReplaysTheLog = (v : State) (rest : Stream) (o : Place)
-    → durable_at (after v Crash None rest).files o ≡ crashed (v.files.base o) (log_of v.files.log o) (chosen_by (drawn v.stream (all_needs v.files.log)).0)
+    → durable_at (after_act v Crash None rest).files o ≡ replay_log (v.files.base o) (log_of v.files.log o) (chosen_by (draw_rows v.stream (all_needs v.files.log)).0)
 
 -- another crash right after it changes nothing
 abbrev pub CrashAgainChangesNothing : Type 0
 CrashAgainChangesNothing = (v : State) (rest last : Stream) (o : Place)
-    → durable_at (after (after v Crash None rest) Crash None last).files o ≡ durable_at (after v Crash None rest).files o
+    → durable_at (after_act (after_act v Crash None rest) Crash None last).files o ≡ durable_at (after_act v Crash None rest).files o
 
 -- a newly opened handle reads the durable bytes
 abbrev pub OpenReadsDurableBytes : Type 0
@@ -60,27 +60,27 @@ OpenTracksTheirLength = (files : Files) (registration : Option Registration) (o 
 -- a removal doesn't change the base of any incarnation
 abbrev pub RemovalKeepsBases : Type 0
 RemovalKeepsBases = (v : State) (partition : List ℕ) (name : Option (List ℕ)) (refusal : Option Refusal) (rest : Stream) (o : Place)
-    → (after v (Remove partition name) refusal rest).files.base o ≡ v.files.base o
+    → (after_act v (Remove partition name) refusal rest).files.base o ≡ v.files.base o
 
 -- nor the file of a name that it doesn't remove, including raw files
 abbrev pub RemovalKeepsOtherFiles : Type 0
 RemovalKeepsOtherFiles = (v : State) (partition : List ℕ) (name : Option (List ℕ)) (refusal : Option Refusal) (rest : Stream) (p n : List ℕ)
     → removes (Remove partition name) refusal p n ≡ false
-    → (after v (Remove partition name) refusal rest).files.directory.file p n ≡ v.files.directory.file p n
+    → (after_act v (Remove partition name) refusal rest).files.directory.file p n ≡ v.files.directory.file p n
 
 -- nor the log of an incarnation that it doesn't end
 abbrev pub RemovalKeepsOtherLogs : Type 0
 RemovalKeepsOtherLogs = (v : State) (partition : List ℕ) (name : Option (List ℕ)) (refusal : Option Refusal) (rest : Stream) (o : Place)
-    → is_removed_by v.files.directory partition name o ≡ false → log_of (after v (Remove partition name) refusal rest).files.log o ≡ log_of v.files.log o
+    → is_removed_by v.files.directory partition name o ≡ false → log_of (after_act v (Remove partition name) refusal rest).files.log o ≡ log_of v.files.log o
 
 -- the number of the next incarnation never decreases
 abbrev pub NextNumberNeverDecreases : Type 0
-NextNumberNeverDecreases = (v : State) (act : Act) (refusal : Option Refusal) (rest : Stream) → v.files.directory.next ≤ (after v act refusal rest).files.directory.next
+NextNumberNeverDecreases = (v : State) (act : Act) (refusal : Option Refusal) (rest : Stream) → v.files.directory.next ≤ (after_act v act refusal rest).files.directory.next
 
 -- an incarnation that isn't its name's current one doesn't become current by any call
 abbrev pub StaleStaysStale : Type 0
 StaleStaysStale = (v : State) (act : Act) (refusal : Option Refusal) (rest : Stream) (o : Place) → o.number < v.files.directory.next
-    → is_current v.files.directory o ≡ false → is_current (after v act refusal rest).files.directory o ≡ false
+    → is_current v.files.directory o ≡ false → is_current (after_act v act refusal rest).files.directory o ≡ false
 
 -- nor by any calls in sequence
 abbrev pub StaleStaysForEver : Type 0
@@ -163,15 +163,15 @@ AcceptedOpenIsTold = (w : State) (p n : List ℕ) (first last version size : ℕ
 abbrev pub RebuiltFilesAreFound : Type 0
 RebuiltFilesAreFound = (v : State) (rest : Stream) (p n : List ℕ) (first last version number : ℕ) (layout : Layout) → Accepts v rest first last version
     → v.files.directory.file p n ≡ Some (Incarnation number layout version)
-    → found_at (after v Reopen None rest) p n first last ≡ Begins layout version (durable_at v.files (place_of p n number layout))
+    → found_at (after_act v Reopen None rest) p n first last ≡ Begins layout version (durable_at v.files (place_of p n number layout))
 
 -- and returns its version and the number of these bytes
 abbrev pub RebuiltOpenIsTold : Type 0
 RebuiltOpenIsTold = (v : State) (rest : Stream) (p n : List ℕ) (first last version number : ℕ) (layout : Layout) → Reached v → Accepts v rest first last version
     → v.files.directory.file p n ≡ Some (Incarnation number layout version)
-    → (answer (after v Reopen None rest) (Open p n (Some (first, last)))).0 ≡ told.Opened (length v.handles) (length (durable_at v.files (place_of p n number layout))) version
+    → (answer (after_act v Reopen None rest) (Open p n (Some (first, last)))).0 ≡ told.Opened (length v.handles) (length (durable_at v.files (place_of p n number layout))) version
 
 -- so a kept name opens in a rebuilt store too
 abbrev pub KeptNamesOpenAgain : Type 0
 KeptNamesOpenAgain = (v w : State) (p n : List ℕ) (version : BlobVersion) (first last : ℕ) (rest : Stream) → IsKept v p n version w → Accepts w rest first last version.0
-    → IsToldOf (after w Reopen None rest) p n version.0 (answer (after w Reopen None rest) (Open p n (Some (first, last)))).0
+    → IsToldOf (after_act w Reopen None rest) p n version.0 (answer (after_act w Reopen None rest) (Open p n (Some (first, last)))).0

@@ -15,8 +15,8 @@ next_of ([], None) = (0, ([], None))
 next_of ([], Some state) = ((plus_plus state).0, ([], Some (plus_plus state).1))
 
 -- a draw of 32 bits is the low half of one word
-abbrev pub scripted : Left → Stream
-scripted = stream_of (steps_u64_low next_of)
+abbrev pub scripted_stream : Left → Stream
+scripted_stream = stream_of (steps_u64_low next_of)
 
 -- the words of a script, and the seed of the words after them
 pub record Words : Type 0 where

@@ -2,14 +2,14 @@
 use Rattle.std.specs.Prelude.{◌<◌, ℕ, List, [], true, false, All, Option, Some, None, length, IfSome, option_map, fold}
 use Rattle.rand_core.specs.Stream.{Stream}
 use Rattle.blob_model.specs.Directory.{Directory, Raw, with_file, with_partition}
-use Rattle.blob_model.specs.Files.{Files, wrapped, durable_at}
+use Rattle.blob_model.specs.Files.{Files, wrap, durable_at}
 use Rattle.blob_model.specs.Places.{Place}
 use Rattle.blob_header.specs.Refusals.{Refusal}
 use Rattle.blob_draws.specs.declared.config.Config.{Config}
 use Rattle.blob_opens.specs.OpenNames.{OpenNames, Registration, none_open}
 use Rattle.rand_xoshiro.specs.SplitMix64.{splitmix_seed}
 use Rattle.rand_xoshiro.specs.Xoshiro256.{of_seed}
-use Rattle.blob_lab_model.specs.Scripted.{Words, scripted}
+use Rattle.blob_lab_model.specs.Scripted.{Words, scripted_stream}
 
 -- an open handle
 pub record Held : Type 0 where
@@ -49,11 +49,11 @@ with_image d (p, n, bytes) = record { has_partition = with_partition d.has_parti
 -- sets the images one after another
 abbrev pub start_on : List Image → Stream → Config → State
 start_on images stream config =
-    let files = wrapped (fold with_image empty_directory images) (λ o. []) 0 0 in
+    let files = wrap (fold with_image empty_directory images) (λ o. []) 0 0 in
     record { files = files; config = config; stream = stream; names = none_open 0; handles = []; syncs = [] }
 
 abbrev pub start : List Image → Words → Config → State
-start images words config = start_on images (scripted (words.given, option_map (λ seed. of_seed (splitmix_seed 32 seed)) words.seed)) config
+start images words config = start_on images (scripted_stream (words.given, option_map (λ seed. of_seed (splitmix_seed 32 seed)) words.seed)) config
 
 -- the incarnation of each handle has a number below the next one
 abbrev pub AreGiven : ℕ → List (Option Held) → Type 0

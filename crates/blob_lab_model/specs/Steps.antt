@@ -5,7 +5,7 @@ use Rattle.hex.specs.Hex.{encode_lower}
 use Rattle.blob_header.specs.Refusals.{Refusal, Injected, GenerationsExhausted, BlobAlreadyOpen}
 use Rattle.blob_memory.specs.Answers.{sync_refusal, open_refusal, partition_refusal, remove_refusal}
 use Rattle.blob_model.specs.Directory.{Directory}
-use Rattle.blob_model.specs.Files.{Files, started}
+use Rattle.blob_model.specs.Files.{Files, start_sync}
 use Rattle.blob_model.specs.Opening.{Opening, opening}
 use Rattle.blob_model.specs.Places.{Place}
 use Rattle.blob_draws.specs.Changes.{lacks_number}
@@ -13,7 +13,7 @@ use Rattle.blob_draws.specs.Faults.{WriteFate, draw, retention, write_fate}
 use Rattle.blob_script.specs.Acts.{Ask, Size, AcceptedVersions, OpenLoose, Remove, Crash, Reopen}
 use Rattle.blob_opens.specs.OpenNames as names
 use Rattle.blob_opens.specs.OpenNames.{OpenNames, Registration}
-use Rattle.blob_lab_model.specs.After.{changed}
+use Rattle.blob_lab_model.specs.After.{apply_act}
 use Rattle.blob_lab_model.specs.Denials.{refused_if, fate_denial}
 use Rattle.blob_lab_model.specs.Fixed.{Byte, is_on, asks_for}
 use Rattle.blob_lab_model.specs.States.{State, Held, Image, with_image}
@@ -73,29 +73,29 @@ reaches_through v slot ask b = elim slot [ None ↦ false | Some h ↦ is_on v.f
 -- Effects.
 
 -- files after a started sync with this outcome
-abbrev pub begun : Files → Held → Option Refusal → Files
-begun f h None = started f h.place h.live
-begun f h (Some refusal) = f
+abbrev pub files_after_start : Files → Held → Option Refusal → Files
+files_after_start f h None = start_sync f h.place h.live
+files_after_start f h (Some refusal) = f
 
 -- open names after an exclusive open ends; an open that isn't exclusive has no registration
-abbrev pub unregistered : OpenNames → Option Registration → OpenNames
-unregistered s registration = option_map_or (names.closed s) registration s
+abbrev pub close_registration : OpenNames → Option Registration → OpenNames
+close_registration s registration = option_map_or (names.release s) registration s
 
 -- a state with one handle closed
 abbrev pub with_closed : State → ℕ → Option Held → State
-with_closed v number slot = record v { names = unregistered v.names (option_and_then (λ h. h.registration) slot); handles = set v.handles number None }
+with_closed v number slot = record v { names = close_registration v.names (option_and_then (λ h. h.registration) slot); handles = set v.handles number None }
 
 abbrev pub with_images : Directory → List Image → Directory
 with_images d images = fold with_image d images
 
 abbrev pub loosely_opened : State → List ℕ → List ℕ → AcceptedVersions → Option Refusal → State
-loosely_opened v p n versions refusal = changed v (OpenLoose p n (Some versions)) refusal
+loosely_opened v p n versions refusal = apply_act v (OpenLoose p n (Some versions)) refusal
 
 abbrev pub removal_step : State → List ℕ → Option (List ℕ) → Option Refusal → State
-removal_step v p n refusal = changed v (Remove p n) refusal
+removal_step v p n refusal = apply_act v (Remove p n) refusal
 
 abbrev pub crash_step : State → Option Refusal → State
-crash_step v refusal = changed v Crash refusal
+crash_step v refusal = apply_act v Crash refusal
 
 abbrev pub rebuilt : State → State
-rebuilt v = changed v Reopen None
+rebuilt v = apply_act v Reopen None

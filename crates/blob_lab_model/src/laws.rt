@@ -4,7 +4,7 @@ ghost use Rattle.std.specs.Prelude.{◌≡◌, [], None};
 ghost use Rattle.rand_core.specs.Stream.{Stream};
 ghost use Rattle.blob_script.specs.Acts.{Crash};
 ghost use Rattle.blob_script.specs.Told as told;
-ghost use Rattle.blob_lab_model.specs.After.{after};
+ghost use Rattle.blob_lab_model.specs.After.{after_act};
 ghost use Rattle.blob_lab_model.specs.Answers.{answer};
 ghost use Rattle.blob_lab_model.specs.Exclusive.{HoldNames, Sole};
 ghost use Rattle.blob_lab_model.specs.Laws.{AskKeepsOtherFiles, AskKeepsTheDirectory, StaleAskChangesNothing};
@@ -27,7 +27,7 @@ pub fn crashes()
     ensures rows { CrashRepliesWithItsRows }
     ensures left { CrashReplaysTheLog }
     ensures headers { CrashKeepsHeaders }
-    ensures again { (v : State) (rest : Stream) → answer (after v Crash None rest) Crash ≡ (told.Crashed [], rest) }
+    ensures again { (v : State) (rest : Stream) → answer (after_act v Crash None rest) Crash ≡ (told.Crashed [], rest) }
     ensures same { CrashAgainChangesNothing }
 {}
 

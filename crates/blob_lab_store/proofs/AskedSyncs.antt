@@ -3,7 +3,7 @@ use Rattle.std.proofs.Common.{◌≡◌, ◌≢◌, ℕ, ◌<◌, ◌-◌, ◌^�
 use Rattle.std.specs.Prelude.{IsSome}
 use Rattle.std.specs.Option.{option_or}
 use Rattle.blob_model.specs.Directory.{Directory}
-use Rattle.blob_model.specs.Files.{Files, started, published}
+use Rattle.blob_model.specs.Files.{Files, start_sync, publish}
 use Rattle.blob_header.specs.Refusals.{Refusal, Memory, refusal_of, GenerationsExhausted, Injected}
 use Rattle.blob_header.specs.declared.error.Error.{Error}
 use Rattle.blob_draws.specs.Answers.{injected_or, or_memory, allows_start}
@@ -14,7 +14,7 @@ use Rattle.blob_memory.specs.Store.{directory, durable}
 use Rattle.blob_script.specs.declared.reply.Reply.{Reply}
 use Rattle.blob_script.specs.declared.reply.Reply.TheVariants.{Done, Failed, Started}
 use Rattle.blob_script.specs.Acts.{Sync}
-use Rattle.blob_lab_model.specs.Steps.{begun, sync_denial}
+use Rattle.blob_lab_model.specs.Steps.{files_after_start, sync_denial}
 use Rattle.blob_lab_model.specs.Denials.{refused_if, start_denial}
 use Rattle.blob_lab_store.specs.LabStands.{Wrapper, Wraps, PerformsAsk, StartsSync, stream_of}
 use Rattle.blob_faulty.specs.Keeps.{IsFor}
@@ -42,10 +42,10 @@ module _ (w w' : Wrapper) (h : Held) (names : directory (store_of w') ≡ direct
   seen : (v : State) → Wraps w (as_of w v) → denial (directory (store_of w)) ≡ sync_denial (as_of w v) h
   seen v u i = denial (u.files.directory i)
 
-  pub sync_done : allowed None → ((f : Files) → IsFor w f → Stands (λ o. o) (directory (store_of w)) (durable (store_of w')) w' (published f h.place h.live)) → PerformsAsk w h Sync Done w' h
+  pub sync_done : allowed None → ((f : Files) → IsFor w f → Stands (λ o. o) (directory (store_of w)) (durable (store_of w')) w' (publish f h.place h.live)) → PerformsAsk w h Sync Done w' h
   sync_done a publishes = asks_by w w' h h Sync Done
       (λ v u. done_answers Done (sync_denial (as_of w v) h) told.Done (stream_of w') ((draw (config_of w).sync_rate (stream_of w)).1) tt (not_memory (denial (directory (store_of w))) (denied None a) ∙ seen v u) stream)
-      (λ v u below. subst (λ (d : Directory). Stands (λ o. o) d (durable (store_of w')) w' (published v.files h.place h.live)) (sym names) (publishes v.files u.files))
+      (λ v u below. subst (λ (d : Directory). Stands (λ o. o) d (durable (store_of w')) w' (publish v.files h.place h.live)) (sym names) (publishes v.files u.files))
       (λ v. refl) config
 
   pub sync_failed : (e : Error) → allowed (Some (refusal_of e)) → durable (store_of w') ≡ durable (store_of w) → KeepsRecords (λ o. o) w w' → PerformsAsk w h Sync (Failed e) w' h
@@ -79,21 +79,21 @@ module _ (w w' : Wrapper) (h : Held) (syncs : List (Option states.Started)) (nam
 
   -- what a started sync leaves of the files, by its outcome
   begins : (f : Files) (outcome : Option Refusal)
-      → (outcome ≡ None → Stands (λ o. o) (directory (store_of w)) (durable (store_of w')) w' (started f h.place h.live))
-      → (IsSome outcome → durable (store_of w') ≡ durable (store_of w)) → (IsSome outcome → KeepsRecords (λ o. o) w w') → IsFor w f → IsFor w' (begun f h outcome)
-  begins f None starts bytes kept s = subst (λ (d : Directory). Stands (λ o. o) d (durable (store_of w')) w' (started f h.place h.live)) (sym names) (starts refl)
+      → (outcome ≡ None → Stands (λ o. o) (directory (store_of w)) (durable (store_of w')) w' (start_sync f h.place h.live))
+      → (IsSome outcome → durable (store_of w') ≡ durable (store_of w)) → (IsSome outcome → KeepsRecords (λ o. o) w w') → IsFor w f → IsFor w' (files_after_start f h outcome)
+  begins f None starts bytes kept s = subst (λ (d : Directory). Stands (λ o. o) d (durable (store_of w')) w' (start_sync f h.place h.live)) (sym names) (starts refl)
   begins f (Some r) starts bytes kept s = stands_kept w w' f names (bytes refl) (kept refl) s
 
   pub start_done : (number : ℕ) (outcome : Option Refusal) (syncs' : List (Option states.Started)) → number ≡ length syncs → syncs' ≡ syncs ++ Some (record { outcome = outcome }) ∷ [] → outcome ≢ Some Memory → IsStartAllowed outcome
-      → ((f : Files) → h.place.number < (directory (store_of w)).next → outcome ≡ None → IsFor w f → Stands (λ o. o) (directory (store_of w)) (durable (store_of w')) w' (started f h.place h.live))
+      → ((f : Files) → h.place.number < (directory (store_of w)).next → outcome ≡ None → IsFor w f → Stands (λ o. o) (directory (store_of w)) (durable (store_of w')) w' (start_sync f h.place h.live))
       → (IsSome outcome → durable (store_of w') ≡ durable (store_of w)) → (IsSome outcome → KeepsRecords (λ o. o) w w') → StartsSync w h syncs (Started number) w' h syncs'
   start_done number outcome syncs' count added other a starts bytes kept = record {
     answers = λ v u same. inr (count ∙ ap length same, stream ∙ ap (λ (x : State). (draw x.config.sync_rate x.stream).1) (as_seen w v u));
     stands = λ v u below.
         let u' = subst (Wraps w) (sym (as_seen w v u)) u in
         record {
-          files = subst (λ (x : State). IsFor w' (begun x.files h (start_denial x h))) (as_seen w v u)
-              (subst (λ (x : Option Refusal). IsFor w' (begun v.files h x)) (outcome_is outcome a other v u')
+          files = subst (λ (x : State). IsFor w' (files_after_start x.files h (start_denial x h))) (as_seen w v u)
+              (subst (λ (x : Option Refusal). IsFor w' (files_after_start v.files h x)) (outcome_is outcome a other v u')
               (begins v.files outcome (λ done. starts v.files (subst (λ (d : Directory). h.place.number < d.next) (sym u.files.directory) below) done u.files) bytes kept u.files));
           config = config ∙ u.config;
           stream = refl;

@@ -10,8 +10,8 @@ use Rattle.blob_lab_store.specs.declared.lab.Lab.{Lab}
 use Rattle.blob_script.specs.declared.reply.Reply.{Reply}
 use Rattle.blob_script.specs.declared.reply.Reply.TheVariants as reply
 use Rattle.blob_script.specs.Acts.{Close, Finish, Through, Size}
-use Rattle.blob_lab_model.specs.After.{asked}
-use Rattle.blob_lab_model.specs.Steps.{unregistered, with_closed}
+use Rattle.blob_lab_model.specs.After.{after_ask}
+use Rattle.blob_lab_model.specs.Steps.{close_registration, with_closed}
 use Rattle.blob_lab_model.specs.Answers.{through, kept_at, unless_denied}
 use Rattle.blob_lab_store.specs.LabStands.{LabStandsFor, Performs, Wrapper, stream_of}
 use Rattle.blob_faulty.specs.Keeps.{IsFor}
@@ -41,7 +41,7 @@ module _ (lab lab' : Lab) (number : ℕ) (same : lab'.wrapper ≡ lab.wrapper) (
       (λ f s. subst (λ (o : Option Held). LabStandsFor lab' (record (with_closed (state_of lab f) number o) { stream = stream_of lab'.wrapper })) (sym gone) (subst (λ hs. LabStandsFor lab' (record (state_of lab f) { handles = hs; stream = stream_of lab'.wrapper })) (sym (emptied_again (handles_of lab.handles) number gone)) (stands_same lab lab' f same names handles syncs s)))
 
   -- an open handle
-  pub close_some : (h : Held) → kept_at (handles_of lab.handles) number ≡ Some h → names_of lab'.opens ≡ unregistered (names_of lab.opens) h.registration → handles_of lab'.handles ≡ set (handles_of lab.handles) number None → Performs lab (Close number) reply.Done lab'
+  pub close_some : (h : Held) → kept_at (handles_of lab.handles) number ≡ Some h → names_of lab'.opens ≡ close_registration (names_of lab.opens) h.registration → handles_of lab'.handles ≡ set (handles_of lab.handles) number None → Performs lab (Close number) reply.Done lab'
   close_some h here names handles = performs lab lab' (Close number) reply.Done
       (λ f s. inr (subst (λ (o : Option Held). Tells reply.Done (closed_told o)) (sym here) tt, ap stream_of same))
       (λ f s. subst (λ (o : Option Held). LabStandsFor lab' (record (with_closed (state_of lab f) number o) { stream = stream_of lab'.wrapper })) (sym here)
@@ -62,7 +62,7 @@ set_kept handles number h here =
 pub size_some : (lab : Lab) (number size : ℕ) (h : Held) → size ≡ h.size → kept_at (handles_of lab.handles) number ≡ Some h → Performs lab (Through number Size) (reply.Size size) lab
 size_some lab number size h is here = let table = set_kept (handles_of lab.handles) number h here in performs lab lab (Through number Size) (reply.Size size)
     (λ f s. inr (subst (λ (o : Option Held). Tells (reply.Size size) (through (state_of lab f) o Size).0) (sym here) is, subst (λ (o : Option Held). stream_of lab.wrapper ≡ (through (state_of lab f) o Size).1) (sym here) refl))
-    (λ f s. subst (λ (o : Option Held). LabStandsFor lab (record (asked (state_of lab f) number o Size None) { stream = stream_of lab.wrapper })) (sym here)
+    (λ f s. subst (λ (o : Option Held). LabStandsFor lab (record (after_ask (state_of lab f) number o Size None) { stream = stream_of lab.wrapper })) (sym here)
     (record {
       wrapper = record { files = s.wrapper.files; config = refl; stream = refl };
       names = refl;

@@ -13,7 +13,7 @@ use Rattle.blob_lab_store.specs.LabStands.{Performs, Wrapper, stream_of}
 use Rattle.blob_faulty.specs.Keeps.{IsFor}
 use Rattle.blob_opens.specs.OpenNames as names
 use Rattle.blob_opens.specs.Opens.{names_of}
-use Rattle.blob_lab_model.specs.Scripted.{scripted}
+use Rattle.blob_lab_model.specs.Scripted.{scripted_stream}
 use Rattle.blob_lab_model.specs.States.{AreGiven}
 use Rattle.blob_lab_store.specs.Tables.{handles_of, syncs_of}
 use Rattle.blob_lab_store.proofs.ExclusiveOpens.{exclusive_held, exclusive_declined, exclusive_memory, exclusive_exhausted}
@@ -22,7 +22,7 @@ use Rattle.blob_lab_store.proofs.OpenSteps.{given_kept}
 
 module _ (lab lab' : Lab) (p n : List ℕ) (first last : ℕ) (e : Error) (syncs : syncs_of lab'.syncs ≡ syncs_of lab.syncs) (handles : handles_of lab'.handles ≡ handles_of lab.handles) (held : names_of lab'.opens ≡ names_of lab.opens) where
   abbrev IsAnswered : Option Refusal → Type 0
-  IsAnswered answer = ExclusiveAnswer lab.wrapper lab'.wrapper p n first last scripted (names_of lab.opens) answer
+  IsAnswered answer = ExclusiveAnswer lab.wrapper lab'.wrapper p n first last scripted_stream (names_of lab.opens) answer
 
   pub exclusive_failed : (answer : Option Refusal) → IsAnswered answer → answer ≡ Some (refusal_of e) → Performs lab (Open p n (Some (first, last))) (reply.Failed e) lab'
   exclusive_failed answer (names.Accepted free left a m) same = cc

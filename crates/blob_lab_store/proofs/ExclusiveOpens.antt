@@ -6,7 +6,7 @@ use Rattle.hex.specs.Hex.{encode_lower}
 use Rattle.rand_core.specs.Stream.{Stream}
 use Rattle.std.specs.Option.{option_or}
 use Rattle.blob_model.specs.Directory.{Directory, File, Raw, Incarnation}
-use Rattle.blob_model.specs.Files.{Files, after_open, admitted}
+use Rattle.blob_model.specs.Files.{Files, after_open, admit}
 use Rattle.blob_model.specs.Opening.{Continues, Declines, IsOpened, opening, opening_raw}
 use Rattle.blob_header.specs.Parse.{Failure, InvalidMagic, UnsupportedLayoutVersion, LayoutMismatch, VersionMismatch, InvalidChecksum, InvalidPadding, Truncated, every_layout}
 use Rattle.blob_header.specs.PartitionName.{is_partition_name}
@@ -144,8 +144,8 @@ module _ (lab lab' : Lab) (p n : List ℕ) (first last : ℕ) where
       → h.registration ≡ Some (record { partition = p; name = n; number = (names_of lab.opens).next }) → handles_of lab'.handles ≡ handles_of lab.handles ++ Some h ∷ []
       → directory (store_of lab'.wrapper) ≡ directory (store_of w) → durable (store_of lab'.wrapper) ≡ durable (store_of w)
       → (names_of lab.opens).registered p n ≡ None → (names_of lab.opens).next < 2 ^ 64 - 1 → IsOpenAllowed lab.wrapper p n first last None
-      → names_of lab'.opens ≡ names.opened (names_of lab.opens) p n → syncs_of lab'.syncs ≡ syncs_of lab.syncs → config_of lab'.wrapper ≡ config_of lab.wrapper → stream_of lab'.wrapper ≡ drawn_left
-      → ((f : Files) → IsFor lab.wrapper f → IsFor lab'.wrapper (admitted (after_open f p n first last) p n)) → Performs lab (Open p n (Some (first, last))) (reply.Opened number size ver) lab'
+      → names_of lab'.opens ≡ names.open_name (names_of lab.opens) p n → syncs_of lab'.syncs ≡ syncs_of lab.syncs → config_of lab'.wrapper ≡ config_of lab.wrapper → stream_of lab'.wrapper ≡ drawn_left
+      → ((f : Files) → IsFor lab.wrapper f → IsFor lab'.wrapper (admit (after_open f p n first last) p n)) → Performs lab (Open p n (Some (first, last))) (reply.Opened number size ver) lab'
   exclusive_done w o live version h number size ver opens count long is place bytes tracked registered table same-names same-bytes free left a names syncs config stream stands = performs lab lab' (Open p n (Some (first, last))) (reply.Opened number size ver)
       (λ f s.
       let numbered : is_unnumbered (names_of lab.opens) p n ≡ false = numbered_false (names_of lab.opens) p n left in
@@ -156,7 +156,7 @@ module _ (lab lab' : Lab) (p n : List ℕ) (first last : ℕ) where
       (ap (λ (x : Option Refusal). option_or x None) store ∙ denial_seen f s false numbered None free)
       (stream ∙ left_seen f false numbered)))
       (λ f s.
-      let f' = admitted (after_open f p n first last) p n in
+      let f' = admit (after_open f p n first last) p n in
       let s' = stands f s.wrapper.files in
       let handles = open_adds lab lab' w p n first last o live version h number size ver opens count long is place bytes tracked table same-names same-bytes f' (Some (record { partition = p; name = n; number = (names_of lab.opens).next })) registered s' in
       record {

@@ -4,8 +4,8 @@ use Rattle.std.specs.Prelude.{is_some}
 use Rattle.rand_core.specs.Stream.{Stream}
 use Rattle.std.specs.Option.{option_or}
 use Rattle.blob_model.specs.Directory.{Directory}
-use Rattle.blob_model.specs.Draws.{Row, drawn, chosen_by}
-use Rattle.blob_model.specs.Files.{Files, admitted, after_remove, after_crash, reopened, all_needs}
+use Rattle.blob_model.specs.Draws.{Row, draw_rows, chosen_by}
+use Rattle.blob_model.specs.Files.{Files, admit, after_remove, after_crash, reopen, all_needs}
 use Rattle.blob_header.specs.Refusals.{Refusal, Memory, refusal_of, Injected}
 use Rattle.blob_header.specs.declared.error.Error.{Error}
 use Rattle.blob_model.proofs.NameSteps.{next_removed}
@@ -24,7 +24,7 @@ use Rattle.blob_lab_model.specs.Steps.{remove_denial, scan_denial}
 use Rattle.blob_lab_model.specs.Steps as steps
 use Rattle.blob_lab_store.specs.LabStands.{LabStandsFor, Performs, stream_of}
 use Rattle.blob_faulty.specs.Keeps.{IsFor}
-use Rattle.blob_opens.specs.OpenNames.{ended, none_open}
+use Rattle.blob_opens.specs.OpenNames.{end_names, none_open}
 use Rattle.blob_opens.specs.Opens.{names_of}
 use Rattle.blob_lab_model.specs.States.{AreGiven}
 use Rattle.blob_lab_store.specs.Tables.{handles_of, syncs_of}
@@ -43,7 +43,7 @@ module _ (lab lab' : Lab) (handles : handles_of lab'.handles ≡ handles_of lab.
         (λ f s. record { wrapper = record { files = stands f s.wrapper.files; config = set; stream = refl }; names = names; handles = handles; syncs = syncs; given = s.given })
 
     module _ (config : config_of lab'.wrapper ≡ config_of lab.wrapper) where
-      pub admit_done : (p n : List ℕ) → stream_of lab'.wrapper ≡ stream_of lab.wrapper → ((f : Files) → IsFor lab.wrapper f → IsFor lab'.wrapper (admitted f p n)) → Performs lab (Admit p n) reply.Done lab'
+      pub admit_done : (p n : List ℕ) → stream_of lab'.wrapper ≡ stream_of lab.wrapper → ((f : Files) → IsFor lab.wrapper f → IsFor lab'.wrapper (admit f p n)) → Performs lab (Admit p n) reply.Done lab'
       admit_done p n stream stands = performs lab lab' (Admit p n) reply.Done
           (λ f s. inr (tt, stream))
           (λ f s. record {
@@ -86,7 +86,7 @@ module _ (lab lab' : Lab) (handles : handles_of lab'.handles ≡ handles_of lab.
 
       -- A crash.
 
-      pub crash_done : (r : Reply) (rows : List Row) → refused_by r ≡ None → Tells r (told.Crashed rows) → ((f : Files) → IsFor lab.wrapper f → (rows, stream_of lab'.wrapper) ≡ drawn (stream_of lab.wrapper) (all_needs f.log))
+      pub crash_done : (r : Reply) (rows : List Row) → refused_by r ≡ None → Tells r (told.Crashed rows) → ((f : Files) → IsFor lab.wrapper f → (rows, stream_of lab'.wrapper) ≡ draw_rows (stream_of lab.wrapper) (all_needs f.log))
           → ((f : Files) → IsFor lab.wrapper f → IsFor lab'.wrapper (after_crash f (chosen_by rows))) → Performs lab Crash r lab'
       crash_done r rows done tells draws stands = performs lab lab' Crash r
           (λ f s. inr (subst (λ (x : List Row). Tells r (told.Crashed x)) (ap (λ (d : List Row × Stream). d.0) (draws f s.wrapper.files)) tells, ap (λ (d : List Row × Stream). d.1) (draws f s.wrapper.files)))
@@ -120,7 +120,7 @@ module _ (lab lab' : Lab) (handles : handles_of lab'.handles ≡ handles_of lab.
     remove_denied : (answer : Option Refusal) → IsRemoveAllowed answer → OrMemory (remove_denied_by (directory (store_of lab.wrapper))) answer
     remove_denied answer a = drawn_denial (draw (config_of lab.wrapper).remove_rate (stream_of lab.wrapper)).0 (OrMemory (remove_refusal (directory (store_of lab.wrapper)) p n)) (remove_refusal (directory (store_of lab.wrapper)) p n) (λ answer' m. m) answer a
 
-    pub remove_done : IsRemoveAllowed None → names_of lab'.opens ≡ ended (names_of lab.opens) p n → ((f : Files) → IsFor lab.wrapper f → IsFor lab'.wrapper (after_remove f p n)) → Performs lab (Remove p n) reply.Done lab'
+    pub remove_done : IsRemoveAllowed None → names_of lab'.opens ≡ end_names (names_of lab.opens) p n → ((f : Files) → IsFor lab.wrapper f → IsFor lab'.wrapper (after_remove f p n)) → Performs lab (Remove p n) reply.Done lab'
     remove_done a names stands = performs lab lab' (Remove p n) reply.Done
         (λ f s.
         done_answers reply.Done (remove_denial (state_of lab f) p n) told.Done (stream_of lab'.wrapper) ((draw (config_of lab.wrapper).remove_rate (stream_of lab.wrapper)).1) tt
@@ -142,7 +142,7 @@ module _ (lab lab' : Lab) (handles : handles_of lab'.handles ≡ handles_of lab.
 
   -- a store that is rebuilt, and wrapped again
   pub reopen_done : names_of lab'.opens ≡ none_open (names_of lab.opens).next → syncs_of lab'.syncs ≡ map (λ slot. None) (syncs_of lab.syncs) → config_of lab'.wrapper ≡ config_of lab.wrapper → stream_of lab'.wrapper ≡ stream_of lab.wrapper
-      → ((f : Files) → IsFor lab.wrapper f → IsFor lab'.wrapper (reopened f)) → Performs lab Reopen reply.Done lab'
+      → ((f : Files) → IsFor lab.wrapper f → IsFor lab'.wrapper (reopen f)) → Performs lab Reopen reply.Done lab'
   reopen_done names syncs config stream stands = performs lab lab' Reopen reply.Done
       (λ f s. inr (tt, stream))
       (λ f s. record { wrapper = record { files = stands f s.wrapper.files; config = config; stream = refl }; names = names; handles = handles; syncs = syncs; given = s.given })

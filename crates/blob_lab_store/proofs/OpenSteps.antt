@@ -11,7 +11,7 @@ use Rattle.blob_model.specs.Stands.{StandsAt}
 use Rattle.blob_model.proofs.NameSteps.{read_by_open}
 use Rattle.blob_model.proofs.Opened.{next_opened}
 use Rattle.blob_faulty.specs.Wrapper.{inner_of as store_of, pending_of}
-use Rattle.blob_memory.specs.Laws.{currents, given}
+use Rattle.blob_memory.specs.Laws.{currents, current_below_next}
 use Rattle.blob_memory.specs.Store.{directory, durable}
 use Rattle.blob_lab_model.specs.Answers.{opened_size, opened_version}
 use Rattle.blob_lab_store.specs.LabStands.{Wrapper}
@@ -45,7 +45,7 @@ version_found d d' bytes bytes' p n first last o live version (Begun layout open
 
 -- an incarnation with durable bytes has a number that was given
 number_given : (w : Wrapper) (o : Place) (live : List ℕ) → durable (store_of w) o ≡ Some live → o.number < (directory (store_of w)).next
-number_given w o live holds = given (store_of w).contents o (sym (currents (store_of w).contents o) ∙ ap is_some holds)
+number_given w o live holds = current_below_next (store_of w).contents o (sym (currents (store_of w).contents o) ∙ ap is_some holds)
 
 -- with it all handles are on incarnations that were made
 pub given_opened : (w w' : Wrapper) (p n : List ℕ) (first last : ℕ) (o : Place) (live : List ℕ) (version : ℕ) (handles : List (Option Held)) (h : Held) → IsOpened (directory (store_of w)) (durable (store_of w)) (directory (store_of w')) (durable (store_of w')) p n first last o live version

@@ -6,7 +6,7 @@ use Rattle.blob_memory.specs.Store.{directory, durable}
 use Rattle.blob_lab_store.specs.declared.lab.Lab.{Lab}
 use Rattle.blob_script.specs.declared.reply.Reply.{Reply}
 use Rattle.blob_script.specs.Acts.{Act}
-use Rattle.blob_lab_model.specs.After.{after}
+use Rattle.blob_lab_model.specs.After.{after_act}
 use Rattle.blob_lab_model.specs.Answers.{Answers}
 use Rattle.blob_lab_store.specs.LabStands.{LabStandsFor, Performs, Wrapper, stream_of}
 use Rattle.blob_opens.specs.Opens.{names_of}
@@ -23,11 +23,11 @@ seen lab v h i = record { files = v.files; config = h.wrapper.config i; stream =
 
 pub performs : (lab lab' : Lab) (act : Act) (reply : Reply)
     → ((f : Files) → LabStandsFor lab (state_of lab f) → Answers (state_of lab f) act reply (stream_of lab'.wrapper))
-    → ((f : Files) → LabStandsFor lab (state_of lab f) → LabStandsFor lab' (after (state_of lab f) act (refused_by reply) (stream_of lab'.wrapper)))
+    → ((f : Files) → LabStandsFor lab (state_of lab f) → LabStandsFor lab' (after_act (state_of lab f) act (refused_by reply) (stream_of lab'.wrapper)))
     → Performs lab act reply lab'
 performs lab lab' act reply a s = record {
   answers = λ v h. subst (λ (w : State). Answers w act reply (stream_of lab'.wrapper)) (seen lab v h) (a v.files (subst (LabStandsFor lab) (sym (seen lab v h)) h));
-  stands = λ v h. subst (λ (w : State). LabStandsFor lab' (after w act (refused_by reply) (stream_of lab'.wrapper))) (seen lab v h) (s v.files (subst (LabStandsFor lab) (sym (seen lab v h)) h));
+  stands = λ v h. subst (λ (w : State). LabStandsFor lab' (after_act w act (refused_by reply) (stream_of lab'.wrapper))) (seen lab v h) (s v.files (subst (LabStandsFor lab) (sym (seen lab v h)) h));
 }
 
 -- a laboratory with the same wrapper, and the same names and tables as seen through their views

@@ -3,7 +3,7 @@ use Rattle.std.proofs.Common.{◌≡◌, ℕ, List, [], true, Some, None, Option
 use Rattle.std.specs.Prelude.{unwrap_or, is_some}
 use Rattle.blob_model.specs.Directory.{Directory, is_current}
 use Rattle.blob_model.specs.Durable.{Durable}
-use Rattle.blob_model.specs.Files.{Files, directory_again, reopened}
+use Rattle.blob_model.specs.Files.{Files, directory_again, reopen}
 use Rattle.blob_model.specs.Pending.{Pending}
 use Rattle.blob_model.specs.Places.{Place}
 use Rattle.blob_model.specs.Stands.{StandsFor}
@@ -24,15 +24,15 @@ Snapshots = (names names_after : Directory) (bytes bytes_after : Durable) (lists
     names_after ≡ directory_again kept names →
     ((a : Place) → bytes_after a ≡ None) →
     ((a : Place) → lists_after a ≡ []) →
-    StandsFor names bytes lists write marker files → StandsFor names_after bytes_after lists_after 0 0 (reopened files)
+    StandsFor names bytes lists write marker files → StandsFor names_after bytes_after lists_after 0 0 (reopen files)
 
 abbrev Numbers : Type 0
 Numbers = ℕ × ℕ
 
 pub rebuilt_for : (w w' : Wrapper) (f : Files) → Snapshots → directory (store_of w') ≡ directory_again (λ o. unwrap_or (durable (store_of w) o) []) (directory (store_of w)) → durable (store_of w') ≡ (λ o. None) → pending_of (λ o. o) w' ≡ (λ o. [])
-    → next_write_of w' ≡ 0 → next_marker_of w' ≡ 0 → IsFor w f → IsFor w' (reopened f)
+    → next_write_of w' ≡ 0 → next_marker_of w' ≡ 0 → IsFor w f → IsFor w' (reopen f)
 rebuilt_for w w' f law names bytes lists write marker s =
     let now = law (directory (store_of w)) (directory (store_of w')) (durable (store_of w)) (durable (store_of w')) (pending_of (λ o. o) w) (pending_of (λ o. o) w') (next_write_of w) (next_marker_of w) f (λ o. unwrap_or (durable (store_of w) o) [])
     (λ o is. filled (durable (store_of w) o) (currents (store_of w).contents o ∙ is)) names (λ o i. bytes i o) (λ o i. lists i o) s in
     let numbers : (0, 0) ≡ (next_write_of w', next_marker_of w') = λ i. (sym write i, sym marker i) in
-    subst (λ (k : Numbers). StandsFor (directory (store_of w')) (durable (store_of w')) (pending_of (λ o. o) w') k.0 k.1 (reopened f)) numbers now
+    subst (λ (k : Numbers). StandsFor (directory (store_of w')) (durable (store_of w')) (pending_of (λ o. o) w') k.0 k.1 (reopen f)) numbers now

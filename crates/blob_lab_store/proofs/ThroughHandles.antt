@@ -8,7 +8,7 @@ use Rattle.blob_lab_store.specs.declared.lab.Lab.{Lab}
 use Rattle.blob_script.specs.declared.reply.Reply.{Reply}
 use Rattle.blob_script.specs.declared.reply.Reply.TheVariants.{NoHandle}
 use Rattle.blob_script.specs.Acts.{Ask, Size, StartSync, Through}
-use Rattle.blob_lab_model.specs.After.{asked, files_after, held_after, syncs_after}
+use Rattle.blob_lab_model.specs.After.{after_ask, files_after, held_after, syncs_after}
 use Rattle.blob_lab_model.specs.Answers.{IsAnswer, through, may_grow, kept_at}
 use Rattle.blob_lab_model.specs.Steps.{asks_memory}
 use Rattle.blob_lab_store.specs.LabStands.{LabStandsFor, Performs, PerformsAsk, StartsSync, stream_of}
@@ -35,7 +35,7 @@ module _ (lab lab' : Lab) (number : ℕ) (ask : Ask) (names : names_of lab'.open
   pub through_none : kept_at (handles_of lab.handles) number ≡ None → lab'.wrapper ≡ lab.wrapper → handles_of lab'.handles ≡ handles_of lab.handles → Performs lab (Through number ask) NoHandle lab'
   through_none gone w hs = performs lab lab' (Through number ask) NoHandle
       (λ f s. subst (λ (o : Option Held). IsAnswer (may_grow (state_of lab f) (Through number ask)) (through (state_of lab f) o ask) NoHandle (stream_of lab'.wrapper)) (sym gone) (inr (tt, ap stream_of w)))
-      (λ f s. subst (λ (o : Option Held). LabStandsFor lab' (record (asked (state_of lab f) number o ask None) { stream = stream_of lab'.wrapper })) (sym gone) (stands_same lab lab' f w names hs syncs s))
+      (λ f s. subst (λ (o : Option Held). LabStandsFor lab' (record (after_ask (state_of lab f) number o ask None) { stream = stream_of lab'.wrapper })) (sym gone) (stands_same lab lab' f w names hs syncs s))
 
   module _ (h h' : Held) (reply : Reply) (grows : asks_memory ask (Some h) ≡ true) (plain : (v : State) (r : Option Refusal) → syncs_after v h ask r ≡ v.syncs) where
     -- an open handle, that is put back into its slot
@@ -50,7 +50,7 @@ module _ (lab lab' : Lab) (number : ℕ) (ask : Ask) (names : names_of lab'.open
         let r = refused_by reply in
         let below : h.place.number < f.directory.next = given_at f.directory.next number (handles_of lab.handles) h s.given here in
         let now = asks.stands v s.wrapper below in
-        subst (λ (o : Option Held). LabStandsFor lab' (record (asked v number o ask r) { stream = stream_of lab'.wrapper })) (sym here)
+        subst (λ (o : Option Held). LabStandsFor lab' (record (after_ask v number o ask r) { stream = stream_of lab'.wrapper })) (sym here)
         (record {
           wrapper = record { files = now.files; config = now.config; stream = refl };
           names = names;
@@ -69,7 +69,7 @@ through_started lab lab' number h reply names here starts table = performs lab l
     let r = refused_by reply in
     let below : h.place.number < f.directory.next = given_at f.directory.next number (handles_of lab.handles) h s.given here in
     let now = starts.stands v s.wrapper below in
-    subst (λ (o : Option Held). LabStandsFor lab' (record (asked v number o StartSync r) { stream = stream_of lab'.wrapper })) (sym here)
+    subst (λ (o : Option Held). LabStandsFor lab' (record (after_ask v number o StartSync r) { stream = stream_of lab'.wrapper })) (sym here)
     (record {
       wrapper = record { files = now.files; config = now.config; stream = refl };
       names = names;

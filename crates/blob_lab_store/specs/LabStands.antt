@@ -8,10 +8,10 @@ use Rattle.blob_lab_store.specs.declared.lab.handles.Handle.{Handle}
 use Rattle.blob_lab_store.specs.declared.lab.syncs.Syncs.{Syncs}
 use Rattle.blob_script.specs.declared.reply.Reply.{Reply}
 use Rattle.blob_script.specs.Acts.{Act, Ask, StartSync}
-use Rattle.blob_lab_model.specs.After.{after, files_after, held_after, syncs_after}
+use Rattle.blob_lab_model.specs.After.{after_act, files_after, held_after, syncs_after}
 use Rattle.blob_lab_model.specs.Answers.{Answers, IsAnswer, through}
 use Rattle.blob_opens.specs.Opens.{names_of}
-use Rattle.blob_lab_model.specs.Scripted.{Left, scripted}
+use Rattle.blob_lab_model.specs.Scripted.{Left, scripted_stream}
 use Rattle.blob_lab_model.specs.States.{State, Held, Started, AreGiven}
 use Rattle.blob_lab_store.specs.Tables.{as_held, handles_of, syncs_of}
 use Rattle.blob_script.specs.Told.{refused_by}
@@ -21,7 +21,7 @@ abbrev pub Wrapper : Type 0
 Wrapper = OverMemory Left
 
 abbrev pub stream_of : Wrapper → Stream
-stream_of w = scripted (rng_of w)
+stream_of w = scripted_stream (rng_of w)
 
 -- a wrapper has a state's configuration and stream, and represents its files
 pub record Wraps (w : Wrapper) (v : State) : Type 0 where
@@ -44,7 +44,7 @@ wrapper_of lab = lab.wrapper
 -- represents the state after the call
 pub record Performs (lab : Lab) (act : Act) (reply : Reply) (lab' : Lab) : Type 0 where
   pub answers : (v : State) → LabStandsFor lab v → Answers v act reply (stream_of lab'.wrapper)
-  pub stands : (v : State) → LabStandsFor lab v → LabStandsFor lab' (after v act (refused_by reply) (stream_of lab'.wrapper))
+  pub stands : (v : State) → LabStandsFor lab v → LabStandsFor lab' (after_act v act (refused_by reply) (stream_of lab'.wrapper))
 
 -- the same of what is asked through a handle, of the wrapper and the handle alone; syncs that are started stand apart
 pub record PerformsAsk (w : Wrapper) (h : Held) (ask : Ask) (reply : Reply) (w' : Wrapper) (h' : Held) : Type 0 where

@@ -4,7 +4,7 @@ use Rattle.std.specs.Global.{Global}
 use Rattle.std.specs.Range.{range_inclusive_start, range_inclusive_end}
 use Rattle.std.specs.declared.ops.RangeInclusive.{RangeInclusive}
 use Rattle.blob_base.specs.Handles.{outcome_of}
-use Rattle.blob_header.specs.Refusals.{refused}
+use Rattle.blob_header.specs.Refusals.{error_of}
 use Rattle.blob_header.specs.declared.version.BlobVersion.{BlobVersion}
 use Rattle.blob_base.specs.declared.handle.Handle as base
 use Rattle.blob_faulty.specs.Wrapper.{inside, size_of}
@@ -21,7 +21,7 @@ abbrev pub handles_of : Handles → List (Option Held)
 handles_of handles = map (option_map as_held) handles.slots.items
 
 abbrev pub started_by : base.Handle → Started
-started_by h = record { outcome = refused (outcome_of h) }
+started_by h = record { outcome = error_of (outcome_of h) }
 
 abbrev pub syncs_of : Syncs → List (Option Started)
 syncs_of syncs = map (option_map started_by) syncs.slots.items

@@ -1,7 +1,7 @@
 //! The laboratory: a faulty memory store, its open handles and started syncs, and calls as data.
 ghost use Rattle.std.specs.Prelude.{◌≡◌, IfOk, OnErr};
 ghost use Rattle.blob_header.specs.Refusals.{IsMemory};
-ghost use Rattle.blob_lab_model.specs.Scripted.{behind_seeded, only, scripted};
+ghost use Rattle.blob_lab_model.specs.Scripted.{behind_seeded, only, scripted_stream};
 ghost use Rattle.blob_lab_model.specs.States.{start, start_on};
 ghost use Rattle.blob_lab_store.specs.LabRuns.{PersistsExclusively, RunsTo, StartsAt};
 ghost use Rattle.blob_lab_store.specs.Tables.{images_of};
@@ -72,7 +72,7 @@ impl Lab {
         rng: ScriptedRng,
         config: Config,
     ) -> Result<Lab, Error>
-        ensures stands { StartsAt result (start_on (images_of images.items) (scripted rng) config) }
+        ensures stands { StartsAt result (start_on (images_of images.items) (scripted_stream rng) config) }
         ensures memory { OnErr result (IsMemory result) }
     {
         let alloc = *images.allocator();

@@ -1,7 +1,7 @@
 //! A generator with given first words.
 ghost use Rattle.std.specs.Prelude.{◌≡◌, ◌++◌, IfOk, IfSome, is_none, is_some};
 ghost use Rattle.blob_tree.specs.WordsLeft.{EndsAfter};
-ghost use Rattle.blob_lab_model.specs.Scripted.{next_of, scripted};
+ghost use Rattle.blob_lab_model.specs.Scripted.{next_of, scripted_stream};
 ghost use Rattle.rand_xoshiro.specs.SplitMix64.{splitmix_seed};
 ghost use Rattle.rand_xoshiro.specs.Xoshiro256.{of_seed};
 
@@ -57,7 +57,7 @@ impl ScriptedRng {
 
     /// Returns how many words are left, up to the last given word that isn't zero. `None` if a seed gives the words after them.
     pub fn left(&self) -> Option<usize>
-        ensures left { IfSome result (λ n. EndsAfter (scripted self.now) n) }
+        ensures left { IfSome result (λ n. EndsAfter (scripted_stream self.now) n) }
         ensures none { is_some result ≡ is_none self.now.1 }
     {
         if self.behind.is_some() {
@@ -101,7 +101,7 @@ impl NextWord<u64> for ScriptedRng {
 }
 
 impl Rng for ScriptedRng {
-    ghost stream = { scripted };
+    ghost stream = { scripted_stream };
 
     fn next_u32(&mut self) -> u32 {
         let word = self.next_word();

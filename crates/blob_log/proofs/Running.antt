@@ -4,7 +4,7 @@ use Rattle.std.specs.Global.{Global}
 use Rattle.std.specs.Prelude.{Vec, Result, Ok, Err, OnOk, OnErr, is_ok, is_none}
 use Rattle.std.proofs.lemmas.Bool.{false≢true, true≢false}
 use Rattle.rand_core.specs.Stream.{Stream}
-use Rattle.blob_header.specs.Refusals.{refused}
+use Rattle.blob_header.specs.Refusals.{error_of}
 use Rattle.blob_header.specs.declared.error.Error.{Error}
 use Rattle.blob_model.specs.Draws.{Row, chosen_by}
 use Rattle.blob_model.specs.Files.{after_crash}
@@ -18,15 +18,15 @@ use Rattle.blob_log.specs.Held.{record_bytes}
 use Rattle.blob_log.specs.Runs.{AllRun, Appends, AppendsAll, Crashes, SessionRuns}
 
 -- whether an answer is Ok
-pub ok_told : {T : Type 0} (r : Result T Error) → is_ok r ≡ is_none (refused r)
+pub ok_told : {T : Type 0} (r : Result T Error) → is_ok r ≡ is_none (error_of r)
 ok_told (Ok x) = refl
 ok_told (Err e) = refl
 
-pub if_done : {T : Type 0} (r : Result T Error) (done : Bool) (Q : Type 0) → done ≡ is_none (refused r) → OnOk r Q → done ≡ true → Q
+pub if_done : {T : Type 0} (r : Result T Error) (done : Bool) (Q : Type 0) → done ≡ is_none (error_of r) → OnOk r Q → done ≡ true → Q
 if_done (Ok x) done Q is q t = q
 if_done (Err e) done Q is q t = absurd (false≢true (sym is ∙ t))
 
-pub if_failed : {T : Type 0} (r : Result T Error) (done : Bool) (Q : Type 0) → done ≡ is_none (refused r) → OnErr r Q → done ≡ false → Q
+pub if_failed : {T : Type 0} (r : Result T Error) (done : Bool) (Q : Type 0) → done ≡ is_none (error_of r) → OnErr r Q → done ≡ false → Q
 if_failed (Ok x) done Q is q f = absurd (true≢false (sym is ∙ f))
 if_failed (Err e) done Q is q f = q
 

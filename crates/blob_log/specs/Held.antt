@@ -55,22 +55,22 @@ abbrev pub record_bytes : List (Vec ℕ Global) → List (List ℕ)
 record_bytes records = map (λ r. r.items) records
 
 -- the records for which an append returned Ok, in order; the flags say of each append whether it did
-abbrev pub acknowledged : List Bool → List (List ℕ) → List (List ℕ)
-acknowledged [] records = []
-acknowledged (b ∷ answers) [] = []
-acknowledged (b ∷ answers) (r ∷ records) = if b then r ∷ acknowledged answers records else acknowledged answers records
+abbrev pub acknowledged_records : List Bool → List (List ℕ) → List (List ℕ)
+acknowledged_records [] records = []
+acknowledged_records (b ∷ answers) [] = []
+acknowledged_records (b ∷ answers) (r ∷ records) = if b then r ∷ acknowledged_records answers records else acknowledged_records answers records
 
 abbrev pub acknowledged_in : Vec Bool Global → List (Vec ℕ Global) → List (List ℕ)
-acknowledged_in answers records = acknowledged answers.items (record_bytes records)
+acknowledged_in answers records = acknowledged_records answers.items (record_bytes records)
 
 -- the records that a session found, then those that were acknowledged to it
-abbrev pub trusted : Session × Vec (Vec ℕ Global) Global → List (List ℕ)
-trusted (session, records) = record_bytes session.before.items ++ acknowledged session.answers.items (record_bytes records.items)
+abbrev pub trusted_records : Session × Vec (Vec ℕ Global) Global → List (List ℕ)
+trusted_records (session, records) = record_bytes session.before.items ++ acknowledged_records session.answers.items (record_bytes records.items)
 
 -- for each of these sessions, which were asked to append these records, the trusted records are a prefix of what is
 -- found in the end
 abbrev pub Survive : List Session → List (Vec (Vec ℕ Global) Global) → List (List ℕ) → Type 0
-Survive sessions asked after = All (λ s. BeginsWith (trusted s) after) (zip sessions asked)
+Survive sessions asked after = All (λ s. BeginsWith (trusted_records s) after) (zip sessions asked)
 
 -- the sessions survive if the wrapper represented some files before the first one
 abbrev pub SurviveFrom : {R : Type 0} → OverMemory R → List Session → List (Vec (Vec ℕ Global) Global) → List (List ℕ) → Type 0

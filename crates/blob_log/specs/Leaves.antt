@@ -2,7 +2,7 @@
 use Rattle.std.specs.Prelude.{◌≡◌, ◌⊎◌, ℕ, true, false, List, length}
 use Rattle.blob_model.specs.Bytes.{lies}
 use Rattle.blob_model.specs.Directory.{is_current}
-use Rattle.blob_model.specs.Files.{Files, logged, all_logged}
+use Rattle.blob_model.specs.Files.{Files, log_entry, all_logged}
 use Rattle.blob_model.specs.Live.{live_written}
 use Rattle.blob_model.specs.Log.{Entry, Kept}
 use Rattle.blob_model.specs.Persistence.{any_touches}
@@ -29,7 +29,7 @@ MayOpenLog before after p n = StaysSame before after ⊎ OpensAdmitted before af
 -- the frame is written once, at the log's end, and all of it is kept; no other entry is recorded, retired or made
 -- durable
 abbrev pub AppendsFrame : {R : Type 0} → Log → List ℕ → OverMemory R → OverMemory R → Type 0
-AppendsFrame log entry before after = (files : Files) → IsFor before files → IsFor after (logged files (log_place log) (Kept (log_end log) (frame entry)))
+AppendsFrame log entry before after = (files : Files) → IsFor before files → IsFor after (log_entry files (log_place log) (Kept (log_end log) (frame entry)))
 
 -- entries that touch nothing but these n bytes
 abbrev pub LieIn : ℕ → ℕ → List Entry → Type 0

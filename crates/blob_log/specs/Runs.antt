@@ -3,7 +3,7 @@ use Rattle.std.specs.Prelude.{◌≡◌, ◌≢◌, List, [], ◌∷◌, ℕ, Bo
 use Rattle.std.specs.Global.{Global}
 use Rattle.rand_core.specs.Stream.{Stream}
 use Rattle.blob_header.specs.Refusals.{Refusal, Memory}
-use Rattle.blob_model.specs.Draws.{drawn, chosen_by}
+use Rattle.blob_model.specs.Draws.{draw_rows, chosen_by}
 use Rattle.blob_model.specs.Files.{Files, all_needs, after_crash}
 use Rattle.blob_faulty.specs.Admitted.{OpensAdmitted}
 use Rattle.blob_faulty.specs.Answers.{Allowed, allows_write}
@@ -56,8 +56,8 @@ pub record Recovers {R : Type 0} (w : OverMemory R) (p n : List ℕ) (log : Log)
 
 -- a crash: it draws a row for each write that it may lose, and the rows decide what is left
 pub record Crashes {R : Type 0} (stream : R → Stream) (w w' : OverMemory R) : Type 0 where
-  pub left : (files : Files) → IsFor w files → IsFor w' (after_crash files (chosen_by (drawn (stream (rng_of w)) (all_needs files.log)).0))
-  pub drawn : (files : Files) → IsFor w files → stream (rng_of w') ≡ (drawn (stream (rng_of w)) (all_needs files.log)).1
+  pub left : (files : Files) → IsFor w files → IsFor w' (after_crash files (chosen_by (draw_rows (stream (rng_of w)) (all_needs files.log)).0))
+  pub drawn : (files : Files) → IsFor w files → stream (rng_of w') ≡ (draw_rows (stream (rng_of w)) (all_needs files.log)).1
   pub config : config_of w' ≡ config_of w
 
 -- a session of an open log: its appends, a crash, and the recovery after it

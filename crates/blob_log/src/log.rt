@@ -1,6 +1,6 @@
 //! A log of records in one blob of a fault wrapper.
 ghost use Rattle.std.specs.Prelude.{◌≡◌, ◌∷◌, [], List, ℕ, OnOk, OnErr, IfOk};
-ghost use Rattle.blob_header.specs.Refusals.{refused};
+ghost use Rattle.blob_header.specs.Refusals.{error_of};
 ghost use Rattle.blob_model.specs.Opened.{IsNamed};
 ghost use Rattle.blob_model.specs.Places.{Place};
 ghost use Rattle.blob_faulty.specs.Admitted.{OpensAdmitted};
@@ -50,7 +50,7 @@ impl Log {
         ensures failed { OnErr result (TriesFrame self.old entry.now store.old store.new) }
         ensures live { OnOk result (log_live self.new ≡ live_appended self.old entry.now) }
         ensures config { config_of store.new ≡ config_of store.old }
-        ensures answer { MayAppendTo R.stream self.old store.old entry.now (refused result) }
+        ensures answer { MayAppendTo R.stream self.old store.old entry.now (error_of result) }
     {
         writes::<blob_memory::Storage, R, blob_memory::Blob>();
         recorded::<blob_memory::Storage, R>();
@@ -89,7 +89,7 @@ impl Log {
         ensures opened { OnOk result (OpensAdmitted store.old store.new partition.now name.now 0 0) }
         ensures failed { OnErr result (MayOpenLog store.old store.new partition.now name.now) }
         ensures config { config_of store.new ≡ config_of store.old }
-        ensures answer { MayRecover R.stream store.old partition.now name.now (refused result) }
+        ensures answer { MayRecover R.stream store.old partition.now name.now (error_of result) }
     {
         accepted_opens();
         unrecorded_calls::<blob_memory::Storage, R>();

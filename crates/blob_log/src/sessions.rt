@@ -1,6 +1,6 @@
 //! A log through crashes: what was acknowledged is found again.
 ghost use Rattle.std.specs.Prelude.{◌≡◌, ◌≢◌, Some, IfOk, is_none, length};
-ghost use Rattle.blob_header.specs.Refusals.{refused, Memory};
+ghost use Rattle.blob_header.specs.Refusals.{error_of, Memory};
 ghost use Rattle.blob_log.specs.Held.{AddsRecords, AreAnswered, Survive, SurviveFrom, acknowledged_in, log_place, record_bytes};
 ghost use Rattle.blob_log.specs.Refused.{MayStop};
 ghost use Rattle.blob_log.specs.Runs.{AppendsEach, RunsAnew, RunsSessions};
@@ -22,7 +22,7 @@ pub struct Session {
 
 /// Returns whether an append succeeded. Fails if it ran out of memory.
 fn settled(answer: Result<(), Error>) -> Result<bool, AllocError>
-    ensures { IfOk result (λ done. (done ≡ is_none (refused answer)) × (refused answer ≢ Some Memory)) }
+    ensures { IfOk result (λ done. (done ≡ is_none (error_of answer)) × (error_of answer ≢ Some Memory)) }
 {
     match answer {
         Ok(()) => Ok(true),
@@ -66,7 +66,7 @@ pub fn sessions_survive<R: Rng>(
     name: &[u8],
     sessions: &[Vec<Vec<u8>>],
 ) -> Result<(Vec<Session>, Vec<Vec<u8>>), Error>
-    ensures answer { MayStop R.stream partition.now name.now (refused result) }
+    ensures answer { MayStop R.stream partition.now name.now (error_of result) }
     ensures answered { IfOk result (λ r. AreAnswered r.0.items sessions.now) }
     ensures ran { IfOk result (RunsSessions R.stream partition.now name.now store.old sessions.now store.new) }
     ensures survive { IfOk result (λ r. SurviveFrom store.old r.0.items sessions.now (record_bytes r.1.items)) }
@@ -99,7 +99,7 @@ pub fn sessions_survive_anew<R: Rng + Drop>(
     name: &[u8],
     sessions: &[Vec<Vec<u8>>],
 ) -> Result<(Vec<Session>, Vec<Vec<u8>>), Error>
-    ensures answer { MayStop R.stream partition.now name.now (refused result) }
+    ensures answer { MayStop R.stream partition.now name.now (error_of result) }
     ensures answered { IfOk result (λ r. AreAnswered r.0.items sessions.now) }
     ensures ran { IfOk result (RunsAnew R.stream partition.now name.now rng config sessions.now) }
     ensures survive { IfOk result (λ r. Survive r.0.items sessions.now (record_bytes r.1.items)) }

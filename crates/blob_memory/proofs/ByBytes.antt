@@ -9,7 +9,7 @@ use Rattle.std.specs.Map.{update, lookup, IsKeyTest, AreApart, KeepsOthers}
 use Rattle.std.specs.Str.{bytes_eq}
 use Rattle.std.proofs.lemmas.Bool.{cases_Bool, cond-true, cond-false}
 use Rattle.std.proofs.lemmas.Map.Text.{is_eq-slice_cmp}
-use Rattle.blob_names.specs.Names.{found, below}
+use Rattle.blob_names.specs.Names.{value_at, below}
 
 apart : (bs cs ks : List ℕ) → bytes_eq bs cs ≡ false → is_eq (slice_cmp nat_cmp bs ks) ≡ true → is_eq (slice_cmp nat_cmp cs ks) ≡ false
 apart bs cs ks n y =
@@ -31,9 +31,9 @@ at_bytes f g bs w here other cs =
 -- the value at any bytes cs after a change at the key bs
 pub found_after : {K X : Type 0} (bytes : K → List ℕ) (bs : List ℕ) (m n : BTreeMap K X) (w : Option X)
     → UpdatesBy (λ x y. slice_cmp nat_cmp (bytes x) (bytes y)) (λ k. slice_cmp nat_cmp bs (bytes k)) m n w
-    → (cs : List ℕ) → found bytes n cs ≡ update bytes_eq (found bytes m) bs w cs
+    → (cs : List ℕ) → value_at bytes n cs ≡ update bytes_eq (value_at bytes m) bs w cs
 found_after bytes bs m n w h =
-    at_bytes (found bytes m) (found bytes n) bs w h.1
+    at_bytes (value_at bytes m) (value_at bytes n) bs w h.1
     (λ cs e. others _ _ _ _ h.3 _ (λ x y. (eq_by_cmp_equiv nat_list_cmp_total).congr cs (bytes x) (bytes y)) (λ k. apart bs cs (bytes k) e))
 
 -- whether a key exists after a change at one

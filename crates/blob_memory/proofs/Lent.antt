@@ -11,7 +11,7 @@ use Rattle.std.specs.String.{string_bytes}
 use Rattle.std.specs.BTreeMap.{BTreeMap, UpdatesBy}
 use Rattle.blob_memory.specs.declared.item.Item.{Item}
 use Rattle.blob_memory.specs.declared.partitions.Partitions.{Partitions}
-use Rattle.blob_names.specs.Names.{found}
+use Rattle.blob_names.specs.Names.{value_at}
 use Rattle.blob_memory.specs.Partitions.{item_at, is_there, with_item, HasItems}
 use Rattle.blob_memory.proofs.ByBytes.{below_after, below_still, found_after, there_still}
 
@@ -30,22 +30,22 @@ where_some {P = P} r x is h = subst (λ o. OnSome o P) is h
 abbrev Sets : Partitions → Partitions → List ℕ → BTreeMap (Vec ℕ Global) Item → Type 0
 Sets s t p b = UpdatesBy (λ x y. slice_cmp nat_cmp (string_bytes x) (string_bytes y)) (λ k. slice_cmp nat_cmp p (string_bytes k)) s.names t.names (Some b)
 
-module _ (s t : Partitions) (p : List ℕ) (a b : BTreeMap (Vec ℕ Global) Item) (here : found string_bytes s.names p ≡ Some a) (outer : Sets s t p b) where
+module _ (s t : Partitions) (p : List ℕ) (a b : BTreeMap (Vec ℕ Global) Item) (here : value_at string_bytes s.names p ≡ Some a) (outer : Sets s t p b) where
   -- an item set in an existing partition
   pub altered : (n : List ℕ) (x : Option Item) → UpdatesBy (λ x y. slice_cmp nat_cmp x.items y.items) (λ k. slice_cmp nat_cmp n k.items) a b x
       → HasItems t (with_item (item_at s) p n x) (is_there s)
   altered n x inner =
       let last = found_after string_bytes p s.names t.names (Some b) outer in record {
-        items = below_after (found (λ k. k.items)) (found string_bytes s.names) (found string_bytes t.names) p n a b x here last (found_after (λ k. k.items) n a b x inner);
-        partitions = there_still (found string_bytes s.names) (found string_bytes t.names) p a b here last;
+        items = below_after (value_at (λ k. k.items)) (value_at string_bytes s.names) (value_at string_bytes t.names) p n a b x here last (found_after (λ k. k.items) n a b x inner);
+        partitions = there_still (value_at string_bytes s.names) (value_at string_bytes t.names) p a b here last;
       }
 
   -- an unchanged partition
   pub unaltered : b ≡ a → HasItems t (item_at s) (is_there s)
   unaltered same =
       let last = found_after string_bytes p s.names t.names (Some b) outer in record {
-        items = below_still (found (λ k. k.items)) (found string_bytes s.names) (found string_bytes t.names) p a b here last (λ m. ap (λ e. found (λ k. k.items) e m) same);
-        partitions = there_still (found string_bytes s.names) (found string_bytes t.names) p a b here last;
+        items = below_still (value_at (λ k. k.items)) (value_at string_bytes s.names) (value_at string_bytes t.names) p a b here last (λ m. ap (λ e. value_at (λ k. k.items) e m) same);
+        partitions = there_still (value_at string_bytes s.names) (value_at string_bytes t.names) p a b here last;
       }
 
 -- the same for equal names

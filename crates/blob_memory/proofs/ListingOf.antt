@@ -19,8 +19,8 @@ use Rattle.std.proofs.lemmas.Map.Text.{is_eq-slice_cmp}
 use Rattle.std.proofs.lemmas.Map.Views.{lookup-from_Contains, Contains-from_lookup}
 use Rattle.blob_memory.specs.Audit.{Listed, listed_cmp, IsListing}
 use Rattle.blob_memory.specs.declared.item.Item.{Item}
-use Rattle.blob_memory.specs.Listing.{Names, raw_bytes, raw_in, listed, listing_in, listing_all, AreOrdered, AreOrderedNames, AreAllOrdered}
-use Rattle.blob_names.specs.Names.{found, below}
+use Rattle.blob_memory.specs.Listing.{Names, raw_bytes, raw_in, listing_entry, listing_in, listing_all, AreOrdered, AreOrderedNames, AreAllOrdered}
+use Rattle.blob_names.specs.Names.{value_at, below}
 use Rattle.blob_memory.proofs.Listings.{by_bytes, lookup_by_bytes, keys_by_bytes, sorted_by_bytes}
 
 empty : {X : Type 0} (x : X) → Contains [] x → ⊥
@@ -46,7 +46,7 @@ in_contains p [] b h = absurd (empty b h)
 in_contains p (e ∷ es) b h = ⊎_elim
     (λ is. (ap (λ (c : Listed). c.partition) is, subst (λ (c : Listed). Contains (raws (e ∷ es)) (c.name, c.bytes)) is (here (e.0.items, raw_bytes e.1) (raws es))))
     (λ l. let k = in_contains p es b l in (k.0, later (e.0.items, raw_bytes e.1) (raws es) (b.name, b.bytes) k.1))
-    (first_or_later (listed p e) (listing_in p es) b h)
+    (first_or_later (listing_entry p e) (listing_in p es) b h)
 
 abbrev of_pair : List ℕ → List ℕ × List ℕ → Listed
 of_pair p q = record { partition = p; name = q.0; bytes = q.1 }
@@ -54,8 +54,8 @@ of_pair p q = record { partition = p; name = q.0; bytes = q.1 }
 in_back : (p : List ℕ) (es : List (Vec ℕ Global × Item)) (q : List ℕ × List ℕ) → Contains (raws es) q → Contains (listing_in p es) (of_pair p q)
 in_back p [] q h = absurd (empty q h)
 in_back p (e ∷ es) q h = ⊎_elim
-    (λ is. subst (λ r. Contains (listing_in p (e ∷ es)) (of_pair p r)) is (here (listed p e) (listing_in p es)))
-    (λ l. later (listed p e) (listing_in p es) (of_pair p q) (in_back p es q l))
+    (λ is. subst (λ r. Contains (listing_in p (e ∷ es)) (of_pair p r)) is (here (listing_entry p e) (listing_in p es)))
+    (λ l. later (listing_entry p e) (listing_in p es) (of_pair p q) (in_back p es q l))
     (first_or_later (e.0.items, raw_bytes e.1) (raws es) q h)
 
 lookup_raws : (es : List (Vec ℕ Global × Item)) (n : List ℕ) → lookup (bytes_eq n) (raws es) ≡ option_map raw_bytes (lookup (is_at (λ k. slice_cmp nat_cmp n k.items)) es)
@@ -107,7 +107,7 @@ in_order : (p : List ℕ) (es : List (Vec ℕ Global × Item)) → IsStrictlySor
 unfolding IsStrictlySortedBy
 in_order p [] h = h
 in_order p (e ∷ es) h = (each es h.0, in_order p es h.1) where
-  each : (fs : List (Vec ℕ Global × Item)) → AllByRecursion (λ y. slice_cmp nat_cmp e.0.items y.items ≡ Less) (keys_of fs) → AllByRecursion (λ y. listed_cmp (listed p e) y ≡ Less) (listing_in p fs)
+  each : (fs : List (Vec ℕ Global × Item)) → AllByRecursion (λ y. slice_cmp nat_cmp e.0.items y.items ≡ Less) (keys_of fs) → AllByRecursion (λ y. listed_cmp (listing_entry p e) y ≡ Less) (listing_in p fs)
   each [] k = k
   each (f ∷ fs) k = (ap (λ o. ordering_then o (slice_cmp nat_cmp e.0.items f.0.items)) (same_self p) ∙ k.0, each fs k.1)
 
@@ -125,7 +125,7 @@ all_in_order [] o h = h
 all_in_order (e ∷ ps) o h = sorted_append listed_cmp (listing_in (string_bytes e.0) e.1.entries) (listing_all ps) (in_order (string_bytes e.0) e.1.entries o.0) (all_in_order ps o.1 h.1) (each e.1.entries) where
   each : (es : List (Vec ℕ Global × Item)) → AllByRecursion (λ x. AllByRecursion (λ y. listed_cmp x y ≡ Less) (listing_all ps)) (listing_in (string_bytes e.0) es)
   each [] = tt
-  each (f ∷ es) = (before_all (listed (string_bytes e.0) f) (string_bytes e.0) refl ps h.0, each es)
+  each (f ∷ es) = (before_all (listing_entry (string_bytes e.0) f) (string_bytes e.0) refl ps h.0, each es)
 
 pub is_listing : (m : BTreeMap (String Global) Names) → AreOrdered m → AreAllOrdered m.entries
     → IsListing (raw_in m) (listing_all m.entries)
@@ -143,12 +143,12 @@ is_listing m outer inner = record {
   each : (b : Listed) → Contains (listing_all m.entries) b → raw_in m b.partition b.name ≡ Some b.bytes
   each b h =
       let k = all_contains m.entries inner b h in
-      let there : found string_bytes m b.partition ≡ Some k.0 = lookup_by_bytes string_bytes m.entries b.partition ∙ lookup-from_Contains nat_list_eq_equiv b.partition k.0 (by_bytes string_bytes m.entries) outer_keys k.1 in
-      ap (λ r. option_map raw_bytes (below (found (λ j. j.items)) r b.name)) there ∙ sym (lookup_raws k.0.entries b.name) ∙ lookup-from_Contains nat_list_eq_equiv b.name b.bytes (raws k.0.entries) (inner_keys k.0 k.3) k.2
+      let there : value_at string_bytes m b.partition ≡ Some k.0 = lookup_by_bytes string_bytes m.entries b.partition ∙ lookup-from_Contains nat_list_eq_equiv b.partition k.0 (by_bytes string_bytes m.entries) outer_keys k.1 in
+      ap (λ r. option_map raw_bytes (below (value_at (λ j. j.items)) r b.name)) there ∙ sym (lookup_raws k.0.entries b.name) ∙ lookup-from_Contains nat_list_eq_equiv b.name b.bytes (raws k.0.entries) (inner_keys k.0 k.3) k.2
 
   all : (b : Listed) → raw_in m b.partition b.name ≡ Some b.bytes → Contains (listing_all m.entries) b
-  all b h = go (found string_bytes m b.partition) refl h where
-    go : (r : Option Names) → found string_bytes m b.partition ≡ r → option_map raw_bytes (below (found (λ j. j.items)) r b.name) ≡ Some b.bytes → Contains (listing_all m.entries) b
+  all b h = go (value_at string_bytes m b.partition) refl h where
+    go : (r : Option Names) → value_at string_bytes m b.partition ≡ r → option_map raw_bytes (below (value_at (λ j. j.items)) r b.name) ≡ Some b.bytes → Contains (listing_all m.entries) b
     go None e h = absurd cc
     go (Some names) e h = all_back m.entries (b.partition, names) (b.name, b.bytes)
         (Contains-from_lookup (λ x y. (bytes_decides x y).0) b.partition names (by_bytes string_bytes m.entries) (sym (lookup_by_bytes string_bytes m.entries b.partition) ∙ e))

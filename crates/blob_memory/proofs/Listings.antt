@@ -14,7 +14,7 @@ use Rattle.std.proofs.lemmas.Bool.{false≢true}
 use Rattle.std.proofs.lemmas.Map.Text.{is_eq-slice_cmp}
 use Rattle.std.proofs.lemmas.Map.Views.{IsSome-lookup_from_Contains, Contains-keys_from_lookup}
 use Rattle.blob_base.specs.Names.{AreNames}
-use Rattle.blob_names.specs.Names.{found}
+use Rattle.blob_names.specs.Names.{value_at}
 
 module _ {K : Type 0} (bytes : K → List ℕ) where
   below_all : (cmp : List ℕ → List ℕ → Ordering) (k : K) (ks : List K) → AllByRecursion (λ y. cmp (bytes k) (bytes y) ≡ Less) ks → AllByRecursion (λ y. cmp (bytes k) y ≡ Less) (map bytes ks)
@@ -40,7 +40,7 @@ module _ {K X : Type 0} (bytes : K → List ℕ) where
   keys_by_bytes (e ∷ es) = ap (λ ks. bytes e.0 ∷ ks) (keys_by_bytes es)
 
   -- the names of a map
-  pub names_are : (m : BTreeMap K X) → IsOrdered (λ x y. slice_cmp nat_cmp (bytes x) (bytes y)) m → AreNames (map bytes (keys m)) (λ n. is_some (found bytes m n))
+  pub names_are : (m : BTreeMap K X) → IsOrdered (λ x y. slice_cmp nat_cmp (bytes x) (bytes y)) m → AreNames (map bytes (keys m)) (λ n. is_some (value_at bytes m n))
   names_are m ordered = record {
     sorted = sorted_by_bytes bytes (slice_cmp nat_cmp) (keys m) ordered;
     complete = λ n. (

@@ -11,7 +11,7 @@ use Rattle.blob_model.specs.Directory.{Raw}
 use Rattle.blob_header.specs.Header.{data_start, region}
 use Rattle.blob_header.specs.HeaderLaws.{HasHeader}
 use Rattle.blob_model.specs.Opening.{Opening, Continues, Begins, Declines, opening, opening_raw, layout_from}
-use Rattle.blob_header.specs.Parse.{Accepted, Failure, InvalidChecksum, accepted, every_layout}
+use Rattle.blob_header.specs.Parse.{Accepted, Failure, InvalidChecksum, accepted_ranges, every_layout}
 use Rattle.blob_header.specs.Refusals.{Refusal, BlobVersionMismatch, IsMemoryError, refusal_of}
 use Rattle.blob_header.specs.declared.error.Error.{Error}
 use Rattle.blob_header.specs.Resolve.{resolution, refusing, AnswersAs}
@@ -65,18 +65,18 @@ declined p n raw last (Ok y) x e = absurd (false≢true (sym (ap is_answer e)))
 declined p n raw last (Err f) x e = ap declines e
 
 module _ (layouts : RangeInclusive Layout) (versions : RangeInclusive BlobVersion) (oldest : range_inclusive_start layouts ≡ V0) (newest : range_inclusive_end layouts ≡ V1) where
-  any : accepted layouts versions ≡ every_layout (range_inclusive_start versions).0 (range_inclusive_end versions).0
+  any : accepted_ranges layouts versions ≡ every_layout (range_inclusive_start versions).0 (range_inclusive_end versions).0
   any = λ i. record { oldest = oldest i; newest = newest i; least = (range_inclusive_start versions).0; greatest = (range_inclusive_end versions).0 }
 
   -- the resolution of a raw file that is accepted or must be created
-  pub resolves_to : (p n raw : List ℕ) (x : Answer) → refusing p n (resolution raw (accepted layouts versions)) ≡ Ok x
+  pub resolves_to : (p n raw : List ℕ) (x : Answer) → refusing p n (resolution raw (accepted_ranges layouts versions)) ≡ Ok x
       → resolution raw (every_layout (range_inclusive_start versions).0 (range_inclusive_end versions).0) ≡ Ok x
-  resolves_to p n raw x e = ap (resolution raw) (sym any) ∙ answered p n (resolution raw (accepted layouts versions)) x e
+  resolves_to p n raw x e = ap (resolution raw) (sym any) ∙ answered p n (resolution raw (accepted_ranges layouts versions)) x e
 
   -- the opening of a raw file that isn't accepted
-  pub declines_as : (p n raw : List ℕ) (e : Error) → AnswersAs {T = Answer} (Err e) (refusing p n (resolution raw (accepted layouts versions)))
+  pub declines_as : (p n raw : List ℕ) (e : Error) → AnswersAs {T = Answer} (Err e) (refusing p n (resolution raw (accepted_ranges layouts versions)))
       → IsMemoryError e ⊎ (opening p n (Some (Raw raw)) (range_inclusive_start versions).0 (range_inclusive_end versions).0 ≡ Declines (refusal_of e))
-  declines_as p n raw e (inl h) = inr (ap (λ a. opening_raw p n raw (range_inclusive_end versions).0 (resolution raw a)) (sym any) ∙ declined p n raw (range_inclusive_end versions).0 (resolution raw (accepted layouts versions)) (refusal_of e) h)
+  declines_as p n raw e (inl h) = inr (ap (λ a. opening_raw p n raw (range_inclusive_end versions).0 (resolution raw a)) (sym any) ∙ declined p n raw (range_inclusive_end versions).0 (resolution raw (accepted_ranges layouts versions)) (refusal_of e) h)
   declines_as p n raw e (inr h) = inl h.1
 
 -- an existing header ends within the file

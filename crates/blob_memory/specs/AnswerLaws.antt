@@ -45,10 +45,10 @@ pub reads_alike : (b : Blob) (s : Storage) (offset len : ℕ) (answer : Option R
 reads_alike b s offset len answer is = inr is
 
 -- no error is injected
-pub uninjected : (b : Blob) (s : Storage) (offset : ℕ) (bytes : List ℕ) (sync : Bool) → true ≡ true
+pub write_uninjected : (b : Blob) (s : Storage) (offset : ℕ) (bytes : List ℕ) (sync : Bool) → true ≡ true
     → AllowsWrite (directory s) (place b) (room_for b s) offset bytes sync (Some Injected) → ⊥
-uninjected b s offset bytes sync direct (inl h) = false≢true (ap is_memory h.0)
-uninjected b s offset bytes sync direct (inr h) = true≢false (ap is_uncalled h ∙ write_called (directory s) (place b) offset bytes sync)
+write_uninjected b s offset bytes sync direct (inl h) = false≢true (ap is_memory h.0)
+write_uninjected b s offset bytes sync direct (inr h) = true≢false (ap is_uncalled h ∙ write_called (directory s) (place b) offset bytes sync)
 
 pub resize_uninjected : (b : Blob) (s : Storage) (len : ℕ) → true ≡ true → OrMemory (end_refusal (place b) len) (Some Injected) → ⊥
 resize_uninjected b s len direct (inl h) = false≢true (ap is_memory h)

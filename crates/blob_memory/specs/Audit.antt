@@ -33,9 +33,9 @@ pieces_of [] = []
 pieces_of (b ∷ bs) = piece_of b ++ pieces_of bs
 
 -- there are no lengths and no separators, so different stores can have the same audit
-abbrev pub audited : List Listed → List ℕ
-audited listing = codes "commonware-runtime-storage-audit-v1" ++ pieces_of listing
+abbrev pub audit_bytes : List Listed → List ℕ
+audit_bytes listing = codes "commonware-runtime-storage-audit-v1" ++ pieces_of listing
 
 -- the audit, by a checksum function
 abbrev pub audit : (List ℕ → ℕ) → List Listed → List ℕ
-audit checksum listing = to_be_bytes w32 (checksum (audited listing))
+audit checksum listing = to_be_bytes w32 (checksum (audit_bytes listing))

@@ -30,8 +30,8 @@ currents s o = at (item_at s.partitions o.partition o.name) where
     by_end false = some_when h ((h.number == o.number) && (data_start h.layout == o.start))
 
 -- a current incarnation has a number below the next one
-pub given : (s : Contents) (o : Place) → is_current (directory_of s) o ≡ true → o.number < s.next
-given s o current = at (item_at s.partitions o.partition o.name) (s.numbered o.partition o.name) current where
+pub current_below_next : (s : Contents) (o : Place) → is_current (directory_of s) o ≡ true → o.number < s.next
+current_below_next s o current = at (item_at s.partitions o.partition o.name) (s.numbered o.partition o.name) current where
   at : (x : Option Item) → ((k : ℕ) → item_number x ≡ Some k → k < s.next) → is_that (file_of s.first x) o.number o.start ≡ true → o.number < s.next
   at None below e = absurd (false≢true e)
   at (Some (Raw bytes)) below e = absurd (false≢true e)

@@ -20,7 +20,7 @@ use Rattle.blob_memory.specs.declared.contents.Contents.{Contents}
 use Rattle.blob_memory.specs.declared.item.Item.{Item}
 use Rattle.blob_memory.specs.declared.item.Item.TheVariants.{Raw, Held}
 use Rattle.blob_memory.specs.declared.partitions.Partitions.{Partitions}
-use Rattle.blob_names.specs.Names.{found, below}
+use Rattle.blob_names.specs.Names.{value_at, below}
 use Rattle.blob_memory.specs.Contents.{directory_of, durable_of}
 use Rattle.blob_memory.specs.Partitions.{item_at}
 
@@ -42,12 +42,12 @@ abbrev pub listed_of : List ℕ → List ℕ → Item → Listed
 listed_of p n item = record { partition = p; name = n; bytes = raw_bytes item }
 
 -- an entry of a partition in a listing
-abbrev pub listed : List ℕ → Vec ℕ Global × Item → Listed
-listed p e = listed_of p e.0.items e.1
+abbrev pub listing_entry : List ℕ → Vec ℕ Global × Item → Listed
+listing_entry p e = listed_of p e.0.items e.1
 
 -- the blobs of a partition
 abbrev pub listing_in : List ℕ → List (Vec ℕ Global × Item) → List Listed
-listing_in p es = map (listed p) es
+listing_in p es = map (listing_entry p) es
 
 -- the blobs of some partitions
 abbrev pub listing_all : List (String Global × Names) → List Listed
@@ -67,7 +67,7 @@ AreAllOrdered es = AllByRecursion (λ e. AreOrderedNames e.1) es
 
 -- the raw bytes of each name
 abbrev pub raw_in : BTreeMap (String Global) Names → List ℕ → List ℕ → Option (List ℕ)
-raw_in m p n = option_map raw_bytes (below (found (λ k. k.items)) (found string_bytes m p) n)
+raw_in m p n = option_map raw_bytes (below (value_at (λ k. k.items)) (value_at string_bytes m p) n)
 
 -- all blobs of a table
 abbrev pub listing_of : Partitions → List Listed

@@ -9,16 +9,16 @@ use Rattle.blob_memory.specs.declared.item.Item.TheVariants.{Raw, Held}
 use Rattle.blob_memory.specs.declared.partitions.Partitions.{Partitions}
 use Rattle.blob_base.specs.Names.{AreNames}
 use Rattle.blob_model.specs.Directory.{with_partition}
-use Rattle.blob_names.specs.Names.{found, below}
+use Rattle.blob_names.specs.Names.{value_at, below}
 use Rattle.blob_pages.specs.Stored.{Stored}
 
 -- the item of a name in a partition
 abbrev pub item_at : Partitions → List ℕ → List ℕ → Option Item
-item_at s p n = below (found (λ k. k.items)) (found string_bytes s.names p) n
+item_at s p n = below (value_at (λ k. k.items)) (value_at string_bytes s.names p) n
 
 -- whether a partition exists
 abbrev pub is_there : Partitions → List ℕ → Bool
-is_there s p = is_some (found string_bytes s.names p)
+is_there s p = is_some (value_at string_bytes s.names p)
 
 -- the items after one name's item is set, or removed by None
 abbrev pub with_item : (List ℕ → List ℕ → Option Item) → List ℕ → List ℕ → Option Item → List ℕ → List ℕ → Option Item
@@ -57,4 +57,4 @@ AreItemNames s p names = AreNames (map (λ n. n.items) names) (λ n. is_some (it
 
 -- all keys of a map, sorted
 abbrev pub AreKeys : BTreeMap (Vec ℕ Global) Item → List (Vec ℕ Global) → Type 0
-AreKeys m keys = AreNames (map (λ n. n.items) keys) (λ n. is_some (found (λ k. k.items) m n))
+AreKeys m keys = AreNames (map (λ n. n.items) keys) (λ n. is_some (value_at (λ k. k.items) m n))

@@ -1,10 +1,10 @@
 -- How the calls of a crash change a memory store.
 use Rattle.std.specs.Prelude.{◌≡◌, ℕ, ◌+◌, ◌<◌, ◌≤◌, ◌^◌, Bool, List, Some, None, Result, OnOk, OnErr, IsOk, if◌then◌else◌}
 use Rattle.blob_header.specs.declared.error.Error.{Error}
-use Rattle.blob_header.specs.Refusals.{refused, OffsetOverflow}
+use Rattle.blob_header.specs.Refusals.{error_of, OffsetOverflow}
 use Rattle.blob_model.specs.Bytes.{overlay_by, reach}
 use Rattle.blob_model.specs.Durable.{with_changed}
-use Rattle.blob_model.specs.Runs.{picked}
+use Rattle.blob_model.specs.Runs.{is_chosen}
 use Rattle.blob_model.specs.Places.{Place}
 use Rattle.blob_memory.specs.declared.storage.Storage.{Storage}
 use Rattle.blob_memory.specs.Answers.{OrMemory, is_uncounted}
@@ -18,7 +18,7 @@ pub record KeepsRoom (s t : Storage) : Type 0 where
 
 -- `OffsetOverflow` if the physical end doesn't fit in 64 bits, else Ok or `Memory`. Never `Memory` if the capacity suffices
 pub record NeedsRoom {T : Type 0} (result : Result T Error) (s : Storage) (o : Place) (end need : ℕ) : Type 0 where
-  pub allowed : OrMemory (if is_uncounted end then Some OffsetOverflow else None) (refused result)
+  pub allowed : OrMemory (if is_uncounted end then Some OffsetOverflow else None) (error_of result)
   pub succeeds : end < 2 ^ 64 → HasCrashRoom s o need → IsOk result
 
 -- the same for a write of the selected ones of n bytes
@@ -43,4 +43,4 @@ pub record Retains {T : Type 0} (result : Result T Error) (s t : Storage) (o : P
 
 -- a write of the bytes that `keep` selects to the durable bytes of an incarnation, if it is current
 abbrev pub RetainsWrite : {T : Type 0} → Result T Error → Storage → Storage → Place → ℕ → List ℕ → List Bool → Type 0
-RetainsWrite result s t o offset bytes keep = Retains result s t o (λ x. overlay_by x offset bytes (picked keep))
+RetainsWrite result s t o offset bytes keep = Retains result s t o (λ x. overlay_by x offset bytes (is_chosen keep))

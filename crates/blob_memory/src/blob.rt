@@ -1,10 +1,10 @@
 //! A handle on a blob of the memory store.
 ghost use Rattle.std.specs.Prelude.{◌≡◌, ℕ, ◌≤◌, ◌+◌, ◌≢◌, [], true, false, None, OnOk, IfOk, OnErr, length, take, drop};
-ghost use Rattle.blob_model.specs.Bytes.{resized, written};
+ghost use Rattle.blob_model.specs.Bytes.{resize, write_live};
 ghost use Rattle.blob_model.specs.Directory.{Directory, is_current};
 ghost use Rattle.blob_model.specs.Durable.{with_overlay};
 ghost use Rattle.blob_model.specs.Live.{live_after};
-ghost use Rattle.blob_header.specs.Refusals.{refused, refusal_of, IsMemory};
+ghost use Rattle.blob_header.specs.Refusals.{error_of, refusal_of, IsMemory};
 ghost use Rattle.blob_memory.specs.Answers.{missing, read_refusal};
 
 use crate::live;
@@ -48,7 +48,7 @@ impl Blob {
     /// Checks that a range is within the live bytes.
     pub(crate) fn readable(&self, offset: u64, len: usize) -> Result<(), Error>
         ensures within { OnOk result (offset + len ≤ length (live self.now)) }
-        ensures refusal { refused result ≡ read_refusal (place self.now) (live self.now) offset len }
+        ensures refusal { error_of result ≡ read_refusal (place self.now) (live self.now) offset len }
     {
         let end = live::logical_end(self.origin.data_offset(), offset, len)?;
         if end > self.live.len() {
@@ -74,8 +74,8 @@ impl Blob {
 
     /// Writes the live bytes only.
     fn write_plain(&mut self, offset: u64, bytes: &IoBufs) -> Result<(), Error>
-        ensures allowed { (s : Storage) → WriteMayReturn self.old s offset bytes.now false (refused result) }
-        ensures live { live self.new ≡ live_after false (live self.old) offset bytes.now (refused result) }
+        ensures allowed { (s : Storage) → WriteMayReturn self.old s offset bytes.now false (error_of result) }
+        ensures live { live self.new ≡ live_after false (live self.old) offset bytes.now (error_of result) }
         ensures room { live_room self.old ≤ live_room self.new }
         ensures place { place self.new ≡ place self.old }
     {
@@ -87,8 +87,8 @@ impl Blob {
 
     /// Writes the live bytes, and the same range of the durable bytes if the incarnation is current.
     fn write_sync(&mut self, store: &mut Storage, offset: u64, bytes: &IoBufs) -> Result<(), Error>
-        ensures allowed { WriteMayReturn self.old store.old offset bytes.now true (refused result) }
-        ensures live { live self.new ≡ live_after true (live self.old) offset bytes.now (refused result) }
+        ensures allowed { WriteMayReturn self.old store.old offset bytes.now true (error_of result) }
+        ensures live { live self.new ≡ live_after true (live self.old) offset bytes.now (error_of result) }
         ensures durable { OnOk result (durable store.new ≡ with_overlay (durable store.old) (place self.old) offset bytes.now) }
         ensures current { OnOk result (bytes.now ≢ [] → is_current (directory store.old) (place self.old) ≡ true) }
         ensures stale { is_current (directory store.old) (place self.old) ≡ false → durable store.new ≡ durable store.old }
@@ -116,7 +116,7 @@ impl Blob {
 }
 
 impl blob_base::Blob<Storage> for Blob {
-    ghost use Rattle.blob_memory.specs.AnswerLaws.{reads_alike, stale_refused, uninjected, resize_uninjected, done_within, plain_done_within, reserve_refused, within_room};
+    ghost use Rattle.blob_memory.specs.AnswerLaws.{reads_alike, stale_refused, write_uninjected, resize_uninjected, done_within, plain_done_within, reserve_refused, within_room};
     ghost use Rattle.blob_memory.specs.Answers.{OrMemory, AllowsWrite, end_refusal, sync_refusal};
     ghost use Rattle.blob_memory.specs.Leaves.{Leaves};
     ghost use Rattle.blob_memory.specs.Store.{place, live, directory, durable, live_room, room, room_for};
@@ -151,7 +151,7 @@ impl blob_base::Blob<Storage> for Blob {
 
     ghost stale_refused = { stale_refused };
 
-    ghost uninjected = { uninjected };
+    ghost uninjected = { write_uninjected };
 
     ghost resize_uninjected = { resize_uninjected };
 

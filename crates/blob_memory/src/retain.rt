@@ -2,9 +2,9 @@
 ghost use Rattle.std.specs.Prelude.{◌≡◌, ◌≤◌, ◌+◌, ℕ, OnOk, IfSome, is_some, length};
 ghost use Rattle.std.specs.Borrow.{sem};
 ghost use Rattle.std.specs.Option.{option_copied_mut};
-ghost use Rattle.blob_model.specs.Bytes.{resized};
+ghost use Rattle.blob_model.specs.Bytes.{resize};
 ghost use Rattle.blob_model.specs.Directory.{is_current};
-ghost use Rattle.blob_model.specs.Runs.{picked};
+ghost use Rattle.blob_model.specs.Runs.{is_chosen};
 
 use crate::blob::Blob;
 use crate::live::logical_end;
@@ -36,7 +36,7 @@ impl Storage {
         keep: &[bool],
     ) -> Result<(), Error>
         requires { length keep.now ≡ length bytes.now }
-        ensures room { NeedsWriteRoom result self.old origin.now offset (length bytes.now) (picked keep.now) }
+        ensures room { NeedsWriteRoom result self.old origin.now offset (length bytes.now) (is_chosen keep.now) }
         ensures retained { RetainsWrite result self.old self.new origin.now offset bytes.now keep.now }
     {
         logical_end(origin.data_offset(), offset, bytes.remaining())?;
@@ -57,7 +57,7 @@ impl Storage {
     /// - `Memory` if the durable bytes can't grow.
     pub fn retain_resize(&mut self, origin: &Origin, len: u64) -> Result<(), Error>
         ensures room { NeedsRoom result self.old origin.now (len + origin.now.start) len }
-        ensures retained { Retains result self.old self.new origin.now (λ x. resized x len) }
+        ensures retained { Retains result self.old self.new origin.now (λ x. resize x len) }
     {
         let len = logical_end(origin.data_offset(), len, 0)?;
         let Some(durable) = self.contents.bytes_mut(origin) else {
@@ -120,7 +120,7 @@ impl Blob {
         keep: &[bool],
     ) -> Result<(), Error>
         requires { length keep.now ≡ length bytes.now }
-        ensures room { NeedsWriteRoom result store.old (place self.now) offset (length bytes.now) (picked keep.now) }
+        ensures room { NeedsWriteRoom result store.old (place self.now) offset (length bytes.now) (is_chosen keep.now) }
         ensures retained { RetainsWrite result store.old store.new (place self.now) offset bytes.now keep.now }
     {
         store.retain_write(&self.origin, offset, bytes, keep)
@@ -136,7 +136,7 @@ impl Blob {
     /// - `Memory` if the durable bytes can't grow.
     pub fn retain_crash_resize(&self, store: &mut Storage, len: u64) -> Result<(), Error>
         ensures room { NeedsRoom result store.old (place self.now) (len + (place self.now).start) len }
-        ensures retained { Retains result store.old store.new (place self.now) (λ x. resized x len) }
+        ensures retained { Retains result store.old store.new (place self.now) (λ x. resize x len) }
     {
         store.retain_resize(&self.origin, len)
     }

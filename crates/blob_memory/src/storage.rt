@@ -2,7 +2,7 @@
 ghost use Rattle.std.specs.Prelude.{◌≡◌, ◌<◌, ◌≤◌, ℕ, true, None, length, OnOk, IfOk};
 ghost use Rattle.hex.specs.Hex.{encode_lower};
 ghost use Rattle.blob_header.specs.PartitionName.{is_partition_name};
-ghost use Rattle.blob_header.specs.Refusals.{refused, refusal_of, BlobMissing};
+ghost use Rattle.blob_header.specs.Refusals.{error_of, refusal_of, BlobMissing};
 ghost use Rattle.blob_memory.specs.Answers.{OrMemory, partition_refusal};
 ghost use Rattle.blob_memory.specs.Contents.{empty_directory};
 ghost use Rattle.blob_memory.specs.Store.{place, live};
@@ -28,7 +28,7 @@ pub struct Storage {
 impl Durable for Storage {
     ghost use Rattle.blob_model.specs.Places.{same_place};
     ghost use Rattle.blob_memory.specs.Store.{directory, durable};
-    ghost use Rattle.blob_memory.specs.Laws.{currents, given};
+    ghost use Rattle.blob_memory.specs.Laws.{currents, current_below_next};
 
     type Origin = Origin;
 
@@ -44,7 +44,7 @@ impl Durable for Storage {
 
     ghost currents = { λ s. currents s.contents };
 
-    ghost given = { λ s. given s.contents };
+    ghost given = { λ s. current_below_next s.contents };
 
     /// Returns whether the incarnation is still its name's current one. Does not allocate.
     fn is_current(&self, origin: &Origin) -> bool {
@@ -93,7 +93,7 @@ impl Storage {
 
     /// Checks that a partition's name is valid and that the partition exists.
     fn find_partition(&self, partition: &str) -> Result<(), Error>
-        ensures allowed { OrMemory (partition_refusal (directory self.now) partition.now) (refused result) }
+        ensures allowed { OrMemory (partition_refusal (directory self.now) partition.now) (error_of result) }
         ensures valid { OnOk result (is_partition_name partition.now ≡ true) }
         ensures there { OnOk result ((directory self.now).has_partition partition.now ≡ true) }
     {

@@ -9,7 +9,7 @@ use Rattle.std.specs.Result.{OnErr}
 use Rattle.std.specs.Str.{bytes_eq}
 use Rattle.std.proofs.lemmas.Bool.{cases_Bool, cond-true, cond-false}
 use Rattle.std.proofs.lemmas.Map.Text.{is_eq-slice_cmp}
-use Rattle.blob_names.specs.Names.{found, below, with_name, with_all_names}
+use Rattle.blob_names.specs.Names.{value_at, below, with_name, with_all_names}
 
 apart : (bs cs ks : List ℕ) → bytes_eq bs cs ≡ false → is_eq (slice_cmp nat_cmp bs ks) ≡ true → is_eq (slice_cmp nat_cmp cs ks) ≡ false
 apart bs cs ks n y =
@@ -31,9 +31,9 @@ at_bytes f g bs w here other cs =
 -- the value at key cs after a change at key bs
 pub found_after : {K X : Type 0} (bytes : K → List ℕ) (bs : List ℕ) (m n : BTreeMap K X) (w : Option X)
     → UpdatesBy (λ x y. slice_cmp nat_cmp (bytes x) (bytes y)) (λ k. slice_cmp nat_cmp bs (bytes k)) m n w
-    → (cs : List ℕ) → found bytes n cs ≡ update bytes_eq (found bytes m) bs w cs
+    → (cs : List ℕ) → value_at bytes n cs ≡ update bytes_eq (value_at bytes m) bs w cs
 found_after bytes bs m n w h =
-    at_bytes (found bytes m) (found bytes n) bs w h.1
+    at_bytes (value_at bytes m) (value_at bytes n) bs w h.1
     (λ cs e. others _ _ _ _ h.3 _ (λ x y. (eq_by_cmp_equiv nat_list_cmp_total).congr cs (bytes x) (bytes y)) (λ k. apart bs cs (bytes k) e))
 
 pub on_err : {T E P : Type 0} (r : Result T E) → P → OnErr r P
@@ -41,7 +41,7 @@ on_err (Ok x) p = tt
 on_err (Err e) p = p
 
 -- an empty map has no value
-pub found_none : {K X : Type 0} (bytes : K → List ℕ) (m : BTreeMap K X) (cs : List ℕ) → m.entries ≡ [] → found bytes m cs ≡ None
+pub found_none : {K X : Type 0} (bytes : K → List ℕ) (m : BTreeMap K X) (cs : List ℕ) → m.entries ≡ [] → value_at bytes m cs ≡ None
 found_none bytes m cs e = ap (λ es. lookup (λ k. is_eq (slice_cmp nat_cmp cs (bytes k))) es) e
 
 module _ {M X : Type 0} (v : M → List ℕ → Option X) (f g : List ℕ → Option M) (p : List ℕ) where

@@ -8,8 +8,8 @@ use Rattle.std.specs.String.{string_bytes}
 use Rattle.blob_names.specs.declared.names.Names.{Names}
 
 -- the value at the key with these bytes
-abbrev pub found : {K X : Type 0} → (K → List ℕ) → BTreeMap K X → List ℕ → Option X
-found bytes m bs = get_by (λ k. slice_cmp nat_cmp bs (bytes k)) m
+abbrev pub value_at : {K X : Type 0} → (K → List ℕ) → BTreeMap K X → List ℕ → Option X
+value_at bytes m bs = get_by (λ k. slice_cmp nat_cmp bs (bytes k)) m
 
 -- the value in an inner map, if there is one
 abbrev pub below : {M X : Type 0} → (M → List ℕ → Option X) → Option M → List ℕ → Option X
@@ -18,7 +18,7 @@ below v (Some m) n = v m n
 
 -- the value of a name
 abbrev pub at : {V : Type 0} → Names V → List ℕ → List ℕ → Option V
-at s p n = below (found (λ k. k.items)) (found string_bytes s.partitions p) n
+at s p n = below (value_at (λ k. k.items)) (value_at string_bytes s.partitions p) n
 
 -- a new value for one name
 abbrev pub with_name : {X : Type 0} → (List ℕ → List ℕ → X) → List ℕ → List ℕ → X → List ℕ → List ℕ → X

@@ -9,7 +9,7 @@ use Rattle.blob_names.specs.Names.{with_name}
 use Rattle.std.proofs.lemmas.Bool.{false≢true}
 use Rattle.hex.specs.Hex.{encode_lower}
 use Rattle.blob_header.specs.Refusals.{Refusal, BlobAlreadyOpen, GenerationsExhausted, Memory}
-use Rattle.blob_opens.specs.OpenNames.{OpenNames, Registration, closed, ended, unless_number, OpenAnswer, Held, NoMemory, NoNumber}
+use Rattle.blob_opens.specs.OpenNames.{OpenNames, Registration, release, end_names, unless_number, OpenAnswer, Held, NoMemory, NoNumber}
 use Rattle.blob_opens.specs.Opens.{IsMade}
 use Rattle.blob_names.proofs.NameMaps.{with_at_same, with_at_twice}
 
@@ -18,11 +18,11 @@ unless_other k None e = refl
 unless_other k (Some m) e = ap (λ b. if b then None else Some m) e
 
 -- the close of a handle after its open was ended
-pub closed_other : (s : OpenNames) (r : Registration) → option_eq nat_eq (s.registered r.partition r.name) (Some r.number) ≡ false → closed s r ≡ s
+pub closed_other : (s : OpenNames) (r : Registration) → option_eq nat_eq (s.registered r.partition r.name) (Some r.number) ≡ false → release s r ≡ s
 closed_other s r e = ap (λ f. record s { registered = f }) (ap (with_name s.registered r.partition r.name) (unless_other r.number (s.registered r.partition r.name) e) ∙ with_at_same s.registered r.partition r.name)
 
 -- a registration that is taken back
-pub taken_back : (s : OpenNames) (p n : List ℕ) (x : Option ℕ) → s.registered p n ≡ None → ended (record s { registered = with_name s.registered p n x }) p (Some n) ≡ s
+pub taken_back : (s : OpenNames) (p n : List ℕ) (x : Option ℕ) → s.registered p n ≡ None → end_names (record s { registered = with_name s.registered p n x }) p (Some n) ≡ s
 taken_back s p n x e = ap (λ f. record s { registered = f }) (with_at_twice s.registered p n x None ∙ sym (ap (with_name s.registered p n) e) ∙ with_at_same s.registered p n)
 
 module _ (s : OpenNames) (p n : List ℕ) (asked : Option Refusal → Type 0) (made kept untouched : Type 0) where

@@ -24,19 +24,19 @@ pub data Deed : Type 0 where
 abbrev pub with_registration : OpenNames → List ℕ → List ℕ → OpenNames
 with_registration s p n = record s { registered = with_name s.registered p n (Some s.next) }
 
-abbrev pub opened : OpenNames → List ℕ → List ℕ → OpenNames
-opened s p n = record { registered = with_name s.registered p n (Some s.next); next = s.next + 1 }
+abbrev pub open_name : OpenNames → List ℕ → List ℕ → OpenNames
+open_name s p n = record { registered = with_name s.registered p n (Some s.next); next = s.next + 1 }
 
 -- what holds a name, unless it is this open
 abbrev pub unless_number : ℕ → Option ℕ → Option ℕ
 unless_number k None = None
 unless_number k (Some m) = if m == k then None else Some m
 
-abbrev pub closed : OpenNames → Registration → OpenNames
-closed s r = record { registered = with_name s.registered r.partition r.name (unless_number r.number (s.registered r.partition r.name)); next = s.next }
+abbrev pub release : OpenNames → Registration → OpenNames
+release s r = record { registered = with_name s.registered r.partition r.name (unless_number r.number (s.registered r.partition r.name)); next = s.next }
 
-abbrev pub ended : OpenNames → List ℕ → Option (List ℕ) → OpenNames
-ended s p n = record s { registered = elim n [ Some m ↦ with_name s.registered p m None | None ↦ with_all_names s.registered None p ] }
+abbrev pub end_names : OpenNames → List ℕ → Option (List ℕ) → OpenNames
+end_names s p n = record s { registered = elim n [ Some m ↦ with_name s.registered p m None | None ↦ with_all_names s.registered None p ] }
 
 -- no name is open; numbers that were given aren't given again
 abbrev pub none_open : ℕ → OpenNames
@@ -46,9 +46,9 @@ none_open next = record { registered = λ p n. None; next = next }
 -- partition was ended, and the store wasn't rebuilt.
 abbrev pub after_deeds : List Deed → OpenNames
 after_deeds [] = none_open 0
-after_deeds (Opened p n ∷ h) = opened (after_deeds h) p n
-after_deeds (Closed r ∷ h) = closed (after_deeds h) r
-after_deeds (Ended p n ∷ h) = ended (after_deeds h) p n
+after_deeds (Opened p n ∷ h) = open_name (after_deeds h) p n
+after_deeds (Closed r ∷ h) = release (after_deeds h) r
+after_deeds (Ended p n ∷ h) = end_names (after_deeds h) p n
 after_deeds (Rebuilt ∷ h) = none_open (after_deeds h).next
 
 -- no number is left for an open of a name that isn't open: the greatest is never given

@@ -14,11 +14,15 @@ use Rattle.blob_model.specs.Places.{Place}
 use Rattle.blob_opens.specs.declared.open.Blob.{Blob}
 use Rattle.blob_opens.specs.declared.opens.Opens.{Opens}
 use Rattle.blob_names.specs.Names.{at}
-use Rattle.blob_opens.specs.OpenNames.{OpenAnswer, OpenNames, Registration}
+use Rattle.blob_opens.specs.OpenNames.{OpenAnswer, OpenNames, Registration, end_names}
 
 -- the open names and the next number
 abbrev pub names_of : Opens → OpenNames
 names_of o = record { registered = at o.names; next = o.next }
+
+-- the opens of a name are ended, or of a whole partition
+abbrev pub EndsNames : Opens → Opens → List ℕ → Option (List ℕ) → Type 0
+EndsNames old new p n = names_of new ≡ end_names (names_of old) p n
 
 -- the open that a handle is of
 abbrev pub registration_of : {B : Type 0} → Blob B → Registration
@@ -51,9 +55,9 @@ OpensHandle store handle s s' p n versions opened =
     OpensBlob store handle s s' p n (lower versions) (upper versions) (store_handle opened.0) opened.2.0
 
 -- what an open through the registry returns, given the open names, and what the store's own open may return and leave
-abbrev pub RegistryOpens : {S H O : Type 0} → StorageGhosts S H O
+abbrev pub OpensName : {S H O : Type 0} → StorageGhosts S H O
     → Opens → S → S → List ℕ → List ℕ → RangeInclusive BlobVersion → Option Refusal → Type 0
-RegistryOpens store opens s s' p n versions =
+OpensName store opens s s' p n versions =
     let first = lower versions in
     let last = upper versions in
     OpenAnswer (names_of opens) p n

@@ -1,12 +1,12 @@
 //! Handles of exclusive opens.
 ghost use Rattle.std.specs.Prelude.{◌≡◌, ◌≢◌, ◌+◌, ◌≤◌, ℕ, List, [], Bool, true, false, Option, Some, None, IsSome, OnOk, OnErr, IfOk, length, take, drop};
-ghost use Rattle.blob_model.specs.Bytes.{overlay, resized};
+ghost use Rattle.blob_model.specs.Bytes.{overlay, resize};
 ghost use Rattle.blob_model.specs.Directory.{is_current};
 ghost use Rattle.blob_model.specs.Durable.{with_changed};
 ghost use Rattle.blob_base.specs.Handles.{outcome_of};
 ghost use Rattle.blob_model.specs.Live.{live_written, live_after};
 ghost use Rattle.blob_base.specs.Options.{is_sync};
-ghost use Rattle.blob_header.specs.Refusals.{Refusal, refused, IsMemory};
+ghost use Rattle.blob_header.specs.Refusals.{Refusal, error_of, IsMemory};
 
 use blob_base::{Durable, Error, Handle, IoBufs, IoBufsMut, ReadOptions, WriteOptions};
 use std::marker::Model;

@@ -3,10 +3,10 @@ ghost use Rattle.std.specs.Prelude.{◌≡◌, ◌≢◌, ◌≤◌, ◌+◌, �
 ghost use Rattle.std.specs.Range.{range_inclusive_exhausted};
 ghost use Rattle.hex.specs.Hex.{encode_lower};
 ghost use Rattle.blob_base.specs.StoreChanges.{DropsBytes, DropsNames, SameFiles};
-ghost use Rattle.blob_header.specs.Refusals.{refused, refusal_of, BlobAlreadyOpen, FailsWith, GenerationsExhausted, IsMemory, IsMemoryError};
+ghost use Rattle.blob_header.specs.Refusals.{error_of, refusal_of, BlobAlreadyOpen, FailsWith, GenerationsExhausted, IsMemory, IsMemoryError};
 ghost use Rattle.blob_header.specs.Versions.{lower, upper};
-ghost use Rattle.blob_opens.specs.OpenNames.{opened, closed, ended, none_open, with_registration, IsExhausted};
-ghost use Rattle.blob_opens.specs.Opens.{names_of, next_registration, registration_of, store_handle, HasNoNumber, OpensHandle, RegistryOpens};
+ghost use Rattle.blob_opens.specs.OpenNames.{open_name, release, end_names, none_open, with_registration, IsExhausted};
+ghost use Rattle.blob_opens.specs.Opens.{names_of, next_registration, registration_of, store_handle, EndsNames, HasNoNumber, OpensHandle, OpensName};
 
 pub mod history;
 
@@ -58,9 +58,9 @@ impl Opens {
     ) -> Result<(Blob<S::Blob>, u64, BlobVersion), Error>
         requires fresh { range_inclusive_exhausted versions ≡ false }
         requires some { lower versions ≤ upper versions }
-        ensures answer { RegistryOpens S.Storage self.old store.old store.new partition.now name.now versions (refused result) }
+        ensures answer { OpensName S.Storage self.old store.old store.new partition.now name.now versions (error_of result) }
         ensures exhausted { IsExhausted (names_of self.old) partition.now name.now → FailsWith result GenerationsExhausted }
-        ensures registered { OnOk result (names_of self.new ≡ opened (names_of self.old) partition.now name.now) }
+        ensures registered { OnOk result (names_of self.new ≡ open_name (names_of self.old) partition.now name.now) }
         ensures err { OnErr result (names_of self.new ≡ names_of self.old) }
         ensures handle { IfOk result (λ opened. registration_of opened.0 ≡ next_registration self.old partition.now name.now) }
         ensures opened { IfOk result (OpensHandle S.Durable S.Blob.Blob store.old store.new partition.now name.now versions) }
@@ -106,12 +106,12 @@ impl Opens {
         partition: &str,
         name: Option<&[u8]>,
     ) -> Result<(), Error>
-        ensures allowed { S.allows_remove store.old partition.now (option_copied name.entry) (refused result) }
-        ensures leaves { S.leaves_remove store.old partition.now (option_copied name.entry) (refused result) store.new }
+        ensures allowed { S.allows_remove store.old partition.now (option_copied name.entry) (error_of result) }
+        ensures leaves { S.leaves_remove store.old partition.now (option_copied name.entry) (error_of result) store.new }
         ensures directory { OnOk result (DropsNames S.Durable store.old store.new partition.now (option_copied name.entry)) }
         ensures durable { OnOk result (DropsBytes S.Durable store.old store.new partition.now (option_copied name.entry)) }
         ensures kept { OnErr result (SameFiles S.Durable store.old store.new) }
-        ensures ended { OnOk result (names_of self.new ≡ ended (names_of self.old) partition.now (option_copied name.entry)) }
+        ensures ended { OnOk result (EndsNames self.old self.new partition.now (option_copied name.entry)) }
         ensures err { OnErr result (names_of self.new ≡ names_of self.old) }
     {
         store.remove(partition, name)?;
@@ -129,7 +129,7 @@ impl Opens {
     ) -> Result<R, Error>
         requires { F.pre call }
         ensures answer { F.post call result }
-        ensures ended { OnOk result (names_of self.new ≡ ended (names_of self.old) partition.now (option_copied name.entry)) }
+        ensures ended { OnOk result (EndsNames self.old self.new partition.now (option_copied name.entry)) }
         ensures err { OnErr result (names_of self.new ≡ names_of self.old) }
     {
         let replaced = call()?;
@@ -140,7 +140,7 @@ impl Opens {
     /// Closes a handle and drops its live bytes. Its name is then no longer open, unless it was removed and another handle has
     /// opened it since. Can't fail. Allocates nothing.
     pub fn close<B: Drop>(&mut self, blob: Blob<B>)
-        ensures { names_of self.new ≡ closed (names_of self.old) (registration_of blob) }
+        ensures { names_of self.new ≡ release (names_of self.old) (registration_of blob) }
     {
         let Blob {
             inner: _,
@@ -151,7 +151,7 @@ impl Opens {
 
     /// Ends the open of a handle that `into_parts` took apart, as `close` does.
     pub fn release(&mut self, registration: Registration)
-        ensures { names_of self.new ≡ closed (names_of self.old) registration }
+        ensures { names_of self.new ≡ release (names_of self.old) registration }
     {
         let Registration {
             partition,
@@ -212,13 +212,13 @@ impl Opens {
 
     /// Ends the open of a name.
     fn withdraw(&mut self, partition: &str, name: &[u8])
-        ensures { names_of self.new ≡ ended (names_of self.old) partition.now (Some name.now) }
+        ensures { names_of self.new ≡ end_names (names_of self.old) partition.now (Some name.now) }
     {
         self.names.remove(partition, name);
     }
 
     fn end(&mut self, partition: &str, name: Option<&[u8]>)
-        ensures { names_of self.new ≡ ended (names_of self.old) partition.now (option_copied name.entry) }
+        ensures { names_of self.new ≡ end_names (names_of self.old) partition.now (option_copied name.entry) }
     {
         match name {
             Some(name) => self.names.remove(partition, name),

@@ -3,7 +3,7 @@ use Rattle.std.proofs.Common.{[], ◌≡◌, ⊎_elim, ℕ, ◌+◌, ◌-◌, �
 use Rattle.std.proofs.lemmas.Bool.{cases_lt, cases_eq, le-ltb, lt-ltb, and_parts, and_from, and_left, and_right}
 use Rattle.std.proofs.lemmas.List.{get_or_past, get_or_append_left, get_or-append_right, get_or-take, get_or-drop, get_or-replicate, length-replicate, drop_all, take_all}
 use Rattle.blob_model.proofs.Agrees.{alike, overlay_same}
-use Rattle.blob_model.specs.Bytes.{reach, overlay_by, overlay, resized}
+use Rattle.blob_model.specs.Bytes.{reach, overlay_by, overlay, resize}
 use Rattle.blob_model.proofs.Bytes.{above_chosen, reach_below, length-overlay_by, at_chosen, at_other, length-resized, at_resized, past_resized, same_bytes, none_chosen, picks}
 
 -- the selection limited to the first n bytes
@@ -11,47 +11,47 @@ abbrev pub first : ℕ → (ℕ → Bool) → ℕ → Bool
 first n c i = ltb i n && c i
 
 -- the result of `resize` of a vector
-pub resized_is : (x : List ℕ) (n : ℕ) → take n x ++ replicate (n - length x) 0 ≡ resized x n
+pub resized_is : (x : List ℕ) (n : ℕ) → take n x ++ replicate (n - length x) 0 ≡ resize x n
 resized_is x n = same_bytes _ _ len (λ p. ⊎_elim (λ h. ⊎_elim (λ k. kept p h k) (λ k. new p h k) (cases_lt p (length x))) (λ h. past p h) (cases_lt p n))
   where
-    len : length (take n x ++ replicate (n - length x) 0) ≡ length (resized x n)
+    len : length (take n x ++ replicate (n - length x) 0) ≡ length (resize x n)
     len = omega (arith, length-append (take n x) (replicate (n - length x) 0), length-take n x, length-replicate {A = ℕ} (n - length x) 0, length-resized x n)
 
-    kept : (p : ℕ) → p < n → p < length x → get_or (take n x ++ replicate (n - length x) 0) p 0 ≡ get_or (resized x n) p 0
+    kept : (p : ℕ) → p < n → p < length x → get_or (take n x ++ replicate (n - length x) 0) p 0 ≡ get_or (resize x n) p 0
     kept p h k = get_or_append_left (take n x) _ 0 p (omega (arith, length-take n x)) ∙ get_or-take n x p 0 h ∙ sym (at_resized x n p h)
 
-    new : (p : ℕ) → p < n → length x ≤ p → get_or (take n x ++ replicate (n - length x) 0) p 0 ≡ get_or (resized x n) p 0
+    new : (p : ℕ) → p < n → length x ≤ p → get_or (take n x ++ replicate (n - length x) 0) p 0 ≡ get_or (resize x n) p 0
     new p h k = get_or-append_right (take n x) _ (length x) p 0 (omega (arith, length-take n x)) k
         ∙ get_or-replicate (n - length x) (p - length x) 0 0 (omega arith) ∙ sym (get_or_past x p 0 k) ∙ sym (at_resized x n p h)
 
-    past : (p : ℕ) → n ≤ p → get_or (take n x ++ replicate (n - length x) 0) p 0 ≡ get_or (resized x n) p 0
+    past : (p : ℕ) → n ≤ p → get_or (take n x ++ replicate (n - length x) 0) p 0 ≡ get_or (resize x n) p 0
     past p h = get_or_past _ p 0 (omega (arith, len, length-resized x n)) ∙ sym (past_resized x n p h)
 
 -- the clause of a vector's `resize`
-pub resized_to : (x y : List ℕ) (n len : ℕ) → len ≡ length x → y ≡ take n x ++ replicate (n - len) 0 → y ≡ resized x n
+pub resized_to : (x y : List ℕ) (n len : ℕ) → len ≡ length x → y ≡ take n x ++ replicate (n - len) 0 → y ≡ resize x n
 resized_to x y n len e h = h ∙ ap (λ k. take n x ++ replicate (n - k) 0) e ∙ resized_is x n
 
 -- no growth to a length that is reached already
-pub grown_none : (x : List ℕ) (n : ℕ) → n ≤ length x → x ≡ resized x (max (length x) n)
+pub grown_none : (x : List ℕ) (n : ℕ) → n ≤ length x → x ≡ resize x (max (length x) n)
 grown_none x n h = same_bytes _ _ (omega (arith, length-resized x (max (length x) n))) (λ p. ⊎_elim (λ l. sym (at_resized x _ p (omega arith))) (λ l. get_or_past x p 0 l ∙ sym (past_resized x (max (length x) n) p (omega arith))) (cases_lt p (length x)))
 
 -- zeros that the overlay covers, or would add itself, don't change its result
-pub overlay_padded : (x : List ℕ) (n o : ℕ) (b : List ℕ) (c : ℕ → Bool) → length x ≤ n → n ≤ max (length x) (reach o (length b) c) → overlay_by (resized x n) o b c ≡ overlay_by x o b c
+pub overlay_padded : (x : List ℕ) (n o : ℕ) (b : List ℕ) (c : ℕ → Bool) → length x ≤ n → n ≤ max (length x) (reach o (length b) c) → overlay_by (resize x n) o b c ≡ overlay_by x o b c
 overlay_padded x n o b c low high = same_bytes _ _
-    (omega (arith, length-overlay_by (resized x n) o b c, length-overlay_by x o b c, length-resized x n))
+    (omega (arith, length-overlay_by (resize x n) o b c, length-overlay_by x o b c, length-resized x n))
     (λ p. ⊎_elim (λ h. at p h) (λ h. outside p h) (picks o (length b) c p))
   where
-    same : (p : ℕ) → get_or (resized x n) p 0 ≡ get_or x p 0
+    same : (p : ℕ) → get_or (resize x n) p 0 ≡ get_or x p 0
     same p = ⊎_elim (λ h. at_resized x n p h) (λ h. past_resized x n p h ∙ sym (get_or_past x p 0 (omega arith))) (cases_lt p n)
 
-    at : (p : ℕ) → (o ≤ p) × (p < o + length b) × (c (p - o) ≡ true) → get_or (overlay_by (resized x n) o b c) p 0 ≡ get_or (overlay_by x o b c) p 0
-    at p h = at_chosen (resized x n) o b c p h.0 h.1 h.2 ∙ sym (at_chosen x o b c p h.0 h.1 h.2)
+    at : (p : ℕ) → (o ≤ p) × (p < o + length b) × (c (p - o) ≡ true) → get_or (overlay_by (resize x n) o b c) p 0 ≡ get_or (overlay_by x o b c) p 0
+    at p h = at_chosen (resize x n) o b c p h.0 h.1 h.2 ∙ sym (at_chosen x o b c p h.0 h.1 h.2)
 
-    outside : (p : ℕ) → (o ≤ p → p < o + length b → c (p - o) ≡ false) → get_or (overlay_by (resized x n) o b c) p 0 ≡ get_or (overlay_by x o b c) p 0
-    outside p h = at_other (resized x n) o b c p h ∙ same p ∙ sym (at_other x o b c p h)
+    outside : (p : ℕ) → (o ≤ p → p < o + length b → c (p - o) ≡ false) → get_or (overlay_by (resize x n) o b c) p 0 ≡ get_or (overlay_by x o b c) p 0
+    outside p h = at_other (resize x n) o b c p h ∙ same p ∙ sym (at_other x o b c p h)
 
-pub lay_padded : (x y z : List ℕ) (o : ℕ) (b : List ℕ) (c : ℕ → Bool) (r : ℕ) → r ≡ reach o (length b) c → y ≡ resized x (max (length x) r) → z ≡ overlay_by y o b c → z ≡ overlay_by x o b c
-lay_padded x y z o b c r is e f = f ∙ ap (λ l. overlay_by l o b c) (e ∙ ap (λ n. resized x (max (length x) n)) is) ∙ overlay_padded x _ o b c (omega arith) (omega arith)
+pub lay_padded : (x y z : List ℕ) (o : ℕ) (b : List ℕ) (c : ℕ → Bool) (r : ℕ) → r ≡ reach o (length b) c → y ≡ resize x (max (length x) r) → z ≡ overlay_by y o b c → z ≡ overlay_by x o b c
+lay_padded x y z o b c r is e f = f ∙ ap (λ l. overlay_by l o b c) (e ∙ ap (λ n. resize x (max (length x) n)) is) ∙ overlay_padded x _ o b c (omega arith) (omega arith)
 
 pub overlay_none : (x : List ℕ) (o : ℕ) (c : ℕ → Bool) → overlay_by x o [] c ≡ x
 overlay_none x o c = same_bytes _ _ (omega (arith, length-overlay_by x o [] c)) (λ p. at_other x o [] c p (λ l u. absurd (omega arith)))

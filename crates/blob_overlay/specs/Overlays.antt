@@ -1,8 +1,8 @@
 -- How writes and resizes change a vector of bytes.
 use Rattle.std.specs.Prelude.{◌≡◌, ◌≤◌, ℕ, Bool, List, Result, OnOk, OnErr, IsOk, Vec, length, max, vec_capacity}
 use Rattle.std.specs.Global.{Global}
-use Rattle.blob_model.specs.Bytes.{overlay_by, reach, resized}
-use Rattle.blob_model.specs.Runs.{picked}
+use Rattle.blob_model.specs.Bytes.{overlay_by, reach, resize}
+use Rattle.blob_model.specs.Runs.{is_chosen}
 
 -- the new bytes; the capacity doesn't shrink
 pub record AreNow (old new : Vec ℕ Global) (bytes : List ℕ) : Type 0 where
@@ -20,10 +20,10 @@ pub record Grows {T E : Type 0} (result : Result T E) (old new : Vec ℕ Global)
 -- zeros up to the end of the last byte that `keep` selects
 abbrev pub GrowsToSelected : {T E : Type 0} → Result T E → Vec ℕ Global → Vec ℕ Global → ℕ → List Bool → Type 0
 GrowsToSelected result old new offset keep =
-    let end = reach offset (length keep) (picked keep) in
-    Grows result old new end (resized old.items (max (length old.items) end))
+    let end = reach offset (length keep) (is_chosen keep) in
+    Grows result old new end (resize old.items (max (length old.items) end))
 
 -- a write of the bytes of a run that `keep` selects
 abbrev pub WritesSelected : {T E : Type 0} → Result T E → Vec ℕ Global → Vec ℕ Global → ℕ → List ℕ → List Bool → Type 0
 WritesSelected result old new offset run keep =
-    Grows result old new (reach offset (length run) (picked keep)) (overlay_by old.items offset run (picked keep))
+    Grows result old new (reach offset (length run) (is_chosen keep)) (overlay_by old.items offset run (is_chosen keep))

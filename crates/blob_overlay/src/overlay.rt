@@ -1,8 +1,8 @@
 //! Writes and resizes of a vector of bytes. A call that can fail reserves capacity first. The rest does not allocate.
 ghost use Rattle.std.specs.Prelude.{◌≡◌, ◌≤◌, ◌<◌, ◌+◌, ◌^◌, length, max, drop, true, IsOk, OnOk, OnErr, vec_capacity};
 ghost use Rattle.std.specs.List.{list_all};
-ghost use Rattle.blob_model.specs.Bytes.{overlay, overlay_by, reach, resized};
-ghost use Rattle.blob_model.specs.Runs.{picked};
+ghost use Rattle.blob_model.specs.Bytes.{overlay, overlay_by, reach, resize};
+ghost use Rattle.blob_model.specs.Runs.{is_chosen};
 ghost use Rattle.blob_overlay.specs.Overlays.{AreNow, Grows, GrowsToSelected, WritesSelected};
 
 use std::alloc::AllocError;
@@ -21,7 +21,7 @@ pub fn make_room(bytes: &mut Vec<u8>, len: usize) -> Result<(), AllocError>
 /// Extends the bytes with zeros to `len`, within the capacity. Does nothing if they are that long already.
 pub fn grow(bytes: &mut Vec<u8>, len: usize)
     requires { len ≤ vec_capacity bytes.old }
-    ensures { AreNow bytes.old bytes.new (resized bytes.old.items (max (length bytes.old.items) len)) }
+    ensures { AreNow bytes.old bytes.new (resize bytes.old.items (max (length bytes.old.items) len)) }
 {
     if bytes.len() < len {
         bytes.resize(len, 0).unwrap();
@@ -31,7 +31,7 @@ pub fn grow(bytes: &mut Vec<u8>, len: usize)
 /// Truncates, or extends with zeros, within the capacity.
 pub fn set_len(bytes: &mut Vec<u8>, len: usize)
     requires { len ≤ vec_capacity bytes.old }
-    ensures { AreNow bytes.old bytes.new (resized bytes.old.items len) }
+    ensures { AreNow bytes.old bytes.new (resize bytes.old.items len) }
 {
     bytes.resize(len, 0).unwrap();
 }
@@ -39,7 +39,7 @@ pub fn set_len(bytes: &mut Vec<u8>, len: usize)
 /// Returns the end of the last selected byte, or 0 if none is selected.
 pub fn reach_of(offset: usize, keep: &[bool]) -> usize
     requires { offset + length keep.now < 2 ^ 64 }
-    ensures { result ≡ reach offset (length keep.now) (picked keep.now) }
+    ensures { result ≡ reach offset (length keep.now) (is_chosen keep.now) }
 {
     let mut end = 0;
     for (i, kept) in keep.iter().enumerate() {
@@ -63,8 +63,8 @@ fn copy_over(bytes: &mut [u8], offset: usize, run: &[u8])
 fn copy_some(bytes: &mut [u8], offset: usize, run: &[u8], keep: &[bool])
     requires same { length keep.now ≡ length run.now }
     requires fits { offset + length run.now < 2 ^ 64 }
-    requires inside { reach offset (length run.now) (picked keep.now) ≤ length bytes.old }
-    ensures { bytes.new ≡ overlay_by bytes.old offset run.now (picked keep.now) }
+    requires inside { reach offset (length run.now) (is_chosen keep.now) ≤ length bytes.old }
+    ensures { bytes.new ≡ overlay_by bytes.old offset run.now (is_chosen keep.now) }
 {
     for (i, kept) in keep.iter().enumerate() {
         if *kept {
@@ -84,8 +84,8 @@ fn are_all(keep: &[bool]) -> bool
 pub fn copy_chosen(bytes: &mut [u8], offset: usize, run: &[u8], keep: &[bool])
     requires same { length keep.now ≡ length run.now }
     requires fits { offset + length run.now < 2 ^ 64 }
-    requires inside { reach offset (length run.now) (picked keep.now) ≤ length bytes.old }
-    ensures { bytes.new ≡ overlay_by bytes.old offset run.now (picked keep.now) }
+    requires inside { reach offset (length run.now) (is_chosen keep.now) ≤ length bytes.old }
+    ensures { bytes.new ≡ overlay_by bytes.old offset run.now (is_chosen keep.now) }
 {
     if !run.is_empty() && are_all(keep) {
         copy_over(bytes, offset, run);

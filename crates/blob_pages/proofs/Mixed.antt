@@ -2,7 +2,7 @@
 use Rattle.std.proofs.Common.{◌≡◌, ⊎_elim, ℕ, ◌+◌, ◌-◌, ◌<◌, ◌≤◌, min, Bool, true, List, length, get_or, take, drop, refl, sym, ◌∙◌, ap, arith}
 use Rattle.std.proofs.lemmas.Bool.{cases_lt, cases_Bool}
 use Rattle.std.proofs.lemmas.List.{get_or_past, get_or-take, get_or-drop, length-take}
-use Rattle.blob_model.specs.Bytes.{overlay, overlay_by, resized, reach}
+use Rattle.blob_model.specs.Bytes.{overlay, overlay_by, resize, reach}
 use Rattle.blob_model.proofs.Bytes.{same_bytes, length-overlay_by, reach_below, reach_all, above_chosen, at_chosen, at_other, at_resized, picks}
 
 module _ (x t : List ℕ) (o n : ℕ) (b : List ℕ) (c : ℕ → Bool) (some : 0 < n) (far : reach o (length b) c ≡ o + n) (len : length t ≡ n) (there : (i : ℕ) → i < n → get_or t i 0 ≡ get_or x (o + i) 0) where
@@ -37,7 +37,7 @@ none_reached x o b c h = same_bytes _ _
     (λ p. at_other x o b c p (λ ge u. ⊎_elim (λ e. absurd (omega (arith, h, ge, above_chosen o (length b) c (p - o) (omega (arith, ge, u)) e))) (λ e. e) (cases_Bool (c (p - o)))))
 
 -- the bytes of a range, with zeros after the end
-pub range_at : (x y t : List ℕ) (o end from count : ℕ) → from ≡ min o (length x) → count ≡ min end (length x) - from → y ≡ take count (drop from x) → t ≡ resized y (end - o)
+pub range_at : (x y t : List ℕ) (o end from count : ℕ) → from ≡ min o (length x) → count ≡ min end (length x) - from → y ≡ take count (drop from x) → t ≡ resize y (end - o)
     → (i : ℕ) → i < end - o → get_or t i 0 ≡ get_or x (o + i) 0
 range_at x y t o end from count ef ec ey et i h = ap (λ l. get_or l i 0) et ∙ at_resized y (end - o) i h ∙ ⊎_elim
     (λ lt. ap (λ l. get_or l i 0) ey ∙ get_or-take count (drop from x) i 0 lt ∙ get_or-drop from x i 0 ∙ ap (λ k. get_or x k 0) (omega (arith, ef, ec, lt)))

@@ -5,21 +5,21 @@ use Rattle.std.proofs.lemmas.List.{append-nil, drop-drop, drop_all, take_all, ta
 use Rattle.std.proofs.Math.Seq.{take-add}
 use Rattle.blob_pages.specs.declared.page.Page.{Page}
 use Rattle.std.proofs.lemmas.List.FromFn.{length-map-range_with_len, get_or-map-range_with_len}
-use Rattle.blob_model.specs.Bytes.{overlay, resized, reach}
+use Rattle.blob_model.specs.Bytes.{overlay, resize, reach}
 use Rattle.blob_model.proofs.Bytes.{same_bytes, length-resized, at_resized, past_resized, length-overlay_by, reach_below, reach_all, at_chosen, at_other}
-use Rattle.blob_pages.specs.Paged.{page_size, bytes_in, page_bytes, is_owned, byte_at, owned_at, AreFull, AreOwned, Keeps, KeepsOwned, Extends, Lays, spliced}
+use Rattle.blob_pages.specs.Paged.{page_size, bytes_in, page_bytes, is_owned, byte_at, owned_at, AreFull, AreOwned, Keeps, KeepsOwned, Extends, Lays, splice}
 
 module _ (x : List ℕ) (n : ℕ) (y : List ℕ) (h : n + length y ≤ length x) where
-  pub length-spliced : length (spliced x n y) ≡ length x
+  pub length-spliced : length (splice x n y) ≡ length x
   length-spliced = omega (arith, h, length-append (take n x) (y ++ drop (n + length y) x), length-append y (drop (n + length y) x), length-take n x, length-drop (n + length y) x)
 
-  pub spliced_before : (p : ℕ) → p < n → get_or (spliced x n y) p 0 ≡ get_or x p 0
+  pub spliced_before : (p : ℕ) → p < n → get_or (splice x n y) p 0 ≡ get_or x p 0
   spliced_before p l = get_or_append_left (take n x) _ 0 p (omega (arith, h, l, length-take n x)) ∙ get_or-take n x p 0 l
 
-  pub spliced_within : (p : ℕ) → n ≤ p → p < n + length y → get_or (spliced x n y) p 0 ≡ get_or y (p - n) 0
+  pub spliced_within : (p : ℕ) → n ≤ p → p < n + length y → get_or (splice x n y) p 0 ≡ get_or y (p - n) 0
   spliced_within p l m = get_or-append_right (take n x) _ n p 0 (omega (arith, h, length-take n x)) l ∙ get_or_append_left y _ 0 (p - n) (omega (arith, l, m))
 
-  pub spliced_behind : (p : ℕ) → n + length y ≤ p → get_or (spliced x n y) p 0 ≡ get_or x p 0
+  pub spliced_behind : (p : ℕ) → n + length y ≤ p → get_or (splice x n y) p 0 ≡ get_or x p 0
   spliced_behind p m = get_or-append_right (take n x) _ n p 0 (omega (arith, h, length-take n x)) (omega (arith, m))
       ∙ get_or-append_right y _ (length y) (p - n) 0 refl (omega (arith, m))
       ∙ get_or-drop (n + length y) x _ 0 ∙ ap (λ q. get_or x q 0) (omega (arith, m))
@@ -67,7 +67,7 @@ byte_in ps p page h is = ap (λ l. get_or l (p % page_size) 0) (table_at ps (p /
 
 -- a run written within one page
 pub page_laid : (ps qs : List Page) (at : ℕ) (x : List ℕ) (page q : Page) → AreFull ps → at / page_size < length ps → at % page_size + length x ≤ page_size
-    → page ≡ get_or ps (at / page_size) page → page_bytes q ≡ spliced (page_bytes page) (at % page_size) x → is_owned q ≡ true → qs ≡ set ps (at / page_size) q → Lays ps qs at x
+    → page ≡ get_or ps (at / page_size) page → page_bytes q ≡ splice (page_bytes page) (at % page_size) x → is_owned q ≡ true → qs ≡ set ps (at / page_size) q → Lays ps qs at x
 page_laid ps qs at x page q full h fits is eq own e = rw e (record {
   same = length-set ps i q;
   within = λ p l m. byte_same ps i q h p (omega (arith, l, m, fits)) ∙ ap (λ l. get_or l (p % page_size) 0) eq ∙ spliced_within (page_bytes page) (at % page_size) x room (p % page_size) (omega (arith, l, m, fits)) (omega (arith, l, m, fits)) ∙ ap (λ k. get_or x k 0) (omega (arith, l, m, fits));
@@ -228,7 +228,7 @@ pub extended_bytes : (a b : List Page) (n : ℕ) → n ≤ page_size * length a 
 extended_bytes a b n h x = same_bytes_in a b n (λ p l. x.bytes p (omega (arith, l, h)))
 
 -- zeros written after the bytes
-pub blanked : (a b : List Page) (n m : ℕ) → n ≤ m → Lays a b n (replicate (m - n) 0) → bytes_in b m ≡ resized (bytes_in a n) m
+pub blanked : (a b : List Page) (n m : ℕ) → n ≤ m → Lays a b n (replicate (m - n) 0) → bytes_in b m ≡ resize (bytes_in a n) m
 blanked a b n m le l = same_bytes _ _ (omega (arith, length-bytes_in b m, length-resized (bytes_in a n) m)) (λ p. ⊎_elim
     (λ h. at_bytes_in b m p h ∙ ⊎_elim
     (λ low. l.outside p (inl low) ∙ sym (at_bytes_in a n p low))
@@ -238,7 +238,7 @@ blanked a b n m le l = same_bytes _ _ (omega (arith, length-bytes_in b m, length
     (cases_lt p m))
 
 -- a truncation
-pub cut_bytes : (a : List Page) (n m : ℕ) → m ≤ n → bytes_in a m ≡ resized (bytes_in a n) m
+pub cut_bytes : (a : List Page) (n m : ℕ) → m ≤ n → bytes_in a m ≡ resize (bytes_in a n) m
 cut_bytes a n m le = same_bytes _ _ (omega (arith, length-bytes_in a m, length-resized (bytes_in a n) m)) (λ p. ⊎_elim
     (λ h. at_bytes_in a m p h ∙ sym (at_bytes_in a n p (omega (arith, h, le))) ∙ sym (at_resized (bytes_in a n) m p h))
     (λ h. past_bytes_in a m p h ∙ sym (past_resized (bytes_in a n) m p h))
@@ -277,16 +277,16 @@ pub owned_same : (a : List Page) → KeepsOwned a a
 owned_same a = record { each = λ i e. e }
 
 -- zeros that the overlay covers, or would add itself, don't change its result
-pub overlay_grown : (x : List ℕ) (o : ℕ) (b : List ℕ) (n : ℕ) → n ≡ max (length x) (reach o (length b) (λ _. true)) → overlay (resized x n) o b ≡ overlay x o b
+pub overlay_grown : (x : List ℕ) (o : ℕ) (b : List ℕ) (n : ℕ) → n ≡ max (length x) (reach o (length b) (λ _. true)) → overlay (resize x n) o b ≡ overlay x o b
 overlay_grown x o b n is = same_bytes _ _
-    (omega (arith, is, length-overlay_by (resized x n) o b (λ _. true), length-overlay_by x o b (λ _. true), length-resized x n))
+    (omega (arith, is, length-overlay_by (resize x n) o b (λ _. true), length-overlay_by x o b (λ _. true), length-resized x n))
     (λ p. ⊎_elim
     (λ low. other p (λ ge _. absurd (omega (arith, low, ge))))
-    (λ ge. ⊎_elim (λ lt. at_chosen (resized x n) o b (λ _. true) p ge lt refl ∙ sym (at_chosen x o b (λ _. true) p ge lt refl)) (λ past. other p (λ _ u. absurd (omega (arith, past, u)))) (cases_lt p (o + length b)))
+    (λ ge. ⊎_elim (λ lt. at_chosen (resize x n) o b (λ _. true) p ge lt refl ∙ sym (at_chosen x o b (λ _. true) p ge lt refl)) (λ past. other p (λ _ u. absurd (omega (arith, past, u)))) (cases_lt p (o + length b)))
     (cases_lt p o))
   where
-    other : (p : ℕ) → (o ≤ p → p < o + length b → true ≡ false) → get_or (overlay (resized x n) o b) p 0 ≡ get_or (overlay x o b) p 0
-    other p out = at_other (resized x n) o b (λ _. true) p out
+    other : (p : ℕ) → (o ≤ p → p < o + length b → true ≡ false) → get_or (overlay (resize x n) o b) p 0 ≡ get_or (overlay x o b) p 0
+    other p out = at_other (resize x n) o b (λ _. true) p out
         ∙ ⊎_elim (λ h. at_resized x n p h) (λ h. past_resized x n p h ∙ sym (get_or_past x p 0 (omega (arith, h, is)))) (cases_lt p n)
         ∙ sym (at_other x o b (λ _. true) p out)
 
@@ -306,7 +306,7 @@ overlay_none x o b e = same_bytes _ _ (omega (arith, length-overlay_by x o b (λ
 pub read_more : (ps : List Page) (o at n : ℕ) (x y : List ℕ) (page : Page) → at / page_size < length ps → page ≡ get_or ps (at / page_size) page → at % page_size + n ≤ page_size → o ≤ at → at - o + n ≤ length x → n ≡ length y
     → ((k : ℕ) → k < n → get_or y k 0 ≡ get_or (page_bytes page) (at % page_size + k) 0)
     → ((p : ℕ) → o ≤ p → p < at → get_or x (p - o) 0 ≡ byte_at ps p)
-    → (p : ℕ) → o ≤ p → p < at + n → get_or (spliced x (at - o) y) (p - o) 0 ≡ byte_at ps p
+    → (p : ℕ) → o ≤ p → p < at + n → get_or (splice x (at - o) y) (p - o) 0 ≡ byte_at ps p
 read_more ps o at n x y page there is fits from room len part before p l m = ⊎_elim
     (λ low. spliced_before x (at - o) y (omega (arith, room, len)) (p - o) (omega (arith, low, l)) ∙ before p l low)
     (λ high. spliced_within x (at - o) y (omega (arith, room, len)) (p - o) (omega (arith, high, from)) (omega (arith, high, m, len, from))

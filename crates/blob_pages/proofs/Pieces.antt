@@ -4,7 +4,7 @@ use Rattle.std.proofs.lemmas.Grind.{flat_map-append}
 use Rattle.std.proofs.lemmas.List.{take_more, get_or-take, get_or-drop, take-append-drop}
 use Rattle.std.specs.List.{flat_map, slice_range}
 use Rattle.blob_model.specs.Bytes.{overlay, overlay_by, reach}
-use Rattle.blob_model.specs.Runs.{picked}
+use Rattle.blob_model.specs.Runs.{is_chosen}
 use Rattle.blob_model.proofs.Agrees.{overlay_same}
 use Rattle.blob_model.proofs.Bytes.{reach_below, above_chosen}
 use Rattle.blob_overlay.proofs.Overlays.{overlay_more}
@@ -32,21 +32,21 @@ module _ (ps : List (Vec ℕ Global)) (i : ℕ) (v : Vec ℕ Global) (h : i < le
 
   -- which bytes of the piece are selected
   part : (keep : List Bool) (done end : ℕ) → done ≡ length (flat (take i ps)) → end ≡ done + length v.items → (j : ℕ) → j < length v.items
-      → picked (slice_range keep done end) j ≡ picked keep (length (flat (take i ps)) + j)
+      → is_chosen (slice_range keep done end) j ≡ is_chosen keep (length (flat (take i ps)) + j)
   part keep done end ed ee j l = get_or-take (end - done) (drop done keep) j false (omega arith) ∙ get_or-drop done keep j false ∙ ap (λ q. get_or keep q false) (omega arith)
 
   -- the last selected byte of the piece is at most the last of the run
   pub chosen_below : (o done end : ℕ) (keep : List Bool) → done ≡ length (flat (take i ps)) → end ≡ done + length v.items
-      → reach (o + done) (length v.items) (picked (slice_range keep done end)) ≤ reach o (length (flat ps)) (picked keep)
-  chosen_below o done end keep ed ee = reach_below (o + done) (length v.items) (picked (slice_range keep done end)) (reach o (length (flat ps)) (picked keep))
-      (λ j l e. omega (arith, ed, above_chosen o (length (flat ps)) (picked keep) (length (flat (take i ps)) + j) (omega (arith, flat_within, l)) (sym (part keep done end ed ee j l) ∙ e)))
+      → reach (o + done) (length v.items) (is_chosen (slice_range keep done end)) ≤ reach o (length (flat ps)) (is_chosen keep)
+  chosen_below o done end keep ed ee = reach_below (o + done) (length v.items) (is_chosen (slice_range keep done end)) (reach o (length (flat ps)) (is_chosen keep))
+      (λ j l e. omega (arith, ed, above_chosen o (length (flat ps)) (is_chosen keep) (length (flat (take i ps)) + j) (omega (arith, flat_within, l)) (sym (part keep done end ed ee j l) ∙ e)))
 
   -- after the selected bytes of one more piece
   pub chosen_more : (x y z : List ℕ) (o done end : ℕ) (keep : List Bool) → done ≡ length (flat (take i ps)) → end ≡ done + length v.items
-      → y ≡ overlay_by x o (flat (take i ps)) (picked keep) → z ≡ overlay_by y (o + done) v.items (picked (slice_range keep done end)) → z ≡ overlay_by x o (flat (take (i + 1) ps)) (picked keep)
+      → y ≡ overlay_by x o (flat (take i ps)) (is_chosen keep) → z ≡ overlay_by y (o + done) v.items (is_chosen (slice_range keep done end)) → z ≡ overlay_by x o (flat (take (i + 1) ps)) (is_chosen keep)
   chosen_more x y z o done end keep ed ee ey ez = ez
-      ∙ overlay_same y (o + done) v.items (picked (slice_range keep done end)) (λ j. picked keep (length (flat (take i ps)) + j)) (part keep done end ed ee)
-      ∙ ap (λ l. overlay_by l (o + done) v.items (λ j. picked keep (length (flat (take i ps)) + j))) ey
-      ∙ ap (λ d. overlay_by (overlay_by x o (flat (take i ps)) (picked keep)) (o + d) v.items (λ j. picked keep (length (flat (take i ps)) + j))) ed
-      ∙ overlay_more x o (flat (take i ps)) v.items (picked keep)
-      ∙ ap (λ l. overlay_by x o l (picked keep)) (sym flat_more)
+      ∙ overlay_same y (o + done) v.items (is_chosen (slice_range keep done end)) (λ j. is_chosen keep (length (flat (take i ps)) + j)) (part keep done end ed ee)
+      ∙ ap (λ l. overlay_by l (o + done) v.items (λ j. is_chosen keep (length (flat (take i ps)) + j))) ey
+      ∙ ap (λ d. overlay_by (overlay_by x o (flat (take i ps)) (is_chosen keep)) (o + d) v.items (λ j. is_chosen keep (length (flat (take i ps)) + j))) ed
+      ∙ overlay_more x o (flat (take i ps)) v.items (is_chosen keep)
+      ∙ ap (λ l. overlay_by x o l (is_chosen keep)) (sym flat_more)

@@ -64,8 +64,8 @@ pub record Lays (old new : List Page) (offset : ℕ) (run : List ℕ) : Type 0 w
   pub owned : KeepsOwned old new
 
 -- x with y written over it at n
-abbrev pub spliced : List ℕ → ℕ → List ℕ → List ℕ
-spliced x n y = take n x ++ (y ++ drop (n + length y) x)
+abbrev pub splice : List ℕ → ℕ → List ℕ → List ℕ
+splice x n y = take n x ++ (y ++ drop (n + length y) x)
 
 -- the result of a change: on Ok these bytes with the new length, on Err the old bytes
 pub record Changes {T E : Type 0} (result : Result T E) (old new : List Page) (had has : ℕ) (now : List ℕ) : Type 0 where

@@ -1,7 +1,7 @@
 -- The bytes of a blob as their owner sees them.
 use Rattle.std.specs.Prelude.{◌≡◌, ◌≤◌, ℕ, Bool, List, Result, OnOk, OnErr, IsOk, length}
 use Rattle.blob_model.specs.Bytes.{overlay_by, reach}
-use Rattle.blob_model.specs.Runs.{picked}
+use Rattle.blob_model.specs.Runs.{is_chosen}
 
 -- the bytes, and the length up to which changes never fail
 pub record Stored : Type 0 where
@@ -24,4 +24,4 @@ pub record Grows {T E : Type 0} (result : Result T E) (old new : Stored) (need :
 -- a write of the bytes of a run that `keep` selects
 abbrev pub WritesSelected : {T E : Type 0} → Result T E → Stored → Stored → ℕ → List ℕ → List Bool → Type 0
 WritesSelected result old new offset run keep =
-    Grows result old new (reach offset (length run) (picked keep)) (overlay_by old.items offset run (picked keep))
+    Grows result old new (reach offset (length run) (is_chosen keep)) (overlay_by old.items offset run (is_chosen keep))

@@ -1,7 +1,7 @@
 -- The bytes and the capacity of a `Pages`.
 use Rattle.std.specs.Prelude.{◌≡◌, ℕ, ◌+◌, ◌<◌, Bool, List, Result, OnOk, OnErr, length, slice_index, vec_capacity}
 use Rattle.blob_model.specs.Bytes.{overlay, overlay_by}
-use Rattle.blob_model.specs.Runs.{picked}
+use Rattle.blob_model.specs.Runs.{is_chosen}
 use Rattle.blob_pages.specs.declared.pages.Pages.{Pages}
 use Rattle.blob_pages.specs.Paged.{bytes_in}
 
@@ -25,4 +25,4 @@ pub record IsRange (range all : List ℕ) (offset end : ℕ) : Type 0 where
 
 -- a write of `merged` has the result of a write of the bytes of `run` that `keep` selects
 abbrev pub IsSelectedWrite : List ℕ → List ℕ → ℕ → List ℕ → List Bool → Type 0
-IsSelectedWrite merged all offset run keep = overlay all offset merged ≡ overlay_by all offset run (picked keep)
+IsSelectedWrite merged all offset run keep = overlay all offset merged ≡ overlay_by all offset run (is_chosen keep)

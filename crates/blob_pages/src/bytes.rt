@@ -1,6 +1,6 @@
 //! The bytes of a blob.
 ghost use Rattle.std.specs.Prelude.{◌≡◌, ◌≤◌, ◌<◌, ◌+◌, ◌++◌, [], length, take, drop, IfOk, OnOk, vec_capacity};
-ghost use Rattle.blob_pages.specs.Paged.{spliced};
+ghost use Rattle.blob_pages.specs.Paged.{splice};
 
 use crate::form::Form;
 use std::alloc::{AllocError, Global};
@@ -26,7 +26,7 @@ impl Model for Bytes {
 /// Copies a run into a buffer at `at`.
 fn copy_part(buf: &mut [u8], at: usize, run: &[u8])
     requires { at + length run.now ≤ length buf.old }
-    ensures { buf.new ≡ spliced buf.old at run.now }
+    ensures { buf.new ≡ splice buf.old at run.now }
 {
     let end = at + run.len();
     buf[at..end].copy_from_slice(run);

@@ -1,7 +1,7 @@
 // The bytes of a blob: one vector if they fit on one page, else pages.
 ghost use Rattle.std.specs.Prelude.{◌≡◌, ◌≤◌, ◌<◌, ◌+◌, ◌^◌, length, take, drop, OnOk, OnErr, IfOk, vec_capacity};
-ghost use Rattle.blob_model.specs.Bytes.{overlay, overlay_by, reach, resized};
-ghost use Rattle.blob_model.specs.Runs.{picked};
+ghost use Rattle.blob_model.specs.Bytes.{overlay, overlay_by, reach, resize};
+ghost use Rattle.blob_model.specs.Runs.{is_chosen};
 
 use crate::page_writes::{lay_mixed, paged};
 use crate::pages::{PAGE, Pages};
@@ -99,7 +99,7 @@ impl Form {
     /// Sets the length of pages. Returns false if a page can't be allocated.
     fn try_set_len(&mut self, len: usize) -> bool
         requires { len ≤ capacity self.old }
-        ensures { Tried result self.old self.new (resized (content self.old) len) }
+        ensures { Tried result self.old self.new (resize (content self.old) len) }
     {
         match self {
             Form::Flat(_) => false,
@@ -110,7 +110,7 @@ impl Form {
     /// Sets the length of pages. If a page can't be allocated, all bytes move to one vector.
     fn set_len_pages(&mut self, len: usize)
         requires { len ≤ capacity self.old }
-        ensures { Becomes self.old self.new (resized (content self.old) len) }
+        ensures { Becomes self.old self.new (resize (content self.old) len) }
     {
         if !self.try_set_len(len) {
             let mut flat = self.flattened();
@@ -122,7 +122,7 @@ impl Form {
     /// Truncates, or extends with zeros, within the capacity.
     pub fn set_len(&mut self, len: usize)
         requires { len ≤ capacity self.old }
-        ensures { Becomes self.old self.new (resized (content self.old) len) }
+        ensures { Becomes self.old self.new (resize (content self.old) len) }
     {
         match self {
             Form::Flat(bytes) => overlay::set_len(bytes, len),
@@ -172,8 +172,8 @@ impl Form {
     fn try_lay_chosen(&mut self, offset: usize, run: &[u8], keep: &[bool]) -> bool
         requires same { length keep.now ≡ length run.now }
         requires fits { offset + length run.now < 2 ^ 64 }
-        requires room { reach offset (length run.now) (picked keep.now) ≤ capacity self.old }
-        ensures { Tried result self.old self.new (overlay_by (content self.old) offset run.now (picked keep.now)) }
+        requires room { reach offset (length run.now) (is_chosen keep.now) ≤ capacity self.old }
+        ensures { Tried result self.old self.new (overlay_by (content self.old) offset run.now (is_chosen keep.now)) }
     {
         match self {
             Form::Flat(_) => false,
@@ -185,8 +185,8 @@ impl Form {
     fn lay_chosen_pages(&mut self, offset: usize, run: &[u8], keep: &[bool])
         requires same { length keep.now ≡ length run.now }
         requires fits { offset + length run.now < 2 ^ 64 }
-        requires room { reach offset (length run.now) (picked keep.now) ≤ capacity self.old }
-        ensures { Becomes self.old self.new (overlay_by (content self.old) offset run.now (picked keep.now)) }
+        requires room { reach offset (length run.now) (is_chosen keep.now) ≤ capacity self.old }
+        ensures { Becomes self.old self.new (overlay_by (content self.old) offset run.now (is_chosen keep.now)) }
     {
         if !self.try_lay_chosen(offset, run, keep) {
             let mut flat = self.flattened();
@@ -199,8 +199,8 @@ impl Form {
     pub fn lay_chosen(&mut self, offset: usize, run: &[u8], keep: &[bool])
         requires same { length keep.now ≡ length run.now }
         requires fits { offset + length run.now < 2 ^ 64 }
-        requires room { reach offset (length run.now) (picked keep.now) ≤ capacity self.old }
-        ensures { Becomes self.old self.new (overlay_by (content self.old) offset run.now (picked keep.now)) }
+        requires room { reach offset (length run.now) (is_chosen keep.now) ≤ capacity self.old }
+        ensures { Becomes self.old self.new (overlay_by (content self.old) offset run.now (is_chosen keep.now)) }
     {
         match self {
             Form::Flat(bytes) => overlay::write_chosen(bytes, offset, run, keep).unwrap(),

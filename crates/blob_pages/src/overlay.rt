@@ -2,8 +2,8 @@
 //! capacity never fails: if a page can't be allocated, the bytes move to one vector that was reserved with the
 //! capacity.
 ghost use Rattle.std.specs.Prelude.{◌≡◌, ◌≤◌, ◌<◌, ◌+◌, ◌^◌, length, max, OnOk, OnErr};
-ghost use Rattle.blob_model.specs.Bytes.{overlay, overlay_by, reach, resized};
-ghost use Rattle.blob_model.specs.Runs.{picked};
+ghost use Rattle.blob_model.specs.Bytes.{overlay, overlay_by, reach, resize};
+ghost use Rattle.blob_model.specs.Runs.{is_chosen};
 ghost use Rattle.blob_pages.specs.Stored.{AreNow, Grows, WritesSelected};
 
 use crate::bytes::Bytes;
@@ -22,7 +22,7 @@ pub fn make_room(bytes: &mut Bytes, len: usize) -> Result<(), AllocError>
 /// Extends the bytes with zeros to `len`, within the capacity. Does nothing if they are that long already.
 pub fn grow(bytes: &mut Bytes, len: usize)
     requires { len ≤ bytes.old.capacity }
-    ensures { AreNow bytes.old bytes.new (resized bytes.old.items (max (length bytes.old.items) len)) }
+    ensures { AreNow bytes.old bytes.new (resize bytes.old.items (max (length bytes.old.items) len)) }
 {
     if bytes.len() < len {
         bytes.form.set_len(len);
@@ -56,8 +56,8 @@ pub fn lay_slice(bytes: &mut Bytes, offset: usize, run: &[u8])
 fn lay_chosen_slice(bytes: &mut Bytes, offset: usize, run: &[u8], keep: &[bool])
     requires same { length keep.now ≡ length run.now }
     requires fits { offset + length run.now < 2 ^ 64 }
-    requires room { reach offset (length run.now) (picked keep.now) ≤ bytes.old.capacity }
-    ensures { AreNow bytes.old bytes.new (overlay_by bytes.old.items offset run.now (picked keep.now)) }
+    requires room { reach offset (length run.now) (is_chosen keep.now) ≤ bytes.old.capacity }
+    ensures { AreNow bytes.old bytes.new (overlay_by bytes.old.items offset run.now (is_chosen keep.now)) }
 {
     bytes.form.lay_chosen(offset, run, keep);
 }
@@ -66,8 +66,8 @@ fn lay_chosen_slice(bytes: &mut Bytes, offset: usize, run: &[u8], keep: &[bool])
 fn lay_chosen(bytes: &mut Bytes, offset: usize, run: &IoBufs, keep: &[bool])
     requires same { length keep.now ≡ length run.now }
     requires fits { offset + length run.now < 2 ^ 64 }
-    requires room { reach offset (length run.now) (picked keep.now) ≤ bytes.old.capacity }
-    ensures { AreNow bytes.old bytes.new (overlay_by bytes.old.items offset run.now (picked keep.now)) }
+    requires room { reach offset (length run.now) (is_chosen keep.now) ≤ bytes.old.capacity }
+    ensures { AreNow bytes.old bytes.new (overlay_by bytes.old.items offset run.now (is_chosen keep.now)) }
 {
     let mut done = 0;
     for piece in run.pieces() {
@@ -134,7 +134,7 @@ pub fn write_slice(bytes: &mut Bytes, offset: usize, run: &[u8]) -> Result<(), A
 /// Truncates, or extends with zeros. The only error is out of memory, if the capacity is too small. The bytes are
 /// unchanged then.
 pub fn resize(bytes: &mut Bytes, len: usize) -> Result<(), AllocError>
-    ensures { Grows result bytes.old bytes.new len (resized bytes.old.items len) }
+    ensures { Grows result bytes.old bytes.new len (resize bytes.old.items len) }
 {
     make_room(bytes, len)?;
     bytes.form.set_len(len);

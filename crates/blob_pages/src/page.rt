@@ -1,6 +1,6 @@
 // One page.
 ghost use Rattle.std.specs.Prelude.{◌≡◌, ◌≤◌, ◌<◌, ◌+◌, ◌*◌, ◌%◌, true, length, replicate, OnOk, IfOk};
-ghost use Rattle.blob_pages.specs.Paged.{page_size, page_bytes, is_owned, spliced};
+ghost use Rattle.blob_pages.specs.Paged.{page_size, page_bytes, is_owned, splice};
 
 use std::alloc::{AllocError, Global};
 use std::rc::Rc;
@@ -72,7 +72,7 @@ pub fn zeros(alloc: Global) -> Result<Page, AllocError>
 pub fn put(page: &mut Page, at: usize, run: &[u8])
     requires owned { is_owned page.old ≡ true }
     requires within { at + length run.now ≤ length (page_bytes page.old) }
-    ensures bytes { page_bytes page.new ≡ spliced (page_bytes page.old) at run.now }
+    ensures bytes { page_bytes page.new ≡ splice (page_bytes page.old) at run.now }
     ensures owned { is_owned page.new ≡ true }
 {
     if let Page::Owned(bytes) = page {
@@ -85,7 +85,7 @@ pub fn put(page: &mut Page, at: usize, run: &[u8])
 pub fn clear(page: &mut Page, at: usize, len: usize)
     requires owned { is_owned page.old ≡ true }
     requires within { at + len ≤ length (page_bytes page.old) }
-    ensures bytes { page_bytes page.new ≡ spliced (page_bytes page.old) at (replicate len 0) }
+    ensures bytes { page_bytes page.new ≡ splice (page_bytes page.old) at (replicate len 0) }
     ensures owned { is_owned page.new ≡ true }
 {
     if let Page::Owned(bytes) = page {

@@ -1,7 +1,7 @@
 // The pages of a value, as a list. All pages are full. The bytes after the length are arbitrary.
 ghost use Rattle.std.specs.Prelude.{◌≡◌, ◌≤◌, ◌<◌, ◌+◌, ◌-◌, ◌*◌, ◌/◌, ◌^◌, ◌++◌, ℕ, true, length, map, take, drop, max, replicate, OnOk, IfOk, vec_capacity};
 ghost use Rattle.blob_pages.specs.Paged.{page_size, page_bytes, owned_at, AreFull, AreOwned, Keeps, Extends, Lays, bytes_in, Changes, Blanks, WritesRun};
-ghost use Rattle.blob_model.specs.Bytes.{resized};
+ghost use Rattle.blob_model.specs.Bytes.{resize};
 
 use crate::page::{PAGE, Page, clear, copy_page, count, on_page, own, put, share_page, zeros};
 use std::alloc::{AllocError, Global};
@@ -89,7 +89,7 @@ pub fn blank_to(pages: &mut [Page], len: usize, end: usize) -> usize
     requires fits { max len end ≤ page_size * length pages.old }
     requires owned { (p : ℕ) → len ≤ p → p < end → owned_at pages.old (p / page_size) ≡ true }
     ensures len { result ≡ max len end }
-    ensures blanks { Blanks pages.old pages.new len result (resized (bytes_in pages.old len) result) }
+    ensures blanks { Blanks pages.old pages.new len result (resize (bytes_in pages.old len) result) }
 {
     if len < end {
         blank(pages, len, end);
@@ -108,7 +108,7 @@ pub fn set_len(
 ) -> Result<(), AllocError>
     requires full { AreFull pages.old.items }
     requires held { old ≤ page_size * length pages.old.items }
-    ensures { Changes result pages.old.items pages.new.items old len (resized (bytes_in pages.old.items old) len) }
+    ensures { Changes result pages.old.items pages.new.items old len (resize (bytes_in pages.old.items old) len) }
 {
     if old < len {
         take_room(alloc, pages, old, len)?;

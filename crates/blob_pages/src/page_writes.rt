@@ -1,7 +1,7 @@
 // Writes of selected bytes to pages.
 ghost use Rattle.std.specs.Prelude.{◌≡◌, ◌≤◌, ◌<◌, ◌+◌, ◌^◌, length, IfOk};
 ghost use Rattle.blob_model.specs.Bytes.{overlay, overlay_by, reach};
-ghost use Rattle.blob_model.specs.Runs.{picked};
+ghost use Rattle.blob_model.specs.Runs.{is_chosen};
 ghost use Rattle.blob_pages.specs.Values.{bytes, room, Tries, IsRange, IsSelectedWrite};
 
 use crate::pages::Pages;
@@ -34,7 +34,7 @@ fn mixed(
     requires same { length keep.now ≡ length run.now }
     requires fits { offset + length run.now < 2 ^ 64 }
     requires some { offset < end }
-    requires end { end ≡ reach offset (length run.now) (picked keep.now) }
+    requires end { end ≡ reach offset (length run.now) (is_chosen keep.now) }
     ensures len { IfOk result (λ all. offset + length all.items ≡ end) }
     ensures laid { IfOk result (λ all. IsSelectedWrite all.items (bytes pages.now) offset run.now keep.now) }
 {
@@ -53,8 +53,8 @@ pub fn lay_mixed(
 ) -> Result<(), AllocError>
     requires same { length keep.now ≡ length run.now }
     requires fits { offset + length run.now < 2 ^ 64 }
-    requires room { reach offset (length run.now) (picked keep.now) ≤ room pages.old }
-    ensures { Tries result pages.old pages.new (overlay_by (bytes pages.old) offset run.now (picked keep.now)) }
+    requires room { reach offset (length run.now) (is_chosen keep.now) ≤ room pages.old }
+    ensures { Tries result pages.old pages.new (overlay_by (bytes pages.old) offset run.now (is_chosen keep.now)) }
 {
     let end = overlay::reach_of(offset, keep);
     if end <= offset {

@@ -1,7 +1,7 @@
 //! Bytes in pages that several values may share.
 ghost use Rattle.std.specs.Prelude.{◌≡◌, ◌≤◌, ◌<◌, ◌+◌, ◌*◌, ◌^◌, ◌++◌, length, take, drop, IsOk, OnOk, OnErr, IfOk, vec_capacity};
 ghost use Rattle.blob_pages.specs.Paged.{page_size, AreFull};
-ghost use Rattle.blob_model.specs.Bytes.{overlay, resized};
+ghost use Rattle.blob_model.specs.Bytes.{overlay, resize};
 
 pub use crate::page::PAGE;
 use crate::page::{Page, count};
@@ -71,7 +71,7 @@ impl Pages {
     /// bytes are unchanged then.
     pub fn resize(&mut self, len: usize) -> Result<(), AllocError>
         requires { len ≤ room self.old }
-        ensures { Tries result self.old self.new (resized (bytes self.old) len) }
+        ensures { Tries result self.old self.new (resize (bytes self.old) len) }
     {
         set_len(self.alloc, &mut self.pages, self.len, len)?;
         self.len = len;

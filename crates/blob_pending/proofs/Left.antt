@@ -6,7 +6,7 @@ use Rattle.std.proofs.lemmas.List.{at_drop_more, length-append}
 use Rattle.std.proofs.lemmas.List.Elements.{filter-append}
 use Rattle.blob_model.specs.Bytes.{lies}
 use Rattle.blob_model.specs.Log.{has_bare}
-use Rattle.blob_model.specs.Pending.{Pending, Waiting, Cut, Again, Marker, is_marker, has_marker, has_barrier, has_mark, is_mark, behind, finished, cut_by, pared_one}
+use Rattle.blob_model.specs.Pending.{Pending, Waiting, Cut, Again, Marker, is_marker, has_marker, has_barrier, has_mark, is_mark, entries_after, finish, cut_by, pared_one}
 use Rattle.blob_model.proofs.Needs.{fewer_at}
 use Rattle.blob_pending.specs.Marks.{marks_of}
 use Rattle.blob_pending.specs.Replays.{unmarked}
@@ -38,19 +38,19 @@ mark_left k (Cut n ∷ q) = mark_left k q
 mark_left k (Again o b ∷ q) = mark_left k q
 mark_left k (Marker j ∷ q) = ap (λ (b : Bool). eqb j k || b) (mark_left k q)
 
-behind_left : (k : ℕ) (q : List Pending) → behind k (filter is_left q) ≡ filter is_left (behind k q)
+behind_left : (k : ℕ) (q : List Pending) → entries_after k (filter is_left q) ≡ filter is_left (entries_after k q)
 behind_left k [] = refl
-behind_left k (Waiting m ∷ q) = cond_both (has_bare m) (Waiting m ∷ filter is_left q) (filter is_left q) (λ r. behind k r ≡ filter is_left (behind k q)) (λ _. behind_left k q) (λ _. behind_left k q)
+behind_left k (Waiting m ∷ q) = cond_both (has_bare m) (Waiting m ∷ filter is_left q) (filter is_left q) (λ r. entries_after k r ≡ filter is_left (entries_after k q)) (λ _. behind_left k q) (λ _. behind_left k q)
 behind_left k (Cut n ∷ q) = behind_left k q
 behind_left k (Again o b ∷ q) = behind_left k q
-behind_left k (Marker j ∷ q) = cond_both (eqb j k) q (behind k q) (λ r. cond (eqb j k) (filter is_left q) (behind k (filter is_left q)) ≡ filter is_left r)
+behind_left k (Marker j ∷ q) = cond_both (eqb j k) q (entries_after k q) (λ r. cond (eqb j k) (filter is_left q) (entries_after k (filter is_left q)) ≡ filter is_left r)
     (λ y. cond-true (eqb j k) _ _ y) (λ n. cond-false (eqb j k) _ _ n ∙ behind_left k q)
 
 -- a started sync is finished
-pub finished_left : (k : ℕ) (q : List Pending) → finished k (filter is_left q) ≡ filter is_left (finished k q)
+pub finished_left : (k : ℕ) (q : List Pending) → finish k (filter is_left q) ≡ filter is_left (finish k q)
 finished_left k q =
     ap₂ (λ (b : Bool) (r : List Pending). cond b r (filter is_left q)) (mark_left k q) (behind_left k q)
-    ∙ cond_both (has_mark k q) (behind k q) q (λ r. cond (has_mark k q) (filter is_left (behind k q)) (filter is_left q) ≡ filter is_left r) (λ y. cond-true (has_mark k q) _ _ y) (λ n. cond-false (has_mark k q) _ _ n)
+    ∙ cond_both (has_mark k q) (entries_after k q) q (λ r. cond (has_mark k q) (filter is_left (entries_after k q)) (filter is_left q) ≡ filter is_left r) (λ y. cond-true (has_mark k q) _ _ y) (λ n. cond-false (has_mark k q) _ _ n)
 
 -- those behind the last marker
 pub unmarked_left : (q : List Pending) → unmarked (filter is_left q) ≡ filter is_left (unmarked q)
@@ -141,12 +141,12 @@ set_left (x ∷ q) (suc i) d e r h is = omega (arith, left_size (view x) (left_i
 counts_rest : (n : ℕ) (e : Pending) (q : List Pending) → CountsCovered n (e ∷ q) → CountsCovered n q
 counts_rest n e q h = omega (arith, h, left_size e (filter is_left q), bit_le (is_left e))
 
-counts_behind : (n k : ℕ) (q : List Pending) → CountsCovered n q → CountsCovered n (behind k q)
+counts_behind : (n k : ℕ) (q : List Pending) → CountsCovered n q → CountsCovered n (entries_after k q)
 counts_behind n k [] h = h
-counts_behind n k (e ∷ q) h = cond_both (is_mark k e) q (behind k q) (λ r. CountsCovered n r) (λ _. counts_rest n e q h) (λ _. counts_behind n k q (counts_rest n e q h))
+counts_behind n k (e ∷ q) h = cond_both (is_mark k e) q (entries_after k q) (λ r. CountsCovered n r) (λ _. counts_rest n e q h) (λ _. counts_behind n k q (counts_rest n e q h))
 
-pub counts_finished : (n k : ℕ) (q : List Pending) → CountsCovered n q → CountsCovered n (finished k q)
-counts_finished n k q h = cond_both (has_mark k q) (behind k q) q (λ r. CountsCovered n r) (λ _. counts_behind n k q h) (λ _. h)
+pub counts_finished : (n k : ℕ) (q : List Pending) → CountsCovered n q → CountsCovered n (finish k q)
+counts_finished n k q h = cond_both (has_mark k q) (entries_after k q) q (λ r. CountsCovered n r) (λ _. counts_behind n k q h) (λ _. h)
 
 -- one more
 pub counts_push : (n m : ℕ) (q : List Pending) (e : Pending) → CountsCovered n q → (is_left e ≡ false → suc n ≤ m) → n ≤ m → CountsCovered m (q ++ e ∷ [])

@@ -8,10 +8,10 @@ use Rattle.blob_model.specs.Places.{Place, same_place}
 use Rattle.blob_model.specs.SamePlace.{same_place_exact, same_back, same_self, apart_at}
 use Rattle.blob_model.specs.Durable.{with_at}
 use Rattle.blob_model.specs.Order.{ListAt, held_at, has_list, ArePlacesApart}
-use Rattle.blob_model.specs.Pending.{Pending, finished}
+use Rattle.blob_model.specs.Pending.{Pending, finish}
 use Rattle.blob_pending.specs.Rooms.{HasRoomsFor}
 use Rattle.blob_pending.specs.Views.{left_in}
-use Rattle.blob_pending.specs.Lists.{is_list_of, IsAt, held_by, held, list_of, HasRoom, HasRoomIn, HasRangesAt, finished_in}
+use Rattle.blob_pending.specs.Lists.{is_list_of, IsAt, held_by, lists_of, list_of, HasRoom, HasRoomIn, HasRangesAt, finished_in}
 use Rattle.blob_pending.specs.declared.incarnation.Incarnation.{Incarnation}
 use Rattle.blob_pending.specs.declared.room.Room.{Room}
 
@@ -34,37 +34,37 @@ is_not_of (x ∷ hs) o n k d h = ⊎_elim (λ y. absurd (true≢false (sym (cond
     at (suc j) rest isnt l = rest j (omega arith)
 
 -- what is read of the lists as the code has them
-pub held_get : {O : Type 0} (place : O → Place) (is : List (Incarnation O)) (k : ℕ) (d : ListAt) (e : Incarnation O) → k < length is → get_or (held place is) k d ≡ held_by place (get_or is k e)
+pub held_get : {O : Type 0} (place : O → Place) (is : List (Incarnation O)) (k : ℕ) (d : ListAt) (e : Incarnation O) → k < length is → get_or (lists_of place is) k d ≡ held_by place (get_or is k e)
 held_get place [] k d e h = absurd (omega arith)
 held_get place (x ∷ is) zero d e h = refl
 held_get place (x ∷ is) (suc k) d e h = held_get place is k d e (omega arith)
 
 -- whose it is, by the code's own
-pub of_item : {O : Type 0} (place : O → Place) (is : List (Incarnation O)) (k : ℕ) (d : ListAt) (e : Incarnation O) (o : Place) → k < length is → e ≡ get_or is k e → is_list_of o (get_or (held place is) k d) ≡ same_place (place e.origin) o
+pub of_item : {O : Type 0} (place : O → Place) (is : List (Incarnation O)) (k : ℕ) (d : ListAt) (e : Incarnation O) (o : Place) → k < length is → e ≡ get_or is k e → is_list_of o (get_or (lists_of place is) k d) ≡ same_place (place e.origin) o
 of_item {O} place is k d e o h at = ap (λ (x : ListAt). is_list_of o x) (held_get place is k d e h) ∙ ap (λ (x : Incarnation O). same_place (place x.origin) o) (sym at)
 
-pub held_len : {O : Type 0} (place : O → Place) (is : List (Incarnation O)) → length (held place is) ≡ length is
+pub held_len : {O : Type 0} (place : O → Place) (is : List (Incarnation O)) → length (lists_of place is) ≡ length is
 held_len place [] = refl
 held_len place (x ∷ is) = ap suc (held_len place is)
 
-pub held_set : {O : Type 0} (place : O → Place) (is : List (Incarnation O)) (k : ℕ) (j : Incarnation O) → held place (set is k j) ≡ set (held place is) k (held_by place j)
+pub held_set : {O : Type 0} (place : O → Place) (is : List (Incarnation O)) (k : ℕ) (j : Incarnation O) → lists_of place (set is k j) ≡ set (lists_of place is) k (held_by place j)
 held_set place [] k j = refl
 held_set place (x ∷ is) zero j = refl
 held_set place (x ∷ is) (suc k) j = ap (λ (hs : List ListAt). held_by place x ∷ hs) (held_set place is k j)
 
-pub held_push : {O : Type 0} (place : O → Place) (is : List (Incarnation O)) (j : Incarnation O) → held place (is ++ j ∷ []) ≡ held place is ++ held_by place j ∷ []
+pub held_push : {O : Type 0} (place : O → Place) (is : List (Incarnation O)) (j : Incarnation O) → lists_of place (is ++ j ∷ []) ≡ lists_of place is ++ held_by place j ∷ []
 held_push place [] j = refl
 held_push place (x ∷ is) j = ap (λ (hs : List ListAt). held_by place x ∷ hs) (held_push place is j)
 
-pub held_filter : {O : Type 0} (place : O → Place) (stays : Place → Bool) (is : List (Incarnation O)) → held place (filter (λ i. stays (place i.origin)) is) ≡ filter (λ h. stays h.0) (held place is)
+pub held_filter : {O : Type 0} (place : O → Place) (stays : Place → Bool) (is : List (Incarnation O)) → lists_of place (filter (λ i. stays (place i.origin)) is) ≡ filter (λ h. stays h.0) (lists_of place is)
 held_filter place stays [] = refl
 held_filter {O} place stays (x ∷ is) = step (stays (place x.origin)) (held_filter place stays is)
   where
     left : List (Incarnation O)
     left = filter (λ i. stays (place i.origin)) is
 
-    step : (b : Bool) → held place (filter (λ i. stays (place i.origin)) is) ≡ filter (λ h. stays h.0) (held place is) →
-        held place (cond b (x ∷ filter (λ i. stays (place i.origin)) is) (filter (λ i. stays (place i.origin)) is)) ≡ cond b (held_by place x ∷ filter (λ h. stays h.0) (held place is)) (filter (λ h. stays h.0) (held place is))
+    step : (b : Bool) → lists_of place (filter (λ i. stays (place i.origin)) is) ≡ filter (λ h. stays h.0) (lists_of place is) →
+        lists_of place (cond b (x ∷ filter (λ i. stays (place i.origin)) is) (filter (λ i. stays (place i.origin)) is)) ≡ cond b (held_by place x ∷ filter (λ h. stays h.0) (lists_of place is)) (filter (λ h. stays h.0) (lists_of place is))
     step true e = ap (λ (hs : List ListAt). held_by place x ∷ hs) e
     step false e = e
 
@@ -170,32 +170,32 @@ at_set hs k h o e i = record {
 }
 
 -- a list that is added, as the code has it
-pub added : {O : Type 0} (place : O → Place) (new old : List (Incarnation O)) (j : Incarnation O) (o : O) → new ≡ old ++ j ∷ [] → j.origin ≡ o → j.entries.items ≡ [] → held place new ≡ held place old ++ (place o, []) ∷ []
-added {O} place new old j o e of none = ap (held place) e ∙ held_push place old j ∙ ap₂ (λ (p : O) (q : List Pending). held place old ++ (place p, q) ∷ []) of (ap left_in none)
+pub added : {O : Type 0} (place : O → Place) (new old : List (Incarnation O)) (j : Incarnation O) (o : O) → new ≡ old ++ j ∷ [] → j.origin ≡ o → j.entries.items ≡ [] → lists_of place new ≡ lists_of place old ++ (place o, []) ∷ []
+added {O} place new old j o e of none = ap (lists_of place) e ∙ held_push place old j ∙ ap₂ (λ (p : O) (q : List Pending). lists_of place old ++ (place p, q) ∷ []) of (ap left_in none)
 
 -- a list that is changed in place, as the code has it
-place_at : {O : Type 0} (place : O → Place) (is : List (Incarnation O)) (k : ℕ) (e j : Incarnation O) → k < length is → e ≡ get_or is k e → j.origin ≡ e.origin → place j.origin ≡ (get_or (held place is) k (held_by place j)).0
+place_at : {O : Type 0} (place : O → Place) (is : List (Incarnation O)) (k : ℕ) (e j : Incarnation O) → k < length is → e ≡ get_or is k e → j.origin ≡ e.origin → place j.origin ≡ (get_or (lists_of place is) k (held_by place j)).0
 place_at {O} place is k e j h at same = ap place (same ∙ ap (λ (x : Incarnation O). x.origin) at) ∙ sym (ap (λ (x : ListAt). x.0) (held_get place is k (held_by place j) e h))
 
-pub found : {O : Type 0} (place : O → Place) (is : List (Incarnation O)) (k : ℕ) (e : Incarnation O) (o : Place) → k < length is → e ≡ get_or is k e → IsAt (held place is) k o → left_in e.entries.items ≡ list_of place is o
-found {O} place is k e o h at i = ap (λ (x : Incarnation O). left_in x.entries.items) at ∙ sym (ap (λ (x : ListAt). x.1) (held_get place is k (held_by place e) e h)) ∙ held_here (held place is) k (held_by place e) o i
+pub found : {O : Type 0} (place : O → Place) (is : List (Incarnation O)) (k : ℕ) (e : Incarnation O) (o : Place) → k < length is → e ≡ get_or is k e → IsAt (lists_of place is) k o → left_in e.entries.items ≡ list_of place is o
+found {O} place is k e o h at i = ap (λ (x : Incarnation O). left_in x.entries.items) at ∙ sym (ap (λ (x : ListAt). x.1) (held_get place is k (held_by place e) e h)) ∙ held_here (lists_of place is) k (held_by place e) o i
 
-pub changed_list : {O : Type 0} (place : O → Place) (is : List (Incarnation O)) (k : ℕ) (e j : Incarnation O) (o : Place) (q : List Pending) (a : Place) → k < length is → e ≡ get_or is k e → j.origin ≡ e.origin → IsAt (held place is) k o → left_in j.entries.items ≡ q →
+pub changed_list : {O : Type 0} (place : O → Place) (is : List (Incarnation O)) (k : ℕ) (e j : Incarnation O) (o : Place) (q : List Pending) (a : Place) → k < length is → e ≡ get_or is k e → j.origin ≡ e.origin → IsAt (lists_of place is) k o → left_in j.entries.items ≡ q →
     list_of place (set is k j) a ≡ with_at (list_of place is) o q a
-changed_list place is k e j o q a h at same i is_q = ap (λ (hs : List ListAt). held_at hs a) (held_set place is k j) ∙ held_at_set (held place is) k (held_by place j) o a i (place_at place is k e j h at same)
+changed_list place is k e j o q a h at same i is_q = ap (λ (hs : List ListAt). held_at hs a) (held_set place is k j) ∙ held_at_set (lists_of place is) k (held_by place j) o a i (place_at place is k e j h at same)
     ∙ ap (λ (r : List Pending). with_at (list_of place is) o r a) is_q
 
-pub changed_apart : {O : Type 0} (place : O → Place) (is : List (Incarnation O)) (k : ℕ) (e j : Incarnation O) → k < length is → e ≡ get_or is k e → j.origin ≡ e.origin → ArePlacesApart (held place is) → ArePlacesApart (held place (set is k j))
-changed_apart place is k e j h at same a = subst (λ (hs : List ListAt). ArePlacesApart hs) (sym (held_set place is k j)) (apart_set (held place is) k (held_by place j) (place_at place is k e j h at same) a)
+pub changed_apart : {O : Type 0} (place : O → Place) (is : List (Incarnation O)) (k : ℕ) (e j : Incarnation O) → k < length is → e ≡ get_or is k e → j.origin ≡ e.origin → ArePlacesApart (lists_of place is) → ArePlacesApart (lists_of place (set is k j))
+changed_apart place is k e j h at same a = subst (λ (hs : List ListAt). ArePlacesApart hs) (sym (held_set place is k j)) (apart_set (lists_of place is) k (held_by place j) (place_at place is k e j h at same) a)
 
-pub changed_at : {O : Type 0} (place : O → Place) (is : List (Incarnation O)) (k : ℕ) (e j : Incarnation O) (o : Place) → k < length is → e ≡ get_or is k e → j.origin ≡ e.origin → IsAt (held place is) k o → IsAt (held place (set is k j)) k o
-changed_at place is k e j o h at same i = subst (λ (hs : List ListAt). IsAt hs k o) (sym (held_set place is k j)) (at_set (held place is) k (held_by place j) o (place_at place is k e j h at same) i)
+pub changed_at : {O : Type 0} (place : O → Place) (is : List (Incarnation O)) (k : ℕ) (e j : Incarnation O) (o : Place) → k < length is → e ≡ get_or is k e → j.origin ≡ e.origin → IsAt (lists_of place is) k o → IsAt (lists_of place (set is k j)) k o
+changed_at place is k e j o h at same i = subst (λ (hs : List ListAt). IsAt hs k o) (sym (held_set place is k j)) (at_set (lists_of place is) k (held_by place j) o (place_at place is k e j h at same) i)
 
 -- one that only got room
-pub held_same : {O : Type 0} (place : O → Place) (is : List (Incarnation O)) (k : ℕ) (e j : Incarnation O) → k < length is → e ≡ get_or is k e → j.origin ≡ e.origin → left_in j.entries.items ≡ left_in e.entries.items → held place (set is k j) ≡ held place is
+pub held_same : {O : Type 0} (place : O → Place) (is : List (Incarnation O)) (k : ℕ) (e j : Incarnation O) → k < length is → e ≡ get_or is k e → j.origin ≡ e.origin → left_in j.entries.items ≡ left_in e.entries.items → lists_of place (set is k j) ≡ lists_of place is
 held_same {O} place is k e j h at same v = held_set place is k j
-    ∙ ap (λ (x : ListAt). set (held place is) k x) (ap₂ (λ (p : Place) (q : List Pending). pair p q) (ap place same) v ∙ ap (held_by place) at ∙ sym (held_get place is k (held_by place e) e h))
-    ∙ set-get_or (held place is) k (held_by place e)
+    ∙ ap (λ (x : ListAt). set (lists_of place is) k x) (ap₂ (λ (p : Place) (q : List Pending). pair p q) (ap place same) v ∙ ap (held_by place) at ∙ sym (held_get place is k (held_by place e) e h))
+    ∙ set-get_or (lists_of place is) k (held_by place e)
   where
     pair : Place → List Pending → ListAt
     pair p q = (p, q)
@@ -220,9 +220,9 @@ below_set {X} P xs k x h below one m d l = ⊎_elim
     (cases_eq m k)
 
 -- each list changed by its own place
-pub held_at_finished : (marker : ℕ) (hs : List ListAt) (o : Place) → held_at (map (finished_in marker) hs) o ≡ finished marker (held_at hs o)
+pub held_at_finished : (marker : ℕ) (hs : List ListAt) (o : Place) → held_at (map (finished_in marker) hs) o ≡ finish marker (held_at hs o)
 held_at_finished marker [] o = refl
-held_at_finished marker (x ∷ hs) o = cond_both (same_place x.0 o) x.1 (held_at hs o) (λ r. cond (same_place x.0 o) (finished marker x.1) (held_at (map (finished_in marker) hs) o) ≡ finished marker r)
+held_at_finished marker (x ∷ hs) o = cond_both (same_place x.0 o) x.1 (held_at hs o) (λ r. cond (same_place x.0 o) (finish marker x.1) (held_at (map (finished_in marker) hs) o) ≡ finish marker r)
     (λ y. cond-true (same_place x.0 o) _ _ y) (λ n. cond-false (same_place x.0 o) _ _ n ∙ held_at_finished marker hs o)
 
 has_finished : (marker : ℕ) (hs : List ListAt) (o : Place) → has_list (map (finished_in marker) hs) o ≡ has_list hs o
@@ -249,13 +249,13 @@ stays_is false true = refl
 stays_is false false = refl
 
 -- lists taken out by any test
-has_left : {O : Type 0} (place : O → Place) (p : Incarnation O → Bool) (is : List (Incarnation O)) (a : Place) → has_list (held place is) a ≡ false → has_list (held place (filter p is)) a ≡ false
+has_left : {O : Type 0} (place : O → Place) (p : Incarnation O → Bool) (is : List (Incarnation O)) (a : Place) → has_list (lists_of place is) a ≡ false → has_list (lists_of place (filter p is)) a ≡ false
 has_left place p [] a h = refl
-has_left place p (i ∷ is) a h = ⊎_elim (λ y. absurd (true≢false (sym (cond-true (same_place (place i.origin) a) true (has_list (held place is) a) y) ∙ h)))
-    (λ isnt. let rest : has_list (held place is) a ≡ false = sym (cond-false (same_place (place i.origin) a) true (has_list (held place is) a) isnt) ∙ h in
-    cond_both (p i) (i ∷ filter p is) (filter p is) (λ r. has_list (held place r) a ≡ false) (λ _. cond-false (same_place (place i.origin) a) true _ isnt ∙ has_left place p is a rest) (λ _. has_left place p is a rest))
+has_left place p (i ∷ is) a h = ⊎_elim (λ y. absurd (true≢false (sym (cond-true (same_place (place i.origin) a) true (has_list (lists_of place is) a) y) ∙ h)))
+    (λ isnt. let rest : has_list (lists_of place is) a ≡ false = sym (cond-false (same_place (place i.origin) a) true (has_list (lists_of place is) a) isnt) ∙ h in
+    cond_both (p i) (i ∷ filter p is) (filter p is) (λ r. has_list (lists_of place r) a ≡ false) (λ _. cond-false (same_place (place i.origin) a) true _ isnt ∙ has_left place p is a rest) (λ _. has_left place p is a rest))
     (cases_Bool (same_place (place i.origin) a))
 
-pub apart_left : {O : Type 0} (place : O → Place) (p : Incarnation O → Bool) (is : List (Incarnation O)) → ArePlacesApart (held place is) → ArePlacesApart (held place (filter p is))
+pub apart_left : {O : Type 0} (place : O → Place) (p : Incarnation O → Bool) (is : List (Incarnation O)) → ArePlacesApart (lists_of place is) → ArePlacesApart (lists_of place (filter p is))
 apart_left place p [] h = tt
-apart_left place p (i ∷ is) h = cond_both (p i) (i ∷ filter p is) (filter p is) (λ r. ArePlacesApart (held place r)) (λ _. (has_left place p is (place i.origin) h.0, apart_left place p is h.1)) (λ _. apart_left place p is h.1)
+apart_left place p (i ∷ is) h = cond_both (p i) (i ∷ filter p is) (filter p is) (λ r. ArePlacesApart (lists_of place r)) (λ _. (has_left place p is (place i.origin) h.0, apart_left place p is h.1)) (λ _. apart_left place p is h.1)

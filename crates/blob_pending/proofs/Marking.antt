@@ -5,29 +5,29 @@ use Rattle.std.proofs.lemmas.Bool.{cases_Bool, cond_both, cond-true, cond-false}
 use Rattle.std.proofs.lemmas.List.Quantifiers.{position-Some}
 use Rattle.std.proofs.lemmas.Iterator.Adapters.{position_from-zero}
 use Rattle.blob_model.specs.Log.{has_bare}
-use Rattle.blob_model.specs.Pending.{Pending, Waiting, Cut, Again, Marker, is_marker, has_mark, behind, finished, cut_by, pared_one}
+use Rattle.blob_model.specs.Pending.{Pending, Waiting, Cut, Again, Marker, is_marker, has_mark, entries_after, finish, cut_by, pared_one}
 use Rattle.std.specs.List.{filter}
 use Rattle.blob_pending.specs.Views.{is_left}
 use Rattle.blob_pending.specs.Marks.{marks_of}
 
 -- the number at i is the first that is sought
 marked_at : (m : ℕ) (q : List Pending) (i d : ℕ) → i < length (marks_of q) → eqb (get_or (marks_of q) i d) m ≡ true → ((k : ℕ) → k < i → eqb (get_or (marks_of q) k d) m ≡ false) →
-    (has_mark m q ≡ true) × (marks_of (behind m q) ≡ drop (suc i) (marks_of q))
+    (has_mark m q ≡ true) × (marks_of (entries_after m q) ≡ drop (suc i) (marks_of q))
 marked_at m [] i d h is before = absurd (omega arith)
 marked_at m (Waiting n ∷ q) i d h is before = marked_at m q i d h is before
 marked_at m (Cut n ∷ q) i d h is before = marked_at m q i d h is before
 marked_at m (Again o b ∷ q) i d h is before = marked_at m q i d h is before
-marked_at m (Marker j ∷ q) zero d h is before = (ap (λ b. b || has_mark m q) is, ap marks_of (cond-true (eqb j m) q (behind m q) is))
+marked_at m (Marker j ∷ q) zero d h is before = (ap (λ b. b || has_mark m q) is, ap marks_of (cond-true (eqb j m) q (entries_after m q) is))
 marked_at m (Marker j ∷ q) (suc i) d h is before =
     let not_j : eqb j m ≡ false = before 0 (omega arith) in
     let rest = marked_at m q i d (omega (arith, h)) is (λ k l. before (suc k) (omega (arith, l))) in
-    (ap₂ (λ (a b : Bool). a || b) not_j rest.0, ap marks_of (cond-false (eqb j m) q (behind m q) not_j) ∙ rest.1)
+    (ap₂ (λ (a b : Bool). a || b) not_j rest.0, ap marks_of (cond-false (eqb j m) q (entries_after m q) not_j) ∙ rest.1)
 
-pub finished_marks : (m : ℕ) (q : List Pending) (ms : List ℕ) (i : ℕ) → ms ≡ marks_of q → Some i ≡ position (λ k. eqb k m) ms → drop (i + 1) ms ≡ marks_of (finished m q)
+pub finished_marks : (m : ℕ) (q : List Pending) (ms : List ℕ) (i : ℕ) → ms ≡ marks_of q → Some i ≡ position (λ k. eqb k m) ms → drop (i + 1) ms ≡ marks_of (finish m q)
 finished_marks m q ms i are at =
     let found = position-Some (λ k. eqb k m) (marks_of q) i 0 (sym (at ∙ ap (position (λ k. eqb k m)) are)) in
     let r = marked_at m q i 0 found.0 found.1 found.2 in
-    rw add-one (ap (drop (suc i)) are ∙ sym r.1 ∙ sym (ap marks_of (cond-true (has_mark m q) (behind m q) q r.0)))
+    rw add-one (ap (drop (suc i)) are ∙ sym r.1 ∙ sym (ap marks_of (cond-true (has_mark m q) (entries_after m q) q r.0)))
 
 -- no number is the one that is sought
 unmarked : (m : ℕ) (q : List Pending) (i : ℕ) → position_from (λ k. eqb k m) i (marks_of q) ≡ None → has_mark m q ≡ false
@@ -40,9 +40,9 @@ unmarked m (Marker j ∷ q) i none = ⊎_elim
     (λ no. ap₂ (λ (a b : Bool). a || b) no (unmarked m q (i + 1) (sym (cond-false (eqb j m) _ _ no) ∙ none)))
     (cases_Bool (eqb j m))
 
-pub finished_none : (m : ℕ) (q : List Pending) (ms : List ℕ) → ms ≡ marks_of q → None ≡ position (λ k. eqb k m) ms → q ≡ finished m q
+pub finished_none : (m : ℕ) (q : List Pending) (ms : List ℕ) → ms ≡ marks_of q → None ≡ position (λ k. eqb k m) ms → q ≡ finish m q
 finished_none m q ms are at =
-    sym (cond-false (has_mark m q) (behind m q) q (unmarked m q 0 (sym (position_from-zero (λ k. eqb k m) (marks_of q)) ∙ sym (at ∙ ap (position (λ k. eqb k m)) are))))
+    sym (cond-false (has_mark m q) (entries_after m q) q (unmarked m q 0 (sym (position_from-zero (λ k. eqb k m) (marks_of q)) ∙ sym (at ∙ ap (position (λ k. eqb k m)) are))))
 
 -- one entry more
 pub marks-push : (q : List Pending) (e : Pending) → is_marker e ≡ false → marks_of (q ++ e ∷ []) ≡ marks_of q

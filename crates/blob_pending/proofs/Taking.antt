@@ -6,14 +6,14 @@ use Rattle.blob_model.specs.Order.{ListAt, held_at, has_list}
 use Rattle.blob_model.specs.Places.{Place, same_place}
 use Rattle.blob_model.specs.SamePlace.{same_place_exact}
 use Rattle.blob_pending.specs.declared.incarnation.Incarnation.{Incarnation}
-use Rattle.blob_pending.specs.Lists.{held, held_by, list_of, IsAt, AreDistinct}
+use Rattle.blob_pending.specs.Lists.{lists_of, held_by, list_of, IsAt, AreDistinct}
 use Rattle.blob_pending.specs.Views.{left_in}
 use Rattle.blob_pending.proofs.Distinct.{of_origin}
 use Rattle.blob_pending.proofs.ListSteps.{held_get, held_here, held_len}
 
 -- a list that is of an incarnation is the first that is
 pub at_of : {O : Type 0} (place : O → Place) (is : List (Incarnation O)) (k : ℕ) (e : Incarnation O) (o : Place) → ((a b : O) → place a ≡ place b → a ≡ b) → AreDistinct is → k < length is →
-    same_place (place (get_or is k e).origin) o ≡ true → IsAt (held place is) k o
+    same_place (place (get_or is k e).origin) o ≡ true → IsAt (lists_of place is) k o
 at_of place is k e o one distinct h his = record {
   inside = omega (arith, held_len place is, h);
   here = λ d. of_origin place is o k d e h ∙ his;
@@ -23,8 +23,8 @@ at_of place is k e o one distinct h his = record {
       (cases_Bool (same_place (place (get_or is j e).origin) o));
 }
 
-entries_at : {O : Type 0} (place : O → Place) (is : List (Incarnation O)) (k : ℕ) (e : Incarnation O) (o : Place) → k < length is → IsAt (held place is) k o → left_in (get_or is k e).entries.items ≡ list_of place is o
-entries_at place is k e o h at = sym (ap (λ (x : ListAt). x.1) (held_get place is k (held_by place e) e h)) ∙ held_here (held place is) k (held_by place e) o at
+entries_at : {O : Type 0} (place : O → Place) (is : List (Incarnation O)) (k : ℕ) (e : Incarnation O) (o : Place) → k < length is → IsAt (lists_of place is) k o → left_in (get_or is k e).entries.items ≡ list_of place is o
+entries_at place is k e o h at = sym (ap (λ (x : ListAt). x.1) (held_get place is k (held_by place e) e h)) ∙ held_here (lists_of place is) k (held_by place e) o at
 
 none_of : {O : Type 0} (place : O → Place) (is : List (Incarnation O)) (a : Place) → ((k : ℕ) (e : Incarnation O) → k < length is → same_place (place (get_or is k e).origin) a ≡ false) → list_of place is a ≡ []
 none_of place [] a none = refl
@@ -73,7 +73,7 @@ pub record IsTaken {O : Type 0} (is js : List (Incarnation O)) (i : ℕ) : Type 
   pub same : (k : ℕ) (d : Incarnation O) → k ≢ i → k + 1 < length is → get_or js k d ≡ get_or is k d
 
 -- as the code tells it
-pub taken_by : {O : Type 0} (place : O → Place) (is js : List (Incarnation O)) (i n : ℕ) (o : Place) → n ≡ length is → IsAt (held place is) i o → length js + 1 ≡ n →
+pub taken_by : {O : Type 0} (place : O → Place) (is js : List (Incarnation O)) (i n : ℕ) (o : Place) → n ≡ length is → IsAt (lists_of place is) i o → length js + 1 ≡ n →
     ((d : Incarnation O) → i + 1 < n → get_or js i d ≡ get_or is (n - 1) d) × ((k : ℕ) (d : Incarnation O) → k ≢ i → k + 1 < n → get_or js k d ≡ get_or is k d) → IsTaken is js i
 taken_by {O} place is js i n o count at len by = record {
   inside = omega (arith, at.inside, held_len place is);
@@ -116,7 +116,7 @@ distinct_taken {O} is js i taken distinct a b e l h same = ⊎_elim
     moved k at lk = ap (λ (x : Incarnation O). x.origin) (ap (λ (n : ℕ). get_or js n e) at ∙ taken.moved e (omega (arith, taken.len, at, lk)))
 
 -- what is pending of each incarnation then
-pub taken_list : {O : Type 0} (place : O → Place) (is js : List (Incarnation O)) (i : ℕ) (e : Incarnation O) (o a : Place) → ((x y : O) → place x ≡ place y → x ≡ y) → AreDistinct is → IsAt (held place is) i o → IsTaken is js i →
+pub taken_list : {O : Type 0} (place : O → Place) (is js : List (Incarnation O)) (i : ℕ) (e : Incarnation O) (o a : Place) → ((x y : O) → place x ≡ place y → x ≡ y) → AreDistinct is → IsAt (lists_of place is) i o → IsTaken is js i →
     list_of place js a ≡ with_at (list_of place is) o [] a
 taken_list {O} place is js i e o a one distinct at taken = ⊎_elim
     (λ it. none_of place js a (λ k d h. let from = source is js i taken k d h in

@@ -2,7 +2,7 @@
 use Rattle.std.proofs.Common.{◌≡◌, ⊎_elim, ℕ, zero, suc, ◌<◌, Bool, true, false, cond, List, [], ◌∷◌, ◌++◌, length, get_or, take, drop, refl, sym, ◌∙◌, ap, arith, true≢false, ◌||◌}
 use Rattle.std.proofs.lemmas.Bool.{cases_Bool, cond-true, cond-false}
 use Rattle.blob_model.specs.Log.{Choices}
-use Rattle.blob_model.specs.Pending.{Pending, Waiting, Cut, Again, Marker, is_marker, has_marker, waiting, replay, replayed}
+use Rattle.blob_model.specs.Pending.{Pending, Waiting, Cut, Again, Marker, is_marker, has_marker, waiting, replay, replay_entry}
 use Rattle.blob_pending.specs.Replays.{unmarked}
 use Rattle.blob_pending.specs.Views.{view, views}
 use Rattle.blob_pending.specs.declared.entry.Entry.{Entry}
@@ -72,5 +72,5 @@ none_after e q h = go (is_marker e) (has_marker q) h
     go true b h = absurd (true≢false h)
     go false b h = (refl, h)
 
-pub replay_more : (e : Pending) (q : List Pending) (t : Choices) (x : List ℕ) → has_marker q ≡ false → replay (e ∷ q) t x ≡ replay q t (replayed x e t)
-replay_more e q t x h = ap (λ (b : Bool). replay q t (cond b x (replayed x e t))) h
+pub replay_more : (e : Pending) (q : List Pending) (t : Choices) (x : List ℕ) → has_marker q ≡ false → replay (e ∷ q) t x ≡ replay q t (replay_entry x e t)
+replay_more e q t x h = ap (λ (b : Bool). replay q t (cond b x (replay_entry x e t))) h

@@ -4,7 +4,7 @@ use Rattle.std.proofs.Common.{get_or}
 use Rattle.blob_model.specs.Directory.{Directory, is_current}
 use Rattle.blob_model.specs.Durable.{with_at}
 use Rattle.blob_model.specs.Places.{Place, same_place}
-use Rattle.blob_model.specs.Pending.{Pending, finished, has_barrier, laid}
+use Rattle.blob_model.specs.Pending.{Pending, finish, has_barrier, apply_durable}
 use Rattle.blob_model.specs.Order.{ListAt, held_at}
 use Rattle.blob_model.specs.Holes.{Holes}
 use Rattle.blob_pending.specs.Rooms.{AreWithin, HasRoomsFor}
@@ -16,12 +16,12 @@ use Rattle.blob_pending.specs.declared.room.Room.TheVariants as room
 abbrev pub held_by : {O : Type 0} → (O → Place) → Incarnation O → ListAt
 held_by place i = (place i.origin, left_in i.entries.items)
 
-abbrev pub held : {O : Type 0} → (O → Place) → List (Incarnation O) → List ListAt
-held place is = map (held_by place) is
+abbrev pub lists_of : {O : Type 0} → (O → Place) → List (Incarnation O) → List ListAt
+lists_of place is = map (held_by place) is
 
 -- the pending list of an incarnation, empty if it has none
 abbrev pub list_of : {O : Type 0} → (O → Place) → List (Incarnation O) → Place → List Pending
-list_of place is = held_at (held place is)
+list_of place is = held_at (lists_of place is)
 
 abbrev pub is_list_of : Place → ListAt → Bool
 is_list_of o h = same_place h.0 o
@@ -32,7 +32,7 @@ IsCopyFor copy list bytes = has_barrier list ≡ true → copy ≡ bytes
 
 -- a list after a durable range of n bytes; `copy` has its bytes if it is queued
 abbrev pub LaysRange : ℕ → ℕ → List ℕ → List Pending → List Pending → Type 0
-LaysRange offset n copy old new = (bytes : List ℕ) → length bytes ≡ n → IsCopyFor copy old bytes → new ≡ laid offset bytes old
+LaysRange offset n copy old new = (bytes : List ℕ) → length bytes ≡ n → IsCopyFor copy old bytes → new ≡ apply_durable offset bytes old
 
 -- the list at i is the first of an incarnation
 pub record IsAt (hs : List ListAt) (i : ℕ) (o : Place) : Type 0 where
@@ -58,7 +58,7 @@ pub record Becomes {O : Type 0} (old new : Incarnation O) (q : List Pending) : T
 
 -- the same of an incarnation's list
 abbrev pub LaysInto : {O : Type 0} → ℕ → ℕ → List ℕ → Incarnation O → Incarnation O → Type 0
-LaysInto offset n copy old new = (bytes : List ℕ) → length bytes ≡ n → IsCopyFor copy (left_in old.entries.items) bytes → Becomes old new (laid offset bytes (left_in old.entries.items))
+LaysInto offset n copy old new = (bytes : List ℕ) → length bytes ≡ n → IsCopyFor copy (left_in old.entries.items) bytes → Becomes old new (apply_durable offset bytes (left_in old.entries.items))
 
 -- there is a list at i, and it has this capacity
 pub record HasRoomIn {O : Type 0} (is : List (Incarnation O)) (i : ℕ) (what : Room) : Type 0 where
@@ -67,8 +67,12 @@ pub record HasRoomIn {O : Type 0} (is : List (Incarnation O)) (i : ℕ) (what : 
 
 -- it is that of an incarnation
 pub record IsRoomAt {O : Type 0} (place : O → Place) (is : List (Incarnation O)) (i : ℕ) (o : Place) (what : Room) : Type 0 where
-  pub at : IsAt (held place is) i o
+  pub at : IsAt (lists_of place is) i o
   pub here : HasRoomIn is i what
+
+-- the list at i is that of an incarnation
+abbrev pub HasListAt : {O : Type 0} → (O → Place) → List (Incarnation O) → ℕ → Place → Type 0
+HasListAt place is i o = IsAt (lists_of place is) i o
 
 -- what is pending of each incarnation stays
 abbrev pub SameLists : {O : Type 0} → (O → Place) → List (Incarnation O) → List (Incarnation O) → Type 0
@@ -76,20 +80,20 @@ SameLists place old new = (o : Place) → list_of place new o ≡ list_of place 
 
 -- the list at i alone is another, by whichever incarnation it is of
 abbrev pub ChangesAt : {O : Type 0} → (O → Place) → List (Incarnation O) → List (Incarnation O) → ℕ → (List Pending → List Pending) → Type 0
-ChangesAt place old new i change = (o : Place) → IsAt (held place old) i o → (a : Place) → list_of place new a ≡ with_at (list_of place old) o (change (list_of place old o)) a
+ChangesAt place old new i change = (o : Place) → IsAt (lists_of place old) i o → (a : Place) → list_of place new a ≡ with_at (list_of place old) o (change (list_of place old o)) a
 
 -- the list at i, of any incarnation, gets these bytes if it queues a durable range of them
 abbrev pub IsCopyAt : {O : Type 0} → (O → Place) → List (Incarnation O) → ℕ → List ℕ → List ℕ → Type 0
-IsCopyAt place is i bytes copy = (o : Place) → IsAt (held place is) i o → IsCopyFor copy (list_of place is o) bytes
+IsCopyAt place is i bytes copy = (o : Place) → IsAt (lists_of place is) i o → IsCopyFor copy (list_of place is o) bytes
 
 -- the lists after a durable range in the list at i; `copy` has its bytes if it is queued there
 abbrev pub LaysAt : {O : Type 0} → (O → Place) → List (Incarnation O) → List (Incarnation O) → ℕ → ℕ → ℕ → List ℕ → Type 0
-LaysAt place old new i offset len copy = (o : Place) → IsAt (held place old) i o → (bytes : List ℕ) → length bytes ≡ len → IsCopyFor copy (list_of place old o) bytes
-    → (a : Place) → list_of place new a ≡ with_at (list_of place old) o (laid offset bytes (list_of place old o)) a
+LaysAt place old new i offset len copy = (o : Place) → IsAt (lists_of place old) i o → (bytes : List ℕ) → length bytes ≡ len → IsCopyFor copy (list_of place old o) bytes
+    → (a : Place) → list_of place new a ≡ with_at (list_of place old) o (apply_durable offset bytes (list_of place old o)) a
 
 -- the list at i is of the same incarnation as before
 abbrev pub StaysAt : {O : Type 0} → (O → Place) → List (Incarnation O) → List (Incarnation O) → ℕ → Type 0
-StaysAt place old new i = (o : Place) → IsAt (held place old) i o → IsAt (held place new) i o
+StaysAt place old new i = (o : Place) → IsAt (lists_of place old) i o → IsAt (lists_of place new) i o
 
 -- the list at i can take these durable ranges
 abbrev pub HasRangesAt : {O : Type 0} → List (Incarnation O) → ℕ → Holes → Type 0
@@ -97,7 +101,7 @@ HasRangesAt {O} is i hs = (d : Incarnation O) → HasRoomsFor hs (get_or is i d)
 
 -- one list after a started sync is finished
 abbrev pub finished_in : ℕ → ListAt → ListAt
-finished_in marker h = (h.0, finished marker h.1)
+finished_in marker h = (h.0, finish marker h.1)
 
 -- of each list it is noted whether its incarnation was current
 abbrev pub AreNoted : {O : Type 0} → (O → Place) → Directory → List (Incarnation O) → Type 0
@@ -117,7 +121,7 @@ RetiresList place old new o = (a : Place) → list_of place new a ≡ with_at (l
 
 -- the started sync with this marker is finished in each list
 abbrev pub FinishesLists : {O : Type 0} → (O → Place) → List (Incarnation O) → List (Incarnation O) → ℕ → Type 0
-FinishesLists place old new marker = (o : Place) → list_of place new o ≡ finished marker (list_of place old o)
+FinishesLists place old new marker = (o : Place) → list_of place new o ≡ finish marker (list_of place old o)
 
 -- of incarnations that were current when this was noted and aren't any more nothing is pending, of others the same
 abbrev pub RetiresEnded : {O : Type 0} → (O → Place) → Directory → List (Incarnation O) → List (Incarnation O) → Type 0
@@ -125,6 +129,6 @@ RetiresEnded place now old new = (noted : Directory) → AreNoted place noted ol
 
 -- the list at i is of an incarnation and can take these durable ranges
 pub record HasRoomAt {O : Type 0} (place : O → Place) (is : List (Incarnation O)) (i : ℕ) (o : Place) (hs : Holes) : Type 0 where
-  pub at : IsAt (held place is) i o
+  pub at : IsAt (lists_of place is) i o
   pub inside : i < length is
   pub ranges : HasRangesAt is i hs

@@ -1,7 +1,7 @@
 //! The pending entries of one incarnation, in issue order.
 ghost use Rattle.std.specs.Prelude.{◌≡◌, ◌<◌, ◌≤◌, ◌+◌, ◌*◌, ◌^◌, ℕ, List, ◌++◌, ◌∷◌, [], OnOk, map, filter, drop, length, vec_len, vec_capacity, true};
 ghost use Rattle.blob_model.specs.Holes.{Holes};
-ghost use Rattle.blob_model.specs.Pending.{has_barrier, finished, ends};
+ghost use Rattle.blob_model.specs.Pending.{has_barrier, finish, ends};
 ghost use Rattle.blob_pending.specs.Blocks.{AreBounded};
 ghost use Rattle.blob_pending.specs.Lists.{LaysRange};
 ghost use Rattle.blob_pending.specs.Marks.{marks_of};
@@ -197,7 +197,7 @@ fn drop_front(entries: &mut Vec<Entry>, count: usize)
 
 /// Completes a started sync: drops its marker, if it exists, and all entries before it.
 pub fn finish(entries: &mut Vec<Entry>, marker: u64)
-    ensures { views entries.new.items ≡ finished marker (views entries.old.items) }
+    ensures { views entries.new.items ≡ finish marker (views entries.old.items) }
 {
     for i in 0..entries.len() {
         if entries[i].is_mark(marker) {

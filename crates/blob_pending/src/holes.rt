@@ -1,6 +1,6 @@
 //! Holes: the ranges of a pending write that later durable ranges cover.
 ghost use Rattle.std.specs.Prelude.{◌≡◌, ◌<◌, ◌≤◌, ◌+◌, vec_len, vec_capacity};
-ghost use Rattle.blob_model.specs.Holes.{dug};
+ghost use Rattle.blob_model.specs.Holes.{with_hole};
 ghost use Rattle.blob_pending.specs.Ranges.{ranges};
 
 /// A covered range, from the logical offset `start` up to `end`.
@@ -13,7 +13,7 @@ pub struct Hole {
 /// Adds a covered range, merged with those that it overlaps or touches.
 pub fn dig(holes: &mut Vec<Hole>, mut start: u64, mut end: u64)
     requires { vec_len holes.old < vec_capacity holes.old }
-    ensures holes { ranges holes.new.items ≡ dug start end (ranges holes.old.items) }
+    ensures holes { ranges holes.new.items ≡ with_hole start end (ranges holes.old.items) }
     ensures len { vec_len holes.new ≤ vec_len holes.old + 1 }
     ensures capacity { vec_capacity holes.old ≤ vec_capacity holes.new }
 {

@@ -52,7 +52,7 @@ fn drop_front(marks: &mut Vec<u64>, count: usize)
 impl<O> Incarnation<O> {
     ghost use Rattle.std.specs.Prelude.{◌<◌, ◌+◌, ◌*◌, ◌^◌, ◌++◌, ◌∷◌, ℕ, List, [], OnOk, false, true, length};
     ghost use Rattle.blob_model.specs.Holes.{Holes};
-    ghost use Rattle.blob_model.specs.Pending.{Marker, finished, is_marker};
+    ghost use Rattle.blob_model.specs.Pending.{Marker, finish, is_marker};
     ghost use Rattle.blob_pending.specs.Lists.{Becomes, HasRoom, LaysInto};
     ghost use Rattle.blob_pending.specs.Rooms.{HasRoomsFor, CanCut, KeepsRest};
     ghost use Rattle.blob_pending.specs.Views.{view};
@@ -144,7 +144,7 @@ impl<O> Incarnation<O> {
 
     /// Completes a started sync: drops its marker, if it exists, and all entries before it.
     pub fn finish(&mut self, marker: u64)
-        ensures { Becomes self.old self.new (finished marker (left_in self.old.entries.items)) }
+        ensures { Becomes self.old self.new (finish marker (left_in self.old.entries.items)) }
     {
         if let Some(i) = place_of(&self.marks, marker) {
             drop_front(&mut self.marks, i + 1);

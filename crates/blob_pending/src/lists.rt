@@ -8,7 +8,7 @@ ghost use Rattle.blob_model.specs.Pending.{Marker, is_marker};
 ghost use Rattle.blob_header.specs.Refusals.{IsMemory};
 ghost use Rattle.blob_pending.specs.Rooms.{CanCut, KeepsRest};
 ghost use Rattle.blob_pending.specs.Views.{view, left_in};
-ghost use Rattle.blob_pending.specs.Lists.{held, IsAt, HasRoomIn, IsRoomAt, HasRangesAt, SameLists, ChangesAt, IsCopyAt, LaysAt, AreDistinct, finished_in, AreNoted, StaysAt, RetiresEnded, RetiresList, FinishesLists, is_kept};
+ghost use Rattle.blob_pending.specs.Lists.{lists_of, IsAt, HasListAt, HasRoomIn, IsRoomAt, HasRangesAt, SameLists, ChangesAt, IsCopyAt, LaysAt, AreDistinct, finished_in, AreNoted, StaysAt, RetiresEnded, RetiresList, FinishesLists, is_kept};
 
 use crate::entry::Entry;
 use crate::incarnation::Incarnation;
@@ -31,7 +31,7 @@ pub struct Lists<S: Durable> {
 
 /// Completes a started sync in each list.
 fn finish_each<O>(lists: &mut [Incarnation<O>], marker: u64)
-    ensures { (place : O → Place) → held place lists.new ≡ map (finished_in marker) (held place lists.old) }
+    ensures { (p : O → Place) → lists_of p lists.new ≡ map (finished_in marker) (lists_of p lists.old) }
 {
     for list in lists.iter_mut() {
         list.finish(marker);
@@ -40,14 +40,14 @@ fn finish_each<O>(lists: &mut [Incarnation<O>], marker: u64)
 
 /// Does `finish_each` for the lists of a vector.
 fn finish_all<O>(lists: &mut Vec<Incarnation<O>>, marker: u64)
-    ensures { (place : O → Place) → held place lists.new.items ≡ map (finished_in marker) (held place lists.old.items) }
+    ensures { (p : O → Place) → lists_of p lists.new.items ≡ map (finished_in marker) (lists_of p lists.old.items) }
 {
     finish_each(lists.as_mut_slice(), marker);
 }
 
 /// Notes for each list whether its incarnation is current.
 fn note_each<S: Durable>(lists: &mut [Incarnation<S::Origin>], store: &S)
-    ensures held { held S.place lists.new ≡ held S.place lists.old }
+    ensures held { lists_of S.place lists.new ≡ lists_of S.place lists.old }
     ensures noted { AreNoted S.place (S.directory store.now) lists.new }
 {
     for list in lists.iter_mut() {
@@ -58,7 +58,7 @@ fn note_each<S: Durable>(lists: &mut [Incarnation<S::Origin>], store: &S)
 
 /// Does `note_each` for the lists of a vector.
 fn note_all<S: Durable>(lists: &mut Vec<Incarnation<S::Origin>>, store: &S)
-    ensures held { held S.place lists.new.items ≡ held S.place lists.old.items }
+    ensures held { lists_of S.place lists.new.items ≡ lists_of S.place lists.old.items }
     ensures noted { AreNoted S.place (S.directory store.now) lists.new.items }
 {
     note_each(lists.as_mut_slice(), store);
@@ -85,8 +85,8 @@ impl<S: Durable> Lists<S> {
 
     /// Searches all lists for that of an incarnation and returns its index.
     fn search(&self, origin: &S::Origin) -> Option<usize>
-        ensures some { IfSome result (λ i. IsAt (held S.place self.now.all.lists.items) i (S.place origin.now)) }
-        ensures none { IfNone result (has_list (held S.place self.now.all.lists.items) (S.place origin.now) ≡ false) }
+        ensures some { IfSome result (λ i. IsAt (lists_of S.place self.now.all.lists.items) i (S.place origin.now)) }
+        ensures none { IfNone result (has_list (lists_of S.place self.now.all.lists.items) (S.place origin.now) ≡ false) }
     {
         for (i, list) in self.all.lists.iter().enumerate() {
             if list.origin == *origin {
@@ -98,8 +98,8 @@ impl<S: Durable> Lists<S> {
 
     /// Returns the index of an incarnation's list. Tries `hint` first.
     fn find(&self, origin: &S::Origin, hint: usize) -> Option<usize>
-        ensures some { IfSome result (λ i. IsAt (held S.place self.now.all.lists.items) i (S.place origin.now)) }
-        ensures none { IfNone result (has_list (held S.place self.now.all.lists.items) (S.place origin.now) ≡ false) }
+        ensures some { IfSome result (λ i. IsAt (lists_of S.place self.now.all.lists.items) i (S.place origin.now)) }
+        ensures none { IfNone result (has_list (lists_of S.place self.now.all.lists.items) (S.place origin.now) ≡ false) }
     {
         if hint < self.all.lists.len() && self.all.lists[hint].origin == *origin {
             return Some(hint);
@@ -109,9 +109,9 @@ impl<S: Durable> Lists<S> {
 
     /// Adds a list for an incarnation that has none. After an error the lists are unchanged.
     fn add(&mut self, origin: S::Origin) -> Result<(), AllocError>
-        requires { has_list (held S.place self.old.all.lists.items) (S.place origin) ≡ false }
+        requires { has_list (lists_of S.place self.old.all.lists.items) (S.place origin) ≡ false }
         ensures same { SameLists S.place self.old.all.lists.items self.new.all.lists.items }
-        ensures ok { OnOk result (IsAt (held S.place self.new.all.lists.items) (vec_len self.old.all.lists) (S.place origin)) }
+        ensures ok { OnOk result (HasListAt S.place self.new.all.lists.items (vec_len self.old.all.lists) (S.place origin)) }
         ensures len { OnOk result (vec_len self.new.all.lists ≡ vec_len self.old.all.lists + 1) }
     {
         let alloc = *self.all.lists.allocator();
@@ -122,7 +122,7 @@ impl<S: Durable> Lists<S> {
     /// Returns the index of the list of a handle's incarnation. Adds the list if there is none. After an error nothing has changed.
     fn place_for<B: Blob<S>>(&mut self, blob: &B, hint: usize) -> Result<usize, Error>
         ensures same { SameLists S.place self.old.all.lists.items self.new.all.lists.items }
-        ensures at { IfOk result (λ i. IsAt (held S.place self.new.all.lists.items) i (B.place blob.now)) }
+        ensures at { IfOk result (λ i. IsAt (lists_of S.place self.new.all.lists.items) i (B.place blob.now)) }
         ensures inside { IfOk result (λ i. i < vec_len self.new.all.lists) }
         ensures memory { OnErr result (IsMemory result) }
     {
@@ -137,7 +137,7 @@ impl<S: Durable> Lists<S> {
     /// Reserves capacity in the list at `i`.
     fn reserve(&mut self, i: usize, room: Room) -> Result<(), AllocError>
         requires { i < vec_len self.old.all.lists }
-        ensures held { held S.place self.new.all.lists.items ≡ held S.place self.old.all.lists.items }
+        ensures held { lists_of S.place self.new.all.lists.items ≡ lists_of S.place self.old.all.lists.items }
         ensures ok { OnOk result (HasRoomIn self.new.all.lists.items i room) }
     {
         self.all.lists[i].reserve(room)

@@ -10,7 +10,7 @@ use Rattle.blob_script.specs.Lines.{Image, Given, Seed, Configure, line_of}
 use Rattle.blob_script.specs.Tokens.{is_empty}
 use Rattle.blob_lab.specs.Scripts.{Script, no_script, lines_of, with_said, with_line}
 use Rattle.blob_lab_model.specs.Scripted.{behind_seeded}
-use Rattle.blob_script.specs.Settings.{configured}
+use Rattle.blob_script.specs.Settings.{with_setting}
 use Rattle.blob_lab_model.specs.States as states
 use Rattle.blob_lab_store.specs.Tables.{images_of}
 use Rattle.blob_lab.proofs.ScriptSteps.{more_lines, one_line}
@@ -25,16 +25,16 @@ is_some : (xs : List Act) (x : Act) → xs ++ x ∷ [] ≡ [] → ⊥
 is_some [] x e = cc
 is_some (y ∷ ys) x e = cc
 
-pub adds_setting : (p q : Preamble) (line : List ℕ) (setting : Setting) → line_of line ≡ Some (Configure setting) → q.images ≡ p.images → q.words ≡ p.words → q.seed ≡ p.seed → q.config ≡ configured p.config setting → q.is_configured ≡ true
+pub adds_setting : (p q : Preamble) (line : List ℕ) (setting : Setting) → line_of line ≡ Some (Configure setting) → q.images ≡ p.images → q.words ≡ p.words → q.seed ≡ p.seed → q.config ≡ with_setting p.config setting → q.is_configured ≡ true
     → (s : Script) → Says p s → Adds s line q
 adds_setting p q line setting says images words seed config set s said =
-    let d = configured s.config setting in (
+    let d = with_setting s.config setting in (
       record s { config = d; calls = s.calls ++ acts.Configure d ∷ [] },
       ap (option_and_then (with_said s)) says,
       record {
         images = ap (λ is. images_of is.items) images ∙ said.images;
         words = ap (λ ws. record { given = ws.items; seed = q.seed }) words ∙ ap (λ n. record { given = p.words.items; seed = n }) seed ∙ said.words;
-        config = config ∙ ap (λ c. configured c setting) said.config;
+        config = config ∙ ap (λ c. with_setting c setting) said.config;
         none = λ not. absurd (not set);
         some = λ _. is_some s.calls (acts.Configure d);
       },

@@ -30,7 +30,7 @@ use Rattle.std.specs.declared.alloc.Global.{Global}
 use Rattle.std.specs.contracts.impls.GlobalAllocator.TheImpl.{ghosts, dict}
 use Rattle.std_alloc.proofs.BoxSteps.Form as box
 use Rattle.std_alloc.proofs.ResultValues.{and_tt}
-use Rattle.blob_sessions.specs.Owned.{owned}
+use Rattle.blob_sessions.specs.Owned.{slot_owns}
 use Rattle.blob_sessions.specs.declared.kept.Kept.{Kept}
 use Rattle.blob_sessions.specs.declared.loose.Loose.{Loose}
 use Rattle.blob_sessions.specs.contracts.kept.Kept as kept
@@ -82,7 +82,7 @@ module _ {M : Type 1} {𝓤 : Ura M} {𝓛 : Logic 𝓤} {K : Type 0} {Γ : List
       → Seq K 𝓛 (‵ ((loose.the_row).own_val d vs) ∷ Γ) G
   loose_out t d x is vs k =
       fsplit t $ fpick t (λ vss. fsplit t $ feq_l t (λ ev. fsplit t $ feq_l t (λ ep. fsplit t $ handle_tells E.al t d.alloc vss.1.0 (λ h ea fits. move t (1 ∷ []) $ drop t $ move t (1 ∷ []) $
-      rewrite t 0 (λ (y : Option Kept). ‵ (owned (ghosts.dealloc_token d.alloc) kept.the_row d.at y)) is refl $
+      rewrite t 0 (λ (y : Option Kept). ‵ (slot_owns (ghosts.dealloc_token d.alloc) kept.the_row d.at y)) is refl $
       in_a_block t d.at (λ p. box_owns (ghosts.dealloc_token d.alloc) kept.the_row p x) (fst∗ 𝓤 (never 𝓤) (sem 𝓛 (ghosts.dealloc_token d.alloc (raw (lone kept.the_row.mir)) null_ptr))) (λ b o e. k b o h e
       (subst (λ (p : Ptr). vs ≡ vstruct (of_list (ptr_val p ∷ h ∷ [])) ∷ []) e
       (subst (λ (ws : List Val). vs ≡ vstruct (of_list (ptr_val d.at ∷ (ws ++ []))) ∷ []) ea (subst (λ (ps : List Val). vs ≡ vstruct (of_list (ps ++ (vss.1.0 ++ []))) ∷ []) ep ev))) fits)))))

@@ -1,7 +1,7 @@
 -- Headers in numbers.
 use Rattle.std.specs.Prelude.{◌≡◌, ◌≤◌, ◌==◌, ℕ, List, length, min, if◌then◌else◌, Option, Some, None, IfSome, Result, Ok, Err}
 use Rattle.blob_header.specs.Header.{layout_number}
-use Rattle.blob_header.specs.Parse.{Accepted, Failure, InvalidMagic, UnsupportedLayoutVersion, Truncated, InvalidChecksum, InvalidPadding, LayoutMismatch, VersionMismatch, parsed}
+use Rattle.blob_header.specs.Parse.{Accepted, Failure, InvalidMagic, UnsupportedLayoutVersion, Truncated, InvalidChecksum, InvalidPadding, LayoutMismatch, VersionMismatch, parse}
 use Rattle.blob_header.specs.declared.layout.Layout.{Layout}
 use Rattle.blob_header.specs.declared.layout.Layout.TheVariants.{V0, V1}
 use Rattle.blob_header.specs.declared.version.BlobVersion.{BlobVersion}
@@ -47,4 +47,4 @@ header_reply (Err failure) = refused_header failure
 
 -- the header of a prefix of a blob is parsed, if both layouts exist
 abbrev pub ParsesHeader : List ℕ → ℕ → Accepts → ParsedHeader → Type 0
-ParsesHeader raw raw_len accepts reply = IfSome (accepted_by accepts) (λ accepted. reply ≡ header_reply (parsed raw raw_len accepted))
+ParsesHeader raw raw_len accepts reply = IfSome (accepted_by accepts) (λ accepted. reply ≡ header_reply (parse raw raw_len accepted))

@@ -11,7 +11,7 @@ use Rattle.blob_lab_store.specs.LabStands.{Performs}
 use Rattle.blob_script.specs.Lines.{Blank, Configure, Call, line_of}
 use Rattle.blob_script.specs.Replies.{reply_line}
 use Rattle.blob_lab.specs.Scripts.{Script, with_line}
-use Rattle.blob_script.specs.Settings.{configured}
+use Rattle.blob_script.specs.Settings.{with_setting}
 use Rattle.blob_sessions.specs.Debts.{no_debt}
 use Rattle.blob_sessions.specs.declared.debts.DebtReply.{DebtReply}
 use Rattle.blob_sessions.specs.declared.kept.Kept.{Kept}
@@ -30,7 +30,7 @@ pub record Makes (k : Kept) (act : Act) (reply : Reply) (k' : Kept) : Type 0 whe
 
 -- with these settings the line says this call, and leaves these
 abbrev pub SaysCall : Config → List ℕ → Act → Config → Type 0
-SaysCall c line act d = ((line_of line ≡ Some (Call act)) × (d ≡ c)) ⊎ ((setting : Setting) × (line_of line ≡ Some (Configure setting)) × (d ≡ configured c setting) × (act ≡ acts.Configure d))
+SaysCall c line act d = ((line_of line ≡ Some (Call act)) × (d ≡ c)) ⊎ ((setting : Setting) × (line_of line ≡ Some (Configure setting)) × (d ≡ with_setting c setting) × (act ≡ acts.Configure d))
 
 -- the same of a call of the program
 abbrev pub ReadsCall : Config → List ℕ → Config → LabCall → Type 0

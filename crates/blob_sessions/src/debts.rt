@@ -2,7 +2,7 @@
 ghost use Rattle.std.specs.Prelude.{◌≡◌, option_copied, option_map, OnErr};
 ghost use Rattle.blob_debt.specs.Debts.{IsUnchanged};
 ghost use Rattle.blob_debt.specs.History.{Clear, Fail};
-ghost use Rattle.blob_header.specs.Refusals.{refusal_of, refused};
+ghost use Rattle.blob_header.specs.Refusals.{refusal_of, error_of};
 ghost use Rattle.blob_sessions.specs.Debts.{AdmitsName, ChangesOpen, ClosesOpen, Forgets, IsNew, MakesCall};
 ghost use Rattle.blob_sessions.specs.Debts.{MakesDebtCall, Performs, Release, ReturnsDebtAt, ReturnsIsSettled};
 ghost use Rattle.blob_sessions.specs.Debts.{flag_reply, found_reply, kept_at, no_debt, plain_refusal};
@@ -160,7 +160,7 @@ impl Debts {
         partition: &str,
         name: &[u8],
     ) -> Result<DebtReply, Error>
-        ensures { MakesCall self.old self.new asked.now (refused outcome) partition.now name.now (reply_of result) }
+        ensures { MakesCall self.old self.new asked.now (error_of outcome) partition.now name.now (reply_of result) }
     {
         match asked.kind {
             ADMIT => self.admit(partition, name, asked.flag),
@@ -264,7 +264,7 @@ impl Debts {
 
     /// Records an outcome. Returns whether there is such an open.
     fn clear(&mut self, number: usize, outcome: Result<(), Error>) -> bool
-        ensures { ChangesOpen self.old self.new number (λ g. Clear g (refused outcome)) (found_reply result) }
+        ensures { ChangesOpen self.old self.new number (λ g. Clear g (error_of outcome)) (found_reply result) }
     {
         let Some(generation) = open_at(&self.opens, number) else {
             return false;
@@ -333,7 +333,7 @@ fn open_at(opens: &[Option<Generation>], number: usize) -> Option<&Generation>
 
 /// Returns the outcome with this status. `None` if it is neither `DONE` nor that of a failure without texts.
 fn outcome_of(status: u32) -> Option<Result<(), Error>>
-    ensures { option_map refused result ≡ plain_refusal status }
+    ensures { option_map error_of result ≡ plain_refusal status }
 {
     match status {
         DONE => Some(Ok(())),

@@ -2,7 +2,7 @@
 ghost use Rattle.std.specs.Prelude.{◌≡◌, Some, None, IfSome, IfNone, IfOk, OnErr};
 ghost use Rattle.blob_script.specs.Acts.{act_of};
 ghost use Rattle.blob_script.specs.Lines.{Blank, line_of};
-ghost use Rattle.blob_script.specs.Settings.{configured};
+ghost use Rattle.blob_script.specs.Settings.{with_setting};
 ghost use Rattle.blob_sessions.specs.Applying.{Applies};
 ghost use Rattle.blob_sessions.specs.Debts.{IsNew, MakesDebtCall};
 ghost use Rattle.blob_sessions.specs.Sessions.{RunsLine, AnswersRead, AnswersWrite, ReadsCall, IsNoCall, Makes, TellsAgain};
@@ -233,8 +233,8 @@ impl Kept {
 
     /// The call that hands the whole configuration so far on.
     fn configure(&mut self, setting: Setting) -> Call
-        ensures whole { result ≡ Call.Configure (configured self.old.config setting) }
-        ensures kept { self.new ≡ record self.old { config = configured self.old.config setting } }
+        ensures whole { result ≡ Call.Configure (with_setting self.old.config setting) }
+        ensures kept { self.new ≡ record self.old { config = with_setting self.old.config setting } }
     {
         self.config = setting.apply(copy_of(&self.config));
         Call::Configure(copy_of(&self.config))

@@ -1,7 +1,7 @@
 // A box as its pointer, or none, in a struct that C may hold.
 ghost use Rattle.std.specs.Prelude.{◌≡◌, Option, Some, None, IsSome};
 ghost use Rattle.std.specs.contracts.impls.GlobalAllocator.TheImpl.{ghosts};
-ghost use Rattle.blob_sessions.specs.Owned.{owned, kept_code};
+ghost use Rattle.blob_sessions.specs.Owned.{slot_owns, kept_code};
 ghost use Rattle.blob_sessions.specs.declared.kept.Kept.{Kept};
 ghost use Rattle.blob_sessions.specs.contracts.kept.Kept.{the_row as kept-row};
 
@@ -24,7 +24,7 @@ pub struct Loose {
 }
 
 impl Model for Loose {
-    ghost also_owns = { λ l. owned (ghosts.dealloc_token l.alloc) kept-row l.at l.value };
+    ghost also_owns = { λ l. slot_owns (ghosts.dealloc_token l.alloc) kept-row l.at l.value };
 }
 
 impl Loose {

@@ -34,10 +34,10 @@ depth (Choice if_true if_false) (true ∷ path) = suc (depth if_true path)
 depth (Choice if_true if_false) (false ∷ path) = suc (depth if_false path)
 
 -- the first n outcomes of a path, which is continued by true
-abbrev pub extended : ℕ → List Bool → List Bool
-extended zero path = []
-extended (suc n) [] = true ∷ extended n []
-extended (suc n) (outcome ∷ path) = outcome ∷ extended n path
+abbrev pub extend_path : ℕ → List Bool → List Bool
+extend_path zero path = []
+extend_path (suc n) [] = true ∷ extend_path n []
+extend_path (suc n) (outcome ∷ path) = outcome ∷ extend_path n path
 
 -- the leaf that a path leads to, and all leaves after it
 abbrev pub left_from : DecisionTree → List Bool → List (List Bool)
@@ -66,7 +66,7 @@ if_more more path = if more then Some path else None
 
 -- In each tree in which the old path makes `taken` draws, the leaves from the old path on are its own leaf and then those from the new path on.
 abbrev pub Advances : List Bool → ℕ → Option (List Bool) → Type 0
-Advances old taken new = (t : DecisionTree) → depth t old ≡ taken → left_from t old ≡ extended taken old ∷ left_after t new
+Advances old taken new = (t : DecisionTree) → depth t old ≡ taken → left_from t old ≡ extend_path taken old ∷ left_after t new
 
 -- In each tree, the leaves from the empty path on are all leaves.
 abbrev pub BeginsAtFirst : Type 0

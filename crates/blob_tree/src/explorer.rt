@@ -1,6 +1,6 @@
 //! The leaves of a decision tree, one after another.
 ghost use Rattle.std.specs.Prelude.{◌≡◌, [], IfOk, OnErr, true};
-ghost use Rattle.blob_tree.specs.Trees.{Advances, BeginsAtFirst, extended, if_more, next_path, words_of};
+ghost use Rattle.blob_tree.specs.Trees.{Advances, BeginsAtFirst, extend_path, if_more, next_path, words_of};
 
 use std::alloc::{AllocError, Global};
 use std::marker::Model;
@@ -54,7 +54,7 @@ impl Explorer {
     ///
     /// The only error is a failed allocation, with nothing changed.
     pub fn advance(&mut self, taken: usize) -> Result<bool, AllocError>
-        ensures next { IfOk result (λ more. next_path (extended taken self.old) ≡ if_more more self.new) }
+        ensures next { IfOk result (λ more. next_path (extend_path taken self.old) ≡ if_more more self.new) }
         ensures leaves { IfOk result (λ more. Advances self.old taken (if_more more self.new)) }
         ensures err { OnErr result (self.new ≡ self.old) }
     {
@@ -63,7 +63,7 @@ impl Explorer {
     }
 
     fn extend(&mut self, taken: usize) -> Result<(), AllocError>
-        ensures ok { IfOk result (λ _. self.new ≡ extended taken self.old) }
+        ensures ok { IfOk result (λ _. self.new ≡ extend_path taken self.old) }
         ensures err { OnErr result (self.new ≡ self.old) }
     {
         self.path.resize(taken, true)

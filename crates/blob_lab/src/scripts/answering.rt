@@ -1,7 +1,7 @@
 // Running the calls of a script, one after another.
 ghost use Rattle.std.specs.Prelude.{◌≡◌, ◌≢◌, ◌⊎◌, true, IfErr, OnOk};
 ghost use Rattle.blob_lab.specs.Endings.{is_cut};
-ghost use Rattle.blob_lab.specs.ScriptReading.{CutsReply, PrintsFrom, PrintsFromUpTo, PrintsInputUpTo, WritesReply};
+ghost use Rattle.blob_lab.specs.ScriptReading.{CutsReply, IfCut, PrintsFrom, PrintsInputUpTo, WritesReply};
 ghost use Rattle.blob_lab.specs.Scripts.{PrintsAll};
 ghost use Rattle.blob_lab.specs.Streams.{IsReadToEnd, OfBytes, ToldEnding, ToldOutput};
 
@@ -51,8 +51,7 @@ fn answer_calls<R: Ahead, W: Write>(
     ensures told { ToldEnding result input.old input.new output.old output.new }
     ensures read { OnOk result (IsReadToEnd R.remaining input.old input.new) }
     ensures all { OnOk result (PrintsFrom R.remaining W.contents lab.old first lines.old input.old output.old output.new) }
-    ensures front { IfErr result (
-        PrintsFromUpTo R.remaining W.contents lab.old first lines.old input.old input.new output.old output.new) }
+    ensures front { IfCut R.remaining W.contents lab.old first lines.old input.old input.new output.old output.new result }
 {
     let mut text = String::new(alloc);
     let mut call = first;

@@ -7,7 +7,7 @@ ghost use Rattle.blob_lab.specs.Reading.{IfEnd, IfRead};
 ghost use Rattle.blob_lab.specs.ScriptReading.{IsCreatedFrom, OfRead, TakesLine, TakesOne, TakesPart, ReadsToCall, ReadsPreamble, ReadsBadStart, ReadsPreamblePart};
 ghost use Rattle.blob_lab.specs.ScriptReading.{ReadsNextCall, ReadsNoCall, ReadsBadCall, ReadsBadLine, preamble_of};
 ghost use Rattle.blob_lab.specs.Scripts.{Script};
-ghost use Rattle.blob_script.specs.Settings.{cleared, configured};
+ghost use Rattle.blob_script.specs.Settings.{no_rates, with_setting};
 ghost use Rattle.blob_lab.specs.Streams.{IsReadToEnd, KeepsKnown, KeepsOutput, lines_left, ToldEnding};
 
 use super::Ahead;
@@ -45,7 +45,7 @@ impl Preamble {
 
     /// Creates the laboratory. The only error is `Memory`.
     pub(crate) fn into_lab(self) -> Result<Lab, Error>
-        ensures { IfOk result (λ lab. IsCreatedFrom lab (preamble_of self cleared)) }
+        ensures { IfOk result (λ lab. IsCreatedFrom lab (preamble_of self no_rates)) }
     {
         let Preamble {
             images,
@@ -70,7 +70,7 @@ pub(crate) struct Lines {
 impl Lines {
     pub(crate) fn new(alloc: Global) -> Lines
         ensures number { result.number ≡ 0 }
-        ensures config { result.config ≡ cleared }
+        ensures config { result.config ≡ no_rates }
     {
         Lines {
             line: Vec::new(alloc),
@@ -194,8 +194,8 @@ impl Lines {
 
     /// Returns the call that sets the whole configuration so far, with this change.
     fn configure(&mut self, setting: Setting) -> Call
-        ensures whole { result ≡ Call.Configure (configured self.old.config setting) }
-        ensures kept { self.new ≡ record self.old { config = configured self.old.config setting } }
+        ensures whole { result ≡ Call.Configure (with_setting self.old.config setting) }
+        ensures kept { self.new ≡ record self.old { config = with_setting self.old.config setting } }
     {
         self.config = setting.apply(copy_of(&self.config));
         Call::Configure(copy_of(&self.config))

@@ -2,7 +2,7 @@
 ghost use Rattle.std.specs.Prelude.{◌≡◌, ◌≢◌, Some};
 ghost use Rattle.std.specs.Bool.{OnTrue, OnFalse};
 ghost use Rattle.blob_base.specs.Options.{is_sync};
-ghost use Rattle.blob_header.specs.Refusals.{Memory, refused};
+ghost use Rattle.blob_header.specs.Refusals.{Memory, error_of};
 ghost use Rattle.blob_script.specs.Acts.{Read, Write, Resize, Size, Sync, StartSync, Through, Finish};
 ghost use Rattle.blob_lab_store.specs.LabStands.{HandlePerforms, HandleStartsSync, Performs};
 
@@ -27,8 +27,8 @@ fn write_options(sync: bool) -> WriteOptions
 
 /// Returns whether the error is `Memory`.
 fn is_memory(outcome: &Result<(), Error>) -> bool
-    ensures is { OnTrue result (refused outcome.now ≡ Some Memory) }
-    ensures not { OnFalse result (refused outcome.now ≢ Some Memory) }
+    ensures is { OnTrue result (error_of outcome.now ≡ Some Memory) }
+    ensures not { OnFalse result (error_of outcome.now ≢ Some Memory) }
 {
     match outcome {
         Err(Error::Memory(_)) => true,

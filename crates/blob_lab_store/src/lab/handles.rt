@@ -1,7 +1,7 @@
 //! The handles of a laboratory by number: from 0, in the order of accepted opens. Numbers aren't reused.
 ghost use Rattle.std.specs.Prelude.{◌≡◌, ◌<◌, ◌++◌, ◌∷◌, [], Some, None, OnOk, OnErr, IfSome, IfNone, length, set, option_map, option_copied};
 ghost use Rattle.blob_header.specs.Refusals.{IsMemory};
-ghost use Rattle.blob_lab_model.specs.Steps.{unregistered};
+ghost use Rattle.blob_lab_model.specs.Steps.{close_registration};
 ghost use Rattle.blob_lab_model.specs.Answers.{kept_at};
 ghost use Rattle.blob_opens.specs.Opens.{names_of, registration_of, store_handle};
 ghost use Rattle.blob_lab_store.specs.Tables.{as_held, handles_of, HasFreeSlot};
@@ -46,7 +46,7 @@ impl Handle {
 
     /// Closes it and its exclusive open, if it has one.
     pub(crate) fn close(self, opens: &mut Opens)
-        ensures { names_of opens.new ≡ unregistered (names_of opens.old) self.registration }
+        ensures { names_of opens.new ≡ close_registration (names_of opens.old) self.registration }
     {
         let Handle {
             blob: _,

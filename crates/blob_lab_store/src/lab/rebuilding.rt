@@ -1,6 +1,6 @@
 // Crashes, and wrappers that are taken apart and rebuilt.
 ghost use Rattle.std.specs.Prelude.{◌≡◌};
-ghost use Rattle.blob_model.specs.Files.{Files, reopened};
+ghost use Rattle.blob_model.specs.Files.{Files, reopen};
 ghost use Rattle.blob_faulty.specs.Wrapper.{config_of};
 ghost use Rattle.blob_script.specs.Acts.{Crash, Reopen};
 ghost use Rattle.blob_lab_store.specs.LabStands.{Performs, stream_of};
@@ -16,7 +16,7 @@ use std::mem;
 
 /// Rebuilds a wrapper's store from a snapshot of it, and wraps it with the same generator and configuration.
 fn rewrapped(alloc: Global, wrapper: Wrapper) -> Wrapper
-    ensures files { (f : Files) → IsFor wrapper f → IsFor result (reopened f) }
+    ensures files { (f : Files) → IsFor wrapper f → IsFor result (reopen f) }
     ensures config { config_of result ≡ config_of wrapper }
     ensures stream { stream_of result ≡ stream_of wrapper }
 {

@@ -1,6 +1,6 @@
 // The contents by partition and name.
 ghost use Rattle.std.specs.Prelude.{◌≡◌, ◌<◌, ◌-◌, ◌^◌, None, Some, IsSome, IsOk, OnOk, OnErr, IfOk, option_copied};
-ghost use Rattle.blob_model.specs.Directory.{current, removed};
+ghost use Rattle.blob_model.specs.Directory.{current, directory_without};
 ghost use Rattle.blob_memory.specs.Audit.{audit, IsListing};
 ghost use Rattle.blob_header.specs.Checksum.{crc32c};
 ghost use Rattle.blob_memory.specs.Listing.{listing_at, raw_blob_of};
@@ -127,7 +127,7 @@ impl Contents {
 
     /// Removes a name and ends its incarnation. The partition stays.
     pub fn remove(&mut self, partition: &str, name: &[u8])
-        ensures directory { directory_of self.new ≡ removed (directory_of self.old) partition.now (Some name.now) }
+        ensures directory { directory_of self.new ≡ directory_without (directory_of self.old) partition.now (Some name.now) }
         ensures durable { durable_of self.new ≡ durable_less self.old partition.now (Some name.now) }
     {
         self.partitions.remove(partition, name);
@@ -135,7 +135,7 @@ impl Contents {
 
     /// Removes a partition and ends the incarnations in it.
     pub fn remove_partition(&mut self, partition: &str)
-        ensures directory { directory_of self.new ≡ removed (directory_of self.old) partition.now None }
+        ensures directory { directory_of self.new ≡ directory_without (directory_of self.old) partition.now None }
         ensures durable { durable_of self.new ≡ durable_less self.old partition.now None }
     {
         self.partitions.remove_partition(partition);

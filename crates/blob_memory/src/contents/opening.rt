@@ -1,6 +1,6 @@
 // What an open finds, and the incarnation that it begins.
 ghost use Rattle.std.specs.Prelude.{◌≡◌, None, IfOk, IfErr, OnOk, OnErr};
-ghost use Rattle.blob_header.specs.Refusals.{refused};
+ghost use Rattle.blob_header.specs.Refusals.{error_of};
 ghost use Rattle.blob_memory.specs.Answers.{OrMemory, number_refusal};
 ghost use Rattle.blob_memory.specs.Contents.{directory_of, durable_of, is_ended};
 ghost use Rattle.blob_memory.specs.Found.{IsFound, IsDeclined, directory_opened, durable_opened, opening_of, opening_in};
@@ -53,7 +53,7 @@ impl Contents {
     pub fn begin(&mut self, partition: &str, name: &[u8], found: &Found) -> Result<(), Error>
         requires fresh { found.now.number ≡ None }
         requires found { IsFound self.old partition.now name.now found.now }
-        ensures allowed { OrMemory (number_refusal (directory_of self.old).next) (refused result) }
+        ensures allowed { OrMemory (number_refusal (directory_of self.old).next) (error_of result) }
         ensures directory { OnOk result (directory_of self.new ≡ directory_opened self.old partition.now name.now found.now) }
         ensures durable { OnOk result (durable_of self.new ≡ durable_opened self.old partition.now name.now found.now) }
         ensures err { OnErr result (directory_of self.new ≡ directory_of self.old) }

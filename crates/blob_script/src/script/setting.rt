@@ -1,7 +1,7 @@
 //! The lines that configure the wrapper.
 ghost use Rattle.std.specs.Prelude.{◌≡◌, IfSome, IfNone, Some, None};
 ghost use Rattle.blob_script.specs.SettingLines.{setting, rate, mode};
-ghost use Rattle.blob_script.specs.Settings.{configured};
+ghost use Rattle.blob_script.specs.Settings.{with_setting};
 
 use crate::script::token::{Tokens, number};
 use blob_base::{Probability, SectorSize};
@@ -31,7 +31,7 @@ pub enum Setting {
 impl Setting {
     /// Returns the configuration with this change.
     pub fn apply(self, config: Config) -> Config
-        ensures { result ≡ configured config self }
+        ensures { result ≡ with_setting config self }
     {
         match self {
             Setting::Open(rate) => config.open(rate),

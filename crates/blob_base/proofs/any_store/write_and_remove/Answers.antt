@@ -3,12 +3,12 @@ use Rattle.blob_header.specs.declared.error.Error.{Error}
 use Rattle.blob_base.specs.Callers.{First, Second}
 use Rattle.blob_model.specs.Durable.{Durable, durable_without}
 use Rattle.blob_model.specs.Live.{live_written}
-use Rattle.blob_header.specs.Refusals.{Refusal, refused, refusal_of}
+use Rattle.blob_header.specs.Refusals.{Refusal, error_of, refusal_of}
 use Rattle.blob_base.proofs.any_store.write_and_remove.Goals as goal
 
 pub returns-in_err-write_at-clause-answer : goal.returns-in_err-write_at-clause-answer
 returns-in_err-write_at-clause-answer g c =
-    let e : refused c.from_residual.result ≡ Some (refusal_of c.in_err-write_at.field-0.0) = search rules in
+    let e : error_of c.from_residual.result ≡ Some (refusal_of c.in_err-write_at.field-0.0) = search rules in
     rw e (First _ (subst (λ (sync : Bool). g.B.Blob.allows_write c.args.blob.now c.args.store.now c.args.offset c.args.bytes sync (Some (refusal_of c.in_err-write_at.field-0.0))) c.requires c.in_err-write_at.ensures.allowed))
 
 pub returns-clause-answer : goal.returns-clause-answer
@@ -29,7 +29,7 @@ left_by : {P Q : Type 0} (answer : Result (Unit {0}) Error) → OnErr answer P �
 left_by (Ok x) p so = tt
 left_by (Err e) p so = so p
 
-known : {P : Type 0} (answer : Result (Unit {0}) Error) (refusal : Refusal) → refused answer ≡ Some refusal → OnErr answer P → P
+known : {P : Type 0} (answer : Result (Unit {0}) Error) (refusal : Refusal) → error_of answer ≡ Some refusal → OnErr answer P → P
 known (Ok x) refusal told p = absurd (never told)
   where
     never : None ≡ Some refusal → ⊥
@@ -43,7 +43,7 @@ returns-clause-live g c =
 
 pub returns-in_err-write_at-clause-memory_live : goal.returns-in_err-write_at-clause-memory_live
 returns-in_err-write_at-clause-memory_live g c =
-    let e : refused c.from_residual.result ≡ Some (refusal_of c.in_err-write_at.field-0.0) = search rules in
+    let e : error_of c.from_residual.result ≡ Some (refusal_of c.in_err-write_at.field-0.0) = search rules in
     λ memory. inl (c.in_err-write_at.ensures.memory (sym e ∙ memory)).0
 
 pub returns-clause-memory_live : goal.returns-clause-memory_live
@@ -53,7 +53,7 @@ returns-clause-memory_live g c =
 
 pub returns-in_err-write_at-clause-memory : goal.returns-in_err-write_at-clause-memory
 returns-in_err-write_at-clause-memory g c =
-    let e : refused c.from_residual.result ≡ Some (refusal_of c.in_err-write_at.field-0.0) = search rules in
+    let e : error_of c.from_residual.result ≡ Some (refusal_of c.in_err-write_at.field-0.0) = search rules in
     λ memory. inl (c.in_err-write_at.ensures.memory (sym e ∙ memory)).1
 
 pub returns-clause-memory : goal.returns-clause-memory

@@ -4,10 +4,10 @@ use Rattle.std.proofs.lemmas.Option.{none-some}
 use Rattle.std.specs.Prelude.{codes}
 use Rattle.blob_model.specs.Directory.{Directory}
 use Rattle.blob_model.specs.Durable.{Durable}
-use Rattle.blob_model.specs.Files.{Files, wrapped, after_open}
+use Rattle.blob_model.specs.Files.{Files, wrap, after_open}
 use Rattle.blob_model.specs.Places.{Place}
 use Rattle.blob_model.specs.Rates.{Rate}
-use Rattle.blob_header.specs.Refusals.{refused, refusal_of}
+use Rattle.blob_header.specs.Refusals.{error_of, refusal_of}
 use Rattle.blob_disk.proofs.BlobDisk.new.Goals as goal
 use Rattle.blob_disk.proofs.Opening.{memory_alone, opens_again, refused_alone}
 use Rattle.blob_disk.proofs.Outcomes.{configured_here, configured_openable, configured_whole}
@@ -21,7 +21,7 @@ pub invariant_of-result : goal.invariant_of-result
 invariant_of-result g c =
     let e = c.in_ok-blob.ensures in
     let is_empty : (o : Place) (x : List ℕ) → durable c.new-memory.result o ≡ Some x → [] ≡ x = λ o x h. absurd (none-some x (sym (ap (λ (f : Durable). f o) c.new-memory.ensures.durable) ∙ h)) in
-    let w : Files = wrapped (directory c.new-memory.result) (λ _. []) 0 0 in
+    let w : Files = wrap (directory c.new-memory.result) (λ _. []) 0 0 in
     let made : Stands (λ (o : Place). o) (directory (inner_of c.new-store.result)) (durable (inner_of c.new-store.result)) c.new-store.result w =
     subst (λ m. Stands (λ (o : Place). o) (directory m) (durable m) c.new-store.result w) (sym c.new-store.ensures.inner) (c.new-store.ensures.files (λ _. []) is_empty) in
     let s = c.opens.ensures.accepted c.new-store.result c.open.new.self (codes "disk") (codes "0") 0 0 _ _ _ e.opened e.leaves w made in
@@ -45,7 +45,7 @@ pub returns-in_err-blob-clause-memory : goal.returns-in_err-blob-clause-memory
 returns-in_err-blob-clause-memory g c =
     let s = c.new-store.result in
     let answer = refusal_of c.in_err-blob.field-0.0 in
-    let said : refused c.from_residual.result ≡ Some answer = search rules in
+    let said : error_of c.from_residual.result ≡ Some answer = search rules in
     let unset : (config_of s).open_rate ≡ None = search rules in
     let never : IsNever (config_of s).open_rate = subst (λ (rate : Option Rate). IsNever rate) (sym unset) tt in
     let made : directory (inner_of s) ≡ directory c.new-memory.result = ap directory c.new-store.ensures.inner in

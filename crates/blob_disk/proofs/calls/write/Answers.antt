@@ -1,7 +1,7 @@
 use Rattle.std.proofs.Common.{rules, ◌≡◌, List, ℕ, Bool, length, refl, sym, ◌∙◌, ap, subst, true, false}
 use Rattle.std.proofs.lemmas.Result.{on_ok_weaker}
 use Rattle.blob_base.specs.Options.{is_sync}
-use Rattle.blob_header.specs.Refusals.{refused}
+use Rattle.blob_header.specs.Refusals.{error_of}
 use Rattle.blob_model.specs.Live.{live_written}
 use Rattle.blob_draws.specs.Answers.{allows_write}
 use Rattle.blob_faulty.specs.OverMemory.{memory_handle}
@@ -22,7 +22,7 @@ returns g c =
     let w = c.args.store.now in
     let bytes = c.args.bytes.now in
     let stream = g.R.Rng.stream (rng_of w) in
-    let answer = refused c.write_from.result in
+    let answer = error_of c.write_from.result in
     let sync = is_sync c.default.result in
     let plain : sync ≡ false = first_of (search rules, cc) in
     let es = recorded_write (config_of w) (next_write_of w) stream sync c.args.at bytes answer in

@@ -3,7 +3,7 @@ use Rattle.std.proofs.lemmas.Bool.{OnTrue_at}
 use Rattle.blob_tree.specs.Trees.{left_after}
 use Rattle.blob_explore.specs.Distinct.{outcomes_in}
 use Rattle.blob_explore.specs.Explorations.{VisitsNext, path_of}
-use Rattle.blob_explore.specs.Outcomes.{shown}
+use Rattle.blob_explore.specs.Outcomes.{replies_text}
 use Rattle.blob_explore.specs.declared.exploration.Leaf.{Leaf}
 use Rattle.blob_explore.proofs.Exploring.{found_all, found_more}
 use Rattle.blob_explore.proofs.outcomes.explore.Goals as goal
@@ -20,7 +20,7 @@ visits-preserved c =
     let e = c.visits.exploration in
     let V : Option Leaf → Type 0 = λ found. IfSome found (λ leaf. VisitsNext e leaf c.next.new.self) in
     let visits : VisitsNext e c.in-Some.leaf c.next.new.self = subst V c.in-Some.is c.in_ok-leaf.ensures.leaf in
-    let text : string_bytes c.in_ok-text.text ≡ shown c.args.last c.in-Some.leaf.replies.items = c.in_ok-text.ensures ∙ ap (shown c.args.last) c.deref.ensures.value in
+    let text : string_bytes c.in_ok-text.text ≡ replies_text c.args.last c.in-Some.leaf.replies.items = c.in_ok-text.ensures ∙ ap (replies_text c.args.last) c.deref.ensures.value in
     let few : c.visits.leaves < 2 ^ 64 - 1 = omega arith in
     record {
       most = omega arith;

@@ -7,7 +7,7 @@ use Rattle.blob_model.specs.Order.{ListAt, held_at, ArePlacesApart}
 use Rattle.blob_model.specs.Places.{Place}
 use Rattle.blob_model.specs.Stands.{replayed_at}
 use Rattle.blob_memory.specs.Store.{durable}
-use Rattle.blob_pending.specs.Lists.{held, held_by}
+use Rattle.blob_pending.specs.Lists.{lists_of, held_by}
 use Rattle.blob_draws.specs.Rows.{rows_in}
 use Rattle.blob_faulty.specs.Ready.{IsReady}
 use Rattle.blob_faulty.proofs.Replaying.{replay_first, widest_in, held_more}
@@ -34,8 +34,8 @@ loop-list-preserved c =
     let x = c.list-item.result in
     let h : i < length is = omega arith in
     let t : Choices = chosen_by (rows_in c.args.rows.now) in
-    let rest : List ListAt = held (λ (o : Place). o) (drop (i + 1) is) in
-    let here : held (λ (o : Place). o) (drop i is) ≡ held_by (λ (o : Place). o) x ∷ rest = held_more is i x h c.list-item.is in
+    let rest : List ListAt = lists_of (λ (o : Place). o) (drop (i + 1) is) in
+    let here : lists_of (λ (o : Place). o) (drop i is) ≡ held_by (λ (o : Place). o) x ∷ rest = held_more is i x h c.list-item.is in
     record {
       apart = λ a. (subst (λ (hs : List ListAt). ArePlacesApart hs) here (c.loop-list.invariant.apart a)).1;
       durable = λ a o. replay_first t (held_by (λ (p : Place). p) x) rest (durable c.loop-list.inner) (durable c.replay_list.new.inner) o (subst (λ (hs : List ListAt). ArePlacesApart hs) here (c.loop-list.invariant.apart a)).0 (c.replay_list.ensures.durable o)

@@ -2,9 +2,9 @@ use Rattle.std.proofs.Common.{◌≡◌, ℕ, ◌+◌, List, [], ◌∷◌, ◌+
 use Rattle.std.proofs.lemmas.List.{map_more}
 use Rattle.std.specs.Global.{Global}
 use Rattle.std.specs.Prelude.{Vec, is_ok}
-use Rattle.blob_header.specs.Refusals.{refused}
+use Rattle.blob_header.specs.Refusals.{error_of}
 use Rattle.blob_log.specs.Runs.{Appends, AppendsAll}
-use Rattle.blob_log.specs.Held.{HoldsRecords, record_bytes, acknowledged}
+use Rattle.blob_log.specs.Held.{HoldsRecords, record_bytes, acknowledged_records}
 use Rattle.blob_log.proofs.Running.{appends_more, if_done, if_failed, ok_told}
 use Rattle.blob_log.proofs.Surviving.{answered, acknowledged_next}
 use Rattle.blob_log.proofs.sessions.append_all.Goals as goal
@@ -18,7 +18,7 @@ loop-entry-preserved g c =
     let is : is_ok c.append.result ≡ done = ok_told c.append.result ∙ sym c.in_ok-done.ensures.0 in
     record {
       held = λ records h.
-          let before = records ++ acknowledged c.loop-entry.answers.items (record_bytes entries) in
+          let before = records ++ acknowledged_records c.loop-entry.answers.items (record_bytes entries) in
           let after = answered c.append.result (HoldsRecords c.loop-entry.log c.loop-entry.store) (HoldsRecords c.append.new.self c.append.new.store) entry c.append.ensures.acknowledged c.append.ensures.refused before (c.loop-entry.invariant.held records h) in
           subst (λ (l : List (List ℕ)). HoldsRecords c.append.new.self c.append.new.store l)
           (ap (λ (b : Bool). before ++ (if b then entry ∷ [] else [])) is
@@ -28,7 +28,7 @@ loop-entry-preserved g c =
       place = c.append.ensures.place ∙ c.loop-entry.invariant.place;
       ran =
           let one : Appends g.R.Rng.stream c.loop-entry.log c.loop-entry.store entry done c.append.new.self c.append.new.store = record {
-            answer = refused c.append.result;
+            answer = error_of c.append.result;
             is = c.in_ok-done.ensures.0;
             memory = c.in_ok-done.ensures.1;
             may = c.append.ensures.answer;

@@ -6,9 +6,9 @@ use Rattle.std.specs.Prelude.{Vec}
 use Rattle.blob_model.specs.Places.{Place}
 use Rattle.blob_model.specs.Opened.{IsNamed}
 use Rattle.blob_header.specs.Fronts.{BeginsWith}
-use Rattle.blob_header.specs.Refusals.{refused, refusal_of, Memory}
+use Rattle.blob_header.specs.Refusals.{error_of, refusal_of, Memory}
 use Rattle.blob_log.specs.declared.sessions.Session.{Session}
-use Rattle.blob_log.specs.Held.{record_bytes, acknowledged, log_place}
+use Rattle.blob_log.specs.Held.{record_bytes, acknowledged_records, log_place}
 use Rattle.blob_log.specs.Refused.{NotRecovered, NoMemory, Done}
 use Rattle.blob_log.specs.Runs.{AllRun, RunTo, SessionRuns}
 use Rattle.blob_log.proofs.Running.{crash_drawn, runs_more}
@@ -76,10 +76,10 @@ loop-entries-preserved g c =
           };
       survive = λ files stands.
           let h = c.in_ok-answers.ensures.held (record_bytes before.items) (c.loop-entries.invariant.held files stands) in
-          let found = c.in_ok-again.ensures.found o (record_bytes before.items ++ acknowledged answers.items (record_bytes c.deref.result.now)) named h.short (c.crash.ensures.keeps o _ h.kept) in
+          let found = c.in_ok-again.ensures.found o (record_bytes before.items ++ acknowledged_records answers.items (record_bytes c.deref.result.now)) named h.short (c.crash.ensures.keeps o _ h.kept) in
           survive_more c.loop-entries.done.items c.push.new.self.items session c.args.sessions.now c.loop-entries.entries-index c.entries-item.result (record_bytes c.in_ok-again.after.items)
           (c.loop-entries.invariant.survive files stands) c.loop-entries.invariant.count c.loop-entries-test.true c.entries-item.is c.in_ok-push.ensures.items
-          (subst (λ (l : List (Vec ℕ Global)). BeginsWith (record_bytes before.items ++ acknowledged answers.items (record_bytes l)) (record_bytes c.in_ok-again.after.items)) c.deref.ensures.value found.1);
+          (subst (λ (l : List (Vec ℕ Global)). BeginsWith (record_bytes before.items ++ acknowledged_records answers.items (record_bytes l)) (record_bytes c.in_ok-again.after.items)) c.deref.ensures.value found.1);
     }
 
 pub returns-clause-ran : goal.returns-clause-ran
@@ -94,32 +94,32 @@ returns-clause-ran g c =
 
 pub returns-in_err-log-clause-answer : goal.returns-in_err-log-clause-answer
 returns-in_err-log-clause-answer g c =
-    let e : refused c.from_residual.result ≡ Some (refusal_of c.in_err-log.field-0.0) = search rules in
+    let e : error_of c.from_residual.result ≡ Some (refusal_of c.in_err-log.field-0.0) = search rules in
     rw e (NotRecovered c.args.store.now _ c.in_err-log.ensures.answer)
 
 pub returns-in_err-again-clause-answer : goal.returns-in_err-again-clause-answer
 returns-in_err-again-clause-answer g c =
-    let e : refused c.from_residual-in_err-again.result ≡ Some (refusal_of c.in_err-again.field-0.0) = search rules in
+    let e : error_of c.from_residual-in_err-again.result ≡ Some (refusal_of c.in_err-again.field-0.0) = search rules in
     rw e (NotRecovered c.crash.new.self _ c.in_err-again.ensures.answer)
 
 pub returns-in_err-done-clause-answer : goal.returns-in_err-done-clause-answer
 returns-in_err-done-clause-answer g c =
-    let e : refused c.from_residual-in_err-done.result ≡ Some Memory = first_of (search rules, grind (arith, common_steps)) in
+    let e : error_of c.from_residual-in_err-done.result ≡ Some Memory = first_of (search rules, grind (arith, common_steps)) in
     rw e NoMemory
 
 pub returns-in_err-answers-clause-answer : goal.returns-in_err-answers-clause-answer
 returns-in_err-answers-clause-answer g c =
-    let e : refused c.from_residual-in_err-answers.result ≡ Some Memory = first_of (search rules, grind (arith, common_steps)) in
+    let e : error_of c.from_residual-in_err-answers.result ≡ Some Memory = first_of (search rules, grind (arith, common_steps)) in
     rw e NoMemory
 
 pub returns-in_err-crash-clause-answer : goal.returns-in_err-crash-clause-answer
 returns-in_err-crash-clause-answer g c =
-    let e : refused c.from_residual-in_err-crash.result ≡ Some Memory = first_of (search rules, grind (arith, common_steps)) in
+    let e : error_of c.from_residual-in_err-crash.result ≡ Some Memory = first_of (search rules, grind (arith, common_steps)) in
     rw e NoMemory
 
 pub returns-in_err-push-clause-answer : goal.returns-in_err-push-clause-answer
 returns-in_err-push-clause-answer g c =
-    let e : refused c.from_residual-in_err-push.result ≡ Some Memory = first_of (search rules, grind (arith, common_steps)) in
+    let e : error_of c.from_residual-in_err-push.result ≡ Some Memory = first_of (search rules, grind (arith, common_steps)) in
     rw e NoMemory
 
 pub returns-clause-answer : goal.returns-clause-answer

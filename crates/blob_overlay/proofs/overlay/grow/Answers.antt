@@ -1,5 +1,5 @@
 use Rattle.std.proofs.Common.{rules, ◌≡◌, ◌∙◌, length, vec_len, arith, ap, max}
-use Rattle.blob_model.specs.Bytes.{resized}
+use Rattle.blob_model.specs.Bytes.{resize}
 use Rattle.blob_overlay.proofs.Overlays.{resized_to, grown_none}
 use Rattle.blob_overlay.proofs.overlay.grow.Goals as goal
 
@@ -7,7 +7,7 @@ pub returns-then-len : goal.returns-then-len
 returns-then-len c =
     let k : vec_len c.args.bytes.now ≡ length c.args.bytes.now.items = omega arith in
     let m : c.args.len ≡ max (length c.args.bytes.now.items) c.args.len = omega arith in record {
-      items = resized_to _ _ _ _ k (search rules) ∙ ap (resized c.args.bytes.now.items) m;
+      items = resized_to _ _ _ _ k (search rules) ∙ ap (resize c.args.bytes.now.items) m;
       capacity = search rules;
     }
 

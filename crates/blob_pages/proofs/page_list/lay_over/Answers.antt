@@ -1,5 +1,5 @@
 use Rattle.std.proofs.Common.{rules, ◌≡◌, ℕ, ◌+◌, ◌∙◌, ap, sym, length, max, arith}
-use Rattle.blob_model.specs.Bytes.{overlay, resized}
+use Rattle.blob_model.specs.Bytes.{overlay, resize}
 use Rattle.blob_model.proofs.Bytes.{reach_all}
 use Rattle.blob_pages.specs.Paged.{bytes_in}
 use Rattle.blob_pages.proofs.Paged.{length-bytes_in, extended_bytes, laid_over, overlay_grown, owned_through, written_back}
@@ -30,9 +30,9 @@ returns-clause-changes c =
       ok = laid_over c.as_mut_slice-2.result.now c.lay.new.pages n c.args.offset c.args.run.now (omega arith) c.lay.ensures
           ∙ ap (λ ps. overlay (bytes_in ps n) c.args.offset c.args.run.now) at'
           ∙ ap (λ b. overlay b c.args.offset c.args.run.now)
-          (ap (bytes_in c.blank_to-len.new.pages) (sym is) ∙ c.blank_to-len.ensures.blanks.bytes ∙ ap (resized (bytes_in c.as_mut_slice.result.now c.args.old)) is
-          ∙ ap (λ ps. resized (bytes_in ps c.args.old) n) at
-          ∙ ap (λ b. resized b n) (extended_bytes c.args.pages.now.items c.take_room.new.pages.items c.args.old c.requires.held c.take_room.ensures.extends))
+          (ap (bytes_in c.blank_to-len.new.pages) (sym is) ∙ c.blank_to-len.ensures.blanks.bytes ∙ ap (resize (bytes_in c.as_mut_slice.result.now c.args.old)) is
+          ∙ ap (λ ps. resize (bytes_in ps c.args.old) n) at
+          ∙ ap (λ b. resize b n) (extended_bytes c.args.pages.now.items c.take_room.new.pages.items c.args.old c.requires.held c.take_room.ensures.extends))
           ∙ overlay_grown (bytes_in c.args.pages.now.items c.args.old) c.args.offset c.args.run.now n (omega (arith, length-bytes_in c.args.pages.now.items c.args.old, reach_all c.args.offset (length c.args.run.now) c.requires.some));
       there = omega (arith, len, len', c.in_ok-take_room.ensures.there, c.requires.held, c.take_room.ensures.extends.more);
       err = tt;

@@ -1,5 +1,5 @@
 use Rattle.std.proofs.Common.{rules, ◌≡◌, ◌∙◌, ap, length, arith}
-use Rattle.blob_model.specs.Bytes.{resized}
+use Rattle.blob_model.specs.Bytes.{resize}
 use Rattle.blob_pages.specs.Paged.{bytes_in}
 use Rattle.blob_pages.proofs.Paged.{extended_bytes, blanked, cut_bytes, owned_through, owned_same, written_back}
 use Rattle.blob_pages.proofs.page_list.set_len.Goals as goal
@@ -20,8 +20,8 @@ returns-in_ok-take_room c =
     let len : length c.blank.new.pages ≡ length c.take_room.new.pages.items = c.blank.ensures.same ∙ ap length at in
     rw (written_back c.take_room.new.pages.items c.blank.new.pages c.take_room.new.pages.len (omega arith) len) (record {
       ok = blanked c.as_mut_slice.result.now c.blank.new.pages c.args.old c.args.len (omega arith) c.blank.ensures
-          ∙ ap (λ ps. resized (bytes_in ps c.args.old) c.args.len) at
-          ∙ ap (λ b. resized b c.args.len) (extended_bytes c.args.pages.now.items c.take_room.new.pages.items c.args.old c.requires.held c.take_room.ensures.extends);
+          ∙ ap (λ ps. resize (bytes_in ps c.args.old) c.args.len) at
+          ∙ ap (λ b. resize b c.args.len) (extended_bytes c.args.pages.now.items c.take_room.new.pages.items c.args.old c.requires.held c.take_room.ensures.extends);
       there = omega (arith, len, c.in_ok-take_room.ensures.there);
       err = tt;
       more = omega (arith, len, c.take_room.ensures.extends.more);

@@ -1,6 +1,6 @@
 use Rattle.std.proofs.Common.{◌≡◌, ◌-◌, ◌∙◌, ap, length, arith}
 use Rattle.blob_model.specs.Bytes.{overlay, overlay_by}
-use Rattle.blob_model.specs.Runs.{picked}
+use Rattle.blob_model.specs.Runs.{is_chosen}
 use Rattle.blob_model.proofs.Bytes.{reach_below, above_chosen}
 use Rattle.blob_overlay.proofs.Overlays.{written_back}
 use Rattle.blob_pages.specs.Values.{bytes}
@@ -14,8 +14,8 @@ copy_chosen-requires-clause-inside c =
       arith,
       ap length c.as_mut_slice.ensures.value,
       c.in_ok-all.ensures.len,
-      reach_below 0 (length c.args.run.now) (picked c.args.keep.now) (c.args.end - o)
-          (λ i h e. omega (arith, c.requires.end, above_chosen o (length c.args.run.now) (picked c.args.keep.now) i h e)),
+      reach_below 0 (length c.args.run.now) (is_chosen c.args.keep.now) (c.args.end - o)
+          (λ i h e. omega (arith, c.requires.end, above_chosen o (length c.args.run.now) (is_chosen c.args.keep.now) i h e)),
     )
 
 pub returns-clause-laid : goal.returns-clause-laid
@@ -27,6 +27,6 @@ returns-clause-laid c =
     let size : length t ≡ n = omega (arith, c.in_ok-all.ensures.len) in
     let same : length c.copy_chosen.new.bytes ≡ length t = omega (arith, c.copy_chosen.auto.bytes, ap length c.as_mut_slice.ensures.value) in
     ap (overlay x o) (written_back t c.copy_chosen.new.bytes _ (omega arith) same
-    ∙ c.copy_chosen.ensures ∙ ap (λ l. overlay_by l 0 c.args.run.now (picked c.args.keep.now)) c.as_mut_slice.ensures.value)
-    ∙ mixed_is x t o n c.args.run.now (picked c.args.keep.now) (omega (arith, c.requires.some)) (omega (arith, c.requires.some, c.requires.end)) size
+    ∙ c.copy_chosen.ensures ∙ ap (λ l. overlay_by l 0 c.args.run.now (is_chosen c.args.keep.now)) c.as_mut_slice.ensures.value)
+    ∙ mixed_is x t o n c.args.run.now (is_chosen c.args.keep.now) (omega (arith, c.requires.some)) (omega (arith, c.requires.some, c.requires.end)) size
     (λ i h. c.in_ok-all.ensures.each i (omega (arith, h, size)))

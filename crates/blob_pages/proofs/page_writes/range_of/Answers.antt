@@ -1,5 +1,5 @@
 use Rattle.std.proofs.Common.{rules, ◌≡◌, ◌-◌, ◌++◌, ◌∙◌, ap, min, length, take, drop, vec_len, arith}
-use Rattle.blob_model.specs.Bytes.{resized}
+use Rattle.blob_model.specs.Bytes.{resize}
 use Rattle.blob_model.proofs.Bytes.{length-resized}
 use Rattle.blob_overlay.proofs.Overlays.{resized_to}
 use Rattle.blob_pages.specs.Values.{bytes}
@@ -15,7 +15,7 @@ returns c =
     let from = c.min-from.result in
     let count = c.min.result - c.min-from.result in
     let k : vec_len c.append.new.out ≡ length c.append.new.out.items = omega arith in
-    let sized : t ≡ resized c.append.new.out.items n = resized_to _ _ _ _ k (search rules) in
+    let sized : t ≡ resize c.append.new.out.items n = resized_to _ _ _ _ k (search rules) in
     let size : length t ≡ n = ap length sized ∙ length-resized c.append.new.out.items n in
     let ef : from ≡ min o (length x) = omega (arith, c.min-from.ensures, c.len.ensures.len) in
     let ec : count ≡ min c.args.end (length x) - from = omega (arith, c.min.ensures, c.len-2.ensures.len) in

@@ -6,7 +6,7 @@ use Rattle.blob_model.specs.Pending.{has_marker, waiting}
 use Rattle.blob_pending.specs.declared.entry.Entry.{Entry}
 use Rattle.blob_pending.specs.declared.incarnation.Incarnation.{Incarnation}
 use Rattle.blob_draws.specs.Drawings.{Drawing, drawings_of, drawings_in}
-use Rattle.blob_pending.specs.Lists.{held}
+use Rattle.blob_pending.specs.Lists.{lists_of}
 use Rattle.blob_pending.specs.Views.{left_in}
 use Rattle.blob_pending.proofs.Gathering.{lists_more}
 use Rattle.blob_pending.proofs.Unmarked.{unmarked_waits, unmarked_none}
@@ -20,7 +20,7 @@ loop-list-preserved g c place =
     let x = c.list-item.result in
     let i = c.loop-list.list-index in
     let done : List Drawing = drawings_in c.loop-list.draws.items in
-    let later : List Drawing = drawings_of (waiting_of_all (held place (drop (i + 1) c.args.lists.now))) in
+    let later : List Drawing = drawings_of (waiting_of_all (lists_of place (drop (i + 1) c.args.lists.now))) in
     let here : waiting (left_in c.unmarked.result.now) ≡ waiting (left_in x.entries.items) = ap waiting c.unmarked.ensures ∙ unmarked_waits (left_in c.deref.result.now) ∙ ap (λ (q : List Entry). waiting (left_in q)) c.deref.ensures.value in
     ap (λ (l : List Drawing). l ++ later) (c.in_ok-gather_unmarked.ensures ∙ ap (λ (ns : List Need). done ++ drawings_of ns) here)
     ∙ append_assoc done (drawings_of (waiting (left_in x.entries.items))) later
@@ -30,4 +30,4 @@ loop-list-preserved g c place =
 pub returns : goal.returns
 returns g c place =
     let done : List Drawing = drawings_in c.loop-list.draws.items in
-    sym (append-nil done) ∙ sym (ap (λ (l : List Drawing). done ++ l) (at_drop_all (λ (l : List (Incarnation g.row.O.Denot)). drawings_of (waiting_of_all (held place l))) c.args.lists.now c.loop-list.list-index (omega arith))) ∙ c.loop-list.invariant place
+    sym (append-nil done) ∙ sym (ap (λ (l : List Drawing). done ++ l) (at_drop_all (λ (l : List (Incarnation g.row.O.Denot)). drawings_of (waiting_of_all (lists_of place l))) c.args.lists.now c.loop-list.list-index (omega arith))) ∙ c.loop-list.invariant place

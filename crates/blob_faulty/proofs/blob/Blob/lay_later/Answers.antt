@@ -4,7 +4,7 @@ use Rattle.std.proofs.lemmas.Bool.{cases_Bool}
 use Rattle.std.proofs.lemmas.Grind.{common_steps}
 use Rattle.std.proofs.lemmas.Option.{none-some}
 use Rattle.blob_model.specs.Directory.{is_current}
-use Rattle.blob_header.specs.Refusals.{Refusal, WriteFailed, refused}
+use Rattle.blob_header.specs.Refusals.{Refusal, WriteFailed, error_of}
 use Rattle.blob_model.specs.Runs.{Run}
 use Rattle.blob_pending.specs.Lists.{HasRoomAt}
 use Rattle.blob_faulty.specs.Pieces.{run_of, runs_in, extents, EndsWithin}
@@ -12,7 +12,7 @@ use Rattle.blob_pending.proofs.HoleRoom.{first_at}
 use Rattle.blob_faulty.proofs.RunSteps.{ok_holds, is_refused, is_done, popped, later_within, first_within}
 use Rattle.blob_base.specs.HandleCalls.{Write}
 use Rattle.blob_faulty.specs.Asked.{Made, run_calls}
-use Rattle.blob_faulty.specs.Writes.{seen}
+use Rattle.blob_faulty.specs.Writes.{view_of}
 use Rattle.blob_faulty.proofs.Asking.{then_made}
 use Rattle.blob_faulty.proofs.Fronts.{up_to_first, up_to_next, front_refused, some_refusal}
 use Rattle.blob_faulty.proofs.Writing.{one_less, all_laid, later_refused}
@@ -50,7 +50,7 @@ returns-then-is_err-clause-laid g c = record {
       let e : runs_in c.loop-run.pieces.items ≡ run_of c.in-Some.run' ∷ runs_in c.pop.new.self.items = popped _ _ c.in-Some.run' c.in-Some.ensures.items in
       let failed = is_refused c.lay_range.result (sym c.is_err.ensures.value ∙ c.if-is_err.true) in
       front_refused g.B.Blob.leaves _ _ _ _ _ _ _ _ _ _ (run_of c.in-Some.run') (runs_in c.pop.new.self.items) failed.0 (rw e at c.loop-run.invariant.laid)
-      (c.lay_range.ensures.recorded.refused refl (some_refusal (refused c.lay_range.result) failed.0 failed.1))
+      (c.lay_range.ensures.recorded.refused refl (some_refusal (error_of c.lay_range.result) failed.0 failed.1))
       (subst (λ (a : Option Refusal). g.B.Blob.leaves (Write c.in-Some.run'.offset c.in-Some.run'.bytes true) c.loop-run.self.inner c.loop-run.store.inner a c.lay_range.new.self.inner c.lay_range.new.store.inner) failed.1 c.lay_range.ensures.asked);
 }
 
@@ -84,7 +84,7 @@ loop-run-init g c = record {
   within = c.requires.within;
   some = λ none. none;
   left = record { live = refl; durable = refl; size = refl; logs = λ later k. k; directory = refl; place = refl; config = refl; rng = refl };
-  laid = up_to_first g.B.Blob.leaves c.args.self.now.inner c.args.store.now.inner (seen g.S.Durable g.B.Blob c.args.self.now c.args.store.now) (runs_in c.args.pieces.items);
+  laid = up_to_first g.B.Blob.leaves c.args.self.now.inner c.args.store.now.inner (view_of g.S.Durable g.B.Blob c.args.self.now c.args.store.now) (runs_in c.args.pieces.items);
   asked = λ answer x y made. made;
 }
 
@@ -100,7 +100,7 @@ loop-run-preserved g c =
       room = ok_holds c.lay_range.result ok l.left (extents rest) (subst (λ (rs : List Run). HasRoomAt g.S.Durable.place c.loop-run.store.lists.all.lists.items c.args.list (g.B.Blob.place c.loop-run.self.inner) (extents rs)) e i.room);
       within = λ d. later_within _ _ (run_of c.in-Some.run') rest (ok_holds c.lay_range.result ok l.kept_room) (subst (λ (rs : List Run). All (EndsWithin (g.B.Blob.room c.loop-run.self.inner c.loop-run.store.inner)) rs) e (i.within d));
       some = λ none. never (sym e ∙ i.some none);
-      left = one_less g.B.Blob.is_direct _ _ _ _ (run_of c.in-Some.run') rest (refused c.lay_range.result) (is_done c.lay_range.result ok)
+      left = one_less g.B.Blob.is_direct _ _ _ _ (run_of c.in-Some.run') rest (error_of c.lay_range.result) (is_done c.lay_range.result ok)
           (rw e at i.left) l.recorded;
       laid = up_to_next g.B.Blob.leaves _ _ _ _ _ _ _ _ _ _ (run_of c.in-Some.run') rest i.left.place (rw e at i.laid) (ok_holds c.lay_range.result ok l.laid)
           (subst (λ (a : Option Refusal). g.B.Blob.leaves (Write c.in-Some.run'.offset c.in-Some.run'.bytes true) c.loop-run.self.inner c.loop-run.store.inner a c.lay_range.new.self.inner c.lay_range.new.store.inner) (is_done c.lay_range.result ok) l.asked);

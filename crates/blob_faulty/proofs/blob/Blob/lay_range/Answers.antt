@@ -3,10 +3,10 @@ use Rattle.std.proofs.lemmas.Grind.{common_steps}
 use Rattle.blob_model.specs.Durable.{with_at}
 use Rattle.blob_model.specs.Log.{Kept}
 use Rattle.blob_model.specs.Order.{held_at}
-use Rattle.blob_model.specs.Pending.{laid}
+use Rattle.blob_model.specs.Pending.{apply_durable}
 use Rattle.blob_model.specs.Places.{Place}
-use Rattle.blob_pending.specs.Lists.{held, IsAt}
-use Rattle.blob_faulty.specs.Writes.{View, Logs, seen}
+use Rattle.blob_pending.specs.Lists.{lists_of, IsAt}
+use Rattle.blob_faulty.specs.Writes.{View, Logs, view_of}
 use Rattle.blob_pending.proofs.HoleRoom.{room_stays}
 use Rattle.blob_faulty.proofs.Writing.{kept_logs, some_written}
 use Rattle.blob_faulty.proofs.blob.Blob.lay_range.Given.{Over}
@@ -19,12 +19,12 @@ lay-requires-clause-room g c = record {
 }
 
 abbrev old : (g : Over) (c : goal.After-lay g) → View g.row.R.Denot
-old g c = seen g.S.Durable g.B.Blob c.args.self.now c.args.store.now
+old g c = view_of g.S.Durable g.B.Blob c.args.self.now c.args.store.now
 
 abbrev new : (g : Over) (c : goal.After-lay g) → View g.row.R.Denot
-new g c = seen g.S.Durable g.B.Blob (record c.args.self.now { inner = c.write_at.new.self; size = c.max-self.result }) (record c.args.store.now { inner = c.write_at.new.store; lists = c.lay.new.self })
+new g c = view_of g.S.Durable g.B.Blob (record c.args.self.now { inner = c.write_at.new.self; size = c.max-self.result }) (record c.args.store.now { inner = c.write_at.new.store; lists = c.lay.new.self })
 
-lists : (g : Over) (c : goal.After-lay g) (a : Place) → held_at (new g c).held a ≡ with_at (held_at (old g c).held) (old g c).place (laid c.args.offset c.args.bytes (held_at (old g c).held (old g c).place)) a
+lists : (g : Over) (c : goal.After-lay g) (a : Place) → held_at (new g c).lists_of a ≡ with_at (held_at (old g c).lists_of) (old g c).place (apply_durable c.args.offset c.args.bytes (held_at (old g c).lists_of (old g c).place)) a
 lists g c = c.lay.ensures.lists (old g c).place c.requires.room.at c.args.bytes (sym c.remaining-len.ensures) c.requires.copied
 
 pub returns-clause-recorded : goal.returns-clause-recorded
@@ -58,7 +58,7 @@ returns-clause-laid g c = record {
 
 pub returns-clause-left : goal.returns-clause-left
 returns-clause-left g c later h = record {
-  at = subst (λ (o : Place). IsAt (held g.S.Durable.place c.lay.new.self.all.lists.items) c.args.list o) (sym c.in_ok-write_at.ensures.place) (c.lay.ensures.at _ h.at);
+  at = subst (λ (o : Place). IsAt (lists_of g.S.Durable.place c.lay.new.self.all.lists.items) c.args.list o) (sym c.in_ok-write_at.ensures.place) (c.lay.ensures.at _ h.at);
   inside = first_of (search rules, grind (arith, common_steps));
   ranges = c.lay.ensures.room later (room_stays c.args.store.now.lists.all.lists.items c.args.store.now.lists.all.lists.items c.args.list c.args.offset c.remaining-len.result (length c.args.bytes) later refl c.remaining-len.ensures h.ranges);
 }

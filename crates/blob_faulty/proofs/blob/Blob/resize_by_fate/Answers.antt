@@ -2,7 +2,7 @@ use Rattle.std.proofs.Common.{rules, ◌≡◌, true, false, [], ◌∷◌, Opti
 use Rattle.std.specs.Prelude.{◌⊎◌, IsSome}
 use Rattle.std.proofs.lemmas.Grind.{common_steps}
 use Rattle.blob_base.specs.HandleCalls.{Resize}
-use Rattle.blob_header.specs.Refusals.{Refusal, Injected, refused, refusal_of}
+use Rattle.blob_header.specs.Refusals.{Refusal, Injected, error_of, refusal_of}
 use Rattle.blob_draws.specs.Answers.{injected_for}
 use Rattle.blob_draws.specs.Fates.{resize_fate_of}
 use Rattle.blob_draws.specs.Faults.{ResizeFate, Resizes, Stays, Reaches}
@@ -18,14 +18,14 @@ pub returns-in-Resizes-true-clause-asked : goal.returns-in-Resizes-true-clause-a
 returns-in-Resizes-true-clause-asked g c =
     let fate : resize_fate_of c.args.fate ≡ Resizes true = first_of (search rules, cc, grind (arith, common_steps)) in
     let r = c.resize_pending in
-    subst (λ (f : ResizeFate). AsksResize g.B.Blob c.args.self.now c.args.store.now r.new.self r.new.store f c.args.len (refused r.result)) (sym fate)
+    subst (λ (f : ResizeFate). AsksResize g.B.Blob c.args.self.now c.args.store.now r.new.self r.new.store f c.args.len (error_of r.result)) (sym fate)
     (asked_once g.B.Blob c.args.self.now c.args.store.now r.new.self r.new.store (Resize c.args.len) _ r.ensures.asked)
 
 pub returns-in-Resizes-false-clause-asked : goal.returns-in-Resizes-false-clause-asked
 returns-in-Resizes-false-clause-asked g c =
     let fate : resize_fate_of c.args.fate ≡ Resizes false = first_of (search rules, cc, grind (arith, common_steps)) in
     let r = c.resize_unrecorded in
-    subst (λ (f : ResizeFate). AsksResize g.B.Blob c.args.self.now c.args.store.now r.new.self r.new.store f c.args.len (refused r.result)) (sym fate)
+    subst (λ (f : ResizeFate). AsksResize g.B.Blob c.args.self.now c.args.store.now r.new.self r.new.store f c.args.len (error_of r.result)) (sym fate)
     (inr (once g.B.Blob.leaves (Resize c.args.len) _ _ _ _ _ r.ensures.asked))
 
 pub returns-in-Stays-clause-asked : goal.returns-in-Stays-clause-asked
@@ -41,20 +41,20 @@ returns-in_ok-resize_pending-in-Reaches-clause-asked g c =
     (asked_once g.B.Blob c.args.self.now c.args.store.now r.new.self r.new.store (Resize c.in-Reaches.size) None c.in_ok-resize_pending-in-Reaches.ensures.asked))
 
 -- if that is refused, the resize returns the same error
-same_answer : (g : Over) (c : goal.After-from_residual g) → refused c.resize_pending-in-Reaches.result ≡ refused c.from_residual.result
+same_answer : (g : Over) (c : goal.After-from_residual g) → error_of c.resize_pending-in-Reaches.result ≡ error_of c.from_residual.result
 same_answer g c = first_of (search rules, cc, grind (arith, common_steps))
 
-refusal : (g : Over) (c : goal.After-from_residual g) → IsSome (refused c.resize_pending-in-Reaches.result)
+refusal : (g : Over) (c : goal.After-from_residual g) → IsSome (error_of c.resize_pending-in-Reaches.result)
 refusal g c = first_of (search rules, cc, grind (arith, common_steps))
 
 pub returns-in_err-resize_pending-in-Reaches-clause-asked : goal.returns-in_err-resize_pending-in-Reaches-clause-asked
 returns-in_err-resize_pending-in-Reaches-clause-asked g c =
     let r = c.resize_pending-in-Reaches in
     let fate : resize_fate_of c.args.fate ≡ Reaches c.in-Reaches.size = ap resize_fate_of c.in-Reaches.is in
-    let same : refused r.result ≡ refused c.from_residual.result = same_answer g c in
-    let some : IsSome (refused r.result) = refusal g c in
+    let same : error_of r.result ≡ error_of c.from_residual.result = same_answer g c in
+    let some : IsSome (error_of r.result) = refusal g c in
     rw fate (subst (λ (a : Option Refusal). Unasked g.B.Blob c.args.self.now c.args.store.now r.new.self r.new.store a ⊎ injected_for (InnerMade g.B.Blob c.args.self.now c.args.store.now r.new.self r.new.store (Resize c.in-Reaches.size ∷ [])) a) same
-    (refused_too g.B.Blob c.args.self.now c.args.store.now r.new.self r.new.store (InnerMade g.B.Blob c.args.self.now c.args.store.now r.new.self r.new.store (Resize c.in-Reaches.size ∷ [])) (refused r.result) some
+    (refused_too g.B.Blob c.args.self.now c.args.store.now r.new.self r.new.store (InnerMade g.B.Blob c.args.self.now c.args.store.now r.new.self r.new.store (Resize c.in-Reaches.size ∷ [])) (error_of r.result) some
     (asked_once g.B.Blob c.args.self.now c.args.store.now r.new.self r.new.store (Resize c.in-Reaches.size) _ r.ensures.asked)))
 
 -- What is recorded.
@@ -80,9 +80,9 @@ pub returns-in_err-resize_pending-in-Reaches-clause-resized : goal.returns-in_er
 returns-in_err-resize_pending-in-Reaches-clause-resized g c =
     let r = c.resize_pending-in-Reaches in
     let e = c.in_err-resize_pending-in-Reaches.field-0.0 in
-    let same : refused r.result ≡ refused c.from_residual.result = same_answer g c in
+    let same : error_of r.result ≡ error_of c.from_residual.result = same_answer g c in
     of_fate _ _ _ _ _ _ (Reaches c.in-Reaches.size) (ap resize_fate_of c.in-Reaches.is) (rw (sym same)
-    (reaches_none c.in-Reaches.size _ _ _ _ (g.B.Blob.allows_resize c.args.self.now.inner c.args.store.now.inner c.in-Reaches.size) (refused r.result) (refusal_of e) (same ∙ first_of (search rules, cc))
+    (reaches_none c.in-Reaches.size _ _ _ _ (g.B.Blob.allows_resize c.args.self.now.inner c.args.store.now.inner c.in-Reaches.size) (error_of r.result) (refusal_of e) (same ∙ first_of (search rules, cc))
     (λ direct. g.met.B.Blob.resize_uninjected c.args.self.now.inner c.args.store.now.inner c.in-Reaches.size direct) r.ensures.allowed r.ensures.recorded))
 
 -- What is recorded if a draw fails it.

@@ -1,6 +1,6 @@
 use Rattle.std.proofs.Common.{rules, ◌≡◌, ◌<◌, [], length, arith, refl, sym, subst, ap, List, ℕ, ◌+◌, ◌^◌}
 use Rattle.std.specs.Prelude.{IsSome, None, Some, ◌==◌, ◌-◌, false}
-use Rattle.blob_header.specs.Refusals.{refused}
+use Rattle.blob_header.specs.Refusals.{error_of}
 use Rattle.blob_faulty.specs.declared.storage.Storage.{Storage}
 use Rattle.std.proofs.lemmas.Grind.{common_steps}
 use Rattle.blob_draws.specs.Faults.{retention}
@@ -19,9 +19,9 @@ returns-clause-recorded g c =
 pub returns-in_err-write_unrecorded-clause-recorded : goal.returns-in_err-write_unrecorded-clause-recorded
 returns-in_err-write_unrecorded-clause-recorded g c =
     let r = c.write_unrecorded-2 in
-    let same : refused r.result ≡ refused c.from_residual-in_err-write_unrecorded.result = first_of (search rules, cc, grind (arith, common_steps)) in
-    let some : IsSome (refused r.result) = first_of (search rules, cc, grind (arith, common_steps)) in
-    rw (sym same) (refused_behind g.S.Durable g.B.Blob c.args.self.now r.new.self c.args.store.now c.room_for.new.store r.new.store c.args.offset (g.P.Payload.bytes c.args.bytes) _ (refused r.result) refl some
+    let same : error_of r.result ≡ error_of c.from_residual-in_err-write_unrecorded.result = first_of (search rules, cc, grind (arith, common_steps)) in
+    let some : IsSome (error_of r.result) = first_of (search rules, cc, grind (arith, common_steps)) in
+    rw (sym same) (refused_behind g.S.Durable g.B.Blob c.args.self.now r.new.self c.args.store.now c.room_for.new.store r.new.store c.args.offset (g.P.Payload.bytes c.args.bytes) _ (error_of r.result) refl some
     (relisted g.S.Durable g.B.Blob c.args.self.now c.args.self.now c.args.store.now c.room_for.new.store refl refl c.room_for.ensures.rest c.room_for.ensures.same) (same_rest g.S.Durable g.B.Blob c.args.self.now r.new.self c.room_for.new.store r.new.store r.ensures.rest) (first_of (search rules, cc)) r.ensures.wrote)
 
 -- If nothing must be recorded.
@@ -44,12 +44,12 @@ returns-then-store-clause-recorded g c = unasked _ _ _ _ _ _ refl refl (same_vie
 
 pub returns-in_err-copy-clause-recorded : goal.returns-in_err-copy-clause-recorded
 returns-in_err-copy-clause-recorded g c =
-    let some : IsSome (refused c.from_residual.result) = first_of (search rules, grind (arith, common_steps)) in
+    let some : IsSome (error_of c.from_residual.result) = first_of (search rules, grind (arith, common_steps)) in
     unasked _ _ _ _ _ _ some (unwritten _ _ _ _ some) (same_view _)
 
 pub returns-in_err-list-clause-recorded : goal.returns-in_err-list-clause-recorded
 returns-in_err-list-clause-recorded g c =
-    let some : IsSome (refused c.from_residual-in_err-list.result) = first_of (search rules, grind (arith, common_steps)) in
+    let some : IsSome (error_of c.from_residual-in_err-list.result) = first_of (search rules, grind (arith, common_steps)) in
     unasked _ _ _ _ _ _ some (unwritten _ _ _ _ some) (relisted g.S.Durable g.B.Blob c.args.self.now c.args.self.now c.args.store.now c.room_for.new.store refl refl c.room_for.ensures.rest c.room_for.ensures.same)
 
 -- What it may return, and what was asked.
@@ -68,8 +68,8 @@ pub returns-in_err-write_unrecorded-clause-allowed : goal.returns-in_err-write_u
 returns-in_err-write_unrecorded-clause-allowed g c =
     let left : (c.args.store.now.next_write == 2 ^ 64 - 1) ≡ false = first_of (search rules, grind (arith, common_steps)) in
     let r = c.write_unrecorded-2 in
-    let same : refused r.result ≡ refused c.from_residual-in_err-write_unrecorded.result = first_of (search rules, cc, grind (arith, common_steps)) in
-    rw (sym same) (allowed_behind g.B.Blob c.args.self.now c.args.store.now c.room_for.new.store c.args.offset (g.P.Payload.bytes c.args.bytes) _ (refused r.result) refl c.room_for.ensures.rest left r.ensures.allowed)
+    let same : error_of r.result ≡ error_of c.from_residual-in_err-write_unrecorded.result = first_of (search rules, cc, grind (arith, common_steps)) in
+    rw (sym same) (allowed_behind g.B.Blob c.args.self.now c.args.store.now c.room_for.new.store c.args.offset (g.P.Payload.bytes c.args.bytes) _ (error_of r.result) refl c.room_for.ensures.rest left r.ensures.allowed)
 
 -- The entry is of the bytes that were copied.
 

@@ -1,8 +1,8 @@
 use Rattle.std.proofs.Common.{rules, ℕ, List, ◌≢◌, ◌∙◌, true, ◌+◌, ◌∷◌, [], length, sym, subst, arith}
 use Rattle.std.proofs.lemmas.Grind.{common_steps}
-use Rattle.blob_header.specs.Refusals.{refused}
+use Rattle.blob_header.specs.Refusals.{error_of}
 use Rattle.blob_pending.specs.Rooms.{AreWithin}
-use Rattle.blob_faulty.specs.Writes.{View, Recorded, Unchanged, seen, laid_runs}
+use Rattle.blob_faulty.specs.Writes.{View, Recorded, Unchanged, view_of, laid_runs}
 use Rattle.blob_faulty.proofs.Adding.{some_byte}
 use Rattle.blob_pending.proofs.HoleRoom.{one_within}
 use Rattle.blob_faulty.proofs.Writing.{runs_after}
@@ -21,9 +21,9 @@ lay_range-requires-clause-room g c =
 
 pub returns-clause-recorded : goal.returns-clause-recorded
 returns-clause-recorded g c =
-    let old : View g.row.R.Denot = seen g.S.Durable g.B.Blob c.args.self.now c.args.store.now in
-    let mid : View g.row.R.Denot = seen g.S.Durable g.B.Blob (record c.args.self.now { list = c.in_ok-list.list }) c.room_for.new.store in
-    let new : View g.row.R.Denot = seen g.S.Durable g.B.Blob c.lay_range.new.self c.lay_range.new.store in
+    let old : View g.row.R.Denot = view_of g.S.Durable g.B.Blob c.args.self.now c.args.store.now in
+    let mid : View g.row.R.Denot = view_of g.S.Durable g.B.Blob (record c.args.self.now { list = c.in_ok-list.list }) c.room_for.new.store in
+    let new : View g.row.R.Denot = view_of g.S.Durable g.B.Blob c.lay_range.new.self c.lay_range.new.store in
     let room : Unchanged old mid = first_of (search rules, grind (arith, common_steps)) in
-    subst (λ (b : List ℕ). Recorded g.B.Blob.is_direct true old new (laid_runs ((c.args.offset, b) ∷ [])) (refused c.lay_range.result)) c.in_ok-owned.ensures.ok
-    (runs_after g.B.Blob.is_direct true old mid new ((c.args.offset, c.in_ok-owned.owned) ∷ []) (refused c.lay_range.result) room c.lay_range.ensures.recorded)
+    subst (λ (b : List ℕ). Recorded g.B.Blob.is_direct true old new (laid_runs ((c.args.offset, b) ∷ [])) (error_of c.lay_range.result)) c.in_ok-owned.ensures.ok
+    (runs_after g.B.Blob.is_direct true old mid new ((c.args.offset, c.in_ok-owned.owned) ∷ []) (error_of c.lay_range.result) room c.lay_range.ensures.recorded)

@@ -2,7 +2,7 @@ use Rattle.std.proofs.Common.{rules, ◌≡◌, Option, None, sym, subst, arith}
 use Rattle.std.specs.Prelude.{IsSome}
 use Rattle.std.proofs.lemmas.Grind.{common_steps}
 use Rattle.blob_base.specs.Handles.{outcome_of, marker_of}
-use Rattle.blob_header.specs.Refusals.{Refusal, refused}
+use Rattle.blob_header.specs.Refusals.{Refusal, error_of}
 use Rattle.blob_faulty.specs.HandleLeaves.{StartLeaves}
 use Rattle.blob_faulty.proofs.SyncSteps.{marker_starts, records_of, refused_steps}
 use Rattle.blob_faulty.proofs.blob.BlobBlobStorage.start_sync.Goals as goal
@@ -12,7 +12,7 @@ returns-in-Ok-clause-leaves g c =
     let old = c.args.store.now in
     let new = c.start_marked.new.store in
     let made = c.in-Ok.ensures in
-    let none : refused (outcome_of c.marked.result) ≡ None = first_of (search rules, grind (arith, common_steps)) in
+    let none : error_of (outcome_of c.marked.result) ≡ None = first_of (search rules, grind (arith, common_steps)) in
     subst (λ (a : Option Refusal). StartLeaves g.S.Durable g.B.Blob g.S.Storage.leaves_finish g.R.Rng.stream (marker_of c.marked.result) c.args.self.now old a c.start_marked.new.self new) (sym none) (record {
       drawn = first_of (search rules, grind (arith, common_steps));
       inner = first_of (search rules, grind (arith, common_steps));
@@ -33,7 +33,7 @@ returns-in-Err-clause-leaves g c =
     let old = c.args.store.now in
     let new = c.start_marked.new.store in
     let synced = c.start_marked.ensures.synced in
-    let refusal : IsSome (refused c.start_marked.result) = first_of (search rules, cc, grind (arith, common_steps)) in
+    let refusal : IsSome (error_of c.start_marked.result) = first_of (search rules, cc, grind (arith, common_steps)) in
     record {
       drawn = first_of (search rules, grind (arith, common_steps));
       inner = first_of (search rules, grind (arith, common_steps));
@@ -45,5 +45,5 @@ returns-in-Err-clause-leaves g c =
       pending = first_of (search rules, grind (arith, common_steps));
       started = first_of (search rules, grind (arith, common_steps));
       unrecorded = λ some. records_of g.S.Durable g.B.Blob c.args.self.now c.start_marked.new.self old new c.draws.new.rng (synced.unrecorded refusal) synced.config;
-      same_files = λ some. refused_steps g.S.Durable g.B.Blob c.args.self.now c.start_marked.new.self old new c.draws.new.rng (refused c.start_marked.result) synced refusal;
+      same_files = λ some. refused_steps g.S.Durable g.B.Blob c.args.self.now c.start_marked.new.self old new c.draws.new.rng (error_of c.start_marked.result) synced refusal;
     }

@@ -1,6 +1,6 @@
 use Rattle.std.proofs.Common.{rules, arith}
 use Rattle.std.proofs.lemmas.Grind.{common_steps}
-use Rattle.blob_header.specs.Refusals.{refused}
+use Rattle.blob_header.specs.Refusals.{error_of}
 use Rattle.blob_faulty.proofs.SyncSteps.{sync_publishes, when_ok, records_of, refused_steps}
 use Rattle.blob_faulty.proofs.blob.BlobBlobStorage.sync.Goals as goal
 
@@ -18,5 +18,5 @@ returns-clause-leaves g c =
       published = λ ok. sync_publishes g.S.Durable.place (g.S.Durable.directory old.inner) (g.S.Durable.durable old.inner) (g.S.Durable.durable new.inner) old new (g.B.Blob.place c.args.self.now.inner) (g.B.Blob.live c.args.self.now.inner)
           (synced.done ok) (when_ok c.sync_inner.result ok c.sync_inner.ensures.retired) synced.next_write c.sync_inner.ensures.next_marker;
       unrecorded = λ some. records_of g.S.Durable g.B.Blob c.args.self.now c.sync_inner.new.self old new c.draws.new.rng (synced.unrecorded some) synced.config;
-      same_files = λ some. refused_steps g.S.Durable g.B.Blob c.args.self.now c.sync_inner.new.self old new c.draws.new.rng (refused c.sync_inner.result) synced some;
+      same_files = λ some. refused_steps g.S.Durable g.B.Blob c.args.self.now c.sync_inner.new.self old new c.draws.new.rng (error_of c.sync_inner.result) synced some;
     }

@@ -14,7 +14,7 @@ use Rattle.blob_memory.specs.Store.{directory, durable}
 use Rattle.blob_draws.specs.declared.draw.Draw.{Draw}
 use Rattle.blob_pending.specs.declared.incarnation.Incarnation.{Incarnation}
 use Rattle.blob_draws.specs.Drawings.{drawings_of, drawings_in, rows_drawn}
-use Rattle.blob_pending.specs.Lists.{held, held_by, list_of}
+use Rattle.blob_pending.specs.Lists.{lists_of, held_by, list_of}
 use Rattle.blob_faulty.specs.Ready.{IsReady}
 use Rattle.blob_draws.specs.Rows.{rows_in, table_of, AreNumbered}
 use Rattle.blob_pending.proofs.Distinct.{apart_of}
@@ -41,14 +41,14 @@ returns-clause-rows g c files f =
     let told : (rows_in c.in_ok-rows.rows.items, rest) ≡ rows_drawn s (drawings_in c.in_ok-draws.draws.items) = c.in_ok-rows.ensures ∙ ap (λ (ds : List Draw). rows_drawn s (drawings_in ds)) c.deref-2.ensures.value in
     ap (λ (t : List Row). (t, rest)) table
     ∙ crash_rows (λ (o : Place). o) (directory c.args.self.now.inner) (durable c.args.self.now.inner) c.args.self.now c.in_ok-draws.draws.items s (rows_in c.in_ok-rows.rows.items, rest) (λ a b same. same)
-    (subst (λ (is : List (Incarnation Place)). IsPermutation (drawings_of (waiting_of_all (held (λ (o : Place). o) is))) (drawings_in c.in_ok-draws.draws.items)) c.deref.ensures.value (c.in_ok-draws.ensures.all (λ (o : Place). o)))
+    (subst (λ (is : List (Incarnation Place)). IsPermutation (drawings_of (waiting_of_all (lists_of (λ (o : Place). o) is))) (drawings_in c.in_ok-draws.draws.items)) c.deref.ensures.value (c.in_ok-draws.ensures.all (λ (o : Place). o)))
     c.in_ok-draws.ensures.rising told files f
 
 pub returns-clause-durable : goal.returns-clause-durable
 returns-clause-durable g c o =
     let now : Durable = durable c.reserve_all.new.inner in
     let t : Choices = chosen_by (table_of c.new.result) in
-    c.replay_all.ensures.durable (subst (λ (is : List (Incarnation Place)). ArePlacesApart (held (λ (p : Place). p) is)) (sym c.deref-5.ensures.value) (apart_of (λ (p : Place). p) c.args.self.now.lists.all.lists.items (λ a b same. same) c.args.self.now.lists.all.distinct)) o
+    c.replay_all.ensures.durable (subst (λ (is : List (Incarnation Place)). ArePlacesApart (lists_of (λ (p : Place). p) is)) (sym c.deref-5.ensures.value) (apart_of (λ (p : Place). p) c.args.self.now.lists.all.lists.items (λ a b same. same) c.args.self.now.lists.all.distinct)) o
     ∙ ap (λ (rows : List (ℕ × Vec Bool Global)). replayed_at (chosen_by (rows_in rows)) (list_of (λ (p : Place). p) c.deref-5.result.now o) (now o)) (c.deref-6.ensures.value ∙ sym c.new.ensures)
     ∙ ap (λ (is : List (Incarnation Place)). replayed_at t (list_of (λ (p : Place). p) is o) (now o)) c.deref-5.ensures.value
     ∙ ap (λ (f : Durable). replayed_at t (list_of (λ (p : Place). p) c.args.self.now.lists.all.lists.items o) (f o)) c.reserve_all.ensures.durable

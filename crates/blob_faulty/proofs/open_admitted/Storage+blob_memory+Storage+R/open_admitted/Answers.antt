@@ -1,5 +1,5 @@
 use Rattle.std.proofs.Common.{ap, ◌≡◌, Some, None, rules}
-use Rattle.blob_header.specs.Refusals.{refused, refusal_of}
+use Rattle.blob_header.specs.Refusals.{error_of, refusal_of}
 use Rattle.blob_header.specs.declared.version.BlobVersion.{BlobVersion}
 use Rattle.blob_model.proofs.Openings.{one_version}
 use Rattle.blob_faulty.specs.Admitted.{AdmitsOpen, OpensAdmitted}
@@ -28,6 +28,6 @@ returns-clause-accepted g c =
 pub returns-in_err-blob-clause-answer : goal.returns-in_err-blob-clause-answer
 returns-in_err-blob-clause-answer g c =
     let v = c.new-versions.ensures in
-    let e : refused c.from_residual.result ≡ Some (refusal_of c.in_err-blob.field-0.0) = search rules in
+    let e : error_of c.from_residual.result ≡ Some (refusal_of c.in_err-blob.field-0.0) = search rules in
     rw e (at_versions (λ first last. AdmitsOpen c.args.self.now c.open_versioned_admitted.new.self c.args.partition.now c.args.name.now first last g.R.Rng.stream (Some (refusal_of c.in_err-blob.field-0.0))) _ _ 0 0
     (ap (λ (v : BlobVersion). v.0) v.start) (ap (λ (v : BlobVersion). v.0) v.end) c.in_err-blob.ensures.answer)

@@ -1,6 +1,6 @@
 use Rattle.std.proofs.Common.{◌≡◌, Some, rules}
 use Rattle.std.proofs.lemmas.Bool.{false≢true}
-use Rattle.blob_header.specs.Refusals.{refused, refusal_of}
+use Rattle.blob_header.specs.Refusals.{error_of, refusal_of}
 use Rattle.blob_faulty.specs.Admitted.{OpensAlone, StaysSame}
 use Rattle.blob_header.specs.Versions.{lower, upper}
 use Rattle.blob_memory.specs.Store.{directory, durable}
@@ -35,7 +35,7 @@ stays g c =
 pub returns-in_err-opened-clause-answer : goal.returns-in_err-opened-clause-answer
 returns-in_err-opened-clause-answer g c =
     let w = c.in_err-opened.ensures in
-    let e : refused c.from_residual.result ≡ Some (refusal_of c.in_err-opened.field-0.0) = search rules in
+    let e : error_of c.from_residual.result ≡ Some (refusal_of c.in_err-opened.field-0.0) = search rules in
     rw e (record {
       allowed = w.allowed;
       leaves = leaves_alone g.R.Rng.stream c.args.partition.now c.args.name.now c.args.self.now c.open_versioned.new.self _ w.leaves;

@@ -1,5 +1,5 @@
 use Rattle.std.proofs.Common.{rules, ◌≡◌, Some, refl}
-use Rattle.blob_header.specs.Refusals.{refused, refusal_of}
+use Rattle.blob_header.specs.Refusals.{error_of, refusal_of}
 use Rattle.blob_opens.specs.Opens.{names_of}
 use Rattle.blob_faulty.specs.Admitted.{OpensAlone}
 use Rattle.blob_faulty.specs.Exclusive.{ExclusiveAnswer}
@@ -43,7 +43,7 @@ told g c =
 
 pub returns-in_err-opened-clause-answer : goal.returns-in_err-opened-clause-answer
 returns-in_err-opened-clause-answer g c =
-    let e : refused c.from_residual.result ≡ Some (refusal_of c.in_err-opened.field-0.0) = search rules in
+    let e : error_of c.from_residual.result ≡ Some (refusal_of c.in_err-opened.field-0.0) = search rules in
     rw e (told g c)
 
 pub returns-in_err-opened-clause-keeps : goal.returns-in_err-opened-clause-keeps

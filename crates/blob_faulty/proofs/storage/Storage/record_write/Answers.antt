@@ -5,7 +5,7 @@ use Rattle.blob_model.specs.Holes.{need_in}
 use Rattle.blob_model.specs.Log.{Write, has_bare, need_of}
 use Rattle.blob_model.specs.Pending.{Pending, Waiting}
 use Rattle.blob_model.proofs.Steps.{new_has_bare}
-use Rattle.blob_draws.specs.Faults.{issued}
+use Rattle.blob_draws.specs.Faults.{new_write}
 use Rattle.blob_pending.specs.Lists.{list_of}
 use Rattle.blob_pending.specs.Ranges.{ranges}
 use Rattle.blob_pending.specs.declared.holes.Hole.{Hole}
@@ -20,6 +20,6 @@ fresh w hs none some =
 pub returns-clause-lists : goal.returns-clause-lists
 returns-clause-lists g c o at a =
     let lists = c.args.self.now.lists.all.lists.items in
-    let write : Write = issued c.args.self.now.next_write c.args.offset c.args.bytes.items c.args.config in
+    let write : Write = new_write c.args.self.now.next_write c.args.offset c.args.bytes.items c.args.config in
     c.push.ensures o at a
     ∙ ap (λ (r : List Pending). with_at (list_of g.S.Durable.place lists) o (list_of g.S.Durable.place lists o ++ r) a) (fresh write c.new-holes.result.items c.new-holes.ensures.items c.requires.some)

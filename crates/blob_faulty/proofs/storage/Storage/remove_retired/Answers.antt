@@ -5,7 +5,7 @@ use Rattle.rand_core.specs.Stream.{Stream}
 use Rattle.blob_model.specs.Files.{is_removed_by}
 use Rattle.blob_model.specs.Places.{Place}
 use Rattle.blob_faulty.specs.declared.storage.Storage.{Storage}
-use Rattle.blob_faulty.specs.Names.{emptied}
+use Rattle.blob_faulty.specs.Names.{retire_where}
 use Rattle.blob_faulty.specs.Wrapper.{pending_of}
 use Rattle.blob_faulty.proofs.Naming.{removed_steps}
 use Rattle.blob_faulty.proofs.WriteLeaving.{match_false}
@@ -15,7 +15,7 @@ use Rattle.blob_faulty.proofs.storage.Storage.remove_retired.Goals as goal
 -- what is pending of the incarnations that end is retired
 retired : (g : Over) (c : goal.After-retire_ended g) → (o : Place) →
     pending_of g.S.Durable.place (record c.args.self.now { inner = c.remove.new.self; rng = c.draws.new.rng; lists = c.retire_ended.new.self }) o
-    ≡ emptied (is_removed_by (g.S.Durable.directory c.args.self.now.inner) c.args.partition.now (option_copied c.args.name)) (pending_of g.S.Durable.place c.args.self.now) o
+    ≡ retire_where (is_removed_by (g.S.Durable.directory c.args.self.now.inner) c.args.partition.now (option_copied c.args.name)) (pending_of g.S.Durable.place c.args.self.now) o
 retired g c = search rules
 
 pub returns-clause-files : goal.returns-clause-files

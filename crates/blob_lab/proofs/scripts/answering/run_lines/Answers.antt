@@ -5,7 +5,7 @@ use Rattle.blob_lab_store.specs.LabStands.{LabStandsFor}
 use Rattle.blob_lab.specs.ScriptReading.{preamble_of}
 use Rattle.blob_lab.specs.Scripts.{no_script}
 use Rattle.blob_lab.specs.Streams.{reader_of, writer_of}
-use Rattle.blob_script.specs.Settings.{cleared}
+use Rattle.blob_script.specs.Settings.{no_rates}
 use Rattle.blob_lab_model.specs.States.{start}
 use Rattle.blob_lab.proofs.ScriptStarts.{empty_preamble, no_laboratory, no_call, no_first, all_lines, front_lines}
 use Rattle.blob_lab.proofs.StreamSteps.{told_behind}
@@ -44,7 +44,7 @@ pub returns-clause-all : goal.returns-clause-all
 returns-clause-all g c =
     let new = (goal.at.returns-clause-all g c).After-new-preamble in
     let t = preamble_of c.first_call.new.preamble c.new-lines.result.config in
-    let stands : LabStandsFor c.in-Ok.lab (start t.images t.words cleared) = c.in-Ok.ensures in
+    let stands : LabStandsFor c.in-Ok.lab (start t.images t.words no_rates) = c.in-Ok.ensures in
     on_ok_weaker c.answer_calls-ran.result
     (all_lines (preamble_of c.new-preamble.result c.new-lines.result.config) (same g new) (c.new-lines.result.number + 1) (one g new) t refl
     (g.W.Write.contents (writer_of c.args.output.now)) (g.W.Write.contents (writer_of c.first_call.new.output)) (search rules)
@@ -56,7 +56,7 @@ pub returns-clause-front : goal.returns-clause-front
 returns-clause-front g c =
     let new = (goal.at.returns-clause-front g c).After-new-preamble in
     let t = preamble_of c.first_call.new.preamble c.new-lines.result.config in
-    let stands : LabStandsFor c.in-Ok.lab (start t.images t.words cleared) = c.in-Ok.ensures in
+    let stands : LabStandsFor c.in-Ok.lab (start t.images t.words no_rates) = c.in-Ok.ensures in
     IfErr-weaker c.answer_calls-ran.result _ _
     (λ ending. front_lines (preamble_of c.new-preamble.result c.new-lines.result.config) (same g new) (c.new-lines.result.number + 1) (one g new) t refl
     (g.W.Write.contents (writer_of c.args.output.now)) (g.W.Write.contents (writer_of c.first_call.new.output)) (search rules)

@@ -4,7 +4,7 @@ use Rattle.std.proofs.lemmas.Iterator.Consumers.{YieldsList-end}
 use Rattle.std.proofs.lemmas.List.{map-append, map-id}
 use Rattle.blob_model.specs.Directory.{Directory}
 use Rattle.blob_model.specs.Durable.{Durable}
-use Rattle.blob_model.specs.Files.{wrapped}
+use Rattle.blob_model.specs.Files.{wrap}
 use Rattle.blob_model.specs.Places.{Place}
 use Rattle.blob_faulty.specs.Wrapper.{Stands, inner_of as store_of}
 use Rattle.blob_memory.specs.Contents.{directory_raw}
@@ -12,7 +12,7 @@ use Rattle.blob_memory.specs.Store.{directory, durable}
 use Rattle.blob_memory.specs.declared.storage.Storage as memory
 use Rattle.blob_lab_store.specs.LabStands.{Wrapper}
 use Rattle.blob_faulty.specs.Keeps.{IsFor}
-use Rattle.blob_lab_model.specs.Scripted.{scripted}
+use Rattle.blob_lab_model.specs.Scripted.{scripted_stream}
 use Rattle.blob_lab_model.specs.States.{Image, empty_directory, with_image}
 use Rattle.blob_lab_model.specs.Steps.{with_images}
 use Rattle.blob_lab_store.specs.Tables.{images_of}
@@ -31,8 +31,8 @@ nothing_durable : (f : Durable) → ((o : Place) → f o ≡ None) → (o : Plac
 nothing_durable f none o x e = let n = none o in absurd (cc)
 
 -- a newly made wrapper represents the files of its store's directory
-made_for : (w : Wrapper) (s : memory.Storage) (d : Directory) → store_of w ≡ s → directory s ≡ d → Stands (λ o. o) (directory s) (durable s) w (wrapped (directory s) (λ o. []) 0 0) → IsFor w (wrapped d (λ o. []) 0 0)
-made_for w s d store names h = subst (λ (e : Directory). IsFor w (wrapped e (λ o. []) 0 0)) names (subst (λ (q : memory.Storage). Stands (λ o. o) (directory q) (durable q) w (wrapped (directory s) (λ o. []) 0 0)) (sym store) h)
+made_for : (w : Wrapper) (s : memory.Storage) (d : Directory) → store_of w ≡ s → directory s ≡ d → Stands (λ o. o) (directory s) (durable s) w (wrap (directory s) (λ o. []) 0 0) → IsFor w (wrap d (λ o. []) 0 0)
+made_for w s d store names h = subst (λ (e : Directory). IsFor w (wrap e (λ o. []) 0 0)) names (subst (λ (q : memory.Storage). Stands (λ o. o) (directory q) (durable q) w (wrap (directory s) (λ o. []) 0 0)) (sym store) h)
 
 pub loop-partition-preserved : goal.loop-partition-preserved
 loop-partition-preserved c =
@@ -61,7 +61,7 @@ returns-clause-stands c =
       wrapper = record {
         files = made_for c.new.result c.loop-partition.store _ c.new.ensures.inner (inv.directory ∙ ap (λ (is : List (String Global × Vec ℕ Global × Vec ℕ Global)). with_images empty_directory (images_of is)) all) (c.new.ensures.files (λ o. []) (nothing_durable (durable c.loop-partition.store) inv.durable));
         config = c.new.ensures.config;
-        stream = ap scripted c.new.ensures.rng;
+        stream = ap scripted_stream c.new.ensures.rng;
       };
       names = c.new-2.ensures;
       handles = c.new-3.ensures;

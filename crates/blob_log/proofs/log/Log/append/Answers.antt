@@ -1,13 +1,13 @@
 use Rattle.std.proofs.Common.{rules, ◌≡◌, ◌<◌, List, ◌++◌, ◌∷◌, [], ℕ, length, true, false, arith, refl, sym, subst, ap, ◌∙◌}
 use Rattle.std.proofs.lemmas.Grind.{common_steps}
 use Rattle.std.specs.Prelude.{Result, Ok, Err, OnErr, Option, Some, None}
-use Rattle.blob_header.specs.Refusals.{Refusal, refused, refusal_of, Memory}
+use Rattle.blob_header.specs.Refusals.{Refusal, error_of, refusal_of, Memory}
 use Rattle.blob_model.specs.Bytes.{lies}
 use Rattle.blob_model.specs.Files.{Files, all_logged}
 use Rattle.blob_model.specs.Live.{live_written}
 use Rattle.blob_model.specs.Log.{Entry, Kept}
 use Rattle.blob_model.specs.Places.{Place}
-use Rattle.blob_faulty.specs.Recorded.{kept, recorded_write}
+use Rattle.blob_faulty.specs.Recorded.{kept_entries, recorded_write}
 use Rattle.blob_faulty.specs.Keeps.{IsFor, Keeps}
 use Rattle.blob_faulty.specs.Wrapper.{config_of, next_write_of, rng_of}
 use Rattle.blob_log.specs.Frames.{frame, frames}
@@ -49,7 +49,7 @@ returns-clause-acknowledged g c = λ records h.
 -- What else is left.
 
 -- a write of some bytes is kept as one
-kept_some : (offset : ℕ) (bytes : List ℕ) → 0 < length bytes → kept offset bytes ≡ Kept offset bytes ∷ []
+kept_some : (offset : ℕ) (bytes : List ℕ) → 0 < length bytes → kept_entries offset bytes ≡ Kept offset bytes ∷ []
 kept_some offset [] some = absurd (omega arith)
 kept_some offset (b ∷ bytes) some = refl
 
@@ -63,7 +63,7 @@ returns-clause-appended g c = λ files stands.
     let some : 0 < length (frame r) = omega (arith, length_frame r) in
     let now = w.current refl (λ e. omega (arith, ap length (sym is ∙ e), some)) in
     let all : recorded_write (config_of c.args.store.now) (next_write_of c.args.store.now) (g.R.Rng.stream (rng_of c.args.store.now)) true log.end bytes None ≡ Kept log.end (frame r) ∷ [] =
-    c.writes.ensures.whole log.blob c.args.store.now log.end bytes w.allowed ∙ ap (kept log.end) is ∙ kept_some log.end (frame r) some in
+    c.writes.ensures.whole log.blob c.args.store.now log.end bytes w.allowed ∙ ap (kept_entries log.end) is ∙ kept_some log.end (frame r) some in
     subst (λ (es : List Entry). IsFor c.write_at.new.store (all_logged files (log_place log) es)) all
     (c.recorded.ensures.stands c.args.store.now c.write_at.new.store (log_place log)
     (recorded_write (config_of c.args.store.now) (next_write_of c.args.store.now) (g.R.Rng.stream (rng_of c.args.store.now)) true log.end bytes None) files now w.directory stands (w.leaves.recorded refl))
@@ -110,12 +110,12 @@ returns-then-entry-clause-answer g c = TooLong (omega (arith, c.if-entry.true))
 
 pub returns-in_err-frame_of-clause-answer : goal.returns-in_err-frame_of-clause-answer
 returns-in_err-frame_of-clause-answer g c =
-    let e : refused c.from_residual.result ≡ Some Memory = first_of (search rules, grind (arith, common_steps)) in
+    let e : error_of c.from_residual.result ≡ Some Memory = first_of (search rules, grind (arith, common_steps)) in
     rw e NoMemory
 
 pub returns-in_err-bytes-clause-answer : goal.returns-in_err-bytes-clause-answer
 returns-in_err-bytes-clause-answer g c =
-    let e : refused c.from_residual-in_err-bytes.result ≡ Some Memory = first_of (search rules, grind (arith, common_steps)) in
+    let e : error_of c.from_residual-in_err-bytes.result ≡ Some Memory = first_of (search rules, grind (arith, common_steps)) in
     rw e NoMemory
 
 pub returns-in_default-clause-answer : goal.returns-in_default-clause-answer
@@ -123,7 +123,7 @@ returns-in_default-clause-answer g c = Uncounted (omega (arith, c.in_default.ens
 
 pub returns-in_err-write_at-clause-answer : goal.returns-in_err-write_at-clause-answer
 returns-in_err-write_at-clause-answer g c =
-    let e : refused c.from_residual-in_err-write_at.result ≡ Some (refusal_of c.in_err-write_at.field-0.0) = search rules in
+    let e : error_of c.from_residual-in_err-write_at.result ≡ Some (refusal_of c.in_err-write_at.field-0.0) = search rules in
     rw e (asked _ _ _ c.in_ok-bytes.bytes _ (c.in_ok-bytes.ensures.ok ∙ c.in_ok-frame_of.ensures) c.in_err-write_at.ensures.allowed)
 
 pub returns-clause-answer : goal.returns-clause-answer

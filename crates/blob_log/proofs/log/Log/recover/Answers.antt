@@ -3,7 +3,7 @@ use Rattle.std.specs.Prelude.{Result, Ok, Err, OnErr}
 use Rattle.std.proofs.lemmas.Grind.{common_steps}
 use Rattle.std.proofs.lemmas.List.{take_all}
 use Rattle.blob_header.specs.Fronts.{BeginsWith}
-use Rattle.blob_header.specs.Refusals.{refused, refusal_of, Memory}
+use Rattle.blob_header.specs.Refusals.{error_of, refusal_of, Memory}
 use Rattle.blob_faulty.specs.Wrapper.{inside}
 use Rattle.blob_memory.specs.Store.{place, live}
 use Rattle.blob_log.specs.Frames.{frames, scan}
@@ -75,17 +75,17 @@ returns-clause-config g c = c.in_ok-read_into.ensures.leaves.unrecorded.numbers.
 
 pub returns-in_err-blob-clause-answer : goal.returns-in_err-blob-clause-answer
 returns-in_err-blob-clause-answer g c =
-    let e : refused c.from_residual.result ≡ Some (refusal_of c.in_err-blob.field-0.0) = search rules in
+    let e : error_of c.from_residual.result ≡ Some (refusal_of c.in_err-blob.field-0.0) = search rules in
     rw e (Opened _ c.in_err-blob.ensures.answer.allowed)
 
 pub returns-in_err-resize-clause-answer : goal.returns-in_err-resize-clause-answer
 returns-in_err-resize-clause-answer g c =
-    let e : refused c.from_residual-in_err-resize.result ≡ Some Memory = first_of (search rules, grind (arith, common_steps)) in
+    let e : error_of c.from_residual-in_err-resize.result ≡ Some Memory = first_of (search rules, grind (arith, common_steps)) in
     rw e NoMemory
 
 pub returns-in_err-read_into-clause-answer : goal.returns-in_err-read_into-clause-answer
 returns-in_err-read_into-clause-answer g c =
-    let e : refused c.from_residual-in_err-read_into.result ≡ Some (refusal_of c.in_err-read_into.field-0.0) = search rules in
+    let e : error_of c.from_residual-in_err-read_into.result ≡ Some (refusal_of c.in_err-read_into.field-0.0) = search rules in
     let live_bytes = live (inside c.in_ok-blob.blob) in
     let long : length c.as_mut_slice-found.result.now ≡ length live_bytes = first_of (search rules, grind (arith, common_steps)) in
     let opened = c.in_ok-blob.ensures in
@@ -96,7 +96,7 @@ returns-in_err-read_into-clause-answer g c =
 
 pub returns-in_err-records-clause-answer : goal.returns-in_err-records-clause-answer
 returns-in_err-records-clause-answer g c =
-    let e : refused c.from_residual-in_err-records.result ≡ Some Memory = first_of (search rules, grind (arith, common_steps)) in
+    let e : error_of c.from_residual-in_err-records.result ≡ Some Memory = first_of (search rules, grind (arith, common_steps)) in
     rw e NoMemory
 
 pub returns-clause-answer : goal.returns-clause-answer

@@ -1,7 +1,7 @@
 use Rattle.std.proofs.Common.{rules, ◌≡◌, refl, Some}
 use Rattle.std.specs.String.{string_bytes}
 use Rattle.std.specs.Option.{option_copied_mut}
-use Rattle.blob_names.specs.Names.{found}
+use Rattle.blob_names.specs.Names.{value_at}
 use Rattle.blob_memory.specs.Partitions.{item_at}
 use Rattle.blob_memory.proofs.Lent.{on_some, altered, unaltered}
 use Rattle.blob_memory.proofs.partitions.Partitions.get_mut.Goals as goal
@@ -9,7 +9,7 @@ use Rattle.blob_memory.proofs.partitions.Partitions.get_mut.Goals as goal
 pub returns-in-Some : goal.returns-in-Some
 returns-in-Some c =
     let s = c.args.self.now in
-    let outer : found string_bytes s.names c.args.partition.now ≡ Some c.in-Some.names.now = search rules in
+    let outer : value_at string_bytes s.names c.args.partition.now ≡ Some c.in-Some.names.now = search rules in
     let here : option_copied_mut c.get_mut-in-Some.result ≡ item_at s c.args.partition.now c.args.name.now = search rules in (
       (
         refl,

@@ -1,5 +1,5 @@
 use Rattle.std.proofs.Common.{◌≡◌, ◌∙◌, ap, arith}
-use Rattle.blob_model.specs.Bytes.{resized}
+use Rattle.blob_model.specs.Bytes.{resize}
 use Rattle.blob_memory.proofs.Kept.{lent, retained, refused_retained, retained_none}
 use Rattle.blob_memory.proofs.storage.Storage.retain_resize.Goals as goal
 
@@ -14,4 +14,4 @@ pub returns-clause-retained : goal.returns-clause-retained
 returns-clause-retained c =
     let len : c.in_ok-len.len ≡ c.args.len = omega (arith, c.in_ok-len.ensures.end) in
     retained c.args.self.now _ (lent c.args.self.now.contents _ c.args.origin.now _ _ c.resize.new.bytes c.in-Some.is c.bytes_mut.ensures.value (c.bytes_mut.follows.holds c.resize.new.bytes))
-    c.resize.ensures.capacity _ (c.in_ok-resize.ensures.ok ∙ ap (resized c.in-Some.durable.now.items) len)
+    c.resize.ensures.capacity _ (c.in_ok-resize.ensures.ok ∙ ap (resize c.in-Some.durable.now.items) len)

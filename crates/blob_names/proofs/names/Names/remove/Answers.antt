@@ -1,23 +1,23 @@
 use Rattle.std.proofs.Common.{rules, Some, None}
 use Rattle.std.specs.String.{string_bytes}
 use Rattle.std.proofs.lemmas.List.{nil_from_length}
-use Rattle.blob_names.specs.Names.{found}
+use Rattle.blob_names.specs.Names.{value_at}
 use Rattle.blob_names.proofs.Maps.{found_after, found_none, set_below, emptied_below, twice}
 use Rattle.blob_names.proofs.names.Names.remove.Goals as goal
 
 pub returns-then-is_empty : goal.returns-then-is_empty
 returns-then-is_empty g c =
     let w = c.get_mut.follows.lender c.remove.new.self in
-    λ i q m. emptied_below (found (λ k. k.items)) (found string_bytes c.args.self.now.partitions) (found string_bytes c.remove-then-is_empty.new.self) c.args.partition.now c.args.name.now c.in-Some.names.now c.remove.new.self
+    λ i q m. emptied_below (value_at (λ k. k.items)) (value_at string_bytes c.args.self.now.partitions) (value_at string_bytes c.remove-then-is_empty.new.self) c.args.partition.now c.args.name.now c.in-Some.names.now c.remove.new.self
     (search rules)
-    (twice (found string_bytes c.args.self.now.partitions) (found string_bytes w) (found string_bytes c.remove-then-is_empty.new.self) c.args.partition.now (Some c.remove.new.self) None
+    (twice (value_at string_bytes c.args.self.now.partitions) (value_at string_bytes w) (value_at string_bytes c.remove-then-is_empty.new.self) c.args.partition.now (Some c.remove.new.self) None
     (found_after string_bytes c.args.partition.now c.args.self.now.partitions w (Some c.remove.new.self) ((c.get_mut.follows.holds c.remove.new.self).3 (search rules)))
     (found_after string_bytes c.args.partition.now w c.remove-then-is_empty.new.self None c.remove-then-is_empty.ensures.updates))
     (found_after (λ k. k.items) c.args.name.now c.in-Some.names.now c.remove.new.self None c.remove.ensures.updates)
     (λ cs. found_none (λ k. k.items) c.remove.new.self cs (nil_from_length c.remove.new.self.entries (c.is_empty.ensures.0 c.if-is_empty.true))) q m i
 
 pub returns-else-is_empty : goal.returns-else-is_empty
-returns-else-is_empty g c = λ i q m. set_below (found (λ k. k.items)) (found string_bytes c.args.self.now.partitions) (found string_bytes (c.get_mut.follows.lender c.remove.new.self)) c.args.partition.now c.args.name.now c.in-Some.names.now c.remove.new.self None
+returns-else-is_empty g c = λ i q m. set_below (value_at (λ k. k.items)) (value_at string_bytes c.args.self.now.partitions) (value_at string_bytes (c.get_mut.follows.lender c.remove.new.self)) c.args.partition.now c.args.name.now c.in-Some.names.now c.remove.new.self None
     (search rules)
     (found_after string_bytes c.args.partition.now c.args.self.now.partitions (c.get_mut.follows.lender c.remove.new.self) (Some c.remove.new.self) ((c.get_mut.follows.holds c.remove.new.self).3 (search rules)))
     (found_after (λ k. k.items) c.args.name.now c.in-Some.names.now c.remove.new.self None c.remove.ensures.updates) q m i

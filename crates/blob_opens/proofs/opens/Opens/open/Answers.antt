@@ -1,7 +1,7 @@
 use Rattle.std.proofs.Common.{rules, refl, ◌≡◌, Some, None, is_some, true, sym, ap, ◌∙◌, arith}
 use Rattle.std.proofs.lemmas.Bool.{false≢true}
-use Rattle.blob_header.specs.Refusals.{refused, refusal_of, Memory}
-use Rattle.blob_opens.specs.OpenNames.{Accepted, Declined, NoMemory, ended}
+use Rattle.blob_header.specs.Refusals.{error_of, refusal_of, Memory}
+use Rattle.blob_opens.specs.OpenNames.{Accepted, Declined, NoMemory, end_names}
 use Rattle.blob_opens.specs.Opens.{names_of}
 use Rattle.blob_names.specs.Names.{with_name}
 use Rattle.blob_opens.proofs.OpenNames.{taken_back, held, unregistered, is_made}
@@ -9,12 +9,12 @@ use Rattle.blob_opens.proofs.opens.Opens.open.Goals as goal
 
 pub returns-in_err-refusal-clause-answer : goal.returns-in_err-refusal-clause-answer
 returns-in_err-refusal-clause-answer g c =
-    let e : refused c.from_residual.result ≡ Some Memory = search rules in
+    let e : error_of c.from_residual.result ≡ Some Memory = search rules in
     rw e (NoMemory refl)
 
 pub returns-in_err-open_versioned-clause-answer : goal.returns-in_err-open_versioned-clause-answer
 returns-in_err-open_versioned-clause-answer g c =
-    let e : refused c.from_residual-in_err-open_versioned.result ≡ Some (refusal_of c.in_err-open_versioned.field-0.0) = search rules in
+    let e : error_of c.from_residual-in_err-open_versioned.result ≡ Some (refusal_of c.in_err-open_versioned.field-0.0) = search rules in
     let there : is_some ((names_of c.args.self.now).registered c.args.partition.now c.args.name.now) ≡ true = search rules in
     rw e (Declined _ (λ last. absurd (false≢true (sym (ap is_some last.free) ∙ there))) (c.in_err-open_versioned.ensures.allowed, c.in_err-open_versioned.ensures.leaves) c.in_err-open_versioned.ensures.err)
 
@@ -26,7 +26,7 @@ returns-then-is_some-clause-answer g c =
 pub returns-in_err-registration-clause-answer : goal.returns-in_err-registration-clause-answer
 returns-in_err-registration-clause-answer g c =
     let free : (names_of c.args.self.now).registered c.args.partition.now c.args.name.now ≡ None = search rules in
-    let e : refused c.from_residual-in_err-registration.result ≡ Some (refusal_of c.in_err-registration.field-0.0) = search rules in
+    let e : error_of c.from_residual-in_err-registration.result ≡ Some (refusal_of c.in_err-registration.field-0.0) = search rules in
     rw e (unregistered _ _ _ _ _ _ _ _ c.in_err-registration.ensures.refused free refl)
 
 pub returns-in-Ok-clause-answer : goal.returns-in-Ok-clause-answer
@@ -45,8 +45,8 @@ returns-in-Err-clause-err g c =
     let partition : c.deref.result.now ≡ r.partition = search rules in
     let name : c.deref-in-Err.result.now ≡ r.name = search rules in
     c.withdraw.ensures
-    ∙ ap (λ q. ended (names_of c.register.new.self) q (Some c.deref-in-Err.result.now)) partition
-    ∙ ap (λ m. ended (names_of c.register.new.self) r.partition (Some m)) name
-    ∙ ap (λ t. ended t r.partition (Some r.name)) c.in_ok-registration.ensures.registered
-    ∙ ap (λ q. ended (record s { registered = with_name s.registered c.args.partition.now c.args.name.now (Some s.next) }) q.partition (Some q.name)) c.in_ok-registration.ensures.ok
+    ∙ ap (λ q. end_names (names_of c.register.new.self) q (Some c.deref-in-Err.result.now)) partition
+    ∙ ap (λ m. end_names (names_of c.register.new.self) r.partition (Some m)) name
+    ∙ ap (λ t. end_names t r.partition (Some r.name)) c.in_ok-registration.ensures.registered
+    ∙ ap (λ q. end_names (record s { registered = with_name s.registered c.args.partition.now c.args.name.now (Some s.next) }) q.partition (Some q.name)) c.in_ok-registration.ensures.ok
     ∙ taken_back s c.args.partition.now c.args.name.now (Some s.next) free

@@ -1,6 +1,6 @@
 use Rattle.std.proofs.Common.{◌∙◌, sym, ap, subst, List}
 use Rattle.blob_model.specs.Order.{ListAt, held_at, ArePlacesApart}
-use Rattle.blob_pending.specs.Lists.{held}
+use Rattle.blob_pending.specs.Lists.{lists_of}
 use Rattle.blob_pending.proofs.Distinct.{distinct_of, apart_of}
 use Rattle.blob_pending.proofs.ListSteps.{held_at_finished, apart_finished}
 use Rattle.blob_pending.proofs.lists.Lists.finish.Goals as goal
@@ -11,8 +11,8 @@ invariant_of-self g c =
     let is = c.args.self.now.all.lists.items in
     record {
       distinct = distinct_of place c.finish_all.new.lists.items
-          (subst (λ (hs : List ListAt). ArePlacesApart hs) (sym (c.finish_all.ensures place)) (apart_finished c.args.marker (held place is) (apart_of place is g.met.S.Durable.one_origin c.args.self.now.all.distinct)));
+          (subst (λ (hs : List ListAt). ArePlacesApart hs) (sym (c.finish_all.ensures place)) (apart_finished c.args.marker (lists_of place is) (apart_of place is g.met.S.Durable.one_origin c.args.self.now.all.distinct)));
     }
 
 pub returns : goal.returns
-returns g c o = ap (λ (hs : List ListAt). held_at hs o) (c.finish_all.ensures g.S.Durable.place) ∙ held_at_finished c.args.marker (held g.S.Durable.place c.args.self.now.all.lists.items) o
+returns g c o = ap (λ (hs : List ListAt). held_at hs o) (c.finish_all.ensures g.S.Durable.place) ∙ held_at_finished c.args.marker (lists_of g.S.Durable.place c.args.self.now.all.lists.items) o

@@ -1,5 +1,5 @@
 use Rattle.std.proofs.Common.{rules, ◌≡◌, ◌∙◌, ◌+◌, ◌∷◌, ap, sym, List, get_or}
-use Rattle.blob_model.specs.Pending.{Pending, has_barrier, laid}
+use Rattle.blob_model.specs.Pending.{Pending, has_barrier, apply_durable}
 use Rattle.blob_pending.specs.Lists.{list_of}
 use Rattle.blob_pending.specs.Views.{left_in}
 use Rattle.blob_pending.proofs.ListSteps.{changed_list, changed_at, found, ranges_at, rooms_of}
@@ -11,7 +11,7 @@ returns-clause-lists g c o i bytes len same a =
     let at : c.index_mut.result.now ≡ get_or is c.args.i c.index_mut.result.now = search rules in
     let here : left_in c.index_mut.result.now.entries.items ≡ list_of g.S.Durable.place is o = found g.S.Durable.place is c.args.i c.index_mut.result.now o (search rules) at i in
     changed_list g.S.Durable.place is c.args.i c.index_mut.result.now c.lay.new.self o _ a (search rules) at c.lay.ensures.origin i
-    ((c.lay.ensures.laid bytes len (λ queued. same (ap has_barrier (sym here) ∙ queued))).entries ∙ ap (λ (q : List Pending). laid c.args.offset bytes q) here)
+    ((c.lay.ensures.laid bytes len (λ queued. same (ap has_barrier (sym here) ∙ queued))).entries ∙ ap (λ (q : List Pending). apply_durable c.args.offset bytes q) here)
 
 pub returns-clause-at : goal.returns-clause-at
 returns-clause-at g c o i =

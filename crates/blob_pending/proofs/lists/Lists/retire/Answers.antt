@@ -1,5 +1,5 @@
 use Rattle.std.proofs.Common.{arith}
-use Rattle.blob_pending.specs.Lists.{held}
+use Rattle.blob_pending.specs.Lists.{lists_of}
 use Rattle.blob_pending.proofs.Taking.{distinct_taken, taken_by, taken_list, no_list}
 use Rattle.blob_pending.proofs.lists.Lists.retire.Goals as goal
 
@@ -16,4 +16,4 @@ returns-in-Some g c a =
     (taken_by g.S.Durable.place c.args.self.now.all.lists.items c.swap_remove.new.self.items c.in-Some.i _ (g.S.Durable.place c.args.origin.now) (omega arith) c.in-Some.ensures.some (omega (arith, c.swap_remove.ensures.len)) c.swap_remove.ensures.by_index)
 
 pub returns-in_default : goal.returns-in_default
-returns-in_default g c a = no_list (held g.S.Durable.place c.args.self.now.all.lists.items) (g.S.Durable.place c.args.origin.now) a c.in_default.ensures.none
+returns-in_default g c a = no_list (lists_of g.S.Durable.place c.args.self.now.all.lists.items) (g.S.Durable.place c.args.origin.now) a c.in_default.ensures.none
