@@ -17,7 +17,7 @@ use Rattle.blob_memory.specs.Contents.{file_of, file_when, vec_in, bytes_of}
 use Rattle.blob_memory.specs.Forks.{IsCopy, IsCopyIn}
 use Rattle.blob_memory.specs.Listing.{Names, raw_bytes, listing_in, listing_all}
 use Rattle.blob_memory.specs.Numbers.{item_number}
-use Rattle.blob_names.specs.Names.{found, below}
+use Rattle.blob_names.specs.Names.{value_at, below}
 
 -- ---- one item
 
@@ -74,22 +74,22 @@ CopiesNames m n = IsClone CopiesName IsCopy m n
 abbrev pub CopiesAll : BTreeMap (String Global) Names → BTreeMap (String Global) Names → Type 0
 CopiesAll m n = IsClone (λ s t. string_bytes t ≡ string_bytes s) CopiesNames m n
 
-names_found : (m n : Names) → CopiesNames m n → (bs : List ℕ) → IsCopyIn (found (λ k. k.items) m bs) (found (λ k. k.items) n bs)
+names_found : (m n : Names) → CopiesNames m n → (bs : List ℕ) → IsCopyIn (value_at (λ k. k.items) m bs) (value_at (λ k. k.items) n bs)
 names_found m n h bs = lookup_clone CopiesName IsCopy (is_at (λ k. slice_cmp nat_cmp bs k.items)) (λ x y c. ap (λ is. is_eq (slice_cmp nat_cmp bs is)) (each_same x.items y.items c.0)) m.entries n.entries h
 
 module _ (m n : BTreeMap (String Global) Names) (h : CopiesAll m n) where
-  partition_found : (p : List ℕ) → MatchOption (found string_bytes m p) (found string_bytes n p ≡ None) (λ names. IsSomeAnd (found string_bytes n p) (CopiesNames names))
+  partition_found : (p : List ℕ) → MatchOption (value_at string_bytes m p) (value_at string_bytes n p ≡ None) (λ names. IsSomeAnd (value_at string_bytes n p) (CopiesNames names))
   partition_found p = lookup_clone (λ s t. string_bytes t ≡ string_bytes s) CopiesNames (is_at (λ k. slice_cmp nat_cmp p (string_bytes k))) (λ x y c. ap (λ bs. is_eq (slice_cmp nat_cmp p bs)) c) m.entries n.entries h
 
-  pub item_copied : (p k : List ℕ) → IsCopyIn (below (found (λ j. j.items)) (found string_bytes m p) k) (below (found (λ j. j.items)) (found string_bytes n p) k)
-  item_copied p k = at (found string_bytes m p) (found string_bytes n p) (partition_found p) where
-    at : (r s : Option Names) → MatchOption r (s ≡ None) (λ names. IsSomeAnd s (CopiesNames names)) → IsCopyIn (below (found (λ j. j.items)) r k) (below (found (λ j. j.items)) s k)
-    at None s e = ap (λ o. below (found (λ j. j.items)) o k) e
+  pub item_copied : (p k : List ℕ) → IsCopyIn (below (value_at (λ j. j.items)) (value_at string_bytes m p) k) (below (value_at (λ j. j.items)) (value_at string_bytes n p) k)
+  item_copied p k = at (value_at string_bytes m p) (value_at string_bytes n p) (partition_found p) where
+    at : (r s : Option Names) → MatchOption r (s ≡ None) (λ names. IsSomeAnd s (CopiesNames names)) → IsCopyIn (below (value_at (λ j. j.items)) r k) (below (value_at (λ j. j.items)) s k)
+    at None s e = ap (λ o. below (value_at (λ j. j.items)) o k) e
     at (Some x) None e = absurd e
     at (Some x) (Some y) e = names_found x y e k
 
-  pub there_copied : (p : List ℕ) → is_some (found string_bytes n p) ≡ is_some (found string_bytes m p)
-  there_copied p = at (found string_bytes m p) (found string_bytes n p) (partition_found p) where
+  pub there_copied : (p : List ℕ) → is_some (value_at string_bytes n p) ≡ is_some (value_at string_bytes m p)
+  there_copied p = at (value_at string_bytes m p) (value_at string_bytes n p) (partition_found p) where
     at : (r s : Option Names) → MatchOption r (s ≡ None) (λ names. IsSomeAnd s (CopiesNames names)) → is_some s ≡ is_some r
     at None s e = ap is_some e
     at (Some x) None e = absurd e
