@@ -1,5 +1,6 @@
 pub mod HexDigits
 pub mod HexFields
+pub mod HexLanes
 pub mod Numbers
 pub mod SaidLines
 pub mod Through
