@@ -1,5 +1,5 @@
 -- The tables of hex digits, and decoding and encoding with them.
-use Rattle.std.proofs.Common.{Option, Some, None, [], ◌∷◌, ◌&&◌, nat_le, ◌⊎◌, inl, inr, ◌≡◌, ◌<◌, ◌≤◌, ◌+◌, ◌*◌, ◌/◌, ◌%◌, ℕ, List, Result, Ok, Err, Bool, true, false, map, get_or, slice_index, slice_set, length, take, drop, unwrap_or, refl, ap, ◌∙◌, arith}
+use Rattle.std.proofs.Common.{Option, Some, None, [], ◌∷◌, ◌&&◌, nat_le, inl, inr, ◌≡◌, ◌<◌, ◌≤◌, ◌+◌, ◌*◌, ◌/◌, ◌%◌, ℕ, List, Result, Ok, Err, Bool, true, false, map, get_or, slice_index, slice_set, length, take, drop, unwrap_or, refl, ap, ◌∙◌, arith}
 use Rattle.std.specs.Prelude.{IsErr, MatchResult}
 use Rattle.std.specs.Int.Bits.{bit_or}
 use Rattle.std.specs.Str.{IsAscii, IsUtf8}

@@ -1,5 +1,5 @@
 -- Hex digits in the lanes of vectors.
-use Rattle.std.proofs.Common.{◌≡◌, ◌≢◌, ◌^◌, eqb, eqb-true, ℕ, zero, suc, ◌+◌, ◌-◌, ◌*◌, ◌%◌, ◌<◌, ◌≤◌, ◌⊎◌, inl, inr, ⊎_elim, Option, Some, None, List, [], ◌∷◌, ◌++◌, Bool, true, false, cond, leb, length, map, replicate, take, drop, get_or, slice_index, slice_set, unwrap_or, Result, Ok, Err, refl, sym, ap, subst, ◌∙◌, arith, bit_or, w8, Fits}
+use Rattle.std.proofs.Common.{◌≡◌, ◌≢◌, ◌^◌, eqb, eqb-true, ℕ, zero, suc, ◌+◌, ◌-◌, ◌*◌, ◌%◌, ◌<◌, ◌≤◌, ◌⊎◌, inl, inr, ⊎_elim, Option, Some, None, List, [], ◌∷◌, ◌++◌, Bool, true, false, cond, leb, length, map, replicate, take, drop, get_or, slice_index, unwrap_or, Result, Ok, Err, refl, sym, ap, subst, ◌∙◌, arith, bit_or, w8, Fits}
 use Rattle.std.specs.Prelude.{IsErr}
 use Rattle.std.specs.List.{range_with_len}
 use Rattle.std.specs.Simd.Lanes.{zip2, sel_l, mask_l, top, pick_l, chunk, put_chunk, Each1}
@@ -84,11 +84,11 @@ pair_bad : (a b i : ℕ) → (128 ≤ value_of a) ⊎ (128 ≤ value_of b) → 2
 pair_bad a b i (inl h) = omega (arith, (not_digit (hex_digit_value a) (digit_small a) h).0)
 pair_bad a b i (inr h) = omega (arith, (not_digit (hex_digit_value b) (digit_small b) h).1)
 
-err_first : (j a b : ℕ) (rest : List ℕ) (r : Result ℕ FromHexError) → pair_value a b j ≡ r → IsErr r → IsErr (decode_pairs j (a ∷ b ∷ rest))
+pub err_first : (j a b : ℕ) (rest : List ℕ) (r : Result ℕ FromHexError) → pair_value a b j ≡ r → IsErr r → IsErr (decode_pairs j (a ∷ b ∷ rest))
 err_first j a b rest (Ok v) e bad = cc
 err_first j a b rest (Err x) e bad = rw (decode_pairs-err_pair j a b x rest e) bad
 
-err_cons : (v : ℕ) (r : Result (List ℕ) FromHexError) → IsErr r → IsErr (cons_byte v r)
+pub err_cons : (v : ℕ) (r : Result (List ℕ) FromHexError) → IsErr r → IsErr (cons_byte v r)
 err_cons v (Ok x) bad = cc
 err_cons v (Err x) bad = bad
 

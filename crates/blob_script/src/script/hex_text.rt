@@ -1,4 +1,4 @@
-//! Hex digits by tables.
+//! Hex digits by tables, and by vectors of sixteen.
 ghost use Rattle.std.specs.Prelude.{◌≡◌, ◌+◌, ◌*◌, ◌/◌, ◌%◌, length, map, slice_index, unwrap_or, Ok, IfOk, IsErr, MatchResult, ◌≤◌, true, false};
 ghost use Rattle.blob_script.specs.Pairs.{IsPairsFrom};
 ghost use Rattle.hex.specs.Hex.{decode_of, decode_pairs, encode_lower, hex_digit_value, lower_digits};
@@ -132,7 +132,28 @@ fn decode_pairs(digits: &[u8], bytes: &mut [u8]) -> bool
     seen < 256
 }
 
-/// Decodes hex digits of either case, as the crate `hex` does, by tables.
+/// Decodes an even number of digits in parts of 512 bytes, so that the whole isn't filled with zeros first.
+fn decode_parts(alloc: Global, digits: &[u8]) -> Result<Vec<u8>, RefusedLine>
+    requires { length digits.now % 2 ≡ 0 }
+    ensures ok { IfOk result (λ bytes. decode_pairs 0 digits.now ≡ Ok bytes.items) }
+    ensures bad { result ≡ Err RefusedLine.BadCall → IsErr (decode_pairs 0 digits.now) }
+{
+    let mut bytes = Vec::with_capacity(alloc, digits.len() / 2)?;
+    let mut part = [0u8; 512];
+    let mut rest = digits;
+    while !rest.is_empty() {
+        let (front, back) = rest.split_at(rest.len().min(1024));
+        let decoded = &mut part[..front.len() / 2];
+        if !decode_pairs(front, decoded) {
+            return Err(RefusedLine::BadCall);
+        }
+        bytes.extend_from_slice(decoded)?;
+        rest = back;
+    }
+    Ok(bytes)
+}
+
+/// Decodes hex digits of either case, as the crate `hex` does.
 ///
 /// # Errors
 ///
@@ -143,6 +164,9 @@ pub fn decode_hex(alloc: Global, digits: &[u8]) -> Result<Vec<u8>, RefusedLine>
 {
     if digits.len() % 2 != 0 {
         return Err(RefusedLine::BadCall);
+    }
+    if digits.len() > 1024 {
+        return decode_parts(alloc, digits);
     }
     let mut bytes = vec![in alloc; 0u8; digits.len() / 2]?;
     if !decode_pairs(digits, bytes.as_mut_slice()) {

@@ -1,4 +1,4 @@
-use Rattle.std.proofs.Common.{◌≡◌, ◌*◌, ◌≤◌, length}
+use Rattle.std.proofs.Common.{◌≡◌, ◌*◌, length}
 use Rattle.blob_script.proofs.HexDigits.{Decodes, Reads}
 use Rattle.blob_script.proofs.script.hex_text.decode_pairs.Given as goal
 
