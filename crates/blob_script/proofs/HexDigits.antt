@@ -1,5 +1,5 @@
 -- The tables of hex digits, and decoding and encoding with them.
-use Rattle.std.proofs.Common.{Option, Some, None, [], ◌∷◌, ◌&&◌, nat_le, ◌⊎◌, inl, inr, ◌≡◌, ◌<◌, ◌≤◌, ◌+◌, ◌*◌, ◌/◌, ◌%◌, ℕ, List, Result, Ok, Err, Bool, true, false, map, get_or, slice_index, slice_set, length, take, drop, unwrap_or, refl, ap, ◌∙◌, arith}
+use Rattle.std.proofs.Common.{Option, Some, None, [], ◌∷◌, ◌&&◌, nat_le, inl, inr, ◌≡◌, ◌<◌, ◌≤◌, ◌+◌, ◌*◌, ◌/◌, ◌%◌, ℕ, List, Result, Ok, Err, Bool, true, false, map, get_or, slice_index, slice_set, length, take, drop, unwrap_or, refl, ap, ◌∙◌, arith}
 use Rattle.std.specs.Prelude.{IsErr, MatchResult}
 use Rattle.std.specs.Int.Bits.{bit_or}
 use Rattle.std.specs.Str.{IsAscii, IsUtf8}
@@ -48,7 +48,7 @@ pair_at c h = ap (λ t. get_or t c 0) pair_is ∙ get_or-map-range_with_len pair
 pub pair_reads : (a b i : ℕ) → high_of a + low_of b ≤ 255 → pair_value a b i ≡ Ok (high_of a + low_of b)
 pair_reads a b i h = grind arith
 
-digit_small : (c : ℕ) → unwrap_or (hex_digit_value c) 0 ≤ 15
+pub digit_small : (c : ℕ) → unwrap_or (hex_digit_value c) 0 ≤ 15
 digit_small c = grind arith
 
 refuses_both : (a b i : ℕ) (o p : Option ℕ) → unwrap_or o 0 ≤ 15 → unwrap_or p 0 ≤ 15 → 255 < 16 * unwrap_or o 16 + unwrap_or p 256

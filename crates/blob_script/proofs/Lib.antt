@@ -1,5 +1,7 @@
 pub mod HexDigits
 pub mod HexFields
+pub mod HexLanes
+pub mod HexParts
 pub mod Numbers
 pub mod SaidLines
 pub mod Through

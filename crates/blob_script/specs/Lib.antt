@@ -2,6 +2,7 @@ pub mod Acts
 pub mod CallLines
 pub mod Forms
 pub mod Lines
+pub mod Pairs
 pub mod Reads
 pub mod Replies
 pub mod SettingLines
