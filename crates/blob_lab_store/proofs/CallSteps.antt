@@ -54,7 +54,7 @@ module _ (lab lab' : Lab) (number : ℕ) (same : lab'.wrapper ≡ lab.wrapper) (
       }))
 
 -- a slot that is filled with what it has
-set_kept : (handles : List (Option Held)) (number : ℕ) (h : Held) → kept_at handles number ≡ Some h → set handles number (Some h) ≡ handles
+pub set_kept : (handles : List (Option Held)) (number : ℕ) (h : Held) → kept_at handles number ≡ Some h → set handles number (Some h) ≡ handles
 set_kept handles number h here =
     ap (set handles number) (sym (get_or_from_slice_get handles number (Some h) None (filled (slice_get handles number) h here))) ∙ set-get_or handles number None
 

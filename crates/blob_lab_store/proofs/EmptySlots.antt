@@ -1,4 +1,4 @@
--- Slots that are empty.
+-- Slots by their index: what they hold, and empty ones.
 use Rattle.std.proofs.Common.{◌≡◌, ℕ, ◌<◌, zero, suc, List, [], ◌∷◌, map, set, Option, Some, None, is_some, refl, sym, ap, ◌∙◌, length, slice_index_or}
 use Rattle.std.specs.Prelude.{option_map, option_and_then}
 use Rattle.std.proofs.lemmas.Bool.{false≢true}
@@ -20,3 +20,7 @@ pub holds_nothing : {A B : Type 0} (g : A → B) (slots : List (Option A)) (k : 
 holds_nothing g slots k d h there held empty =
     let at : kept_at slots k ≡ Some h = ap (option_and_then (λ s. s)) (slice_get-get_or slots k d there) ∙ held in
     false≢true (ap is_some (sym empty ∙ kept_seen g slots k ∙ ap (option_map g) at))
+
+-- what a slot holds, by its index
+pub held_at : {A B : Type 0} (g : A → B) (slots : List (Option A)) (k : ℕ) (d : Option A) → k < length slots → kept_at (map (option_map g) slots) k ≡ option_map g (slice_index_or slots k d)
+held_at g slots k d there = kept_seen g slots k ∙ ap (λ o. option_map g (option_and_then (λ s. s) o)) (slice_get-get_or slots k d there)

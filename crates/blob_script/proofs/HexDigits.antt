@@ -1,10 +1,10 @@
--- The tables of hex digits, and decoding and encoding with them.
-use Rattle.std.proofs.Common.{Option, Some, None, [], ◌∷◌, ◌&&◌, nat_le, inl, inr, ◌≡◌, ◌<◌, ◌≤◌, ◌+◌, ◌*◌, ◌/◌, ◌%◌, ℕ, List, Result, Ok, Err, Bool, true, false, map, get_or, slice_index, slice_set, length, take, drop, unwrap_or, refl, ap, ◌∙◌, arith}
-use Rattle.std.specs.Prelude.{IsErr, MatchResult}
+-- Hex digits: the tables to decode them, and decoding and encoding.
+use Rattle.std.proofs.Common.{Option, Some, None, [], ◌∷◌, ◌++◌, ◌&&◌, nat_le, ◌⊎◌, inl, inr, ◌≡◌, ◌<◌, ◌≤◌, ◌+◌, ◌*◌, ◌/◌, ◌%◌, ℕ, List, Result, Ok, Err, Bool, true, false, map, get_or, slice_index, slice_set, length, take, drop, unwrap_or, refl, sym, ap, subst, ◌∙◌, arith}
+use Rattle.std.specs.Prelude.{IsErr, MatchResult, OnOk, OnErr}
 use Rattle.std.specs.Int.Bits.{bit_or}
 use Rattle.std.specs.Str.{IsAscii, IsUtf8}
 use Rattle.std.proofs.lemmas.Str.Ascii.{IsAscii-nil, IsAscii-cons}
-use Rattle.std.proofs.lemmas.Str.{IsUtf8-from_ascii}
+use Rattle.std.proofs.lemmas.Str.{IsUtf8-from_ascii, IsUtf8-append}
 use Rattle.hex.proofs.HexLemmas.{IsAscii-encode_with}
 use Rattle.std.proofs.lemmas.Nat.{le_or_l, le_or_r, or_of_8}
 use Rattle.std.proofs.lemmas.Bool.{and_parts, cases_lt}
@@ -14,7 +14,7 @@ use Rattle.std.specs.List.{range_with_len}
 use Rattle.hex.specs.Hex.{hex_digit_value, digit_or_error, ◌>>=◌, pair_value, decode_pairs, encode_lower, lower_digits}
 use Rattle.hex.specs.declared.error.FromHexError.{FromHexError}
 use Rattle.hex.proofs.Pairs.{prepend, decode_step, decode_done, decode_err}
-use Rattle.blob_script.specs.declared.script.hex_text.TheConstants.{HIGH, LOW, PAIRS}
+use Rattle.blob_script.specs.declared.script.hex_text.TheConstants.{HIGH, LOW}
 
 -- the tables' values for a byte
 abbrev pub high_of : ℕ → ℕ
@@ -23,26 +23,17 @@ high_of c = 16 * unwrap_or (hex_digit_value c) 16
 abbrev pub low_of : ℕ → ℕ
 low_of c = unwrap_or (hex_digit_value c) 256
 
-abbrev pub pair_of : ℕ → ℕ
-pair_of c = slice_index lower_digits (c / 16) + 256 * slice_index lower_digits (c % 16)
-
 high_is : HIGH ≡ map high_of (range_with_len 0 256)
 high_is = refl
 
 low_is : LOW ≡ map low_of (range_with_len 0 256)
 low_is = refl
 
-pair_is : PAIRS ≡ map pair_of (range_with_len 0 256)
-pair_is = refl
-
 pub high_at : (c : ℕ) → c < 256 → get_or HIGH c 0 ≡ high_of c
 high_at c h = ap (λ t. get_or t c 0) high_is ∙ get_or-map-range_with_len high_of 0 256 c c 0 h (omega arith)
 
 pub low_at : (c : ℕ) → c < 256 → get_or LOW c 0 ≡ low_of c
 low_at c h = ap (λ t. get_or t c 0) low_is ∙ get_or-map-range_with_len low_of 0 256 c c 0 h (omega arith)
-
-pub pair_at : (c : ℕ) → c < 256 → get_or PAIRS c 0 ≡ pair_of c
-pair_at c h = ap (λ t. get_or t c 0) pair_is ∙ get_or-map-range_with_len pair_of 0 256 c c 0 h (omega arith)
 
 -- two digits
 pub pair_reads : (a b i : ℕ) → high_of a + low_of b ≤ 255 → pair_value a b i ≡ Ok (high_of a + low_of b)
@@ -157,14 +148,8 @@ lower_ascii = ascii_from_test lower_digits refl
 pub encoded_utf8 : (bytes : List ℕ) → IsUtf8 (encode_lower bytes)
 encoded_utf8 bytes = IsUtf8-from_ascii (encode_lower bytes) (IsAscii-encode_with lower_digits bytes lower_ascii)
 
-pub first_digit : (c pair : ℕ) → pair ≡ pair_of c → pair % 256 ≡ slice_index lower_digits (c / 16)
-first_digit c pair same =
-    let first = lower_ascii (c / 16) in
-    let second = lower_ascii (c % 16) in
-    omega (arith, same, first, second)
-
-pub second_digit : (c pair : ℕ) → pair ≡ pair_of c → pair / 256 ≡ slice_index lower_digits (c % 16)
-second_digit c pair same =
-    let first = lower_ascii (c / 16) in
-    let second = lower_ascii (c % 16) in
-    omega (arith, same, first, second)
+-- digits are appended to a text, or nothing is
+pub still_utf8 : {T E : Type 0} (result : Result T E) (old new bytes : List ℕ) → IsUtf8 old
+    → OnOk result (new ≡ old ++ encode_lower bytes) → OnErr result (new ≡ old) → IsUtf8 new
+still_utf8 (Ok _) old new bytes utf8 ok err = subst IsUtf8 (sym ok) (IsUtf8-append old (encode_lower bytes) utf8 (encoded_utf8 bytes))
+still_utf8 (Err _) old new bytes utf8 ok err = subst IsUtf8 (sym err) utf8

@@ -97,23 +97,23 @@ impl Lab {
     pub(crate) fn read(&mut self, number: usize, offset: u64, len: usize) -> Reply
         ensures { Performs self.old (Through number (Read offset len)) result self.new }
     {
-        let Some(handle) = self.handles.take(number) else {
-            return Reply::NoHandle;
-        };
-        let reply = handle.read(&mut self.wrapper, offset, len);
-        self.handles.put(number, handle);
-        reply
+        match self.handles.get(number) {
+            Some(handle) => handle.read(&mut self.wrapper, offset, len),
+            None => Reply::NoHandle,
+        }
     }
 
     pub(crate) fn write(&mut self, number: usize, offset: u64, bytes: &[u8], sync: bool) -> Reply
         ensures { Performs self.old (Through number (Write offset bytes.now sync)) result self.new }
     {
-        let Some(mut handle) = self.handles.take(number) else {
+        if number >= self.handles.slots.len() {
             return Reply::NoHandle;
-        };
-        let reply = handle.write(&mut self.wrapper, offset, bytes, sync);
-        self.handles.put(number, handle);
-        reply
+        }
+        // The handle stays in its slot: it is large to move.
+        match &mut self.handles.slots[number] {
+            Some(handle) => handle.write(&mut self.wrapper, offset, bytes, sync),
+            None => Reply::NoHandle,
+        }
     }
 
     pub(crate) fn resize(&mut self, number: usize, len: u64) -> Reply

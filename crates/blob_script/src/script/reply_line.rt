@@ -1,14 +1,16 @@
 // Replies as lines.
-ghost use Rattle.std.specs.Prelude.{◌≡◌, ◌++◌, OnOk, string_bytes};
+ghost use Rattle.std.specs.Prelude.{◌≡◌, ◌++◌, OnOk, OnErr, string_bytes};
 ghost use Rattle.std.specs.List.{flat_map};
 ghost use Rattle.std.specs.Fmt.{decimal};
+ghost use Rattle.hex.specs.Hex.{encode_lower};
 ghost use Rattle.blob_draws.specs.Rows.{row_in, rows_in};
 ghost use Rattle.blob_script.specs.Replies.{reply_line, choice_digits, hex_field, name_fields, row_field};
 
 use crate::Reply;
 use crate::script::hex_text::encode_hex;
 use blob_base::RefusalLine;
-use std::alloc::{AllocError, Global};
+use std::alloc::AllocError;
+use std::mem;
 
 /// Appends a reply's line to `line`, without the line feed. After an error, a part of it may have been appended.
 pub fn print_reply(reply: &Reply, line: &mut String) -> Result<(), AllocError>
@@ -47,6 +49,23 @@ pub fn print_reply(reply: &Reply, line: &mut String) -> Result<(), AllocError>
     }
 }
 
+/// Appends bytes in lower-case hex. After an error nothing was appended.
+fn append_digits(text: &mut Vec<u8>, bytes: &[u8]) -> Result<(), AllocError>
+    ensures ok { OnOk result (text.new.items ≡ text.old.items ++ encode_lower bytes.now) }
+    ensures err { OnErr result (text.new.items ≡ text.old.items) }
+{
+    let start = text.len();
+    let end = start
+        .checked_add(bytes.len())
+        .and_then(|half| half.checked_add(bytes.len()));
+    let Some(end) = end else {
+        return Err(AllocError);
+    };
+    text.resize(end, 0)?;
+    encode_hex(bytes, &mut text[start..]);
+    Ok(())
+}
+
 /// Appends bytes in lower-case hex, or `-` if there are none.
 #[tactic(auto, using(crate::proofs::HexFields::none, crate::proofs::HexFields::some))]
 fn print_hex(bytes: &[u8], line: &mut String) -> Result<(), AllocError>
@@ -55,13 +74,12 @@ fn print_hex(bytes: &[u8], line: &mut String) -> Result<(), AllocError>
     if bytes.is_empty() {
         return line.push_str("-");
     }
-    let Some(len) = bytes.len().checked_mul(2) else {
-        return Err(AllocError);
-    };
-    let mut digits = vec![in *line.allocator(); 0u8; len]?;
-    encode_hex(bytes, digits.as_mut_slice());
-    let digits = unsafe { String::from_utf8_unchecked(digits) };
-    line.push_str(&digits)
+    // The digits are written in place: a text of their own would be copied.
+    let empty = String::new(*line.allocator());
+    let mut text = mem::replace(line, empty).into_bytes();
+    let printed = append_digits(&mut text, bytes);
+    *line = unsafe { String::from_utf8_unchecked(text) };
+    printed
 }
 
 fn print_names(names: &[Vec<u8>], line: &mut String) -> Result<(), AllocError>

@@ -34,6 +34,7 @@ impl<'a> Tokens<'a> {
     }
 
     /// Removes and returns the next token.
+    #[inline(always)]
     pub fn next(&mut self) -> Option<&'a str>
         ensures some { IfSome result (λ token. self.old ≡ token.now ∷ self.new) }
         ensures none { IfNone result (self.old ≡ []) }

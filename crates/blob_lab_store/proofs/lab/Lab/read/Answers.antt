@@ -1,15 +1,13 @@
-use Rattle.std.proofs.Common.{refl, sym, ap, ◌∙◌, set, Some, None}
-use Rattle.std.proofs.lemmas.List.{set-set}
+use Rattle.std.proofs.Common.{refl, sym}
 use Rattle.blob_script.specs.Acts.{Read}
 use Rattle.blob_lab_store.specs.Tables.{as_held, handles_of}
-use Rattle.blob_lab_store.proofs.ThroughHandles.{through_none, through_some}
+use Rattle.blob_lab_store.proofs.CallSteps.{set_kept}
+use Rattle.blob_lab_store.proofs.ThroughHandles.{through_some}
 use Rattle.blob_lab_store.proofs.lab.Lab.read.Goals as goal
 
-pub returns-in_default : goal.returns-in_default
-returns-in_default c = through_none c.args.self.now _ c.args.number (Read c.args.offset c.args.len) refl refl (sym c.in_default.ensures.handle) refl c.in_default.ensures.none
-
-pub returns : goal.returns
-returns c =
-    let h' = as_held c.in-Some.handle in
-    through_some c.args.self.now _ c.args.number (Read c.args.offset c.args.len) refl refl (as_held c.in-Some.handle) h' _ refl (λ v r. refl) (sym c.in-Some.ensures.handle) c.read-reply.ensures
-    (c.put.ensures ∙ ap (λ hs. set hs c.args.number (Some h')) c.in-Some.ensures.taken ∙ set-set (handles_of c.args.self.now.handles) c.args.number None (Some h'))
+pub returns-in-Some : goal.returns-in-Some
+returns-in-Some c =
+    let h = as_held c.in-Some.handle.now in
+    let here = sym c.in-Some.ensures in
+    through_some c.args.self.now _ c.args.number (Read c.args.offset c.args.len) refl refl h h _ refl (λ v r. refl) here c.read.ensures
+    (sym (set_kept (handles_of c.args.self.now.handles) c.args.number h here))
