@@ -15,12 +15,6 @@ empty_at (x ∷ xs) (suc k) = empty_at xs k
 pub emptied : {A B : Type 0} (g : A → B) (slots after : List (Option A)) (k : ℕ) → after ≡ set slots k None → kept_at (map (option_map g) after) k ≡ None
 emptied g slots after k e = kept_seen g after k ∙ ap (λ s. option_map g (kept_at s k)) e ∙ ap (option_map g) (empty_at slots k)
 
--- an empty slot holds nothing
-pub holds_nothing : {A B : Type 0} (g : A → B) (slots : List (Option A)) (k : ℕ) (d : Option A) (h : A) → k < length slots → slice_index_or slots k d ≡ Some h → kept_at (map (option_map g) slots) k ≡ None → ⊥
-holds_nothing g slots k d h there held empty =
-    let at : kept_at slots k ≡ Some h = ap (option_and_then (λ s. s)) (slice_get-get_or slots k d there) ∙ held in
-    false≢true (ap is_some (sym empty ∙ kept_seen g slots k ∙ ap (option_map g) at))
-
 -- what a slot holds, by its index
 pub held_at : {A B : Type 0} (g : A → B) (slots : List (Option A)) (k : ℕ) (d : Option A) → k < length slots → kept_at (map (option_map g) slots) k ≡ option_map g (slice_index_or slots k d)
 held_at g slots k d there = kept_seen g slots k ∙ ap (λ o. option_map g (option_and_then (λ s. s) o)) (slice_get-get_or slots k d there)

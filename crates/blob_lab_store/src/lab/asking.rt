@@ -93,6 +93,7 @@ impl Handle {
     }
 }
 
+// A handle stays in its slot during a call: it is large to move.
 impl Lab {
     pub(crate) fn read(&mut self, number: usize, offset: u64, len: usize) -> Reply
         ensures { Performs self.old (Through number (Read offset len)) result self.new }
@@ -109,7 +110,6 @@ impl Lab {
         if number >= self.handles.slots.len() {
             return Reply::NoHandle;
         }
-        // The handle stays in its slot: it is large to move.
         match &mut self.handles.slots[number] {
             Some(handle) => handle.write(&mut self.wrapper, offset, bytes, sync),
             None => Reply::NoHandle,
@@ -119,12 +119,13 @@ impl Lab {
     pub(crate) fn resize(&mut self, number: usize, len: u64) -> Reply
         ensures { Performs self.old (Through number (Resize len)) result self.new }
     {
-        let Some(mut handle) = self.handles.take(number) else {
+        if number >= self.handles.slots.len() {
             return Reply::NoHandle;
-        };
-        let reply = handle.resize(&mut self.wrapper, len);
-        self.handles.put(number, handle);
-        reply
+        }
+        match &mut self.handles.slots[number] {
+            Some(handle) => handle.resize(&mut self.wrapper, len),
+            None => Reply::NoHandle,
+        }
     }
 
     pub(crate) fn size(&self, number: usize) -> Reply
@@ -139,23 +140,25 @@ impl Lab {
     pub(crate) fn sync(&mut self, number: usize) -> Reply
         ensures { Performs self.old (Through number Sync) result self.new }
     {
-        let Some(mut handle) = self.handles.take(number) else {
+        if number >= self.handles.slots.len() {
             return Reply::NoHandle;
-        };
-        let reply = handle.sync(&mut self.wrapper);
-        self.handles.put(number, handle);
-        reply
+        }
+        match &mut self.handles.slots[number] {
+            Some(handle) => handle.sync(&mut self.wrapper),
+            None => Reply::NoHandle,
+        }
     }
 
     pub(crate) fn start_sync(&mut self, number: usize) -> Reply
         ensures { Performs self.old (Through number StartSync) result self.new }
     {
-        let Some(mut handle) = self.handles.take(number) else {
+        if number >= self.handles.slots.len() {
             return Reply::NoHandle;
-        };
-        let reply = handle.start_sync(&mut self.wrapper, &mut self.syncs);
-        self.handles.put(number, handle);
-        reply
+        }
+        match &mut self.handles.slots[number] {
+            Some(handle) => handle.start_sync(&mut self.wrapper, &mut self.syncs),
+            None => Reply::NoHandle,
+        }
     }
 
     /// Completes a started sync and returns its outcome.

@@ -116,18 +116,6 @@ impl Handles {
         self.slots[number].take()
     }
 
-    /// Puts a handle back into the slot that it was taken from, which is empty.
-    pub(crate) fn put(&mut self, number: usize, handle: Handle)
-        requires there { number < length (handles_of self.old) }
-        requires empty { kept_at (handles_of self.old) number ≡ None }
-        ensures { handles_of self.new ≡ set (handles_of self.old) number (Some (as_held handle)) }
-    {
-        match self.slots[number].replace(handle) {
-            None => {}
-            Some(_) => unreachable!(),
-        }
-    }
-
     /// Closes all of them.
     pub(crate) fn close_all(self, opens: &mut Opens) {
         let Handles { mut slots } = self;

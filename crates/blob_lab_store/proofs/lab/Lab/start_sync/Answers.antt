@@ -1,19 +1,34 @@
-use Rattle.std.proofs.Common.{refl, sym, ap, ◌∙◌, set, Some, None, subst}
-use Rattle.std.proofs.lemmas.List.{set-set}
+use Rattle.std.proofs.Common.{rules, ◌<◌, length, map, set, refl, sym, ap, ◌∙◌, Some, subst}
+use Rattle.std.specs.Prelude.{option_map}
+use Rattle.std.proofs.lemmas.List.{set-get_or}
 use Rattle.blob_script.specs.Acts.{StartSync}
+use Rattle.blob_lab_model.proofs.TableSteps.{map_made}
 use Rattle.blob_lab_model.specs.States.{Held}
 use Rattle.blob_lab_store.specs.LabStands.{StartsSync}
 use Rattle.blob_lab_store.specs.Tables.{as_held, handles_of, syncs_of}
+use Rattle.blob_lab_store.proofs.EmptySlots.{held_at}
 use Rattle.blob_lab_store.proofs.ThroughHandles.{through_none, through_started}
 use Rattle.blob_lab_store.proofs.lab.Lab.start_sync.Goals as goal
 
-pub returns-in_default : goal.returns-in_default
-returns-in_default c = through_none c.args.self.now _ c.args.number StartSync refl refl (sym c.in_default.ensures.handle) refl c.in_default.ensures.none
-
-pub returns : goal.returns
-returns c =
+pub returns-in-Some : goal.returns-in-Some
+returns-in-Some c =
+    let slots = c.args.self.now.handles.slots.items in
+    let number = c.args.number in
+    let slot = c.index_mut.result.now in
+    let inside : number < length slots = search rules in
     let h = as_held c.in-Some.handle in
-    let same = c.start_sync-reply.ensures.held in
-    through_started c.args.self.now _ c.args.number h _ refl (sym c.in-Some.ensures.handle)
-    (subst (λ (x : Held). StartsSync c.args.self.now.wrapper h (syncs_of c.args.self.now.syncs) c.start_sync-reply.result c.start_sync-reply.new.wrapper x (syncs_of c.start_sync-reply.new.syncs)) same c.start_sync-reply.ensures)
-    (c.put.ensures ∙ ap (λ hs. set hs c.args.number (Some (as_held c.start_sync-reply.new.self))) c.in-Some.ensures.taken ∙ set-set (handles_of c.args.self.now.handles) c.args.number None (Some (as_held c.start_sync-reply.new.self)) ∙ ap (λ (x : Held). set (handles_of c.args.self.now.handles) c.args.number (Some x)) same)
+    let same = c.start_sync.ensures.held in
+    through_started c.args.self.now _ number h _ refl
+    (held_at as_held slots number slot inside ∙ ap (option_map as_held) (sym c.index_mut.ensures.value ∙ c.in-Some.is))
+    (subst (λ (x : Held). StartsSync c.args.self.now.wrapper h (syncs_of c.args.self.now.syncs) c.start_sync.result c.start_sync.new.wrapper x (syncs_of c.start_sync.new.syncs)) same c.start_sync.ensures)
+    (map_made (option_map as_held) slots _ number (Some c.start_sync.new.self) refl ∙ ap (λ (x : Held). set (handles_of c.args.self.now.handles) number (Some x)) same)
+
+pub returns-in-None : goal.returns-in-None
+returns-in-None c =
+    let slots = c.args.self.now.handles.slots.items in
+    let number = c.args.number in
+    let slot = c.index_mut.result.now in
+    let inside : number < length slots = search rules in
+    through_none c.args.self.now _ number StartSync refl refl
+    (held_at as_held slots number slot inside ∙ ap (option_map as_held) (sym c.index_mut.ensures.value ∙ c.in-None.is)) refl
+    (ap (map (option_map as_held)) (ap (set slots number) c.index_mut.ensures.value ∙ set-get_or slots number slot))
