@@ -51,7 +51,7 @@ lives() {
 compiler=${CC:-cc}
 if has "$compiler"; then
     build="$compiler -std=c11 -Wall -Wextra -Werror -pedantic -O2 -I$top/bindings/c"
-    for program in first calls typed lines log hostile; do
+    for program in first calls typed fork lines log hostile; do
         $build -o "$work/$program" "$top/bindings/c/$program.c" "$top/out/libblobcrash.a" >"$work/out" 2>"$work/err"
         tell $? "C: $program.c"
     done
@@ -62,6 +62,8 @@ if has "$compiler"; then
     tell $? 'C: what each function answers'
     "$work/typed" >"$work/out" 2>"$work/err"
     tell $? 'C: what each typed call returns'
+    "$work/fork" >"$work/out" 2>"$work/err"
+    tell $? 'C: forks of a session'
     "$work/hostile" "$top/tests/hostile.tsv" >"$work/out" 2>"$work/err"
     tell $? 'C: hostile arguments'
     answers 'C, line by line' "$work/lines"
@@ -78,7 +80,7 @@ if has "$compiler"; then
 #include "blobcrash.h"
 static void on_line(blobcrash_session *, const char *, size_t) {}
 #define BLOBCRASH_ON_LINE on_line
-#include "blobcrash_calls.h"
+#include "fork.h"
 END
         c++ -std=c++11 -Wall -Wextra -Werror -pedantic -fsyntax-only "-I$top/bindings/c" "$work/headers.cc" >"$work/out" 2>"$work/err"
         tell $? 'C++: the headers'
@@ -103,7 +105,7 @@ END
     # The library and its clients under the address sanitizer, which also reports leaks.
     if $build -g -fsanitize=address,undefined -o "$work/lines.sanitized" "$top/bindings/c/lines.c" \
         "$top/out/libblobcrash.a" 2>"$work/err" && "$work/lines.sanitized" </dev/null 2>"$work/err"; then
-        for program in calls typed log hostile; do
+        for program in calls typed fork log hostile; do
             $build -g -fsanitize=address,undefined -o "$work/$program.sanitized" "$top/bindings/c/$program.c" \
                 "$top/out/libblobcrash.a"
         done
@@ -111,6 +113,8 @@ END
         tell $? 'C, sanitized: what each function answers'
         "$work/typed.sanitized" >"$work/out" 2>"$work/err"
         tell $? 'C, sanitized: what each typed call returns'
+        "$work/fork.sanitized" >"$work/out" 2>"$work/err"
+        tell $? 'C, sanitized: forks of a session'
         "$work/hostile.sanitized" "$top/tests/hostile.tsv" >"$work/out" 2>"$work/err"
         tell $? 'C, sanitized: hostile arguments'
         answers 'C, sanitized' "$work/lines.sanitized"
