@@ -103,7 +103,9 @@ enum blobcrash_header_refusal {
     BLOBCRASH_H_VERSION_MISMATCH = 51,           /* the version isn't accepted: `version` has it */
     BLOBCRASH_H_INVALID_CHECKSUM = 52,
     BLOBCRASH_H_INVALID_PADDING = 53,
-    BLOBCRASH_H_TRUNCATED = 54                   /* the blob is too short: `size` has the length that the header needs */
+    BLOBCRASH_H_TRUNCATED = 54,                  /* the blob is too short: `size` has the length that the header needs */
+    /* Only of blobcrash_resolve_header: an open creates the blob. It has fewer than 8 bytes, or what an interrupted creation left. */
+    BLOBCRASH_H_TO_CREATE = 55
 };
 
 /* The calls of the registry of durability debt, each with the fields and the bytes that it uses. It ignores the others. */
@@ -348,6 +350,23 @@ struct blobcrash_debt_reply blobcrash_debt(struct blobcrash_session *session, co
  * shorter than 8 bytes.
  */
 struct blobcrash_header blobcrash_parse_header(const uint8_t *raw, size_t len, uint64_t raw_len, const struct blobcrash_accepts *accepts);
+
+/*
+ * Resolves the header of a blob as an open does, without a session. `raw` has the first bytes of the blob, at least
+ * `min(raw_len, 4096)`, and `raw_len` is the length of the whole blob.
+ *
+ * DONE; H_TO_CREATE; why the header is refused; BAD_CALL if a layout is unknown, or `raw` has too few bytes or more than the blob.
+ */
+struct blobcrash_header blobcrash_resolve_header(const uint8_t *raw, size_t len, uint64_t raw_len,
+                                                 const struct blobcrash_accepts *accepts);
+
+/*
+ * Copies the header of a new blob with this layout, 0 or 1, and this version to the start of `into`, without a session. It has 8 bytes
+ * in layout 0, which no store creates, and 4096 in layout 1.
+ *
+ * DONE; NO_ROOM with the capacity that is needed; BAD_CALL if the layout is unknown; NO_MEMORY. Only DONE changes `into`.
+ */
+struct blobcrash_ran blobcrash_create_header(uint16_t layout, uint16_t version, uint8_t *into, size_t capacity);
 
 /*
  * Returns whether an interrupted creation in this layout, 0 or 1, may have left these bytes of a whole blob. Always false for

@@ -236,6 +236,34 @@ static void headers_are_parsed(void) {
     CHECK(!blobcrash_interrupted_creation(2, torn, 6) && !blobcrash_interrupted_creation(1, v0, 12));
 }
 
+static void headers_are_created_and_resolved(void) {
+    const uint8_t v0[12] = "CWIC\0\0\0\5data", zeros[9] = {0};
+    const struct blobcrash_accepts all = {0, 1, 0, 65535}, older = {0, 1, 0, 4}, none = {0, 2, 0, 0};
+    uint8_t region[4097];
+    memset(region, 7, sizeof region);
+    struct blobcrash_ran ran = blobcrash_create_header(1, 5, region, 4095);
+    CHECK(ran.status == BLOBCRASH_NO_ROOM && ran.len == 4096 && region[0] == 7);
+    CHECK(blobcrash_create_header(1, 5, region, 0).len == 4096 && blobcrash_create_header(2, 5, region, 4096).status == BLOBCRASH_BAD_CALL);
+    ran = blobcrash_create_header(0, 5, region, sizeof region);
+    CHECK(ran.status == BLOBCRASH_DONE && ran.len == 8 && memcmp(region, "CWIC\0\0\0\5\7", 9) == 0);
+    ran = blobcrash_create_header(1, 65535, region, sizeof region);
+    CHECK(ran.status == BLOBCRASH_DONE && ran.len == 4096 && memcmp(region, "CWIK\0\1\377\377", 8) == 0 && region[4096] == 7);
+    CHECK(says(blobcrash_resolve_header(region, 4097, 4097, &all), BLOBCRASH_DONE, 65535, 1, 4096));
+    CHECK(says(blobcrash_resolve_header(region, 4096, UINT64_MAX, &all), BLOBCRASH_DONE, 65535, UINT64_MAX - 4096, 4096));
+    CHECK(says(blobcrash_resolve_header(region, 4096, 4096, &older), BLOBCRASH_H_VERSION_MISMATCH, 65535, 0, 0));
+    CHECK(says(blobcrash_resolve_header(region, 4095, 4095, &all), BLOBCRASH_H_TO_CREATE, 0, 0, 0));
+    CHECK(says(blobcrash_resolve_header(region, 4095, 4096, &all), BLOBCRASH_BAD_CALL, 0, 0, 0));
+    region[4095] = 1;
+    CHECK(says(blobcrash_resolve_header(region, 4096, 4096, &all), BLOBCRASH_H_INVALID_PADDING, 0, 0, 0));
+    CHECK(says(blobcrash_resolve_header(v0, 12, 12, &all), BLOBCRASH_DONE, 5, 4, 8));
+    CHECK(says(blobcrash_resolve_header(v0, 7, 7, &all), BLOBCRASH_H_TO_CREATE, 0, 0, 0));
+    CHECK(says(blobcrash_resolve_header(v0, 0, 0, &all), BLOBCRASH_H_TO_CREATE, 0, 0, 0));
+    CHECK(says(blobcrash_resolve_header(zeros, 9, 9, &all), BLOBCRASH_H_TO_CREATE, 0, 0, 0));
+    CHECK(says(blobcrash_resolve_header(v0, 12, 11, &all), BLOBCRASH_BAD_CALL, 0, 0, 0));
+    CHECK(says(blobcrash_resolve_header(v0, 12, 13, &all), BLOBCRASH_BAD_CALL, 0, 0, 0));
+    CHECK(says(blobcrash_resolve_header(v0, 12, 12, &none), BLOBCRASH_BAD_CALL, 0, 0, 0));
+}
+
 /* A call of the registry for the one name of this test. */
 static struct blobcrash_debt_reply owe(struct blobcrash_session *session, uint32_t kind, size_t number, bool flag, uint32_t failure) {
     const struct blobcrash_debt_call asked = {kind, failure, number, flag};
@@ -289,6 +317,7 @@ int main(void) {
     durable_bytes_are_read();
     refusals_have_numbers_and_texts();
     headers_are_parsed();
+    headers_are_created_and_resolved();
     debt_is_kept();
     return failed;
 }

@@ -2,6 +2,7 @@ pub mod Adding
 pub mod Answering
 pub mod Putting
 pub mod Registry
+pub mod Resolving
 pub mod TextLines
 pub mod TypedCalls
 pub mod Values

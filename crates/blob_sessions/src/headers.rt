@@ -1,11 +1,15 @@
 // What a blob's header says, without a session.
-ghost use Rattle.std.specs.Prelude.{◌≡◌, ◌↔◌, IsTrue, false, IfSome, None};
+ghost use Rattle.std.specs.Prelude.{◌≡◌, ◌≢◌, ◌≤◌, ◌↔◌, IsTrue, false, IfSome, None, Ok};
+ghost use Rattle.std.specs.Bool.{OnFalse, OnTrue};
 ghost use Rattle.blob_header.specs.Header.{IsFrontOfCreation};
 ghost use Rattle.blob_header.specs.Parse.{failure_of};
-ghost use Rattle.blob_sessions.specs.Headers.{IsFrontOfBlob, ParsesHeader, accepted_by, layout_numbered, no_header, refused_header};
+ghost use Rattle.blob_header.specs.Resolve.{OfBlobs};
+ghost use Rattle.blob_sessions.specs.Headers.{CopiesRegion, HasFront, IsCreated, IsFrontOfBlob, ParsesHeader, ResolvesHeader, accepted_by, layout_numbered, no_header, refused_header};
 
-use crate::ran::{BAD_CALL, DONE};
-use blob_header::{BlobVersion, Header, HeaderError, Layout};
+use crate::parts::copied;
+use crate::ran::{BAD_CALL, DONE, NO_MEMORY, Ran};
+use blob_header::{BlobVersion, Error, Header, HeaderError, Layout};
+use std::alloc::Global;
 
 /// The first four bytes are no layout's magic.
 pub const INVALID_MAGIC: u32 = 48;
@@ -21,6 +25,8 @@ pub const INVALID_CHECKSUM: u32 = 52;
 pub const INVALID_PADDING: u32 = 53;
 /// The blob ends before its header does.
 pub const TRUNCATED: u32 = 54;
+/// An open creates the blob again: it has fewer than 8 bytes, or what an interrupted creation left.
+pub const TO_CREATE: u32 = 55;
 
 /// Which layouts and versions are accepted, each from the first to the second. A layout is its number: 0 or 1.
 #[repr(C)]
@@ -109,6 +115,72 @@ pub fn parse(raw: &[u8], raw_len: u64, accepts: &Accepts) -> ParsedHeader
             data_offset,
         },
         Err(error) => ParsedHeader::refused(&error),
+    }
+}
+
+/// Resolves the header of a blob as an open does. `raw` is a prefix of the blob, of at least `min(raw_len, 4096)` bytes, and
+/// `raw_len` its whole length in bytes.
+///
+/// `TO_CREATE` if an open creates the blob again; `BAD_CALL` if a layout is unknown, or `raw` has too few bytes or more than the
+/// blob. Any other status but `DONE` is the first test that the header fails.
+pub fn resolve(alloc: Global, raw: &[u8], raw_len: u64, accepts: &Accepts) -> ParsedHeader
+    ensures resolved { HasFront raw.now raw_len → ResolvesHeader raw.now raw_len accepts.now result }
+    ensures unknown { accepted_by accepts.now ≡ None → result ≡ no_header BAD_CALL }
+    ensures no_front { (HasFront raw.now raw_len → ⊥) → result ≡ no_header BAD_CALL }
+{
+    let len = raw.len() as u64;
+    if len > raw_len || len < raw_len.min(4096) {
+        return ParsedHeader::stopped(BAD_CALL);
+    }
+    let (Some(_), Some(_)) = (layout(accepts.oldest), layout(accepts.newest)) else {
+        return ParsedHeader::stopped(BAD_CALL);
+    };
+    if is_to_create(alloc, raw, raw_len) {
+        return ParsedHeader::stopped(TO_CREATE);
+    }
+    parse(raw, raw_len, accepts)
+}
+
+/// Returns whether an open creates a blob again, with this prefix and length.
+fn is_to_create(alloc: Global, raw: &[u8], raw_len: u64) -> bool
+    requires { HasFront raw.now raw_len }
+    ensures is { OnTrue result (OfBlobs raw.now raw_len (λ blob. IsCreated raw_len blob)) }
+    ensures not { OnFalse result (OfBlobs raw.now raw_len (λ blob. ¬ (IsCreated raw_len blob))) }
+    ensures whole { OnFalse result (8 ≤ raw_len) }
+{
+    if raw_len < 8 {
+        return true;
+    }
+    let versions = BlobVersion::new(0)..=BlobVersion::new(u16::MAX);
+    let layouts = Layout::all();
+    let found = blob_header::resolve(alloc, raw, raw_len, &layouts, &versions, "", b"");
+    is_none(&found)
+}
+
+/// Returns whether a blob has no header. Of an error, also `Memory`, it has one that isn't accepted.
+fn is_none(found: &Result<Option<(u64, BlobVersion, u64)>, Error>) -> bool
+    ensures is { OnTrue result (found.now ≡ Ok None) }
+    ensures not { OnFalse result (found.now ≢ Ok None) }
+{
+    match found {
+        Ok(None) => true,
+        _ => false,
+    }
+}
+
+/// Copies the header region of a new blob to the start of `into`: 8 bytes in layout 0, 4096 in layout 1.
+///
+/// `NO_ROOM` with the capacity that is needed; `BAD_CALL` if the layout is unknown; `NO_MEMORY`.
+pub fn create(alloc: Global, number: u16, version: u16, into: &mut [u8]) -> Ran
+    ensures { CopiesRegion number version result into.old into.new }
+{
+    let Some(layout) = layout(number) else {
+        return Ran::stopped(BAD_CALL);
+    };
+    let version = BlobVersion::new(version);
+    match Header::create(alloc, &(layout..=layout), &(version..=version)) {
+        Ok((region, _)) => copied(&region, into),
+        Err(_) => Ran::stopped(NO_MEMORY),
     }
 }
 
