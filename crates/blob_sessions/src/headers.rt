@@ -141,7 +141,7 @@ pub fn resolve(alloc: Global, raw: &[u8], raw_len: u64, accepts: &Accepts) -> Pa
     parse(raw, raw_len, accepts)
 }
 
-/// Returns whether an open creates a blob again, with this prefix and length.
+/// Returns whether an open creates a blob again. `raw` is a prefix of the blob, and `raw_len` its length.
 fn is_to_create(alloc: Global, raw: &[u8], raw_len: u64) -> bool
     requires { HasFront raw.now raw_len }
     ensures is { OnTrue result (OfBlobs raw.now raw_len (λ blob. IsCreated raw_len blob)) }
@@ -157,7 +157,7 @@ fn is_to_create(alloc: Global, raw: &[u8], raw_len: u64) -> bool
     is_none(&found)
 }
 
-/// Returns whether a blob has no header. Of an error, also `Memory`, it has one that isn't accepted.
+/// Returns whether a resolution found that the blob is to be created. An error, even `Memory`, means that it isn't.
 fn is_none(found: &Result<Option<(u64, BlobVersion, u64)>, Error>) -> bool
     ensures is { OnTrue result (found.now ≡ Ok None) }
     ensures not { OnFalse result (found.now ≢ Ok None) }
