@@ -115,6 +115,7 @@ fn scan(alloc: Global, tokens: &mut Tokens) -> Result<Call, RefusedLine>
     })
 }
 
+#[inline(always)]
 fn write(alloc: Global, tokens: &mut Tokens, sync: bool) -> Result<Call, RefusedLine>
     ensures ok { IfOk result (λ asked. writing sync tokens.old ≡ Some (act_of asked, tokens.new)) }
     ensures bad { result ≡ Err RefusedLine.BadCall → writing sync tokens.old ≡ None }
@@ -137,6 +138,7 @@ pub(crate) fn text(alloc: Global, tokens: &mut Tokens) -> Result<String, Refused
 }
 
 /// Parses the next token as bytes.
+#[inline(always)]
 pub(crate) fn hex(alloc: Global, tokens: &mut Tokens) -> Result<Vec<u8>, RefusedLine>
     ensures ok { IfOk result (λ read. hex tokens.old ≡ Some (read.items, tokens.new)) }
     ensures bad { result ≡ Err RefusedLine.BadCall → hex tokens.old ≡ None }
