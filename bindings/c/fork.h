@@ -32,7 +32,7 @@ struct blobcrash_script {
     char *text;
     size_t len;
     size_t capacity;
-    size_t calls;   /* where the calls begin */
+    size_t calls;   /* the index of the first call */
     bool is_short;  /* a call was refused memory, or its line was: there is no fork */
 };
 
@@ -61,7 +61,7 @@ static inline void blobcrash_add_line(struct blobcrash_script *script, struct bl
     blobcrash_add_text(script, was_refused ? NULL : line, len);
 }
 
-/* Opens a session, as blobcrash_open, and if that is DONE begins its script anew. */
+/* Opens a session, as blobcrash_open. If that is DONE, its script starts empty. */
 static inline struct blobcrash_script_ran blobcrash_open_recorded(struct blobcrash_session *session, struct blobcrash_script *script,
                                                                   const char *preamble, size_t preamble_len) {
     struct blobcrash_script_ran ran = blobcrash_open(session, blobcrash_bytes(preamble), preamble_len);

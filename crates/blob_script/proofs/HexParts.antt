@@ -34,7 +34,7 @@ no_value : (r : Result (List ℕ) FromHexError) (v : List ℕ) → IsErr r → r
 no_value (Ok x) v bad e = cc
 no_value (Err x) v bad e = cc
 
--- a front that decodes
+-- a prefix that decodes
 pub append_ok : (j i : ℕ) (xs ys v : List ℕ) → decode_pairs i xs ≡ Ok v → decode_pairs j (xs ++ ys) ≡ prepend v (decode_pairs (j + length xs) ys)
 unfolding decode_pairs
 append_ok j i [] ys v e =
@@ -55,7 +55,7 @@ append_ok j i (a ∷ b ∷ rest) ys v e = ⊎_elim
     ∙ ap (λ u. prepend u (decode_pairs (j + length (a ∷ b ∷ rest)) ys)) parts.2)
     (cases_lt 255 (high_of a + low_of b))
 
--- a front that doesn't
+-- a prefix that doesn't
 pub append_err : (j i : ℕ) (xs ys : List ℕ) → length xs % 2 ≡ 0 → IsErr (decode_pairs i xs) → IsErr (decode_pairs j (xs ++ ys))
 unfolding decode_pairs
 append_err j i [] ys even bad = cc
@@ -103,7 +103,7 @@ unfolding decode_pairs
 parts_done text [] bytes none inv = inv.decoded.1 ∙ ap Ok (append-nil bytes)
 parts_done text (c ∷ cs) bytes none inv = absurd (omega (arith, none))
 
--- what decoding into a slice answered
+-- what decoding into a slice returned
 pub was_ok : (r : Result (List ℕ) FromHexError) (bytes : List ℕ) (result : Bool) → MatchResult r (λ read. (result ≡ true) × (bytes ≡ read)) (λ _. result ≡ false)
     → result ≡ true → r ≡ Ok bytes
 was_ok (Ok read) bytes result h is = ap Ok (sym h.1)

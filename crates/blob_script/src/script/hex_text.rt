@@ -169,7 +169,7 @@ pub fn encode_hex(bytes: &[u8], digits: &mut [u8])
     requires { length digits.old ≡ 2 * length bytes.now }
     ensures { digits.new ≡ encode_lower bytes.now }
 {
-    // The digits are computed, since the compiler can't use a table for many bytes at once.
+    // Computed, not read from a table: so the compiler can encode several bytes per instruction.
     'bytes: for i in 0..bytes.len() {
         let byte = bytes[i];
         digits[2 * i] = digit(byte / 16);

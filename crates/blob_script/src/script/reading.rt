@@ -1,10 +1,10 @@
 //! Reading up to a byte.
-ghost use Rattle.std.specs.Prelude.{◌≡◌, ◌≢◌, ◌+◌, ◌-◌, ◌<◌, ◌≤◌, length, take, true, Ok, IfSome, IfNone, IfOk, OnOk, OnSome, vec_len};
+ghost use Rattle.std.specs.Prelude.{◌≡◌, ◌≢◌, ◌+◌, ◌-◌, ◌<◌, ◌≤◌, length, take, true, Ok, IfSome, IfNone, IfOk, OnOk, vec_len};
 ghost use Rattle.std.specs.List.{All};
 ghost use Rattle.std.specs.Io.{IsEmptyOrEndsWith, StartsWith, StopsAt, appended_bytes};
 ghost use Rattle.std.specs.Io.KnownBytes.{IsAtEnd, Keeps};
 ghost use Rattle.std.specs.Io.BufRead.{DropsThrough};
-ghost use Rattle.blob_script.specs.Reads.{AppendsThrough, IfTaken, MovesBytes};
+ghost use Rattle.blob_script.specs.Reads.{AppendsThrough, EndsIfEmpty, IfTaken, MovesBytes};
 
 use memchr::memchr;
 use std::io::{BufRead, Error, ErrorKind, Result};
@@ -57,8 +57,7 @@ fn take_some<R: BufRead>(reader: &mut R, byte: u8, bytes: &mut Vec<u8>) -> Resul
     ensures appends { StartsWith bytes.new.items bytes.old.items }
     ensures stops { StopsAt (appended_bytes bytes.old.items bytes.new.items) byte }
     ensures none_lost { MovesBytes (R.remaining reader.old) (R.remaining reader.new) bytes.old.items bytes.new.items }
-    ensures end { result ≡ Ok true → length (appended_bytes bytes.old.items bytes.new.items) ≡ 0
-        → OnSome (R.remaining reader.old) (IsAtEnd (R.remaining reader.new)) }
+    ensures end { EndsIfEmpty result (R.remaining reader.old) (R.remaining reader.new) bytes.old.items bytes.new.items }
     ensures more { result ≢ Ok true → All (λ x. x ≢ byte) (appended_bytes bytes.old.items bytes.new.items) }
     ensures done { result ≡ Ok true → IsEmptyOrEndsWith (appended_bytes bytes.old.items bytes.new.items) byte }
 {
