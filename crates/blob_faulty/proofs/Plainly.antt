@@ -43,7 +43,7 @@ module _ {S R O B : Type 0} (store : stores.Ghosts S O) (handle : handles.Ghosts
   -- the inner store alone is another
   pub same_rest : w' ≡ record w { inner = w'.inner } → SameRest (view_of store handle b w) (view_of store handle c w')
   same_rest e = record {
-    pending = λ o. ap (λ (x : Storage S R O). held_at (view_of store handle c x).lists_of o) e;
+    pending = λ o. ap (λ (x : Storage S R O). held_at (view_of store handle c x).held o) e;
     next_write = ap (λ (x : Storage S R O). x.next_write) e;
     next_marker = ap (λ (x : Storage S R O). x.next_marker) e;
     config = ap (λ (x : Storage S R O). x.config) e;

@@ -24,7 +24,7 @@ old g c = view_of g.S.Durable g.B.Blob c.args.self.now c.args.store.now
 abbrev new : (g : Over) (c : goal.After-lay g) → View g.row.R.Denot
 new g c = view_of g.S.Durable g.B.Blob (record c.args.self.now { inner = c.write_at.new.self; size = c.max-self.result }) (record c.args.store.now { inner = c.write_at.new.store; lists = c.lay.new.self })
 
-lists : (g : Over) (c : goal.After-lay g) (a : Place) → held_at (new g c).lists_of a ≡ with_at (held_at (old g c).lists_of) (old g c).place (apply_durable c.args.offset c.args.bytes (held_at (old g c).lists_of (old g c).place)) a
+lists : (g : Over) (c : goal.After-lay g) (a : Place) → held_at (new g c).held a ≡ with_at (held_at (old g c).held) (old g c).place (apply_durable c.args.offset c.args.bytes (held_at (old g c).held (old g c).place)) a
 lists g c = c.lay.ensures.lists (old g c).place c.requires.room.at c.args.bytes (sym c.remaining-len.ensures) c.requires.copied
 
 pub returns-clause-recorded : goal.returns-clause-recorded
