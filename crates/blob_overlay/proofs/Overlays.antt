@@ -3,8 +3,8 @@ use Rattle.std.proofs.Common.{[], ◌≡◌, ⊎_elim, ℕ, ◌+◌, ◌-◌, �
 use Rattle.std.proofs.lemmas.Bool.{cases_lt, cases_eq, le-ltb, lt-ltb, and_parts, and_from, and_left, and_right}
 use Rattle.std.proofs.lemmas.List.{get_or_past, get_or_append_left, get_or-append_right, get_or-take, get_or-drop, get_or-replicate, length-replicate, drop_all, take_all}
 use Rattle.blob_model.proofs.Agrees.{alike, overlay_same}
-use Rattle.blob_model.specs.Bytes.{reach, overlay_by, overlay, resize}
-use Rattle.blob_model.proofs.Bytes.{above_chosen, reach_below, length-overlay_by, at_chosen, at_other, length-resized, at_resized, past_resized, same_bytes, none_chosen, picks}
+use Rattle.blob_model.specs.Bytes.{reach, overlay_by, overlay, resize, write_live}
+use Rattle.blob_model.proofs.Bytes.{above_chosen, reach_below, reach_all, length-overlay_by, at_chosen, at_other, length-resized, at_resized, past_resized, same_bytes, none_chosen, picks}
 
 -- the selection limited to the first n bytes
 abbrev pub first : ℕ → (ℕ → Bool) → ℕ → Bool
@@ -52,6 +52,17 @@ overlay_padded x n o b c low high = same_bytes _ _
 
 pub lay_padded : (x y z : List ℕ) (o : ℕ) (b : List ℕ) (c : ℕ → Bool) (r : ℕ) → r ≡ reach o (length b) c → y ≡ resize x (max (length x) r) → z ≡ overlay_by y o b c → z ≡ overlay_by x o b c
 lay_padded x y z o b c r is e f = f ∙ ap (λ l. overlay_by l o b c) (e ∙ ap (λ n. resize x (max (length x) n)) is) ∙ overlay_padded x _ o b c (omega arith) (omega arith)
+
+-- zeros up to the end of the run are covered by it
+pub live_padded : (x : List ℕ) (o : ℕ) (b : List ℕ) → overlay (resize x (max (length x) (o + length b))) o b ≡ write_live x o b
+live_padded x o b = ⊎_elim (λ e. ap (λ n. overlay (resize x (max (length x) n)) o b) (none e)) (λ ne. some (omega arith)) (cases_eq (length b) 0)
+  where
+    none : length b ≡ 0 → o + length b ≡ o
+    none e = omega arith
+
+    some : 0 < length b → overlay (resize x (max (length x) (o + length b))) o b ≡ write_live x o b
+    some h = overlay_padded x _ o b (λ _. true) (omega arith) (omega (arith, reach_all o (length b) h))
+        ∙ sym (overlay_padded x _ o b (λ _. true) (omega arith) (omega (arith, reach_all o (length b) h)))
 
 pub overlay_none : (x : List ℕ) (o : ℕ) (c : ℕ → Bool) → overlay_by x o [] c ≡ x
 overlay_none x o c = same_bytes _ _ (omega (arith, length-overlay_by x o [] c)) (λ p. at_other x o [] c p (λ l u. absurd (omega arith)))

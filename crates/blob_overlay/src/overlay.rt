@@ -1,9 +1,9 @@
 //! Writes and resizes of a vector of bytes. A call that can fail reserves capacity first. The rest does not allocate.
-ghost use Rattle.std.specs.Prelude.{◌≡◌, ◌≤◌, ◌<◌, ◌+◌, ◌^◌, length, max, drop, true, IsOk, OnOk, OnErr, vec_capacity};
+ghost use Rattle.std.specs.Prelude.{◌≡◌, ◌≤◌, ◌<◌, ◌+◌, ◌^◌, length, max, drop, true, OnOk, vec_capacity};
 ghost use Rattle.std.specs.List.{list_all};
-ghost use Rattle.blob_model.specs.Bytes.{overlay, overlay_by, reach, resize};
+ghost use Rattle.blob_model.specs.Bytes.{overlay, overlay_by, reach, resize, write_live};
 ghost use Rattle.blob_model.specs.Runs.{is_chosen};
-ghost use Rattle.blob_overlay.specs.Overlays.{AreNow, Grows, GrowsToSelected, WritesSelected};
+ghost use Rattle.blob_overlay.specs.Overlays.{AreNow, Grows};
 
 use std::alloc::AllocError;
 
@@ -19,7 +19,8 @@ pub fn make_room(bytes: &mut Vec<u8>, len: usize) -> Result<(), AllocError>
 }
 
 /// Extends the bytes with zeros to `len`, within the capacity. Does nothing if they are that long already.
-pub fn grow(bytes: &mut Vec<u8>, len: usize)
+#[inline(always)]
+fn grow(bytes: &mut Vec<u8>, len: usize)
     requires { len ≤ vec_capacity bytes.old }
     ensures { AreNow bytes.old bytes.new (resize bytes.old.items (max (length bytes.old.items) len)) }
 {
@@ -109,33 +110,27 @@ pub fn lay(bytes: &mut Vec<u8>, offset: usize, run: &[u8])
     copy_over(bytes.as_mut_slice(), offset, run);
 }
 
-/// Reserves capacity up to the end of the last selected byte, and extends the bytes with zeros to there. The only error
-/// is out of memory. The bytes are unchanged then.
-fn grow_to_selected(bytes: &mut Vec<u8>, offset: usize, keep: &[bool]) -> Result<(), AllocError>
-    requires { offset + length keep.now < 2 ^ 64 }
-    ensures { GrowsToSelected result bytes.old bytes.new offset keep.now }
+/// Writes all bytes, within the capacity. An empty run extends the bytes with zeros to `offset`.
+#[inline(always)]
+pub fn write_live(bytes: &mut Vec<u8>, offset: usize, run: &[u8])
+    requires fits { offset + length run.now < 2 ^ 64 }
+    requires room { offset + length run.now ≤ vec_capacity bytes.old }
+    ensures { AreNow bytes.old bytes.new (write_live bytes.old.items offset run.now) }
 {
-    let end = reach_of(offset, keep);
-    make_room(bytes, end)?;
-    grow(bytes, end);
-    Ok(())
+    grow(bytes, offset + run.len());
+    copy_over(bytes.as_mut_slice(), offset, run);
 }
 
-/// Writes the selected bytes. `keep[i]` selects byte `i`. The vector grows only as far as the last selected byte. The
-/// only error is out of memory, if the capacity is too small. The bytes are unchanged then.
-pub fn write_chosen(
-    bytes: &mut Vec<u8>,
-    offset: usize,
-    run: &[u8],
-    keep: &[bool],
-) -> Result<(), AllocError>
+/// Writes the selected bytes, within the capacity. `keep[i]` selects byte `i`, and `end` is the end of the last one.
+pub fn lay_chosen(bytes: &mut Vec<u8>, offset: usize, end: usize, run: &[u8], keep: &[bool])
     requires same { length keep.now ≡ length run.now }
     requires fits { offset + length run.now < 2 ^ 64 }
-    ensures { WritesSelected result bytes.old bytes.new offset run.now keep.now }
+    requires end { end ≡ reach offset (length run.now) (is_chosen keep.now) }
+    requires room { end ≤ vec_capacity bytes.old }
+    ensures { AreNow bytes.old bytes.new (overlay_by bytes.old.items offset run.now (is_chosen keep.now)) }
 {
-    grow_to_selected(bytes, offset, keep)?;
+    grow(bytes, end);
     copy_chosen(bytes.as_mut_slice(), offset, run, keep);
-    Ok(())
 }
 
 /// Replaces the bytes with `new`. The only error is out of memory, if the capacity is too small. The bytes are
