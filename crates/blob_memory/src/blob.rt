@@ -81,7 +81,7 @@ impl Blob {
     {
         let end = live::logical_end(self.origin.data_offset(), offset, bytes.remaining())?;
         overlay::make_room(&mut self.live, end)?;
-        live::write(&mut self.live, offset as usize, bytes);
+        overlay::write_live(&mut self.live, offset as usize, bytes);
         Ok(())
     }
 
@@ -105,12 +105,12 @@ impl Blob {
         let Some(durable) = store.contents.bytes_mut(&self.origin) else {
             let missing = self.missing()?;
             overlay::make_room(&mut self.live, end)?;
-            live::write(&mut self.live, offset as usize, bytes);
+            overlay::write_live(&mut self.live, offset as usize, bytes);
             return Err(missing);
         };
         overlay::make_room(&mut self.live, end)?;
         overlay::write(durable, offset as usize, bytes)?;
-        live::write(&mut self.live, offset as usize, bytes);
+        overlay::write_live(&mut self.live, offset as usize, bytes);
         Ok(())
     }
 }

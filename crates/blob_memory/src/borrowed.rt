@@ -37,6 +37,7 @@ impl Blob {
     /// With nothing changed, in this order:
     /// - `OffsetOverflow` if the physical end doesn't fit in 64 bits.
     /// - `Memory` if the live bytes can't grow.
+    #[inline(always)]
     pub fn write_from(&mut self, offset: u64, bytes: &[u8]) -> Result<(), Error>
         ensures allowed { (s : Storage) → WriteMayReturn self.old s offset bytes.now false (error_of result) }
         ensures live { live self.new ≡ live_after false (live self.old) offset bytes.now (error_of result) }
@@ -45,7 +46,7 @@ impl Blob {
     {
         let end = live::logical_end(self.origin.data_offset(), offset, bytes.len())?;
         overlay::make_room(&mut self.live, end)?;
-        live::write_slice(&mut self.live, offset as usize, bytes);
+        overlay::write_live_slice(&mut self.live, offset as usize, bytes);
         Ok(())
     }
 }

@@ -67,6 +67,7 @@ impl Clone for Origin {
 
 impl Origin {
     /// Makes an origin from its parts. The only error is out of memory.
+    #[inline(always)]
     pub fn new(
         alloc: Global,
         partition: &str,

@@ -1,5 +1,5 @@
 -- A run in pieces, written piece by piece.
-use Rattle.std.proofs.Common.{◌≡◌, ℕ, ◌+◌, ◌-◌, ◌<◌, ◌≤◌, ◌∙◌, Bool, true, false, List, [], ◌∷◌, ◌++◌, length, take, drop, get_or, Vec, Global, ap, sym, arith, length-append, append-nil}
+use Rattle.std.proofs.Common.{◌≡◌, ℕ, ◌+◌, ◌-◌, ◌<◌, ◌≤◌, ◌∙◌, Bool, true, false, List, [], ◌∷◌, ◌++◌, length, take, drop, get_or, Vec, Global, ap, sym, arith, length-append, length-take, length-drop, append-nil}
 use Rattle.std.proofs.lemmas.Grind.{flat_map-append}
 use Rattle.std.proofs.lemmas.List.{take_more, get_or-take, get_or-drop, take-append-drop}
 use Rattle.std.specs.List.{flat_map, slice_range}
@@ -34,6 +34,11 @@ module _ (ps : List (Vec ℕ Global)) (i : ℕ) (v : Vec ℕ Global) (h : i < le
   part : (keep : List Bool) (done end : ℕ) → done ≡ length (flat (take i ps)) → end ≡ done + length v.items → (j : ℕ) → j < length v.items
       → is_chosen (slice_range keep done end) j ≡ is_chosen keep (length (flat (take i ps)) + j)
   part keep done end ed ee j l = get_or-take (end - done) (drop done keep) j false (omega arith) ∙ get_or-drop done keep j false ∙ ap (λ q. get_or keep q false) (omega arith)
+
+  -- the piece has one choice for each byte
+  pub length-part : (keep : List Bool) (done end : ℕ) → length keep ≡ length (flat ps) → done ≡ length (flat (take i ps)) → end ≡ done + length v.items
+      → length (slice_range keep done end) ≡ length v.items
+  length-part keep done end all ed ee = omega (arith, all, ed, ee, flat_within, length-take (end - done) (drop done keep), length-drop done keep)
 
   -- the last selected byte of the piece is at most the last of the run
   pub chosen_below : (o done end : ℕ) (keep : List Bool) → done ≡ length (flat (take i ps)) → end ≡ done + length v.items

@@ -1,6 +1,6 @@
 // The bytes of a blob: one vector if they fit on one page, else pages.
-ghost use Rattle.std.specs.Prelude.{◌≡◌, ◌≤◌, ◌<◌, ◌+◌, ◌^◌, length, take, drop, OnOk, OnErr, IfOk, vec_capacity};
-ghost use Rattle.blob_model.specs.Bytes.{overlay, overlay_by, reach, resize};
+ghost use Rattle.std.specs.Prelude.{◌≡◌, ◌≤◌, ◌<◌, ◌+◌, ◌^◌, length, max, take, drop, OnOk, OnErr, IfOk, vec_capacity};
+ghost use Rattle.blob_model.specs.Bytes.{overlay, overlay_by, reach, resize, write_live};
 ghost use Rattle.blob_model.specs.Runs.{is_chosen};
 
 use crate::page_writes::{lay_mixed, paged};
@@ -19,6 +19,7 @@ impl Form {
     ghost use Rattle.blob_pages.specs.Forms.{content, capacity, Becomes, MayBecome, Tried};
 
     /// Copies these bytes. The only error is out of memory.
+    #[inline(always)]
     pub fn from_slice(alloc: Global, bytes: &[u8]) -> Result<Form, AllocError>
         ensures { IfOk result (λ made. content made ≡ bytes.now) }
     {
@@ -61,16 +62,38 @@ impl Form {
         }
     }
 
+    /// Returns the capacity.
+    #[inline(always)]
+    fn reserved(&self) -> usize
+        ensures { result ≡ capacity self.now }
+    {
+        match self {
+            Form::Flat(bytes) => bytes.capacity(),
+            Form::Paged(pages) => pages.reserved(),
+        }
+    }
+
     /// Reserves capacity for `len` bytes in all. The only error is out of memory.
+    #[inline(always)]
     pub fn reserve(&mut self, len: usize) -> Result<(), AllocError>
+        ensures grows { MayBecome result self.old self.new len (content self.old) }
+        ensures room { OnOk result (len ≤ capacity self.new) }
+    {
+        if len <= self.reserved() {
+            return Ok(());
+        }
+        self.reserve_more(len)
+    }
+
+    /// Reserves capacity that isn't there yet, as `reserve`.
+    #[inline(never)]
+    fn reserve_more(&mut self, len: usize) -> Result<(), AllocError>
+        requires { capacity self.old < len }
         ensures grows { MayBecome result self.old self.new len (content self.old) }
         ensures room { OnOk result (len ≤ capacity self.new) }
     {
         match self {
             Form::Flat(bytes) => {
-                if len <= bytes.capacity() {
-                    return Ok(());
-                }
                 if len <= PAGE {
                     return overlay::make_room(bytes, len);
                 }
@@ -130,6 +153,16 @@ impl Form {
         }
     }
 
+    /// Extends the bytes with zeros to `len`, within the capacity. Does nothing if they are that long already.
+    pub fn grow(&mut self, len: usize)
+        requires { len ≤ capacity self.old }
+        ensures { Becomes self.old self.new (resize (content self.old) (max (length (content self.old)) len)) }
+    {
+        if self.len() < len {
+            self.set_len(len);
+        }
+    }
+
     /// Writes all bytes to pages. Returns false if a page can't be allocated.
     fn try_lay(&mut self, offset: usize, run: &[u8]) -> bool
         requires fits { offset + length run.now < 2 ^ 64 }
@@ -168,47 +201,74 @@ impl Form {
         }
     }
 
+    /// Writes all bytes to pages, as `write_live`.
+    fn write_live_pages(&mut self, offset: usize, run: &[u8])
+        requires fits { offset + length run.now < 2 ^ 64 }
+        requires room { offset + length run.now ≤ capacity self.old }
+        ensures { Becomes self.old self.new (write_live (content self.old) offset run.now) }
+    {
+        self.grow(offset);
+        self.lay_pages(offset, run);
+    }
+
+    /// Writes all bytes, within the capacity. An empty run extends the bytes with zeros to `offset`.
+    #[inline(always)]
+    pub fn write_live(&mut self, offset: usize, run: &[u8])
+        requires fits { offset + length run.now < 2 ^ 64 }
+        requires room { offset + length run.now ≤ capacity self.old }
+        ensures { Becomes self.old self.new (write_live (content self.old) offset run.now) }
+    {
+        match self {
+            Form::Flat(bytes) => overlay::write_live(bytes, offset, run),
+            Form::Paged(_) => self.write_live_pages(offset, run),
+        }
+    }
+
     /// Writes the selected bytes to pages. Returns false if a page can't be allocated.
-    fn try_lay_chosen(&mut self, offset: usize, run: &[u8], keep: &[bool]) -> bool
+    fn try_lay_chosen(&mut self, offset: usize, end: usize, run: &[u8], keep: &[bool]) -> bool
         requires same { length keep.now ≡ length run.now }
         requires fits { offset + length run.now < 2 ^ 64 }
-        requires room { reach offset (length run.now) (is_chosen keep.now) ≤ capacity self.old }
+        requires end { end ≡ reach offset (length run.now) (is_chosen keep.now) }
+        requires room { end ≤ capacity self.old }
         ensures { Tried result self.old self.new (overlay_by (content self.old) offset run.now (is_chosen keep.now)) }
     {
         match self {
             Form::Flat(_) => false,
-            Form::Paged(pages) => lay_mixed(pages, offset, run, keep).is_ok(),
+            Form::Paged(pages) => lay_mixed(pages, offset, end, run, keep).is_ok(),
         }
     }
 
     /// Writes the selected bytes to pages, or to one vector if a page can't be allocated.
-    fn lay_chosen_pages(&mut self, offset: usize, run: &[u8], keep: &[bool])
+    fn lay_chosen_pages(&mut self, offset: usize, end: usize, run: &[u8], keep: &[bool])
         requires same { length keep.now ≡ length run.now }
         requires fits { offset + length run.now < 2 ^ 64 }
-        requires room { reach offset (length run.now) (is_chosen keep.now) ≤ capacity self.old }
+        requires end { end ≡ reach offset (length run.now) (is_chosen keep.now) }
+        requires room { end ≤ capacity self.old }
         ensures { Becomes self.old self.new (overlay_by (content self.old) offset run.now (is_chosen keep.now)) }
     {
-        if !self.try_lay_chosen(offset, run, keep) {
+        if !self.try_lay_chosen(offset, end, run, keep) {
             let mut flat = self.flattened();
-            overlay::write_chosen(&mut flat, offset, run, keep).unwrap();
+            overlay::lay_chosen(&mut flat, offset, end, run, keep);
             *self = Form::Flat(flat);
         }
     }
 
-    /// Writes the selected bytes, within the capacity.
-    pub fn lay_chosen(&mut self, offset: usize, run: &[u8], keep: &[bool])
+    /// Writes the selected bytes, within the capacity. `end` is the end of the last one.
+    pub fn lay_chosen(&mut self, offset: usize, end: usize, run: &[u8], keep: &[bool])
         requires same { length keep.now ≡ length run.now }
         requires fits { offset + length run.now < 2 ^ 64 }
-        requires room { reach offset (length run.now) (is_chosen keep.now) ≤ capacity self.old }
+        requires end { end ≡ reach offset (length run.now) (is_chosen keep.now) }
+        requires room { end ≤ capacity self.old }
         ensures { Becomes self.old self.new (overlay_by (content self.old) offset run.now (is_chosen keep.now)) }
     {
         match self {
-            Form::Flat(bytes) => overlay::write_chosen(bytes, offset, run, keep).unwrap(),
-            Form::Paged(_) => self.lay_chosen_pages(offset, run, keep),
+            Form::Flat(bytes) => overlay::lay_chosen(bytes, offset, end, run, keep),
+            Form::Paged(_) => self.lay_chosen_pages(offset, end, run, keep),
         }
     }
 
     /// Copies the bytes. The copy shares every page that is shared already. The only error is out of memory.
+    #[inline(always)]
     pub fn copy(&self) -> Result<Form, AllocError>
         ensures { IfOk result (λ copy. content copy ≡ content self.now) }
     {

@@ -9,5 +9,6 @@ mod page;
 mod page_list;
 mod page_writes;
 pub mod pages;
+mod runs;
 
 pub use bytes::Bytes;

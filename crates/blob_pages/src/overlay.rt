@@ -1,9 +1,8 @@
 //! Writes and resizes of the bytes of a blob. A call that can fail reserves capacity first. A change within the
 //! capacity never fails: if a page can't be allocated, the bytes move to one vector that was reserved with the
 //! capacity.
-ghost use Rattle.std.specs.Prelude.{◌≡◌, ◌≤◌, ◌<◌, ◌+◌, ◌^◌, length, max, OnOk, OnErr};
-ghost use Rattle.blob_model.specs.Bytes.{overlay, overlay_by, reach, resize};
-ghost use Rattle.blob_model.specs.Runs.{is_chosen};
+ghost use Rattle.std.specs.Prelude.{◌≡◌, ◌≤◌, ◌<◌, ◌+◌, ◌^◌, length, OnOk, OnErr};
+ghost use Rattle.blob_model.specs.Bytes.{overlay, resize, write_live};
 ghost use Rattle.blob_pages.specs.Stored.{AreNow, Grows, WritesSelected};
 
 use crate::bytes::Bytes;
@@ -12,6 +11,7 @@ use blob_overlay::overlay::reach_of;
 use std::alloc::AllocError;
 
 /// Reserves capacity for `len` bytes in all. The only error is out of memory.
+#[inline(always)]
 pub fn make_room(bytes: &mut Bytes, len: usize) -> Result<(), AllocError>
     ensures bytes { Grows result bytes.old bytes.new len bytes.old.items }
     ensures room { OnOk result (len ≤ bytes.new.capacity) }
@@ -19,63 +19,24 @@ pub fn make_room(bytes: &mut Bytes, len: usize) -> Result<(), AllocError>
     bytes.form.reserve(len)
 }
 
-/// Extends the bytes with zeros to `len`, within the capacity. Does nothing if they are that long already.
-pub fn grow(bytes: &mut Bytes, len: usize)
-    requires { len ≤ bytes.old.capacity }
-    ensures { AreNow bytes.old bytes.new (resize bytes.old.items (max (length bytes.old.items) len)) }
-{
-    if bytes.len() < len {
-        bytes.form.set_len(len);
-    }
-}
-
-/// Writes a run, within the capacity.
-pub fn lay(bytes: &mut Bytes, offset: usize, run: &IoBufs)
+/// Writes a run, within the capacity. An empty run extends the bytes with zeros to `offset`.
+pub fn write_live(bytes: &mut Bytes, offset: usize, run: &IoBufs)
     requires fits { offset + length run.now < 2 ^ 64 }
     requires room { offset + length run.now ≤ bytes.old.capacity }
-    ensures { AreNow bytes.old bytes.new (overlay bytes.old.items offset run.now) }
+    ensures { AreNow bytes.old bytes.new (write_live bytes.old.items offset run.now) }
 {
-    let mut at = offset;
-    for piece in run.pieces() {
-        lay_slice(bytes, at, piece);
-        at += piece.len();
-    }
+    bytes.form.grow(offset);
+    bytes.form.lay_run(offset, run);
 }
 
-/// Writes one piece, within the capacity.
+/// Writes one piece, as `write_live`.
 #[inline(always)]
-pub fn lay_slice(bytes: &mut Bytes, offset: usize, run: &[u8])
+pub fn write_live_slice(bytes: &mut Bytes, offset: usize, run: &[u8])
     requires fits { offset + length run.now < 2 ^ 64 }
     requires room { offset + length run.now ≤ bytes.old.capacity }
-    ensures { AreNow bytes.old bytes.new (overlay bytes.old.items offset run.now) }
+    ensures { AreNow bytes.old bytes.new (write_live bytes.old.items offset run.now) }
 {
-    bytes.form.lay(offset, run);
-}
-
-/// Writes the selected bytes of one piece, within the capacity.
-fn lay_chosen_slice(bytes: &mut Bytes, offset: usize, run: &[u8], keep: &[bool])
-    requires same { length keep.now ≡ length run.now }
-    requires fits { offset + length run.now < 2 ^ 64 }
-    requires room { reach offset (length run.now) (is_chosen keep.now) ≤ bytes.old.capacity }
-    ensures { AreNow bytes.old bytes.new (overlay_by bytes.old.items offset run.now (is_chosen keep.now)) }
-{
-    bytes.form.lay_chosen(offset, run, keep);
-}
-
-/// Writes the selected bytes of a run, within the capacity.
-fn lay_chosen(bytes: &mut Bytes, offset: usize, run: &IoBufs, keep: &[bool])
-    requires same { length keep.now ≡ length run.now }
-    requires fits { offset + length run.now < 2 ^ 64 }
-    requires room { reach offset (length run.now) (is_chosen keep.now) ≤ bytes.old.capacity }
-    ensures { AreNow bytes.old bytes.new (overlay_by bytes.old.items offset run.now (is_chosen keep.now)) }
-{
-    let mut done = 0;
-    for piece in run.pieces() {
-        let end = done + piece.len();
-        let part = &keep[done..end];
-        lay_chosen_slice(bytes, offset + done, piece, part);
-        done = end;
-    }
+    bytes.form.write_live(offset, run);
 }
 
 /// Writes the selected bytes of a run. `keep[i]` selects byte `i`. The bytes grow only as far as the last selected
@@ -90,8 +51,8 @@ pub fn write_chosen(
     requires fits { offset + length run.now < 2 ^ 64 }
     ensures { WritesSelected result bytes.old bytes.new offset run.now keep.now }
 {
-    make_room(bytes, reach_of(offset, keep))?;
-    lay_chosen(bytes, offset, run, keep);
+    bytes.form.reserve(reach_of(offset, keep))?;
+    bytes.form.lay_chosen_run(offset, run, keep);
     Ok(())
 }
 
@@ -106,8 +67,9 @@ pub fn write_chosen_slice(
     requires fits { offset + length run.now < 2 ^ 64 }
     ensures { WritesSelected result bytes.old bytes.new offset run.now keep.now }
 {
-    make_room(bytes, reach_of(offset, keep))?;
-    lay_chosen_slice(bytes, offset, run, keep);
+    let end = reach_of(offset, keep);
+    bytes.form.reserve(end)?;
+    bytes.form.lay_chosen(offset, end, run, keep);
     Ok(())
 }
 
@@ -116,8 +78,8 @@ pub fn write(bytes: &mut Bytes, offset: usize, run: &IoBufs) -> Result<(), Alloc
     requires { offset + length run.now < 2 ^ 64 }
     ensures { Grows result bytes.old bytes.new (offset + length run.now) (overlay bytes.old.items offset run.now) }
 {
-    make_room(bytes, offset + run.remaining())?;
-    lay(bytes, offset, run);
+    bytes.form.reserve(offset + run.remaining())?;
+    bytes.form.lay_run(offset, run);
     Ok(())
 }
 
@@ -126,8 +88,8 @@ pub fn write_slice(bytes: &mut Bytes, offset: usize, run: &[u8]) -> Result<(), A
     requires { offset + length run.now < 2 ^ 64 }
     ensures { Grows result bytes.old bytes.new (offset + length run.now) (overlay bytes.old.items offset run.now) }
 {
-    make_room(bytes, offset + run.len())?;
-    lay_slice(bytes, offset, run);
+    bytes.form.reserve(offset + run.len())?;
+    bytes.form.lay(offset, run);
     Ok(())
 }
 
@@ -136,7 +98,7 @@ pub fn write_slice(bytes: &mut Bytes, offset: usize, run: &[u8]) -> Result<(), A
 pub fn resize(bytes: &mut Bytes, len: usize) -> Result<(), AllocError>
     ensures { Grows result bytes.old bytes.new len (resize bytes.old.items len) }
 {
-    make_room(bytes, len)?;
+    bytes.form.reserve(len)?;
     bytes.form.set_len(len);
     Ok(())
 }

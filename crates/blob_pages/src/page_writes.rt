@@ -43,20 +43,21 @@ fn mixed(
     Ok(all)
 }
 
-/// Writes the selected bytes to pages, within their capacity. The only error is out of memory. The bytes are unchanged
-/// then.
+/// Writes the selected bytes to pages, within their capacity. `end` is the end of the last one. The only error is out of
+/// memory. The bytes are unchanged then.
 pub fn lay_mixed(
     pages: &mut Pages,
     offset: usize,
+    end: usize,
     run: &[u8],
     keep: &[bool],
 ) -> Result<(), AllocError>
     requires same { length keep.now ≡ length run.now }
     requires fits { offset + length run.now < 2 ^ 64 }
-    requires room { reach offset (length run.now) (is_chosen keep.now) ≤ room pages.old }
+    requires end { end ≡ reach offset (length run.now) (is_chosen keep.now) }
+    requires room { end ≤ room pages.old }
     ensures { Tries result pages.old pages.new (overlay_by (bytes pages.old) offset run.now (is_chosen keep.now)) }
 {
-    let end = overlay::reach_of(offset, keep);
     if end <= offset {
         return Ok(());
     }

@@ -52,6 +52,14 @@ impl Pages {
         self.len
     }
 
+    /// Returns the capacity.
+    #[inline(always)]
+    pub fn reserved(&self) -> usize
+        ensures { result ≡ room self.now }
+    {
+        self.spare.capacity()
+    }
+
     /// Reserves capacity for `len` bytes in all. The only error is out of memory.
     pub fn reserve(&mut self, len: usize) -> Result<(), AllocError>
         ensures bytes { bytes self.new ≡ bytes self.old }

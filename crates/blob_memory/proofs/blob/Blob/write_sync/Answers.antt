@@ -23,23 +23,23 @@ pub returns-in_err-make_room-2-clause-directory : goal.returns-in_err-make_room-
 returns-in_err-make_room-2-clause-directory c = (lent c.args.store.now.contents _ (place c.args.self.now) _ _ c.in-Some.durable.now c.in-Some.is c.bytes_mut.ensures.value (c.bytes_mut.follows.holds c.in-Some.durable.now)).now.directory
 
 pub returns-in_err-write-clause-err : goal.returns-in_err-write-clause-err
-returns-in_err-write-clause-err c = on_err _ (stays (lent c.args.store.now.contents _ (place c.args.self.now) _ _ c.write-2.new.bytes c.in-Some.is c.bytes_mut.ensures.value (c.bytes_mut.follows.holds c.write-2.new.bytes)) c.in_err-write.ensures.err)
+returns-in_err-write-clause-err c = on_err _ (stays (lent c.args.store.now.contents _ (place c.args.self.now) _ _ c.write.new.bytes c.in-Some.is c.bytes_mut.ensures.value (c.bytes_mut.follows.holds c.write.new.bytes)) c.in_err-write.ensures.err)
 
 pub returns-in_err-write-clause-room : goal.returns-in_err-write-clause-room
 returns-in_err-write-clause-room c =
-    let l = (lent c.args.store.now.contents _ (place c.args.self.now) _ _ c.write-2.new.bytes c.in-Some.is c.bytes_mut.ensures.value (c.bytes_mut.follows.holds c.write-2.new.bytes)) in
-    room_kept c.args.store.now.contents (c.bytes_mut.follows.lender c.write-2.new.bytes) (place c.args.self.now) _ _ (omega (arith, c.make_room-2.ensures.bytes.capacity)) l.now.directory (rooms l c.write-2.ensures.capacity)
+    let l = (lent c.args.store.now.contents _ (place c.args.self.now) _ _ c.write.new.bytes c.in-Some.is c.bytes_mut.ensures.value (c.bytes_mut.follows.holds c.write.new.bytes)) in
+    room_kept c.args.store.now.contents (c.bytes_mut.follows.lender c.write.new.bytes) (place c.args.self.now) _ _ (omega (arith, c.make_room-2.ensures.bytes.capacity)) l.now.directory (rooms l c.write.ensures.capacity)
 
 pub returns-in_err-write-clause-directory : goal.returns-in_err-write-clause-directory
-returns-in_err-write-clause-directory c = (lent c.args.store.now.contents _ (place c.args.self.now) _ _ c.write-2.new.bytes c.in-Some.is c.bytes_mut.ensures.value (c.bytes_mut.follows.holds c.write-2.new.bytes)).now.directory
+returns-in_err-write-clause-directory c = (lent c.args.store.now.contents _ (place c.args.self.now) _ _ c.write.new.bytes c.in-Some.is c.bytes_mut.ensures.value (c.bytes_mut.follows.holds c.write.new.bytes)).now.directory
 
 pub returns-clause-durable : goal.returns-clause-durable
-returns-clause-durable c = alters (lent c.args.store.now.contents _ (place c.args.self.now) _ _ c.write-2.new.bytes c.in-Some.is c.bytes_mut.ensures.value (c.bytes_mut.follows.holds c.write-2.new.bytes)) _ c.in_ok-write.ensures.ok
+returns-clause-durable c = alters (lent c.args.store.now.contents _ (place c.args.self.now) _ _ c.write.new.bytes c.in-Some.is c.bytes_mut.ensures.value (c.bytes_mut.follows.holds c.write.new.bytes)) _ c.in_ok-write.ensures.ok
 
 pub returns-clause-room : goal.returns-clause-room
 returns-clause-room c =
-    let l = (lent c.args.store.now.contents _ (place c.args.self.now) _ _ c.write-2.new.bytes c.in-Some.is c.bytes_mut.ensures.value (c.bytes_mut.follows.holds c.write-2.new.bytes)) in
-    room_kept c.args.store.now.contents (c.bytes_mut.follows.lender c.write-2.new.bytes) (place c.args.self.now) _ _ (omega (arith, c.make_room-2.ensures.bytes.capacity, c.write-3.ensures.capacity)) l.now.directory (rooms l c.write-2.ensures.capacity)
+    let l = (lent c.args.store.now.contents _ (place c.args.self.now) _ _ c.write.new.bytes c.in-Some.is c.bytes_mut.ensures.value (c.bytes_mut.follows.holds c.write.new.bytes)) in
+    room_kept c.args.store.now.contents (c.bytes_mut.follows.lender c.write.new.bytes) (place c.args.self.now) _ _ (omega (arith, c.make_room-2.ensures.bytes.capacity, c.write_live-2.ensures.capacity)) l.now.directory (rooms l c.write.ensures.capacity)
 
 pub returns-clause-directory : goal.returns-clause-directory
-returns-clause-directory c = (lent c.args.store.now.contents _ (place c.args.self.now) _ _ c.write-2.new.bytes c.in-Some.is c.bytes_mut.ensures.value (c.bytes_mut.follows.holds c.write-2.new.bytes)).now.directory
+returns-clause-directory c = (lent c.args.store.now.contents _ (place c.args.self.now) _ _ c.write.new.bytes c.in-Some.is c.bytes_mut.ensures.value (c.bytes_mut.follows.holds c.write.new.bytes)).now.directory
