@@ -3,7 +3,7 @@ ghost use Rattle.std.specs.Prelude.{◌≡◌, ◌<◌, ◌+◌, ◌^◌, Some, 
 ghost use Rattle.blob_header.specs.Refusals.{IsMemory};
 ghost use Rattle.blob_draws.specs.Faults.{draw, retention, failure, drawn_fate, partly, resize_fate, size_between};
 ghost use Rattle.blob_model.specs.Rates.{sample};
-ghost use Rattle.blob_draws.specs.Fates.{retention_of, write_failure, write_fate_of, resize_fate_of, DrawsOutcome, IsSized};
+ghost use Rattle.blob_draws.specs.Fates.{retention_of, write_fate_of, resize_fate_of, DrawsOutcome, IsSized};
 
 use crate::config::{Config, ResizeConfig, WriteConfig};
 use crate::selection::draw_positions;
@@ -36,6 +36,7 @@ pub enum ResizeFate {
 }
 
 /// Draws a rate once. A rate that isn't set is false, without a draw.
+#[inline(always)]
 pub fn draws<R: Rng>(rate: Option<Probability>, rng: &mut R) -> bool
     ensures { (result, R.stream rng.new) ≡ draw rate (R.stream rng.old) }
 {
@@ -46,6 +47,7 @@ pub fn draws<R: Rng>(rate: Option<Probability>, rng: &mut R) -> bool
 }
 
 /// Returns the configuration of writes if its retention rate isn't zero.
+#[inline(always)]
 pub fn retained(config: Option<WriteConfig>) -> Option<WriteConfig>
     ensures kept { retention_of result ≡ retention config }
 {
@@ -55,16 +57,8 @@ pub fn retained(config: Option<WriteConfig>) -> Option<WriteConfig>
     }
 }
 
-fn write_rate(config: Option<WriteConfig>) -> Option<Probability>
-    ensures { result ≡ write_failure config }
-{
-    match config {
-        None => None,
-        Some(config) => Some(config.failure_rate),
-    }
-}
-
-/// Draws the kept bytes of a write that fails.
+/// Draws the kept bytes of a write that fails. It isn't inlined, since few writes fail.
+#[inline(never)]
 fn draw_kept<R: Rng>(
     alloc: Global,
     config: Option<WriteConfig>,
@@ -86,6 +80,7 @@ fn draw_kept<R: Rng>(
 }
 
 /// Draws the outcome of a write. The only error is `Memory`. The words drawn before it stay consumed.
+#[inline(always)]
 pub fn draw_write<R: Rng>(
     alloc: Global,
     config: &Config,
@@ -99,7 +94,11 @@ pub fn draw_write<R: Rng>(
     ensures sized { IfOk result (λ fate. IsSized len (write_fate_of fate)) }
     ensures memory { OnErr result (IsMemory result) }
 {
-    if draws(write_rate(config.write_rate), rng) {
+    let fails = match config.write_rate {
+        None => false,
+        Some(writes) => writes.failure_rate.sample(rng),
+    };
+    if fails {
         return draw_kept(alloc, config.write_rate, offset, len, rng);
     }
     if sync && draws(config.sync_rate, rng) {

@@ -45,18 +45,6 @@ pub(crate) trait Payload<S: Durable, B: blob_base::Blob<S>>: Drop {
         ensures place { B.place blob.new ≡ B.place blob.old };
 }
 
-/// Copies the bytes of all pieces into one vector. The only error is `Memory`.
-fn joined(alloc: Global, bufs: &IoBufs) -> Result<Vec<u8>, Error>
-    ensures ok { IfOk result (λ bytes. bytes.items ≡ bufs.now) }
-    ensures memory { OnErr result (IsMemory result) }
-{
-    let mut bytes = Vec::with_capacity(alloc, bufs.remaining())?;
-    for piece in bufs.pieces() {
-        bytes.extend_from_slice(piece)?;
-    }
-    Ok(bytes)
-}
-
 impl<S: Durable, B: blob_base::Blob<S>> Payload<S, B> for IoBufs {
     ghost bytes = { λ bufs. bufs };
 
@@ -65,7 +53,11 @@ impl<S: Durable, B: blob_base::Blob<S>> Payload<S, B> for IoBufs {
     }
 
     fn to_vec(&self, alloc: Global) -> Result<Vec<u8>, Error> {
-        joined(alloc, self)
+        let mut bytes = Vec::with_capacity(alloc, self.remaining())?;
+        for piece in self.pieces() {
+            bytes.extend_from_slice(piece)?;
+        }
+        Ok(bytes)
     }
 
     fn into_bufs(self, alloc: Global) -> Result<IoBufs, Error> {

@@ -51,7 +51,7 @@ impl<B> Blob<B> {
         ensures recorded { RecordsResize S.Durable B.Blob self.old store.old self.new store.new len result }
         ensures kept { KeepsDurable S.durable store.old store.new }
     {
-        let list = self.room_for(store, Room::Entry)?;
+        let list = store.lists.room_for(&self.inner, self.list, Room::Entry)?;
         self.resize_unrecorded(store, len)?;
         store.lists.push(list, Entry::Resize(len));
         self.list = list;

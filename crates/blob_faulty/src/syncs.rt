@@ -44,7 +44,7 @@ impl<B> Blob<B> {
         ensures marked { OnOk result (Marks S.Durable B.Blob self.old store.old self.new store.new) }
         ensures next { OnOk result (store.new.next_marker ≡ store.old.next_marker + 1) }
     {
-        let list = self.room_for(store, Room::Mark)?;
+        let list = store.lists.room_for(&self.inner, self.list, Room::Mark)?;
         let handle = self.inner.start_sync(&mut store.inner);
         store.inner.finish(handle)?;
         self.list = list;

@@ -177,13 +177,15 @@ impl<B> Blob<B> {
         ensures unchanged { StaysUnchanged S.Durable B.Blob self.old store.old self.new store.new }
     {
         let (start, end) = (Piece::lowest_start(pieces), Piece::highest_end(pieces));
-        let list = self.room_for(store, Room::Ranges(start, end, pieces.len()))?;
+        let room = Room::Ranges(start, end, pieces.len());
+        let list = store.lists.room_for(&self.inner, self.list, room)?;
         self.inner.reserve(&mut store.inner, end)?;
         self.list = list;
         Ok(list)
     }
 
     /// Writes all runs of the kept bytes of a write. `kept` has a choice for each byte, or none at all.
+    #[inline(never)]
     pub(crate) fn lay_kept<S: blob_base::Storage, R, P>(
         &mut self,
         store: &mut Storage<S, R>,

@@ -1,14 +1,14 @@
 //! Writes of the inner blob, and what they record.
-ghost use Rattle.std.specs.Prelude.{◌≡◌, ◌≢◌, ◌≤◌, ◌<◌, ◌+◌, ◌-◌, ◌^◌, ◌∷◌, [], true, false, OnOk, OnErr, IfOk, length};
-ghost use Rattle.blob_header.specs.Refusals.{error_of, IsMemory};
+ghost use Rattle.std.specs.Prelude.{◌≡◌, ◌≢◌, ◌≤◌, ◌<◌, ◌+◌, ◌-◌, ◌^◌, ◌∷◌, [], Some, true, false, OnOk, OnErr, length};
+ghost use Rattle.blob_header.specs.Refusals.{error_of};
 ghost use Rattle.blob_model.specs.Pending.{has_barrier};
-ghost use Rattle.blob_pending.specs.Lists.{HasRoomIn, IsRoomAt, SameLists};
 ghost use Rattle.blob_base.specs.HandleCalls.{Write};
 ghost use Rattle.blob_faulty.specs.Allowed.{MayWritePlain, MayWriteSynced, MayWriteAs, HasListRoom, LeavesRoom};
 ghost use Rattle.blob_faulty.specs.StepResults.{CallsInner, MayCallInner, AsksAs, WritesUnrecorded, RecordsPlain, RecordsRun, WroteAs, FailsAs};
-ghost use Rattle.blob_faulty.specs.Wrapper.{pending_of, GainsWrite};
+ghost use Rattle.blob_faulty.specs.Wrapper.{pending_of};
 ghost use Rattle.blob_faulty.specs.Writes.{LaidRuns};
 ghost use Rattle.blob_draws.specs.Fates.{write_fate_of, IsSized};
+ghost use Rattle.blob_draws.specs.Faults.{retention};
 
 use crate::blob::Blob;
 use crate::payload::Payload;
@@ -20,58 +20,9 @@ use blob_pending::entry::Entry;
 use blob_pending::room::Room;
 use blob_pending::write::PendingWrite;
 
-impl<S: blob_base::Storage, R> Storage<S, R> {
-    /// Adds a write that a crash may lose to the list at `list`, which has capacity for it. The write takes the next number.
-    pub(crate) fn record_write(
-        &mut self,
-        list: usize,
-        offset: u64,
-        bytes: Vec<u8>,
-        config: WriteConfig,
-    )
-        requires room { HasRoomIn self.old.lists.all.lists.items list Room.Entry }
-        requires some { 0 < length bytes.items }
-        requires fits { offset + length bytes.items < 2 ^ 64 }
-        requires left { self.old.next_write < 2 ^ 64 - 1 }
-        ensures lists { GainsWrite S.place self.old self.new list offset bytes.items config }
-        ensures rest { self.new ≡ record self.old { lists = self.new.lists; next_write = self.old.next_write + 1 } }
-    {
-        let number = self.next_write;
-        self.next_write = number + 1;
-        let holes = Vec::new(self.alloc());
-        let (mode, rate) = (config.mode, config.retention_rate);
-        let write = PendingWrite {
-            number,
-            offset,
-            bytes,
-            mode,
-            rate,
-            holes,
-        };
-        self.lists.push(list, Entry::Write(write));
-    }
-}
-
-impl<B> Blob<B> {
-    /// Reserves capacity in the list of the handle's incarnation and returns the list's index. The only error is `Memory`.
-    pub(crate) fn room_for<S: blob_base::Storage, R>(
-        &self,
-        store: &mut Storage<S, R>,
-        room: Room,
-    ) -> Result<usize, Error>
-    where
-        B: blob_base::Blob<S>,
-        ensures same { SameLists S.place store.old.lists.all.lists.items store.new.lists.all.lists.items }
-        ensures ok { IfOk result (λ i. IsRoomAt S.place store.new.lists.all.lists.items i (B.place self.now.inner) room) }
-        ensures memory { OnErr result (IsMemory result) }
-        ensures rest { store.new ≡ record store.old { lists = store.new.lists } }
-    {
-        store.lists.room_for(&self.inner, self.list, room)
-    }
-}
-
 impl<B> Blob<B> {
     /// Writes to the inner blob without SYNC and records nothing.
+    #[inline(always)]
     fn write_unrecorded<S: blob_base::Storage, R, P>(
         &mut self,
         store: &mut Storage<S, R>,
@@ -94,7 +45,50 @@ impl<B> Blob<B> {
         Ok(())
     }
 
+    /// Writes some bytes without SYNC while retention is set. The write is pending from then on and takes the next number. It isn't
+    /// inlined, so that a write that isn't recorded doesn't pay for its locals.
+    #[inline(never)]
+    fn write_recorded<S: blob_base::Storage, R, P>(
+        &mut self,
+        store: &mut Storage<S, R>,
+        offset: u64,
+        bytes: P,
+        config: WriteConfig,
+    ) -> Result<(), Error>
+    where
+        B: blob_base::Blob<S>,
+        P: Payload<S, B>,
+        requires some { 0 < length (P.bytes bytes) }
+        requires fits { offset + length (P.bytes bytes) < 2 ^ 64 }
+        requires retained { retention store.old.config.write_rate ≡ Some (config.mode, config.retention_rate) }
+        ensures allowed { MayWritePlain B.Blob self.old store.old offset (P.bytes bytes) (error_of result) }
+        ensures asked { MayCallInner B.Blob self.old store.old self.new store.new (Write offset (P.bytes bytes) false) result }
+        ensures recorded { RecordsPlain S.Durable B.Blob self.old store.old self.new store.new offset (P.bytes bytes) result }
+    {
+        if store.next_write == u64::MAX {
+            return Err(Error::GenerationsExhausted);
+        }
+        let copy = bytes.to_vec(store.alloc())?;
+        let list = store.lists.room_for(&self.inner, self.list, Room::Entry)?;
+        self.write_unrecorded(store, offset, bytes)?;
+        let number = store.next_write;
+        store.next_write = number + 1;
+        let holes = Vec::new(store.alloc());
+        let write = PendingWrite {
+            number,
+            offset,
+            bytes: copy,
+            mode: config.mode,
+            rate: config.retention_rate,
+            holes,
+        };
+        store.lists.push(list, Entry::Write(write));
+        self.list = list;
+        Ok(())
+    }
+
     /// Writes without SYNC. If retention is set, a write of some bytes is pending from then on and takes the next number.
+    #[inline(always)]
     fn write_plain<S: blob_base::Storage, R, P>(
         &mut self,
         store: &mut Storage<S, R>,
@@ -115,15 +109,7 @@ impl<B> Blob<B> {
         if bytes.len() == 0 {
             return self.write_unrecorded(store, offset, bytes);
         }
-        if store.next_write == u64::MAX {
-            return Err(Error::GenerationsExhausted);
-        }
-        let copy = bytes.to_vec(store.alloc())?;
-        let list = self.room_for(store, Room::Entry)?;
-        self.write_unrecorded(store, offset, bytes)?;
-        store.record_write(list, offset, copy, config);
-        self.list = list;
-        Ok(())
+        self.write_recorded(store, offset, bytes, config)
     }
 }
 
@@ -161,6 +147,7 @@ impl<B> Blob<B> {
     }
 
     /// Writes with SYNC. The range becomes durable, and a crash no longer applies pending writes to it.
+    #[inline(never)]
     fn write_synced<S: blob_base::Storage, R, P>(
         &mut self,
         store: &mut Storage<S, R>,
@@ -178,13 +165,15 @@ impl<B> Blob<B> {
     {
         let owned = bytes.into_bufs(store.alloc())?;
         let len = owned.remaining() as u64;
-        let list = self.room_for(store, Room::Ranges(offset, offset + len, 1))?;
+        let room = Room::Ranges(offset, offset + len, 1);
+        let list = store.lists.room_for(&self.inner, self.list, room)?;
         let copy = store.lists.copy_for(list, &owned)?;
         self.list = list;
         self.lay_range(store, list, offset, owned, copy)
     }
 
     /// Performs a write by its drawn outcome. Copies a slice unless it is a plain write that is not recorded.
+    #[inline(always)]
     pub(crate) fn write_by_fate<S: blob_base::Storage, R, P>(
         &mut self,
         store: &mut Storage<S, R>,

@@ -30,10 +30,6 @@ is_list_of o h = same_place h.0 o
 abbrev pub IsCopyFor : List ℕ → List Pending → List ℕ → Type 0
 IsCopyFor copy list bytes = has_barrier list ≡ true → copy ≡ bytes
 
--- a list after a durable range of n bytes; `copy` has its bytes if it is queued
-abbrev pub LaysRange : ℕ → ℕ → List ℕ → List Pending → List Pending → Type 0
-LaysRange offset n copy old new = (bytes : List ℕ) → length bytes ≡ n → IsCopyFor copy old bytes → new ≡ apply_durable offset bytes old
-
 -- the list at i is the first of an incarnation
 pub record IsAt (hs : List ListAt) (i : ℕ) (o : Place) : Type 0 where
   pub inside : i < length hs

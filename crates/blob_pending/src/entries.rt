@@ -3,14 +3,12 @@ ghost use Rattle.std.specs.Prelude.{◌≡◌, ◌<◌, ◌≤◌, ◌+◌, ◌*
 ghost use Rattle.blob_model.specs.Holes.{Holes};
 ghost use Rattle.blob_model.specs.Pending.{has_barrier, finish, ends};
 ghost use Rattle.blob_pending.specs.Blocks.{AreBounded};
-ghost use Rattle.blob_pending.specs.Lists.{LaysRange};
-ghost use Rattle.blob_pending.specs.Marks.{marks_of};
 ghost use Rattle.blob_pending.specs.Replays.{unmarked, widest};
 ghost use Rattle.blob_pending.specs.Rooms.{AreWithin, HasRoomsFor, EachHasRoom, KeepsHoleRoom, CanCut, KeepsRest};
 ghost use Rattle.blob_pending.specs.Views.{view, views, pared_by, is_left, left_in, CountsCovered};
 
 use crate::bounds::BlockBounds;
-use crate::entry::{DurableRange, Entry};
+use crate::entry::Entry;
 use std::alloc::AllocError;
 
 /// Reserves capacity for one more entry. The capacity grows by an eighth, not to its double: pending writes are what a list's memory
@@ -64,12 +62,19 @@ pub(crate) fn reserve_ranges(
 }
 
 /// Adds a durable range to the holes of each write that it overlaps. Returns how many writes became fully covered.
-fn cover_each(entries: &mut [Entry], bounds: &BlockBounds, start: u64, len: u64) -> usize
-    requires bounded { AreBounded bounds.now (views entries.old) }
-    requires room { CanCut start len (EachHasRoom entries.old) }
-    ensures views { views entries.new ≡ map (pared_by start len) (views entries.old) }
-    ensures room { KeepsRest start len (EachHasRoom entries.old) (EachHasRoom entries.new) }
-    ensures left { length (left_in entries.old) ≤ length (left_in entries.new) + result }
+pub(crate) fn cover_all(
+    entries: &mut Vec<Entry>,
+    bounds: &BlockBounds,
+    start: u64,
+    len: u64,
+) -> usize
+    requires bounded { AreBounded bounds.now (views entries.old.items) }
+    requires room { CanCut start len (EachHasRoom entries.old.items) }
+    ensures views { views entries.new.items ≡ map (pared_by start len) (views entries.old.items) }
+    ensures room { KeepsRest start len (EachHasRoom entries.old.items) (EachHasRoom entries.new.items) }
+    ensures left { length (left_in entries.old.items) ≤ length (left_in entries.new.items) + result }
+    ensures capacity { vec_capacity entries.new ≡ vec_capacity entries.old }
+    ensures len { vec_len entries.new ≡ vec_len entries.old }
 {
     let count = entries.len();
     let mut covered = 0;
@@ -83,19 +88,6 @@ fn cover_each(entries: &mut [Entry], bounds: &BlockBounds, start: u64, len: u64)
     covered
 }
 
-/// Does `cover_each` for the entries of a vector.
-fn cover_all(entries: &mut Vec<Entry>, bounds: &BlockBounds, start: u64, len: u64) -> usize
-    requires bounded { AreBounded bounds.now (views entries.old.items) }
-    requires room { CanCut start len (EachHasRoom entries.old.items) }
-    ensures views { views entries.new.items ≡ map (pared_by start len) (views entries.old.items) }
-    ensures room { KeepsRest start len (EachHasRoom entries.old.items) (EachHasRoom entries.new.items) }
-    ensures left { length (left_in entries.old.items) ≤ length (left_in entries.new.items) + result }
-    ensures capacity { vec_capacity entries.new ≡ vec_capacity entries.old }
-    ensures len { vec_len entries.new ≡ vec_len entries.old }
-{
-    cover_each(entries.as_mut_slice(), bounds, start, len)
-}
-
 /// Drops the fully covered writes.
 fn drop_covered(entries: &mut Vec<Entry>)
     ensures items { entries.new.items ≡ filter (λ entry. is_left (view entry)) entries.old.items }
@@ -107,7 +99,7 @@ fn drop_covered(entries: &mut Vec<Entry>)
 
 /// Drops the fully covered writes and all bounds, once more than half of the list may be covered, so that the cost of one covered
 /// write doesn't grow with the list. There are at most `covered` of them.
-fn compact(entries: &mut Vec<Entry>, bounds: &mut BlockBounds, covered: &mut usize)
+pub(crate) fn compact(entries: &mut Vec<Entry>, bounds: &mut BlockBounds, covered: &mut usize)
     requires bounded { AreBounded bounds.old (views entries.old.items) }
     requires counted { CountsCovered covered.old (views entries.old.items) }
     ensures left { left_in entries.new.items ≡ left_in entries.old.items }
@@ -147,44 +139,6 @@ pub fn push(entries: &mut Vec<Entry>, entry: Entry)
     ensures capacity { vec_capacity entries.old ≤ vec_capacity entries.new }
 {
     entries.push(entry).unwrap();
-}
-
-/// Updates the list for a durable range: the range joins the holes of the writes, and if `queues` is set, it is queued, since a
-/// crash that replays an earlier resize would undo it. `copy` has the range's bytes if it is queued.
-pub(crate) fn lay(
-    entries: &mut Vec<Entry>,
-    bounds: &mut BlockBounds,
-    covered: &mut usize,
-    queues: bool,
-    offset: u64,
-    len: u64,
-    copy: Vec<u8>,
-)
-    requires queued { queues ≡ has_barrier (views entries.old.items) }
-    requires bounded { AreBounded bounds.old (views entries.old.items) }
-    requires counted { CountsCovered covered.old (views entries.old.items) }
-    requires room { CanCut offset len (λ hs. HasRoomsFor hs entries.old) }
-    requires copied { length copy.items ≤ len }
-    ensures left { LaysRange offset len copy.items (left_in entries.old.items) (left_in entries.new.items) }
-    ensures marks { marks_of (views entries.new.items) ≡ marks_of (views entries.old.items) }
-    ensures queued { has_barrier (views entries.new.items) ≡ queues }
-    ensures bounded { AreBounded bounds.new (views entries.new.items) }
-    ensures counted { CountsCovered covered.new (views entries.new.items) }
-    ensures half { vec_len entries.new ≤ 2 * length (left_in entries.new.items) }
-    ensures room { KeepsRest offset len (λ hs. HasRoomsFor hs entries.old) (λ hs. HasRoomsFor hs entries.new) }
-{
-    let more = cover_all(entries, bounds, offset, len);
-    *covered = covered.saturating_add(more);
-    compact(entries, bounds, covered);
-    if queues {
-        push(
-            entries,
-            Entry::Range(DurableRange {
-                offset,
-                bytes: copy,
-            }),
-        );
-    }
 }
 
 /// Drops the first `count` entries.

@@ -4,7 +4,7 @@ ghost use Rattle.std.specs.List.Sorted.{IsNonDecreasingBy};
 ghost use Rattle.blob_model.specs.Pending.{has_marker};
 ghost use Rattle.blob_model.specs.Places.{Place};
 ghost use Rattle.blob_draws.specs.Drawings.{drawings_in};
-ghost use Rattle.blob_pending.specs.Draws.{draws_for, draws_for_all, AreDrawsFor};
+ghost use Rattle.blob_pending.specs.Draws.{draws_for, AreDrawsFor};
 ghost use Rattle.blob_pending.specs.Views.{left_in};
 
 use crate::entries::unmarked;
@@ -33,23 +33,15 @@ fn gather_unmarked(draws: &mut Vec<Draw>, entries: &[Entry]) -> Result<(), Alloc
     Ok(())
 }
 
-/// Returns the writes of all lists that need a draw, list by list.
-fn gather_all<O>(alloc: Global, lists: &[Incarnation<O>]) -> Result<Vec<Draw>, AllocError>
-    ensures { IfOk result (λ draws. (place : O → Place) → drawings_in draws.items ≡ draws_for_all place lists.now) }
-{
-    let mut draws = Vec::new(alloc);
-    for list in lists {
-        gather_unmarked(&mut draws, unmarked(&list.entries))?;
-    }
-    Ok(draws)
-}
-
 /// Returns the writes of all lists that need a draw, sorted by number.
 pub fn gather<O>(alloc: Global, lists: &[Incarnation<O>]) -> Result<Vec<Draw>, AllocError>
     ensures all { IfOk result (λ draws. AreDrawsFor lists.now draws.items) }
     ensures rising { IfOk result (λ draws. IsNonDecreasingBy (λ (d : Draw). d.number) draws.items) }
 {
-    let mut draws = gather_all(alloc, lists)?;
+    let mut draws = Vec::new(alloc);
+    for list in lists {
+        gather_unmarked(&mut draws, unmarked(&list.entries))?;
+    }
     draws.sort_unstable_by_key(|draw| draw.number);
     Ok(draws)
 }

@@ -7,7 +7,7 @@ ghost use Rattle.blob_pending.specs.Views.{views, left_in, CountsCovered};
 
 use crate::bounds::BlockBounds;
 use crate::entries;
-use crate::entry::Entry;
+use crate::entry::{DurableRange, Entry};
 use crate::room::Room;
 use std::alloc::{AllocError, Global};
 
@@ -122,7 +122,9 @@ impl<O> Incarnation<O> {
         entries::push(&mut self.entries, Entry::Marker(number));
     }
 
-    /// Updates the list for a durable range. The list has capacity for it. `copy` has the range's bytes if it is queued.
+    /// Updates the list for a durable range: the range joins the holes of the writes, and is queued if a resize or a queued range
+    /// is pending, since a crash that replays an earlier resize would undo it. The list has capacity for it. `copy` has the
+    /// range's bytes if it is queued.
     pub fn lay(&mut self, offset: u64, len: u64, copy: Vec<u8>)
         requires room { CanCut offset len (λ hs. HasRoomsFor hs self.old.entries) }
         requires copied { length copy.items ≤ len }
@@ -131,15 +133,14 @@ impl<O> Incarnation<O> {
         ensures room { KeepsRest offset len (λ hs. HasRoomsFor hs self.old.entries) (λ hs. HasRoomsFor hs self.new.entries) }
         ensures half { vec_len self.new.entries ≤ 2 * length (left_in self.new.entries.items) }
     {
-        entries::lay(
-            &mut self.entries,
-            &mut self.bounds,
-            &mut self.covered,
-            self.queues,
-            offset,
-            len,
-            copy,
-        );
+        let covered = entries::cover_all(&mut self.entries, &self.bounds, offset, len);
+        self.covered = self.covered.saturating_add(covered);
+        entries::compact(&mut self.entries, &mut self.bounds, &mut self.covered);
+        if self.queues {
+            let bytes = copy;
+            let range = Entry::Range(DurableRange { offset, bytes });
+            entries::push(&mut self.entries, range);
+        }
     }
 
     /// Completes a started sync: drops its marker, if it exists, and all entries before it.

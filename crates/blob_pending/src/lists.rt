@@ -134,15 +134,6 @@ impl<S: Durable> Lists<S> {
         Ok(i)
     }
 
-    /// Reserves capacity in the list at `i`.
-    fn reserve(&mut self, i: usize, room: Room) -> Result<(), AllocError>
-        requires { i < vec_len self.old.all.lists }
-        ensures held { lists_of S.place self.new.all.lists.items ≡ lists_of S.place self.old.all.lists.items }
-        ensures ok { OnOk result (HasRoomIn self.new.all.lists.items i room) }
-    {
-        self.all.lists[i].reserve(room)
-    }
-
     /// Reserves capacity in the list of a handle's incarnation and returns its index. Tries `hint` first, and adds the list if
     /// there is none. The only error is `Memory`. The lists then have the same entries.
     pub fn room_for<B: Blob<S>>(
@@ -156,7 +147,7 @@ impl<S: Durable> Lists<S> {
         ensures memory { OnErr result (IsMemory result) }
     {
         let i = self.place_for(blob, hint)?;
-        self.reserve(i, room)?;
+        self.all.lists[i].reserve(room)?;
         Ok(i)
     }
 

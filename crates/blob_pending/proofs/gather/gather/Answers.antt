@@ -1,12 +1,41 @@
-use Rattle.std.proofs.Common.{rules, List, subst}
+use Rattle.std.proofs.Common.{rules, ◌≡◌, ◌∙◌, ◌++◌, ◌+◌, sym, ap, subst, drop, arith, List, append_assoc, append-nil}
 use Rattle.std.specs.List.Sorted.{IsPermutation}
+use Rattle.std.proofs.lemmas.List.{at_drop_all}
 use Rattle.std.proofs.lemmas.List.Sorted.{IsPermutation-map, IsNonDecreasingBy-from_sort_by_key}
+use Rattle.blob_model.specs.Log.{Need}
+use Rattle.blob_model.specs.Order.{waiting_of_all}
+use Rattle.blob_model.specs.Pending.{has_marker, waiting}
+use Rattle.blob_pending.specs.declared.entry.Entry.{Entry}
+use Rattle.blob_pending.specs.declared.incarnation.Incarnation.{Incarnation}
 use Rattle.blob_draws.specs.declared.draw.Draw.{Draw}
-use Rattle.blob_draws.specs.Drawings.{Drawing, drawing_in, drawings_in}
+use Rattle.blob_draws.specs.Drawings.{Drawing, drawing_in, drawings_of, drawings_in}
+use Rattle.blob_pending.specs.Lists.{lists_of}
+use Rattle.blob_pending.specs.Views.{left_in}
+use Rattle.blob_pending.proofs.Gathering.{lists_more}
+use Rattle.blob_pending.proofs.Unmarked.{unmarked_waits, unmarked_none}
 use Rattle.blob_pending.proofs.gather.gather.Goals as goal
 
+pub gather_unmarked-requires : goal.gather_unmarked-requires
+gather_unmarked-requires g c = ap has_marker c.unmarked.ensures ∙ unmarked_none (left_in c.deref.result.now)
+
+pub loop-list-preserved : goal.loop-list-preserved
+loop-list-preserved g c place =
+    let x = c.list-item.result in
+    let i = c.loop-list.list-index in
+    let done : List Drawing = drawings_in c.loop-list.draws.items in
+    let later : List Drawing = drawings_of (waiting_of_all (lists_of place (drop (i + 1) c.args.lists.now))) in
+    let here : waiting (left_in c.unmarked.result.now) ≡ waiting (left_in x.entries.items) = ap waiting c.unmarked.ensures ∙ unmarked_waits (left_in c.deref.result.now) ∙ ap (λ (q : List Entry). waiting (left_in q)) c.deref.ensures.value in
+    ap (λ (l : List Drawing). l ++ later) (c.in_ok-gather_unmarked.ensures ∙ ap (λ (ns : List Need). done ++ drawings_of ns) here)
+    ∙ append_assoc done (drawings_of (waiting (left_in x.entries.items))) later
+    ∙ sym (ap (λ (l : List Drawing). done ++ l) (lists_more place c.args.lists.now i x (omega arith) c.list-item.is))
+    ∙ c.loop-list.invariant place
+
 pub returns-clause-all : goal.returns-clause-all
-returns-clause-all g c place = subst (λ (l : List Drawing). IsPermutation l (drawings_in c.sort_unstable_by_key.new.self.items)) (c.in_ok-draws.ensures place) (IsPermutation-map drawing_in c.in_ok-draws.draws.items c.sort_unstable_by_key.new.self.items c.sort_unstable_by_key.ensures.permutation)
+returns-clause-all g c place =
+    let done : List Drawing = drawings_in c.loop-list.draws.items in
+    let all : done ≡ drawings_of (waiting_of_all (lists_of place c.args.lists.now)) =
+    sym (append-nil done) ∙ sym (ap (λ (l : List Drawing). done ++ l) (at_drop_all (λ (l : List (Incarnation g.row.O.Denot)). drawings_of (waiting_of_all (lists_of place l))) c.args.lists.now c.loop-list.list-index (omega arith))) ∙ c.loop-list.invariant place in
+    subst (λ (l : List Drawing). IsPermutation l (drawings_in c.sort_unstable_by_key.new.self.items)) all (IsPermutation-map drawing_in c.loop-list.draws.items c.sort_unstable_by_key.new.self.items c.sort_unstable_by_key.ensures.permutation)
 
 pub returns-clause-rising : goal.returns-clause-rising
 returns-clause-rising g c = IsNonDecreasingBy-from_sort_by_key (λ (d : Draw). d.number) _ c.sort_unstable_by_key.ensures.sorted (λ a r q k. search rules)

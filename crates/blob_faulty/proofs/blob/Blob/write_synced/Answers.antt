@@ -22,7 +22,7 @@ lay_range-requires-clause-room g c =
 pub returns-clause-recorded : goal.returns-clause-recorded
 returns-clause-recorded g c =
     let old : View g.row.R.Denot = view_of g.S.Durable g.B.Blob c.args.self.now c.args.store.now in
-    let mid : View g.row.R.Denot = view_of g.S.Durable g.B.Blob (record c.args.self.now { list = c.in_ok-list.list }) c.room_for.new.store in
+    let mid : View g.row.R.Denot = view_of g.S.Durable g.B.Blob (record c.args.self.now { list = c.in_ok-list.list }) (record c.args.store.now { lists = c.room_for.new.self }) in
     let new : View g.row.R.Denot = view_of g.S.Durable g.B.Blob c.lay_range.new.self c.lay_range.new.store in
     let room : Unchanged old mid = first_of (search rules, grind (arith, common_steps)) in
     subst (λ (b : List ℕ). Recorded g.B.Blob.is_direct true old new (laid_runs ((c.args.offset, b) ∷ [])) (error_of c.lay_range.result)) c.in_ok-owned.ensures.ok
