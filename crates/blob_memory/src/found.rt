@@ -67,7 +67,6 @@ impl Held {
 
     /// Returns what an open finds of an incarnation, current or ended. Its header is known, so none is parsed. The
     /// error is `BlobVersionMismatch` or `Memory`.
-    #[inline(always)]
     pub fn found(
         &self,
         is_ended: bool,

@@ -67,7 +67,6 @@ impl Clone for Origin {
 
 impl Origin {
     /// Makes an origin from its parts. The only error is out of memory.
-    #[inline(always)]
     pub fn new(
         alloc: Global,
         partition: &str,

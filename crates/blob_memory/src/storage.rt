@@ -76,7 +76,6 @@ impl Storage {
 }
 
 /// Returns the result of an open: the handle, its size and its version.
-#[inline(always)]
 fn opened(origin: Origin, found: Found) -> (Blob, u64, BlobVersion)
     ensures place { place result.0 ≡ origin }
     ensures live { live result.0 ≡ found.live.items }

@@ -123,7 +123,6 @@ impl Bytes {
     }
 
     /// Copies the bytes. The copy shares every page that is shared already. The only error is out of memory.
-    #[inline(always)]
     pub fn copy(&self) -> Result<Bytes, AllocError>
         ensures { IfOk result (λ copy. copy.items ≡ self.now.items) }
     {

@@ -19,7 +19,6 @@ impl Form {
     ghost use Rattle.blob_pages.specs.Forms.{content, capacity, Becomes, MayBecome, Tried};
 
     /// Copies these bytes. The only error is out of memory.
-    #[inline(always)]
     pub fn from_slice(alloc: Global, bytes: &[u8]) -> Result<Form, AllocError>
         ensures { IfOk result (λ made. content made ≡ bytes.now) }
     {
@@ -268,7 +267,6 @@ impl Form {
     }
 
     /// Copies the bytes. The copy shares every page that is shared already. The only error is out of memory.
-    #[inline(always)]
     pub fn copy(&self) -> Result<Form, AllocError>
         ensures { IfOk result (λ copy. content copy ≡ content self.now) }
     {

@@ -22,7 +22,6 @@ impl Contents {
 
     /// Returns what an open finds of a name's file, with a copy of the logical bytes. The error is that of the open, or
     /// `Memory`.
-    #[inline(always)]
     pub fn find(
         &self,
         partition: &str,
