@@ -72,7 +72,7 @@ is_digit : (o : Option ℕ) → unwrap_or o 0 ≤ 15 → unwrap_or o 255 < 128
 is_digit None small h = absurd (omega (arith, h))
 is_digit (Some v) small h = (refl, refl, small)
 
--- a pair whose values have no top bit
+-- a pair of values without a top bit
 pair_good : (a b i v : ℕ) → value_of a < 128 → value_of b < 128 → v ≡ ((value_of a * 16) % 256 + value_of b) % 256 → pair_value a b i ≡ Ok v
 pair_good a b i v ha hb e =
     let da = is_digit (hex_digit_value a) (digit_small a) ha in

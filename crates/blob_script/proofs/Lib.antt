@@ -3,6 +3,7 @@ pub mod HexFields
 pub mod HexLanes
 pub mod HexParts
 pub mod Numbers
+pub mod OtherWords
 pub mod SaidLines
 pub mod Through
 pub mod Tokens

@@ -2,7 +2,10 @@
 use Rattle.std.proofs.Common.{◌≡◌, ◌==◌, ℕ, List, ◌∷◌, Bool, true, false, Option, Some, None, if◌then◌else◌, slice_index, refl, sym, ap, ◌∙◌, cond, option_and_then, IsUtf8}
 use Rattle.std.specs.Str.{is_utf8, byte}
 use Rattle.std.proofs.lemmas.Str.{is_utf8-from_IsUtf8, IsUtf8-from_is_utf8}
-use Rattle.blob_script.specs.Lines.{Said, Blank, said_of, line_of, statement}
+use Rattle.blob_script.specs.Acts.{Act}
+use Rattle.blob_script.specs.CallLines.{call}
+use Rattle.blob_script.specs.Forms.{◌>>=◌, gives}
+use Rattle.blob_script.specs.Lines.{Said, Blank, Call, said_of, line_of, statement}
 use Rattle.blob_script.specs.Tokens.{is_empty, tokens}
 
 abbrev pub is_comment : List ℕ → Bool
@@ -32,3 +35,11 @@ pub said_statement : (word : List ℕ) (rest : List (List ℕ)) (said : Said) (l
 said_statement word rest said left h read =
     ap (λ b. cond b (Some Blank) (option_and_then (λ read. unless_left read.0 read.1) (statement word rest))) h
     ∙ ap (option_and_then (λ read. unless_left read.0 read.1)) read
+
+-- a line with a call
+pub call_said : (word : List ℕ) (tokens : List (List ℕ)) (act : Act) (rest : List (List ℕ)) → call word tokens ≡ Some (act, rest)
+    → (do asked ← call word; gives (Call asked)) tokens ≡ Some (Call act, rest)
+call_said word tokens act rest is = ap (option_and_then (λ (read : Act × List (List ℕ)). Some (Call read.0, read.1))) is
+
+pub call_missing : (word : List ℕ) (tokens : List (List ℕ)) → call word tokens ≡ None → (do asked ← call word; gives (Call asked)) tokens ≡ None
+call_missing word tokens none = ap (option_and_then (λ (read : Act × List (List ℕ)). Some (Call read.0, read.1))) none

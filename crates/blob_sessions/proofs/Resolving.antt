@@ -32,7 +32,7 @@ not_created (Err InvalidChecksum) e = omega (arith, ap (λ (h : ParsedHeader). h
 not_created (Err InvalidPadding) e = omega (arith, ap (λ (h : ParsedHeader). h.status) e)
 not_created (Err (Truncated required_len raw_len)) e = omega (arith, ap (λ (h : ParsedHeader). h.status) e)
 
--- a blob whose header is parsed
+-- a blob with a header that parses
 pub has_header : (raw : List ℕ) (raw_len : ℕ) (accepts : Accepts) (reply : ParsedHeader) → OfBlobs raw raw_len (λ blob. ¬ (IsCreated raw_len blob))
     → ParsesHeader raw raw_len accepts reply → ResolvesHeader raw raw_len accepts reply
 has_header raw raw_len accepts reply not parses =

@@ -157,7 +157,7 @@ fn is_to_create(alloc: Global, raw: &[u8], raw_len: u64) -> bool
     is_none(&found)
 }
 
-/// Returns whether a resolution found that the blob is to be created. An error, even `Memory`, means that it isn't.
+/// Returns whether a resolution found that the blob must be created. An error, even `Memory`, means that it isn't.
 fn is_none(found: &Result<Option<(u64, BlobVersion, u64)>, Error>) -> bool
     ensures is { OnTrue result (found.now ≡ Ok None) }
     ensures not { OnFalse result (found.now ≢ Ok None) }

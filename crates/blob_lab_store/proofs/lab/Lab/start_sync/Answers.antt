@@ -1,12 +1,11 @@
-use Rattle.std.proofs.Common.{rules, ◌<◌, length, map, set, refl, sym, ap, ◌∙◌, Some, subst}
+use Rattle.std.proofs.Common.{rules, ◌<◌, length, set, refl, ap, ◌∙◌, Some, subst}
 use Rattle.std.specs.Prelude.{option_map}
-use Rattle.std.proofs.lemmas.List.{set-get_or}
 use Rattle.blob_script.specs.Acts.{StartSync}
 use Rattle.blob_lab_model.proofs.TableSteps.{map_made}
 use Rattle.blob_lab_model.specs.States.{Held}
 use Rattle.blob_lab_store.specs.LabStands.{StartsSync}
 use Rattle.blob_lab_store.specs.Tables.{as_held, handles_of, syncs_of}
-use Rattle.blob_lab_store.proofs.EmptySlots.{held_at}
+use Rattle.blob_lab_store.proofs.EmptySlots.{closed_at, open_at, put_back}
 use Rattle.blob_lab_store.proofs.ThroughHandles.{through_none, through_started}
 use Rattle.blob_lab_store.proofs.lab.Lab.start_sync.Goals as goal
 
@@ -15,11 +14,12 @@ returns-in-Some c =
     let slots = c.args.self.now.handles.slots.items in
     let number = c.args.number in
     let slot = c.index_mut.result.now in
+    let read = c.index_mut.ensures.value in
     let inside : number < length slots = search rules in
     let h = as_held c.in-Some.handle in
     let same = c.start_sync.ensures.held in
     through_started c.args.self.now _ number h _ refl
-    (held_at as_held slots number slot inside ∙ ap (option_map as_held) (sym c.index_mut.ensures.value ∙ c.in-Some.is))
+    (open_at as_held slots number slot inside read c.in-Some.handle c.in-Some.is)
     (subst (λ (x : Held). StartsSync c.args.self.now.wrapper h (syncs_of c.args.self.now.syncs) c.start_sync.result c.start_sync.new.wrapper x (syncs_of c.start_sync.new.syncs)) same c.start_sync.ensures)
     (map_made (option_map as_held) slots _ number (Some c.start_sync.new.self) refl ∙ ap (λ (x : Held). set (handles_of c.args.self.now.handles) number (Some x)) same)
 
@@ -28,7 +28,8 @@ returns-in-None c =
     let slots = c.args.self.now.handles.slots.items in
     let number = c.args.number in
     let slot = c.index_mut.result.now in
+    let read = c.index_mut.ensures.value in
     let inside : number < length slots = search rules in
     through_none c.args.self.now _ number StartSync refl refl
-    (held_at as_held slots number slot inside ∙ ap (option_map as_held) (sym c.index_mut.ensures.value ∙ c.in-None.is)) refl
-    (ap (map (option_map as_held)) (ap (set slots number) c.index_mut.ensures.value ∙ set-get_or slots number slot))
+    (closed_at as_held slots number slot inside read c.in-None.is) refl
+    (put_back as_held slots number slot inside read)
