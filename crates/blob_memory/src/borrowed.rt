@@ -7,7 +7,7 @@ ghost use Rattle.blob_memory.specs.Store.{place, live, live_room, WriteMayReturn
 ghost use Rattle.blob_memory.specs.declared.storage.Storage.{Storage};
 
 use crate::blob::Blob;
-use crate::live;
+use crate::ranges;
 use blob_base::Error;
 use blob_pages::overlay;
 
@@ -44,7 +44,7 @@ impl Blob {
         ensures room { live_room self.old ≤ live_room self.new }
         ensures place { place self.new ≡ place self.old }
     {
-        let end = live::logical_end(self.origin.data_offset(), offset, bytes.len())?;
+        let end = ranges::logical_end(self.origin.data_offset(), offset, bytes.len())?;
         overlay::make_room(&mut self.live, end)?;
         overlay::write_live_slice(&mut self.live, offset as usize, bytes);
         Ok(())

@@ -7,8 +7,8 @@ ghost use Rattle.blob_model.specs.Directory.{is_current};
 ghost use Rattle.blob_model.specs.Runs.{is_chosen};
 
 use crate::blob::Blob;
-use crate::live::logical_end;
 use crate::origin::Origin;
+use crate::ranges::logical_end;
 use crate::storage::Storage;
 use blob_base::{Error, IoBufs};
 use blob_pages::{Bytes, overlay};

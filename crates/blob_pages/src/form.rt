@@ -84,7 +84,7 @@ impl Form {
         self.reserve_more(len)
     }
 
-    /// Reserves capacity that isn't there yet, as `reserve`.
+    /// Reserves more capacity than there is, as `reserve`.
     #[inline(never)]
     fn reserve_more(&mut self, len: usize) -> Result<(), AllocError>
         requires { capacity self.old < len }

@@ -72,7 +72,7 @@ returns-then-self-clause-half g c =
     ap (λ (r : List Pending). filter is_left r) c.push.ensures.views ∙ filter-append is_left (views c.compact.new.entries.items) (Again c.args.offset c.args.copy.items ∷ []) in
     omega (arith, c.compact.ensures.half, c.push.ensures.len, ap length left, length-append (left_in c.compact.new.entries.items) (Again c.args.offset c.args.copy.items ∷ []))
 
--- What the fields beside the entries say of them.
+-- What the other fields say of the entries.
 
 pub invariant_of-self : goal.invariant_of-self
 invariant_of-self g c =
