@@ -11,7 +11,7 @@ from functools import lru_cache
 from typing import List, Optional, Tuple
 
 from .errors import BadLine
-from .shapes import LAST_VERSION, MAX, misplaced, reason_of, shown
+from .shapes import LAST_VERSION, MAX, misplaced, reason_of, shown, usual_tokens
 
 _NAME = re.compile(r"[A-Za-z0-9_-]+")
 # One token that is no partition name, so that a call with it makes the draw and gets the refusal of every such name.
@@ -108,6 +108,9 @@ def needs_draws(tokens: List[str]) -> bool:
 
 def tokens_of(line: str) -> List[str]:
     """The tokens of a line that is a call; none of an empty line and of a comment. Raises `BadLine` with the reason."""
+    usual = usual_tokens(line)
+    if usual is not None:
+        return usual
     if "\n" in line:
         raise BadLine(f"bad call: {line!r} is more than one line")
     if not _is_text(line):
