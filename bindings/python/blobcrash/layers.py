@@ -233,7 +233,8 @@ class Library:
         return 0
 
     def __del__(self) -> None:
-        self.close()
+        if self._is_open:
+            self.close()
 
     def _added(self, name: str) -> Any:
         """A function that libraries of earlier versions don't have."""

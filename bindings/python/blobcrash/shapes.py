@@ -16,7 +16,9 @@ _SHOWN = 40
 # The usual form of a call: valid names of partitions, numbers that are small enough by their length, one space between tokens. The two
 # numbers of a rate are compared afterwards.
 _NUMBER, _VERSION = "[0-9]{1,19}", "[0-9]{1,4}"
-_PARTITION, _BYTES = "[A-Za-z0-9_-]+", "(?:-|(?:[0-9a-fA-F]{2})+)"
+_PARTITION, _DIGIT = "[A-Za-z0-9_-]+", "[0-9a-fA-F]"
+# Long runs of digits in steps, each of which is one loop of the matcher.
+_BYTES = f"(?:-|(?={_DIGIT})(?:{_DIGIT}{{128}})*(?:{_DIGIT}{{16}})*(?:{_DIGIT}{{2}})*)"
 _RATE = f"{_NUMBER} {_NUMBER}"
 _MODE = "(?:prefix|subset|sectors [1-9][0-9]{0,18})"
 _FORMS = (
@@ -33,7 +35,7 @@ _FORMS = (
     f"config resize {_RATE} {_RATE}",
     f"config write {_RATE} {_RATE} {_MODE}",
 )
-_USUAL = re.compile("|".join(_FORMS))
+_is_usual = re.compile("|".join(_FORMS)).fullmatch
 
 # The arguments of each line by its first words, each named by its kind. What is in brackets may be left out, and `..` are any number of
 # further ones.
@@ -90,7 +92,7 @@ def shown(token: str) -> str:
 
 def usual_tokens(line: str) -> Optional[List[str]]:
     """Returns the tokens of a call in its usual form; `None` for any other line, which may still be a call."""
-    if not _USUAL.fullmatch(line):
+    if not _is_usual(line):
         return None
     tokens = line.split(" ")
     if tokens[0] == "config":

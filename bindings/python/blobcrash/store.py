@@ -70,8 +70,9 @@ class Store:
         self._has_draws = bool(self._words) or seed is not None
         for setting in settings:
             lines.append(self._setting_line(setting))
+        preamble = "\n".join([*lines, ""]).encode()
         # The script: a line as bytes, a note as its text, and a read or a write as a tuple of its arguments.
-        self._lines: List[Any] = [line.encode() for line in lines]
+        self._lines: List[Any] = preamble.split(b"\n")[:-1]
         self._allow_stale = bool(allow_stale)
         # The handles that were opened and not closed, by their numbers.
         self._opened: Dict[int, Blob] = {}
@@ -83,7 +84,7 @@ class Store:
         way = by or (Library if pushed else default_way())
         if pushed and not hasattr(way, "push_words"):
             raise ValueError("words can be pushed with `by=Library` alone")
-        self._layer = way("".join([line + "\n" for line in self._words_line() + lines]).encode())
+        self._layer = way("\n".join([*self._words_line(), ""]).encode() + preamble)
 
     def __enter__(self) -> Store:
         return self
@@ -149,10 +150,10 @@ class Store:
             self._lines.append(line.encode())
             return []
         words = self._ask(line)
-        if tokens[0] in ("crash", "reopen"):
-            self._end_handles(f"the store had the call `{tokens[0]}` since")
         if tokens[0] == "remove":
             self._end_blobs(tokens[1], unhex(tokens[2]) if tokens[2:] else None)
+        elif tokens[0] in ("crash", "reopen"):
+            self._end_handles(f"the store had the call `{tokens[0]}` since")
         return words
 
     def open(self, partition: str, name: bytes, versions: Versions = None) -> Tuple[Blob, int]:
