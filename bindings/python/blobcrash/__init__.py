@@ -20,6 +20,7 @@ again. Its lines and replies are those of docs/FORMATS.md. A store belongs to on
 To use the package without installing it, copy this folder: it needs nothing but Python 3.8 or later.
 """
 
+from .blob import Blob
 from .checking import Fault, check
 from .cutting import cut, cut_lines
 from .errors import (
@@ -54,13 +55,14 @@ from .exploration import Explored, explore
 from .failures import Failed
 from .files import BlobFile
 from .follow import ExploredStore, NotDeterministic, Unexplorable
+from .foreign import TOP, library
 from .judging import acknowledgement, judge
-from .layers import TOP, Library, Program, Reply, explain, library, program, run
+from .layers import Library, Program, Reply, explain, program, run
 from .power import PowerLoss
 from .seeding import Seeded, SeededStore, seeds
 from .shrinking import shrink
 from .spread import LostWork
-from .store import Blob, Store
+from .store import Store
 
 __version__ = "0.2.0"
 

@@ -30,7 +30,9 @@ class _OfBlob(StorageError):
 
     @staticmethod
     def _fields_of(texts: list) -> Tuple[str, ...]:
-        return tuple("" if at == 1 and text == "-" else text for at, text in enumerate(texts))
+        if texts[1:2] == ["-"]:
+            texts[1] = ""
+        return tuple(texts)
 
 
 class OffsetOverflow(StorageError):

@@ -6,7 +6,7 @@ import io
 from typing import TYPE_CHECKING, Any, Optional
 
 if TYPE_CHECKING:
-    from .store import Blob
+    from .blob import Blob
 
 
 class BlobFile(io.RawIOBase):

@@ -7,13 +7,13 @@ from __future__ import annotations
 
 import operator
 import re
+from functools import lru_cache
 from typing import List, Optional, Tuple
 
 from .errors import BadLine
-from .shapes import LAST_VERSION, MAX, misplaced, reason_of, shown
+from .shapes import LAST_VERSION, MAX, misplaced, reason_of, shown, usual_tokens
 
 _NAME = re.compile(r"[A-Za-z0-9_-]+")
-_DIGITS = re.compile(r"[0-9]+")
 # One token that is no partition name, so that a call with it makes the draw and gets the refusal of every such name.
 _NO_NAME = "!"
 
@@ -49,17 +49,13 @@ def unhex(word: str) -> bytes:
 
 def partition_word(partition: str) -> str:
     """The token of a partition. For a text that is no partition name it is one that is refused as that name is."""
-    if not isinstance(partition, str):
-        raise TypeError(f"a partition is a str, not {type(partition).__name__}")
-    partition = str.__str__(partition)
+    partition = text_of(partition, "a partition")
     return partition if _NAME.fullmatch(partition) else _NO_NAME
 
 
 def image_line(partition: str, name: bytes, data: bytes) -> str:
     """The line of a raw blob. Its partition may be no partition name, but it must be one token."""
-    if not isinstance(partition, str):
-        raise TypeError(f"a partition is a str, not {type(partition).__name__}")
-    partition = str.__str__(partition)
+    partition = text_of(partition, "a partition")
     if not partition or " " in partition or "\n" in partition or not _is_text(partition):
         raise ValueError(f"the partition of an image is a text without spaces and line feeds, not {partition!r}")
     return f"image {partition} {hex_of(data_of(name, 'a name'))} {hex_of(data_of(data, 'an image'))}"
@@ -76,23 +72,35 @@ def versions_words(versions: Optional[Tuple[int, int]]) -> str:
 
 
 def comment_lines(text: str) -> List[str]:
-    """The comment lines of a text, one for each of its lines."""
-    if not isinstance(text, str):
-        raise TypeError(f"a note is a str, not {type(text).__name__}")
+    """The comment lines of a note, one for each of its lines."""
+    if text.isascii() and "\n" not in text:
+        return [f"# {text}"]
     text = text.encode("utf-8", "backslashreplace").decode()
     return [f"# {line}" for line in text.split("\n")]
 
 
+def text_of(text: str, what: str) -> str:
+    """An argument that is a `str`, without what a class of its own changes. Raises `TypeError`."""
+    if not isinstance(text, str):
+        raise TypeError(f"{what} is a str, not {type(text).__name__}")
+    return str.__str__(text)
+
+
 def setting_tokens(setting: str) -> List[str]:
     """The tokens of the `config` line of a setting. Raises `BadLine` if it is none."""
-    if not isinstance(setting, str):
-        raise TypeError(f"a setting is a str, not {type(setting).__name__}")
-    return tokens_of("config " + str.__str__(setting))
+    return tokens_of("config " + text_of(setting, "a setting"))
+
+
+@lru_cache(maxsize=256)
+def setting_line(setting: str) -> Tuple[str, bool]:
+    """The `config` line of a setting, which is exactly a `str`, and whether it needs draws. Raises `BadLine` if it is none."""
+    tokens = setting_tokens(setting)
+    return " ".join(tokens), needs_draws(tokens)
 
 
 def needs_draws(tokens: List[str]) -> bool:
     """Whether a `config` line sets a rate that takes words of the generator."""
-    rates = [int(token) for token in tokens[2:] if _DIGITS.fullmatch(token)]
+    rates = [int(token) for token in tokens[2:6] if token.isdigit()]
     pairs = list(zip(rates[0::2], rates[1::2]))
     is_partial = tokens[1] == "resize" and all(top > 0 for top, _ in pairs)
     return is_partial or any(0 < top < bottom for top, bottom in pairs)
@@ -100,13 +108,14 @@ def needs_draws(tokens: List[str]) -> bool:
 
 def tokens_of(line: str) -> List[str]:
     """The tokens of a line that is a call; none of an empty line and of a comment. Raises `BadLine` with the reason."""
-    if not isinstance(line, str):
-        raise TypeError(f"a line is a str, not {type(line).__name__}")
+    usual = usual_tokens(line)
+    if usual is not None:
+        return usual
     if "\n" in line:
         raise BadLine(f"bad call: {line!r} is more than one line")
     if not _is_text(line):
         raise BadLine(f"bad call: {line!r} isn't UTF-8")
-    tokens = [token for token in str.__str__(line).split(" ") if token]
+    tokens = [token for token in line.split(" ") if token]
     if not tokens or tokens[0].startswith("#"):
         return []
     why = misplaced(tokens[0]) if tokens[0] in ("image", "words", "seed") else reason_of(tokens)

@@ -15,8 +15,9 @@ import os
 from typing import Any, Dict, List, NamedTuple, Optional, Tuple, Union
 
 from .errors import BadLine
+from .foreign import library
 from .grammar import LAST_VERSION, hex_of, unhex
-from .layers import Library, Program, library
+from .layers import Library, Program
 
 Name = Tuple[str, str]
 

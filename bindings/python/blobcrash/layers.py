@@ -12,13 +12,29 @@ from typing import Any, List, NamedTuple, Optional, Union
 
 from .checking import check
 from .errors import BadLine, Interrupted, LibraryMissing, NotMade, ProgramEnded
-from .grammar import hex_of, unhex
+from .foreign import (
+    BAD_LINE,
+    CLOSED,
+    DONE,
+    ENDLESS,
+    INSIDE,
+    NO_MEMORY,
+    NO_ROOM,
+    OTHER_REPLY,
+    TOP,
+    UNPRINTED,
+    Ran,
+    Session,
+    library,
+    loaded,
+)
+from .grammar import data_of, hex_of, unhex
 
-_HERE = os.path.dirname(os.path.abspath(__file__))
-# The top of the repository that this package lies in, if it lies in one.
-TOP = os.path.dirname(os.path.dirname(os.path.dirname(_HERE)))
-# The shared library of an installed package.
-_INSIDE = os.path.join(_HERE, "libblobcrash.so")
+_LINE_FEED = 10
+# The first buffer for replies, and its length and the two truth values as arguments of the library.
+_Room = ctypes.c_char * 4096
+_ROOM = ctypes.c_size_t.from_param(4096)
+_FALSE, _TRUE = ctypes.c_bool.from_param(False), ctypes.c_bool.from_param(True)
 
 
 def program() -> str:
@@ -26,15 +42,9 @@ def program() -> str:
     return os.environ.get("BLOBCRASH", os.path.join(TOP, "blobcrash"))
 
 
-def library() -> str:
-    """Returns the path of the shared library: `$BLOBCRASH_LIBRARY`, the one in this package, or the one that the repository built."""
-    here = _INSIDE if os.path.exists(_INSIDE) else os.path.join(TOP, "out", "libblobcrash.so")
-    return os.environ.get("BLOBCRASH_LIBRARY", here)
-
-
 def default_way() -> type:
     """Returns the way of a store that is given none: the library if it is part of this package, else the program."""
-    return Library if os.path.exists(_INSIDE) else Program
+    return Library if os.path.exists(INSIDE) else Program
 
 
 class Reply(NamedTuple):
@@ -82,7 +92,7 @@ class Program:
 
     def call(self, line: bytes) -> bytes:
         """Makes the call of a line, and returns its reply; nothing for an empty line and a comment."""
-        if b"\n" in line:
+        if _LINE_FEED in line:
             raise _bad(line)
         if self._lost is not None:
             self._refuse()
@@ -147,83 +157,40 @@ class Program:
             pass
 
 
-# What the library returns: bindings/c/blobcrash.h.
-
-_DONE, _ENDLESS, _BAD_LINE, _NO_MEMORY, _NO_ROOM, _CLOSED, _OTHER_REPLY, _UNPRINTED = range(8)
-
-
-class _Session(ctypes.Structure):
-    _fields_ = [("at", ctypes.c_void_p), ("is_open", ctypes.c_bool)]
-
-
-class _Ran(ctypes.Structure):
-    _fields_ = [("status", ctypes.c_uint32), ("len", ctypes.c_size_t)]
-
-
-class _ScriptRan(ctypes.Structure):
-    _fields_ = [("status", ctypes.c_uint32), ("len", ctypes.c_size_t), ("line", ctypes.c_uint64)]
-
-
-_string_at = ctypes.string_at
-_functions: Optional[ctypes.CDLL] = None
-
-
-def _loaded() -> ctypes.CDLL:
-    global _functions
-    if _functions is None:
-        try:
-            functions = ctypes.CDLL(library())
-        except OSError as error:
-            raise LibraryMissing(f"{error}: build it with `sh bindings/build.sh`, or name its file in BLOBCRASH_LIBRARY") from None
-        session, size = ctypes.POINTER(_Session), ctypes.c_size_t
-        for name, result, arguments in (
-            ("open", _ScriptRan, [session, ctypes.c_char_p, size]),
-            ("call", _Ran, [session, ctypes.c_char_p, size, ctypes.c_void_p, size]),
-            ("reply", _Ran, [session, ctypes.c_void_p, size]),
-            ("write", ctypes.c_uint32, [session, size, ctypes.c_uint64, ctypes.c_char_p, size, ctypes.c_bool]),
-            ("read", ctypes.c_uint32, [session, size, ctypes.c_uint64, ctypes.c_void_p, size]),
-            ("close", None, [session]),
-            ("run", _ScriptRan, [ctypes.c_char_p, size, ctypes.c_void_p, size]),
-        ):
-            function = getattr(functions, "blobcrash_" + name)
-            function.restype, function.argtypes = result, arguments
-        _functions = functions
-    return _functions
-
-
-def _check(status: int, line: bytes = b"") -> None:
-    if status == _BAD_LINE:
-        raise _bad(line)
-    if status == _CLOSED:
-        raise ValueError("the store is closed")
-    if status == _NO_MEMORY:
-        raise NotMade
-    if status != _DONE:
-        raise MemoryError
-
-
 class Library:
     """The layer in this process."""
 
+    # Whether `close` has anything to end.
+    _is_open = False
+
     def __init__(self, preamble: bytes = b"") -> None:
-        self._functions = _loaded()
-        self._c_read, self._c_write = self._functions.blobcrash_read, self._functions.blobcrash_write
-        self._session = _Session()
+        if type(preamble) is not bytes:
+            preamble = data_of(preamble, "a preamble")
+        self._functions = functions = loaded()
+        self._c_call, self._c_read, self._c_write = functions.blobcrash_call, functions.blobcrash_read, functions.blobcrash_write
+        self._session = Session()
         self._at = ctypes.byref(self._session)
-        self._room = ctypes.create_string_buffer(4096)
-        ran = self._functions.blobcrash_open(self._at, preamble, len(preamble))
-        if ran.status == _BAD_LINE:
-            raise _bad_at(preamble, ran.line, "bad preamble")
-        _check(ran.status)
+        # The numbers of a call, which are made once: a new object takes longer than a new value.
+        self._handle, self._offset, self._length = ctypes.c_size_t(), ctypes.c_uint64(), ctypes.c_size_t(len(preamble))
+        self._set_room(_Room(), _ROOM)
+        self._is_open = True
+        ran = functions.blobcrash_open(self._at, preamble, self._length)
+        if ran.status != DONE:
+            if ran.status == BAD_LINE:
+                raise _bad_at(preamble, ran.line, "bad preamble")
+            _check(ran.status)
 
     def call(self, line: bytes) -> bytes:
         """Makes the call of a line, and returns its reply; nothing for an empty line and a comment."""
-        if b"\n" in line:
+        if type(line) is not bytes:
+            line = data_of(line, "a line")
+        if _LINE_FEED in line:
             raise _bad(line)
-        ran = self._functions.blobcrash_call(self._at, line, len(line), self._room, len(self._room))
-        if ran.status == _DONE:
-            return ctypes.string_at(self._room, ran.len)
-        if ran.status in (_NO_ROOM, _UNPRINTED):
+        self._length.value = len(line)
+        ran = self._c_call(self._at, line, self._length, self._room_at, self._capacity)
+        if ran.status == DONE:
+            return self._room[: ran.len]
+        if ran.status in (NO_ROOM, UNPRINTED):
             return self._reply(ran)
         _check(ran.status, line)
         return b""
@@ -233,21 +200,22 @@ class Library:
         if length > len(self._room) and not self._has_grown(handle, offset, length):
             reply = self.call(line_of(handle, offset, length).encode()).decode()
             return unhex(reply[6:]) if reply.startswith("bytes ") else Reply(reply)
-        room = self._room
-        status = self._c_read(self._at, handle, offset, room, length)
-        if status == _DONE:
-            return _string_at(room, length)
-        return self._other(status)
+        self._handle.value, self._offset.value, self._length.value = handle, offset, length
+        status = self._c_read(self._at, self._handle, self._offset, self._room_at, self._length)
+        return self._room[:length] if status == DONE else self._other(status)
 
     def write(self, handle: int, offset: int, data: bytes, sync: bool = False) -> Optional[Reply]:
         """Writes bytes. Returns the reply if it isn't `ok`."""
-        status = self._c_write(self._at, handle, offset, data, len(data), sync)
-        return None if status == _DONE else self._other(status)
+        if type(data) is not bytes:
+            data = data_of(data, "the data of a write")
+        self._handle.value, self._offset.value, self._length.value = handle, offset, len(data)
+        status = self._c_write(self._at, self._handle, self._offset, data, self._length, _TRUE if sync else _FALSE)
+        return None if status == DONE else self._other(status)
 
     def words_left(self) -> int:
         """Returns how many words the generator has up to the last one that isn't zero. `ValueError` if a seed gives more."""
         ran = self._added("words_left")(self._at)
-        if ran.status == _ENDLESS:
+        if ran.status == ENDLESS:
             raise ValueError("a seed gives words without end")
         _check(ran.status)
         return ran.len
@@ -259,11 +227,13 @@ class Library:
 
     def close(self) -> int:
         """Ends the session, and returns 0."""
-        self._functions.blobcrash_close(self._at)
+        if self._is_open:
+            self._is_open = False
+            self._functions.blobcrash_close(self._at)
         return 0
 
     def __del__(self) -> None:
-        if hasattr(self, "_at"):
+        if self._is_open:
             self.close()
 
     def _added(self, name: str) -> Any:
@@ -272,34 +242,52 @@ class Library:
             function = getattr(self._functions, "blobcrash_" + name)
         except AttributeError:
             raise LibraryMissing(f"{library()} has no blobcrash_{name}: build it with `sh bindings/build.sh`") from None
-        session = ctypes.POINTER(_Session)
+        session = ctypes.POINTER(Session)
         if name == "words_left":
-            function.restype, function.argtypes = _Ran, [session]
+            function.restype, function.argtypes = Ran, [session]
         else:
             function.restype, function.argtypes = ctypes.c_uint32, [session, ctypes.POINTER(ctypes.c_uint64), ctypes.c_size_t]
         return function
+
+    def _set_room(self, room: Any, capacity: Any) -> None:
+        """Takes a buffer for replies, with its length as an argument of the library."""
+        self._room, self._room_at, self._capacity = room, ctypes.byref(room), capacity
+
+    def _grow(self, length: int) -> None:
+        self._set_room(ctypes.create_string_buffer(length), ctypes.c_size_t.from_param(length))
 
     def _has_grown(self, handle: int, offset: int, length: int) -> bool:
         """Grows the buffer for a read that ends within the blob. For any other length it doesn't allocate."""
         size = self.call(b"size %d" % handle)
         if not size.startswith(b"size ") or offset + length > int(size[5:]):
             return False
-        self._room = ctypes.create_string_buffer(length)
+        self._grow(length)
         return True
 
     def _other(self, status: int) -> Reply:
-        if status != _OTHER_REPLY:
+        if status != OTHER_REPLY:
             _check(status)
-        return Reply(self._reply(_Ran(_NO_ROOM, 0)).decode())
+        return Reply(self._reply(Ran(NO_ROOM, 0)).decode())
 
-    def _reply(self, ran: _Ran) -> bytes:
+    def _reply(self, ran: Ran) -> bytes:
         """The reply that is kept. Grows the buffer if it is too small."""
-        while ran.status == _NO_ROOM:
+        while ran.status == NO_ROOM:
             if ran.len > len(self._room):
-                self._room = ctypes.create_string_buffer(ran.len)
+                self._grow(ran.len)
             ran = self._functions.blobcrash_reply(self._at, self._room, len(self._room))
         _check(ran.status)
-        return ctypes.string_at(self._room, ran.len)
+        return self._room[: ran.len]
+
+
+def _check(status: int, line: bytes = b"") -> None:
+    if status == BAD_LINE:
+        raise _bad(line)
+    if status == CLOSED:
+        raise ValueError("the store is closed")
+    if status == NO_MEMORY:
+        raise NotMade
+    if status != DONE:
+        raise MemoryError
 
 
 def explain(script: str) -> Optional[str]:
@@ -318,12 +306,12 @@ def explain(script: str) -> Optional[str]:
 def run(script: bytes) -> bytes:
     """Runs a whole script in this process, and returns what the program prints. `BadLine` has the line's number and, in `replies`,
     what is printed before it."""
-    functions, room = _loaded(), ctypes.create_string_buffer(65536)
+    functions, room = loaded(), ctypes.create_string_buffer(65536)
     ran = functions.blobcrash_run(script, len(script), room, len(room))
-    if ran.status == _NO_ROOM:
+    if ran.status == NO_ROOM:
         room = ctypes.create_string_buffer(ran.len)
         ran = functions.blobcrash_run(script, len(script), room, len(room))
-    if ran.status == _BAD_LINE:
+    if ran.status == BAD_LINE:
         error = _bad_at(script, ran.line, "bad call")
         error.replies = ctypes.string_at(room, ran.len)
         raise error

@@ -13,6 +13,30 @@ _HEX = re.compile(r"-|([0-9a-fA-F]{2})+")
 # The most bytes of a token that are shown.
 _SHOWN = 40
 
+# The usual form of a call: valid names of partitions, numbers that are small enough by their length, one space between tokens. The two
+# numbers of a rate are compared afterwards.
+_NUMBER, _VERSION = "[0-9]{1,19}", "[0-9]{1,4}"
+_PARTITION, _DIGIT = "[A-Za-z0-9_-]+", "[0-9a-fA-F]"
+# Long runs of digits in steps, each of which is one loop of the matcher.
+_BYTES = f"(?:-|(?={_DIGIT})(?:{_DIGIT}{{128}})*(?:{_DIGIT}{{16}})*(?:{_DIGIT}{{2}})*)"
+_RATE = f"{_NUMBER} {_NUMBER}"
+_MODE = "(?:prefix|subset|sectors [1-9][0-9]{0,18})"
+_FORMS = (
+    f"(?:size|sync|close|startsync|finish) {_NUMBER}",
+    f"read {_NUMBER} {_NUMBER} {_NUMBER}",
+    f"writes? {_NUMBER} {_NUMBER} {_BYTES}",
+    f"(?:open|loose) {_PARTITION} {_BYTES}(?: {_VERSION} {_VERSION})?",
+    f"resize {_NUMBER} {_NUMBER}",
+    f"admit {_PARTITION} {_BYTES}",
+    f"remove {_PARTITION}(?: {_BYTES})?",
+    f"scan {_PARTITION}",
+    "crash|reopen|config clear",
+    f"config (?:open|read|sync|remove|scan) {_RATE}",
+    f"config resize {_RATE} {_RATE}",
+    f"config write {_RATE} {_RATE} {_MODE}",
+)
+_is_usual = re.compile("|".join(_FORMS)).fullmatch
+
 # The arguments of each line by its first words, each named by its kind. What is in brackets may be left out, and `..` are any number of
 # further ones.
 _SHAPES = {
@@ -64,6 +88,18 @@ def shown(token: str) -> str:
     data = token.encode("utf-8", "surrogateescape")
     texts = [{13: "\\r", 9: "\\t"}.get(byte) or (chr(byte) if 32 <= byte < 127 else f"\\x{byte:02x}") for byte in data[:_SHOWN]]
     return f"`{''.join(texts)}{'..' if len(data) > _SHOWN else ''}`"
+
+
+def usual_tokens(line: str) -> Optional[List[str]]:
+    """Returns the tokens of a call in its usual form; `None` for any other line, which may still be a call."""
+    if not _is_usual(line):
+        return None
+    tokens = line.split(" ")
+    if tokens[0] == "config":
+        rates = tokens[2:6]
+        if not all(_is_rate(top, bottom) for top, bottom in zip(rates[::2], rates[1::2])):
+            return None
+    return tokens
 
 
 def reason_of(tokens: List[str]) -> Optional[str]:

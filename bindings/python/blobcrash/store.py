@@ -1,22 +1,22 @@
-"""A store and its blobs."""
+"""A store."""
 
 from __future__ import annotations
 
 from threading import get_ident
 from typing import Any, Callable, Dict, Iterable, List, Optional, Tuple
 
-from .errors import BadLine, Interrupted, NeedsSeed, NotMade, StaleHandle, WrongThread, refusal
+from .blob import Blob
+from .errors import BadLine, Interrupted, NeedsSeed, NotMade, WrongThread, refusal
 from .files import BlobFile
 from .grammar import (
-    MAX,
     comment_lines,
     data_of,
     hex_of,
     image_line,
-    needs_draws,
     number,
     partition_word,
-    setting_tokens,
+    setting_line,
+    text_of,
     tokens_of,
     unhex,
     versions_words,
@@ -29,95 +29,6 @@ Versions = Optional[Tuple[int, int]]
 Rows = List[Tuple[int, str]]
 # The word after all that are pushed. It isn't zero, so that the library can tell how many words are left.
 _LAST_WORD = 1
-
-
-class Blob:
-    """An open handle. `with` closes it at the end.
-
-    After a crash, a reopen or the removal of the blob the handle is stale: it still has its live bytes, which no restart would leave.
-    Each use but `close` then raises `StaleHandle`, unless `allow_stale` is set.
-    """
-
-    def __init__(self, store: Store, handle: int, version: int, partition: str, name: bytes) -> None:
-        self._store = store
-        self._handle = handle
-        self._version = version
-        self._of = (partition, name)
-        self._stale = ""
-        self.allow_stale = store._allow_stale
-
-    def __enter__(self) -> Blob:
-        return self
-
-    def __exit__(self, *_: object) -> None:
-        # If the store can't be used any more, an error here would only hide why.
-        if self._handle in self._store._opened and not self._store._busy:
-            self.close()
-
-    @property
-    def handle(self) -> int:
-        """The number by which lines of a script name the handle."""
-        return self._handle
-
-    @property
-    def version(self) -> int:
-        """The blob's version."""
-        return self._version
-
-    @property
-    def is_stale(self) -> bool:
-        """Whether the handle is from before a crash, a reopen or the blob's removal."""
-        return bool(self._stale)
-
-    def read(self, offset: int, length: int) -> bytes:
-        """Reads exactly `length` bytes at a logical offset. Raises `BlobInsufficientLength` if there are fewer."""
-        if type(offset) is not int or type(length) is not int or not 0 <= offset <= MAX or not 0 <= length <= MAX:
-            offset, length = number(offset, "an offset"), number(length, "a length")
-        if self._stale:
-            self._refuse_stale()
-        return self._store._read(self._handle, offset, length)
-
-    def write(self, offset: int, data: bytes, sync: bool = False) -> None:
-        """Writes bytes at a logical offset. They may be lost until they are synced; with `sync` they are durable immediately."""
-        if type(offset) is not int or not 0 <= offset <= MAX:
-            offset = number(offset, "an offset")
-        if type(data) is not bytes:
-            data = data_of(data, "the data of a write")
-        if self._stale:
-            self._refuse_stale()
-        self._store._write(self._handle, offset, data, bool(sync))
-
-    def resize(self, length: int) -> None:
-        """Truncates or extends the blob to a logical length."""
-        self._ask(f"resize {self._handle} {number(length, 'a length')}")
-
-    def size(self) -> int:
-        """Returns the size of the blob in bytes, as the handle tracks it."""
-        return int(self._ask(f"size {self._handle}")[1])
-
-    def sync(self) -> None:
-        """Makes the handle's bytes durable."""
-        self._ask(f"sync {self._handle}")
-
-    def start_sync(self) -> int:
-        """Starts a sync, and returns its number. `Store.finish` returns its outcome."""
-        return int(self._ask(f"startsync {self._handle}")[1])
-
-    def close(self) -> None:
-        """Closes the handle. A stale handle may be closed, and one that `restart` closed stays so."""
-        self._store._check()
-        if self._handle in self._store._opened or not self._stale:
-            self._store._ask(f"close {self._handle}")
-            self._store._opened.pop(self._handle, None)
-
-    def _ask(self, line: str) -> List[str]:
-        if self._stale:
-            self._refuse_stale()
-        return self._store._ask(line)
-
-    def _refuse_stale(self) -> None:
-        if not self.allow_stale:
-            raise StaleHandle(f"handle {self._handle} is stale: {self._stale}. Open the blob again, or set `allow_stale`")
 
 
 class Store:
@@ -159,7 +70,9 @@ class Store:
         self._has_draws = bool(self._words) or seed is not None
         for setting in settings:
             lines.append(self._setting_line(setting))
-        self._lines: List[Any] = lines
+        preamble = "\n".join([*lines, ""]).encode()
+        # The script: a line as bytes, a note as its text, and a read or a write as a tuple of its arguments.
+        self._lines: List[Any] = preamble.split(b"\n")[:-1]
         self._allow_stale = bool(allow_stale)
         # The handles that were opened and not closed, by their numbers.
         self._opened: Dict[int, Blob] = {}
@@ -171,7 +84,7 @@ class Store:
         way = by or (Library if pushed else default_way())
         if pushed and not hasattr(way, "push_words"):
             raise ValueError("words can be pushed with `by=Library` alone")
-        self._layer = way("".join(line + "\n" for line in self.script).encode())
+        self._layer = way("\n".join([*self._words_line(), ""]).encode() + preamble)
 
     def __enter__(self) -> Store:
         return self
@@ -190,12 +103,22 @@ class Store:
     @property
     def script(self) -> List[str]:
         """The lines of all calls, and notes: a script that makes the same calls again."""
-        words = ["words " + " ".join(map(str, self._words))] if self._words else []
-        return words + [line if isinstance(line, str) else line_of(*line) for line in self._lines]
+        lines = self._words_line()
+        for line in self._lines:
+            if type(line) is bytes:
+                lines.append(line.decode())
+            elif type(line) is str:
+                lines += comment_lines(line)
+            else:
+                lines.append(line_of(*line))
+        return lines
+
+    def _words_line(self) -> List[str]:
+        return ["words " + " ".join(map(str, self._words))] if self._words else []
 
     def note(self, text: str) -> None:
         """Adds a comment to the script, a line for each of the text's."""
-        self._lines += comment_lines(text)
+        self._lines.append(text if type(text) is str else text_of(text, "a note"))
 
     def push_words(self, words: Iterable[int]) -> None:
         """Gives the words that the next draws take, before any that were pushed and weren't taken.
@@ -219,16 +142,18 @@ class Store:
 
         Raises `BadLine` if the text isn't exactly one line that is a call, a comment or empty. Nothing is then sent.
         """
+        if type(line) is not str:
+            line = text_of(line, "a line")
         tokens = tokens_of(line)
         if not tokens:
             self._check()
-            self._lines.append(str.__str__(line))
+            self._lines.append(line.encode())
             return []
-        words = self._ask(str.__str__(line))
-        if tokens[0] in ("crash", "reopen"):
-            self._end_handles(f"the store had the call `{tokens[0]}` since")
+        words = self._ask(line)
         if tokens[0] == "remove":
             self._end_blobs(tokens[1], unhex(tokens[2]) if tokens[2:] else None)
+        elif tokens[0] in ("crash", "reopen"):
+            self._end_handles(f"the store had the call `{tokens[0]}` since")
         return words
 
     def open(self, partition: str, name: bytes, versions: Versions = None) -> Tuple[Blob, int]:
@@ -317,13 +242,13 @@ class Store:
         self._ask(self._setting_line(setting))
 
     def _setting_line(self, setting: str) -> str:
-        tokens = setting_tokens(setting)
-        if not self._has_draws and needs_draws(tokens):
+        line, needs_draws = setting_line(setting if type(setting) is str else text_of(setting, "a setting"))
+        if needs_draws and not self._has_draws:
             raise NeedsSeed(
-                f"`{' '.join(tokens[1:])}` needs random draws: give the store a seed, `Store(seed=7)`, or the words of its generator, "
+                f"`{line[len('config ') :]}` needs random draws: give the store a seed, `Store(seed=7)`, or the words of its generator, "
                 "`Store(words=[..])`. Without them every draw is true, so that nothing would be lost; if you want that, say `words=[0]`"
             )
-        return " ".join(tokens)
+        return line
 
     def _open(self, word: str, partition: str, name: bytes, versions: Versions) -> Tuple[Blob, int]:
         name = data_of(name, "a name")
@@ -357,7 +282,7 @@ class Store:
     def _ended(self, error: BaseException) -> None:
         """Forgets a call that wasn't made. A call that may have been made ends the store."""
         if isinstance(error, PowerLoss):
-            self._lines[-1:] = ["# power loss"] if error.is_first else []
+            self._lines[-1:] = [b"# power loss"] if error.is_first else []
             self._busy = False
         elif isinstance(error, (BadLine, NotMade)):
             self._lines.pop()
@@ -366,18 +291,23 @@ class Store:
 
     def _ask(self, line: str, partition: Optional[str] = None) -> List[str]:
         """Makes the call of a line that is known to be one, and returns the words of its reply."""
-        self._check()
+        return self._call(line.encode(), partition).decode().split(" ")
+
+    def _call(self, line: bytes, partition: Optional[str] = None) -> bytes:
+        """Makes the call of a line that is known to be one, and returns its reply."""
+        if self._busy or get_ident() != self._thread:
+            raise self._unusable()
         self._busy = True
         self._lines.append(line)
         try:
-            reply = self._layer.call(line.encode()).decode()
+            reply = self._layer.call(line)
         except BaseException as error:
             self._ended(error)
             raise
         self._busy = False
-        if reply.startswith("error "):
-            raise refusal(reply, partition)
-        return reply.split(" ")
+        if reply != b"ok" and reply.startswith(b"error "):
+            raise refusal(reply.decode(), partition)
+        return reply
 
     def _read(self, handle: int, offset: int, length: int) -> bytes:
         if self._busy or get_ident() != self._thread:

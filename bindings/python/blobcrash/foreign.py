@@ -1,0 +1,65 @@
+"""The functions of the shared library, for `ctypes`: bindings/c/blobcrash.h."""
+
+from __future__ import annotations
+
+import ctypes
+import os
+from typing import Optional
+
+from .errors import LibraryMissing
+
+_HERE = os.path.dirname(os.path.abspath(__file__))
+# The top of the repository that this package lies in, if it lies in one.
+TOP = os.path.dirname(os.path.dirname(os.path.dirname(_HERE)))
+# The shared library of an installed package.
+INSIDE = os.path.join(_HERE, "libblobcrash.so")
+
+# How a call ended.
+DONE, ENDLESS, BAD_LINE, NO_MEMORY, NO_ROOM, CLOSED, OTHER_REPLY, UNPRINTED = range(8)
+
+
+class Session(ctypes.Structure):
+    _fields_ = [("at", ctypes.c_void_p), ("is_open", ctypes.c_bool)]
+
+
+class Ran(ctypes.Structure):
+    _fields_ = [("status", ctypes.c_uint32), ("len", ctypes.c_size_t)]
+
+
+class ScriptRan(ctypes.Structure):
+    _fields_ = [("status", ctypes.c_uint32), ("len", ctypes.c_size_t), ("line", ctypes.c_uint64)]
+
+
+_functions: Optional[ctypes.CDLL] = None
+
+
+def library() -> str:
+    """Returns the path of the shared library: `$BLOBCRASH_LIBRARY`, the one in this package, or the one that the repository built."""
+    here = INSIDE if os.path.exists(INSIDE) else os.path.join(TOP, "out", "libblobcrash.so")
+    return os.environ.get("BLOBCRASH_LIBRARY", here)
+
+
+def loaded() -> ctypes.CDLL:
+    """Returns the functions. The first call loads the library.
+
+    `open`, `call`, `read`, `write` and `close` have no `argtypes`: with these a call takes nearly twice as long. So each argument has to be
+    of the right type already. Pass a session and a buffer by `byref`, bytes as `bytes`, and a number as an object of its C type. Without
+    `argtypes` a Python number is passed as an `int`, and a `str` as wide characters.
+    """
+    global _functions
+    if _functions is None:
+        try:
+            functions = ctypes.CDLL(library())
+        except OSError as error:
+            raise LibraryMissing(f"{error}: build it with `sh bindings/build.sh`, or name its file in BLOBCRASH_LIBRARY") from None
+        size = ctypes.c_size_t
+        functions.blobcrash_open.restype = ScriptRan
+        functions.blobcrash_call.restype = Ran
+        functions.blobcrash_read.restype = functions.blobcrash_write.restype = ctypes.c_uint32
+        functions.blobcrash_close.restype = None
+        functions.blobcrash_reply.restype = Ran
+        functions.blobcrash_reply.argtypes = [ctypes.POINTER(Session), ctypes.c_void_p, size]
+        functions.blobcrash_run.restype = ScriptRan
+        functions.blobcrash_run.argtypes = [ctypes.c_char_p, size, ctypes.c_void_p, size]
+        _functions = functions
+    return _functions
