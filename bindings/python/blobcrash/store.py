@@ -144,6 +144,13 @@ class Store:
         """
         if type(line) is not str:
             line = text_of(line, "a line")
+        if line.startswith("write") and type(self._layer) is Library and line.isascii() and "\n" not in line:
+            # The library checks a long line faster, and makes no call if it is bad.
+            try:
+                return self._ask(line)
+            except BadLine:
+                tokens_of(line)
+                raise
         tokens = tokens_of(line)
         if not tokens:
             self._check()
