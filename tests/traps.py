@@ -344,6 +344,19 @@ def test_words_are_pushed():
         raises(ValueError, store.push_words, [0])
 
 
+def test_numbers_of_the_library_do_not_wrap():
+    if BY is Program:
+        return
+    layer = Library()
+    layer.call(b"open p 62")
+    layer.call(b"resize 0 8192")
+    for arguments in ((2**64, 0, 1), (-1, 0, 1), (0, 2**64, 1), (0, -1, 1), (0, 0, 8192 - 2**64)):
+        raises(ValueError, layer.read, *arguments)
+    for arguments in ((2**64, 0, b"a"), (-1, 0, b"a"), (0, 2**64, b"a"), (0, -1, b"a")):
+        raises(ValueError, layer.write, *arguments)
+    assert layer.read(0, 0, 8192) == bytes(8192)
+
+
 def test_long_reads_take_no_memory():
     with seeded() as store:
         blob, _ = store.open("p", b"b")

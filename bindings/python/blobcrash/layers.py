@@ -28,13 +28,15 @@ from .foreign import (
     library,
     loaded,
 )
-from .grammar import data_of, hex_of, unhex
+from .grammar import MAX, data_of, hex_of, unhex
 
 _LINE_FEED = 10
 # The first buffer for replies, and its length and the two truth values as arguments of the library.
 _Room = ctypes.c_char * 4096
 _ROOM = ctypes.c_size_t.from_param(4096)
 _FALSE, _TRUE = ctypes.c_bool.from_param(False), ctypes.c_bool.from_param(True)
+# `ctypes` takes a greater number modulo 2^64, without an error.
+_NO_NUMBER = "a handle, an offset and a length are numbers from 0 to 2^64 - 1"
 
 
 def program() -> str:
@@ -197,6 +199,8 @@ class Library:
 
     def read(self, handle: int, offset: int, length: int) -> Union[bytes, Reply]:
         """Returns exactly `length` bytes, or the reply that says why not."""
+        if not 0 <= handle <= MAX or not 0 <= offset <= MAX or length < 0:
+            raise ValueError(_NO_NUMBER)
         if length > len(self._room) and not self._has_grown(handle, offset, length):
             reply = self.call(line_of(handle, offset, length).encode()).decode()
             return unhex(reply[6:]) if reply.startswith("bytes ") else Reply(reply)
@@ -208,6 +212,8 @@ class Library:
         """Writes bytes. Returns the reply if it isn't `ok`."""
         if type(data) is not bytes:
             data = data_of(data, "the data of a write")
+        if not 0 <= handle <= MAX or not 0 <= offset <= MAX:
+            raise ValueError(_NO_NUMBER)
         self._handle.value, self._offset.value, self._length.value = handle, offset, len(data)
         status = self._c_write(self._at, self._handle, self._offset, data, self._length, _TRUE if sync else _FALSE)
         return None if status == DONE else self._other(status)

@@ -140,7 +140,7 @@ class Store:
     def call(self, line: str) -> List[str]:
         """Makes the call of any line of a script, and returns the words of its reply.
 
-        Raises `BadLine` if the text isn't exactly one line that is a call, a comment or empty. Nothing is then sent.
+        Raises `BadLine` if the text isn't exactly one line that is a call, a comment or empty. No call is then made.
         """
         if type(line) is not str:
             line = text_of(line, "a line")
