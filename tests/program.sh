@@ -183,25 +183,31 @@ in_place() { (cd "$work/a place" && CDPATH=/ "./to the top/blobcrash" resolve); 
 run in_place <"$work/in"
 expect 'from another directory' 0 "valid 0 7 8$line" ''
 
-# The launcher, with a toolchain that logs its arguments and makes a program that prints its own.
+# The launcher, with a toolchain that logs what it is asked for and makes a program that prints its arguments.
 copy=$work/copy
-tools=$work/tools
+tools=$work/kit/bin
 mkdir -p "$copy/crates/blobcrash/src" "$copy/crates/blobcrash_explain/src" "$copy/tools" "$tools"
 cp "$top/blobcrash" "$top/HANDLES" "$copy"
 cp "$top/tools/building.sh" "$top/tools/prove" "$copy/tools"
 printf 'blobcrash:\nblobcrash_explain:\n' >"$copy/crates.txt"
 main=$copy/crates/blobcrash/src/main.rt
 echo first >"$main"
+echo first >"$copy/crates/blobcrash_explain/src/main.rt"
 cat >"$tools/rt" <<TOOL
 #!/bin/sh
 echo "\$*" >>"$work/asked"
-[ "\$1" = ci ] || exec "$tools/try" "\$@"
+exec "$tools/try" "\$@"
+TOOL
+cat >"$tools/rattle" <<TOOL
+#!/bin/sh
+echo "\$1 \$3" >>"$work/asked"
 sleep 1
-name=\$(ls crates)
-mkdir -p "crates/\$name/out"
-printf '#!/bin/sh\nfor word in "\$@"; do echo "<\$word>"; done\ncat\nexit 7\n' >"crates/\$name/out/\$name"
-chmod +x "crates/\$name/out/\$name"
-echo "rt: \$name proved"
+TOOL
+cat >"$tools/rattle-link" <<'TOOL'
+#!/bin/sh
+while [ "$1" != -o ]; do shift; done
+printf '#!/bin/sh\nfor word in "$@"; do echo "<$word>"; done\ncat\nexit 7\n' >"$2"
+chmod +x "$2"
 TOOL
 cat >"$tools/try" <<'TOOL'
 #!/bin/sh
@@ -212,7 +218,7 @@ cat
 printf 'line 3: bad call\nchecked: ended status=2\nrun=ended status=2 runners=1 proved=no\n' >&2
 exit 2
 TOOL
-chmod +x "$tools/rt" "$tools/try"
+chmod +x "$tools"/*
 
 # The number of minutes in the notice depends on the number of processors.
 launch() {
@@ -244,7 +250,7 @@ asked 'nothing is built for these' "try --${line}try -- one two words${line}try 
 run unproved partly <"$work/in"
 expect 'without a complete answer it is built and run' 7 "<partly>${line}open p 62$line" \
     "$note${line}blobcrash: no complete answer from the unproved sources$line$notice"
-asked 'it was tried once' "try -- partly${line}ci$line"
+asked 'it was tried once' "try -- partly${line}build blobcrash$line"
 
 echo second >"$main"
 talk() { echo talk | unproved; }
@@ -259,7 +265,7 @@ wait
 expect 'two first uses at once' 7 "<one>$line<two words>$line" ''
 cp "$work/first" "$work/out"
 expect 'the other first use' 7 "<one>$line<two words>$line" ''
-asked 'the three builds' "ci${line}ci$line"
+asked 'the two builds' "build blobcrash${line}build blobcrash$line"
 run launch </dev/null
 expect 'a later use builds nothing' 7 '' ''
 touch "$main"
@@ -289,12 +295,12 @@ expect 'a build of explain' 0 '' \
     "proving 1 crates to build blobcrash_explain, about N minutes${line}blobcrash_explain is proved${line}blobcrash: out/blobcrash_explain is proved and built"
 run launch explain 'two words' </dev/null
 expect 'a run of explain' 7 "<two words>$line" ''
-asked 'one build' "ci$line"
+asked 'one build' "build blobcrash_explain$line"
 
-printf '#!/bin/sh\necho "no proof of it"\nexit 1\n' >"$tools/rt"
+printf '#!/bin/sh\necho "no proof of it"\nexit 1\n' >"$tools/rattle"
 echo fifth >"$main"
 run launch </dev/null
-expect 'a failed build' 125 '' "${notice%"$line"*}${line}no proof of it${line}blobcrash: the build failed; see out/build.log"
+expect 'a failed build' 125 '' "${notice%"$line"*}${line}== blobcrash${line}no proof of it${line}blobcrash: the build failed; see out/build.log"
 
 # A fresh copy, with nothing built: the sources answer as the program does.
 fresh=$work/fresh
