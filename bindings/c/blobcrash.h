@@ -243,7 +243,7 @@ struct blobcrash_ran blobcrash_reply(struct blobcrash_session *session, uint8_t 
  * Makes a typed call. Its partition and its name are bytes, which never become part of a line: a partition that isn't a valid
  * name is refused as PARTITION_NAME_INVALID, with the caller's text in the reply.
  *
- * DONE; a refusal, which blobcrash_reply prints with its texts; BAD_CALL, NO_MEMORY and CLOSED, which change nothing.
+ * DONE; a refusal, which blobcrash_reply prints with its texts; BAD_CALL and CLOSED, which change nothing.
  */
 struct blobcrash_typed_reply blobcrash_apply(struct blobcrash_session *session, const struct blobcrash_asked *asked,
                                              const uint8_t *partition, size_t partition_len, const uint8_t *name,
@@ -300,7 +300,7 @@ struct blobcrash_ran blobcrash_audit(struct blobcrash_session *session, uint8_t 
 /*
  * Writes bytes at an offset: the call `write HANDLE OFFSET HEX`, or with `sync` the call `writes HANDLE OFFSET HEX`.
  *
- * DONE if the reply is `ok`; OTHER_REPLY, which blobcrash_reply prints; NO_MEMORY and CLOSED, which change nothing.
+ * DONE if the reply is `ok`; OTHER_REPLY, which blobcrash_reply prints; CLOSED, which changes nothing.
  */
 uint32_t blobcrash_write(struct blobcrash_session *session, size_t handle, uint64_t offset, const uint8_t *bytes, size_t len,
                          bool sync);

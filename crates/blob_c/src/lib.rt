@@ -130,7 +130,7 @@ pub extern "C" fn blobcrash_write(
     let Some(mut kept) = session.take(alloc) else {
         return CLOSED;
     };
-    let status = kept.write(alloc, handle, offset, bytes, sync);
+    let status = kept.write(handle, offset, bytes, sync);
     *session = Session::of(kept);
     status
 }
@@ -160,7 +160,6 @@ pub extern "C" fn blobcrash_read(
 ///
 /// Errors, with nothing changed:
 /// - `BAD_CALL` if the kind is unknown, a version doesn't fit in 16 bits or the partition isn't UTF-8.
-/// - `NO_MEMORY` if the partition and the name can't be copied.
 /// - `CLOSED`.
 ///
 /// Any other status but `DONE` is a refusal of the call that was made.
@@ -177,7 +176,7 @@ pub extern "C" fn blobcrash_apply(
     let Some(mut kept) = session.take(alloc) else {
         return TypedReply::stopped(CLOSED);
     };
-    let reply = kept.apply(alloc, asked, partition, name);
+    let reply = kept.apply(asked, partition, name);
     *session = Session::of(kept);
     reply
 }

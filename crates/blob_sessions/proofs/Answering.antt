@@ -1,5 +1,5 @@
 -- The contract of a line, from those of making its call and of writing its reply.
-use Rattle.std.proofs.Common.{◌≡◌, ◌≢◌, ◌<◌, ℕ, List, Option, Some, None, IfSome, MatchOption, length, take, refl, sym, ap, ◌∙◌, subst, inl, inr, arith}
+use Rattle.std.proofs.Common.{◌≡◌, ◌<◌, ℕ, List, Option, Some, None, IfSome, MatchOption, length, take, refl, sym, ap, ◌∙◌, subst, inl, inr, arith}
 use Rattle.blob_script.specs.declared.call.Call.{Call as LabCall}
 use Rattle.blob_lab_store.specs.declared.lab.Lab.{Lab}
 use Rattle.blob_script.specs.declared.reply.Reply.{Reply}
@@ -10,7 +10,7 @@ use Rattle.blob_draws.specs.declared.config.Config.{Config}
 use Rattle.blob_sessions.specs.declared.kept.Kept.{Kept}
 use Rattle.blob_sessions.specs.declared.ran.Ran.{Ran}
 use Rattle.blob_sessions.specs.declared.ran.TheConstants.{BAD_LINE}
-use Rattle.blob_sessions.specs.Sessions.{RunsLine, SaysCall, Calls, IsNoCall, IsTooLong, Makes, TellsAgain}
+use Rattle.blob_sessions.specs.Sessions.{RunsLine, SaysCall, IsNoCall, IsTooLong, Makes, TellsAgain}
 
 performs_alike : (a b c d : Lab) (act : Act) (reply : Reply) → b ≡ a → d ≡ c → Performs b act reply c → Performs a act reply d
 performs_alike a b c d act reply before after p =

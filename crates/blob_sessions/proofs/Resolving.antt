@@ -1,5 +1,5 @@
 -- The resolution of a header.
-use Rattle.std.proofs.Common.{◌≡◌, ◌∙◌, refl, sym, ap, inl, inr, ℕ, List, Bool, true, false, Option, Some, None, Result, Ok, Err, IfSome, arith}
+use Rattle.std.proofs.Common.{◌≡◌, ◌∙◌, sym, ap, inr, ℕ, List, Bool, true, false, Option, Some, None, Result, Ok, Err, IfSome, arith}
 use Rattle.std.specs.Bool.{OnFalse, OnTrue}
 use Rattle.blob_header.specs.Parse.{Failure, InvalidMagic, UnsupportedLayoutVersion, LayoutMismatch, VersionMismatch, InvalidChecksum, InvalidPadding, Truncated, parse}
 use Rattle.blob_header.specs.Resolve.{OfBlobs}

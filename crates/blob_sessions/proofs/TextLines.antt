@@ -1,5 +1,5 @@
 -- The first line of a text.
-use Rattle.std.proofs.Common.{◌≡◌, ◌<◌, ℕ, zero, suc, ◌==◌, List, [], ◌∷◌, Option, Some, None, true, false, length, take, drop, get_or, ◌+◌, ◌-◌, ◌≤◌, Bool, refl, sym, ap, ◌∙◌, cond, arith}
+use Rattle.std.proofs.Common.{◌≡◌, ◌<◌, ℕ, zero, suc, ◌==◌, List, [], ◌∷◌, Some, None, true, false, length, take, drop, get_or, ◌+◌, ◌-◌, ◌≤◌, Bool, refl, sym, ap, ◌∙◌, cond, arith}
 use Rattle.std.specs.List.{onto_first, position, position_or_len}
 use Rattle.std.proofs.lemmas.Bool.{ltb-false}
 use Rattle.std.proofs.lemmas.List.{take_rest}

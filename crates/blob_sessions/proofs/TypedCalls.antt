@@ -1,8 +1,9 @@
 -- How a typed call ends, by how its call is built and made.
-use Rattle.std.proofs.Common.{◌≡◌, ◌<◌, ℕ, List, Option, Some, refl, ap, ◌∙◌, subst, sym, arith}
+use Rattle.std.proofs.Common.{◌≡◌, ◌<◌, ℕ, List, Some, ap, ◌∙◌, sym, arith}
 use Rattle.blob_script.specs.Acts.{Act}
 use Rattle.blob_script.specs.declared.reply.Reply.{Reply}
 use Rattle.blob_script.specs.declared.reply.Reply.TheVariants.{Done, Opened, Bytes, Size, Names, Started, Crashed, Failed, NoHandle, EmptyRange}
+use Rattle.blob_lab_store.specs.LabStands.{Performs}
 use Rattle.blob_header.specs.Refusals as refusals
 use Rattle.blob_header.specs.Refusals.{Refusal, refusal_of}
 use Rattle.blob_sessions.specs.Applying.{Applies}
@@ -10,7 +11,7 @@ use Rattle.blob_sessions.specs.Sessions.{Makes}
 use Rattle.blob_sessions.specs.Statuses.{refusal_status}
 use Rattle.blob_sessions.specs.Typed.{IsNoTypedCall, last_reply, typed_act, typed_reply, without_reply}
 use Rattle.blob_sessions.specs.declared.kept.Kept.{Kept}
-use Rattle.blob_sessions.specs.declared.ran.TheConstants.{BAD_CALL, NO_MEMORY}
+use Rattle.blob_sessions.specs.declared.ran.TheConstants.{BAD_CALL}
 use Rattle.blob_sessions.specs.declared.typed.TypedCall.{TypedCall}
 use Rattle.blob_sessions.specs.declared.typed.TypedReply.{TypedReply}
 
@@ -51,24 +52,21 @@ applied k k' asked partition name act last reply built makes config is =
     let same : reply ≡ typed_reply last = is ∙ ap last_reply makes.last in let status : reply.status ≡ (typed_reply last).status = ap (λ r. r.status) same in record {
       made = λ made. (act, last, built, makes, same);
       bad = λ h. absurd (reply_above last BAD_CALL (omega arith) (omega arith) (sym status ∙ h));
-      no_memory = λ h. absurd (reply_above last NO_MEMORY (omega arith) (omega arith) (sym status ∙ h));
       config = config;
     }
 
 pub not_applied : (k k' : Kept) (asked : TypedCall) (partition name : List ℕ) (reply : TypedReply) → IsNoTypedCall asked partition name → k' ≡ k → reply ≡ without_reply BAD_CALL → Applies k k' asked partition name reply
 not_applied k k' asked partition name reply none same is =
     let status : reply.status ≡ BAD_CALL = ap (λ r. r.status) is in record {
-      made = λ made. absurd (made.0 status);
+      made = λ made. absurd (made status);
       bad = λ h. (none, same, is);
-      no_memory = λ h. absurd (omega (arith, status, h));
       config = ap (λ k. k.config) same;
     }
 
-pub out_of_memory : (k k' : Kept) (asked : TypedCall) (partition name : List ℕ) (reply : TypedReply) → k' ≡ k → reply ≡ without_reply NO_MEMORY → Applies k k' asked partition name reply
-out_of_memory k k' asked partition name reply same is =
-    let status : reply.status ≡ NO_MEMORY = ap (λ r. r.status) is in record {
-      made = λ made. absurd (made.1 status);
-      bad = λ h. absurd (omega (arith, status, h));
-      no_memory = λ h. (same, is);
-      config = ap (λ k. k.config) same;
-    }
+-- the laboratory made the call, and nothing else changed
+pub record IsPerformed (k k' : Kept) (asked : TypedCall) (partition name : List ℕ) (last : Reply) : Type 0 where
+  pub act : Act
+  pub built : typed_act asked partition name ≡ Some act
+  pub performs : Performs k.lab act last k'.lab
+  pub config : k'.config ≡ k.config
+  pub debts : k'.debts ≡ k.debts

@@ -5,19 +5,15 @@ use Rattle.blob_script.specs.declared.reply.Reply.{Reply}
 use Rattle.blob_sessions.specs.Sessions.{Makes, OnHeld, kept_of}
 use Rattle.blob_sessions.specs.Typed.{IsNoTypedCall, typed_act, typed_reply, without_reply}
 use Rattle.blob_sessions.specs.declared.kept.Kept.{Kept}
-use Rattle.blob_sessions.specs.declared.ran.TheConstants.{BAD_CALL, CLOSED, NO_MEMORY}
+use Rattle.blob_sessions.specs.declared.ran.TheConstants.{BAD_CALL, CLOSED}
 use Rattle.blob_sessions.specs.declared.session.Session.{Session}
 use Rattle.blob_sessions.specs.declared.typed.TypedCall.{TypedCall}
 use Rattle.blob_sessions.specs.declared.typed.TypedReply.{TypedReply}
 
-abbrev pub IsMade : ℕ → Type 0
-IsMade status = (status ≡ BAD_CALL → ⊥) × (status ≡ NO_MEMORY → ⊥)
-
 -- a typed call: if it was made, its reply is kept; otherwise nothing changed
 pub record Applies (k k' : Kept) (asked : TypedCall) (partition name : List ℕ) (reply : TypedReply) : Type 0 where
-  pub made : IsMade reply.status → (act : Act) × (last : Reply) × (typed_act asked partition name ≡ Some act) × Makes k act last k' × (reply ≡ typed_reply last)
+  pub made : (reply.status ≡ BAD_CALL → ⊥) → (act : Act) × (last : Reply) × (typed_act asked partition name ≡ Some act) × Makes k act last k' × (reply ≡ typed_reply last)
   pub bad : reply.status ≡ BAD_CALL → IsNoTypedCall asked partition name × (k' ≡ k) × (reply ≡ without_reply BAD_CALL)
-  pub no_memory : reply.status ≡ NO_MEMORY → (k' ≡ k) × (reply ≡ without_reply NO_MEMORY)
   pub config : k'.config ≡ k.config
 
 abbrev pub AppliesTo : Session → Session → TypedCall → List ℕ → List ℕ → TypedReply → Type 0

@@ -87,9 +87,8 @@ pub record TellsAgain (k k' : Kept) (ran : Ran) (old new : List ℕ) : Type 0 wh
 pub record AnswersWrite (k k' : Kept) (handle offset : ℕ) (bytes : List ℕ) (sync : Bool) (status : ℕ) : Type 0 where
   pub done : status ≡ DONE → Makes k (Through handle (Write offset bytes sync)) replies.Done k'
   pub other : status ≡ OTHER_REPLY → (reply : Reply) × Makes k (Through handle (Write offset bytes sync)) reply k' × (reply ≢ replies.Done)
-  pub no_memory : status ≡ NO_MEMORY → k' ≡ k
   pub config : k'.config ≡ k.config
-  pub known : (status ≡ DONE) ⊎ (status ≡ OTHER_REPLY) ⊎ (status ≡ NO_MEMORY)
+  pub known : (status ≡ DONE) ⊎ (status ≡ OTHER_REPLY)
 
 -- a reply with these bytes, or with this number of bytes
 abbrev pub RepliesBytes : Reply → List ℕ → Type 0

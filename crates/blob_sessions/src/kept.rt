@@ -6,15 +6,19 @@ ghost use Rattle.blob_script.specs.Settings.{with_setting};
 ghost use Rattle.blob_sessions.specs.Applying.{Applies};
 ghost use Rattle.blob_sessions.specs.Debts.{IsNew, MakesDebtCall};
 ghost use Rattle.blob_sessions.specs.Sessions.{RunsLine, AnswersRead, AnswersWrite, ReadsCall, IsNoCall, Makes, TellsAgain};
-ghost use Rattle.blob_sessions.specs.Typed.{last_reply};
+ghost use Rattle.blob_sessions.specs.Typed.{IsNamed, last_reply};
 ghost use Rattle.blob_sessions.specs.Words.{TakesWords, TellsWordsLeft};
 
 use crate::debts::{DebtCall, DebtReply, Debts};
+use crate::kinds::{
+    ADMIT, CLOSE, CRASH, FINISH, OPEN, OPEN_LOOSE, REMOVE_BLOB, REMOVE_PARTITION, REOPEN, RESIZE,
+    SCAN, SIZE, START_SYNC, SYNC,
+};
 use crate::ran::{
     BAD_CALL, BAD_LINE, DONE, ENDLESS, NO_MEMORY, NO_ROOM, OTHER_REPLY, Ran, UNPRINTED,
 };
 use crate::reply_text::{line_len, write_line};
-use crate::typed::{TypedCall, TypedReply, typed_call};
+use crate::typed::{TypedCall, TypedReply, versions};
 use blob_faulty::Config;
 use blob_lab::script::{Line, RefusedLine, Setting, read_line};
 use blob_lab::{Call, Lab, Reply};
@@ -110,24 +114,57 @@ impl Kept {
 
     /// Makes a typed call, and returns the numbers of its reply.
     ///
-    /// `BAD_CALL` and `NO_MEMORY` change nothing: no call was made.
-    pub fn apply(
-        &mut self,
-        alloc: Global,
-        asked: &TypedCall,
-        partition: &[u8],
-        name: &[u8],
-    ) -> TypedReply
+    /// `BAD_CALL` changes nothing: no call was made.
+    pub fn apply(&mut self, asked: &TypedCall, partition: &[u8], name: &[u8]) -> TypedReply
         ensures { Applies self.old self.new asked.now partition.now name.now result }
     {
-        match typed_call(alloc, asked, partition, name) {
-            Ok(call) => {
-                self.make(&call);
-                self.last()
+        let number = asked.number;
+        match asked.kind {
+            OPEN | OPEN_LOOSE | ADMIT | REMOVE_BLOB | REMOVE_PARTITION | SCAN => {
+                self.apply_named(asked, partition, name)
             }
-            Err(RefusedLine::BadCall) => TypedReply::stopped(BAD_CALL),
-            Err(RefusedLine::NoMemory) => TypedReply::stopped(NO_MEMORY),
+            CLOSE => self.numbers(&Call::Close(number)),
+            RESIZE => self.numbers(&Call::Resize {
+                handle: number,
+                len: asked.first,
+            }),
+            SIZE => self.numbers(&Call::Size(number)),
+            SYNC => self.numbers(&Call::Sync(number)),
+            START_SYNC => self.numbers(&Call::StartSync(number)),
+            FINISH => self.numbers(&Call::Finish(number)),
+            CRASH => self.numbers(&Call::Crash),
+            REOPEN => self.numbers(&Call::Reopen),
+            _ => TypedReply::stopped(BAD_CALL),
         }
+    }
+
+    /// Makes a typed call by partition and name. It isn't inlined, since a function clears its locals each time.
+    #[inline(never)]
+    fn apply_named(&mut self, asked: &TypedCall, partition: &[u8], name: &[u8]) -> TypedReply
+        requires { IsNamed asked.now.kind }
+        ensures { Applies self.old self.new asked.now partition.now name.now result }
+    {
+        let Ok(partition) = std::str::from_utf8(partition) else {
+            return TypedReply::stopped(BAD_CALL);
+        };
+        let reply = match asked.kind {
+            OPEN | OPEN_LOOSE => {
+                let Some(versions) = versions(asked) else {
+                    return TypedReply::stopped(BAD_CALL);
+                };
+                if asked.kind == OPEN {
+                    self.lab.open(partition, name, &versions)
+                } else {
+                    self.lab.open_loose(partition, name, &versions)
+                }
+            }
+            ADMIT => self.lab.admit(partition, name),
+            REMOVE_BLOB => self.lab.remove(partition, Some(name)),
+            REMOVE_PARTITION => self.lab.remove(partition, None),
+            _ => self.lab.scan(partition),
+        };
+        self.last = Some(reply);
+        self.last()
     }
 
     /// Returns the numbers of the reply to the last call. Before the first call it is `DONE`.
@@ -141,25 +178,11 @@ impl Kept {
     }
 
     /// Writes bytes through a handle.
-    pub fn write(
-        &mut self,
-        alloc: Global,
-        handle: usize,
-        offset: u64,
-        bytes: &[u8],
-        sync: bool,
-    ) -> u32
+    pub fn write(&mut self, handle: usize, offset: u64, bytes: &[u8], sync: bool) -> u32
         ensures { AnswersWrite self.old self.new handle offset bytes.now sync result }
     {
-        let Ok(bytes) = Vec::from_slice(alloc, bytes) else {
-            return NO_MEMORY;
-        };
-        self.make(&Call::Write {
-            handle,
-            offset,
-            bytes,
-            sync,
-        });
+        let reply = self.lab.write(handle, offset, bytes, sync);
+        self.last = Some(reply);
         match &self.last {
             Some(Reply::Done) => DONE,
             _ => OTHER_REPLY,
@@ -229,6 +252,16 @@ impl Kept {
     {
         let reply = self.lab.apply(call);
         self.last = Some(reply);
+    }
+
+    /// Makes a call, keeps its reply, and returns the reply's numbers.
+    fn numbers(&mut self, call: &Call) -> TypedReply
+        ensures made { (reply : Reply) × Makes self.old (act_of call.now) reply self.new }
+        ensures config { self.new.config ≡ self.old.config }
+        ensures numbers { result ≡ last_reply self.new.last }
+    {
+        self.make(call);
+        self.last()
     }
 
     /// The call that hands the whole configuration so far on.

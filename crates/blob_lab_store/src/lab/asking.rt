@@ -104,7 +104,9 @@ impl Lab {
         }
     }
 
-    pub(crate) fn write(&mut self, number: usize, offset: u64, bytes: &[u8], sync: bool) -> Reply
+    /// Writes bytes through a handle, as a SYNC write if `sync` is set: `Call::Write` without a copy of its bytes. Returns `Done`,
+    /// `NoHandle` or `Failed`.
+    pub fn write(&mut self, number: usize, offset: u64, bytes: &[u8], sync: bool) -> Reply
         ensures { Performs self.old (Through number (Write offset bytes.now sync)) result self.new }
     {
         if number >= self.handles.slots.len() {

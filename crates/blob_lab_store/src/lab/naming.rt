@@ -1,5 +1,5 @@
 // Calls by name, except opens.
-ghost use Rattle.std.specs.Prelude.{option_map, option_copied};
+ghost use Rattle.std.specs.Prelude.{option_copied};
 ghost use Rattle.blob_script.specs.Acts.{Admit, Remove, Scan};
 ghost use Rattle.blob_lab_store.specs.LabStands.{Performs};
 
@@ -10,25 +10,17 @@ use blob_faulty::laws::names::removals;
 use blob_script::Reply;
 
 impl Lab {
-    /// Retires the pending list of the name's current incarnation.
-    pub(crate) fn admit(&mut self, partition: &str, name: &[u8]) -> Reply
+    /// Retires the pending list of the name's current incarnation: `Call::Admit` without a copy of its texts. Returns `Done`.
+    pub fn admit(&mut self, partition: &str, name: &[u8]) -> Reply
         ensures { Performs self.old (Admit partition.now name.now) result self.new }
     {
         let _ = self.wrapper.admit(partition, name);
         Reply::Done
     }
 
-    /// Removes a blob, or with no name the partition. None of these names is open then.
-    pub(crate) fn remove(&mut self, partition: &str, name: &Option<Vec<u8>>) -> Reply
-        ensures { Performs self.old (Remove partition.now (option_map (λ n. n.items) name.now)) result self.new }
-    {
-        match name {
-            Some(name) => self.remove_named(partition, Some(name.as_slice())),
-            None => self.remove_named(partition, None),
-        }
-    }
-
-    fn remove_named(&mut self, partition: &str, name: Option<&[u8]>) -> Reply
+    /// Removes a blob, or with no name the partition: `Call::Remove` without a copy of its texts. Returns `Done`, and none of
+    /// these names is open then, or `Failed`.
+    pub fn remove(&mut self, partition: &str, name: Option<&[u8]>) -> Reply
         ensures { Performs self.old (Remove partition.now (option_copied name.entry)) result self.new }
     {
         removals::<blob_memory::Storage, ScriptedRng>();
@@ -38,8 +30,8 @@ impl Lab {
         }
     }
 
-    /// Returns the names of a partition.
-    pub(crate) fn scan(&mut self, partition: &str) -> Reply
+    /// Returns the names of a partition, sorted by bytes: `Call::Scan` without a copy of its text. Returns `Names` or `Failed`.
+    pub fn scan(&mut self, partition: &str) -> Reply
         ensures { Performs self.old (Scan partition.now) result self.new }
     {
         match self.wrapper.scan(partition) {

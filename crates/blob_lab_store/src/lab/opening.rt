@@ -27,8 +27,9 @@ fn accepted(versions: &RangeInclusive<BlobVersion>) -> Option<RangeInclusive<Blo
 }
 
 impl Lab {
-    /// Opens a blob exclusively, with `admit`.
-    pub(crate) fn open(
+    /// Opens a blob exclusively, with `admit`: `Call::Open` without a copy of its texts. Returns `Opened`, `EmptyRange` for an
+    /// empty range of versions, or `Failed`.
+    pub fn open(
         &mut self,
         partition: &str,
         name: &[u8],
@@ -55,8 +56,9 @@ impl Lab {
         }
     }
 
-    /// Opens a blob without the registry of open names.
-    pub(crate) fn open_loose(
+    /// Opens a blob without the registry of open names: `Call::OpenLoose` without a copy of its texts. Returns `Opened`,
+    /// `EmptyRange` for an empty range of versions, or `Failed`.
+    pub fn open_loose(
         &mut self,
         partition: &str,
         name: &[u8],

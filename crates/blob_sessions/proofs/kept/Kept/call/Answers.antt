@@ -1,6 +1,6 @@
 use Rattle.std.proofs.Common.{◌≡◌, Some, Err, ap, rules}
 use Rattle.blob_script.specs.Acts.{act_of}
-use Rattle.blob_sessions.specs.Sessions.{SaysCall, IsNoCall}
+use Rattle.blob_sessions.specs.Sessions.{SaysCall}
 use Rattle.blob_sessions.proofs.Answering.{answered, declined, said_call}
 use Rattle.blob_sessions.proofs.kept.Kept.call.Goals as goal
 

@@ -1,42 +1,26 @@
 -- `none` holds no box.
-use Rattle.std.proofs.Common.{◌≡◌, List, [], ◌∷◌, ◌++◌, refl, sym, ap, ◌∙◌, subst, lit<}
-use mir.Val.{Val, vptr}
+use Rattle.std.proofs.Common.{◌≡◌, List, [], ◌∷◌, ◌++◌, refl, sym, subst}
+use mir.Val.{Val}
 use base.Logic.{SProp, ent, emp, id⊢}
-use base.Fml.{Lft, ftrue, fsep, flft}
-use base.Fraction.{full_share}
+use base.Fml.{ftrue}
 use prog.Wp.{WpFn}
-use types.Logic.{sem}
-use types.Kit.{‵, raw, ◌⊛◌, some, later, at_ret, ◌$◌, ◌∵◌, !, qed, by, move, keep, drop, split, split3, join, fsplit, fjoin, pick, suffices, use0, use1, await, rewrite, feq_i}
-use types.Run.{stop, fld, lit, of_opd, no_more, and_then, first, blocks, exec, returns, enter}
-use types.ByLocal.{alloc_all, pass_all, free_all, look_at, get, get_in, sets, lands_last, env}
-use types.Part.{agg, sub, whole}
-use types.Tokens.{lft_new}
-use contract.BorrowLft.{◌⊑◌, ⊑_static}
+use types.Kit.{‵, raw, ◌⊛◌, ◌$◌, ◌∵◌, !, qed, by, move, keep, split, fsplit, fjoin, suffices, use0}
+use types.Run.{lit, no_more, and_then, returns, enter}
+use types.ByLocal.{alloc_all, pass_all, free_all, look_at, get, sets}
+use types.Part.{agg}
 use contract.Monad.{fact, fact_i}
-use contract.Running.{tables, tables_of}
+use contract.Running.{tables}
 use denote.Exit.{yes}
 use denote.RattleType.{RattleType, owns}
 use denote.Signature.{plain}
-use denote.RawPtr.{block_ptr, null_ptr, ptr_val}
-use denote.Steps.{nothing, only, heard}
-use denote.Param.{layout}
-use denote.Param.NoDrop.{glues}
-use denote.Triple.Clauses.{Lasts, lasts}
-use denote.Triple.Spec.{triple_of}
-use denote.Triple.Call.{calls_at_last}
+use denote.RawPtr.{null_ptr, ptr_val}
+use denote.Steps.{nothing}
 use denote.Triple.Walked.{Stays, stay_dropped, walk_of, Goes-dropped}
 use Rattle.core.proofs.alloc.Calls.{handle_tells}
-use Rattle.core.proofs.alloc.Shapes.{after}
-use Rattle.core.proofs.atomic.Steps.{fm}
-use Rattle.core.proofs.cell.Inside.{Good}
-use Rattle.std.specs.Prelude.{Some, None, IsSome}
+use Rattle.std.specs.Prelude.{None}
 use Rattle.std.specs.contracts.alloc.Global as heap
-use Rattle.std.specs.contracts.impls.GlobalAllocator.TheImpl.{ghosts, dict}
-use Rattle.std.proofs.impls.GlobalAllocator.TheImpl.Met.{passed}
-use Rattle.std_alloc.proofs.BoxSteps.Form as box
-use Rattle.std_alloc.proofs.BoxSteps.Steps.{box_out, box_in}
 use Rattle.std.proofs.raw_atomic.Walks.{proved_at, leaves}
-use Rattle.blob_sessions.proofs.Values.{E, Heap, both, none_good, none_in}
+use Rattle.blob_sessions.proofs.Values.{E, both, none_good, none_in}
 use Rattle.blob_sessions.specs.contracts.loose.Loose.none.{ended, clauses}
 use Rattle.blob_sessions.specs.contracts.loose.Loose.none.Key.{name as #self}
 use Rattle.blob_sessions.proofs.loose.Loose.none.Statement.{statement}

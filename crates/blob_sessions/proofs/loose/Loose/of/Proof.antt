@@ -18,7 +18,7 @@ use contract.Monad.{fact, fact_i}
 use contract.Running.{tables, tables_of}
 use denote.Exit.{yes}
 use denote.RattleType.{RattleType, owns}
-use denote.Signature.{types_at, plain}
+use denote.Signature.{plain}
 use denote.Builtin.{RawPtr}
 use denote.RawPtr.{Ptr, block_ptr, null_ptr, ptr_val, in_a_block}
 use denote.Steps.{nothing, only, heard}
@@ -48,7 +48,6 @@ use Rattle.core.proofs.atomic.Steps.{fm}
 use Rattle.std.specs.Prelude.{Some}
 use Rattle.std.specs.Box.Ownership.{box_owns}
 use Rattle.std.specs.contracts.alloc.Global as heap
-use Rattle.std.proofs.alloc.Global.TheLaws as heap_laws
 use Rattle.std.specs.contracts.impls.GlobalAllocator.TheImpl.{ghosts, dict}
 use Rattle.std.proofs.impls.GlobalAllocator.TheImpl.Met.{passed}
 use Rattle.std_alloc.proofs.BoxSteps.Form as box
@@ -58,14 +57,12 @@ use Rattle.std_alloc.specs.contracts.boxed.Box as box_row
 use Rattle.std_alloc.specs.contracts.boxed.Box.into_raw_with_allocator as callee
 use Rattle.std_alloc.proofs.boxed.Box.into_raw_with_allocator.Met.{met}
 use Rattle.blob_sessions.specs.contracts.kept.Kept as kept
-use Rattle.blob_sessions.proofs.kept.Kept.TheLaws as kept_laws
 use Rattle.blob_sessions.proofs.Values.{E, Heap, Heap_laws, Inner, Inner_laws, both, good, loose_in, no_drop}
 use Rattle.blob_sessions.specs.contracts.loose.Loose.of.{ended, clauses}
 use Rattle.blob_sessions.specs.contracts.loose.Loose.of.Key.{name as #self}
 use Rattle.blob_sessions.proofs.loose.Loose.of.Statement.{statement}
 use Rattle.blob_sessions.proofs.loose.Loose.of.Code as code
 use Rattle.blob_sessions.proofs.Destruct++none.drop.Code as none_code
-use Rattle.core.specs.contracts.alloc.Allocator.TheBound as bound
 
 abbrev drops : Dict
 drops = impl ("blob_sessions::kept::Kept::drop" ∷ []) tnil dnil

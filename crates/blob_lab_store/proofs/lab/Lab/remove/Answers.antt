@@ -2,7 +2,7 @@ use Rattle.std.proofs.Common.{refl}
 use Rattle.std.specs.Prelude.{option_copied}
 use Rattle.blob_header.specs.Refusals.{refusal_of}
 use Rattle.blob_lab_store.proofs.NamedCalls.{remove_done, remove_failed}
-use Rattle.blob_lab_store.proofs.lab.Lab.remove_named.Goals as goal
+use Rattle.blob_lab_store.proofs.lab.Lab.remove.Goals as goal
 
 pub returns-in-Ok : goal.returns-in-Ok
 returns-in-Ok c =
