@@ -202,6 +202,8 @@ cat >"$tools/rattle" <<TOOL
 #!/bin/sh
 echo "\$1 \$3" >>"$work/asked"
 sleep 1
+while [ "\$1" != -o ]; do shift; done
+case \$2 in *.rlib) mkdir "\$2" && : >"\$2/format" ;; esac
 TOOL
 cat >"$tools/rattle-link" <<'TOOL'
 #!/bin/sh
@@ -297,8 +299,28 @@ run launch explain 'two words' </dev/null
 expect 'a run of explain' 7 "<two words>$line" ''
 asked 'one build' "build blobcrash_explain$line"
 
-printf '#!/bin/sh\necho "no proof of it"\nexit 1\n' >"$tools/rattle"
+# Libraries are kept: a build proves those that changed, and what is above them.
+mkdir -p "$copy/crates/low/src" "$copy/crates/high/src"
+echo first | tee "$copy/crates/high/src/lib.rt" >"$copy/crates/low/src/lib.rt"
+printf 'low:\nhigh: low\nblobcrash: high\n' >"$copy/crates.txt"
+run launch build
+asked 'libraries and a program' "build low${line}build high${line}build blobcrash$line"
 echo fifth >"$main"
+run launch build
+asked 'the program alone' "build blobcrash$line"
+echo second >"$copy/crates/high/src/lib.rt"
+run launch build
+expect 'a build over a kept library' 0 '' "proving 2 crates to build blobcrash, about N minutes
+high is proved, 1 left, about N minutes
+blobcrash is proved
+blobcrash: out/blobcrash is proved and built"
+asked 'a changed library and the program' "build high${line}build blobcrash$line"
+echo second >"$copy/crates/low/src/lib.rt"
+run launch build
+asked 'all that is above a changed library' "build low${line}build high${line}build blobcrash$line"
+
+printf '#!/bin/sh\necho "no proof of it"\nexit 1\n' >"$tools/rattle"
+echo sixth >"$main"
 run launch </dev/null
 expect 'a failed build' 125 '' "${notice%"$line"*}${line}== blobcrash${line}no proof of it${line}blobcrash: the build failed; see out/build.log"
 
