@@ -1,5 +1,5 @@
 -- Calls and replies in numbers.
-use Rattle.std.specs.Prelude.{◌≡◌, ◌⊎◌, ◌==◌, ◌&&◌, ◌∷◌, [], ℕ, List, false, nat_lt, if◌then◌else◌, Option, Some, None, option_map, IsUtf8, length}
+use Rattle.std.specs.Prelude.{◌≡◌, ◌⊎◌, ◌==◌, ◌&&◌, ◌∷◌, ◌++◌, [], ℕ, List, false, nat_lt, if◌then◌else◌, Option, Some, None, option_map, IsUtf8, length}
 use Rattle.blob_script.specs.Acts as acts
 use Rattle.blob_script.specs.Acts.{AcceptedVersions, Act, Through, accepted_versions}
 use Rattle.blob_script.specs.declared.reply.Reply.{Reply}
@@ -22,26 +22,32 @@ abbrev pub by_kind : {T : Type 0} → ℕ → List (ℕ × Option T) → Option 
 by_kind kind [] = None
 by_kind kind (row ∷ rows) = if kind == row.0 then row.1 else by_kind kind rows
 
-abbrev pub acts_of : TypedCall → List ℕ → List ℕ → List (ℕ × Option Act)
-acts_of asked partition name =
+-- calls by partition and name
+abbrev pub named_acts : TypedCall → List ℕ → List ℕ → List (ℕ × Option Act)
+named_acts asked partition name =
     (OPEN, option_map (acts.Open partition name) (typed_versions asked))
     ∷ (OPEN_LOOSE, option_map (acts.OpenLoose partition name) (typed_versions asked))
     ∷ (ADMIT, Some (acts.Admit partition name))
-    ∷ (CLOSE, Some (acts.Close asked.number))
+    ∷ (REMOVE_BLOB, Some (acts.Remove partition (Some name)))
+    ∷ (REMOVE_PARTITION, Some (acts.Remove partition None))
+    ∷ (SCAN, Some (acts.Scan partition))
+    ∷ []
+
+-- calls that have numbers alone
+abbrev pub numbered_acts : TypedCall → List (ℕ × Option Act)
+numbered_acts asked =
+    (CLOSE, Some (acts.Close asked.number))
     ∷ (RESIZE, Some (Through asked.number (acts.Resize asked.first)))
     ∷ (SIZE, Some (Through asked.number acts.Size))
     ∷ (SYNC, Some (Through asked.number acts.Sync))
     ∷ (START_SYNC, Some (Through asked.number acts.StartSync))
     ∷ (FINISH, Some (acts.Finish asked.number))
-    ∷ (REMOVE_BLOB, Some (acts.Remove partition (Some name)))
-    ∷ (REMOVE_PARTITION, Some (acts.Remove partition None))
-    ∷ (SCAN, Some (acts.Scan partition))
     ∷ (CRASH, Some acts.Crash)
     ∷ (REOPEN, Some acts.Reopen)
     ∷ []
 
 abbrev pub typed_act : TypedCall → List ℕ → List ℕ → Option Act
-typed_act asked partition name = by_kind asked.kind (acts_of asked partition name)
+typed_act asked partition name = by_kind asked.kind (named_acts asked partition name ++ numbered_acts asked)
 
 -- a call by partition and name, and not through a handle
 abbrev pub IsNamed : ℕ → Type 0

@@ -10,15 +10,12 @@ ghost use Rattle.blob_sessions.specs.Typed.{IsNamed, last_reply};
 ghost use Rattle.blob_sessions.specs.Words.{TakesWords, TellsWordsLeft};
 
 use crate::debts::{DebtCall, DebtReply, Debts};
-use crate::kinds::{
-    ADMIT, CLOSE, CRASH, FINISH, OPEN, OPEN_LOOSE, REMOVE_BLOB, REMOVE_PARTITION, REOPEN, RESIZE,
-    SCAN, SIZE, START_SYNC, SYNC,
-};
+use crate::kinds::{ADMIT, OPEN, OPEN_LOOSE, REMOVE_BLOB, REMOVE_PARTITION, SCAN};
 use crate::ran::{
     BAD_CALL, BAD_LINE, DONE, ENDLESS, NO_MEMORY, NO_ROOM, OTHER_REPLY, Ran, UNPRINTED,
 };
 use crate::reply_text::{line_len, write_line};
-use crate::typed::{TypedCall, TypedReply, versions};
+use crate::typed::{TypedCall, TypedReply, numbered_call, versions};
 use blob_faulty::Config;
 use blob_lab::script::{Line, RefusedLine, Setting, read_line};
 use blob_lab::{Call, Lab, Reply};
@@ -118,23 +115,17 @@ impl Kept {
     pub fn apply(&mut self, asked: &TypedCall, partition: &[u8], name: &[u8]) -> TypedReply
         ensures { Applies self.old self.new asked.now partition.now name.now result }
     {
-        let number = asked.number;
         match asked.kind {
             OPEN | OPEN_LOOSE | ADMIT | REMOVE_BLOB | REMOVE_PARTITION | SCAN => {
                 self.apply_named(asked, partition, name)
             }
-            CLOSE => self.numbers(&Call::Close(number)),
-            RESIZE => self.numbers(&Call::Resize {
-                handle: number,
-                len: asked.first,
-            }),
-            SIZE => self.numbers(&Call::Size(number)),
-            SYNC => self.numbers(&Call::Sync(number)),
-            START_SYNC => self.numbers(&Call::StartSync(number)),
-            FINISH => self.numbers(&Call::Finish(number)),
-            CRASH => self.numbers(&Call::Crash),
-            REOPEN => self.numbers(&Call::Reopen),
-            _ => TypedReply::stopped(BAD_CALL),
+            _ => match numbered_call(asked) {
+                Some(call) => {
+                    self.make(&call);
+                    self.last()
+                }
+                None => TypedReply::stopped(BAD_CALL),
+            },
         }
     }
 
@@ -252,16 +243,6 @@ impl Kept {
     {
         let reply = self.lab.apply(call);
         self.last = Some(reply);
-    }
-
-    /// Makes a call, keeps its reply, and returns the reply's numbers.
-    fn numbers(&mut self, call: &Call) -> TypedReply
-        ensures made { (reply : Reply) × Makes self.old (act_of call.now) reply self.new }
-        ensures config { self.new.config ≡ self.old.config }
-        ensures numbers { result ≡ last_reply self.new.last }
-    {
-        self.make(call);
-        self.last()
     }
 
     /// The call that hands the whole configuration so far on.
