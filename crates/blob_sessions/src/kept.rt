@@ -184,11 +184,8 @@ impl Kept {
     pub fn read(&mut self, handle: usize, offset: u64, into: &mut [u8]) -> u32
         ensures { AnswersRead self.old self.new handle offset result into.old into.new }
     {
-        self.make(&Call::Read {
-            handle,
-            offset,
-            len: into.len(),
-        });
+        let reply = self.lab.read(handle, offset, into.len());
+        self.last = Some(reply);
         match &self.last {
             Some(Reply::Bytes(bytes)) if bytes.len() == into.len() => {
                 into.copy_from_slice(bytes);

@@ -52,14 +52,7 @@ impl Lab {
             Call::Sync(handle) => self.sync(*handle),
             Call::StartSync(handle) => self.start_sync(*handle),
             Call::Finish(number) => self.finish(*number),
-            Call::Remove {
-                partition,
-                name: Some(name),
-            } => self.remove(partition, Some(name.as_slice())),
-            Call::Remove {
-                partition,
-                name: None,
-            } => self.remove(partition, None),
+            Call::Remove { partition, name } => self.remove(partition, name.as_deref()),
             Call::Scan { partition } => self.scan(partition),
             Call::Crash => self.crash(),
             Call::Reopen => self.reopen(),

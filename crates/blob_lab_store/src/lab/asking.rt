@@ -95,7 +95,8 @@ impl Handle {
 
 // A handle stays in its slot during a call: it is large to move.
 impl Lab {
-    pub(crate) fn read(&mut self, number: usize, offset: u64, len: usize) -> Reply
+    /// Reads `len` bytes through a handle: `Call::Read` without the call as data. Returns `Bytes`, `NoHandle` or `Failed`.
+    pub fn read(&mut self, number: usize, offset: u64, len: usize) -> Reply
         ensures { Performs self.old (Through number (Read offset len)) result self.new }
     {
         match self.handles.get(number) {

@@ -20,6 +20,7 @@ impl Lab {
 
     /// Removes a blob, or with no name the partition: `Call::Remove` without a copy of its texts. Returns `Done`, and none of
     /// these names is open then, or `Failed`.
+    #[inline(never)]
     pub fn remove(&mut self, partition: &str, name: Option<&[u8]>) -> Reply
         ensures { Performs self.old (Remove partition.now (option_copied name.entry)) result self.new }
     {
@@ -31,6 +32,7 @@ impl Lab {
     }
 
     /// Returns the names of a partition, sorted by bytes: `Call::Scan` without a copy of its text. Returns `Names` or `Failed`.
+    #[inline(never)]
     pub fn scan(&mut self, partition: &str) -> Reply
         ensures { Performs self.old (Scan partition.now) result self.new }
     {

@@ -26,9 +26,11 @@ fn accepted(versions: &RangeInclusive<BlobVersion>) -> Option<RangeInclusive<Blo
     Some(*versions.start()..=*versions.end())
 }
 
+// Calls by name aren't inlined: a function clears its locals each time, and calls through a handle would pay for those of an open.
 impl Lab {
     /// Opens a blob exclusively, with `admit`: `Call::Open` without a copy of its texts. Returns `Opened`, `EmptyRange` for an
     /// empty range of versions, or `Failed`.
+    #[inline(never)]
     pub fn open(
         &mut self,
         partition: &str,
@@ -58,6 +60,7 @@ impl Lab {
 
     /// Opens a blob without the registry of open names: `Call::OpenLoose` without a copy of its texts. Returns `Opened`,
     /// `EmptyRange` for an empty range of versions, or `Failed`.
+    #[inline(never)]
     pub fn open_loose(
         &mut self,
         partition: &str,

@@ -8,8 +8,8 @@ use Rattle.blob_sessions.proofs.kept.Kept.apply.Goals as goal
 pub returns-in-Some : goal.returns-in-Some
 returns-in-Some c =
     let numbered : typed_act c.args.asked.now c.args.partition.now c.args.name.now ≡ by_kind c.args.asked.now.kind (numbered_acts c.args.asked.now) = elim c.in_default.branch [
-      in_default-via-then-asked-lt9 w ↦ search rules
-    | in_default-via-else-asked-lt9+else-asked-lt12 w ↦ search rules
+      | in_default-via-then-asked-lt9 w ↦ search rules
+      | in_default-via-else-asked-lt9+else-asked-lt12 w ↦ search rules
     ] in
     applied c.args.self.now c.make.new.self c.args.asked.now c.args.partition.now c.args.name.now (act_of c.in-Some.call) c.make.ensures.made.0 c.last.result
-      (numbered ∙ c.in-Some.ensures.some) c.make.ensures.made.1 c.make.ensures.config c.last.ensures
+    (numbered ∙ c.in-Some.ensures.some) c.make.ensures.made.1 c.make.ensures.config c.last.ensures
