@@ -7,16 +7,14 @@ ghost use Rattle.blob_lab.specs.Streams.{reader_of, lines_left, read_failed, wri
 ghost use Rattle.blob_lab.specs.Streams.{KeepsOutput, ReadsInputLine, ReadsRest, WritesAll, WritesPrefix};
 
 use crate::Ending;
-use crate::scripts::Ahead;
 use blob_script::script::read_through;
-use memchr::memchr;
 use std::fmt::Display;
 use std::io::{BufRead, ErrorKind, Write};
 
 /// A reader of at most 2^64 - 1 lines, and whether it failed.
 #[derive(Drop)]
 pub struct Input<R> {
-    reader: R,
+    pub(crate) reader: R,
     left: u64,
     failed: bool,
 }
@@ -50,23 +48,6 @@ impl<R> Input<R> {
 }
 
 impl<R: BufRead> Input<R> {
-    /// Appends one line with its line feed to `line`. Returns the number of bytes, 0 at the end of the input. Flushes
-    /// the output first if needed, since the read may wait.
-    pub(crate) fn read_line<W: Write>(
-        &mut self,
-        line: &mut Vec<u8>,
-        output: &mut Output<W>,
-    ) -> Result<usize, Ending>
-        ensures handed_on { result ≢ Err Ending.OutputFailed → is_flushed output.new ≡ true }
-        ensures told { ToldEnding result self.old self.new output.old output.new }
-        ensures kept { KeepsOutput W.contents output.old output.new }
-        ensures ending { IfErr result (λ ending. is_of_stream ending ≡ true) }
-        ensures read { ReadsInputLine R.remaining result self.old self.new line.old.items line.new.items }
-    {
-        output.hand_on()?;
-        self.read_on(line)
-    }
-
     /// Appends the rest of the input to `bytes`.
     ///
     /// # Errors
@@ -89,7 +70,9 @@ impl<R: BufRead> Input<R> {
         }
     }
 
-    fn read_on(&mut self, line: &mut Vec<u8>) -> Result<usize, Ending>
+    /// Appends one line with its line feed to `line`. Returns the number of bytes, 0 at the end of the input. The read
+    /// may wait.
+    pub(crate) fn read_line(&mut self, line: &mut Vec<u8>) -> Result<usize, Ending>
         ensures failed { result ≡ Err Ending.InputFailed → read_failed self.new ≡ true }
         ensures sound { result ≢ Err Ending.InputFailed → read_failed self.new ≡ read_failed self.old }
         ensures ending { IfErr result (λ ending. (ending ≡ Ending.InputFailed) ⊎ (ending ≡ Ending.NoMemory)) }
@@ -112,33 +95,12 @@ impl<R: BufRead> Input<R> {
     }
 }
 
-impl<R: Ahead> Input<R> {
-    /// Like `read_line`, but doesn't flush if a whole line is buffered, since reading it doesn't wait.
-    pub(crate) fn read_ahead<W: Write>(
-        &mut self,
-        line: &mut Vec<u8>,
-        output: &mut Output<W>,
-    ) -> Result<usize, Ending>
-        ensures handed_on { result ≢ Err Ending.OutputFailed → (is_flushed output.new ≡ true) ⊎ HasLineReady R.ready self.old }
-        ensures told { ToldEnding result self.old self.new output.old output.new }
-        ensures kept { KeepsOutput W.contents output.old output.new }
-        ensures ending { IfErr result (λ ending. is_of_stream ending ≡ true) }
-        ensures read { ReadsInputLine R.remaining result self.old self.new line.old.items line.new.items }
-        ensures fewer { OnOk result (lines_left self.new < lines_left self.old) }
-    {
-        if memchr(b'\n', self.reader.ready()).is_none() {
-            output.hand_on()?;
-        }
-        self.read_on(line)
-    }
-}
-
 /// A writer, and whether it failed and was flushed after the last write.
 #[derive(Drop)]
 pub struct Output<W> {
     writer: W,
     failed: bool,
-    flushed: bool,
+    pub(crate) flushed: bool,
 }
 
 impl<W> Output<W> {
@@ -241,19 +203,6 @@ impl<W: Write> Output<W> {
                 Err(Ending::OutputFailed)
             }
         }
-    }
-
-    /// Flushes the writer, if something was written since the last flush.
-    fn hand_on(&mut self) -> Result<(), Ending>
-        ensures flushed { OnOk result (is_flushed self.new ≡ true) }
-        ensures kept { KeepsOutput W.contents self.old self.new }
-        ensures ending { IfErr result (λ ending. ending ≡ Ending.OutputFailed) }
-        ensures told { ToldOutput result self.old self.new }
-    {
-        if self.flushed {
-            return Ok(());
-        }
-        self.flush()
     }
 }
 
