@@ -14,17 +14,6 @@ use blob_base::{Blob, Error, ReadOptions, Storage, WriteOptions};
 use blob_script::Reply;
 use std::alloc::AllocError;
 
-/// Returns `SYNC` for a durable write, otherwise no option.
-fn write_options(sync: bool) -> WriteOptions
-    ensures { is_sync result ≡ sync }
-{
-    if sync {
-        WriteOptions::SYNC
-    } else {
-        WriteOptions::default()
-    }
-}
-
 /// Returns whether the error is `Memory`.
 fn is_memory(outcome: &Result<(), Error>) -> bool
     ensures is { OnTrue result (error_of outcome.now ≡ Some Memory) }
@@ -45,17 +34,6 @@ impl Handle {
             .read_at(wrapper, offset, len, ReadOptions::default())
         {
             Ok(bytes) => Reply::Bytes(bytes.coalesce()),
-            Err(e) => Reply::Failed(e),
-        }
-    }
-
-    fn write(&mut self, wrapper: &mut Wrapper, offset: u64, bytes: &[u8], sync: bool) -> Reply
-        ensures { HandlePerforms wrapper.old self.old (Write offset bytes.now sync) result wrapper.new self.new }
-    {
-        let options = write_options(sync);
-        runs_are_choices();
-        match self.blob.write_from(wrapper, offset, bytes, options) {
-            Ok(()) => Reply::Done,
             Err(e) => Reply::Failed(e),
         }
     }
@@ -110,9 +88,18 @@ impl Lab {
         if number >= self.handles.slots.len() {
             return Reply::NoHandle;
         }
-        match &mut self.handles.slots[number] {
-            Some(handle) => handle.write(&mut self.wrapper, offset, bytes, sync),
-            None => Reply::NoHandle,
+        let Some(Handle { blob, .. }) = &mut self.handles.slots[number] else {
+            return Reply::NoHandle;
+        };
+        let options = if sync {
+            WriteOptions::SYNC
+        } else {
+            WriteOptions::default()
+        };
+        runs_are_choices();
+        match blob.write_from(&mut self.wrapper, offset, bytes, options) {
+            Ok(()) => Reply::Done,
+            Err(e) => Reply::Failed(e),
         }
     }
 
