@@ -1,9 +1,8 @@
 //! The streams of a run: a reader and a writer that record whether they failed.
 ghost use Rattle.std.specs.Prelude.{◌≡◌, ◌≢◌, ◌⊎◌, ◌<◌, true, false, IfSome, IfErr, OnOk};
-ghost use Rattle.std.specs.Io.BufRead.{strip_last};
 ghost use Rattle.std.specs.Fmt.{with_newline};
 ghost use Rattle.blob_lab.specs.Endings.{is_of_stream};
-ghost use Rattle.blob_lab.specs.Streams.{reader_of, lines_left, read_failed, writer_of, write_failed, is_flushed, HasLineReady, ToldEnding, ToldOutput};
+ghost use Rattle.blob_lab.specs.Streams.{reader_of, lines_left, read_failed, writer_of, write_failed, is_flushed, ToldOutput};
 ghost use Rattle.blob_lab.specs.Streams.{KeepsOutput, ReadsInputLine, ReadsRest, WritesAll, WritesPrefix};
 
 use crate::Ending;
@@ -70,13 +69,12 @@ impl<R: BufRead> Input<R> {
         }
     }
 
-    /// Appends one line with its line feed to `line`. Returns the number of bytes, 0 at the end of the input. The read
-    /// may wait.
-    pub(crate) fn read_line(&mut self, line: &mut Vec<u8>) -> Result<usize, Ending>
+    /// Reads one line into `line`, without its line feed. Returns false at the end of the input. The read may wait.
+    pub(crate) fn read_line(&mut self, line: &mut Vec<u8>) -> Result<bool, Ending>
         ensures failed { result ≡ Err Ending.InputFailed → read_failed self.new ≡ true }
         ensures sound { result ≢ Err Ending.InputFailed → read_failed self.new ≡ read_failed self.old }
         ensures ending { IfErr result (λ ending. (ending ≡ Ending.InputFailed) ⊎ (ending ≡ Ending.NoMemory)) }
-        ensures read { ReadsInputLine R.remaining result self.old self.new line.old.items line.new.items }
+        ensures read { ReadsInputLine R.remaining result self.old self.new line.new.items }
         ensures fewer { OnOk result (lines_left self.new < lines_left self.old) }
     {
         if self.left == 0 {
@@ -84,8 +82,15 @@ impl<R: BufRead> Input<R> {
             return Err(Ending::InputFailed);
         }
         self.left -= 1;
+        line.clear();
         match read_through(&mut self.reader, b'\n', line) {
-            Ok(count) => Ok(count),
+            Ok(0) => Ok(false),
+            Ok(_) => {
+                if line.last() == Some(&b'\n') {
+                    let _ = line.pop();
+                }
+                Ok(true)
+            }
             Err(e) if e.kind() == ErrorKind::OutOfMemory => Err(Ending::NoMemory),
             Err(_) => {
                 self.failed = true;
@@ -203,14 +208,5 @@ impl<W: Write> Output<W> {
                 Err(Ending::OutputFailed)
             }
         }
-    }
-}
-
-/// Removes the line feed at the end of a line, if it has one.
-pub(crate) fn drop_line_feed(line: &mut Vec<u8>)
-    ensures { line.new.items ≡ strip_last 10 line.old.items }
-{
-    if line.last() == Some(&b'\n') {
-        let _ = line.pop();
     }
 }

@@ -9,7 +9,6 @@ ghost use Rattle.blob_lab.specs.ResolveReplies.{HasBadHex, IsFirstLine, Resolves
 ghost use Rattle.blob_lab.specs.Streams.{KeepsOutput, OfBytes, reader_of, writer_of, is_flushed, ToldEnding};
 
 use crate::resolution_line::ResolutionLine;
-use crate::streams::drop_line_feed;
 use crate::{Ending, Input, Output};
 use blob_base::{BlobVersion, Error, Layout, resolve};
 use blob_script::script::{RefusedLine, decode_hex};
@@ -72,7 +71,6 @@ fn read_line<R: BufRead, W: Write>(
         output.flush()?;
     }
     input.read_line(&mut line)?;
-    drop_line_feed(&mut line);
     Ok(line)
 }
 

@@ -11,7 +11,6 @@ ghost use Rattle.blob_script.specs.Settings.{no_rates, with_setting};
 ghost use Rattle.blob_lab.specs.Streams.{IsReadToEnd, HasLineReady, KeepsKnown, KeepsOutput, is_flushed, lines_left, ToldEnding};
 
 use super::Ahead;
-use crate::streams::drop_line_feed;
 use crate::{Ending, Input, Output};
 use blob_base::Error;
 use blob_faulty::Config;
@@ -181,14 +180,12 @@ impl Lines {
         ensures numbered { IfRead result (λ _. self.new.number ≡ u64_saturate (self.old.number + 1)) }
         ensures same { self.new.config ≡ self.old.config }
     {
-        self.line.clear();
         if !output.flushed && memchr(b'\n', input.reader.ready()).is_none() {
             output.flush()?;
         }
-        if input.read_line(&mut self.line)? == 0 {
+        if !input.read_line(&mut self.line)? {
             return Ok(None);
         }
-        drop_line_feed(&mut self.line);
         self.number = self.number.saturating_add(1);
         let alloc = *self.line.allocator();
         match read_line(alloc, self.line.as_slice()) {

@@ -1,4 +1,4 @@
-use Rattle.std.proofs.Common.{rules, ◌≡◌, ◌⊎◌, ◌∙◌, ℕ, List, true, inl, inr, subst, [], Option, None, Err, length, refl, ap, arith}
+use Rattle.std.proofs.Common.{rules, ◌≡◌, ◌⊎◌, ◌∙◌, ℕ, List, true, inl, inr, subst, Option, None, Err, sym, refl, ap, arith}
 use Rattle.blob_script.specs.Lines.{Said, line_of}
 use Rattle.blob_lab.specs.ScriptReading.{OfLines, TakesLine, TakesOne}
 use Rattle.blob_lab.specs.Streams.{reader_of, is_flushed, has_line, HasLineReady}
@@ -10,18 +10,14 @@ use Rattle.blob_lab.proofs.scripts.lines.Lines.next_line.Goals.{After-read_line,
 pub returns-in_err-read_line-clause-part : goal.returns-in_err-read_line-clause-part
 returns-in_err-read_line-clause-part g c =
     let is : c.from_residual-in_err-read_line.result ≡ Err c.in_err-read_line.field-0.0 = search rules in
-    let read = c.in_err-read_line.ensures.read in
-    rw is (takes_one (g.R.Read.remaining (reader_of c.args.input.now)) (g.R.Read.remaining (reader_of c.read_line.new.self)) c.clear.new.self.items c.read_line.new.line.items c.clear.ensures.items read.one read.none_lost)
-
-some : (g : _) (c : After-read_line-2 g) → c.read_line.new.line.items ≡ [] → ⊥
-some g c h = c.if-branch-eq0.false (omega (arith, ap length h, c.in_ok-read_line.ensures.read.count))
+    rw is (takes_one (g.R.Read.remaining (reader_of c.args.input.now)) (g.R.Read.remaining (reader_of c.read_line.new.self)) c.in_err-read_line.ensures.read.taken)
 
 said_line : (g : _) (c : After-read_line-2 g) (said : Option Said) → line_of c.as_slice.result.now ≡ said
     → OfLines (g.R.Read.remaining (reader_of c.args.input.now)) (g.R.Read.remaining (reader_of c.read_line.new.self)) (TakesLine said)
 said_line g c said says =
     let read = c.in_ok-read_line.ensures.read in
-    takes_line (g.R.Read.remaining (reader_of c.args.input.now)) (g.R.Read.remaining (reader_of c.read_line.new.self)) c.clear.new.self.items c.read_line.new.line.items c.as_slice.result.now said
-    c.clear.ensures.items read.bytes read.rest (some g c) (c.as_slice.ensures.value ∙ c.drop_line_feed.ensures) says
+    takes_line (g.R.Read.remaining (reader_of c.args.input.now)) (g.R.Read.remaining (reader_of c.read_line.new.self)) c.read_line.new.line.items said
+    read.line read.rest (read.some (search rules)) (ap line_of (sym c.as_slice.ensures.value) ∙ says)
 
 pub returns-in-Ok-clause-line : goal.returns-in-Ok-clause-line
 returns-in-Ok-clause-line g c = said_line g (goal.at.returns-in-Ok-clause-line g c).After-read_line-2 _ c.in-Ok.ensures.ok
