@@ -1,11 +1,8 @@
 -- Where a read up to a byte ends in the reader's buffer.
-use Rattle.std.proofs.Common.{◌≡◌, ◌≢◌, ◌<◌, ◌≤◌, ◌+◌, ◌==◌, ℕ, zero, suc, ◌-◌, List, [], ◌∷◌, ◌++◌, All, Bool, true, false, Option, Some, None, IfSome, ◌⊎◌, inl, inr, is_some, le_refl, length, take, drop, get_or, cond, refl, sym, ap, subst, ◌∙◌, eq-eqb, eqb-true, get_or-take, length-take, arith}
-use Rattle.std.proofs.lemmas.Bool.{ne_eqb}
+use Rattle.std.proofs.Common.{◌≡◌, ◌≢◌, ◌<◌, ◌≤◌, ◌+◌, ℕ, ◌-◌, List, ◌++◌, All, true, false, Option, Some, None, IfSome, ◌⊎◌, inl, inr, is_some, le_refl, length, take, get_or, sym, ap, subst, ◌∙◌, eq-eqb, eqb-true, get_or-take, length-take, arith}
 use Rattle.std.proofs.lemmas.List.{get_or_default, take-take}
-use Rattle.std.proofs.Math.Seq.{drop-append_seam}
-use Rattle.std.specs.Io.KnownBytes.{Consumes, Keeps}
-use Rattle.std.specs.Io.BufRead.{DropsThrough, DropsConsumable, take_through, drop_through}
-use Rattle.std.specs.Io.{StartsWith, StopsAt, IsEmptyOrEndsWith}
+use Rattle.std.specs.Io.BufRead.{take_through}
+use Rattle.std.specs.Io.{StopsAt, IsEmptyOrEndsWith}
 use Rattle.std.proofs.Transfers.{StopsAt-of_All}
 use Rattle.memchr.specs.Find.{IsFirstByte, is_byte}
 
