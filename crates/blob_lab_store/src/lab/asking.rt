@@ -4,7 +4,7 @@ ghost use Rattle.std.specs.Bool.{OnTrue, OnFalse};
 ghost use Rattle.blob_base.specs.Options.{is_sync};
 ghost use Rattle.blob_header.specs.Refusals.{Memory, error_of};
 ghost use Rattle.blob_script.specs.Acts.{Read, Write, Resize, Size, Sync, StartSync, Through, Finish};
-ghost use Rattle.blob_lab_store.specs.LabStands.{HandlePerforms, HandleStartsSync, Performs};
+ghost use Rattle.blob_lab_store.specs.LabStands.{HandleStartsSync, Performs};
 
 use crate::lab::handles::Handle;
 use crate::lab::syncs::Syncs;
@@ -26,36 +26,6 @@ fn is_memory(outcome: &Result<(), Error>) -> bool
 }
 
 impl Handle {
-    fn read(&self, wrapper: &mut Wrapper, offset: u64, len: usize) -> Reply
-        ensures { HandlePerforms wrapper.old self.now (Read offset len) result wrapper.new self.now }
-    {
-        match self
-            .blob
-            .read_at(wrapper, offset, len, ReadOptions::default())
-        {
-            Ok(bytes) => Reply::Bytes(bytes.coalesce()),
-            Err(e) => Reply::Failed(e),
-        }
-    }
-
-    fn resize(&mut self, wrapper: &mut Wrapper, len: u64) -> Reply
-        ensures { HandlePerforms wrapper.old self.old (Resize len) result wrapper.new self.new }
-    {
-        match self.blob.resize(wrapper, len) {
-            Ok(()) => Reply::Done,
-            Err(e) => Reply::Failed(e),
-        }
-    }
-
-    fn sync(&mut self, wrapper: &mut Wrapper) -> Reply
-        ensures { HandlePerforms wrapper.old self.old Sync result wrapper.new self.new }
-    {
-        match self.blob.sync(wrapper) {
-            Ok(()) => Reply::Done,
-            Err(e) => Reply::Failed(e),
-        }
-    }
-
     /// Starts a sync. It takes a number, even if it fails, unless the error is `Memory`.
     fn start_sync(&mut self, wrapper: &mut Wrapper, syncs: &mut Syncs) -> Reply
         ensures { HandleStartsSync wrapper.old self.old syncs.old result wrapper.new self.new syncs.new }
@@ -76,9 +46,15 @@ impl Lab {
     pub(crate) fn read(&mut self, number: usize, offset: u64, len: usize) -> Reply
         ensures { Performs self.old (Through number (Read offset len)) result self.new }
     {
-        match self.handles.get(number) {
-            Some(handle) => handle.read(&mut self.wrapper, offset, len),
-            None => Reply::NoHandle,
+        let Some(handle) = self.handles.get(number) else {
+            return Reply::NoHandle;
+        };
+        match handle
+            .blob
+            .read_at(&mut self.wrapper, offset, len, ReadOptions::default())
+        {
+            Ok(bytes) => Reply::Bytes(bytes.coalesce()),
+            Err(e) => Reply::Failed(e),
         }
     }
 
@@ -109,9 +85,12 @@ impl Lab {
         if number >= self.handles.slots.len() {
             return Reply::NoHandle;
         }
-        match &mut self.handles.slots[number] {
-            Some(handle) => handle.resize(&mut self.wrapper, len),
-            None => Reply::NoHandle,
+        let Some(Handle { blob, .. }) = &mut self.handles.slots[number] else {
+            return Reply::NoHandle;
+        };
+        match blob.resize(&mut self.wrapper, len) {
+            Ok(()) => Reply::Done,
+            Err(e) => Reply::Failed(e),
         }
     }
 
@@ -130,9 +109,12 @@ impl Lab {
         if number >= self.handles.slots.len() {
             return Reply::NoHandle;
         }
-        match &mut self.handles.slots[number] {
-            Some(handle) => handle.sync(&mut self.wrapper),
-            None => Reply::NoHandle,
+        let Some(Handle { blob, .. }) = &mut self.handles.slots[number] else {
+            return Reply::NoHandle;
+        };
+        match blob.sync(&mut self.wrapper) {
+            Ok(()) => Reply::Done,
+            Err(e) => Reply::Failed(e),
         }
     }
 
