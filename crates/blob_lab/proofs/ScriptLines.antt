@@ -1,5 +1,5 @@
 -- Splitting off lines from the start of the input.
-use Rattle.std.proofs.Common.{◌≡◌, ◌≢◌, ℕ, suc, ◌==◌, List, [], ◌∷◌, ◌++◌, All, Bool, true, false, Option, Some, None, IfSome, length, take, drop, get_or, inl, inr, refl, sym, ap, ◌∙◌, subst, cond, arith}
+use Rattle.std.proofs.Common.{◌≡◌, ◌≢◌, ℕ, suc, ◌==◌, List, [], ◌∷◌, ◌++◌, All, Bool, true, false, Option, Some, None, IfSome, length, take, get_or, inl, inr, refl, sym, ap, ◌∙◌, subst, cond, arith}
 use Rattle.std.proofs.Math.Numerals.{sub-one}
 use Rattle.std.proofs.lemmas.Bool.{eqb-true, lt-ltb}
 use Rattle.std.specs.Io.BufRead.{DropsThrough, take_through, drop_through, strip_last, first_piece}
@@ -36,15 +36,14 @@ first_is b (c ∷ cs) false h =
 pub lines_cons : (b : ℕ) (bs : List ℕ) → lines_of (b ∷ bs) ≡ first_piece 10 (b ∷ bs) ∷ lines_of (drop_through 10 (b ∷ bs))
 lines_cons b bs = first_is b bs (b == 10) refl
 
--- a line with its line feed was read into an empty buffer, and the line feed was removed
-pub takes_line : (old new : Option (List ℕ)) (kept buf line : List ℕ) (said : Option Said) → kept ≡ [] → IfSome old (λ xs. buf ≡ kept ++ take_through 10 xs) → DropsThrough old new 10
-    → (buf ≡ [] → ⊥) → line ≡ strip_last 10 buf → line_of line ≡ said → OfLines old new (TakesLine said)
-takes_line None new kept buf line said none bytes drops some is says = tt
-takes_line (Some []) new kept buf line said none bytes drops some is says = absurd (some (bytes ∙ ap (λ l. l ++ []) none))
-takes_line (Some (b ∷ bs)) None kept buf line said none bytes drops some is says = absurd (cc)
-takes_line (Some (b ∷ bs)) (Some ys) kept buf line said none bytes drops some is says =
+-- a line was read
+pub takes_line : (old new : Option (List ℕ)) (line : List ℕ) (said : Option Said) → IfSome old (λ xs. line ≡ first_piece 10 xs) → DropsThrough old new 10
+    → IfSome old (λ xs. xs ≢ []) → line_of line ≡ said → OfLines old new (TakesLine said)
+takes_line None new line said first drops some says = tt
+takes_line (Some []) new line said first drops some says = absurd (some refl)
+takes_line (Some (b ∷ bs)) None line said first drops some says = absurd (cc)
+takes_line (Some (b ∷ bs)) (Some ys) line said first drops some says =
     let left : ys ≡ drop_through 10 (b ∷ bs) = cc drops in
-    let first = is ∙ ap (strip_last 10) (bytes ∙ ap (λ l. l ++ take_through 10 (b ∷ bs)) none) in
     (line, lines_cons b bs ∙ ap (λ l. l ∷ lines_of (drop_through 10 (b ∷ bs))) (sym first) ∙ ap (λ zs. line ∷ lines_of zs) (sym left), says)
 
 -- A part of a line.
@@ -71,10 +70,10 @@ begun (b ∷ c ∷ cs) left one =
     let later : StopsAt (c ∷ cs) 10 = subst (λ n. All (λ x. x ≢ 10) (take n (c ∷ cs))) (sym (sub-one (suc (length cs)))) (λ k d lt. all (suc k) d (omega arith)) in
     begun_with b (c ∷ cs ++ left) (lines_of left) (b == 10) refl (λ is. absurd (all 0 0 (omega arith) (eqb-true b 10 is))) (λ _. begun (c ∷ cs) left later)
 
-pub takes_one : (old new : Option (List ℕ)) (kept buf : List ℕ) → kept ≡ [] → StopsAt (drop (length kept) buf) 10 → Consumes old new (drop (length kept) buf) → OfLines old new TakesOne
-takes_one None new kept buf none one is = tt
-takes_one (Some xs) None kept buf none one is = absurd is
-takes_one (Some xs) (Some ys) kept buf none one is = subst (λ bytes. TakesOne (lines_of bytes) (lines_of ys)) (sym is) (begun (drop (length kept) buf) ys one)
+pub takes_one : (old new : Option (List ℕ)) → (part : List ℕ) × StopsAt part 10 × Consumes old new part → OfLines old new TakesOne
+takes_one None new (part, one, is) = tt
+takes_one (Some xs) None (part, one, is) = absurd is
+takes_one (Some xs) (Some ys) (part, one, is) = subst (λ bytes. TakesOne (lines_of bytes) (lines_of ys)) (sym is) (begun part ys one)
 
 -- one line was taken
 pub taken_whole : (old new : Option (List ℕ)) (said : Option Said) → OfLines old new (TakesLine said) → OfLines old new TakesOne

@@ -14,11 +14,11 @@ use Rattle.blob_lab.specs.declared.streams.Output.{Output}
 use Rattle.blob_script.specs.declared.call.Call.{Call}
 use Rattle.blob_script.specs.declared.reply.Reply.{Reply}
 use Rattle.blob_script.specs.Acts.{Act, act_of}
-use Rattle.blob_lab_store.specs.LabStands.{LabStandsFor, Performs}
+use Rattle.blob_lab_store.specs.LabStands.{LabStandsFor}
 use Rattle.blob_script.specs.Lines.{Said, line_of}
 use Rattle.blob_script.specs.Replies.{reply_line}
 use Rattle.blob_lab.specs.Scripts.{IsPrinted, Prints, Run, Script, lines_of, no_script, with_line, with_lines}
-use Rattle.blob_lab.specs.Streams.{AppendsPart, OfBytes, reader_of, writer_of}
+use Rattle.blob_lab.specs.Streams.{AppendsPart, OfBytes, reader_of}
 use Rattle.blob_script.specs.Settings.{no_rates}
 use Rattle.blob_lab_model.specs.Runs.{LeadsTo}
 use Rattle.blob_lab_model.specs.States.{State, start}
@@ -197,16 +197,3 @@ PrintsFromUpTo remaining contents lab first lines i i' o o' ending = (s : Script
 -- if the calls end with a failure, up to it
 abbrev pub IfCut : {R W T : Type 0} → (R → Option (List ℕ)) → (W → Option (List ℕ)) → Lab → Call → Lines → Input R → Input R → Output W → Output W → Result T Ending → Type 0
 IfCut remaining contents lab first lines i i' o o' result = IfErr result (PrintsFromUpTo remaining contents lab first lines i i' o o')
-
--- a call was run, and the line of its reply was added like this
-abbrev pub AddsReply : {W : Type 0} → (W → Option (List ℕ)) → Lab → Call → Lab → Output W → Output W → (Option (List ℕ) → Option (List ℕ) → List ℕ → Type 0) → Type 0
-AddsReply contents lab call lab' o o' Adds = (reply : Reply) × Performs lab (act_of call) reply lab'
-    × Adds (contents (writer_of o)) (contents (writer_of o')) (printed_reply reply)
-
--- it was written
-abbrev pub WritesReply : {W : Type 0} → (W → Option (List ℕ)) → Lab → Call → Lab → Output W → Output W → Type 0
-WritesReply contents lab call lab' o o' = AddsReply contents lab call lab' o o' Appends
-
--- a prefix of it was written
-abbrev pub CutsReply : {W : Type 0} → (W → Option (List ℕ)) → Lab → Call → Lab → Output W → Output W → Type 0
-CutsReply contents lab call lab' o o' = AddsReply contents lab call lab' o o' AppendsPart

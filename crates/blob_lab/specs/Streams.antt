@@ -1,8 +1,8 @@
 -- The streams of a run, and the results of reads and writes.
-use Rattle.std.specs.Prelude.{◌≡◌, ℕ, ◌+◌, ◌==◌, List, ◌++◌, length, Bool, true, Result, Option, IfSome, IfOk, OnOk, MatchResult}
+use Rattle.std.specs.Prelude.{◌≡◌, ◌≢◌, ℕ, ◌==◌, List, [], ◌++◌, Bool, true, false, Result, Option, IfSome, IfOk, OnOk, MatchResult}
 use Rattle.std.specs.List.{list_any}
-use Rattle.std.specs.Io.{StopsAt, appended_bytes}
-use Rattle.std.specs.Io.BufRead.{DropsThrough, take_through}
+use Rattle.std.specs.Io.{StopsAt}
+use Rattle.std.specs.Io.BufRead.{DropsThrough, first_piece}
 use Rattle.std.specs.Io.KnownBytes.{Appends, Consumes, IsAtEnd, Keeps}
 use Rattle.blob_lab.specs.declared.ending.Ending.{Ending}
 use Rattle.blob_lab.specs.declared.ending.Ending.TheVariants.{InputFailed, OutputFailed, BadCall}
@@ -80,18 +80,17 @@ OfBytes remaining contents i o o' P = OfKnown remaining contents (reader_of i) (
 abbrev pub OnBadCall : {R W : Type 0} → (R → Option (List ℕ)) → (W → Option (List ℕ)) → Ending → Input R → Output W → Output W → (ℕ → List ℕ → Option (List ℕ) → Option (List ℕ) → Type 0) → Type 0
 OnBadCall remaining contents ending i o o' P = OnKnownBadCall remaining contents ending (reader_of i) (writer_of o) (writer_of o') P
 
--- one line was appended to a buffer; after an error at most a part of it
-pub record ReadsLine (result : Result ℕ Ending) (old new : Option (List ℕ)) (before after : List ℕ) : Type 0 where
-  pub count : IfOk result (λ n. length after ≡ length before + n)
-  pub bytes : OnOk result (IfSome old (λ xs. after ≡ before ++ take_through 10 xs))
+-- one line was read, without its line feed, or the end of the input; after an error at most a part of a line was taken
+pub record ReadsLine (result : Result Bool Ending) (old new : Option (List ℕ)) (read : List ℕ) : Type 0 where
+  pub line : OnOk result (IfSome old (λ xs. read ≡ first_piece 10 xs))
   pub rest : OnOk result (DropsThrough old new 10)
-  pub end : IfOk result (λ n. n ≡ 0 → IsAtEnd old)
-  pub one : StopsAt (appended_bytes before after) 10
-  pub none_lost : Consumes old new (appended_bytes before after)
+  pub some : IfOk result (λ some. some ≡ true → IfSome old (λ xs. xs ≢ []))
+  pub end : IfOk result (λ some. some ≡ false → IsAtEnd old)
+  pub taken : (part : List ℕ) × StopsAt part 10 × Consumes old new part
 
 -- the same for the reader of a run
-abbrev pub ReadsInputLine : {R : Type 0} → (R → Option (List ℕ)) → Result ℕ Ending → Input R → Input R → List ℕ → List ℕ → Type 0
-ReadsInputLine remaining result i i' before after = ReadsLine result (remaining (reader_of i)) (remaining (reader_of i')) before after
+abbrev pub ReadsInputLine : {R : Type 0} → (R → Option (List ℕ)) → Result Bool Ending → Input R → Input R → List ℕ → Type 0
+ReadsInputLine remaining result i i' read = ReadsLine result (remaining (reader_of i)) (remaining (reader_of i')) read
 
 -- the remaining bytes were appended to a buffer
 abbrev pub ReadsRest : {R : Type 0} → (R → Option (List ℕ)) → Input R → List ℕ → List ℕ → Type 0

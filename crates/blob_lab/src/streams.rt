@@ -1,22 +1,19 @@
 //! The streams of a run: a reader and a writer that record whether they failed.
 ghost use Rattle.std.specs.Prelude.{◌≡◌, ◌≢◌, ◌⊎◌, ◌<◌, true, false, IfSome, IfErr, OnOk};
-ghost use Rattle.std.specs.Io.BufRead.{strip_last};
 ghost use Rattle.std.specs.Fmt.{with_newline};
 ghost use Rattle.blob_lab.specs.Endings.{is_of_stream};
-ghost use Rattle.blob_lab.specs.Streams.{reader_of, lines_left, read_failed, writer_of, write_failed, is_flushed, HasLineReady, ToldEnding, ToldOutput};
+ghost use Rattle.blob_lab.specs.Streams.{reader_of, lines_left, read_failed, writer_of, write_failed, is_flushed, ToldOutput};
 ghost use Rattle.blob_lab.specs.Streams.{KeepsOutput, ReadsInputLine, ReadsRest, WritesAll, WritesPrefix};
 
 use crate::Ending;
-use crate::scripts::Ahead;
 use blob_script::script::read_through;
-use memchr::memchr;
 use std::fmt::Display;
 use std::io::{BufRead, ErrorKind, Write};
 
 /// A reader of at most 2^64 - 1 lines, and whether it failed.
 #[derive(Drop)]
 pub struct Input<R> {
-    reader: R,
+    pub(crate) reader: R,
     left: u64,
     failed: bool,
 }
@@ -50,23 +47,6 @@ impl<R> Input<R> {
 }
 
 impl<R: BufRead> Input<R> {
-    /// Appends one line with its line feed to `line`. Returns the number of bytes, 0 at the end of the input. Flushes
-    /// the output first if needed, since the read may wait.
-    pub(crate) fn read_line<W: Write>(
-        &mut self,
-        line: &mut Vec<u8>,
-        output: &mut Output<W>,
-    ) -> Result<usize, Ending>
-        ensures handed_on { result ≢ Err Ending.OutputFailed → is_flushed output.new ≡ true }
-        ensures told { ToldEnding result self.old self.new output.old output.new }
-        ensures kept { KeepsOutput W.contents output.old output.new }
-        ensures ending { IfErr result (λ ending. is_of_stream ending ≡ true) }
-        ensures read { ReadsInputLine R.remaining result self.old self.new line.old.items line.new.items }
-    {
-        output.hand_on()?;
-        self.read_on(line)
-    }
-
     /// Appends the rest of the input to `bytes`.
     ///
     /// # Errors
@@ -89,11 +69,12 @@ impl<R: BufRead> Input<R> {
         }
     }
 
-    fn read_on(&mut self, line: &mut Vec<u8>) -> Result<usize, Ending>
+    /// Reads one line into `line`, without its line feed. Returns false at the end of the input. The read may wait.
+    pub(crate) fn read_line(&mut self, line: &mut Vec<u8>) -> Result<bool, Ending>
         ensures failed { result ≡ Err Ending.InputFailed → read_failed self.new ≡ true }
         ensures sound { result ≢ Err Ending.InputFailed → read_failed self.new ≡ read_failed self.old }
         ensures ending { IfErr result (λ ending. (ending ≡ Ending.InputFailed) ⊎ (ending ≡ Ending.NoMemory)) }
-        ensures read { ReadsInputLine R.remaining result self.old self.new line.old.items line.new.items }
+        ensures read { ReadsInputLine R.remaining result self.old self.new line.new.items }
         ensures fewer { OnOk result (lines_left self.new < lines_left self.old) }
     {
         if self.left == 0 {
@@ -101,8 +82,15 @@ impl<R: BufRead> Input<R> {
             return Err(Ending::InputFailed);
         }
         self.left -= 1;
+        line.clear();
         match read_through(&mut self.reader, b'\n', line) {
-            Ok(count) => Ok(count),
+            Ok(0) => Ok(false),
+            Ok(_) => {
+                if line.last() == Some(&b'\n') {
+                    let _ = line.pop();
+                }
+                Ok(true)
+            }
             Err(e) if e.kind() == ErrorKind::OutOfMemory => Err(Ending::NoMemory),
             Err(_) => {
                 self.failed = true;
@@ -112,33 +100,12 @@ impl<R: BufRead> Input<R> {
     }
 }
 
-impl<R: Ahead> Input<R> {
-    /// Like `read_line`, but doesn't flush if a whole line is buffered, since reading it doesn't wait.
-    pub(crate) fn read_ahead<W: Write>(
-        &mut self,
-        line: &mut Vec<u8>,
-        output: &mut Output<W>,
-    ) -> Result<usize, Ending>
-        ensures handed_on { result ≢ Err Ending.OutputFailed → (is_flushed output.new ≡ true) ⊎ HasLineReady R.ready self.old }
-        ensures told { ToldEnding result self.old self.new output.old output.new }
-        ensures kept { KeepsOutput W.contents output.old output.new }
-        ensures ending { IfErr result (λ ending. is_of_stream ending ≡ true) }
-        ensures read { ReadsInputLine R.remaining result self.old self.new line.old.items line.new.items }
-        ensures fewer { OnOk result (lines_left self.new < lines_left self.old) }
-    {
-        if memchr(b'\n', self.reader.ready()).is_none() {
-            output.hand_on()?;
-        }
-        self.read_on(line)
-    }
-}
-
 /// A writer, and whether it failed and was flushed after the last write.
 #[derive(Drop)]
 pub struct Output<W> {
     writer: W,
     failed: bool,
-    flushed: bool,
+    pub(crate) flushed: bool,
 }
 
 impl<W> Output<W> {
@@ -241,27 +208,5 @@ impl<W: Write> Output<W> {
                 Err(Ending::OutputFailed)
             }
         }
-    }
-
-    /// Flushes the writer, if something was written since the last flush.
-    fn hand_on(&mut self) -> Result<(), Ending>
-        ensures flushed { OnOk result (is_flushed self.new ≡ true) }
-        ensures kept { KeepsOutput W.contents self.old self.new }
-        ensures ending { IfErr result (λ ending. ending ≡ Ending.OutputFailed) }
-        ensures told { ToldOutput result self.old self.new }
-    {
-        if self.flushed {
-            return Ok(());
-        }
-        self.flush()
-    }
-}
-
-/// Removes the line feed at the end of a line, if it has one.
-pub(crate) fn drop_line_feed(line: &mut Vec<u8>)
-    ensures { line.new.items ≡ strip_last 10 line.old.items }
-{
-    if line.last() == Some(&b'\n') {
-        let _ = line.pop();
     }
 }

@@ -60,9 +60,5 @@ pub record StartsSync (w : Wrapper) (h : Held) (syncs : List (Option Started)) (
   pub held : h' ≡ h
 
 -- the same of the handles and the syncs of a laboratory
-
-abbrev pub HandlePerforms : Wrapper → Handle → Ask → Reply → Wrapper → Handle → Type 0
-HandlePerforms w h ask reply w' h' = PerformsAsk w (as_held h) ask reply w' (as_held h')
-
 abbrev pub HandleStartsSync : Wrapper → Handle → Syncs → Reply → Wrapper → Handle → Syncs → Type 0
 HandleStartsSync w h syncs reply w' h' syncs' = StartsSync w (as_held h) (syncs_of syncs) reply w' (as_held h') (syncs_of syncs')

@@ -1,5 +1,5 @@
 -- Hex digits: the tables to decode them, and decoding and encoding.
-use Rattle.std.proofs.Common.{Option, Some, None, [], ◌∷◌, ◌++◌, ◌&&◌, nat_le, ◌⊎◌, inl, inr, ◌≡◌, ◌<◌, ◌≤◌, ◌+◌, ◌*◌, ◌/◌, ◌%◌, ℕ, List, Result, Ok, Err, Bool, true, false, map, get_or, slice_index, slice_set, length, take, drop, unwrap_or, refl, sym, ap, subst, ◌∙◌, arith}
+use Rattle.std.proofs.Common.{Option, Some, None, [], ◌∷◌, ◌++◌, ◌&&◌, nat_le, inl, inr, ◌≡◌, ◌<◌, ◌≤◌, ◌+◌, ◌*◌, ◌%◌, ℕ, List, Result, Ok, Err, Bool, true, false, map, get_or, slice_index, slice_set, length, take, drop, unwrap_or, refl, sym, ap, subst, ◌∙◌, arith}
 use Rattle.std.specs.Prelude.{IsErr, MatchResult, OnOk, OnErr}
 use Rattle.std.specs.Int.Bits.{bit_or}
 use Rattle.std.specs.Str.{IsAscii, IsUtf8}
@@ -29,10 +29,10 @@ high_is = refl
 low_is : LOW ≡ map low_of (range_with_len 0 256)
 low_is = refl
 
-pub high_at : (c : ℕ) → c < 256 → get_or HIGH c 0 ≡ high_of c
+high_at : (c : ℕ) → c < 256 → get_or HIGH c 0 ≡ high_of c
 high_at c h = ap (λ t. get_or t c 0) high_is ∙ get_or-map-range_with_len high_of 0 256 c c 0 h (omega arith)
 
-pub low_at : (c : ℕ) → c < 256 → get_or LOW c 0 ≡ low_of c
+low_at : (c : ℕ) → c < 256 → get_or LOW c 0 ≡ low_of c
 low_at c h = ap (λ t. get_or t c 0) low_is ∙ get_or-map-range_with_len low_of 0 256 c c 0 h (omega arith)
 
 -- two digits
@@ -41,6 +41,17 @@ pair_reads a b i h = grind arith
 
 pub digit_small : (c : ℕ) → unwrap_or (hex_digit_value c) 0 ≤ 15
 digit_small c = grind arith
+
+or_more : (o : Option ℕ) → unwrap_or o 0 ≤ 15 → (16 * unwrap_or o 16 ≤ 256) × (unwrap_or o 256 ≤ 256)
+or_more None h = (omega arith, omega arith)
+or_more (Some v) h = (omega (arith, h), omega (arith, h))
+
+-- the sum of two entries of the tables
+pub pair_at : (a b : ℕ) → a < 256 → b < 256 → (get_or HIGH a 0 + get_or LOW b 0 ≡ high_of a + low_of b) × (high_of a + low_of b ≤ 512)
+pair_at a b h l = (
+  omega (arith, high_at a h, low_at b l),
+  omega (arith, (or_more (hex_digit_value a) (digit_small a)).0, (or_more (hex_digit_value b) (digit_small b)).1),
+)
 
 refuses_both : (a b i : ℕ) (o p : Option ℕ) → unwrap_or o 0 ≤ 15 → unwrap_or p 0 ≤ 15 → 255 < 16 * unwrap_or o 16 + unwrap_or p 256
     → IsErr (digit_or_error a i o >>= (λ high. digit_or_error b (i + 1) p >>= (λ low. Ok (high * 16 + low))))

@@ -40,6 +40,3 @@ said_statement word rest said left h read =
 pub call_said : (word : List ℕ) (tokens : List (List ℕ)) (act : Act) (rest : List (List ℕ)) → call word tokens ≡ Some (act, rest)
     → (do asked ← call word; gives (Call asked)) tokens ≡ Some (Call act, rest)
 call_said word tokens act rest is = ap (option_and_then (λ (read : Act × List (List ℕ)). Some (Call read.0, read.1))) is
-
-pub call_missing : (word : List ℕ) (tokens : List (List ℕ)) → call word tokens ≡ None → (do asked ← call word; gives (Call asked)) tokens ≡ None
-call_missing word tokens none = ap (option_and_then (λ (read : Act × List (List ℕ)). Some (Call read.0, read.1))) none

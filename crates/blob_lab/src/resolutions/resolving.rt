@@ -1,5 +1,5 @@
 // Resolving one line of hex.
-ghost use Rattle.std.specs.Prelude.{true, ◌≡◌, OnOk, ◌⊎◌, IfSome, IfOk, IfErr, IsErr};
+ghost use Rattle.std.specs.Prelude.{true, ◌≡◌, ◌≢◌, OnOk, ◌⊎◌, IfSome, IfOk, IfErr, IsErr};
 ghost use Rattle.std.specs.Io.KnownBytes.{Keeps};
 ghost use Rattle.std.specs.Io.BufRead.{DropsThrough};
 ghost use Rattle.hex.specs.Hex.{decode_of};
@@ -9,7 +9,6 @@ ghost use Rattle.blob_lab.specs.ResolveReplies.{HasBadHex, IsFirstLine, Resolves
 ghost use Rattle.blob_lab.specs.Streams.{KeepsOutput, OfBytes, reader_of, writer_of, is_flushed, ToldEnding};
 
 use crate::resolution_line::ResolutionLine;
-use crate::streams::drop_line_feed;
 use crate::{Ending, Input, Output};
 use blob_base::{BlobVersion, Error, Layout, resolve};
 use blob_script::script::{RefusedLine, decode_hex};
@@ -54,12 +53,13 @@ fn resolved(alloc: Global, image: &[u8]) -> Result<Option<(u64, BlobVersion, u64
     )
 }
 
-// Reads one line without its line feed.
+// Reads one line without its line feed. Flushes the output first, since the read may wait.
 fn read_line<R: BufRead, W: Write>(
     alloc: Global,
     input: &mut Input<R>,
     output: &mut Output<W>,
 ) -> Result<Vec<u8>, Ending>
+    ensures handed_on { result ≢ Err Ending.OutputFailed → is_flushed output.new ≡ true }
     ensures line { IfOk result (λ line. IfSome (R.remaining (reader_of input.old)) (IsFirstLine line.items)) }
     ensures rest { OnOk result (DropsThrough (R.remaining (reader_of input.old)) (R.remaining (reader_of input.new)) 10) }
     ensures ending { IfErr result (λ ending. is_of_stream ending ≡ true) }
@@ -67,8 +67,10 @@ fn read_line<R: BufRead, W: Write>(
     ensures told { ToldEnding result input.old input.new output.old output.new }
 {
     let mut line = Vec::new(alloc);
-    input.read_line(&mut line, output)?;
-    drop_line_feed(&mut line);
+    if !output.flushed {
+        output.flush()?;
+    }
+    input.read_line(&mut line)?;
     Ok(line)
 }
 

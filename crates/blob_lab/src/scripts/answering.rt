@@ -1,9 +1,9 @@
 // Running the calls of a script, one after another.
-ghost use Rattle.std.specs.Prelude.{◌≡◌, ◌≢◌, ◌⊎◌, true, IfErr, OnOk};
+ghost use Rattle.std.specs.Prelude.{◌≡◌, true, IfErr, OnOk};
 ghost use Rattle.blob_lab.specs.Endings.{is_cut};
-ghost use Rattle.blob_lab.specs.ScriptReading.{CutsReply, IfCut, PrintsFrom, PrintsInputUpTo, WritesReply};
+ghost use Rattle.blob_lab.specs.ScriptReading.{IfCut, PrintsFrom, PrintsInputUpTo};
 ghost use Rattle.blob_lab.specs.Scripts.{PrintsAll};
-ghost use Rattle.blob_lab.specs.Streams.{IsReadToEnd, OfBytes, ToldEnding, ToldOutput};
+ghost use Rattle.blob_lab.specs.Streams.{IsReadToEnd, OfBytes, ToldEnding};
 
 use super::Ahead;
 use super::lines::{Lines, Preamble};
@@ -39,6 +39,7 @@ pub(super) fn run_lines<R: Ahead, W: Write>(
     ran
 }
 
+/// Runs each call and writes its reply before it reads the next one.
 fn answer_calls<R: Ahead, W: Write>(
     alloc: Global,
     lab: &mut Lab,
@@ -56,31 +57,15 @@ fn answer_calls<R: Ahead, W: Write>(
     let mut text = String::new(alloc);
     let mut call = first;
     'calls: loop {
-        answer(lab, &call, &mut text, output)?;
+        text.clear();
+        let printed = print_reply(&lab.apply(&call), &mut text);
+        if printed.is_err() || text.push('\n').is_err() {
+            return Err(Ending::NoMemory);
+        }
+        output.write_all(text.as_bytes())?;
         call = match lines.next_call(input, output)? {
             Some(next) => next,
             None => return Ok(()),
         };
     }
-}
-
-/// Runs a call and writes its reply. Reuses `text` for each reply.
-fn answer<W: Write>(
-    lab: &mut Lab,
-    call: &Call,
-    text: &mut String,
-    output: &mut Output<W>,
-) -> Result<(), Ending>
-    ensures answered { OnOk result (WritesReply W.contents lab.old call.now lab.new output.old output.new) }
-    ensures part { result ≡ Err Ending.OutputFailed → CutsReply W.contents lab.old call.now lab.new output.old output.new }
-    ensures same { result ≡ Err Ending.NoMemory → output.new ≡ output.old }
-    ensures cut { IfErr result (λ ending. (ending ≡ Ending.OutputFailed) ⊎ (ending ≡ Ending.NoMemory)) }
-    ensures told { result ≢ Err Ending.NoMemory → ToldOutput result output.old output.new }
-{
-    let reply = lab.apply(call);
-    text.clear();
-    if print_reply(&reply, text).is_err() || text.push('\n').is_err() {
-        return Err(Ending::NoMemory);
-    }
-    output.write_all(text.as_bytes())
 }

@@ -1,5 +1,5 @@
 // Reading the lines of a script.
-ghost use Rattle.std.specs.Prelude.{◌≡◌, ◌+◌, ◌<◌, [], true, IfOk, IfErr, OnOk};
+ghost use Rattle.std.specs.Prelude.{◌≡◌, ◌≢◌, ◌⊎◌, ◌+◌, ◌<◌, [], true, IfOk, IfErr, OnOk};
 ghost use Rattle.std.specs.Io.Iter.{u64_saturate};
 ghost use Rattle.blob_lab.specs.Endings.{IfBadLine, is_cut};
 ghost use Rattle.blob_script.specs.Lines.{said_by};
@@ -8,10 +8,9 @@ ghost use Rattle.blob_lab.specs.ScriptReading.{IsCreatedFrom, OfRead, TakesLine,
 ghost use Rattle.blob_lab.specs.ScriptReading.{ReadsNextCall, ReadsNoCall, ReadsBadCall, ReadsBadLine, preamble_of};
 ghost use Rattle.blob_lab.specs.Scripts.{Script};
 ghost use Rattle.blob_script.specs.Settings.{no_rates, with_setting};
-ghost use Rattle.blob_lab.specs.Streams.{IsReadToEnd, KeepsKnown, KeepsOutput, lines_left, ToldEnding};
+ghost use Rattle.blob_lab.specs.Streams.{IsReadToEnd, HasLineReady, KeepsKnown, KeepsOutput, is_flushed, lines_left, ToldEnding};
 
 use super::Ahead;
-use crate::streams::drop_line_feed;
 use crate::{Ending, Input, Output};
 use blob_base::Error;
 use blob_faulty::Config;
@@ -19,6 +18,7 @@ use blob_lab_store::Lab;
 use blob_script::Call;
 use blob_script::script::setting::copy_of;
 use blob_script::script::{Line, RefusedLine, Setting, read_line};
+use memchr::memchr;
 use std::alloc::Global;
 use std::io::Write;
 
@@ -159,12 +159,14 @@ impl Lines {
         }
     }
 
-    /// Reads one line. Returns `None` at the end of the input.
+    /// Reads one line. Returns `None` at the end of the input. Flushes the output first, unless a whole line is
+    /// buffered: reading that doesn't wait.
     fn next_line<R: Ahead, W: Write>(
         &mut self,
         input: &mut Input<R>,
         output: &mut Output<W>,
     ) -> Result<Option<Line>, Ending>
+        ensures handed_on { result ≢ Err Ending.OutputFailed → (is_flushed output.new ≡ true) ⊎ HasLineReady R.ready input.old }
         ensures cut { IfErr result (λ ending. is_cut ending ≡ true) }
         ensures told { ToldEnding result input.old input.new output.old output.new }
         ensures kept { KeepsOutput W.contents output.old output.new }
@@ -178,11 +180,12 @@ impl Lines {
         ensures numbered { IfRead result (λ _. self.new.number ≡ u64_saturate (self.old.number + 1)) }
         ensures same { self.new.config ≡ self.old.config }
     {
-        self.line.clear();
-        if input.read_ahead(&mut self.line, output)? == 0 {
+        if !output.flushed && memchr(b'\n', input.reader.ready()).is_none() {
+            output.flush()?;
+        }
+        if !input.read_line(&mut self.line)? {
             return Ok(None);
         }
-        drop_line_feed(&mut self.line);
         self.number = self.number.saturating_add(1);
         let alloc = *self.line.allocator();
         match read_line(alloc, self.line.as_slice()) {

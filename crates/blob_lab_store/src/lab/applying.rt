@@ -54,7 +54,10 @@ impl Lab {
             Call::Finish(number) => self.finish(*number),
             Call::Remove { partition, name } => self.remove(partition, name.as_deref()),
             Call::Scan { partition } => self.scan(partition),
-            Call::Crash => self.crash(),
+            Call::Crash => match self.wrapper.crash() {
+                Ok(selections) => Reply::Crashed(selections),
+                Err(e) => Reply::Failed(e),
+            },
             Call::Reopen => self.reopen(),
         }
     }

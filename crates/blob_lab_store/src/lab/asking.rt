@@ -4,7 +4,7 @@ ghost use Rattle.std.specs.Bool.{OnTrue, OnFalse};
 ghost use Rattle.blob_base.specs.Options.{is_sync};
 ghost use Rattle.blob_header.specs.Refusals.{Memory, error_of};
 ghost use Rattle.blob_script.specs.Acts.{Read, Write, Resize, Size, Sync, StartSync, Through, Finish};
-ghost use Rattle.blob_lab_store.specs.LabStands.{HandlePerforms, HandleStartsSync, Performs};
+ghost use Rattle.blob_lab_store.specs.LabStands.{HandleStartsSync, Performs};
 
 use crate::lab::handles::Handle;
 use crate::lab::syncs::Syncs;
@@ -13,17 +13,6 @@ use blob_base::laws::overlays::runs_are_choices;
 use blob_base::{Blob, Error, ReadOptions, Storage, WriteOptions};
 use blob_script::Reply;
 use std::alloc::AllocError;
-
-/// Returns `SYNC` for a durable write, otherwise no option.
-fn write_options(sync: bool) -> WriteOptions
-    ensures { is_sync result ≡ sync }
-{
-    if sync {
-        WriteOptions::SYNC
-    } else {
-        WriteOptions::default()
-    }
-}
 
 /// Returns whether the error is `Memory`.
 fn is_memory(outcome: &Result<(), Error>) -> bool
@@ -37,47 +26,6 @@ fn is_memory(outcome: &Result<(), Error>) -> bool
 }
 
 impl Handle {
-    fn read(&self, wrapper: &mut Wrapper, offset: u64, len: usize) -> Reply
-        ensures { HandlePerforms wrapper.old self.now (Read offset len) result wrapper.new self.now }
-    {
-        match self
-            .blob
-            .read_at(wrapper, offset, len, ReadOptions::default())
-        {
-            Ok(bytes) => Reply::Bytes(bytes.coalesce()),
-            Err(e) => Reply::Failed(e),
-        }
-    }
-
-    fn write(&mut self, wrapper: &mut Wrapper, offset: u64, bytes: &[u8], sync: bool) -> Reply
-        ensures { HandlePerforms wrapper.old self.old (Write offset bytes.now sync) result wrapper.new self.new }
-    {
-        let options = write_options(sync);
-        runs_are_choices();
-        match self.blob.write_from(wrapper, offset, bytes, options) {
-            Ok(()) => Reply::Done,
-            Err(e) => Reply::Failed(e),
-        }
-    }
-
-    fn resize(&mut self, wrapper: &mut Wrapper, len: u64) -> Reply
-        ensures { HandlePerforms wrapper.old self.old (Resize len) result wrapper.new self.new }
-    {
-        match self.blob.resize(wrapper, len) {
-            Ok(()) => Reply::Done,
-            Err(e) => Reply::Failed(e),
-        }
-    }
-
-    fn sync(&mut self, wrapper: &mut Wrapper) -> Reply
-        ensures { HandlePerforms wrapper.old self.old Sync result wrapper.new self.new }
-    {
-        match self.blob.sync(wrapper) {
-            Ok(()) => Reply::Done,
-            Err(e) => Reply::Failed(e),
-        }
-    }
-
     /// Starts a sync. It takes a number, even if it fails, unless the error is `Memory`.
     fn start_sync(&mut self, wrapper: &mut Wrapper, syncs: &mut Syncs) -> Reply
         ensures { HandleStartsSync wrapper.old self.old syncs.old result wrapper.new self.new syncs.new }
@@ -99,9 +47,15 @@ impl Lab {
     pub fn read(&mut self, number: usize, offset: u64, len: usize) -> Reply
         ensures { Performs self.old (Through number (Read offset len)) result self.new }
     {
-        match self.handles.get(number) {
-            Some(handle) => handle.read(&mut self.wrapper, offset, len),
-            None => Reply::NoHandle,
+        let Some(handle) = self.handles.get(number) else {
+            return Reply::NoHandle;
+        };
+        match handle
+            .blob
+            .read_at(&mut self.wrapper, offset, len, ReadOptions::default())
+        {
+            Ok(bytes) => Reply::Bytes(bytes.coalesce()),
+            Err(e) => Reply::Failed(e),
         }
     }
 
@@ -113,9 +67,18 @@ impl Lab {
         if number >= self.handles.slots.len() {
             return Reply::NoHandle;
         }
-        match &mut self.handles.slots[number] {
-            Some(handle) => handle.write(&mut self.wrapper, offset, bytes, sync),
-            None => Reply::NoHandle,
+        let Some(Handle { blob, .. }) = &mut self.handles.slots[number] else {
+            return Reply::NoHandle;
+        };
+        let options = if sync {
+            WriteOptions::SYNC
+        } else {
+            WriteOptions::default()
+        };
+        runs_are_choices();
+        match blob.write_from(&mut self.wrapper, offset, bytes, options) {
+            Ok(()) => Reply::Done,
+            Err(e) => Reply::Failed(e),
         }
     }
 
@@ -125,9 +88,12 @@ impl Lab {
         if number >= self.handles.slots.len() {
             return Reply::NoHandle;
         }
-        match &mut self.handles.slots[number] {
-            Some(handle) => handle.resize(&mut self.wrapper, len),
-            None => Reply::NoHandle,
+        let Some(Handle { blob, .. }) = &mut self.handles.slots[number] else {
+            return Reply::NoHandle;
+        };
+        match blob.resize(&mut self.wrapper, len) {
+            Ok(()) => Reply::Done,
+            Err(e) => Reply::Failed(e),
         }
     }
 
@@ -146,9 +112,12 @@ impl Lab {
         if number >= self.handles.slots.len() {
             return Reply::NoHandle;
         }
-        match &mut self.handles.slots[number] {
-            Some(handle) => handle.sync(&mut self.wrapper),
-            None => Reply::NoHandle,
+        let Some(Handle { blob, .. }) = &mut self.handles.slots[number] else {
+            return Reply::NoHandle;
+        };
+        match blob.sync(&mut self.wrapper) {
+            Ok(()) => Reply::Done,
+            Err(e) => Reply::Failed(e),
         }
     }
 

@@ -1,8 +1,8 @@
-// Crashes, and wrappers that are taken apart and rebuilt.
+// Wrappers that are taken apart and rebuilt.
 ghost use Rattle.std.specs.Prelude.{◌≡◌};
 ghost use Rattle.blob_model.specs.Files.{Files, reopen};
 ghost use Rattle.blob_faulty.specs.Wrapper.{config_of};
-ghost use Rattle.blob_script.specs.Acts.{Crash, Reopen};
+ghost use Rattle.blob_script.specs.Acts.{Reopen};
 ghost use Rattle.blob_lab_store.specs.LabStands.{Performs, stream_of};
 ghost use Rattle.blob_faulty.specs.Keeps.{IsFor};
 
@@ -38,16 +38,6 @@ fn placeholder(alloc: Global) -> Wrapper {
 }
 
 impl Lab {
-    /// Crashes: loses what isn't durable, except the bytes that the draws keep.
-    pub(crate) fn crash(&mut self) -> Reply
-        ensures { Performs self.old Crash result self.new }
-    {
-        match self.wrapper.crash() {
-            Ok(selections) => Reply::Crashed(selections),
-            Err(e) => Reply::Failed(e),
-        }
-    }
-
     /// Rebuilds the store from a snapshot and wraps it again. All opens end and all started syncs are dropped. Handles stay and
     /// are stale.
     pub(crate) fn reopen(&mut self) -> Reply

@@ -2,7 +2,7 @@
 ghost use Rattle.std.specs.Prelude.{◌≡◌, IfOk, Some, None, string_bytes, option_map, codes};
 ghost use Rattle.std.specs.Range.{range_inclusive_start, range_inclusive_end, range_inclusive_exhausted};
 ghost use Rattle.blob_script.specs.Acts.{Open, OpenLoose, act_of, versions_of};
-ghost use Rattle.blob_script.specs.CallLines.{call, open_form, writing};
+ghost use Rattle.blob_script.specs.CallLines.{call, open_form};
 ghost use Rattle.blob_script.specs.Forms.{text, hex, name, digits, versions};
 ghost use Rattle.blob_script.specs.Tokens.{version_of};
 
@@ -22,15 +22,19 @@ pub(crate) fn call(alloc: Global, word: &str, tokens: &mut Tokens) -> Result<Cal
         "open" => open(alloc, tokens),
         "loose" => loose(alloc, tokens),
         "admit" => admit(alloc, tokens),
-        "close" => Ok(Call::Close(index(tokens)?)),
+        "close" => Ok(Call::Close(digits(tokens)? as usize)),
         "read" => read(tokens),
-        "write" => write(alloc, tokens, false),
-        "writes" => write(alloc, tokens, true),
+        "write" | "writes" => Ok(Call::Write {
+            handle: digits(tokens)? as usize,
+            offset: digits(tokens)?,
+            bytes: hex(alloc, tokens)?,
+            sync: word == "writes",
+        }),
         "resize" => resize(tokens),
-        "size" => Ok(Call::Size(index(tokens)?)),
-        "sync" => Ok(Call::Sync(index(tokens)?)),
-        "startsync" => Ok(Call::StartSync(index(tokens)?)),
-        "finish" => Ok(Call::Finish(index(tokens)?)),
+        "size" => Ok(Call::Size(digits(tokens)? as usize)),
+        "sync" => Ok(Call::Sync(digits(tokens)? as usize)),
+        "startsync" => Ok(Call::StartSync(digits(tokens)? as usize)),
+        "finish" => Ok(Call::Finish(digits(tokens)? as usize)),
         "remove" => remove(alloc, tokens),
         "scan" => scan(alloc, tokens),
         "crash" => Ok(Call::Crash),
@@ -80,9 +84,9 @@ fn read(tokens: &mut Tokens) -> Result<Call, RefusedLine>
     ensures bad { result ≡ Err RefusedLine.BadCall → call (codes "read") tokens.old ≡ None }
 {
     Ok(Call::Read {
-        handle: index(tokens)?,
+        handle: digits(tokens)? as usize,
         offset: digits(tokens)?,
-        len: index(tokens)?,
+        len: digits(tokens)? as usize,
     })
 }
 
@@ -91,7 +95,7 @@ fn resize(tokens: &mut Tokens) -> Result<Call, RefusedLine>
     ensures bad { result ≡ Err RefusedLine.BadCall → call (codes "resize") tokens.old ≡ None }
 {
     Ok(Call::Resize {
-        handle: index(tokens)?,
+        handle: digits(tokens)? as usize,
         len: digits(tokens)?,
     })
 }
@@ -112,19 +116,6 @@ fn scan(alloc: Global, tokens: &mut Tokens) -> Result<Call, RefusedLine>
 {
     Ok(Call::Scan {
         partition: text(alloc, tokens)?,
-    })
-}
-
-#[inline(always)]
-fn write(alloc: Global, tokens: &mut Tokens, sync: bool) -> Result<Call, RefusedLine>
-    ensures ok { IfOk result (λ asked. writing sync tokens.old ≡ Some (act_of asked, tokens.new)) }
-    ensures bad { result ≡ Err RefusedLine.BadCall → writing sync tokens.old ≡ None }
-{
-    Ok(Call::Write {
-        handle: index(tokens)?,
-        offset: digits(tokens)?,
-        bytes: hex(alloc, tokens)?,
-        sync,
     })
 }
 
@@ -164,13 +155,6 @@ pub(crate) fn digits(tokens: &mut Tokens) -> Result<u64, RefusedLine>
 {
     let token = tokens.next().ok_or(RefusedLine::BadCall)?;
     number(token).ok_or(RefusedLine::BadCall)
-}
-
-fn index(tokens: &mut Tokens) -> Result<usize, RefusedLine>
-    ensures ok { IfOk result (λ read. digits tokens.old ≡ Some (read, tokens.new)) }
-    ensures bad { result ≡ Err RefusedLine.BadCall → digits tokens.old ≡ None }
-{
-    Ok(digits(tokens)? as usize)
 }
 
 /// Parses the next two tokens as versions. If there are no tokens, returns the default version only.

@@ -43,20 +43,12 @@ static LOW: [u16; 256] = [
     256, 256, 256,
 ];
 
-/// Returns sixteen times the value of a hex digit of either case, or 256 for any other byte.
+/// Returns the value of two hex digits of either case, or at least 256 if one isn't a digit.
 #[inline(always)]
-fn high(byte: u8) -> u16
-    ensures { result ≡ 16 * unwrap_or (hex_digit_value byte) 16 }
+fn pair(high: u8, low: u8) -> u16
+    ensures { result ≡ 16 * unwrap_or (hex_digit_value high) 16 + unwrap_or (hex_digit_value low) 256 }
 {
-    HIGH[byte as usize]
-}
-
-/// Returns the value of a hex digit of either case, or 256 for any other byte.
-#[inline(always)]
-fn low(byte: u8) -> u16
-    ensures { result ≡ unwrap_or (hex_digit_value byte) 256 }
-{
-    LOW[byte as usize]
+    HIGH[high as usize] + LOW[low as usize]
 }
 
 /// Returns the value of each lane as a hex digit of either case, or 255 if it isn't one.
@@ -101,7 +93,7 @@ fn decode_pairs(digits: &[u8], bytes: &mut [u8]) -> bool
     // A test in each turn would keep the compiler from unrolling the loop.
     let mut seen = 0u16;
     'pairs: for i in 16 * blocks..bytes.len() {
-        let value = high(digits[2 * i]) + low(digits[2 * i + 1]);
+        let value = pair(digits[2 * i], digits[2 * i + 1]);
         seen |= value;
         bytes[i] = (value % 256) as u8;
     }

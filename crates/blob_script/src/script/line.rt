@@ -1,7 +1,7 @@
 // One line of a script.
 ghost use Rattle.std.specs.Prelude.{◌≡◌, IfOk, Some, None};
 ghost use Rattle.blob_script.specs.Forms.{words};
-ghost use Rattle.blob_script.specs.Lines.{line_of, said_by, statement};
+ghost use Rattle.blob_script.specs.Lines.{line_of, said_by};
 
 use crate::Call;
 use crate::script::call_line::{call, digits, hex, text};
@@ -40,10 +40,10 @@ pub fn read_line(alloc: Global, line: &[u8]) -> Result<Line, RefusedLine>
     ensures ok { IfOk result (λ read. line_of line.now ≡ Some (said_by read)) }
     ensures bad { result ≡ Err RefusedLine.BadCall → line_of line.now ≡ None }
 {
-    let Ok(text) = std::str::from_utf8(line) else {
+    let Ok(decoded) = std::str::from_utf8(line) else {
         return Err(RefusedLine::BadCall);
     };
-    let mut tokens = Tokens::new(text);
+    let mut tokens = Tokens::new(decoded);
     let word = match tokens.next() {
         None => return Ok(Line::Blank),
         Some(word) => word,
@@ -51,29 +51,20 @@ pub fn read_line(alloc: Global, line: &[u8]) -> Result<Line, RefusedLine>
     if word.starts_with('#') {
         return Ok(Line::Blank);
     }
-    let read = said(alloc, word, &mut tokens)?;
+    let read = match word {
+        "image" => Line::Image {
+            partition: text(alloc, &mut tokens)?,
+            name: hex(alloc, &mut tokens)?,
+            bytes: hex(alloc, &mut tokens)?,
+        },
+        "words" => Line::Words(words(alloc, &mut tokens)?),
+        "seed" => Line::Seed(digits(&mut tokens)?),
+        "config" => Line::Configure(read_setting(&mut tokens).ok_or(RefusedLine::BadCall)?),
+        _ => Line::Call(call(alloc, word, &mut tokens)?),
+    };
     match tokens.next() {
         None => Ok(read),
         Some(_) => Err(RefusedLine::BadCall),
-    }
-}
-
-fn said(alloc: Global, word: &str, tokens: &mut Tokens) -> Result<Line, RefusedLine>
-    ensures ok { IfOk result (λ read. statement word.now tokens.old ≡ Some (said_by read, tokens.new)) }
-    ensures bad { result ≡ Err RefusedLine.BadCall → statement word.now tokens.old ≡ None }
-{
-    match word {
-        "image" => Ok(Line::Image {
-            partition: text(alloc, tokens)?,
-            name: hex(alloc, tokens)?,
-            bytes: hex(alloc, tokens)?,
-        }),
-        "words" => Ok(Line::Words(words(alloc, tokens)?)),
-        "seed" => Ok(Line::Seed(digits(tokens)?)),
-        "config" => read_setting(tokens)
-            .map(Line::Configure)
-            .ok_or(RefusedLine::BadCall),
-        _ => Ok(Line::Call(call(alloc, word, tokens)?)),
     }
 }
 

@@ -4,7 +4,7 @@ ghost use Rattle.std.specs.List.{flat_map};
 ghost use Rattle.std.specs.Fmt.{decimal};
 ghost use Rattle.hex.specs.Hex.{encode_lower};
 ghost use Rattle.blob_draws.specs.Rows.{row_in, rows_in};
-ghost use Rattle.blob_script.specs.Replies.{reply_line, choice_digits, hex_field, name_fields, row_field};
+ghost use Rattle.blob_script.specs.Replies.{reply_line, hex_field, name_fields, row_field};
 
 use crate::Reply;
 use crate::script::hex_text::encode_hex;
@@ -97,16 +97,9 @@ fn print_rows(rows: &[(u64, Vec<bool>)], line: &mut String) -> Result<(), AllocE
 {
     for (number, choices) in rows {
         write!(line, " {number}:")?;
-        print_choices(choices, line)?;
-    }
-    Ok(())
-}
-
-fn print_choices(choices: &[bool], line: &mut String) -> Result<(), AllocError>
-    ensures { OnOk result (string_bytes line.new ≡ string_bytes line.old ++ choice_digits choices.now) }
-{
-    for kept in choices {
-        line.push(if *kept { '1' } else { '0' })?;
+        for kept in choices {
+            line.push(if *kept { '1' } else { '0' })?;
+        }
     }
     Ok(())
 }

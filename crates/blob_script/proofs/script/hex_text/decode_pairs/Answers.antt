@@ -20,8 +20,7 @@ blocks-2-preserved c =
 
 pub pairs-preserved : goal.pairs-preserved
 pairs-preserved c =
-    reads_step c.args.digits.now c.pairs.bytes c.pairs.i c.pairs.seen (c.high.result + c.low.result) (omega arith) (omega arith)
-    (omega (arith, c.high.ensures, c.low.ensures)) c.pairs.invariant
+    reads_step c.args.digits.now c.pairs.bytes c.pairs.i c.pairs.seen c.pair-value.result (omega arith) (omega arith) c.pair-value.ensures c.pairs.invariant
 
 pub returns : goal.returns
 returns c =

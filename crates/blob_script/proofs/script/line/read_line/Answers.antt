@@ -1,40 +1,54 @@
 use Rattle.std.proofs.Common.{rules, ◌≡◌, ◌∙◌, ap, Some, [], ◌∷◌, true, false}
-use Rattle.blob_script.specs.Lines.{said_by, statement}
+use Rattle.blob_script.specs.Lines.{line_of, said_by, statement}
 use Rattle.blob_script.specs.Tokens.{tokens}
-use Rattle.blob_script.proofs.SaidLines.{is_comment, unless_left, line_no_text, line_said, said_comment, said_statement}
+use Rattle.blob_script.proofs.SaidLines.{is_comment, unless_left, line_no_text, line_said, said_comment, said_statement, call_said}
+use Rattle.blob_script.proofs.OtherWords.{passes}
 use Rattle.blob_script.proofs.script.line.read_line.Goals as goal
+use Rattle.blob_script.proofs.script.line.read_line.Goals.{After-next-2, in-image+in_ok-text-in-image+in_ok-hex-in-image+in_ok-hex-in-image-2, in-words+in_ok-words-in-words, in-seed+in_ok-digits-in-seed, in-config+in_ok-ok_or-in-config, in_default-word+in_ok-call-in_default-word}
 
 pub returns-in_default-clause-bad : goal.returns-in_default-clause-bad
 returns-in_default-clause-bad c = λ _. line_no_text c.args.line.now (search rules)
 
 pub returns-in-None-clause-ok : goal.returns-in-None-clause-ok
 returns-in-None-clause-ok c =
-    let all : [] ≡ tokens c.in-Ok.text.now = search rules in
-    line_said c.args.line.now c.in-Ok.text.now [] (search rules) (search rules) all
+    let all : [] ≡ tokens c.in-Ok.decoded.now = search rules in
+    line_said c.args.line.now c.in-Ok.decoded.now [] (search rules) (search rules) all
 
 pub returns-then-starts_with-clause-ok : goal.returns-then-starts_with-clause-ok
 returns-then-starts_with-clause-ok c =
-    let all : c.in-Some.word.now ∷ c.next.new.self ≡ tokens c.in-Ok.text.now = search rules in
+    let all : c.in-Some.word.now ∷ c.next.new.self ≡ tokens c.in-Ok.decoded.now = search rules in
     let comment : is_comment c.in-Some.word.now ≡ true = search rules in
-    line_said c.args.line.now c.in-Ok.text.now _ (search rules) (search rules) all
+    line_said c.args.line.now c.in-Ok.decoded.now _ (search rules) (search rules) all
     ∙ said_comment c.in-Some.word.now c.next.new.self comment
+
+-- the statement after the first word was read
+read : (c : After-next-2) → statement c.in-Some.word.now c.next.new.self ≡ Some (said_by c.match-word.read, c.match-word.tokens)
+read c = elim c.match-word.branch [
+  | in-image+in_ok-text-in-image+in_ok-hex-in-image+in_ok-hex-in-image-2 w ↦ rw (w.read-is, w.tokens-is) (search rules)
+  | in-words+in_ok-words-in-words w ↦ rw (w.read-is, w.tokens-is) (search rules)
+  | in-seed+in_ok-digits-in-seed w ↦ rw (w.read-is, w.tokens-is) (search rules)
+  | in-config+in_ok-ok_or-in-config w ↦ rw (w.read-is, w.tokens-is) (search rules)
+  | in_default-word+in_ok-call-in_default-word w ↦
+      let is = w.in_default-word in
+      rw (w.read-is, w.tokens-is)
+      (passes _ _ _ _ _ is.not-image ∙ (passes _ _ _ _ _ is.not-words ∙ (passes _ _ _ _ _ is.not-seed ∙ (passes _ _ _ _ _ is.not-config
+      ∙ call_said c.in-Some.word.now c.next.new.self _ _ (search rules)))))
+]
+
+-- the meaning of the line, by the tokens after its statement
+said : (c : After-next-2) → line_of c.args.line.now ≡ unless_left (said_by c.match-word.read) c.match-word.tokens
+said c =
+    let all : c.in-Some.word.now ∷ c.next.new.self ≡ tokens c.in-Ok.decoded.now = search rules in
+    let statement_not : is_comment c.in-Some.word.now ≡ false = search rules in
+    line_said c.args.line.now c.in-Ok.decoded.now _ (search rules) (search rules) all
+    ∙ said_statement c.in-Some.word.now c.next.new.self _ _ statement_not (read c)
 
 pub returns-in-None-next-clause-ok : goal.returns-in-None-next-clause-ok
 returns-in-None-next-clause-ok c =
-    let all : c.in-Some.word.now ∷ c.next.new.self ≡ tokens c.in-Ok.text.now = search rules in
-    let statement_not : is_comment c.in-Some.word.now ≡ false = search rules in
-    let read : statement c.in-Some.word.now c.next.new.self ≡ Some (said_by c.in_ok-read.read, c.said.new.tokens) = search rules in
-    let none : c.said.new.tokens ≡ [] = search rules in
-    line_said c.args.line.now c.in-Ok.text.now _ (search rules) (search rules) all
-    ∙ said_statement c.in-Some.word.now c.next.new.self _ _ statement_not read
-    ∙ ap (unless_left (said_by c.in_ok-read.read)) none
+    let none : c.match-word.tokens ≡ [] = search rules in
+    said (goal.at.returns-in-None-next-clause-ok c).After-next-2 ∙ ap (unless_left (said_by c.match-word.read)) none
 
 pub returns-in-Some-next-clause-bad : goal.returns-in-Some-next-clause-bad
 returns-in-Some-next-clause-bad c = λ _.
-    let all : c.in-Some.word.now ∷ c.next.new.self ≡ tokens c.in-Ok.text.now = search rules in
-    let statement_not : is_comment c.in-Some.word.now ≡ false = search rules in
-    let read : statement c.in-Some.word.now c.next.new.self ≡ Some (said_by c.in_ok-read.read, c.said.new.tokens) = search rules in
-    let some : c.said.new.tokens ≡ c.in-Some-next.field-0.now ∷ c.next-2.new.self = search rules in
-    line_said c.args.line.now c.in-Ok.text.now _ (search rules) (search rules) all
-    ∙ said_statement c.in-Some.word.now c.next.new.self _ _ statement_not read
-    ∙ ap (unless_left (said_by c.in_ok-read.read)) some
+    let some : c.match-word.tokens ≡ c.in-Some-next.field-0.now ∷ c.next-2.new.self = search rules in
+    said (goal.at.returns-in-Some-next-clause-bad c).After-next-2 ∙ ap (unless_left (said_by c.match-word.read)) some

@@ -2,7 +2,7 @@ use Rattle.std.proofs.Common.{◌≡◌, ◌≢◌, ◌≤◌, length, drop, vec
 use Rattle.std.specs.List.{All}
 use Rattle.std.specs.Io.{StartsWith}
 use Rattle.std.specs.Io.KnownBytes.{Consumes}
-use Rattle.blob_script.proofs.script.reading.read_on.Given as goal
+use Rattle.blob_script.proofs.script.reading.read_through.Given as goal
 
 abbrev pub invariant-turns : goal.invariant-turns
 invariant-turns g l = (l.start ≡ vec_len l.initial.bytes) × (l.start ≤ vec_len l.bytes) × StartsWith l.bytes.items l.initial.bytes.items
