@@ -1,7 +1,5 @@
 //! The rows of a crash: drawn in order, found by number.
-ghost use Rattle.std.specs.Prelude.{◌≡◌, ℕ, Bool, IfOk, IfSome};
-ghost use Rattle.std.specs.declared.vec.Vec.{Vec};
-ghost use Rattle.std.specs.declared.alloc.Global.{Global};
+ghost use Rattle.std.specs.Prelude.{◌≡◌, IfOk, IfSome};
 ghost use Rattle.blob_model.specs.Draws.{row_of};
 ghost use Rattle.blob_draws.specs.Rows.{rows_in, AreNumbered, DrawsRows};
 
