@@ -1,11 +1,7 @@
 //! The writes for which a crash draws.
-ghost use Rattle.std.specs.Prelude.{◌≡◌, ◌++◌, OnOk, IfOk, false};
+ghost use Rattle.std.specs.Prelude.{IfOk};
 ghost use Rattle.std.specs.List.Sorted.{IsNonDecreasingBy};
-ghost use Rattle.blob_model.specs.Pending.{has_marker};
-ghost use Rattle.blob_model.specs.Places.{Place};
-ghost use Rattle.blob_draws.specs.Drawings.{drawings_in};
-ghost use Rattle.blob_pending.specs.Draws.{draws_for, AreDrawsFor};
-ghost use Rattle.blob_pending.specs.Views.{left_in};
+ghost use Rattle.blob_pending.specs.Draws.{AreDrawsFor};
 
 use crate::entries::unmarked;
 use crate::entry::Entry;

@@ -1,5 +1,5 @@
 //! The pending lists of all incarnations.
-ghost use Rattle.std.specs.Prelude.{◌≡◌, ◌<◌, ◌≤◌, ◌+◌, ◌^◌, ℕ, List, [], ◌∷◌, ◌++◌, length, filter, map, false, OnOk, IfOk, IfSome, IfNone, cond, vec_len, true, OnErr};
+ghost use Rattle.std.specs.Prelude.{◌≡◌, ◌<◌, ◌≤◌, ◌+◌, ◌^◌, ℕ, List, [], ◌∷◌, ◌++◌, length, filter, map, false, IfOk, IfSome, IfNone, cond, vec_len, true, OnErr};
 ghost use Rattle.blob_model.specs.Places.{Place, same_place};
 ghost use Rattle.blob_model.specs.Directory.{Directory};
 ghost use Rattle.blob_model.specs.Holes.{Holes};
