@@ -1,17 +1,16 @@
 //! The replay of pending entries over durable bytes, into capacity that was reserved before.
-ghost use Rattle.std.specs.Prelude.{◌≡◌, ◌<◌, ◌≤◌, false, length, vec_capacity, All};
+ghost use Rattle.std.specs.Prelude.{◌≡◌, ◌≤◌, length, vec_capacity, All};
 ghost use Rattle.blob_model.specs.Bytes.{between};
 ghost use Rattle.blob_model.specs.Holes.{in_holes};
 ghost use Rattle.blob_model.specs.Pending.{replay_entry, end_of};
 ghost use Rattle.blob_pending.specs.Lists.{lists_of, held_by};
 ghost use Rattle.blob_pending.specs.Ranges.{ranges};
-ghost use Rattle.blob_pending.specs.Replays.{width, widest, widest_of_all};
-ghost use Rattle.blob_faulty.specs.Crashes.{chosen_in, ChoosesUncovered, ReplaysList, ReplaysLists, StaysChosen};
+ghost use Rattle.blob_pending.specs.Replays.{width, widest_of_all};
+ghost use Rattle.blob_faulty.specs.Crashes.{chosen_in, ChoosesUncovered, ReplaysLists, StaysChosen};
 ghost use Rattle.blob_faulty.specs.Ready.{IsReady, CanReplay};
 ghost use Rattle.blob_draws.specs.Rows.{AreNumbered};
-ghost use Rattle.blob_pending.specs.Views.{view, left_in};
+ghost use Rattle.blob_pending.specs.Views.{view};
 ghost use Rattle.blob_pages.specs.Stored.{AreNow};
-ghost use Rattle.blob_memory.specs.Retained.{KeepsRoom};
 ghost use Rattle.blob_memory.specs.Store.{directory, durable};
 
 use blob_draws::rows::choices_in;
@@ -79,32 +78,8 @@ fn replay_entry(bytes: &mut Bytes, entry: &Entry, rows: &[(u64, Vec<bool>)], cho
     }
 }
 
-/// Replays a list over the durable bytes of its incarnation: the entries after its last marker in their order, except writes that
-/// are fully covered. Does nothing if the incarnation has ended.
-fn replay_list(
-    inner: &mut blob_memory::Storage,
-    list: &Incarnation<Origin>,
-    rows: &[(u64, Vec<bool>)],
-    chosen: &mut Vec<bool>,
-)
-    requires numbered { AreNumbered rows.now }
-    requires ready { IsReady inner.old (held_by (λ o. o) list.now) }
-    requires width { widest (left_in list.now.entries.items) ≤ vec_capacity chosen.old }
-    ensures durable { ReplaysList list.now rows.now (durable inner.old) (durable inner.new) }
-    ensures kept { KeepsRoom inner.old inner.new }
-    ensures capacity { vec_capacity chosen.old ≤ vec_capacity chosen.new }
-{
-    let Some(bytes) = inner.durable_mut(&list.origin) else {
-        return;
-    };
-    for entry in unmarked(&list.entries) {
-        if entry.is_left() {
-            replay_entry(bytes, entry, rows, chosen);
-        }
-    }
-}
-
-/// Replays all lists, each over its incarnation.
+/// Replays all lists, each over the durable bytes of its incarnation, if that hasn't ended: the entries after the last marker in
+/// their order, except writes that are fully covered.
 pub fn replay_all(
     inner: &mut blob_memory::Storage,
     lists: &[Incarnation<Origin>],
@@ -118,6 +93,13 @@ pub fn replay_all(
     ensures directory { directory inner.new ≡ directory inner.old }
 {
     for list in lists {
-        replay_list(inner, list, rows, chosen);
+        let Some(bytes) = inner.durable_mut(&list.origin) else {
+            continue;
+        };
+        for entry in unmarked(&list.entries) {
+            if entry.is_left() {
+                replay_entry(bytes, entry, rows, chosen);
+            }
+        }
     }
 }
