@@ -107,8 +107,3 @@ first_at rows number i up h here before k d l =
     let mine : (get_or rows i d).0 ≡ number = here d in
     let other : (get_or rows (i - 1) d).0 ≢ number = before d in
     omega (arith, mine, other, up k (i - 1) d (omega arith) (omega arith), up (i - 1) i d (omega arith) h)
-
-pub row_here : (rows : List (ℕ × Vec Bool Global)) (number i : ℕ) (x : List Bool) → i < length rows → ((d : ℕ × Vec Bool Global) → x ≡ (get_or rows i d).1.items) → ((d : ℕ × Vec Bool Global) → (get_or rows i d).0 ≡ number) →
-    ((k : ℕ) (d : ℕ × Vec Bool Global) → k < i → (get_or rows k d).0 < number) → x ≡ row_of (rows_in rows) number
-row_here [] number i x h row is below = absurd (omega arith)
-row_here (r ∷ rows) number i x h row is below = row r ∙ row_at (r ∷ rows) number i (get_or (r ∷ rows) i r) h (get_or_default (r ∷ rows) i r (get_or (r ∷ rows) i r) h) below (is r)

@@ -1,5 +1,5 @@
 -- The rows of a crash's table.
-use Rattle.std.specs.Prelude.{◌≡◌, ◌<◌, ℕ, Bool, List, map, slice_index_or, Vec}
+use Rattle.std.specs.Prelude.{◌≡◌, ℕ, Bool, List, map, Vec}
 use Rattle.std.specs.Global.{Global}
 use Rattle.rand_core.specs.Stream.{Stream}
 use Rattle.blob_model.specs.Draws.{Row}
@@ -25,10 +25,6 @@ table_of selections = map (λ row. (row.0, row.1.items)) selections.rows.items
 -- the numbers of the rows don't decrease
 abbrev pub AreNumbered : List (ℕ × Vec Bool Global) → Type 0
 AreNumbered rows = IsNonDecreasingBy (λ (row : ℕ × Vec Bool Global). row.0) rows
-
--- the rows before i have smaller numbers
-abbrev pub HasSmallerBefore : List (ℕ × Vec Bool Global) → ℕ → ℕ → Type 0
-HasSmallerBefore rows number i = (k : ℕ) (d : ℕ × Vec Bool Global) → k < i → (slice_index_or rows k d).0 < number
 
 -- the rows and the rest of the stream are what the draws for these writes give
 abbrev pub DrawsRows : List Draw → Stream → Stream → Vec (ℕ × Vec Bool Global) Global → Type 0

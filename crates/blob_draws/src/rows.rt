@@ -1,9 +1,7 @@
 //! The rows of a crash: drawn in order, found by number.
-ghost use Rattle.std.specs.Prelude.{◌≡◌, ◌<◌, ℕ, Bool, length, slice_index_or, IfOk, IfSome};
-ghost use Rattle.std.specs.declared.vec.Vec.{Vec};
-ghost use Rattle.std.specs.declared.alloc.Global.{Global};
+ghost use Rattle.std.specs.Prelude.{◌≡◌, IfOk, IfSome};
 ghost use Rattle.blob_model.specs.Draws.{row_of};
-ghost use Rattle.blob_draws.specs.Rows.{rows_in, AreNumbered, DrawsRows, HasSmallerBefore};
+ghost use Rattle.blob_draws.specs.Rows.{rows_in, AreNumbered, DrawsRows};
 
 use crate::draw::Draw;
 use crate::selection::draw_positions;
@@ -26,51 +24,30 @@ pub fn draw_rows<R: Rng>(
     Ok(rows)
 }
 
-/// Returns the number of a row.
-fn number_at(rows: &[(u64, Vec<bool>)], i: usize) -> u64
-    requires { i < length rows.now }
-    ensures { (d : ℕ × Vec Bool Global) → result ≡ (slice_index_or rows.now i d).0 }
-{
-    let row = &rows[i];
-    row.0
-}
-
-/// Returns the choices of a row.
-fn choices_at(rows: &[(u64, Vec<bool>)], i: usize) -> &[bool]
-    requires { i < length rows.now }
-    ensures { (d : ℕ × Vec Bool Global) → result.now ≡ (slice_index_or rows.now i d).1.items }
-{
-    let row = &rows[i];
-    row.1.as_slice()
-}
-
-/// Returns the index of the first row of a number if the numbers are consecutive, as they usually are.
-fn guess(rows: &[(u64, Vec<bool>)], number: u64) -> Option<usize>
+/// Returns the choices of a write if the numbers are consecutive, as they usually are.
+fn guess_choices(rows: &[(u64, Vec<bool>)], number: u64) -> Option<&[bool]>
     requires { AreNumbered rows.now }
-    ensures inside { IfSome result (λ i. i < length rows.now) }
-    ensures here { IfSome result (λ i. (d : ℕ × Vec Bool Global) → (slice_index_or rows.now i d).0 ≡ number) }
-    ensures below { IfSome result (HasSmallerBefore rows.now number) }
+    ensures { IfSome result (λ row. row.now ≡ row_of (rows_in rows.now) number) }
 {
     if rows.is_empty() {
         return None;
     }
-    let first = number_at(rows, 0);
-    if number < first || number - first >= rows.len() as u64 {
+    let first = &rows[0];
+    if number < first.0 || number - first.0 >= rows.len() as u64 {
         return None;
     }
-    let i = (number - first) as usize;
-    let here = number_at(rows, i);
-    if here != number {
+    let i = (number - first.0) as usize;
+    let here = &rows[i];
+    if here.0 != number {
         return None;
     }
-    if i == 0 {
-        return Some(i);
+    if i > 0 {
+        let before = &rows[i - 1];
+        if before.0 == number {
+            return None;
+        }
     }
-    let before = number_at(rows, i - 1);
-    if before == number {
-        return None;
-    }
-    Some(i)
+    Some(here.1.as_slice())
 }
 
 /// Finds the choices of a write by binary search. Returns none if it has no row.
@@ -94,8 +71,8 @@ pub fn choices_in(rows: &[(u64, Vec<bool>)], number: u64) -> &[bool]
     requires { AreNumbered rows.now }
     ensures { result.now ≡ row_of (rows_in rows.now) number }
 {
-    match guess(rows, number) {
-        Some(i) => choices_at(rows, i),
+    match guess_choices(rows, number) {
+        Some(row) => row,
         None => search_choices(rows, number),
     }
 }

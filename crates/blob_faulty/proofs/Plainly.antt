@@ -1,11 +1,10 @@
 -- What a write leaves that isn't recorded, is refused, or is recorded after capacity for its entry was reserved.
 use Rattle.std.proofs.Common.{◌≡◌, ℕ, ◌+◌, max, Bool, true, false, List, [], ◌∷◌, length, Option, Some, None, refl, sym, ◌∙◌, ap, ap₂, subst, ◌<◌, ◌++◌, ◌⊎◌, inl, inr, ◌-◌, ◌^◌}
-use Rattle.std.specs.Prelude.{Result, Ok, Err, OnErr, IsSome, is_some, ◌==◌}
+use Rattle.std.specs.Prelude.{IsSome, is_some, ◌==◌}
 use Rattle.blob_base.specs.HandleCalls as call
 use Rattle.blob_base.specs.declared.storage.Durable as stores
 use Rattle.blob_base.specs.declared.storage.Blob as handles
-use Rattle.blob_header.specs.Refusals.{Refusal, Memory, OffsetOverflow, error_of}
-use Rattle.blob_header.specs.declared.error.Error.{Error}
+use Rattle.blob_header.specs.Refusals.{Refusal, Memory, OffsetOverflow}
 use Rattle.blob_model.specs.Directory.{is_current}
 use Rattle.blob_model.specs.Live.{live_after}
 use Rattle.blob_model.specs.Durable.{with_at}
@@ -29,7 +28,7 @@ use Rattle.blob_faulty.specs.Wrapper.{GainsWrite, pending_of}
 use Rattle.blob_faulty.specs.Writes.{View, Effect, HasBytes, Logs, Recorded, SameRecords, Unchanged, Wrote, laid_runs, live_of_runs, plain, view_of, unrecorded_write}
 use Rattle.blob_faulty.proofs.Adding.{loose_some}
 use Rattle.blob_faulty.proofs.RoomSteps.{pushed_at}
-use Rattle.blob_faulty.proofs.Writing.{same_logs, loose_logs}
+use Rattle.blob_faulty.proofs.Writing.{loose_logs}
 
 -- all that is seen except the inner store and the size stayed
 pub record SameRest {R : Type 0} (old new : View R) : Type 0 where
@@ -121,31 +120,6 @@ pub of_room_refused : {R : Type 0} (direct : Bool) (old new : View R) (rs : List
 of_room_refused direct old new rs reserves None some only allowed u = absurd (cc)
 of_room_refused direct old new rs reserves (Some refusal) some only (inl is) u = unasked direct direct old new (laid_runs rs) (Some refusal) refl (spared old.live rs refusal (inr (memory_is refusal is))) u
 of_room_refused direct old new rs reserves (Some refusal) some only (inr h) u = unasked direct direct old new (laid_runs rs) (Some refusal) refl (spared old.live rs refusal (only refusal h)) u
-
--- a write of which nothing must be recorded
-pub unrecorded_plain : {R T : Type 0} (direct sync : Bool) (old new : View R) (offset : ℕ) (bytes : List ℕ) (result : Result T Error) → sync ≡ false → loose (retention old.config.write_rate) old.next_write offset bytes ≡ [] →
-    Wrote direct old new (unrecorded_write sync offset bytes) (error_of result) → OnErr result (new.size ≡ old.size) → SameRest old new → Recorded direct true old new (plain offset bytes) (error_of result)
-unrecorded_plain {R} {T} direct sync old new offset bytes result is none w size rest =
-    go result (subst (λ (s : Bool). Wrote direct old new (unrecorded_write s offset bytes) (error_of result)) is w) size
-  where
-    go : (x : Result T Error) → Wrote direct old new (unrecorded_write false offset bytes) (error_of x) → OnErr x (new.size ≡ old.size) → Recorded direct true old new (plain offset bytes) (error_of x)
-    go (Ok x) wrote any = record {
-      wrote = record { done = wrote.done; refused = wrote.refused; memory = wrote.memory; stale = wrote.stale; directory = wrote.directory; place = wrote.place };
-      done = λ ok. subst (λ (es : List Entry). Logs old new es) (sym none)
-          (same_logs old (record new { size = old.size }) wrote.directory (wrote.done refl).durable (record { size = refl; pending = rest.pending; next_write = rest.next_write; next_marker = rest.next_marker }));
-      refused = λ whole some. absurd (cc);
-      undone = λ some. absurd (cc);
-      config = rest.config;
-      rng = rest.rng;
-    }
-    go (Err e) wrote same = record {
-      wrote = record { done = wrote.done; refused = wrote.refused; memory = wrote.memory; stale = wrote.stale; directory = wrote.directory; place = wrote.place };
-      done = λ ok. absurd (cc);
-      refused = λ whole some. record { size = same; pending = rest.pending; next_write = rest.next_write; next_marker = rest.next_marker };
-      undone = λ some never. record { size = same; pending = rest.pending; next_write = rest.next_write; next_marker = rest.next_marker };
-      config = rest.config;
-      rng = rest.rng;
-    }
 
 -- After a reservation for its entry: `m` has that capacity, `d` is `m` after the inner blob's write.
 module _ {S R O B : Type 0} (store : stores.Ghosts S O) (handle : handles.Ghosts B S O) (b c : Blob B) (w m d : Storage S R O) (offset : ℕ) (bytes : List ℕ) where
@@ -246,12 +220,3 @@ module _ {S R O B : Type 0} (handle : handles.Ghosts B S O) (b : Blob B) (w m : 
       (subst (λ (s : S). handle.leaves (call.Write offset bytes sync) b.inner m.inner answer c.inner s) (sym last) h)))
 
 -- Nothing is loose without retention, nor of no byte.
-
-pub unretained : (kept : Option (PartialWriteMode × Rate)) (n o : ℕ) (b : List ℕ) → kept ≡ None → loose kept n o b ≡ []
-unretained kept n o [] e = refl
-unretained None n o (x ∷ b) e = refl
-unretained (Some k) n o (x ∷ b) e = absurd (cc)
-
-pub no_byte : (kept : Option (PartialWriteMode × Rate)) (n o : ℕ) (b : List ℕ) → b ≡ [] → loose kept n o b ≡ []
-no_byte kept n o [] e = refl
-no_byte kept n o (x ∷ b) e = absurd (cc)

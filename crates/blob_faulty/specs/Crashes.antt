@@ -3,18 +3,16 @@ use Rattle.std.specs.Prelude.{◌≡◌, ◌<◌, ◌+◌, ℕ, List, Bool, fals
 use Rattle.std.specs.Global.{Global}
 use Rattle.rand_core.specs.Stream.{Stream}
 use Rattle.blob_model.specs.Draws.{draw_rows, chosen_by}
-use Rattle.blob_model.specs.Durable.{Durable, with_changed}
+use Rattle.blob_model.specs.Durable.{Durable}
 use Rattle.blob_model.specs.Files.{Files, all_needs, after_crash}
 use Rattle.blob_model.specs.Holes.{in_holes}
 use Rattle.blob_model.specs.Log.{Choices}
 use Rattle.blob_model.specs.Order.{ArePlacesApart}
-use Rattle.blob_model.specs.Pending.{replay}
 use Rattle.blob_model.specs.Places.{Place}
 use Rattle.blob_model.specs.Stands.{replayed_at}
 use Rattle.blob_pending.specs.Lists.{lists_of, list_of}
 use Rattle.blob_pending.specs.Ranges.{ranges}
 use Rattle.blob_draws.specs.Rows.{rows_in, table_of}
-use Rattle.blob_pending.specs.Views.{left_in}
 use Rattle.blob_pending.specs.declared.incarnation.Incarnation.{Incarnation}
 use Rattle.blob_draws.specs.declared.selections.Selections.{Selections}
 use Rattle.blob_pending.specs.declared.write.PendingWrite.{PendingWrite}
@@ -41,10 +39,6 @@ ReplaysPending before after kept = (o : Place) → durable (inner_of after) o �
 -- the same of the lists of the code, and their rows
 abbrev pub ReplaysLists : List (Incarnation Place) → List (ℕ × Vec Bool Global) → Durable → Durable → Type 0
 ReplaysLists lists rows before after = ArePlacesApart (lists_of (λ o. o) lists) → (o : Place) → after o ≡ replayed_at (chosen_by (rows_in rows)) (list_of (λ o. o) lists o) (before o)
-
--- one list of the code, over its incarnation
-abbrev pub ReplaysList : Incarnation Place → List (ℕ × Vec Bool Global) → Durable → Durable → Type 0
-ReplaysList list rows before after = (o : Place) → after o ≡ with_changed before list.origin (replay (left_in list.entries.items) (chosen_by (rows_in rows))) o
 
 -- of the bytes of a write at offset those stay chosen that don't lie where this says
 abbrev pub StaysChosen : ℕ → (ℕ → Bool) → List Bool → List Bool → Type 0

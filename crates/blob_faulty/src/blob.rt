@@ -58,12 +58,14 @@ impl<B> Blob<B> {
         &mut self,
         store: &mut Storage<S, R>,
         offset: u64,
+        len: usize,
         buf: P,
         sync: bool,
     ) -> Result<(), Error>
     where
         B: blob_base::Blob<S>,
         P: Payload<S, B>,
+        requires { len ≡ length (P.bytes buf) }
         ensures allowed { MayWrite B.Blob self.old store.old R.stream offset (P.bytes buf) sync (error_of result) }
         ensures leaves { Leaves S.Durable B.Blob R.Rng offset (P.bytes buf) sync self.old store.old result self.new store.new }
         ensures live { OnOk result (B.live self.new.inner ≡ live_written sync (B.live self.old.inner) offset (P.bytes buf)) }
@@ -76,16 +78,15 @@ impl<B> Blob<B> {
         ensures directory { S.directory store.new.inner ≡ S.directory store.old.inner }
         ensures place { B.place self.new.inner ≡ B.place self.old.inner }
     {
-        let len = buf.len();
         if sync && len == 0 {
             return Ok(());
         }
-        if offset.checked_add(len as u64).is_none() {
+        let Some(end) = offset.checked_add(len as u64) else {
             return Err(Error::OffsetOverflow);
-        }
+        };
         let alloc = store.alloc();
         let fate = draw_write(alloc, &store.config, sync, offset, len, &mut store.rng)?;
-        self.write_by_fate(store, fate, offset, buf, sync)
+        self.write_by_fate(store, fate, offset, end, buf, sync)
     }
 }
 
@@ -182,7 +183,8 @@ impl<S: blob_base::Storage, R: Rng, B: blob_base::Blob<S>> blob_base::Blob<Stora
         bytes: IoBufs,
         options: WriteOptions,
     ) -> Result<(), Error> {
-        self.write(store, offset, bytes, options.contains(WriteOptions::SYNC))
+        let sync = options.contains(WriteOptions::SYNC);
+        self.write(store, offset, bytes.remaining(), bytes, sync)
     }
 
     /// Draws whether the resize fails. If it doesn't, resizes the inner handle, and a second draw decides whether the resize is

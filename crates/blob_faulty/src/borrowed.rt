@@ -69,6 +69,7 @@ impl Blob<blob_memory::Blob> {
         ensures directory { directory (inner_of store.new) ≡ directory (inner_of store.old) }
         ensures place { place (inside self.new) ≡ place (inside self.old) }
     {
-        self.write(store, offset, bytes, options.contains(WriteOptions::SYNC))
+        let sync = options.contains(WriteOptions::SYNC);
+        self.write(store, offset, bytes.len(), bytes, sync)
     }
 }

@@ -9,12 +9,11 @@ ghost use Rattle.blob_pending.specs.Lists.{lists_of, held_by};
 ghost use Rattle.blob_pending.specs.Replays.{widest_of_all};
 ghost use Rattle.blob_faulty.specs.Ready.{IsReady};
 ghost use Rattle.blob_faulty.specs.Wrapper.{KeepsNumbers, KeepsRecords, inner_of, pending_of};
-ghost use Rattle.blob_memory.specs.Retained.{KeepsRoom};
 ghost use Rattle.blob_memory.specs.Store.{directory, durable};
 
 use crate::replay::replay_all;
 use crate::storage::Storage;
-use blob_base::{Durable, Error};
+use blob_base::Error;
 use blob_draws::rows::draw_rows;
 use blob_draws::selections::Selections;
 use blob_memory::Origin;
@@ -35,27 +34,8 @@ fn widest_of_all<O>(lists: &[Incarnation<O>]) -> usize
     most
 }
 
-/// Reserves capacity for the result of replaying a list, if its incarnation is current. An overflowing length is reported as an
+/// Reserves capacity for the result of replaying each list whose incarnation is current. An overflowing length is reported as an
 /// allocation failure.
-fn reserve_list(
-    inner: &mut blob_memory::Storage,
-    list: &Incarnation<Origin>,
-) -> Result<(), AllocError>
-    ensures ready { OnOk result (IsReady inner.new (held_by (λ o. o) list.now)) }
-    ensures durable { durable inner.new ≡ durable inner.old }
-    ensures kept { KeepsRoom inner.old inner.new }
-{
-    if !inner.is_current(&list.origin) {
-        return Ok(());
-    }
-    let len = end(unmarked(&list.entries));
-    match inner.reserve_crash(&list.origin, len) {
-        Ok(()) => Ok(()),
-        Err(_) => Err(AllocError),
-    }
-}
-
-/// Reserves capacity for the results of replaying all lists.
 fn reserve_all(
     inner: &mut blob_memory::Storage,
     lists: &[Incarnation<Origin>],
@@ -65,7 +45,10 @@ fn reserve_all(
     ensures directory { directory inner.new ≡ directory inner.old }
 {
     for list in lists {
-        reserve_list(inner, list)?;
+        let len = end(unmarked(&list.entries));
+        if inner.reserve_crash(&list.origin, len).is_err() {
+            return Err(AllocError);
+        }
     }
     Ok(())
 }

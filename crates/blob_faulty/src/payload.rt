@@ -1,5 +1,5 @@
 //! The bytes of one write: owned pieces, or a borrowed slice.
-ghost use Rattle.std.specs.Prelude.{◌≡◌, ℕ, List, true, false, OnOk, OnErr, IfOk, length};
+ghost use Rattle.std.specs.Prelude.{◌≡◌, ℕ, List, true, false, OnOk, OnErr, IfOk};
 ghost use Rattle.blob_header.specs.Refusals.{error_of, IsMemory};
 ghost use Rattle.blob_model.specs.Live.{live_written};
 ghost use Rattle.blob_base.specs.HandleCalls.{Write};
@@ -12,10 +12,6 @@ use std::alloc::Global;
 pub(crate) trait Payload<S: Durable, B: blob_base::Blob<S>>: Drop {
     // what is written
     ghost bytes: { Self → List ℕ };
-
-    /// Returns the number of bytes.
-    fn len(&self) -> usize
-        ensures { result ≡ length (bytes self.now) };
 
     /// Returns a copy of the bytes in one allocation. The only error is `Memory`.
     fn to_vec(&self, alloc: Global) -> Result<Vec<u8>, Error>
@@ -48,10 +44,6 @@ pub(crate) trait Payload<S: Durable, B: blob_base::Blob<S>>: Drop {
 impl<S: Durable, B: blob_base::Blob<S>> Payload<S, B> for IoBufs {
     ghost bytes = { λ bufs. bufs };
 
-    fn len(&self) -> usize {
-        self.remaining()
-    }
-
     fn to_vec(&self, alloc: Global) -> Result<Vec<u8>, Error> {
         let mut bytes = Vec::with_capacity(alloc, self.remaining())?;
         for piece in self.pieces() {
@@ -72,10 +64,6 @@ impl<S: Durable, B: blob_base::Blob<S>> Payload<S, B> for IoBufs {
 
 impl Payload<blob_memory::Storage, blob_memory::Blob> for &[u8] {
     ghost bytes = { λ slice. slice.now };
-
-    fn len(&self) -> usize {
-        <[u8]>::len(*self)
-    }
 
     fn to_vec(&self, alloc: Global) -> Result<Vec<u8>, Error> {
         Ok(Vec::from_slice(alloc, *self)?)

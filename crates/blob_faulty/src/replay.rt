@@ -1,17 +1,16 @@
 //! The replay of pending entries over durable bytes, into capacity that was reserved before.
-ghost use Rattle.std.specs.Prelude.{◌≡◌, ◌<◌, ◌≤◌, ℕ, false, length, slice_index_or, vec_capacity, All};
+ghost use Rattle.std.specs.Prelude.{◌≡◌, ◌≤◌, length, vec_capacity, All};
 ghost use Rattle.blob_model.specs.Bytes.{between};
 ghost use Rattle.blob_model.specs.Holes.{in_holes};
-ghost use Rattle.blob_model.specs.Pending.{has_marker, replay, replay_entry, end_of, ends};
+ghost use Rattle.blob_model.specs.Pending.{replay_entry, end_of};
 ghost use Rattle.blob_pending.specs.Lists.{lists_of, held_by};
 ghost use Rattle.blob_pending.specs.Ranges.{ranges};
-ghost use Rattle.blob_pending.specs.Replays.{width, widest, widest_of_all};
-ghost use Rattle.blob_faulty.specs.Crashes.{chosen_in, ChoosesUncovered, ReplaysList, ReplaysLists, StaysChosen};
+ghost use Rattle.blob_pending.specs.Replays.{width, widest_of_all};
+ghost use Rattle.blob_faulty.specs.Crashes.{chosen_in, ChoosesUncovered, ReplaysLists, StaysChosen};
 ghost use Rattle.blob_faulty.specs.Ready.{IsReady, CanReplay};
 ghost use Rattle.blob_draws.specs.Rows.{AreNumbered};
-ghost use Rattle.blob_pending.specs.Views.{view, left_in};
+ghost use Rattle.blob_pending.specs.Views.{view};
 ghost use Rattle.blob_pages.specs.Stored.{AreNow};
-ghost use Rattle.blob_memory.specs.Retained.{KeepsRoom};
 ghost use Rattle.blob_memory.specs.Store.{directory, durable};
 
 use blob_draws::rows::choices_in;
@@ -21,19 +20,6 @@ use blob_pending::entry::Entry;
 use blob_pending::holes::Hole;
 use blob_pending::incarnation::Incarnation;
 use blob_pending::write::PendingWrite;
-
-/// Sets `chosen` to a row's choices for `len` bytes. Bytes past the row's end aren't chosen.
-fn put_row(chosen: &mut Vec<bool>, row: &[bool], len: usize)
-    requires { len ≤ vec_capacity chosen.old }
-    ensures len { length chosen.new.items ≡ len }
-    ensures each { (i : ℕ) → i < len → slice_index_or chosen.new.items i false ≡ slice_index_or row.now i false }
-    ensures capacity { vec_capacity chosen.old ≤ vec_capacity chosen.new }
-{
-    let count = row.len().min(len);
-    chosen.clear();
-    chosen.extend_from_slice(&row[..count]).unwrap();
-    chosen.resize(len, false).unwrap();
-}
 
 /// Deselects the bytes that a hole covers. `offset` is the position of the first byte.
 fn deselect(chosen: &mut [bool], offset: u64, hole: Hole)
@@ -55,14 +41,19 @@ fn deselect_covered(chosen: &mut [bool], offset: u64, holes: &[Hole])
     }
 }
 
-/// Sets `chosen` to a row's choices for a write, without the bytes that later durable ranges cover.
+/// Sets `chosen` to a row's choices for a write, without the bytes that later durable ranges cover. Bytes past the row's end
+/// aren't chosen.
 fn put_choices(chosen: &mut Vec<bool>, write: &PendingWrite, row: &[bool])
     requires { length write.now.bytes.items ≤ vec_capacity chosen.old }
     ensures len { length chosen.new.items ≡ length write.now.bytes.items }
     ensures each { ChoosesUncovered chosen.new.items write.now row.now }
     ensures capacity { vec_capacity chosen.old ≤ vec_capacity chosen.new }
 {
-    put_row(chosen, row, write.bytes.len());
+    let len = write.bytes.len();
+    let count = row.len().min(len);
+    chosen.clear();
+    chosen.extend_from_slice(&row[..count]).unwrap();
+    chosen.resize(len, false).unwrap();
     deselect_covered(chosen.as_mut_slice(), write.offset, &write.holes);
 }
 
@@ -87,48 +78,8 @@ fn replay_entry(bytes: &mut Bytes, entry: &Entry, rows: &[(u64, Vec<bool>)], cho
     }
 }
 
-/// Replays entries in their order, except writes that are fully covered. None of them is a marker.
-fn replay_entries(
-    bytes: &mut Bytes,
-    entries: &[Entry],
-    rows: &[(u64, Vec<bool>)],
-    chosen: &mut Vec<bool>,
-)
-    requires unmarked { has_marker (left_in entries.now) ≡ false }
-    requires numbered { AreNumbered rows.now }
-    requires room { CanReplay bytes.old (ends (left_in entries.now)) (widest (left_in entries.now)) chosen.old }
-    ensures bytes { AreNow bytes.old bytes.new (replay (left_in entries.now) (chosen_in rows.now) bytes.old.items) }
-    ensures capacity { vec_capacity chosen.old ≤ vec_capacity chosen.new }
-{
-    for entry in entries {
-        if entry.is_left() {
-            replay_entry(bytes, entry, rows, chosen);
-        }
-    }
-}
-
-/// Replays a list over the durable bytes of its incarnation. Does nothing if the incarnation has ended.
-fn replay_list(
-    inner: &mut blob_memory::Storage,
-    list: &Incarnation<Origin>,
-    rows: &[(u64, Vec<bool>)],
-    chosen: &mut Vec<bool>,
-)
-    requires numbered { AreNumbered rows.now }
-    requires ready { IsReady inner.old (held_by (λ o. o) list.now) }
-    requires width { widest (left_in list.now.entries.items) ≤ vec_capacity chosen.old }
-    ensures durable { ReplaysList list.now rows.now (durable inner.old) (durable inner.new) }
-    ensures kept { KeepsRoom inner.old inner.new }
-    ensures capacity { vec_capacity chosen.old ≤ vec_capacity chosen.new }
-{
-    let entries = unmarked(&list.entries);
-    let Some(bytes) = inner.durable_mut(&list.origin) else {
-        return;
-    };
-    replay_entries(bytes, entries, rows, chosen);
-}
-
-/// Replays all lists, each over its incarnation.
+/// Replays all lists, each over the durable bytes of its incarnation, if that hasn't ended: the entries after the last marker in
+/// their order, except writes that are fully covered.
 pub fn replay_all(
     inner: &mut blob_memory::Storage,
     lists: &[Incarnation<Origin>],
@@ -142,6 +93,13 @@ pub fn replay_all(
     ensures directory { directory inner.new ≡ directory inner.old }
 {
     for list in lists {
-        replay_list(inner, list, rows, chosen);
+        let Some(bytes) = inner.durable_mut(&list.origin) else {
+            continue;
+        };
+        for entry in unmarked(&list.entries) {
+            if entry.is_left() {
+                replay_entry(bytes, entry, rows, chosen);
+            }
+        }
     }
 }

@@ -27,19 +27,19 @@ impl<B> Blob<B> {
         &mut self,
         store: &mut Storage<S, R>,
         offset: u64,
+        end: u64,
         bytes: P,
     ) -> Result<(), Error>
     where
         B: blob_base::Blob<S>,
         P: Payload<S, B>,
-        requires fits { offset + length (P.bytes bytes) < 2 ^ 64 }
+        requires end { end ≡ offset + length (P.bytes bytes) }
         ensures allowed { B.allows_write self.old.inner store.old.inner offset (P.bytes bytes) false (error_of result) }
         ensures asked { CallsInner B.Blob self.old store.old self.new store.new (Write offset (P.bytes bytes) false) result }
         ensures wrote { WritesUnrecorded S.Durable B.Blob self.old store.old self.new store.new offset (P.bytes bytes) result }
         ensures untracked { OnErr result (self.new.size ≡ self.old.size) }
         ensures rest { store.new ≡ record store.old { inner = store.new.inner } }
     {
-        let end = offset + bytes.len() as u64;
         bytes.write_plain(&mut self.inner, &mut store.inner, offset)?;
         self.size = self.size.max(end);
         Ok(())
@@ -52,6 +52,7 @@ impl<B> Blob<B> {
         &mut self,
         store: &mut Storage<S, R>,
         offset: u64,
+        end: u64,
         bytes: P,
         config: WriteConfig,
     ) -> Result<(), Error>
@@ -59,7 +60,7 @@ impl<B> Blob<B> {
         B: blob_base::Blob<S>,
         P: Payload<S, B>,
         requires some { 0 < length (P.bytes bytes) }
-        requires fits { offset + length (P.bytes bytes) < 2 ^ 64 }
+        requires end { end ≡ offset + length (P.bytes bytes) }
         requires retained { retention store.old.config.write_rate ≡ Some (config.mode, config.retention_rate) }
         ensures allowed { MayWritePlain B.Blob self.old store.old offset (P.bytes bytes) (error_of result) }
         ensures asked { MayCallInner B.Blob self.old store.old self.new store.new (Write offset (P.bytes bytes) false) result }
@@ -70,7 +71,7 @@ impl<B> Blob<B> {
         }
         let copy = bytes.to_vec(store.alloc())?;
         let list = store.lists.room_for(&self.inner, self.list, Room::Entry)?;
-        self.write_unrecorded(store, offset, bytes)?;
+        self.write_unrecorded(store, offset, end, bytes)?;
         let number = store.next_write;
         store.next_write = number + 1;
         let holes = Vec::new(store.alloc());
@@ -93,23 +94,23 @@ impl<B> Blob<B> {
         &mut self,
         store: &mut Storage<S, R>,
         offset: u64,
+        end: u64,
         bytes: P,
     ) -> Result<(), Error>
     where
         B: blob_base::Blob<S>,
         P: Payload<S, B>,
-        requires fits { offset + length (P.bytes bytes) < 2 ^ 64 }
+        requires end { end ≡ offset + length (P.bytes bytes) }
         ensures allowed { MayWritePlain B.Blob self.old store.old offset (P.bytes bytes) (error_of result) }
         ensures asked { MayCallInner B.Blob self.old store.old self.new store.new (Write offset (P.bytes bytes) false) result }
         ensures recorded { RecordsPlain S.Durable B.Blob self.old store.old self.new store.new offset (P.bytes bytes) result }
     {
-        let Some(config) = retained(store.config.write_rate) else {
-            return self.write_unrecorded(store, offset, bytes);
-        };
-        if bytes.len() == 0 {
-            return self.write_unrecorded(store, offset, bytes);
+        match retained(store.config.write_rate) {
+            Some(config) if offset < end => {
+                self.write_recorded(store, offset, end, bytes, config)
+            }
+            _ => self.write_unrecorded(store, offset, end, bytes),
         }
-        self.write_recorded(store, offset, bytes, config)
     }
 }
 
@@ -152,20 +153,20 @@ impl<B> Blob<B> {
         &mut self,
         store: &mut Storage<S, R>,
         offset: u64,
+        end: u64,
         bytes: P,
     ) -> Result<(), Error>
     where
         B: blob_base::Blob<S>,
         P: Payload<S, B>,
         requires some { P.bytes bytes ≢ [] }
-        requires fits { offset + length (P.bytes bytes) < 2 ^ 64 }
+        requires end { end ≡ offset + length (P.bytes bytes) }
         ensures allowed { MayWriteSynced B.Blob self.old store.old offset (P.bytes bytes) (error_of result) }
         ensures asked { MayCallInner B.Blob self.old store.old self.new store.new (Write offset (P.bytes bytes) true) result }
         ensures recorded { RecordsRun S.Durable B.Blob self.old store.old self.new store.new (offset, P.bytes bytes) result }
     {
         let owned = bytes.into_bufs(store.alloc())?;
-        let len = owned.remaining() as u64;
-        let room = Room::Ranges(offset, offset + len, 1);
+        let room = Room::Ranges(offset, end, 1);
         let list = store.lists.room_for(&self.inner, self.list, room)?;
         let copy = store.lists.copy_for(list, &owned)?;
         self.list = list;
@@ -179,6 +180,7 @@ impl<B> Blob<B> {
         store: &mut Storage<S, R>,
         fate: WriteFate,
         offset: u64,
+        end: u64,
         bytes: P,
         sync: bool,
     ) -> Result<(), Error>
@@ -186,7 +188,7 @@ impl<B> Blob<B> {
         B: blob_base::Blob<S>,
         P: Payload<S, B>,
         requires some { sync ≡ true → P.bytes bytes ≢ [] }
-        requires fits { offset + length (P.bytes bytes) < 2 ^ 64 }
+        requires end { end ≡ offset + length (P.bytes bytes) }
         requires sized { IsSized (length (P.bytes bytes)) (write_fate_of fate) }
         ensures allowed { MayWriteAs B.Blob self.old store.old fate sync offset (P.bytes bytes) (error_of result) }
         ensures asked { AsksAs B.Blob self.old store.old self.new store.new fate sync offset (P.bytes bytes) result }
@@ -196,12 +198,12 @@ impl<B> Blob<B> {
         match fate {
             WriteFate::Done => {
                 if sync {
-                    return self.write_synced(store, offset, bytes);
+                    return self.write_synced(store, offset, end, bytes);
                 }
-                self.write_plain(store, offset, bytes)
+                self.write_plain(store, offset, end, bytes)
             }
             WriteFate::Unsynced => {
-                self.write_plain(store, offset, bytes)?;
+                self.write_plain(store, offset, end, bytes)?;
                 Err(Error::Injected)
             }
             WriteFate::Failed(kept) => {

@@ -64,6 +64,10 @@ live_padded x o b = ⊎_elim (λ e. ap (λ n. overlay (resize x (max (length x) 
     some h = overlay_padded x _ o b (λ _. true) (omega arith) (omega (arith, reach_all o (length b) h))
         ∙ sym (overlay_padded x _ o b (λ _. true) (omega arith) (omega (arith, reach_all o (length b) h)))
 
+-- a write of some bytes needs no zeros before its offset
+pub live_some : (x : List ℕ) (o : ℕ) (b : List ℕ) → 0 < length b → write_live x o b ≡ overlay x o b
+live_some x o b h = overlay_padded x _ o b (λ _. true) (omega arith) (omega (arith, reach_all o (length b) h))
+
 pub overlay_none : (x : List ℕ) (o : ℕ) (c : ℕ → Bool) → overlay_by x o [] c ≡ x
 overlay_none x o c = same_bytes _ _ (omega (arith, length-overlay_by x o [] c)) (λ p. at_other x o [] c p (λ l u. absurd (omega arith)))
 
@@ -209,3 +213,10 @@ lay_end x o b c i h = overlay_same x o b (first i c) c (λ j l. ap (λ t. t && c
 -- a vector after all its bytes are written through a slice
 pub written_back : (x y : List ℕ) (n : ℕ) → n ≡ length x → length y ≡ length x → take n (y ++ drop (length y) x) ≡ y
 written_back x y n e l = ap (λ r. take n (y ++ r)) (drop_all (length y) x (omega (arith, l))) ∙ ap (take n) (append-nil y) ∙ take_all n y (omega (arith, e, l))
+
+-- a run of k bytes that is written through a slice over existing bytes of a vector
+pub pasted_back : (x y z : List ℕ) (n o k : ℕ) (b : List ℕ) → z ≡ x → n ≡ length x → k ≡ length b → o + length b ≤ length x → y ≡ take o x ++ (b ++ drop k (drop o x)) → take n (y ++ drop (length y) z) ≡ overlay x o b
+pasted_back x y z n o k b same all is h laid =
+    let paste : y ≡ overlay x o b = laid ∙ pasted x o k b is h in
+    let len : length y ≡ length x = omega (arith, ap length paste, length-overlay_by x o b (λ _. true), reach_below o (length b) (λ _. true) (length x) (λ i l _. omega arith)) in
+    written_back z y n (all ∙ ap length (sym same)) (len ∙ ap length (sym same)) ∙ paste

@@ -1,5 +1,5 @@
 //! Writes and resizes of a vector of bytes. A call that can fail reserves capacity first. The rest does not allocate.
-ghost use Rattle.std.specs.Prelude.{◌≡◌, ◌≤◌, ◌<◌, ◌+◌, ◌^◌, length, max, drop, true, OnOk, vec_capacity};
+ghost use Rattle.std.specs.Prelude.{◌≡◌, ◌≤◌, ◌<◌, ◌+◌, ◌^◌, length, drop, OnOk, vec_capacity};
 ghost use Rattle.std.specs.List.{list_all};
 ghost use Rattle.blob_model.specs.Bytes.{overlay, overlay_by, reach, resize, write_live};
 ghost use Rattle.blob_model.specs.Runs.{is_chosen};
@@ -16,17 +16,6 @@ pub fn make_room(bytes: &mut Vec<u8>, len: usize) -> Result<(), AllocError>
         bytes.reserve(len - bytes.len())?;
     }
     Ok(())
-}
-
-/// Extends the bytes with zeros to `len`, within the capacity. Does nothing if they are that long already.
-#[inline(always)]
-fn grow(bytes: &mut Vec<u8>, len: usize)
-    requires { len ≤ vec_capacity bytes.old }
-    ensures { AreNow bytes.old bytes.new (resize bytes.old.items (max (length bytes.old.items) len)) }
-{
-    if bytes.len() < len {
-        bytes.resize(len, 0).unwrap();
-    }
 }
 
 /// Truncates, or extends with zeros, within the capacity.
@@ -49,15 +38,6 @@ pub fn reach_of(offset: usize, keep: &[bool]) -> usize
         }
     }
     end
-}
-
-/// Writes all bytes over existing bytes.
-fn copy_over(bytes: &mut [u8], offset: usize, run: &[u8])
-    requires { offset + length run.now ≤ length bytes.old }
-    ensures { bytes.new ≡ overlay bytes.old offset run.now }
-{
-    let end = offset + run.len();
-    bytes[offset..end].copy_from_slice(run);
 }
 
 /// Writes the selected bytes one by one.
@@ -88,8 +68,9 @@ pub fn copy_chosen(bytes: &mut [u8], offset: usize, run: &[u8], keep: &[bool])
     requires inside { reach offset (length run.now) (is_chosen keep.now) ≤ length bytes.old }
     ensures { bytes.new ≡ overlay_by bytes.old offset run.now (is_chosen keep.now) }
 {
-    if !run.is_empty() && are_all(keep) {
-        copy_over(bytes, offset, run);
+    let end = offset + run.len();
+    if offset < end && are_all(keep) {
+        bytes[offset..end].copy_from_slice(run);
     } else {
         copy_some(bytes, offset, run, keep);
     }
@@ -106,8 +87,7 @@ pub fn lay(bytes: &mut Vec<u8>, offset: usize, run: &[u8])
     if len == 0 {
         return;
     }
-    grow(bytes, offset + len);
-    copy_over(bytes.as_mut_slice(), offset, run);
+    write_live(bytes, offset, run);
 }
 
 /// Writes all bytes, within the capacity. An empty run extends the bytes with zeros to `offset`.
@@ -117,8 +97,11 @@ pub fn write_live(bytes: &mut Vec<u8>, offset: usize, run: &[u8])
     requires room { offset + length run.now ≤ vec_capacity bytes.old }
     ensures { AreNow bytes.old bytes.new (write_live bytes.old.items offset run.now) }
 {
-    grow(bytes, offset + run.len());
-    copy_over(bytes.as_mut_slice(), offset, run);
+    let end = offset + run.len();
+    if bytes.len() < end {
+        bytes.resize(end, 0).unwrap();
+    }
+    bytes[offset..end].copy_from_slice(run);
 }
 
 /// Writes the selected bytes, within the capacity. `keep[i]` selects byte `i`, and `end` is the end of the last one.
@@ -129,7 +112,9 @@ pub fn lay_chosen(bytes: &mut Vec<u8>, offset: usize, end: usize, run: &[u8], ke
     requires room { end ≤ vec_capacity bytes.old }
     ensures { AreNow bytes.old bytes.new (overlay_by bytes.old.items offset run.now (is_chosen keep.now)) }
 {
-    grow(bytes, end);
+    if bytes.len() < end {
+        bytes.resize(end, 0).unwrap();
+    }
     copy_chosen(bytes.as_mut_slice(), offset, run, keep);
 }
 

@@ -61,32 +61,9 @@ impl Form {
         }
     }
 
-    /// Returns the capacity.
-    #[inline(always)]
-    fn reserved(&self) -> usize
-        ensures { result ≡ capacity self.now }
-    {
-        match self {
-            Form::Flat(bytes) => bytes.capacity(),
-            Form::Paged(pages) => pages.reserved(),
-        }
-    }
-
-    /// Reserves capacity for `len` bytes in all. The only error is out of memory.
-    #[inline(always)]
-    pub fn reserve(&mut self, len: usize) -> Result<(), AllocError>
-        ensures grows { MayBecome result self.old self.new len (content self.old) }
-        ensures room { OnOk result (len ≤ capacity self.new) }
-    {
-        if len <= self.reserved() {
-            return Ok(());
-        }
-        self.reserve_more(len)
-    }
-
-    /// Reserves more capacity than there is, as `reserve`.
+    /// Reserves capacity for `len` bytes in all, more than there is. The only error is out of memory.
     #[inline(never)]
-    fn reserve_more(&mut self, len: usize) -> Result<(), AllocError>
+    pub fn reserve_more(&mut self, len: usize) -> Result<(), AllocError>
         requires { capacity self.old < len }
         ensures grows { MayBecome result self.old self.new len (content self.old) }
         ensures room { OnOk result (len ≤ capacity self.new) }
@@ -200,27 +177,14 @@ impl Form {
         }
     }
 
-    /// Writes all bytes to pages, as `write_live`.
-    fn write_live_pages(&mut self, offset: usize, run: &[u8])
+    /// Writes all bytes to pages. An empty run extends the bytes with zeros to `offset`.
+    pub fn write_live_pages(&mut self, offset: usize, run: &[u8])
         requires fits { offset + length run.now < 2 ^ 64 }
         requires room { offset + length run.now ≤ capacity self.old }
         ensures { Becomes self.old self.new (write_live (content self.old) offset run.now) }
     {
         self.grow(offset);
         self.lay_pages(offset, run);
-    }
-
-    /// Writes all bytes, within the capacity. An empty run extends the bytes with zeros to `offset`.
-    #[inline(always)]
-    pub fn write_live(&mut self, offset: usize, run: &[u8])
-        requires fits { offset + length run.now < 2 ^ 64 }
-        requires room { offset + length run.now ≤ capacity self.old }
-        ensures { Becomes self.old self.new (write_live (content self.old) offset run.now) }
-    {
-        match self {
-            Form::Flat(bytes) => overlay::write_live(bytes, offset, run),
-            Form::Paged(_) => self.write_live_pages(offset, run),
-        }
     }
 
     /// Writes the selected bytes to pages. Returns false if a page can't be allocated.

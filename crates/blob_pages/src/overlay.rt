@@ -6,8 +6,9 @@ ghost use Rattle.blob_model.specs.Bytes.{overlay, resize, write_live};
 ghost use Rattle.blob_pages.specs.Stored.{AreNow, Grows, WritesSelected};
 
 use crate::bytes::Bytes;
+use crate::form::Form;
 use blob_base::IoBufs;
-use blob_overlay::overlay::reach_of;
+use blob_overlay::overlay::{self, reach_of};
 use std::alloc::AllocError;
 
 /// Reserves capacity for `len` bytes in all. The only error is out of memory.
@@ -16,7 +17,14 @@ pub fn make_room(bytes: &mut Bytes, len: usize) -> Result<(), AllocError>
     ensures bytes { Grows result bytes.old bytes.new len bytes.old.items }
     ensures room { OnOk result (len ≤ bytes.new.capacity) }
 {
-    bytes.form.reserve(len)
+    let capacity = match &bytes.form {
+        Form::Flat(flat) => flat.capacity(),
+        Form::Paged(pages) => pages.reserved(),
+    };
+    if len <= capacity {
+        return Ok(());
+    }
+    bytes.form.reserve_more(len)
 }
 
 /// Writes a run, within the capacity. An empty run extends the bytes with zeros to `offset`.
@@ -36,7 +44,10 @@ pub fn write_live_slice(bytes: &mut Bytes, offset: usize, run: &[u8])
     requires room { offset + length run.now ≤ bytes.old.capacity }
     ensures { AreNow bytes.old bytes.new (write_live bytes.old.items offset run.now) }
 {
-    bytes.form.write_live(offset, run);
+    match &mut bytes.form {
+        Form::Flat(flat) => overlay::write_live(flat, offset, run),
+        Form::Paged(_) => bytes.form.write_live_pages(offset, run),
+    }
 }
 
 /// Writes the selected bytes of a run. `keep[i]` selects byte `i`. The bytes grow only as far as the last selected
@@ -51,7 +62,7 @@ pub fn write_chosen(
     requires fits { offset + length run.now < 2 ^ 64 }
     ensures { WritesSelected result bytes.old bytes.new offset run.now keep.now }
 {
-    bytes.form.reserve(reach_of(offset, keep))?;
+    make_room(bytes, reach_of(offset, keep))?;
     bytes.form.lay_chosen_run(offset, run, keep);
     Ok(())
 }
@@ -68,7 +79,7 @@ pub fn write_chosen_slice(
     ensures { WritesSelected result bytes.old bytes.new offset run.now keep.now }
 {
     let end = reach_of(offset, keep);
-    bytes.form.reserve(end)?;
+    make_room(bytes, end)?;
     bytes.form.lay_chosen(offset, end, run, keep);
     Ok(())
 }
@@ -78,7 +89,7 @@ pub fn write(bytes: &mut Bytes, offset: usize, run: &IoBufs) -> Result<(), Alloc
     requires { offset + length run.now < 2 ^ 64 }
     ensures { Grows result bytes.old bytes.new (offset + length run.now) (overlay bytes.old.items offset run.now) }
 {
-    bytes.form.reserve(offset + run.remaining())?;
+    make_room(bytes, offset + run.remaining())?;
     bytes.form.lay_run(offset, run);
     Ok(())
 }
@@ -88,7 +99,7 @@ pub fn write_slice(bytes: &mut Bytes, offset: usize, run: &[u8]) -> Result<(), A
     requires { offset + length run.now < 2 ^ 64 }
     ensures { Grows result bytes.old bytes.new (offset + length run.now) (overlay bytes.old.items offset run.now) }
 {
-    bytes.form.reserve(offset + run.len())?;
+    make_room(bytes, offset + run.len())?;
     bytes.form.lay(offset, run);
     Ok(())
 }
@@ -98,7 +109,7 @@ pub fn write_slice(bytes: &mut Bytes, offset: usize, run: &[u8]) -> Result<(), A
 pub fn resize(bytes: &mut Bytes, len: usize) -> Result<(), AllocError>
     ensures { Grows result bytes.old bytes.new len (resize bytes.old.items len) }
 {
-    bytes.form.reserve(len)?;
+    make_room(bytes, len)?;
     bytes.form.set_len(len);
     Ok(())
 }

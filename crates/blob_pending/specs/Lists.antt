@@ -66,10 +66,6 @@ pub record IsRoomAt {O : Type 0} (place : O → Place) (is : List (Incarnation O
   pub at : IsAt (lists_of place is) i o
   pub here : HasRoomIn is i what
 
--- the list at i is that of an incarnation
-abbrev pub HasListAt : {O : Type 0} → (O → Place) → List (Incarnation O) → ℕ → Place → Type 0
-HasListAt place is i o = IsAt (lists_of place is) i o
-
 -- what is pending of each incarnation stays
 abbrev pub SameLists : {O : Type 0} → (O → Place) → List (Incarnation O) → List (Incarnation O) → Type 0
 SameLists place old new = (o : Place) → list_of place new o ≡ list_of place old o

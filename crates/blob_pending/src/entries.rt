@@ -23,27 +23,6 @@ pub fn reserve_one(entries: &mut Vec<Entry>) -> Result<(), AllocError>
     entries.reserve_exact(entries.len() / 8 + 4)
 }
 
-/// Reserves capacity in the writes for the holes of `count` ranges between `start` and `end`.
-fn reserve_holes(
-    entries: &mut [Entry],
-    bounds: &BlockBounds,
-    start: u64,
-    end: u64,
-    count: usize,
-) -> Result<(), AllocError>
-    requires { AreBounded bounds.now (views entries.old) }
-    ensures views { views entries.new ≡ views entries.old }
-    ensures ok { OnOk result ((ranges : Holes) → AreWithin start end count ranges → EachHasRoom entries.new ranges) }
-{
-    let len = entries.len();
-    let mut i = bounds.next_near(0, len, start, end);
-    while i < len {
-        entries[i].reserve(start, end, count)?;
-        i = bounds.next_near(i + 1, len, start, end);
-    }
-    Ok(())
-}
-
 /// Reserves capacity for `count` more durable ranges between `start` and `end`. Only writes that overlap that range need some.
 /// Blocks whose bounds don't overlap it are skipped. After an error the list is unchanged.
 pub(crate) fn reserve_ranges(
@@ -58,7 +37,13 @@ pub(crate) fn reserve_ranges(
     ensures ok { OnOk result ((ranges : Holes) → AreWithin start end count ranges → HasRoomsFor ranges entries.new) }
 {
     entries.reserve(count)?;
-    reserve_holes(entries.as_mut_slice(), bounds, start, end, count)
+    let len = entries.len();
+    let mut i = bounds.next_near(0, len, start, end);
+    while i < len {
+        entries[i].reserve(start, end, count)?;
+        i = bounds.next_near(i + 1, len, start, end);
+    }
+    Ok(())
 }
 
 /// Adds a durable range to the holes of each write that it overlaps. Returns how many writes became fully covered.

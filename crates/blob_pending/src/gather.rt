@@ -1,37 +1,13 @@
 //! The writes for which a crash draws.
-ghost use Rattle.std.specs.Prelude.{◌≡◌, ◌++◌, OnOk, IfOk, false};
+ghost use Rattle.std.specs.Prelude.{IfOk};
 ghost use Rattle.std.specs.List.Sorted.{IsNonDecreasingBy};
-ghost use Rattle.blob_model.specs.Pending.{has_marker};
-ghost use Rattle.blob_model.specs.Places.{Place};
-ghost use Rattle.blob_draws.specs.Drawings.{drawings_in};
-ghost use Rattle.blob_pending.specs.Draws.{draws_for, AreDrawsFor};
-ghost use Rattle.blob_pending.specs.Views.{left_in};
+ghost use Rattle.blob_pending.specs.Draws.{AreDrawsFor};
 
 use crate::entries::unmarked;
 use crate::entry::Entry;
 use crate::incarnation::Incarnation;
 use blob_draws::draw::Draw;
 use std::alloc::{AllocError, Global};
-
-/// Adds the writes that need a draw. No entry is a marker.
-fn gather_unmarked(draws: &mut Vec<Draw>, entries: &[Entry]) -> Result<(), AllocError>
-    requires { has_marker (left_in entries.now) ≡ false }
-    ensures { OnOk result (drawings_in draws.new.items ≡ drawings_in draws.old.items ++ draws_for entries.now) }
-{
-    for entry in entries {
-        match entry {
-            Entry::Write(write) if !write.is_covered() => draws.push(Draw {
-                number: write.number,
-                offset: write.offset,
-                len: write.bytes.len(),
-                mode: write.mode,
-                rate: write.rate,
-            })?,
-            _ => (),
-        }
-    }
-    Ok(())
-}
 
 /// Returns the writes of all lists that need a draw, sorted by number.
 pub fn gather<O>(alloc: Global, lists: &[Incarnation<O>]) -> Result<Vec<Draw>, AllocError>
@@ -40,7 +16,18 @@ pub fn gather<O>(alloc: Global, lists: &[Incarnation<O>]) -> Result<Vec<Draw>, A
 {
     let mut draws = Vec::new(alloc);
     for list in lists {
-        gather_unmarked(&mut draws, unmarked(&list.entries))?;
+        for entry in unmarked(&list.entries) {
+            match entry {
+                Entry::Write(write) if !write.is_covered() => draws.push(Draw {
+                    number: write.number,
+                    offset: write.offset,
+                    len: write.bytes.len(),
+                    mode: write.mode,
+                    rate: write.rate,
+                })?,
+                _ => (),
+            }
+        }
     }
     draws.sort_unstable_by_key(|draw| draw.number);
     Ok(draws)

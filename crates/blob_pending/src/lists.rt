@@ -1,5 +1,5 @@
 //! The pending lists of all incarnations.
-ghost use Rattle.std.specs.Prelude.{◌≡◌, ◌<◌, ◌≤◌, ◌+◌, ◌^◌, ℕ, List, [], ◌∷◌, ◌++◌, length, filter, map, false, OnOk, IfOk, IfSome, IfNone, cond, vec_len, true, OnErr};
+ghost use Rattle.std.specs.Prelude.{◌≡◌, ◌<◌, ◌≤◌, ◌+◌, ◌^◌, ℕ, List, [], ◌∷◌, ◌++◌, length, filter, map, false, IfOk, IfSome, IfNone, cond, vec_len, true, OnErr};
 ghost use Rattle.blob_model.specs.Places.{Place, same_place};
 ghost use Rattle.blob_model.specs.Directory.{Directory};
 ghost use Rattle.blob_model.specs.Holes.{Holes};
@@ -8,7 +8,7 @@ ghost use Rattle.blob_model.specs.Pending.{Marker, is_marker};
 ghost use Rattle.blob_header.specs.Refusals.{IsMemory};
 ghost use Rattle.blob_pending.specs.Rooms.{CanCut, KeepsRest};
 ghost use Rattle.blob_pending.specs.Views.{view, left_in};
-ghost use Rattle.blob_pending.specs.Lists.{lists_of, IsAt, HasListAt, HasRoomIn, IsRoomAt, HasRangesAt, SameLists, ChangesAt, IsCopyAt, LaysAt, AreDistinct, finished_in, AreNoted, StaysAt, RetiresEnded, RetiresList, FinishesLists, is_kept};
+ghost use Rattle.blob_pending.specs.Lists.{lists_of, IsAt, HasRoomIn, IsRoomAt, HasRangesAt, SameLists, ChangesAt, IsCopyAt, LaysAt, AreDistinct, finished_in, AreNoted, StaysAt, RetiresEnded, RetiresList, FinishesLists, is_kept};
 
 use crate::entry::Entry;
 use crate::incarnation::Incarnation;
@@ -83,19 +83,6 @@ impl<S: Durable> Lists<S> {
         }
     }
 
-    /// Searches all lists for that of an incarnation and returns its index.
-    fn search(&self, origin: &S::Origin) -> Option<usize>
-        ensures some { IfSome result (λ i. IsAt (lists_of S.place self.now.all.lists.items) i (S.place origin.now)) }
-        ensures none { IfNone result (has_list (lists_of S.place self.now.all.lists.items) (S.place origin.now) ≡ false) }
-    {
-        for (i, list) in self.all.lists.iter().enumerate() {
-            if list.origin == *origin {
-                return Some(i);
-            }
-        }
-        None
-    }
-
     /// Returns the index of an incarnation's list. Tries `hint` first.
     fn find(&self, origin: &S::Origin, hint: usize) -> Option<usize>
         ensures some { IfSome result (λ i. IsAt (lists_of S.place self.now.all.lists.items) i (S.place origin.now)) }
@@ -104,33 +91,24 @@ impl<S: Durable> Lists<S> {
         if hint < self.all.lists.len() && self.all.lists[hint].origin == *origin {
             return Some(hint);
         }
-        self.search(origin)
+        for (i, list) in self.all.lists.iter().enumerate() {
+            if list.origin == *origin {
+                return Some(i);
+            }
+        }
+        None
     }
 
-    /// Adds a list for an incarnation that has none. After an error the lists are unchanged.
-    fn add(&mut self, origin: S::Origin) -> Result<(), AllocError>
+    /// Adds a list for an incarnation that has none and returns its index. After an error the lists are unchanged.
+    fn add(&mut self, origin: S::Origin) -> Result<usize, AllocError>
         requires { has_list (lists_of S.place self.old.all.lists.items) (S.place origin) ≡ false }
         ensures same { SameLists S.place self.old.all.lists.items self.new.all.lists.items }
-        ensures ok { OnOk result (HasListAt S.place self.new.all.lists.items (vec_len self.old.all.lists) (S.place origin)) }
-        ensures len { OnOk result (vec_len self.new.all.lists ≡ vec_len self.old.all.lists + 1) }
+        ensures at { IfOk result (λ i. IsAt (lists_of S.place self.new.all.lists.items) i (S.place origin)) }
+        ensures inside { IfOk result (λ i. i < vec_len self.new.all.lists) }
     {
         let alloc = *self.all.lists.allocator();
-        self.all.lists.push(Incarnation::new(alloc, origin))?;
-        Ok(())
-    }
-
-    /// Returns the index of the list of a handle's incarnation. Adds the list if there is none. After an error nothing has changed.
-    fn place_for<B: Blob<S>>(&mut self, blob: &B, hint: usize) -> Result<usize, Error>
-        ensures same { SameLists S.place self.old.all.lists.items self.new.all.lists.items }
-        ensures at { IfOk result (λ i. IsAt (lists_of S.place self.new.all.lists.items) i (B.place blob.now)) }
-        ensures inside { IfOk result (λ i. i < vec_len self.new.all.lists) }
-        ensures memory { OnErr result (IsMemory result) }
-    {
-        if let Some(i) = self.find(blob.origin_ref(), hint) {
-            return Ok(i);
-        }
         let i = self.all.lists.len();
-        self.add(blob.origin()?)?;
+        self.all.lists.push(Incarnation::new(alloc, origin))?;
         Ok(i)
     }
 
@@ -146,7 +124,10 @@ impl<S: Durable> Lists<S> {
         ensures ok { IfOk result (λ i. IsRoomAt S.place self.new.all.lists.items i (B.place blob.now) room) }
         ensures memory { OnErr result (IsMemory result) }
     {
-        let i = self.place_for(blob, hint)?;
+        let i = match self.find(blob.origin_ref(), hint) {
+            Some(i) => i,
+            None => self.add(blob.origin()?)?,
+        };
         self.all.lists[i].reserve(room)?;
         Ok(i)
     }

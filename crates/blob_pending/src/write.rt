@@ -26,7 +26,7 @@ pub struct PendingWrite {
 }
 
 impl PendingWrite {
-    ghost use Rattle.std.specs.Prelude.{◌≡◌, ◌-◌, ◌∷◌, [], min, max, not, OnOk};
+    ghost use Rattle.std.specs.Prelude.{◌≡◌, ◌∷◌, [], not, OnOk};
     ghost use Rattle.blob_model.specs.Log.{has_bare};
     ghost use Rattle.blob_model.specs.Holes.{Holes, dug_by, need_in};
     ghost use Rattle.blob_pending.specs.Rooms.{AreWithin, HasHolesFor, CanCut, KeepsRest};
@@ -53,13 +53,6 @@ impl PendingWrite {
         }
     }
 
-    /// Returns how many of its bytes are in the range from `start` up to `end`.
-    fn overlap(&self, start: u64, end: u64) -> u64
-        ensures { result ≡ min end (self.now.offset + length self.now.bytes.items) - max start self.now.offset }
-    {
-        end.min(self.end()).saturating_sub(start.max(self.offset))
-    }
-
     /// Reserves capacity for the holes of `count` ranges between `start` and `end`, at most one for each byte of the write there.
     /// After an error the write is unchanged.
     pub fn reserve(&mut self, start: u64, end: u64, count: usize) -> Result<(), AllocError>
@@ -67,8 +60,8 @@ impl PendingWrite {
         ensures holes { ranges self.new.holes.items ≡ ranges self.old.holes.items }
         ensures ok { OnOk result ((ranges : Holes) → AreWithin start end count ranges → HasHolesFor ranges self.new) }
     {
-        let most = self.overlap(start, end).min(count as u64);
-        self.holes.reserve(most as usize)
+        let there = end.min(self.end()).saturating_sub(start.max(self.offset));
+        self.holes.reserve(there.min(count as u64) as usize)
     }
 
     /// Returns whether the holes cover every byte.

@@ -1,28 +1,29 @@
-use Rattle.std.proofs.Common.{◌≡◌, ◌∙◌, ap, rules, length, max, arith}
-use Rattle.blob_model.specs.Bytes.{overlay_by}
+use Rattle.std.proofs.Common.{rules, ◌≡◌, ◌≤◌, ◌∙◌, ap, ℕ, length, vec_len, vec_capacity, max, arith}
+use Rattle.blob_model.specs.Bytes.{overlay_by, resize}
 use Rattle.blob_model.specs.Runs.{is_chosen}
-use Rattle.blob_model.proofs.Bytes.{length-resized}
-use Rattle.blob_overlay.proofs.Overlays.{lay_padded, written_back}
+use Rattle.blob_overlay.proofs.Overlays.{resized_to, grown_none, lay_padded, written_back}
 use Rattle.blob_overlay.proofs.overlay.lay_chosen.Goals as goal
-
-pub copy_chosen-requires-clause-inside : goal.copy_chosen-requires-clause-inside
-copy_chosen-requires-clause-inside c =
-    omega (
-      arith,
-      c.requires.end,
-      ap length c.as_mut_slice.ensures.value,
-      ap length c.grow.ensures.items,
-      length-resized c.args.bytes.now.items (max (length c.args.bytes.now.items) c.args.end),
-    )
+use Rattle.blob_overlay.proofs.overlay.lay_chosen.Goals.{then-len-end, else-len-end}
 
 pub returns : goal.returns
 returns c =
+    let old = c.args.bytes.now in
     let keep = c.args.keep.now in
-    let grown = c.grow.new.bytes.items in
+    let far : ℕ = max (length old.items) c.args.end in
+    let grown = c.if-len-end.bytes.items in
+    let same : vec_len old ≡ length old.items = omega arith in
+    let is : grown ≡ resize old.items far = elim c.if-len-end.branch [
+      | then-len-end w ↦ ap (λ v. v.items) w.bytes-is ∙ resized_to old.items w.resize.new.self.items c.args.end (vec_len old) same (search rules) ∙ ap (resize old.items) (omega arith)
+      | else-len-end w ↦ ap (λ v. v.items) w.bytes-is ∙ grown_none _ _ (omega arith)
+    ] in
+    let kept : vec_capacity old ≤ vec_capacity c.if-len-end.bytes = elim c.if-len-end.branch [
+      | then-len-end w ↦ rw w.bytes-is (search rules)
+      | else-len-end w ↦ rw w.bytes-is (omega arith)
+    ] in
     let copied : c.copy_chosen.new.bytes ≡ overlay_by grown c.args.offset c.args.run.now (is_chosen keep) =
     c.copy_chosen.ensures ∙ ap (λ x. overlay_by x c.args.offset c.args.run.now (is_chosen keep)) c.as_mut_slice.ensures.value in
     let len : length c.copy_chosen.new.bytes ≡ length grown = omega (arith, c.copy_chosen.auto.bytes, ap length c.as_mut_slice.ensures.value) in record {
       items = written_back grown c.copy_chosen.new.bytes _ (omega arith) len
-          ∙ lay_padded c.args.bytes.now.items grown c.copy_chosen.new.bytes c.args.offset c.args.run.now (is_chosen keep) c.args.end c.requires.end c.grow.ensures.items copied;
-      capacity = search rules;
+          ∙ lay_padded old.items grown c.copy_chosen.new.bytes c.args.offset c.args.run.now (is_chosen keep) c.args.end c.requires.end is copied;
+      capacity = kept;
     }

@@ -1,5 +1,6 @@
-use Rattle.std.proofs.Common.{rules, ◌≡◌, ◌∙◌, ◌++◌, ◌+◌, sym, ap, subst, drop, arith, List, append_assoc, append-nil}
+use Rattle.std.proofs.Common.{rules, ◌≡◌, ◌∙◌, ◌++◌, ◌+◌, refl, sym, ap, subst, drop, arith, List, append_assoc, append-nil}
 use Rattle.std.specs.List.Sorted.{IsPermutation}
+use Rattle.std.proofs.lemmas.Grind.{common_steps}
 use Rattle.std.proofs.lemmas.List.{at_drop_all}
 use Rattle.std.proofs.lemmas.List.Sorted.{IsPermutation-map, IsNonDecreasingBy-from_sort_by_key}
 use Rattle.blob_model.specs.Log.{Need}
@@ -14,20 +15,34 @@ use Rattle.blob_pending.specs.Views.{left_in}
 use Rattle.blob_pending.proofs.Gathering.{lists_more}
 use Rattle.blob_pending.proofs.Unmarked.{unmarked_waits, unmarked_none}
 use Rattle.blob_pending.proofs.gather.gather.Goals as goal
+use Rattle.blob_pending.proofs.gather.gather.Goals.{in-Write+in_ok-push-in-Write, in-Write+else-not-is_covered, in-Resize-1}
 
-pub gather_unmarked-requires : goal.gather_unmarked-requires
-gather_unmarked-requires g c = ap has_marker c.unmarked.ensures ∙ unmarked_none (left_in c.deref.result.now)
+pub loop-entry-init : goal.loop-entry-init
+loop-entry-init g c = record { none = ap has_marker c.unmarked-entry-items.ensures ∙ unmarked_none (left_in c.deref.result.now); so_far = refl }
+
+pub loop-entry-preserved : goal.loop-entry-preserved
+loop-entry-preserved g c = record {
+  none = first_of (search rules, grind (arith, common_steps));
+  so_far = elim c.match-entry.branch [
+    | in-Write+in_ok-push-in-Write w ↦ rw w.draws-is (first_of (search rules, grind (arith, common_steps)))
+    | in-Write+else-not-is_covered w ↦ rw w.draws-is (first_of (search rules, grind (arith, common_steps)))
+    | in-Resize-1 w ↦ rw w.draws-is (first_of (search rules, grind (arith, common_steps)))
+  ];
+}
 
 pub loop-list-preserved : goal.loop-list-preserved
 loop-list-preserved g c place =
     let x = c.list-item.result in
     let i = c.loop-list.list-index in
-    let done : List Drawing = drawings_in c.loop-list.draws.items in
+    let q = c.unmarked-entry-items.result.now in
+    let before : List Drawing = drawings_in c.loop-list.draws.items in
     let later : List Drawing = drawings_of (waiting_of_all (lists_of place (drop (i + 1) c.args.lists.now))) in
-    let here : waiting (left_in c.unmarked.result.now) ≡ waiting (left_in x.entries.items) = ap waiting c.unmarked.ensures ∙ unmarked_waits (left_in c.deref.result.now) ∙ ap (λ (q : List Entry). waiting (left_in q)) c.deref.ensures.value in
-    ap (λ (l : List Drawing). l ++ later) (c.in_ok-gather_unmarked.ensures ∙ ap (λ (ns : List Need). done ++ drawings_of ns) here)
-    ∙ append_assoc done (drawings_of (waiting (left_in x.entries.items))) later
-    ∙ sym (ap (λ (l : List Drawing). done ++ l) (lists_more place c.args.lists.now i x (omega arith) c.list-item.is))
+    let here : waiting (left_in q) ≡ waiting (left_in x.entries.items) = ap waiting c.unmarked-entry-items.ensures ∙ unmarked_waits (left_in c.deref.result.now) ∙ ap (λ (q : List Entry). waiting (left_in q)) c.deref.ensures.value in
+    let all : drawings_in c.loop-entry.draws.items ≡ before ++ drawings_of (waiting (left_in q)) =
+    sym (append-nil _) ∙ sym (ap (λ (l : List Drawing). drawings_in c.loop-entry.draws.items ++ l) (at_drop_all (λ (l : List Entry). drawings_of (waiting (left_in l))) q c.loop-entry.entry-index (omega arith))) ∙ c.loop-entry.invariant.so_far in
+    ap (λ (l : List Drawing). l ++ later) (all ∙ ap (λ (ns : List Need). before ++ drawings_of ns) here)
+    ∙ append_assoc before (drawings_of (waiting (left_in x.entries.items))) later
+    ∙ sym (ap (λ (l : List Drawing). before ++ l) (lists_more place c.args.lists.now i x (omega arith) c.list-item.is))
     ∙ c.loop-list.invariant place
 
 pub returns-clause-all : goal.returns-clause-all

@@ -22,12 +22,12 @@ returns-in_err-fate-clause-leaves g c =
 drawn : (g : Over) (c : goal.After-write_by_fate g) → write_fate_of c.in_ok-fate.fate ≡ (drawn_fate c.args.store.now.config c.args.sync c.args.offset (length (g.P.Payload.bytes c.args.buf)) (g.R.Rng.stream c.args.store.now.rng)).0
 drawn g c =
     ap (λ (d : WriteFate × Stream). d.0) c.in_ok-fate.ensures.ok
-    ∙ ap (λ (n : ℕ). (drawn_fate c.args.store.now.config c.args.sync c.args.offset n (g.R.Rng.stream c.args.store.now.rng)).0) c.len-len.ensures
+    ∙ ap (λ (n : ℕ). (drawn_fate c.args.store.now.config c.args.sync c.args.offset n (g.R.Rng.stream c.args.store.now.rng)).0) c.requires
 
 left : (g : Over) (c : goal.After-write_by_fate g) → g.R.Rng.stream c.draw_write.new.rng ≡ (drawn_fate c.args.store.now.config c.args.sync c.args.offset (length (g.P.Payload.bytes c.args.buf)) (g.R.Rng.stream c.args.store.now.rng)).1
 left g c =
     ap (λ (d : WriteFate × Stream). d.1) c.in_ok-fate.ensures.ok
-    ∙ ap (λ (n : ℕ). (drawn_fate c.args.store.now.config c.args.sync c.args.offset n (g.R.Rng.stream c.args.store.now.rng)).1) c.len-len.ensures
+    ∙ ap (λ (n : ℕ). (drawn_fate c.args.store.now.config c.args.sync c.args.offset n (g.R.Rng.stream c.args.store.now.rng)).1) c.requires
 
 pub returns-clause-leaves : goal.returns-clause-leaves
 returns-clause-leaves g c =
@@ -44,8 +44,8 @@ returns-then-len-eq0-clause-leaves g c =
     let none : (g.P.Payload.bytes c.args.buf) ≡ [] = first_of (search rules, grind (arith, common_steps)) in
     write_idle g.S.Durable g.B.Blob g.R.Rng.stream c.args.self.now c.args.store.now c.args.sync c.args.offset (g.P.Payload.bytes c.args.buf) sync none
 
-pub returns-then-is_none-clause-leaves : goal.returns-then-is_none-clause-leaves
-returns-then-is_none-clause-leaves g c =
+pub returns-in_default-clause-leaves : goal.returns-in_default-clause-leaves
+returns-in_default-clause-leaves g c =
     let some : c.args.sync ≡ true → (g.P.Payload.bytes c.args.buf) ≢ [] = first_of (search rules, grind (arith, common_steps)) in
     let over : has_uncounted_end c.args.offset (g.P.Payload.bytes c.args.buf) ≡ true = first_of (search rules, grind (arith, common_steps)) in
     write_uncounted g.S.Durable g.B.Blob g.R.Rng.stream c.args.self.now c.args.store.now c.args.sync c.args.offset (g.P.Payload.bytes c.args.buf) some over

@@ -85,7 +85,7 @@ returns-in_err-write_unrecorded-clause-allowed g c =
 -- The entry is of the bytes that were copied.
 
 pub invariant_of-write-clause-fits : goal.invariant_of-write-clause-fits
-invariant_of-write-clause-fits g c = subst (λ (b : List ℕ). c.args.offset + length b < 2 ^ 64) (sym c.in_ok-copy.ensures.ok) c.requires.fits
+invariant_of-write-clause-fits g c = subst (λ (b : List ℕ). c.args.offset + length b < 2 ^ 64) (sym c.in_ok-copy.ensures.ok) (omega arith)
 
 pub invariant_of-write-clause-some : goal.invariant_of-write-clause-some
 invariant_of-write-clause-some g c = subst (λ (b : List ℕ). 0 < length b) (sym c.in_ok-copy.ensures.ok) c.requires.some

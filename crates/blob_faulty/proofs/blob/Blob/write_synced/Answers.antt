@@ -1,4 +1,4 @@
-use Rattle.std.proofs.Common.{rules, ℕ, List, ◌≢◌, ◌∙◌, true, ◌+◌, ◌∷◌, [], length, sym, subst, arith}
+use Rattle.std.proofs.Common.{rules, ℕ, List, ◌≡◌, ◌≢◌, ◌∙◌, ap, true, ◌+◌, ◌∷◌, [], length, sym, subst, arith}
 use Rattle.std.proofs.lemmas.Grind.{common_steps}
 use Rattle.blob_header.specs.Refusals.{error_of}
 use Rattle.blob_pending.specs.Rooms.{AreWithin}
@@ -11,11 +11,12 @@ use Rattle.blob_faulty.proofs.blob.Blob.write_synced.Goals as goal
 pub lay_range-requires-clause-room : goal.lay_range-requires-clause-room
 lay_range-requires-clause-room g c =
     let range = (c.args.offset, c.args.offset + length c.in_ok-owned.owned) ∷ [] in
+    let end : c.args.end ≡ c.args.offset + length c.in_ok-owned.owned = c.requires.end ∙ ap (λ (b : List ℕ). c.args.offset + length b) (sym c.in_ok-owned.ensures.ok) in
     let some : c.in_ok-owned.owned ≢ [] = λ none. c.requires.some (sym c.in_ok-owned.ensures.ok ∙ none) in
     record {
       at = c.in_ok-list.ensures.ok.at;
       inside = c.in_ok-list.ensures.ok.here.inside;
-      ranges = λ d. c.in_ok-list.ensures.ok.here.room d range (subst (λ (n : ℕ). AreWithin c.args.offset (c.args.offset + n) 1 range) (sym c.remaining-len.ensures)
+      ranges = λ d. c.in_ok-list.ensures.ok.here.room d range (subst (λ (n : ℕ). AreWithin c.args.offset n 1 range) (sym end)
           (one_within c.args.offset (c.args.offset + length c.in_ok-owned.owned) (omega (arith, some_byte c.in_ok-owned.owned some))));
     }
 

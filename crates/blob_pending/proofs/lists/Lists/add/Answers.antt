@@ -1,4 +1,4 @@
-use Rattle.std.proofs.Common.{rules, ◌≡◌, ◌∙◌, ◌++◌, ◌∷◌, [], sym, ap, subst, List, length, vec_len, ℕ}
+use Rattle.std.proofs.Common.{rules, ◌≡◌, ◌∙◌, ◌++◌, ◌∷◌, [], sym, ap, subst, List, length, ℕ}
 use Rattle.blob_model.specs.Order.{ListAt, held_at}
 use Rattle.std.specs.Prelude.{is_ok}
 use Rattle.std.proofs.lemmas.Bool.{cond_both}
@@ -15,10 +15,10 @@ more g c = added g.S.Durable.place _ _ _ c.args.origin c.in_ok-push.ensures.item
 pub returns-clause-same : goal.returns-clause-same
 returns-clause-same g c o = ap (λ (hs : List ListAt). held_at hs o) (more g c) ∙ held_at_add (lists_of g.S.Durable.place c.args.self.now.all.lists.items) (g.S.Durable.place c.args.origin) o
 
-pub returns-clause-ok : goal.returns-clause-ok
-returns-clause-ok g c =
-    let len : length (lists_of g.S.Durable.place c.args.self.now.all.lists.items) ≡ vec_len c.args.self.now.all.lists = held_len g.S.Durable.place c.args.self.now.all.lists.items ∙ search rules in
-    subst (λ (hs : List ListAt). IsAt hs (vec_len c.args.self.now.all.lists) (g.S.Durable.place c.args.origin)) (sym (more g c))
+pub returns-clause-at : goal.returns-clause-at
+returns-clause-at g c =
+    let len : length (lists_of g.S.Durable.place c.args.self.now.all.lists.items) ≡ c.len-i.result = held_len g.S.Durable.place c.args.self.now.all.lists.items ∙ search rules in
+    subst (λ (hs : List ListAt). IsAt hs c.len-i.result (g.S.Durable.place c.args.origin)) (sym (more g c))
     (subst (λ (n : ℕ). IsAt (lists_of g.S.Durable.place c.args.self.now.all.lists.items ++ (g.S.Durable.place c.args.origin, []) ∷ []) n (g.S.Durable.place c.args.origin)) len
     (at_add (lists_of g.S.Durable.place c.args.self.now.all.lists.items) (g.S.Durable.place c.args.origin, []) c.requires))
 
