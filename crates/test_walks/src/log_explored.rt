@@ -8,6 +8,7 @@ use blob_lab_store::ScriptedRng;
 use blob_log::log::Store;
 use blob_tree::Explorer;
 use std::alloc::{AllocError, Global};
+use std::process::Abort;
 use std::test::Fail;
 
 /// The records of a run, in order. Their frames have 16, 16 and 9 bytes.
@@ -251,32 +252,37 @@ fn prefixes(records: usize) -> Case {
     Case::new(PartialWriteMode::Prefix, records)
 }
 
-/// Cases that lose nothing, with the number of their leaves, which is counted by hand. In prefix mode a crash or a failed
-/// write has n + 1 outcomes for a frame of n bytes. With sectors it has 4, since each of these frames touches two
-/// sectors.
-fn sound() -> [(Case, u64); 6] {
-    let mut writes = prefixes(2);
-    writes.writes_fail = true;
-    let mut three = writes;
+// Cases that lose nothing, with the number of their leaves, which is counted by hand. In prefix mode a crash or a failed
+// write has n + 1 outcomes for a frame of n bytes. With sectors it has 4, since each of these frames touches two sectors.
+
+/// Cases in which writes fail.
+fn writes() -> [(Case, u64); 2] {
+    let mut two = prefixes(2);
+    two.writes_fail = true;
+    let mut three = two;
     three.records = 3;
-    let mut syncs = writes;
-    syncs.syncs_fail = true;
-    let mut reopens = syncs;
+    // One more outcome for each write that succeeds: 18, 18 and 11, whichever session has which record.
+    [(two, 3 * 324), (three, 4 * 324 * 11)]
+}
+
+/// Cases in which writes and syncs fail.
+fn syncs() -> [(Case, u64); 4] {
+    let mut two = prefixes(2);
+    two.writes_fail = true;
+    two.syncs_fail = true;
+    let mut reopens = two;
     reopens.reopens = true;
-    let mut in_sectors = syncs;
+    let mut in_sectors = two;
     in_sectors.mode = sectors();
     in_sectors.records = 3;
-    let mut recoveries = syncs;
+    let mut recoveries = two;
     recoveries.recoveries_fail = true;
     recoveries.records = 1;
     [
-        // One more outcome for each write that succeeds: 18, 18 and 11, whichever session has which record.
-        (writes, 3 * 324),
-        (three, 4 * 324 * 11),
         // A record has 1 + 17 + 17 outcomes: Ok, a failed write, and a failed sync, after which the crash keeps a part.
         // If one session has both records and the first one's sync fails, the second is written over it, and a crash
         // makes no draw for it if it is covered: 35 + 17 * 35 + (1 + (16 * 17 + 1) + 17 * 17).
-        (syncs, 1193 + 35 * 35 + 1193),
+        (two, 1193 + 35 * 35 + 1193),
         // A reopen discards what is pending, so that in the first session a failed sync has one outcome.
         (reopens, 1193 + 19 * 35 + 19 * 19),
         // A record has 1 + 4 + 4 outcomes. Two records of one session have 75, or 81 if the second is shorter. All
@@ -287,17 +293,26 @@ fn sound() -> [(Case, u64); 6] {
     ]
 }
 
-#[test]
-fn faults_lose_nothing(rt: HostRuntime) -> Result<(), Fail> {
-    for (case, leaves) in sound() {
-        let found = explore(rt.alloc(), case)?;
+fn lose_nothing(rt: &impl Abort, alloc: Global, cases: &[(Case, u64)]) -> Result<(), Error> {
+    for (case, leaves) in cases {
+        let found = explore(alloc, *case)?;
         let (visited, broken) = (found.leaves, found.broken);
         assert!(rt;
-            visited == leaves && broken == 0,
+            visited == *leaves && broken == 0,
             "{broken} of {visited}, not 0 of {leaves}"
         );
     }
     Ok(())
+}
+
+#[test]
+fn failing_writes_lose_nothing(rt: HostRuntime) -> Result<(), Fail> {
+    Ok(lose_nothing(&rt, rt.alloc(), &writes())?)
+}
+
+#[test]
+fn failing_syncs_lose_nothing(rt: HostRuntime) -> Result<(), Fail> {
+    Ok(lose_nothing(&rt, rt.alloc(), &syncs())?)
 }
 
 /// A case with a mistake, in which writes fail, syncs fail, or the first session ends in a reopen.
