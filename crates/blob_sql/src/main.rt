@@ -32,31 +32,30 @@ struct Seeds {
     is_lying: bool,
 }
 
-fn number(word: Option<String>) -> Option<u64> {
-    word.and_then(|word| word.parse::<u64>().ok())
+fn number(word: &String) -> Option<u64> {
+    word.parse::<u64>().ok()
 }
 
 /// Parses the arguments.
-fn asked(mut args: env::Args) -> Option<Seeds> {
-    let _program = args.next();
-    let mut word = args.next();
-    let is_lying = match &word {
-        Some(text) => text.as_str() == "--lie",
-        None => false,
+fn asked(words: &[String]) -> Option<Seeds> {
+    let (is_lying, numbers) = match words {
+        [word, numbers @ ..] if word.as_str() == "--lie" => (true, numbers),
+        numbers => (false, numbers),
     };
-    if is_lying {
-        word = args.next();
-    }
-    let first = number(word)?;
-    let last = number(args.next())?;
-    if args.next().is_some() {
+    let [first, last] = numbers else {
         return None;
-    }
+    };
     Some(Seeds {
-        first,
-        last,
+        first: number(first)?,
+        last: number(last)?,
         is_lying,
     })
+}
+
+fn words(rt: &HostRuntime) -> Result<Vec<String>> {
+    let mut args = env::args(rt)?;
+    let _program = args.next();
+    Ok(args.collect(rt.alloc())?)
 }
 
 /// Prints a line of the table.
@@ -98,8 +97,8 @@ fn run_all<R: Print>(rt: &R, alloc: Global, seeds: Seeds) -> Result<bool> {
 }
 
 fn main(rt: HostRuntime) -> ExitCode {
-    let seeds = match env::args(&rt) {
-        Ok(args) => asked(args),
+    let seeds = match words(&rt) {
+        Ok(words) => asked(&words),
         Err(_) => None,
     };
     let Some(seeds) = seeds else {

@@ -2,10 +2,9 @@
 use crate::counts::{Counts, add};
 use crate::mode::below;
 use crate::state::{Entry, State};
-use anyhow::Result;
 use rand_xoshiro::Xoshiro256PlusPlus;
 use sqlite::{Alter, Connection};
-use std::alloc::Global;
+use std::alloc::{AllocError, Global};
 
 /// The statements of a transaction, and the rows after it.
 #[derive(Drop)]
@@ -15,7 +14,7 @@ struct Transaction {
 }
 
 impl Transaction {
-    fn insert(&mut self, alloc: Global, row: Entry) -> Result<()> {
+    fn insert(&mut self, alloc: Global, row: Entry) -> Result<(), AllocError> {
         let (id, value) = (row.id, row.value);
         let text = format!(in alloc; "INSERT INTO t VALUES ({id}, {value}, '")?;
         self.sql.push_str(&text)?;
@@ -27,7 +26,7 @@ impl Transaction {
         Ok(())
     }
 
-    fn update(&mut self, alloc: Global, at: usize, value: i64) -> Result<()> {
+    fn update(&mut self, alloc: Global, at: usize, value: i64) -> Result<(), AllocError> {
         let Some(row) = self.rows.get_mut(at) else {
             return Ok(());
         };
@@ -38,7 +37,7 @@ impl Transaction {
         Ok(())
     }
 
-    fn delete(&mut self, alloc: Global, at: usize) -> Result<()> {
+    fn delete(&mut self, alloc: Global, at: usize) -> Result<(), AllocError> {
         if at >= self.rows.len() {
             return Ok(());
         }
@@ -48,7 +47,12 @@ impl Transaction {
         Ok(())
     }
 
-    fn step(&mut self, alloc: Global, rng: &mut Xoshiro256PlusPlus, id: i64) -> Result<()> {
+    fn step(
+        &mut self,
+        alloc: Global,
+        rng: &mut Xoshiro256PlusPlus,
+        id: i64,
+    ) -> Result<(), AllocError> {
         let value = below(rng, 1_000_000) as i64;
         let kind = below(rng, 5);
         let len = self.rows.len() as u64;
@@ -70,7 +74,7 @@ fn drawn(
     rng: &mut Xoshiro256PlusPlus,
     rows: &[Entry],
     next_id: &mut i64,
-) -> Result<Transaction> {
+) -> Result<Transaction, AllocError> {
     let mut transaction = Transaction {
         sql: String::from_str(alloc, "BEGIN;")?,
         rows: Vec::from_slice(alloc, rows)?,
@@ -111,7 +115,7 @@ pub fn fill<S: Alter>(
     rng: &mut Xoshiro256PlusPlus,
     state: &mut State,
     counts: &mut Counts,
-) -> Result<()> {
+) -> Result<(), AllocError> {
     if state.rows.is_none() && !commits(conn, TABLE, Vec::new(alloc), state, counts) {
         return Ok(());
     }

@@ -10,12 +10,42 @@ use anyhow::Result;
 use blob_faulty::Config;
 use rand_core::{Rng, SeedableRng};
 use rand_xoshiro::Xoshiro256PlusPlus;
-use sqlite::{Connection, FileStore, Files, Options};
+use sqlite::{Alter, Connection, FileStore, Files, Options};
 use sqlite_disk::Disk;
-use std::alloc::Global;
+use std::alloc::{AllocError, Global};
 
 /// The number of crashes before the last open, which has no faults.
 const ROUNDS: u64 = 3;
+
+/// What is done with the open database.
+#[derive(Clone, Copy)]
+enum Visit {
+    /// Transactions.
+    Fill,
+    /// The rows are compared, if they can be read, and then transactions run.
+    GoOn,
+    /// The rows are compared. They can be read, since nothing fails any more.
+    End,
+}
+
+/// What an open showed.
+#[derive(Clone, Copy)]
+enum Seen {
+    /// The committed rows, or rows that a fault hid.
+    Right,
+    Wrong,
+    /// The database can't be opened, or not be read at the end.
+    Nothing,
+}
+
+/// A seed as it goes on.
+#[derive(Drop)]
+struct Trial {
+    alloc: Global,
+    rng: Xoshiro256PlusPlus,
+    state: State,
+    counts: Counts,
+}
 
 /// Small limits, so that transactions spill and the log is copied into the file.
 fn options(rng: &mut Xoshiro256PlusPlus) -> Options {
@@ -43,146 +73,154 @@ fn open<D: Disk + Drop>(
     }
 }
 
-fn close<D: Disk + Drop>(conn: Connection<FileStore<D>>) -> Files<D> {
-    conn.into_store().close()
-}
+impl Trial {
+    /// Crashes both files.
+    fn crash<D: Crashing>(&mut self, files: &mut Files<D>, log: Config, db: Config)
+        requires log { IsNever (partial_resizes log.resize_rate) }
+        requires db { IsNever (partial_resizes db.resize_rate) }
+    {
+        add(&mut self.counts.crashes);
+        files.log.crash_to(log);
+        files.db.crash_to(db);
+    }
 
-/// Crashes both files.
-fn crash<D: Crashing>(files: &mut Files<D>, log: Config, db: Config)
-    requires log { IsNever (partial_resizes log.resize_rate) }
-    requires db { IsNever (partial_resizes db.resize_rate) }
-{
-    files.log.crash_to(log);
-    files.db.crash_to(db);
-}
+    fn fill<S: Alter>(&mut self, conn: &mut Connection<S>) -> Result<Seen, AllocError> {
+        fill(
+            self.alloc,
+            conn,
+            &mut self.rng,
+            &mut self.state,
+            &mut self.counts,
+        )?;
+        Ok(Seen::Right)
+    }
 
-/// Opens the database. If that fails, crashes the files and opens it again without faults.
-fn open_again<D: Crashing + Drop>(
-    alloc: Global,
-    files: Files<D>,
-    rng: &mut Xoshiro256PlusPlus,
-    counts: &mut Counts,
-) -> Result<Connection<FileStore<D>>, Files<D>> {
-    match open(alloc, files, rng) {
-        Ok(conn) => Ok(conn),
-        Err(mut left) => {
-            add(&mut counts.refused);
-            add(&mut counts.crashes);
-            crash(&mut left, Config::default(), Config::default());
-            open(alloc, left, rng)
+    fn look<S: Alter>(
+        &mut self,
+        conn: &mut Connection<S>,
+        visit: Visit,
+    ) -> Result<Seen, AllocError> {
+        if let Visit::Fill = visit {
+            return self.fill(conn);
         }
-    }
-}
-
-/// Returns whether the rows are the committed ones, and then runs some transactions. If a read fails, the rows are
-/// unknown, and the result is true.
-fn go_on<D: Disk + Drop>(
-    alloc: Global,
-    conn: &mut Connection<FileStore<D>>,
-    rng: &mut Xoshiro256PlusPlus,
-    state: &mut State,
-    counts: &mut Counts,
-) -> Result<bool> {
-    let Ok(found) = read(alloc, conn) else {
-        return Ok(true);
-    };
-    if !state.takes(found, counts) {
-        return Ok(false);
-    }
-    fill(alloc, conn, rng, state, counts)?;
-    Ok(true)
-}
-
-fn wrong(alloc: Global, state: &State) -> Result<Option<String>> {
-    let rows = match &state.rows {
-        Some(rows) => rows.len(),
-        None => 0,
-    };
-    Ok(Some(format!(in alloc; "other rows than were committed, now {rows}")?))
-}
-
-fn unopened(alloc: Global) -> Result<Option<String>> {
-    Ok(Some(String::from_str(alloc, "the database can't be opened")?))
-}
-
-/// Runs a seed with crashes. Returns what was wrong, if anything.
-fn rounds<D: Crashing + Drop>(
-    alloc: Global,
-    mut files: Files<D>,
-    faults: Faults,
-    rng: &mut Xoshiro256PlusPlus,
-    counts: &mut Counts,
-) -> Result<Option<String>> {
-    let mut state = State::new();
-    for _ in 0..ROUNDS {
-        let (log, db) = (faults.config(rng), faults.config(rng));
-        add(&mut counts.crashes);
-        crash(&mut files, log, db);
-        let Ok(mut conn) = open_again(alloc, files, rng, counts) else {
-            return unopened(alloc);
+        let Ok(found) = read(self.alloc, conn) else {
+            return Ok(match visit {
+                Visit::End => Seen::Nothing,
+                _ => Seen::Right,
+            });
         };
-        if !go_on(alloc, &mut conn, rng, &mut state, counts)? {
-            return wrong(alloc, &state);
+        if !self.state.takes(found, &mut self.counts) {
+            return Ok(Seen::Wrong);
         }
-        files = close(conn);
-    }
-    add(&mut counts.crashes);
-    crash(&mut files, Config::default(), Config::default());
-    ends(alloc, files, rng, &mut state, counts)
-}
-
-/// Compares the rows once more, without faults.
-fn ends<D: Disk + Drop>(
-    alloc: Global,
-    files: Files<D>,
-    rng: &mut Xoshiro256PlusPlus,
-    state: &mut State,
-    counts: &mut Counts,
-) -> Result<Option<String>> {
-    let Ok(mut conn) = open(alloc, files, rng) else {
-        return unopened(alloc);
-    };
-    let Ok(found) = read(alloc, &mut conn) else {
-        return unopened(alloc);
-    };
-    if !state.takes(found, counts) {
-        return wrong(alloc, state);
-    }
-    Ok(None)
-}
-
-/// Returns the files after a first open and its transactions.
-fn filled<D: Disk + Drop>(
-    alloc: Global,
-    files: Files<D>,
-    rng: &mut Xoshiro256PlusPlus,
-    state: &mut State,
-    counts: &mut Counts,
-) -> Result<Files<D>> {
-    match open(alloc, files, rng) {
-        Ok(mut conn) => {
-            fill(alloc, &mut conn, rng, state, counts)?;
-            Ok(close(conn))
-        }
-        Err(left) => {
-            add(&mut counts.refused);
-            Ok(left)
+        match visit {
+            Visit::End => Ok(Seen::Right),
+            _ => self.fill(conn),
         }
     }
-}
 
-/// Runs a seed of files that fail from some call on, over one crash. Returns what was wrong, if anything.
-fn fused<D: Crashing + Drop>(
-    alloc: Global,
-    files: Files<D>,
-    rng: &mut Xoshiro256PlusPlus,
-    counts: &mut Counts,
-) -> Result<Option<String>> {
-    let mut state = State::new();
-    let mut files = filled(alloc, files, rng, &mut state, counts)?;
-    add(&mut counts.crashes);
-    crash(&mut files, Config::default(), Config::default());
-    ends(alloc, files, rng, &mut state, counts)
+    /// Does what the visit says, and ends the connection.
+    fn visit<S: Alter + Drop>(
+        &mut self,
+        mut conn: Connection<S>,
+        visit: Visit,
+    ) -> Result<(S, Seen), AllocError> {
+        let seen = self.look(&mut conn, visit)?;
+        Ok((conn.into_store(), seen))
+    }
+
+    /// Opens the database, does what the visit says, and closes it. No other function calls one that is generic over a
+    /// store: each such call costs the proof of its function half a minute.
+    fn session<D: Disk + Drop>(
+        &mut self,
+        files: Files<D>,
+        visit: Visit,
+    ) -> Result<(Files<D>, Seen), AllocError> {
+        match open(self.alloc, files, &mut self.rng) {
+            Ok(conn) => {
+                let (store, seen) = self.visit(conn, visit)?;
+                Ok((store.close(), seen))
+            }
+            Err(left) => Ok((left, Seen::Nothing)),
+        }
+    }
+
+    /// Opens the database, compares its rows and runs transactions. If the open fails, crashes the files and does it
+    /// again without faults.
+    fn go_on<D: Crashing + Drop>(
+        &mut self,
+        files: Files<D>,
+    ) -> Result<(Files<D>, Seen), AllocError> {
+        let (mut files, seen) = self.session(files, Visit::GoOn)?;
+        match seen {
+            Seen::Nothing => {
+                add(&mut self.counts.refused);
+                self.crash(&mut files, Config::default(), Config::default());
+                self.session(files, Visit::GoOn)
+            }
+            _ => Ok((files, seen)),
+        }
+    }
+
+    /// Crashes the files, and compares the rows once more, without faults.
+    fn end<D: Crashing + Drop>(&mut self, mut files: Files<D>) -> Result<Seen, AllocError> {
+        self.crash(&mut files, Config::default(), Config::default());
+        let (_, seen) = self.session(files, Visit::End)?;
+        Ok(seen)
+    }
+
+    /// Runs a seed with crashes.
+    fn rounds<D: Crashing + Drop>(
+        &mut self,
+        mut files: Files<D>,
+        faults: Faults,
+    ) -> Result<Seen, AllocError> {
+        for _ in 0..ROUNDS {
+            let (log, db) = (faults.config(&mut self.rng), faults.config(&mut self.rng));
+            self.crash(&mut files, log, db);
+            let (left, seen) = self.go_on(files)?;
+            files = left;
+            match seen {
+                Seen::Right => {}
+                _ => return Ok(seen),
+            }
+        }
+        self.end(files)
+    }
+
+    /// Runs a seed of files that fail from some call on, over one crash.
+    fn fused<D: Crashing + Drop>(&mut self, files: Files<D>) -> Result<Seen, AllocError> {
+        let (files, seen) = self.session(files, Visit::Fill)?;
+        if let Seen::Nothing = seen {
+            add(&mut self.counts.refused);
+        }
+        self.end(files)
+    }
+
+    fn run<D: Crashing + Drop>(
+        &mut self,
+        files: Files<D>,
+        mode: &Mode,
+    ) -> Result<Seen, AllocError> {
+        if mode.is_fused {
+            return self.fused(files);
+        }
+        self.rounds(files, mode.faults)
+    }
+
+    /// Returns what was wrong, if anything.
+    fn told(&self, seen: Seen) -> Result<Option<String>, AllocError> {
+        let rows = match &self.state.rows {
+            Some(rows) => rows.len(),
+            None => 0,
+        };
+        Ok(match seen {
+            Seen::Right => None,
+            Seen::Wrong => Some(format!(in self.alloc;
+                "other rows than were committed, now {rows}"
+            )?),
+            Seen::Nothing => Some(String::from_str(self.alloc, "the database can't be opened")?),
+        })
+    }
 }
 
 /// Runs a seed. Returns what was wrong, if anything.
@@ -195,8 +233,13 @@ pub fn run(
 ) -> Result<Option<String>> {
     let mut rng = Xoshiro256PlusPlus::seed_from_u64(seed);
     let files = files(alloc, mode, is_lying, &mut rng)?;
-    if mode.is_fused {
-        return fused(alloc, files, &mut rng, counts);
-    }
-    rounds(alloc, files, mode.faults, &mut rng, counts)
+    let mut trial = Trial {
+        alloc,
+        rng,
+        state: State::new(),
+        counts: *counts,
+    };
+    let seen = trial.run(files, mode)?;
+    *counts = trial.counts;
+    Ok(trial.told(seen)?)
 }

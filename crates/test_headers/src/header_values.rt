@@ -39,7 +39,7 @@ pub(crate) fn region_of(
     version: BlobVersion,
 ) -> Result<[u8; 4096], Error> {
     let (bytes, _) = Header::create(alloc, &(Layout::V1..=Layout::V1), &(version..=version))?;
-    assert_eq!(rt; bytes.len(), 4096);
+    assert!(rt; bytes.len() == 4096);
     let mut region = [0; 4096];
     region.copy_from_slice(bytes.as_slice());
     Ok(region)

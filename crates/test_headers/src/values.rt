@@ -7,22 +7,18 @@ use std::test::Fail;
 fn options_are_sets(rt: HostRuntime) {
     let none = WriteOptions::default();
     let sync = none.union(WriteOptions::SYNC);
-    assert_eq!(rt; sync, WriteOptions::SYNC);
-    assert!(rt; sync.contains(WriteOptions::SYNC));
-    assert!(rt; !none.contains(WriteOptions::SYNC));
-    assert_eq!(rt; sync.without(WriteOptions::SYNC), none);
-    assert_eq!(rt; ReadOptions::default(), ReadOptions {});
+    assert!(rt; sync == WriteOptions::SYNC && sync.without(WriteOptions::SYNC) == none);
+    assert!(rt; sync.contains(WriteOptions::SYNC) && !none.contains(WriteOptions::SYNC));
+    assert!(rt; ReadOptions::default() == ReadOptions {});
 }
 
 #[test]
 fn handles_carry_outcome_and_marker(rt: HostRuntime) {
     let ready = Handle::ready(Err(Error::Closed));
-    assert!(rt; matches!(ready.outcome(), Err(Error::Closed)));
-    assert!(rt; ready.marker().is_none());
+    assert!(rt; matches!(ready.outcome(), Err(Error::Closed)) && ready.marker().is_none());
     assert!(rt; matches!(&ready.into_outcome(), Err(Error::Closed)));
     let marked = Handle::marked(7);
-    assert!(rt; marked.marker() == Some(7));
-    assert!(rt; marked.into_outcome().is_ok());
+    assert!(rt; marked.marker() == Some(7) && marked.into_outcome().is_ok());
 }
 
 #[test]
@@ -31,7 +27,6 @@ fn bytes_are_replaced(rt: HostRuntime) -> Result<(), Fail> {
     assert!(rt; buf.is_empty() && buf.capacity() >= 4);
     buf.set(b"abcd");
     buf.set(b"ef");
-    assert_eq!(rt; buf.len(), 2);
-    assert_eq!(rt; buf.coalesce().as_slice(), b"ef".as_slice());
+    assert!(rt; buf.len() == 2 && buf.coalesce().as_slice() == b"ef".as_slice());
     Ok(())
 }

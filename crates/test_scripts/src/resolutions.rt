@@ -25,20 +25,32 @@ fn halted(
     let mut reader = Input::new(BufReader::new(alloc, halting)?);
     let mut writer = Output::new(Vec::new(alloc));
     let found = serve_resolve(alloc, &mut reader, &mut writer);
-    assert!(rt; found == ending, "after {reads} reads");
-    assert!(rt; reader.has_failed() == (ending == Ending::InputFailed));
-    assert!(rt; writer.into_writer().is_empty() == (ending != Ending::Done));
+    let has_failed = ending == Ending::InputFailed;
+    let is_empty = ending != Ending::Done;
+    assert!(rt;
+        found == ending && reader.has_failed() == has_failed,
+        "after {reads} reads"
+    );
+    assert!(rt;
+        writer.into_writer().is_empty() == is_empty,
+        "after {reads} reads"
+    );
     Ok(())
 }
 
 #[test]
 fn a_failing_read_is_told(rt: HostRuntime) -> Result<(), Fail> {
     let alloc = rt.alloc();
-    halted(&rt, alloc, 0, ErrorKind::Other, Ending::InputFailed)?;
-    halted(&rt, alloc, 3, ErrorKind::Other, Ending::InputFailed)?;
-    halted(&rt, alloc, 5, ErrorKind::Other, Ending::InputFailed)?;
-    halted(&rt, alloc, 5, ErrorKind::OutOfMemory, Ending::NoMemory)?;
-    halted(&rt, alloc, 6, ErrorKind::Other, Ending::Done)
+    for (reads, kind, ending) in [
+        (0, ErrorKind::Other, Ending::InputFailed),
+        (3, ErrorKind::Other, Ending::InputFailed),
+        (5, ErrorKind::Other, Ending::InputFailed),
+        (5, ErrorKind::OutOfMemory, Ending::NoMemory),
+        (6, ErrorKind::Other, Ending::Done),
+    ] {
+        halted(&rt, alloc, reads, kind, ending)?;
+    }
+    Ok(())
 }
 
 /// Resolves the line over a writer that fails once its capacity is used, or at a flush.
@@ -56,17 +68,28 @@ fn filled(
         flushes,
     });
     let found = serve_resolve(alloc, &mut Input::new(LINE), &mut writer);
-    assert!(rt; found == ending, "with room for {room}");
-    assert!(rt; writer.has_failed() == (ending == Ending::OutputFailed));
-    assert!(rt; writer.into_writer().bytes.as_slice() == output);
+    let has_failed = ending == Ending::OutputFailed;
+    assert!(rt;
+        found == ending && writer.has_failed() == has_failed,
+        "with room for {room}"
+    );
+    assert!(rt;
+        writer.into_writer().bytes.as_slice() == output,
+        "with room for {room}"
+    );
 }
 
 #[test]
 fn a_failing_write_is_told(rt: HostRuntime) {
     let alloc = rt.alloc();
     let failed = Ending::OutputFailed;
-    filled(&rt, alloc, (0, true), failed, b"");
-    filled(&rt, alloc, (4, true), failed, b"vali");
-    filled(&rt, alloc, (12, false), failed, b"valid 0 7 8\n");
-    filled(&rt, alloc, (12, true), Ending::Done, b"valid 0 7 8\n");
+    let rows: [(usize, bool, Ending, &[u8]); 4] = [
+        (0, true, failed, b""),
+        (4, true, failed, b"vali"),
+        (12, false, failed, b"valid 0 7 8\n"),
+        (12, true, Ending::Done, b"valid 0 7 8\n"),
+    ];
+    for (room, flushes, ending, output) in rows {
+        filled(&rt, alloc, (room, flushes), ending, output);
+    }
 }

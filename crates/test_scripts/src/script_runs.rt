@@ -24,8 +24,11 @@ fn halted(
     let mut reader = Input::new(BufReader::new(alloc, halting)?);
     let mut writer = Output::new(Vec::new(alloc));
     let found = serve_script(alloc, &mut reader, &mut writer);
-    assert!(rt; found == ending, "after {reads} reads");
-    assert!(rt; reader.has_failed() == (ending == Ending::InputFailed));
+    let has_failed = ending == Ending::InputFailed;
+    assert!(rt;
+        found == ending && reader.has_failed() == has_failed,
+        "after {reads} reads"
+    );
     assert!(rt;
         writer.into_writer().as_slice() == output,
         "after {reads} reads"
@@ -37,20 +40,19 @@ fn halted(
 fn a_failing_read_is_told(rt: HostRuntime) -> Result<(), Fail> {
     let alloc = rt.alloc();
     let other = ErrorKind::Other;
-    let first = b"error NoHandle\n";
-    let both = b"error NoHandle\nok\n";
-    halted(&rt, alloc, (0, other), Ending::InputFailed, b"")?;
-    halted(&rt, alloc, (2, other), Ending::InputFailed, b"")?;
-    halted(&rt, alloc, (3, other), Ending::InputFailed, first)?;
-    halted(
-        &rt,
-        alloc,
-        (5, ErrorKind::OutOfMemory),
-        Ending::NoMemory,
-        first,
-    )?;
-    halted(&rt, alloc, (6, other), Ending::InputFailed, both)?;
-    halted(&rt, alloc, (7, other), Ending::Done, both)
+    let first = b"error NoHandle\n".as_slice();
+    let both = b"error NoHandle\nok\n".as_slice();
+    for (reads, kind, ending, output) in [
+        (0, other, Ending::InputFailed, b"".as_slice()),
+        (2, other, Ending::InputFailed, b"".as_slice()),
+        (3, other, Ending::InputFailed, first),
+        (5, ErrorKind::OutOfMemory, Ending::NoMemory, first),
+        (6, other, Ending::InputFailed, both),
+        (7, other, Ending::Done, both),
+    ] {
+        halted(&rt, alloc, (reads, kind), ending, output)?;
+    }
+    Ok(())
 }
 
 /// Runs a script over a writer that fails once its capacity is used, or at a flush.
@@ -69,9 +71,12 @@ fn filled(
         flushes,
     });
     let found = serve_script(alloc, &mut Input::new(input), &mut writer);
-    assert!(rt; found == ending, "with room for {room}");
-    assert!(rt; writer.has_failed() == (ending == Ending::OutputFailed));
-    assert!(rt; writer.is_flushed() == flushes);
+    let has_failed = ending == Ending::OutputFailed;
+    assert!(rt;
+        found == ending && writer.has_failed() == has_failed,
+        "with room for {room}"
+    );
+    assert!(rt; writer.is_flushed() == flushes, "with room for {room}");
     let written = writer.into_writer();
     assert!(rt; written.bytes.as_slice() == output, "with room for {room}");
 }
@@ -80,14 +85,21 @@ fn filled(
 #[test]
 fn a_failing_write_is_told(rt: HostRuntime) {
     let alloc = rt.alloc();
-    let (sound, bad) = (b"close 0\nreopen\n", b"close 0\nfrob\n");
-    let first = b"error NoHandle\n";
-    let both = b"error NoHandle\nok\n";
+    let (sound, bad) = (
+        b"close 0\nreopen\n".as_slice(),
+        b"close 0\nfrob\n".as_slice(),
+    );
+    let first = b"error NoHandle\n".as_slice();
+    let both = b"error NoHandle\nok\n".as_slice();
     let failed = Ending::OutputFailed;
-    filled(&rt, alloc, sound, (0, true), failed, b"");
-    filled(&rt, alloc, sound, (16, true), failed, b"error NoHandle\no");
-    filled(&rt, alloc, sound, (18, false), failed, both);
-    filled(&rt, alloc, sound, (18, true), Ending::Done, both);
-    filled(&rt, alloc, bad, (18, false), failed, first);
-    filled(&rt, alloc, bad, (18, true), Ending::BadCall(2), first);
+    for (input, room, flushes, ending, output) in [
+        (sound, 0, true, failed, b"".as_slice()),
+        (sound, 16, true, failed, b"error NoHandle\no".as_slice()),
+        (sound, 18, false, failed, both),
+        (sound, 18, true, Ending::Done, both),
+        (bad, 18, false, failed, first),
+        (bad, 18, true, Ending::BadCall(2), first),
+    ] {
+        filled(&rt, alloc, input, (room, flushes), ending, output);
+    }
 }

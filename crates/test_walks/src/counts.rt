@@ -112,19 +112,30 @@ impl Counts {
     /// Fails if the walks had too few calls of a kind, faults of a kind, modes or effects of a crash, or if too few
     /// fixed bytes were compared.
     pub fn expect_enough(&self, rt: &impl Abort) {
-        for count in self.calls.iter().chain(&self.modes) {
-            assert!(rt; *count >= 250, "{self:?}");
-        }
-        for kind in INJECTED {
-            let count = self.injected.get(kind).copied().unwrap_or(0);
-            assert!(rt; count >= 40, "{kind} of {self:?}");
-        }
-        for count in [self.unknown, self.empty, self.open, self.missing] {
-            assert!(rt; count >= 100, "{self:?}");
-        }
-        for count in [self.kept, self.lost] {
-            assert!(rt; count >= 2_000, "{self:?}");
-        }
-        assert!(rt; self.compared >= 600_000, "{self:?}");
+        let is_enough = are_at_least(&self.calls, 250)
+            && are_at_least(&self.modes, 250)
+            && are_at_least(&self.of_faults(), 40)
+            && are_at_least(&[self.unknown, self.empty, self.open, self.missing], 100)
+            && are_at_least(&[self.kept, self.lost], 2_000)
+            && self.compared >= 600_000;
+        assert!(rt; is_enough, "{self:?}");
     }
+
+    /// Returns the number of refused calls of each kind that a fault may refuse.
+    fn of_faults(&self) -> [u64; 9] {
+        let mut counts = [0; 9];
+        for (count, kind) in counts.iter_mut().zip(INJECTED) {
+            *count = self.injected.get(kind).copied().unwrap_or(0);
+        }
+        counts
+    }
+}
+
+fn are_at_least(counts: &[u64], least: u64) -> bool {
+    for count in counts {
+        if *count < least {
+            return false;
+        }
+    }
+    true
 }

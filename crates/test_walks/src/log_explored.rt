@@ -7,7 +7,8 @@ use blob_faulty::{Config, PartialWriteMode, WriteConfig};
 use blob_lab_store::ScriptedRng;
 use blob_log::log::Store;
 use blob_tree::Explorer;
-use std::alloc::Global;
+use std::alloc::{AllocError, Global};
+use std::process::Abort;
 use std::test::Fail;
 
 /// The records of a run, in order. Their frames have 16, 16 and 9 bytes.
@@ -89,6 +90,16 @@ impl Promised {
         }
     }
 
+    /// Adds the record of an append that succeeded, or failed.
+    fn add(&mut self, record: Vec<u8>, is_done: bool) -> Result<(), AllocError> {
+        let records = if is_done {
+            &mut self.records
+        } else {
+            &mut self.failed
+        };
+        Ok(records.push(record)?)
+    }
+
     fn is_kept(&self, found: &[Vec<u8>]) -> bool {
         let count = self.records.len();
         if found.len() < count || !self.records.iter().zip(found).all(|(a, b)| a == b) {
@@ -110,12 +121,8 @@ fn append_each(
     promised: &mut Promised,
 ) -> Result<(), Error> {
     for entry in entries {
-        let record = Vec::from_slice(alloc, entry)?;
-        if log.append(alloc, store, entry).is_ok() {
-            promised.records.push(record)?;
-        } else {
-            promised.failed.push(record)?;
-        }
+        let is_done = log.append(alloc, store, entry).is_ok();
+        promised.add(Vec::from_slice(alloc, entry)?, is_done)?;
     }
     Ok(())
 }
@@ -181,10 +188,11 @@ fn run(
     let second = &second[..case.records.saturating_sub(at).min(second.len())];
     let mut promised = Promised::new(alloc, Vec::new(alloc));
     let (mut log, _) = Tried::recover(alloc, store, case.mistake)?;
-    let ends = (first, !case.reopens);
-    let holds = session(alloc, store, case, &mut log, &mut promised, ends)?;
-    let still_holds = session(alloc, store, case, &mut log, &mut promised, (second, true))?;
-    Ok(holds && still_holds)
+    let mut holds = true;
+    for part in [(first, !case.reopens), (second, true)] {
+        holds &= session(alloc, store, case, &mut log, &mut promised, part)?;
+    }
+    Ok(holds)
 }
 
 /// Runs along the explorer's path. Returns the number of draws, and whether the run held.
@@ -209,7 +217,7 @@ fn visit(
 }
 
 /// The leaves of all runs of a case, and the number of those that don't hold.
-#[derive(Clone, Copy, Debug, PartialEq, Eq)]
+#[derive(Clone, Copy)]
 struct Explored {
     leaves: u64,
     broken: u64,
@@ -240,88 +248,113 @@ fn explore(alloc: Global, case: Case) -> Result<Explored, Error> {
     Ok(explored)
 }
 
-/// All of these leaves hold.
-fn all_hold(leaves: u64) -> Explored {
-    Explored { leaves, broken: 0 }
+fn prefixes(records: usize) -> Case {
+    Case::new(PartialWriteMode::Prefix, records)
 }
 
-// The leaves are counted by hand. In prefix mode a crash or a failed write has n + 1 outcomes for a frame of n bytes.
-// With sectors it has 4, since each of these frames touches two sectors.
+// Cases that lose nothing, with the number of their leaves, which is counted by hand. In prefix mode a crash or a failed
+// write has n + 1 outcomes for a frame of n bytes. With sectors it has 4, since each of these frames touches two sectors.
 
-/// One more outcome for each write that succeeds: 18, 18 and 11, whichever session has which record.
+/// Cases in which writes fail.
+fn writes() -> [(Case, u64); 2] {
+    let mut two = prefixes(2);
+    two.writes_fail = true;
+    let mut three = two;
+    three.records = 3;
+    // One more outcome for each write that succeeds: 18, 18 and 11, whichever session has which record.
+    [(two, 3 * 324), (three, 4 * 324 * 11)]
+}
+
+/// Cases in which writes and syncs fail.
+fn syncs() -> [(Case, u64); 4] {
+    let mut two = prefixes(2);
+    two.writes_fail = true;
+    two.syncs_fail = true;
+    let mut reopens = two;
+    reopens.reopens = true;
+    let mut in_sectors = two;
+    in_sectors.mode = sectors();
+    in_sectors.records = 3;
+    let mut recoveries = two;
+    recoveries.recoveries_fail = true;
+    recoveries.records = 1;
+    [
+        // A record has 1 + 17 + 17 outcomes: Ok, a failed write, and a failed sync, after which the crash keeps a part.
+        // If one session has both records and the first one's sync fails, the second is written over it, and a crash
+        // makes no draw for it if it is covered: 35 + 17 * 35 + (1 + (16 * 17 + 1) + 17 * 17).
+        (two, 1193 + 35 * 35 + 1193),
+        // A reopen discards what is pending, so that in the first session a failed sync has one outcome.
+        (reopens, 1193 + 19 * 35 + 19 * 19),
+        // A record has 1 + 4 + 4 outcomes. Two records of one session have 75, or 81 if the second is shorter. All
+        // three have 666.
+        (in_sectors, 666 + 9 * 81 + 75 * 9 + 666),
+        // A session's two recoveries have 5 outcomes: the open or the read of one fails, or none does.
+        (recoveries, 2 * 5 * 5 * 35),
+    ]
+}
+
+fn lose_nothing(rt: &impl Abort, alloc: Global, cases: &[(Case, u64)]) -> Result<(), Error> {
+    for (case, leaves) in cases {
+        let found = explore(alloc, *case)?;
+        let (visited, broken) = (found.leaves, found.broken);
+        assert!(rt;
+            visited == *leaves && broken == 0,
+            "{broken} of {visited}, not 0 of {leaves}"
+        );
+    }
+    Ok(())
+}
+
 #[test]
 fn failing_writes_lose_nothing(rt: HostRuntime) -> Result<(), Fail> {
-    let mut case = Case::new(PartialWriteMode::Prefix, 2);
-    case.writes_fail = true;
-    assert_eq!(rt; explore(rt.alloc(), case)?, all_hold(3 * 324));
-    case.records = 3;
-    assert_eq!(rt; explore(rt.alloc(), case)?, all_hold(4 * 324 * 11));
-    Ok(())
+    Ok(lose_nothing(&rt, rt.alloc(), &writes())?)
 }
 
-/// A record has 1 + 17 + 17 outcomes: Ok, a failed write, and a failed sync, after which the crash keeps a part. If
-/// one session has both records and the first one's sync fails, the second is written over it, and a crash makes no
-/// draw for it if it is covered: 35 + 17 * 35 + (1 + (16 * 17 + 1) + 17 * 17).
 #[test]
 fn failing_syncs_lose_nothing(rt: HostRuntime) -> Result<(), Fail> {
-    let mut case = Case::new(PartialWriteMode::Prefix, 2);
-    case.writes_fail = true;
-    case.syncs_fail = true;
-    assert_eq!(rt; explore(rt.alloc(), case)?, all_hold(1193 + 35 * 35 + 1193));
-    // A reopen discards what is pending, so that in the first session a failed sync has one outcome.
-    case.reopens = true;
-    assert_eq!(rt;
-        explore(rt.alloc(), case)?,
-        all_hold(1193 + 19 * 35 + 19 * 19)
-    );
-    Ok(())
+    Ok(lose_nothing(&rt, rt.alloc(), &syncs())?)
 }
 
-/// A record has 1 + 4 + 4 outcomes. Two records of one session have 75, or 81 if the second is shorter. All three have
-/// 666.
-#[test]
-fn failing_sectors_lose_nothing(rt: HostRuntime) -> Result<(), Fail> {
-    let mut case = Case::new(sectors(), 3);
-    case.writes_fail = true;
-    case.syncs_fail = true;
-    assert_eq!(rt;
-        explore(rt.alloc(), case)?,
-        all_hold(666 + 9 * 81 + 75 * 9 + 666)
-    );
-    Ok(())
-}
-
-/// A session's two recoveries have 5 outcomes: the open or the read of one fails, or none does.
-#[test]
-fn failing_recoveries_lose_nothing(rt: HostRuntime) -> Result<(), Fail> {
-    let mut case = Case::new(PartialWriteMode::Prefix, 1);
-    case.writes_fail = true;
-    case.syncs_fail = true;
-    case.recoveries_fail = true;
-    assert_eq!(rt; explore(rt.alloc(), case)?, all_hold(2 * 5 * 5 * 35));
-    Ok(())
-}
-
-/// Returns whether a leaf shows the mistake.
-fn is_found(alloc: Global, mut case: Case, mistake: Mistake) -> Result<bool, Error> {
+/// A case with a mistake, in which writes fail, syncs fail, or the first session ends in a reopen.
+fn wrong(mistake: Mistake, mut case: Case, faults: [bool; 3]) -> Case {
+    let [writes_fail, syncs_fail, reopens] = faults;
     case.mistake = Some(mistake);
-    Ok(explore(alloc, case)?.broken > 0)
+    case.writes_fail = writes_fail;
+    case.syncs_fail = syncs_fail;
+    case.reopens = reopens;
+    case
+}
+
+/// Cases with a mistake, and whether a leaf shows it.
+fn mistaken() -> [(Case, bool); 6] {
+    let unsynced = wrong(Mistake::NoSync, prefixes(1), [false, false, false]);
+    let early = wrong(Mistake::EarlyOk, prefixes(1), [false, false, false]);
+    let early_failing = wrong(Mistake::EarlyOk, prefixes(1), [false, true, false]);
+    let zeros = wrong(
+        Mistake::ZerosPass,
+        Case::new(sectors(), 1),
+        [false, true, false],
+    );
+    let unadmitted = wrong(Mistake::NoAdmit, prefixes(2), [true, true, false]);
+    let unadmitted_reopening = wrong(Mistake::NoAdmit, prefixes(2), [true, true, true]);
+    [
+        (unsynced, true),
+        (early, false),
+        (early_failing, true),
+        (zeros, true),
+        (unadmitted, false),
+        (unadmitted_reopening, true),
+    ]
 }
 
 #[test]
 fn each_mistake_is_found(rt: HostRuntime) -> Result<(), Fail> {
-    let mut case = Case::new(PartialWriteMode::Prefix, 1);
-    assert!(rt; is_found(rt.alloc(), case, Mistake::NoSync)?);
-    assert!(rt; !is_found(rt.alloc(), case, Mistake::EarlyOk)?);
-    case.syncs_fail = true;
-    assert!(rt; is_found(rt.alloc(), case, Mistake::EarlyOk)?);
-    case.mode = sectors();
-    assert!(rt; is_found(rt.alloc(), case, Mistake::ZerosPass)?);
-    let mut case = Case::new(PartialWriteMode::Prefix, 2);
-    case.writes_fail = true;
-    case.syncs_fail = true;
-    assert!(rt; !is_found(rt.alloc(), case, Mistake::NoAdmit)?);
-    case.reopens = true;
-    assert!(rt; is_found(rt.alloc(), case, Mistake::NoAdmit)?);
+    for (number, (case, is_found)) in mistaken().into_iter().enumerate() {
+        let broken = explore(rt.alloc(), case)?.broken;
+        assert!(rt;
+            (broken > 0) == is_found,
+            "mistake {number}: {broken} leaves"
+        );
+    }
     Ok(())
 }

@@ -73,70 +73,88 @@ fn begins_with(found: &[Vec<u8>], wanted: &[Vec<u8>]) -> bool {
     found.len() >= wanted.len() && wanted.iter().zip(found).all(|(a, b)| a == b)
 }
 
-/// Up to three records, of up to 20 bytes, each different.
-fn append_some(
+/// A seed as it goes on.
+#[derive(Drop)]
+struct Run {
     alloc: Global,
-    chance: &mut Xoshiro256PlusPlus,
-    store: &mut Store<Xoshiro256PlusPlus>,
-    log: &mut Tried,
-    wanted: &mut Vec<Vec<u8>>,
-    counts: &mut Counts,
-) -> Result<(), Error> {
-    for _ in 0..chance.next_u64() % 4 {
-        let mut entry = Vec::new(alloc);
-        for _ in 0..chance.next_u64() % 21 {
-            entry.push((chance.next_u64() % 256) as u8)?;
-        }
-        if log.append(alloc, store, &entry).is_ok() {
-            counts.acknowledged = counts.acknowledged.saturating_add(1);
-            wanted.push(entry)?;
-        } else {
-            counts.refused = counts.refused.saturating_add(1);
-        }
+    mistake: Option<Mistake>,
+    chance: Xoshiro256PlusPlus,
+    store: Store<Xoshiro256PlusPlus>,
+    log: Tried,
+    /// The records that the next recovery has to find.
+    wanted: Vec<Vec<u8>>,
+    counts: Counts,
+}
+
+impl Run {
+    fn new(alloc: Global, seed: u64, mistake: Option<Mistake>) -> Result<Run, Error> {
+        let memory = blob_memory::Storage::new(alloc);
+        let rng = Xoshiro256PlusPlus::seed_from_u64(seed);
+        let mut store = blob_faulty::Storage::new(alloc, memory, rng, faults(seed));
+        let (log, wanted) = recover(alloc, &mut store, mistake)?;
+        Ok(Run {
+            alloc,
+            mistake,
+            chance: Xoshiro256PlusPlus::seed_from_u64(seed.wrapping_add(1 << 32)),
+            store,
+            log,
+            wanted,
+            counts: Counts {
+                acknowledged: 0,
+                refused: 0,
+                lost: false,
+            },
+        })
     }
-    Ok(())
+
+    /// A record of up to 20 bytes.
+    fn entry(&mut self) -> Result<Vec<u8>, Error> {
+        let mut entry = Vec::new(self.alloc);
+        for _ in 0..self.chance.next_u64() % 21 {
+            entry.push((self.chance.next_u64() % 256) as u8)?;
+        }
+        Ok(entry)
+    }
+
+    fn append(&mut self) -> Result<(), Error> {
+        let entry = self.entry()?;
+        if self.log.append(self.alloc, &mut self.store, &entry).is_ok() {
+            self.counts.acknowledged = self.counts.acknowledged.saturating_add(1);
+            self.wanted.push(entry)?;
+        } else {
+            self.counts.refused = self.counts.refused.saturating_add(1);
+        }
+        Ok(())
+    }
+
+    /// Appends up to three records, each different.
+    fn append_some(&mut self) -> Result<(), Error> {
+        for _ in 0..self.chance.next_u64() % 4 {
+            self.append()?;
+        }
+        Ok(())
+    }
+
+    fn recover(&mut self) -> Result<(), Error> {
+        let (log, found) = recover(self.alloc, &mut self.store, self.mistake)?;
+        self.counts.lost |= !begins_with(&found, &self.wanted);
+        self.log = log;
+        self.wanted = found;
+        Ok(())
+    }
 }
 
 /// Runs sessions, each with a reopen in the middle and a crash at the end.
 fn play(alloc: Global, seed: u64, mistake: Option<Mistake>) -> Result<Counts, Error> {
-    let memory = blob_memory::Storage::new(alloc);
-    let rng = Xoshiro256PlusPlus::seed_from_u64(seed);
-    let mut chance = Xoshiro256PlusPlus::seed_from_u64(seed.wrapping_add(1 << 32));
-    let mut store = blob_faulty::Storage::new(alloc, memory, rng, faults(seed));
-    let mut counts = Counts {
-        acknowledged: 0,
-        refused: 0,
-        lost: false,
-    };
-    let (mut log, mut wanted) = recover(alloc, &mut store, mistake)?;
-    for _ in 0..CRASHES {
-        append_some(
-            alloc,
-            &mut chance,
-            &mut store,
-            &mut log,
-            &mut wanted,
-            &mut counts,
-        )?;
-        let (again, found) = recover(alloc, &mut store, mistake)?;
-        counts.lost |= !begins_with(&found, &wanted);
-        log = again;
-        wanted = found;
-        append_some(
-            alloc,
-            &mut chance,
-            &mut store,
-            &mut log,
-            &mut wanted,
-            &mut counts,
-        )?;
-        store.crash()?;
-        let (again, found) = recover(alloc, &mut store, mistake)?;
-        counts.lost |= !begins_with(&found, &wanted);
-        log = again;
-        wanted = found;
+    let mut run = Run::new(alloc, seed, mistake)?;
+    for half in 0..2 * CRASHES {
+        run.append_some()?;
+        if half % 2 == 1 {
+            run.store.crash()?;
+        }
+        run.recover()?;
     }
-    Ok(counts)
+    Ok(run.counts)
 }
 
 #[test]
@@ -166,13 +184,12 @@ fn first_lost(alloc: Global, mistake: Mistake) -> Result<Option<u64>, Error> {
 
 #[test]
 fn a_log_with_a_mistake_loses_some(rt: HostRuntime) -> Result<(), Fail> {
-    assert_eq!(rt;
-        first_lost(rt.alloc(), Mistake::NoSync)?,
-        Some(FIRST_LOST_UNSYNCED)
-    );
-    assert_eq!(rt;
-        first_lost(rt.alloc(), Mistake::NoAdmit)?,
-        Some(FIRST_LOST_UNADMITTED)
-    );
+    for (mistake, seed) in [
+        (Mistake::NoSync, FIRST_LOST_UNSYNCED),
+        (Mistake::NoAdmit, FIRST_LOST_UNADMITTED),
+    ] {
+        let lost = first_lost(rt.alloc(), mistake)?;
+        assert!(rt; lost == Some(seed), "{lost:?} in place of {seed}");
+    }
     Ok(())
 }

@@ -37,37 +37,39 @@ fn an_acknowledged_record_is_found(rt: HostRuntime) -> Result<(), Fail> {
 
 /// Two records and then one.
 fn asked(alloc: Global) -> Result<Vec<Vec<Vec<u8>>>, Error> {
-    let mut two = Vec::new(alloc);
-    two.push(Vec::from_slice(alloc, b"a")?)?;
-    two.push(Vec::from_slice(alloc, b"")?)?;
-    let mut one = Vec::new(alloc);
-    one.push(Vec::from_slice(alloc, b"bc")?)?;
+    let sessions: [&[&[u8]]; 2] = [&[b"a", b""], &[b"bc"]];
     let mut asked = Vec::new(alloc);
-    asked.push(two)?;
-    asked.push(one)?;
+    for session in sessions {
+        let mut records = Vec::new(alloc);
+        for record in session {
+            records.push(Vec::from_slice(alloc, record)?)?;
+        }
+        asked.push(records)?;
+    }
     Ok(asked)
+}
+
+/// The number of sessions over a new store in which no write fails, and of the records that are found.
+fn anew(alloc: Global, asked: &[Vec<Vec<u8>>]) -> Result<(usize, usize), Error> {
+    let rng = Xoshiro256PlusPlus::seed_from_u64(1);
+    let config = config(Probability::ZERO);
+    let (sessions, found) = sessions_survive_anew(alloc, rng, config, "wal", b"0", asked)?;
+    Ok((sessions.len(), found.len()))
+}
+
+/// Whether no append succeeds where every write fails, and no record is found.
+fn all_fail(alloc: Global, asked: &[Vec<Vec<u8>>]) -> Result<bool, Error> {
+    let rng = Xoshiro256PlusPlus::seed_from_u64(1);
+    let memory = blob_memory::Storage::new(alloc);
+    let mut store = blob_faulty::Storage::new(alloc, memory, rng, config(Probability::ONE));
+    let (sessions, found) = sessions_survive(alloc, &mut store, "wal", b"0", asked)?;
+    Ok(found.is_empty() && sessions.iter().all(|s| s.answers.iter().all(|done| !*done)))
 }
 
 #[test]
 fn sessions_go_on(rt: HostRuntime) -> Result<(), Fail> {
-    let alloc = rt.alloc();
-    let rng = Xoshiro256PlusPlus::seed_from_u64(1);
-    let asked = asked(alloc)?;
-    let (sessions, found) = sessions_survive_anew(
-        alloc,
-        rng,
-        config(Probability::ZERO),
-        "wal",
-        b"0",
-        &asked,
-    )?;
-    assert_eq!(rt; sessions.len(), 2);
-    assert_eq!(rt; found.len(), 3);
-    let memory = blob_memory::Storage::new(alloc);
-    let rng = Xoshiro256PlusPlus::seed_from_u64(1);
-    let mut store = blob_faulty::Storage::new(alloc, memory, rng, config(Probability::ONE));
-    let (sessions, found) = sessions_survive(alloc, &mut store, "wal", b"0", &asked)?;
-    assert!(rt; sessions.iter().all(|s| s.answers.iter().all(|done| !*done)));
-    assert!(rt; found.is_empty());
+    let asked = asked(rt.alloc())?;
+    assert!(rt; anew(rt.alloc(), &asked)? == (2, 3));
+    assert!(rt; all_fail(rt.alloc(), &asked)?);
     Ok(())
 }

@@ -15,6 +15,9 @@ const LISTS: u64 = 1000;
 
 const STEPS: u64 = 40;
 
+/// A step has at most this many calls: a close, an open, and a read of all bytes.
+const MOST_CALLS: u64 = 4;
+
 /// One list, as it goes on.
 #[derive(Drop)]
 struct Walk {
@@ -23,6 +26,10 @@ struct Walk {
     chance: Chance,
     record: Record,
     counts: Counts,
+    /// The call that follows when all bytes of a handle have been read.
+    after_reads: Option<Call>,
+    /// The file of the current handle that is being closed.
+    closed: Option<usize>,
 }
 
 impl Walk {
@@ -67,53 +74,29 @@ impl Walk {
         self.current().unwrap_or(any)
     }
 
-    fn configure(&mut self, rt: &impl Abort, lab: &mut Lab) -> Result<(), Error> {
-        let config = self.chance.config();
-        self.call(rt, lab, &Call::Configure(config))?;
-        Ok(())
-    }
-
-    /// Opens a file. If that succeeds, reads all bytes of the handle.
-    fn open(&mut self, rt: &impl Abort, lab: &mut Lab, file: usize) -> Result<(), Error> {
+    fn open(&mut self, file: usize) -> Result<Call, Error> {
         let (first, last) = match self.chance.below(16) {
             0 => (5, 3),
             1 => (3, 3),
             2 | 3 | 4 | 5 => (0, 9),
             _ => (0, 0),
         };
-        let versions = BlobVersion::new(first)..=BlobVersion::new(last);
-        let call = open(self.alloc, file, versions)?;
-        match self.call(rt, lab, &call)? {
-            Reply::Opened { handle, .. } => self.read_all(rt, lab, handle),
-            _ => Ok(()),
-        }
+        open(
+            self.alloc,
+            file,
+            BlobVersion::new(first)..=BlobVersion::new(last),
+        )
     }
 
-    /// All live bytes of a handle.
-    fn read_all(&mut self, rt: &impl Abort, lab: &mut Lab, handle: usize) -> Result<(), Error> {
-        if let Reply::Size(size) = self.call(rt, lab, &Call::Size(handle))? {
-            let len = size as usize;
-            let read = Call::Read {
-                handle,
-                offset: 0,
-                len,
-            };
-            self.call(rt, lab, &read)?;
-        }
-        Ok(())
-    }
-
-    fn read(&mut self, rt: &impl Abort, lab: &mut Lab) -> Result<(), Error> {
-        let read = Call::Read {
+    fn read(&mut self) -> Call {
+        Call::Read {
             handle: self.handle(),
             offset: self.chance.below(24),
             len: self.chance.below(24) as usize,
-        };
-        self.call(rt, lab, &read)?;
-        Ok(())
+        }
     }
 
-    fn write(&mut self, rt: &impl Abort, lab: &mut Lab, sync: bool) -> Result<(), Error> {
+    fn write(&mut self, sync: bool) -> Result<Call, Error> {
         let handle = self.handle();
         let offset = if self.chance.is_one_of(24) {
             u64::MAX.wrapping_sub(self.chance.below(8192))
@@ -121,125 +104,127 @@ impl Walk {
             self.chance.below(32)
         };
         let len = self.chance.below(12);
-        let bytes = self.chance.bytes(self.alloc, len)?;
-        let write = Call::Write {
+        Ok(Call::Write {
             handle,
             offset,
-            bytes,
+            bytes: self.chance.bytes(self.alloc, len)?,
             sync,
-        };
-        self.call(rt, lab, &write)?;
-        Ok(())
+        })
     }
 
-    fn resize(&mut self, rt: &impl Abort, lab: &mut Lab) -> Result<(), Error> {
+    fn resize(&mut self) -> Call {
         let handle = self.handle();
         let len = if self.chance.is_one_of(24) {
             u64::MAX
         } else {
             self.chance.below(48)
         };
-        self.call(rt, lab, &Call::Resize { handle, len })?;
-        Ok(())
+        Call::Resize { handle, len }
     }
 
-    /// A sync, with or without a read of all bytes before it.
-    fn sync(&mut self, rt: &impl Abort, lab: &mut Lab) -> Result<(), Error> {
+    /// A sync, or the start of one. Half of them come after a read of all bytes.
+    fn sync(&mut self, is_started: bool) -> Call {
         let handle = self.handle();
-        if self.chance.is_one_of(2) {
-            self.read_all(rt, lab, handle)?;
+        let sync = if is_started {
+            Call::StartSync(handle)
+        } else {
+            Call::Sync(handle)
+        };
+        if !self.chance.is_one_of(2) {
+            return sync;
         }
-        self.call(rt, lab, &Call::Sync(handle))?;
-        Ok(())
+        self.after_reads = Some(sync);
+        Call::Size(handle)
     }
 
-    /// Starts a sync, and mostly finishes it immediately.
-    fn start_sync(&mut self, rt: &impl Abort, lab: &mut Lab) -> Result<(), Error> {
+    fn close(&mut self) -> Call {
         let handle = self.handle();
-        if self.chance.is_one_of(2) {
-            self.read_all(rt, lab, handle)?;
-        }
-        if let Reply::Started(number) = self.call(rt, lab, &Call::StartSync(handle))?
-            && !self.chance.is_one_of(3)
-        {
-            self.call(rt, lab, &Call::Finish(number))?;
-        }
-        Ok(())
+        self.closed = self.record.file_behind(handle);
+        Call::Close(handle)
     }
 
-    fn finish(&mut self, rt: &impl Abort, lab: &mut Lab) -> Result<(), Error> {
-        let number = self.chance.below(6) as usize;
-        self.call(rt, lab, &Call::Finish(number))?;
-        Ok(())
-    }
-
-    /// Closes a handle, and mostly opens the same file again.
-    fn close(&mut self, rt: &impl Abort, lab: &mut Lab) -> Result<(), Error> {
-        let handle = self.handle();
-        let file = self.record.file_behind(handle);
-        self.call(rt, lab, &Call::Close(handle))?;
-        match file {
-            Some(file) if !self.chance.is_one_of(4) => self.open(rt, lab, file),
-            _ => Ok(()),
-        }
-    }
-
-    fn remove(&mut self, rt: &impl Abort, lab: &mut Lab, file: usize) -> Result<(), Error> {
-        let whole = self.chance.is_one_of(3);
-        let call = remove(self.alloc, file, whole)?;
-        self.call(rt, lab, &call)?;
-        Ok(())
-    }
-
-    fn scan(&mut self, rt: &impl Abort, lab: &mut Lab, file: usize) -> Result<(), Error> {
-        let call = scan(self.alloc, file)?;
-        self.call(rt, lab, &call)?;
-        Ok(())
-    }
-
-    fn admit(&mut self, rt: &impl Abort, lab: &mut Lab, file: usize) -> Result<(), Error> {
-        let call = admit(self.alloc, file)?;
-        self.call(rt, lab, &call)?;
-        Ok(())
-    }
-
-    fn lose(&mut self, rt: &impl Abort, lab: &mut Lab) -> Result<(), Error> {
-        self.call(rt, lab, &Call::Crash)?;
-        if self.chance.is_one_of(4) {
-            self.call(rt, lab, &Call::Reopen)?;
-        }
-        Ok(())
-    }
-
-    fn step(&mut self, rt: &impl Abort, lab: &mut Lab) -> Result<(), Error> {
+    /// The call of a step.
+    fn first(&mut self) -> Result<Call, Error> {
         let file = self.file();
         if self.current().is_none() && !self.chance.is_one_of(4) {
-            return self.open(rt, lab, file);
+            return self.open(file);
         }
         match self.chance.below(64) {
-            0..=18 => self.write(rt, lab, false),
-            19..=27 => self.write(rt, lab, true),
-            28..=30 => self.sync(rt, lab),
-            31..=33 => self.start_sync(rt, lab),
-            34 => self.finish(rt, lab),
-            35..=38 => self.resize(rt, lab),
-            39..=45 => self.lose(rt, lab),
-            46..=49 => self.open(rt, lab, file),
-            50..=55 => self.close(rt, lab),
-            56 => self.remove(rt, lab, file),
-            57 => self.admit(rt, lab, file),
-            58..=60 => self.configure(rt, lab),
-            61 | 62 => self.read(rt, lab),
-            _ => self.scan(rt, lab, file),
+            0..=18 => self.write(false),
+            19..=27 => self.write(true),
+            46..=49 => self.open(file),
+            56 => remove(self.alloc, file, self.chance.is_one_of(3)),
+            57 => admit(self.alloc, file),
+            63 => scan(self.alloc, file),
+            kind => Ok(self.first_of_handle(kind)),
         }
+    }
+
+    /// The call of a step that names no file.
+    fn first_of_handle(&mut self, kind: u64) -> Call {
+        match kind {
+            28..=30 => self.sync(false),
+            31..=33 => self.sync(true),
+            34 => Call::Finish(self.chance.below(6) as usize),
+            35..=38 => self.resize(),
+            39..=45 => Call::Crash,
+            50..=55 => self.close(),
+            58..=60 => Call::Configure(self.chance.config()),
+            _ => self.read(),
+        }
+    }
+
+    /// The call that follows this one, if any. An open is followed by a read of all bytes, a started sync mostly by its
+    /// end, a close mostly by an open of the same file, and a crash sometimes by a reopen.
+    fn next(&mut self, call: &Call, reply: &Reply) -> Result<Option<Call>, Error> {
+        match (call, reply) {
+            (Call::Open { .. }, Reply::Opened { handle, .. }) => Ok(Some(Call::Size(*handle))),
+            (Call::Size(handle), Reply::Size(size)) => Ok(Some(Call::Read {
+                handle: *handle,
+                offset: 0,
+                len: *size as usize,
+            })),
+            (Call::Size(_) | Call::Read { .. }, _) => Ok(self.after_reads.take()),
+            (Call::StartSync(_), Reply::Started(number)) if !self.chance.is_one_of(3) => {
+                Ok(Some(Call::Finish(*number)))
+            }
+            (Call::Close(_), _) => self.reopened(),
+            (Call::Crash, _) if self.chance.is_one_of(4) => Ok(Some(Call::Reopen)),
+            _ => Ok(None),
+        }
+    }
+
+    /// Mostly opens the file again whose handle was closed.
+    fn reopened(&mut self) -> Result<Option<Call>, Error> {
+        match self.closed.take() {
+            Some(file) if !self.chance.is_one_of(4) => Ok(Some(self.open(file)?)),
+            _ => Ok(None),
+        }
+    }
+
+    /// Makes a call, and those that follow it.
+    fn step(&mut self, rt: &impl Abort, lab: &mut Lab, first: Call) -> Result<(), Error> {
+        let mut call = first;
+        for _ in 0..MOST_CALLS {
+            let reply = self.call(rt, lab, &call)?;
+            match self.next(&call, &reply)? {
+                Some(next) => call = next,
+                None => break,
+            }
+        }
+        Ok(())
     }
 
     fn walk(&mut self, rt: &impl Abort, lab: &mut Lab) -> Result<(), Error> {
-        self.configure(rt, lab)?;
-        self.open(rt, lab, 0)?;
-        self.open(rt, lab, 3)?;
+        let configure = Call::Configure(self.chance.config());
+        self.step(rt, lab, configure)?;
+        for file in [0, 3] {
+            let open = self.open(file)?;
+            self.step(rt, lab, open)?;
+        }
         for _ in 0..STEPS {
-            self.step(rt, lab)?;
+            let first = self.first()?;
+            self.step(rt, lab, first)?;
         }
         Ok(())
     }
@@ -273,6 +258,8 @@ fn walk_list(rt: &impl Abort, alloc: Global, list: u64, counts: Counts) -> Resul
         chance,
         record: Record::new(alloc)?,
         counts,
+        after_reads: None,
+        closed: None,
     };
     let mut lab = Lab::new(images, words, Config::default())?;
     let walked = walk.walk(rt, &mut lab);
