@@ -44,6 +44,7 @@ impl Handle {
 // A handle stays in its slot during a call: it is large to move.
 impl Lab {
     /// Reads `len` bytes through a handle: `Call::Read` without the call as data. Returns `Bytes`, `NoHandle` or `Failed`.
+    #[inline(always)]
     pub fn read(&mut self, number: usize, offset: u64, len: usize) -> Reply
         ensures { Performs self.old (Through number (Read offset len)) result self.new }
     {
@@ -61,6 +62,7 @@ impl Lab {
 
     /// Writes bytes through a handle, as a SYNC write if `sync` is set: `Call::Write` without a copy of its bytes. Returns `Done`,
     /// `NoHandle` or `Failed`.
+    #[inline(always)]
     pub fn write(&mut self, number: usize, offset: u64, bytes: &[u8], sync: bool) -> Reply
         ensures { Performs self.old (Through number (Write offset bytes.now sync)) result self.new }
     {
