@@ -45,9 +45,9 @@ proof_seconds() {
 }
 
 # about_minutes SECONDS: estimates how long proofs of that many processor seconds take here. Crates wait for those below them,
-# so four processors are only 2.2 times as fast as one.
+# so four processors are only 2.8 times as fast as one.
 about_minutes() {
-    case $(nproc 2>/dev/null || echo 1) in 1) speed=1 ;; 2 | 3) speed=1.7 ;; *) speed=2.2 ;; esac
+    case $(nproc 2>/dev/null || echo 1) in 1) speed=1 ;; 2 | 3) speed=1.7 ;; *) speed=2.8 ;; esac
     echo "$1 $speed" | awk '{ print int($1 / 60 / $2 + 1) }'
 }
 
