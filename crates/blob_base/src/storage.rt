@@ -182,6 +182,32 @@ pub trait Blob<S: Durable> {
         ensures directory { S.directory store.new ≡ S.directory store.old }
         ensures place { place self.new ≡ place self.old };
 
+    /// Writes a slice: does what `write_at` does with these bytes, with the same results and errors.
+    fn write_from(
+        &mut self,
+        store: &mut S,
+        offset: u64,
+        bytes: &[u8],
+        options: WriteOptions,
+    ) -> Result<(), Error>
+        ensures allowed { allows_write self.old store.old offset bytes.now (is_sync options) (error_of result) }
+        ensures leaves { leaves (Write offset bytes.now (is_sync options)) self.old store.old (error_of result) self.new store.new }
+        ensures live { OnOk result (live self.new ≡ live_written (is_sync options) (live self.old) offset bytes.now) }
+        ensures synced { OnOk result (IsSync options → Overlays S.Durable store.old store.new (place self.old) offset bytes.now) }
+        ensures current { OnOk result (IsSync options → bytes.now ≢ [] → IsCurrentIn S.Durable store.old (place self.old)) }
+        ensures plain { OnOk result (is_sync options ≡ false → SameDurable S.Durable store.old store.new) }
+        ensures room { room self.old store.old ≤ room self.new store.new }
+        ensures live_room { live_room self.old ≤ live_room self.new }
+
+        // after an error
+        ensures memory { IsMemory result → (live self.new ≡ live self.old) × (S.durable store.new ≡ S.durable store.old) }
+        ensures direct_live { is_direct ≡ true → live self.new ≡ live_after_write options offset bytes.now result (live self.old) }
+        ensures direct_durable { is_direct ≡ true → OnErr result (S.durable store.new ≡ S.durable store.old) }
+
+        ensures stale { IsStaleIn S.Durable store.old (place self.old) → SameDurable S.Durable store.old store.new }
+        ensures directory { S.directory store.new ≡ S.directory store.old }
+        ensures place { place self.new ≡ place self.old };
+
     /// Truncates the live bytes to the logical length `len`, or extends them with zeros, by a stale handle too. Nothing
     /// becomes durable before a sync.
     ///

@@ -141,6 +141,17 @@ impl<S: Durable, B: blob_base::Blob<S>> blob_base::Blob<S> for Blob<B> {
         self.inner.write_at(store, offset, bytes, options)
     }
 
+    /// The write of a slice of the store's own handle, with its errors and what they leave.
+    fn write_from(
+        &mut self,
+        store: &mut S,
+        offset: u64,
+        bytes: &[u8],
+        options: WriteOptions,
+    ) -> Result<(), Error> {
+        self.inner.write_from(store, offset, bytes, options)
+    }
+
     /// The resize of the store's own handle, with its errors and what they leave.
     fn resize(&mut self, store: &mut S, len: u64) -> Result<(), Error> {
         self.inner.resize(store, len)
