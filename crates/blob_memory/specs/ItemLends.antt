@@ -1,6 +1,6 @@
 -- An item after a borrow of its logical bytes ends.
 use denote.RattleType.{RattleType}
-use Rattle.std.specs.Prelude.{ℕ, Option}
+use Rattle.std.specs.Prelude.{Option}
 use Rattle.std.specs.Borrow.{LendsIf, MutBor, Fml}
 use Rattle.blob_pages.specs.contracts.bytes.Bytes as bytes
 use Rattle.blob_memory.specs.declared.item.Item.{Item}

@@ -1,5 +1,5 @@
 -- A memory store after a borrow of durable bytes ends.
-use Rattle.std.specs.Prelude.{ℕ, Option, IfSome}
+use Rattle.std.specs.Prelude.{Option, IfSome}
 use Rattle.std.specs.Borrow.{LendsSo, MutBor, Fml}
 use Rattle.blob_model.specs.Places.{Place}
 use Rattle.blob_memory.specs.declared.storage.Storage.{Storage}

@@ -72,8 +72,8 @@ impl Blob {
     ghost use Rattle.blob_memory.specs.Store.{place, live, directory, durable, live_room, room, WriteMayReturn};
     ghost use Rattle.blob_memory.specs.declared.storage.Storage.{Storage};
 
-    /// Writes the live bytes only.
-    fn write_plain(&mut self, offset: u64, bytes: &IoBufs) -> Result<(), Error>
+    /// Writes the live bytes only, from several pieces.
+    fn write_pieces(&mut self, offset: u64, bytes: &IoBufs) -> Result<(), Error>
         ensures allowed { (s : Storage) → WriteMayReturn self.old s offset bytes.now false (error_of result) }
         ensures live { live self.new ≡ live_after false (live self.old) offset bytes.now (error_of result) }
         ensures room { live_room self.old ≤ live_room self.new }
@@ -85,8 +85,43 @@ impl Blob {
         Ok(())
     }
 
-    /// Writes the live bytes, and the same range of the durable bytes if the incarnation is current.
-    fn write_sync(&mut self, store: &mut Storage, offset: u64, bytes: &IoBufs) -> Result<(), Error>
+    /// Writes the live bytes, and the same range of the durable bytes if the incarnation is current. Copies nothing
+    /// first.
+    fn write_sync(&mut self, store: &mut Storage, offset: u64, run: &[u8]) -> Result<(), Error>
+        ensures allowed { WriteMayReturn self.old store.old offset run.now true (error_of result) }
+        ensures live { live self.new ≡ live_after true (live self.old) offset run.now (error_of result) }
+        ensures durable { OnOk result (durable store.new ≡ with_overlay (durable store.old) (place self.old) offset run.now) }
+        ensures current { OnOk result (run.now ≢ [] → is_current (directory store.old) (place self.old) ≡ true) }
+        ensures stale { is_current (directory store.old) (place self.old) ≡ false → durable store.new ≡ durable store.old }
+        ensures err { OnErr result (durable store.new ≡ durable store.old) }
+        ensures room { room self.old store.old ≤ room self.new store.new }
+        ensures live_room { live_room self.old ≤ live_room self.new }
+        ensures directory { directory store.new ≡ directory store.old }
+        ensures place { place self.new ≡ place self.old }
+    {
+        if run.is_empty() {
+            return Ok(());
+        }
+        let end = ranges::logical_end(self.origin.data_offset(), offset, run.len())?;
+        let Some(durable) = store.contents.bytes_mut(&self.origin) else {
+            let missing = self.missing()?;
+            overlay::make_room(&mut self.live, end)?;
+            overlay::write_live_slice(&mut self.live, offset as usize, run);
+            return Err(missing);
+        };
+        overlay::make_room(&mut self.live, end)?;
+        overlay::write_slice(durable, offset as usize, run)?;
+        overlay::write_live_slice(&mut self.live, offset as usize, run);
+        Ok(())
+    }
+
+    /// Writes several pieces, as `write_sync`.
+    fn write_pieces_sync(
+        &mut self,
+        store: &mut Storage,
+        offset: u64,
+        bytes: &IoBufs,
+    ) -> Result<(), Error>
         ensures allowed { WriteMayReturn self.old store.old offset bytes.now true (error_of result) }
         ensures live { live self.new ≡ live_after true (live self.old) offset bytes.now (error_of result) }
         ensures durable { OnOk result (durable store.new ≡ with_overlay (durable store.old) (place self.old) offset bytes.now) }
@@ -227,10 +262,34 @@ impl blob_base::Blob<Storage> for Blob {
         options: WriteOptions,
     ) -> Result<(), Error> {
         if options.contains(WriteOptions::SYNC) {
-            self.write_sync(store, offset, &bytes)
+            self.write_pieces_sync(store, offset, &bytes)
         } else {
-            self.write_plain(offset, &bytes)
+            self.write_pieces(offset, &bytes)
         }
+    }
+
+    /// Writes a slice, as `write_at` writes its pieces. Copies nothing first.
+    ///
+    /// # Errors
+    ///
+    /// - `OffsetOverflow` if the physical end doesn't fit in 64 bits. Checked first.
+    /// - `BlobMissing` for a SYNC write by a stale handle. The live bytes are written.
+    /// - `Memory` if an allocation fails. Never for a SYNC write by a current handle within its capacity.
+    #[inline(always)]
+    fn write_from(
+        &mut self,
+        store: &mut Storage,
+        offset: u64,
+        bytes: &[u8],
+        options: WriteOptions,
+    ) -> Result<(), Error> {
+        if options.contains(WriteOptions::SYNC) {
+            return self.write_sync(store, offset, bytes);
+        }
+        let end = ranges::logical_end(self.origin.data_offset(), offset, bytes.len())?;
+        overlay::make_room(&mut self.live, end)?;
+        overlay::write_live_slice(&mut self.live, offset as usize, bytes);
+        Ok(())
     }
 
     /// Truncates the live bytes to `len`, or extends them with zeros. A stale handle can resize too. No durable byte

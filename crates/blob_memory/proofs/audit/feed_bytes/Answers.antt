@@ -1,4 +1,4 @@
-use Rattle.std.proofs.Common.{◌≡◌, ◌∙◌, ◌++◌, ◌+◌, ℕ, drop, ap, sym, arith, length, take, subst, append_assoc}
+use Rattle.std.proofs.Common.{◌≡◌, ◌∙◌, ◌++◌, ◌+◌, ℕ, drop, ap, arith, length, take, subst, append_assoc}
 use Rattle.blob_header.specs.Register.{HasTaken}
 use Rattle.blob_memory.proofs.Parts.{part_behind}
 use Rattle.blob_memory.proofs.audit.feed_bytes.Goals as goal

@@ -1,4 +1,4 @@
-use Rattle.std.proofs.Common.{◌∙◌, ◌++◌, ap, sym, arith, length}
+use Rattle.std.proofs.Common.{◌∙◌, ◌++◌, ap, arith, length}
 use Rattle.blob_memory.proofs.Parts.{part_behind}
 use Rattle.blob_memory.proofs.blob.fill.Goals as goal
 

@@ -1,0 +1,5 @@
+use Rattle.std.proofs.lemmas.Result.{on_ok_weaker}
+use Rattle.blob_memory.proofs.blob.BlobBlobStorage.write_from.Goals as goal
+
+pub returns-then-contains-clause-synced : goal.returns-then-contains-clause-synced
+returns-then-contains-clause-synced c = on_ok_weaker c.write_sync.result (λ h _. h) c.write_sync.ensures.durable
