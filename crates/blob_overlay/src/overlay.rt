@@ -1,22 +1,10 @@
 //! Writes and resizes of a vector of bytes. A call that can fail reserves capacity first. The rest does not allocate.
-ghost use Rattle.std.specs.Prelude.{◌≡◌, ◌≤◌, ◌<◌, ◌+◌, ◌^◌, length, drop, OnOk, vec_capacity};
-ghost use Rattle.std.specs.List.{list_all};
-ghost use Rattle.blob_model.specs.Bytes.{overlay, overlay_by, reach, resize, write_live};
+ghost use Rattle.std.specs.Prelude.{◌≡◌, ◌≤◌, ◌<◌, ◌+◌, ◌^◌, length, drop, vec_capacity};
+ghost use Rattle.blob_model.specs.Bytes.{overlay_by, reach, resize, write_live};
 ghost use Rattle.blob_model.specs.Runs.{is_chosen};
 ghost use Rattle.blob_overlay.specs.Overlays.{AreNow, Grows};
 
 use std::alloc::AllocError;
-
-/// Reserves capacity for `len` bytes in all. The only error is out of memory.
-pub fn make_room(bytes: &mut Vec<u8>, len: usize) -> Result<(), AllocError>
-    ensures bytes { Grows result bytes.old bytes.new len bytes.old.items }
-    ensures room { OnOk result (len ≤ vec_capacity bytes.new) }
-{
-    if bytes.capacity() < len {
-        bytes.reserve(len - bytes.len())?;
-    }
-    Ok(())
-}
 
 /// Truncates, or extends with zeros, within the capacity.
 pub fn set_len(bytes: &mut Vec<u8>, len: usize)
@@ -54,42 +42,6 @@ fn copy_some(bytes: &mut [u8], offset: usize, run: &[u8], keep: &[bool])
     }
 }
 
-/// Returns whether all bytes are selected.
-fn are_all(keep: &[bool]) -> bool
-    ensures { result ≡ list_all (λ kept. kept) keep.now }
-{
-    keep.iter().all(|kept| *kept)
-}
-
-/// Writes the selected bytes over existing bytes.
-pub fn copy_chosen(bytes: &mut [u8], offset: usize, run: &[u8], keep: &[bool])
-    requires same { length keep.now ≡ length run.now }
-    requires fits { offset + length run.now < 2 ^ 64 }
-    requires inside { reach offset (length run.now) (is_chosen keep.now) ≤ length bytes.old }
-    ensures { bytes.new ≡ overlay_by bytes.old offset run.now (is_chosen keep.now) }
-{
-    let end = offset + run.len();
-    if offset < end && are_all(keep) {
-        bytes[offset..end].copy_from_slice(run);
-    } else {
-        copy_some(bytes, offset, run, keep);
-    }
-}
-
-/// Writes all bytes, within the capacity.
-#[inline(always)]
-pub fn lay(bytes: &mut Vec<u8>, offset: usize, run: &[u8])
-    requires fits { offset + length run.now < 2 ^ 64 }
-    requires room { offset + length run.now ≤ vec_capacity bytes.old }
-    ensures { AreNow bytes.old bytes.new (overlay bytes.old.items offset run.now) }
-{
-    let len = run.len();
-    if len == 0 {
-        return;
-    }
-    write_live(bytes, offset, run);
-}
-
 /// Writes all bytes, within the capacity. An empty run extends the bytes with zeros to `offset`.
 #[inline(always)]
 pub fn write_live(bytes: &mut Vec<u8>, offset: usize, run: &[u8])
@@ -112,10 +64,14 @@ pub fn lay_chosen(bytes: &mut Vec<u8>, offset: usize, end: usize, run: &[u8], ke
     requires room { end ≤ vec_capacity bytes.old }
     ensures { AreNow bytes.old bytes.new (overlay_by bytes.old.items offset run.now (is_chosen keep.now)) }
 {
+    if !keep.contains(&false) && !run.is_empty() {
+        write_live(bytes, offset, run);
+        return;
+    }
     if bytes.len() < end {
         bytes.resize(end, 0).unwrap();
     }
-    copy_chosen(bytes.as_mut_slice(), offset, run, keep);
+    copy_some(bytes.as_mut_slice(), offset, run, keep);
 }
 
 /// Replaces the bytes with `new`. The only error is out of memory, if the capacity is too small. The bytes are
@@ -123,7 +79,9 @@ pub fn lay_chosen(bytes: &mut Vec<u8>, offset: usize, end: usize, run: &[u8], ke
 pub fn replace(bytes: &mut Vec<u8>, new: &[u8]) -> Result<(), AllocError>
     ensures { Grows result bytes.old bytes.new (length new.now) new.now }
 {
-    make_room(bytes, new.len())?;
+    if bytes.capacity() < new.len() {
+        bytes.reserve(new.len() - bytes.len())?;
+    }
     bytes.clear();
     bytes.extend_from_slice(new).unwrap();
     Ok(())

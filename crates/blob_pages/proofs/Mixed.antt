@@ -5,6 +5,13 @@ use Rattle.std.proofs.lemmas.List.{get_or_past, get_or-take, get_or-drop, length
 use Rattle.blob_model.specs.Bytes.{overlay, overlay_by, resize, reach}
 use Rattle.blob_model.proofs.Bytes.{same_bytes, length-overlay_by, reach_below, reach_all, above_chosen, at_chosen, at_other, at_resized, picks}
 
+-- the last selected byte, counted from the run's start
+pub reach_back : (o n : ℕ) (c : ℕ → Bool) → o < reach o n c → reach o n c - o ≡ reach 0 n c
+reach_back o n c some =
+    let low = reach_below 0 n c (reach o n c - o) (λ i h e. omega (arith, above_chosen o n c i h e)) in
+    let high = reach_below o n c (o + reach 0 n c) (λ i h e. omega (arith, above_chosen 0 n c i h e)) in
+    omega (arith, some, low, high)
+
 module _ (x t : List ℕ) (o n : ℕ) (b : List ℕ) (c : ℕ → Bool) (some : 0 < n) (far : reach o (length b) c ≡ o + n) (len : length t ≡ n) (there : (i : ℕ) → i < n → get_or t i 0 ≡ get_or x (o + i) 0) where
   pub length-mixed : length (overlay_by t 0 b c) ≡ n
   length-mixed = omega (arith, len, length-overlay_by t 0 b c, reach_below 0 (length b) c n (λ i h e. omega (arith, far, above_chosen o (length b) c i h e)))

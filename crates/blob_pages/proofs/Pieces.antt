@@ -1,17 +1,25 @@
 -- A run in pieces, written piece by piece.
-use Rattle.std.proofs.Common.{◌≡◌, ℕ, ◌+◌, ◌-◌, ◌<◌, ◌≤◌, ◌∙◌, Bool, true, false, List, [], ◌∷◌, ◌++◌, length, take, drop, get_or, Vec, Global, ap, sym, arith, length-append, length-take, length-drop, append-nil}
+use Rattle.std.proofs.Common.{◌≡◌, ⊎_elim, ℕ, ◌+◌, ◌-◌, ◌<◌, ◌≤◌, ◌∙◌, Bool, true, false, List, [], ◌∷◌, ◌++◌, length, take, drop, get_or, Vec, Global, ap, sym, arith, length-append, length-take, length-drop, append-nil}
+use Rattle.std.proofs.lemmas.Bool.{cases_eq}
 use Rattle.std.proofs.lemmas.Grind.{flat_map-append}
 use Rattle.std.proofs.lemmas.List.{take_more, get_or-take, get_or-drop, take-append-drop}
 use Rattle.std.specs.List.{flat_map, slice_range}
-use Rattle.blob_model.specs.Bytes.{overlay, overlay_by, reach}
+use Rattle.blob_model.specs.Bytes.{overlay, overlay_by, reach, write_live}
 use Rattle.blob_model.specs.Runs.{is_chosen}
 use Rattle.blob_model.proofs.Agrees.{overlay_same}
-use Rattle.blob_model.proofs.Bytes.{reach_below, above_chosen}
-use Rattle.blob_overlay.proofs.Overlays.{overlay_more}
+use Rattle.blob_model.proofs.Bytes.{reach_below, reach_all, above_chosen, length-overlay_by}
+use Rattle.blob_overlay.proofs.Overlays.{overlay_more, grown_none}
 
 -- all bytes of the pieces
 abbrev pub flat : List (Vec ℕ Global) → List ℕ
 flat ps = flat_map (λ p. p.items) ps
+
+-- bytes that reach a run's offset reach its end after it is written
+over_reaches : (x : List ℕ) (o : ℕ) (b : List ℕ) → o ≤ length x → o + length b ≤ length (overlay x o b)
+over_reaches x o b from = ⊎_elim
+    (λ none. omega (arith, none, from, length-overlay_by x o b (λ _. true)))
+    (λ some. omega (arith, length-overlay_by x o b (λ _. true), reach_all o (length b) (omega (arith, some))))
+    (cases_eq (length b) 0)
 
 module _ (ps : List (Vec ℕ Global)) (i : ℕ) (v : Vec ℕ Global) (h : i < length ps) (is : v ≡ get_or ps i v) where
   flat_more : flat (take (i + 1) ps) ≡ flat (take i ps) ++ v.items
@@ -29,6 +37,12 @@ module _ (ps : List (Vec ℕ Global)) (i : ℕ) (v : Vec ℕ Global) (h : i < le
   laid_more x y z o at eat ey ez = ez ∙ ap (λ l. overlay l at v.items) ey ∙ ap (λ a. overlay (overlay x o (flat (take i ps))) a v.items) eat
       ∙ overlay_more x o (flat (take i ps)) v.items (λ _. true)
       ∙ ap (overlay x o) (sym flat_more)
+
+  -- the same, if the first bytes reach the run's offset
+  pub live_more : (x y z : List ℕ) (o at : ℕ) → o ≤ length x → at ≡ o + length (flat (take i ps)) → y ≡ overlay x o (flat (take i ps)) → z ≡ write_live y at v.items
+      → z ≡ overlay x o (flat (take (i + 1) ps))
+  live_more x y z o at from eat ey ez = laid_more x y z o at eat ey
+      (ez ∙ ap (λ l. overlay l at v.items) (sym (grown_none y at (omega (arith, eat, ap length ey, over_reaches x o (flat (take i ps)) from)))))
 
   -- which bytes of the piece are selected
   part : (keep : List Bool) (done end : ℕ) → done ≡ length (flat (take i ps)) → end ≡ done + length v.items → (j : ℕ) → j < length v.items

@@ -1,5 +1,5 @@
 // The bytes of a blob: one vector if they fit on one page, else pages.
-ghost use Rattle.std.specs.Prelude.{◌≡◌, ◌≤◌, ◌<◌, ◌+◌, ◌^◌, length, max, take, drop, OnOk, OnErr, IfOk, vec_capacity};
+ghost use Rattle.std.specs.Prelude.{◌≡◌, ◌≤◌, ◌<◌, ◌+◌, ◌^◌, length, take, drop, OnOk, OnErr, IfOk, vec_capacity};
 ghost use Rattle.blob_model.specs.Bytes.{overlay, overlay_by, reach, resize, write_live};
 ghost use Rattle.blob_model.specs.Runs.{is_chosen};
 
@@ -71,7 +71,7 @@ impl Form {
         match self {
             Form::Flat(bytes) => {
                 if len <= PAGE {
-                    return overlay::make_room(bytes, len);
+                    return bytes.reserve(len - bytes.len());
                 }
                 let twice = bytes.capacity().saturating_mul(2);
                 let made = paged(*bytes.allocator(), bytes.as_slice(), len.max(twice))?;
@@ -107,7 +107,7 @@ impl Form {
     }
 
     /// Sets the length of pages. If a page can't be allocated, all bytes move to one vector.
-    fn set_len_pages(&mut self, len: usize)
+    pub fn set_len_pages(&mut self, len: usize)
         requires { len ≤ capacity self.old }
         ensures { Becomes self.old self.new (resize (content self.old) len) }
     {
@@ -115,27 +115,6 @@ impl Form {
             let mut flat = self.flattened();
             overlay::set_len(&mut flat, len);
             *self = Form::Flat(flat);
-        }
-    }
-
-    /// Truncates, or extends with zeros, within the capacity.
-    pub fn set_len(&mut self, len: usize)
-        requires { len ≤ capacity self.old }
-        ensures { Becomes self.old self.new (resize (content self.old) len) }
-    {
-        match self {
-            Form::Flat(bytes) => overlay::set_len(bytes, len),
-            Form::Paged(_) => self.set_len_pages(len),
-        }
-    }
-
-    /// Extends the bytes with zeros to `len`, within the capacity. Does nothing if they are that long already.
-    pub fn grow(&mut self, len: usize)
-        requires { len ≤ capacity self.old }
-        ensures { Becomes self.old self.new (resize (content self.old) (max (length (content self.old)) len)) }
-    {
-        if self.len() < len {
-            self.set_len(len);
         }
     }
 
@@ -151,40 +130,21 @@ impl Form {
         }
     }
 
-    /// Writes all bytes to pages, or to one vector if a page can't be allocated.
-    fn lay_pages(&mut self, offset: usize, run: &[u8])
-        requires fits { offset + length run.now < 2 ^ 64 }
-        requires room { offset + length run.now ≤ capacity self.old }
-        ensures { Becomes self.old self.new (overlay (content self.old) offset run.now) }
-    {
-        if !self.try_lay(offset, run) {
-            let mut flat = self.flattened();
-            overlay::lay(&mut flat, offset, run);
-            *self = Form::Flat(flat);
-        }
-    }
-
-    /// Writes all bytes, within the capacity.
-    #[inline(always)]
-    pub fn lay(&mut self, offset: usize, run: &[u8])
-        requires fits { offset + length run.now < 2 ^ 64 }
-        requires room { offset + length run.now ≤ capacity self.old }
-        ensures { Becomes self.old self.new (overlay (content self.old) offset run.now) }
-    {
-        match self {
-            Form::Flat(bytes) => overlay::lay(bytes, offset, run),
-            Form::Paged(_) => self.lay_pages(offset, run),
-        }
-    }
-
-    /// Writes all bytes to pages. An empty run extends the bytes with zeros to `offset`.
+    /// Writes all bytes to pages, or to one vector if a page can't be allocated. An empty run extends the bytes with
+    /// zeros to `offset`.
     pub fn write_live_pages(&mut self, offset: usize, run: &[u8])
         requires fits { offset + length run.now < 2 ^ 64 }
         requires room { offset + length run.now ≤ capacity self.old }
         ensures { Becomes self.old self.new (write_live (content self.old) offset run.now) }
     {
-        self.grow(offset);
-        self.lay_pages(offset, run);
+        if self.len() < offset {
+            self.set_len_pages(offset);
+        }
+        if !self.try_lay(offset, run) {
+            let mut flat = self.flattened();
+            overlay::write_live(&mut flat, offset, run);
+            *self = Form::Flat(flat);
+        }
     }
 
     /// Writes the selected bytes to pages. Returns false if a page can't be allocated.
@@ -202,7 +162,7 @@ impl Form {
     }
 
     /// Writes the selected bytes to pages, or to one vector if a page can't be allocated.
-    fn lay_chosen_pages(&mut self, offset: usize, end: usize, run: &[u8], keep: &[bool])
+    pub fn lay_chosen_pages(&mut self, offset: usize, end: usize, run: &[u8], keep: &[bool])
         requires same { length keep.now ≡ length run.now }
         requires fits { offset + length run.now < 2 ^ 64 }
         requires end { end ≡ reach offset (length run.now) (is_chosen keep.now) }
@@ -213,20 +173,6 @@ impl Form {
             let mut flat = self.flattened();
             overlay::lay_chosen(&mut flat, offset, end, run, keep);
             *self = Form::Flat(flat);
-        }
-    }
-
-    /// Writes the selected bytes, within the capacity. `end` is the end of the last one.
-    pub fn lay_chosen(&mut self, offset: usize, end: usize, run: &[u8], keep: &[bool])
-        requires same { length keep.now ≡ length run.now }
-        requires fits { offset + length run.now < 2 ^ 64 }
-        requires end { end ≡ reach offset (length run.now) (is_chosen keep.now) }
-        requires room { end ≤ capacity self.old }
-        ensures { Becomes self.old self.new (overlay_by (content self.old) offset run.now (is_chosen keep.now)) }
-    {
-        match self {
-            Form::Flat(bytes) => overlay::lay_chosen(bytes, offset, end, run, keep),
-            Form::Paged(_) => self.lay_chosen_pages(offset, end, run, keep),
         }
     }
 

@@ -9,6 +9,5 @@ mod page;
 mod page_list;
 mod page_writes;
 pub mod pages;
-mod runs;
 
 pub use bytes::Bytes;

@@ -27,17 +27,7 @@ pub fn make_room(bytes: &mut Bytes, len: usize) -> Result<(), AllocError>
     bytes.form.reserve_more(len)
 }
 
-/// Writes a run, within the capacity. An empty run extends the bytes with zeros to `offset`.
-pub fn write_live(bytes: &mut Bytes, offset: usize, run: &IoBufs)
-    requires fits { offset + length run.now < 2 ^ 64 }
-    requires room { offset + length run.now ≤ bytes.old.capacity }
-    ensures { AreNow bytes.old bytes.new (write_live bytes.old.items offset run.now) }
-{
-    bytes.form.grow(offset);
-    bytes.form.lay_run(offset, run);
-}
-
-/// Writes one piece, as `write_live`.
+/// Writes all bytes, within the capacity. An empty run extends the bytes with zeros to `offset`.
 #[inline(always)]
 pub fn write_live_slice(bytes: &mut Bytes, offset: usize, run: &[u8])
     requires fits { offset + length run.now < 2 ^ 64 }
@@ -50,24 +40,22 @@ pub fn write_live_slice(bytes: &mut Bytes, offset: usize, run: &[u8])
     }
 }
 
-/// Writes the selected bytes of a run. `keep[i]` selects byte `i`. The bytes grow only as far as the last selected
-/// byte. The only error is out of memory, if the capacity is too small. The bytes are unchanged then.
-pub fn write_chosen(
-    bytes: &mut Bytes,
-    offset: usize,
-    run: &IoBufs,
-    keep: &[bool],
-) -> Result<(), AllocError>
-    requires same { length keep.now ≡ length run.now }
+/// Writes several pieces, as `write_live_slice`.
+pub fn write_live(bytes: &mut Bytes, offset: usize, run: &IoBufs)
     requires fits { offset + length run.now < 2 ^ 64 }
-    ensures { WritesSelected result bytes.old bytes.new offset run.now keep.now }
+    requires room { offset + length run.now ≤ bytes.old.capacity }
+    ensures { AreNow bytes.old bytes.new (write_live bytes.old.items offset run.now) }
 {
-    make_room(bytes, reach_of(offset, keep))?;
-    bytes.form.lay_chosen_run(offset, run, keep);
-    Ok(())
+    write_live_slice(bytes, offset, &[]);
+    let mut at = offset;
+    for piece in run.pieces() {
+        write_live_slice(bytes, at, piece);
+        at += piece.len();
+    }
 }
 
-/// Writes the selected bytes of one piece, as `write_chosen`.
+/// Writes the selected bytes of a run. `keep[i]` selects byte `i`. The bytes grow only as far as the last selected
+/// byte. The only error is out of memory, if the capacity is too small. The bytes are unchanged then.
 pub fn write_chosen_slice(
     bytes: &mut Bytes,
     offset: usize,
@@ -80,27 +68,58 @@ pub fn write_chosen_slice(
 {
     let end = reach_of(offset, keep);
     make_room(bytes, end)?;
-    bytes.form.lay_chosen(offset, end, run, keep);
+    match &mut bytes.form {
+        Form::Flat(flat) => overlay::lay_chosen(flat, offset, end, run, keep),
+        Form::Paged(_) => bytes.form.lay_chosen_pages(offset, end, run, keep),
+    }
+    Ok(())
+}
+
+/// Writes the selected bytes of several pieces, as `write_chosen_slice`.
+pub fn write_chosen(
+    bytes: &mut Bytes,
+    offset: usize,
+    run: &IoBufs,
+    keep: &[bool],
+) -> Result<(), AllocError>
+    requires same { length keep.now ≡ length run.now }
+    requires fits { offset + length run.now < 2 ^ 64 }
+    ensures { WritesSelected result bytes.old bytes.new offset run.now keep.now }
+{
+    make_room(bytes, reach_of(offset, keep))?;
+    let mut done = 0;
+    for piece in run.pieces() {
+        let end = done + piece.len();
+        let part = &keep[done..end];
+        write_chosen_slice(bytes, offset + done, piece, part).unwrap();
+        done = end;
+    }
     Ok(())
 }
 
 /// Writes a run. The only error is out of memory, if the capacity is too small. The bytes are unchanged then.
-pub fn write(bytes: &mut Bytes, offset: usize, run: &IoBufs) -> Result<(), AllocError>
-    requires { offset + length run.now < 2 ^ 64 }
-    ensures { Grows result bytes.old bytes.new (offset + length run.now) (overlay bytes.old.items offset run.now) }
-{
-    make_room(bytes, offset + run.remaining())?;
-    bytes.form.lay_run(offset, run);
-    Ok(())
-}
-
-/// Writes one piece, as `write`.
 pub fn write_slice(bytes: &mut Bytes, offset: usize, run: &[u8]) -> Result<(), AllocError>
     requires { offset + length run.now < 2 ^ 64 }
     ensures { Grows result bytes.old bytes.new (offset + length run.now) (overlay bytes.old.items offset run.now) }
 {
-    make_room(bytes, offset + run.len())?;
-    bytes.form.lay(offset, run);
+    let len = run.len();
+    make_room(bytes, offset + len)?;
+    if len > 0 {
+        write_live_slice(bytes, offset, run);
+    }
+    Ok(())
+}
+
+/// Writes several pieces, as `write_slice`.
+pub fn write(bytes: &mut Bytes, offset: usize, run: &IoBufs) -> Result<(), AllocError>
+    requires { offset + length run.now < 2 ^ 64 }
+    ensures { Grows result bytes.old bytes.new (offset + length run.now) (overlay bytes.old.items offset run.now) }
+{
+    let len = run.remaining();
+    make_room(bytes, offset + len)?;
+    if len > 0 {
+        write_live(bytes, offset, run);
+    }
     Ok(())
 }
 
@@ -110,7 +129,10 @@ pub fn resize(bytes: &mut Bytes, len: usize) -> Result<(), AllocError>
     ensures { Grows result bytes.old bytes.new len (resize bytes.old.items len) }
 {
     make_room(bytes, len)?;
-    bytes.form.set_len(len);
+    match &mut bytes.form {
+        Form::Flat(flat) => overlay::set_len(flat, len),
+        Form::Paged(_) => bytes.form.set_len_pages(len),
+    }
     Ok(())
 }
 

@@ -39,7 +39,7 @@ fn mixed(
     ensures laid { IfOk result (λ all. IsSelectedWrite all.items (bytes pages.now) offset run.now keep.now) }
 {
     let mut all = range_of(alloc, pages, offset, end)?;
-    overlay::copy_chosen(all.as_mut_slice(), 0, run, keep);
+    overlay::lay_chosen(&mut all, 0, end - offset, run, keep);
     Ok(all)
 }
 
