@@ -8,7 +8,6 @@ ghost use Rattle.blob_header.specs.Refusals.{error_of, refusal_of, IsMemory};
 ghost use Rattle.blob_memory.specs.Answers.{missing, read_refusal};
 
 use crate::origin::Origin;
-use crate::ranges;
 use crate::storage::Storage;
 use blob_base::{Error, Handle, IoBufs, IoBufsMut, ReadOptions, WriteOptions};
 use blob_pages::{Bytes, overlay};
@@ -50,7 +49,7 @@ impl Blob {
         ensures within { OnOk result (offset + len ≤ length (live self.now)) }
         ensures refusal { error_of result ≡ read_refusal (place self.now) (live self.now) offset len }
     {
-        let end = ranges::logical_end(self.origin.data_offset(), offset, len)?;
+        let end = self.origin.logical_end(offset, len)?;
         if end > self.live.len() {
             return Err(Error::BlobInsufficientLength);
         }
@@ -79,7 +78,7 @@ impl Blob {
         ensures room { live_room self.old ≤ live_room self.new }
         ensures place { place self.new ≡ place self.old }
     {
-        let end = ranges::logical_end(self.origin.data_offset(), offset, bytes.remaining())?;
+        let end = self.origin.logical_end(offset, bytes.remaining())?;
         overlay::make_room(&mut self.live, end)?;
         overlay::write_live(&mut self.live, offset as usize, bytes);
         Ok(())
@@ -102,7 +101,7 @@ impl Blob {
         if run.is_empty() {
             return Ok(());
         }
-        let end = ranges::logical_end(self.origin.data_offset(), offset, run.len())?;
+        let end = self.origin.logical_end(offset, run.len())?;
         let Some(durable) = store.contents.bytes_mut(&self.origin) else {
             let missing = self.missing()?;
             overlay::make_room(&mut self.live, end)?;
@@ -136,7 +135,7 @@ impl Blob {
         if bytes.is_empty() {
             return Ok(());
         }
-        let end = ranges::logical_end(self.origin.data_offset(), offset, bytes.remaining())?;
+        let end = self.origin.logical_end(offset, bytes.remaining())?;
         let Some(durable) = store.contents.bytes_mut(&self.origin) else {
             let missing = self.missing()?;
             overlay::make_room(&mut self.live, end)?;
@@ -286,7 +285,7 @@ impl blob_base::Blob<Storage> for Blob {
         if options.contains(WriteOptions::SYNC) {
             return self.write_sync(store, offset, bytes);
         }
-        let end = ranges::logical_end(self.origin.data_offset(), offset, bytes.len())?;
+        let end = self.origin.logical_end(offset, bytes.len())?;
         overlay::make_room(&mut self.live, end)?;
         overlay::write_live_slice(&mut self.live, offset as usize, bytes);
         Ok(())
@@ -302,7 +301,7 @@ impl blob_base::Blob<Storage> for Blob {
     /// - `Memory` if the live bytes can't grow.
     fn resize(&mut self, store: &mut Storage, len: u64) -> Result<(), Error> {
         let _ = store;
-        let len = ranges::logical_end(self.origin.data_offset(), len, 0)?;
+        let len = self.origin.logical_end(len, 0)?;
         overlay::resize(&mut self.live, len)?;
         Ok(())
     }
@@ -344,7 +343,7 @@ impl blob_base::Blob<Storage> for Blob {
     /// - `OffsetOverflow` if the physical end doesn't fit in 64 bits.
     /// - `Memory` if the capacity can't be allocated. That of the live bytes may have grown.
     fn reserve(&mut self, store: &mut Storage, end: u64) -> Result<(), Error> {
-        let end = ranges::logical_end(self.origin.data_offset(), end, 0)?;
+        let end = self.origin.logical_end(end, 0)?;
         overlay::make_room(&mut self.live, end)?;
         let Some(durable) = store.contents.bytes_mut(&self.origin) else {
             return Ok(());

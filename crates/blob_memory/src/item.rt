@@ -54,8 +54,8 @@ impl Held {
         ensures { result ≡ is_current_of first self.now origin.now.number origin.now.start }
     {
         first <= self.number
-            && self.number == origin.generation()
-            && self.layout.data_offset() == origin.data_offset()
+            && self.number == origin.generation
+            && self.layout.data_offset() == origin.data_offset
     }
 }
 

@@ -11,10 +11,10 @@ use std::marker::Model;
 /// its snapshots. It means nothing to any other store: there the same names and numbers can be in use.
 #[derive(Drop)]
 pub struct Origin {
-    partition: String,
-    name: Vec<u8>,
-    generation: u64,
-    data_offset: u64,
+    pub(crate) partition: String,
+    pub(crate) name: Vec<u8>,
+    pub(crate) generation: u64,
+    pub(crate) data_offset: u64,
 }
 
 impl Model for Origin {

@@ -125,7 +125,7 @@ impl Partitions {
         ensures* writes_back { sem 𝓛 (LendsBytesAt self.entry origin.now.partition origin.now.name result) }
         ensures value { option_copied_mut result ≡ current_bytes self.old first origin.now }
     {
-        match self.get_mut(origin.partition(), origin.name()) {
+        match self.get_mut(&origin.partition, &origin.name) {
             None => None,
             Some(item) => item.bytes_mut(first, origin),
         }

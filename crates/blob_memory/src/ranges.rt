@@ -3,21 +3,24 @@ ghost use Rattle.std.specs.Prelude.{◌≡◌, ◌<◌, ◌+◌, ◌^◌, None, 
 ghost use Rattle.blob_header.specs.Refusals.{error_of, OffsetOverflow};
 ghost use Rattle.blob_memory.specs.Answers.{is_uncounted};
 
+use crate::origin::Origin;
 use blob_base::Error;
 
-/// Returns the logical end of a range. The header has `start` bytes. Returns `OffsetOverflow` if the physical end
-/// doesn't fit in 64 bits.
-#[inline(always)]
-pub fn logical_end(start: u64, offset: u64, len: usize) -> Result<usize, Error>
-    ensures end { IfOk result (λ end. end ≡ offset + len) }
-    ensures counted { OnOk result (offset + start + len < 2 ^ 64) }
-    ensures refusal { error_of result ≡ (if is_uncounted (offset + start + len) then Some OffsetOverflow else None) }
-{
-    let Some(raw) = offset.checked_add(start) else {
-        return Err(Error::OffsetOverflow);
-    };
-    if len as u64 > u64::MAX - raw {
-        return Err(Error::OffsetOverflow);
+impl Origin {
+    /// Returns the logical end of a range of the blob. Returns `OffsetOverflow` if the physical end doesn't fit in 64
+    /// bits.
+    #[inline(always)]
+    pub(crate) fn logical_end(&self, offset: u64, len: usize) -> Result<usize, Error>
+        ensures end { IfOk result (λ end. end ≡ offset + len) }
+        ensures counted { OnOk result (offset + self.now.start + len < 2 ^ 64) }
+        ensures refusal { error_of result ≡ (if is_uncounted (offset + self.now.start + len) then Some OffsetOverflow else None) }
+    {
+        let Some(raw) = offset.checked_add(self.data_offset) else {
+            return Err(Error::OffsetOverflow);
+        };
+        if len as u64 > u64::MAX - raw {
+            return Err(Error::OffsetOverflow);
+        }
+        Ok(offset as usize + len)
     }
-    Ok(offset as usize + len)
 }

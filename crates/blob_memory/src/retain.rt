@@ -8,7 +8,6 @@ ghost use Rattle.blob_model.specs.Runs.{is_chosen};
 
 use crate::blob::Blob;
 use crate::origin::Origin;
-use crate::ranges::logical_end;
 use crate::storage::Storage;
 use blob_base::{Error, IoBufs};
 use blob_pages::{Bytes, overlay};
@@ -39,7 +38,7 @@ impl Storage {
         ensures room { NeedsWriteRoom result self.old origin.now offset (length bytes.now) (is_chosen keep.now) }
         ensures retained { RetainsWrite result self.old self.new origin.now offset bytes.now keep.now }
     {
-        logical_end(origin.data_offset(), offset, bytes.remaining())?;
+        origin.logical_end(offset, bytes.remaining())?;
         let Some(durable) = self.contents.bytes_mut(origin) else {
             return Ok(());
         };
@@ -59,7 +58,7 @@ impl Storage {
         ensures room { NeedsRoom result self.old origin.now (len + origin.now.start) len }
         ensures retained { Retains result self.old self.new origin.now (λ x. resize x len) }
     {
-        let len = logical_end(origin.data_offset(), len, 0)?;
+        let len = origin.logical_end(len, 0)?;
         let Some(durable) = self.contents.bytes_mut(origin) else {
             return Ok(());
         };
@@ -91,7 +90,7 @@ impl Storage {
         ensures durable { durable self.new ≡ durable self.old }
         ensures kept { KeepsRoom self.old self.new }
     {
-        let len = logical_end(origin.data_offset(), len, 0)?;
+        let len = origin.logical_end(len, 0)?;
         let Some(durable) = self.contents.bytes_mut(origin) else {
             return Ok(());
         };

@@ -17,7 +17,7 @@ impl Contents {
     pub fn bytes(&self, origin: &Origin) -> Option<&Bytes>
         ensures { option_copied result ≡ vec_at self.now origin.now }
     {
-        match self.partitions.get(origin.partition(), origin.name()) {
+        match self.partitions.get(&origin.partition, &origin.name) {
             Some(Item::Held(held)) => {
                 if held.is_current(self.first, origin) {
                     Some(&held.bytes)

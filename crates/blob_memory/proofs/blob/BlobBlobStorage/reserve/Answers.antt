@@ -37,7 +37,7 @@ pub returns-clause-room : goal.returns-clause-room
 returns-clause-room c = λ _ now.
     let l = (lent c.args.store.now.contents _ (place c.args.self.now) _ _ c.make_room-2.new.bytes c.in-Some.is c.bytes_mut.ensures.value (c.bytes_mut.follows.holds c.make_room-2.new.bytes)) in
     let end : c.args.end ≤ c.make_room-2.new.bytes.capacity = omega (arith, c.in_ok-end.ensures.end, c.in_ok-make_room-2.ensures.room) in
-    room_reached c.args.store.now.contents (c.bytes_mut.follows.lender c.make_room-2.new.bytes) (place c.args.self.now) _ c.args.end l.now.directory now (omega (arith, c.in_ok-make_room.ensures.room, c.in_ok-end.ensures.counted, c.in_ok-end.ensures.end, c.data_offset.ensures)) (fits_lent l _ end)
+    room_reached c.args.store.now.contents (c.bytes_mut.follows.lender c.make_room-2.new.bytes) (place c.args.self.now) _ c.args.end l.now.directory now (omega (arith, c.in_ok-make_room.ensures.room, c.in_ok-end.ensures.counted, c.in_ok-end.ensures.end)) (fits_lent l _ end)
 
 pub returns-clause-kept : goal.returns-clause-kept
 returns-clause-kept c =
