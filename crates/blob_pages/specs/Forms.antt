@@ -1,5 +1,5 @@
 -- The bytes of a blob, in one vector or in pages.
-use Rattle.std.specs.Prelude.{◌≡◌, ℕ, ◌≤◌, Bool, true, false, List, Result, OnOk, OnErr, IsOk, vec_capacity}
+use Rattle.std.specs.Prelude.{◌≡◌, ℕ, ◌≤◌, List, Result, OnOk, OnErr, IsOk, vec_capacity}
 use Rattle.blob_pages.specs.declared.form.Form.{Form}
 use Rattle.blob_pages.specs.declared.form.Form.TheVariants.{Flat, Paged}
 use Rattle.blob_pages.specs.Values.{bytes, room}
@@ -25,9 +25,3 @@ pub record MayBecome {T E : Type 0} (result : Result T E) (old new : Form) (need
   pub err : OnErr result (content new ≡ content old)
   pub succeeds : need ≤ capacity old → IsOk result
   pub capacity : capacity old ≤ capacity new
-
--- the new bytes if the change was done, else the old ones; the same capacity
-pub record Tried (result : Bool) (old new : Form) (now : List ℕ) : Type 0 where
-  pub done : result ≡ true → content new ≡ now
-  pub undone : result ≡ false → content new ≡ content old
-  pub capacity : capacity new ≡ capacity old

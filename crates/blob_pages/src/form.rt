@@ -1,6 +1,6 @@
 // The bytes of a blob: one vector if they fit on one page, else pages.
 ghost use Rattle.std.specs.Prelude.{◌≡◌, ◌≤◌, ◌<◌, ◌+◌, ◌^◌, length, take, drop, OnOk, OnErr, IfOk, vec_capacity};
-ghost use Rattle.blob_model.specs.Bytes.{overlay, overlay_by, reach, resize, write_live};
+ghost use Rattle.blob_model.specs.Bytes.{overlay_by, reach, resize, write_live};
 ghost use Rattle.blob_model.specs.Runs.{is_chosen};
 
 use crate::page_writes::{lay_mixed, paged};
@@ -16,7 +16,7 @@ pub enum Form {
 }
 
 impl Form {
-    ghost use Rattle.blob_pages.specs.Forms.{content, capacity, Becomes, MayBecome, Tried};
+    ghost use Rattle.blob_pages.specs.Forms.{content, capacity, Becomes, MayBecome};
 
     /// Copies these bytes. The only error is out of memory.
     pub fn from_slice(alloc: Global, bytes: &[u8]) -> Result<Form, AllocError>
@@ -95,39 +95,19 @@ impl Form {
         }
     }
 
-    /// Sets the length of pages. Returns false if a page can't be allocated.
-    fn try_set_len(&mut self, len: usize) -> bool
-        requires { len ≤ capacity self.old }
-        ensures { Tried result self.old self.new (resize (content self.old) len) }
-    {
-        match self {
-            Form::Flat(_) => false,
-            Form::Paged(pages) => pages.resize(len).is_ok(),
-        }
-    }
-
     /// Sets the length of pages. If a page can't be allocated, all bytes move to one vector.
     pub fn set_len_pages(&mut self, len: usize)
         requires { len ≤ capacity self.old }
         ensures { Becomes self.old self.new (resize (content self.old) len) }
     {
-        if !self.try_set_len(len) {
-            let mut flat = self.flattened();
-            overlay::set_len(&mut flat, len);
-            *self = Form::Flat(flat);
+        if let Form::Paged(pages) = self {
+            if pages.resize(len).is_ok() {
+                return;
+            }
         }
-    }
-
-    /// Writes all bytes to pages. Returns false if a page can't be allocated.
-    fn try_lay(&mut self, offset: usize, run: &[u8]) -> bool
-        requires fits { offset + length run.now < 2 ^ 64 }
-        requires room { offset + length run.now ≤ capacity self.old }
-        ensures { Tried result self.old self.new (overlay (content self.old) offset run.now) }
-    {
-        match self {
-            Form::Flat(_) => false,
-            Form::Paged(pages) => pages.overlay(offset, run).is_ok(),
-        }
+        let mut flat = self.flattened();
+        overlay::set_len(&mut flat, len);
+        *self = Form::Flat(flat);
     }
 
     /// Writes all bytes to pages, or to one vector if a page can't be allocated. An empty run extends the bytes with
@@ -140,25 +120,14 @@ impl Form {
         if self.len() < offset {
             self.set_len_pages(offset);
         }
-        if !self.try_lay(offset, run) {
-            let mut flat = self.flattened();
-            overlay::write_live(&mut flat, offset, run);
-            *self = Form::Flat(flat);
+        if let Form::Paged(pages) = self {
+            if pages.overlay(offset, run).is_ok() {
+                return;
+            }
         }
-    }
-
-    /// Writes the selected bytes to pages. Returns false if a page can't be allocated.
-    fn try_lay_chosen(&mut self, offset: usize, end: usize, run: &[u8], keep: &[bool]) -> bool
-        requires same { length keep.now ≡ length run.now }
-        requires fits { offset + length run.now < 2 ^ 64 }
-        requires end { end ≡ reach offset (length run.now) (is_chosen keep.now) }
-        requires room { end ≤ capacity self.old }
-        ensures { Tried result self.old self.new (overlay_by (content self.old) offset run.now (is_chosen keep.now)) }
-    {
-        match self {
-            Form::Flat(_) => false,
-            Form::Paged(pages) => lay_mixed(pages, offset, end, run, keep).is_ok(),
-        }
+        let mut flat = self.flattened();
+        overlay::write_live(&mut flat, offset, run);
+        *self = Form::Flat(flat);
     }
 
     /// Writes the selected bytes to pages, or to one vector if a page can't be allocated.
@@ -169,11 +138,14 @@ impl Form {
         requires room { end ≤ capacity self.old }
         ensures { Becomes self.old self.new (overlay_by (content self.old) offset run.now (is_chosen keep.now)) }
     {
-        if !self.try_lay_chosen(offset, end, run, keep) {
-            let mut flat = self.flattened();
-            overlay::lay_chosen(&mut flat, offset, end, run, keep);
-            *self = Form::Flat(flat);
+        if let Form::Paged(pages) = self {
+            if lay_mixed(pages, offset, end, run, keep).is_ok() {
+                return;
+            }
         }
+        let mut flat = self.flattened();
+        overlay::lay_chosen(&mut flat, offset, end, run, keep);
+        *self = Form::Flat(flat);
     }
 
     /// Copies the bytes. The copy shares every page that is shared already. The only error is out of memory.
