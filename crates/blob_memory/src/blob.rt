@@ -71,19 +71,6 @@ impl Blob {
     ghost use Rattle.blob_memory.specs.Store.{place, live, directory, durable, live_room, room, WriteMayReturn};
     ghost use Rattle.blob_memory.specs.declared.storage.Storage.{Storage};
 
-    /// Writes the live bytes only, from several pieces.
-    fn write_pieces(&mut self, offset: u64, bytes: &IoBufs) -> Result<(), Error>
-        ensures allowed { (s : Storage) → WriteMayReturn self.old s offset bytes.now false (error_of result) }
-        ensures live { live self.new ≡ live_after false (live self.old) offset bytes.now (error_of result) }
-        ensures room { live_room self.old ≤ live_room self.new }
-        ensures place { place self.new ≡ place self.old }
-    {
-        let end = self.origin.logical_end(offset, bytes.remaining())?;
-        overlay::make_room(&mut self.live, end)?;
-        overlay::write_live(&mut self.live, offset as usize, bytes);
-        Ok(())
-    }
-
     /// Writes the live bytes, and the same range of the durable bytes if the incarnation is current. Copies nothing
     /// first.
     fn write_sync(&mut self, store: &mut Storage, offset: u64, run: &[u8]) -> Result<(), Error>
@@ -261,10 +248,12 @@ impl blob_base::Blob<Storage> for Blob {
         options: WriteOptions,
     ) -> Result<(), Error> {
         if options.contains(WriteOptions::SYNC) {
-            self.write_pieces_sync(store, offset, &bytes)
-        } else {
-            self.write_pieces(offset, &bytes)
+            return self.write_pieces_sync(store, offset, &bytes);
         }
+        let end = self.origin.logical_end(offset, bytes.remaining())?;
+        overlay::make_room(&mut self.live, end)?;
+        overlay::write_live(&mut self.live, offset as usize, &bytes);
+        Ok(())
     }
 
     /// Writes a slice, as `write_at` writes its pieces. Copies nothing first.
