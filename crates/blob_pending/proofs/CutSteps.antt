@@ -1,7 +1,7 @@
 -- Loops that go over the entries of a list.
 use Rattle.std.proofs.Common.{◌≡◌, ℕ, zero, suc, ◌+◌, ◌<◌, ◌≤◌, Bool, true, false, cond, List, [], ◌∷◌, ◌++◌, map, length, get_or, take, drop, set, refl, sym, ◌∙◌, ap, ap₂, ⊎_elim, subst, arith, add-one}
-use Rattle.std.proofs.lemmas.Bool.{cases_eq}
-use Rattle.std.proofs.lemmas.List.{get_or-set_same, get_or-set_other}
+use Rattle.std.proofs.lemmas.Bool.{cases_eq, cond-true}
+use Rattle.std.proofs.lemmas.List.{get_or-set_same, get_or-set_other, map-append}
 use Rattle.std.specs.List.{All, filter}
 use Rattle.std.proofs.lemmas.List.Elements.{All-append}
 use Rattle.blob_model.specs.Log.{Write, Need, has_bare}
@@ -61,6 +61,12 @@ views_filter p (x ∷ q) = step (p (view x)) (views_filter p q)
     step false e = e
 
 -- one entry more
+pub pushed_is : (q r : List Entry) (e : Entry) (ok : Bool) → r ≡ cond ok (q ++ e ∷ []) q → ok ≡ true → r ≡ q ++ e ∷ []
+pushed_is q r e ok is y = is ∙ cond-true ok (q ++ e ∷ []) q y
+
+pub views_push : (q r : List Entry) (e : Entry) → r ≡ q ++ e ∷ [] → views r ≡ views q ++ view e ∷ []
+views_push q r e is = ap views is ∙ map-append view q (e ∷ [])
+
 pub all_push : (P : Entry → Type 0) (q r : List Entry) (e : Entry) → r ≡ q ++ e ∷ [] → All P q → P e → All P r
 all_push P q r e is all one = subst (λ (l : List Entry). All P l) (sym is) (All-append P q (e ∷ []) all alone)
   where

@@ -4,7 +4,7 @@ ghost use Rattle.blob_model.specs.Holes.{Holes};
 ghost use Rattle.blob_model.specs.Pending.{has_barrier, finish, ends};
 ghost use Rattle.blob_pending.specs.Blocks.{AreBounded};
 ghost use Rattle.blob_pending.specs.Replays.{unmarked, widest};
-ghost use Rattle.blob_pending.specs.Rooms.{AreWithin, HasRoomsFor, EachHasRoom, KeepsHoleRoom, CanCut, KeepsRest};
+ghost use Rattle.blob_pending.specs.Rooms.{AreWithin, HasRoomsFor, EachHasRoom, CanCut, KeepsRest};
 ghost use Rattle.blob_pending.specs.Views.{view, views, pared_by, is_left, left_in, CountsCovered};
 
 use crate::bounds::BlockBounds;
@@ -113,17 +113,6 @@ pub fn has_barrier(entries: &[Entry]) -> bool
         }
     }
     false
-}
-
-/// Appends an entry. The list has capacity for it.
-pub fn push(entries: &mut Vec<Entry>, entry: Entry)
-    requires { vec_len entries.old < vec_capacity entries.old }
-    ensures views { views entries.new.items ≡ views entries.old.items ++ view entry ∷ [] }
-    ensures holes { KeepsHoleRoom entries.old.items entries.new.items entry }
-    ensures len { vec_len entries.new ≡ vec_len entries.old + 1 }
-    ensures capacity { vec_capacity entries.old ≤ vec_capacity entries.new }
-{
-    entries.push(entry).unwrap();
 }
 
 /// Drops the first `count` entries.

@@ -9,6 +9,7 @@ use crate::bounds::BlockBounds;
 use crate::entries;
 use crate::entry::{DurableRange, Entry};
 use crate::room::Room;
+use crate::write::PendingWrite;
 use std::alloc::{AllocError, Global};
 
 /// The pending list of one incarnation.
@@ -52,10 +53,9 @@ fn drop_front(marks: &mut Vec<u64>, count: usize)
 impl<O> Incarnation<O> {
     ghost use Rattle.std.specs.Prelude.{◌<◌, ◌+◌, ◌*◌, ◌^◌, ◌++◌, ◌∷◌, ℕ, List, [], OnOk, false, true, length};
     ghost use Rattle.blob_model.specs.Holes.{Holes};
-    ghost use Rattle.blob_model.specs.Pending.{Marker, finish, is_marker};
+    ghost use Rattle.blob_model.specs.Pending.{Marker, finish};
     ghost use Rattle.blob_pending.specs.Lists.{Becomes, HasRoom, LaysInto};
     ghost use Rattle.blob_pending.specs.Rooms.{HasRoomsFor, CanCut, KeepsRest};
-    ghost use Rattle.blob_pending.specs.Views.{view};
 
     /// Returns an empty list.
     pub fn new(alloc: Global, origin: O) -> Incarnation<O>
@@ -100,17 +100,22 @@ impl<O> Incarnation<O> {
         }
     }
 
-    /// Appends an entry that isn't a marker. The list has capacity for it. A fully covered write is dropped instead.
-    pub fn push(&mut self, entry: Entry)
+    /// Appends a write without holes. The list has capacity for it.
+    pub fn push_write(&mut self, write: PendingWrite)
         requires room { HasRoom Room.Entry self.old }
-        requires unmarked { is_marker (view entry) ≡ false }
-        ensures { Becomes self.old self.new (left_in self.old.entries.items ++ left_in (entry ∷ [])) }
+        requires whole { write.holes.items ≡ [] }
+        ensures { Becomes self.old self.new (left_in self.old.entries.items ++ left_in (Entry.Write write ∷ [])) }
     {
-        if !entry.is_left() {
-            return;
-        }
-        self.queues = self.queues || entry.is_barrier();
-        entries::push(&mut self.entries, entry);
+        self.entries.push(Entry::Write(write)).unwrap();
+    }
+
+    /// Appends a resize to a length. The list has capacity for it.
+    pub fn push_resize(&mut self, len: u64)
+        requires { HasRoom Room.Entry self.old }
+        ensures { Becomes self.old self.new (left_in self.old.entries.items ++ left_in (Entry.Resize len ∷ [])) }
+    {
+        self.queues = true;
+        self.entries.push(Entry::Resize(len)).unwrap();
     }
 
     /// Appends a marker. The list has capacity for it.
@@ -119,7 +124,7 @@ impl<O> Incarnation<O> {
         ensures { Becomes self.old self.new (left_in self.old.entries.items ++ Marker number ∷ []) }
     {
         self.marks.push(number).unwrap();
-        entries::push(&mut self.entries, Entry::Marker(number));
+        self.entries.push(Entry::Marker(number)).unwrap();
     }
 
     /// Updates the list for a durable range: the range joins the holes of the writes, and is queued if a resize or a queued range
@@ -139,7 +144,7 @@ impl<O> Incarnation<O> {
         if self.queues {
             let bytes = copy;
             let range = Entry::Range(DurableRange { offset, bytes });
-            entries::push(&mut self.entries, range);
+            self.entries.push(range).unwrap();
         }
     }
 

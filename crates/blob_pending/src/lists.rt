@@ -4,15 +4,16 @@ ghost use Rattle.blob_model.specs.Places.{Place, same_place};
 ghost use Rattle.blob_model.specs.Directory.{Directory};
 ghost use Rattle.blob_model.specs.Holes.{Holes};
 ghost use Rattle.blob_model.specs.Order.{has_list};
-ghost use Rattle.blob_model.specs.Pending.{Marker, is_marker};
+ghost use Rattle.blob_model.specs.Pending.{Marker};
 ghost use Rattle.blob_header.specs.Refusals.{IsMemory};
 ghost use Rattle.blob_pending.specs.Rooms.{CanCut, KeepsRest};
-ghost use Rattle.blob_pending.specs.Views.{view, left_in};
+ghost use Rattle.blob_pending.specs.Views.{left_in};
 ghost use Rattle.blob_pending.specs.Lists.{lists_of, IsAt, HasRoomIn, IsRoomAt, HasRangesAt, SameLists, ChangesAt, IsCopyAt, LaysAt, AreDistinct, finished_in, AreNoted, StaysAt, RetiresEnded, RetiresList, FinishesLists, is_kept};
 
 use crate::entry::Entry;
 use crate::incarnation::Incarnation;
 use crate::room::Room;
+use crate::write::PendingWrite;
 use blob_base::{Blob, Durable, Error, IoBufs};
 use std::alloc::{AllocError, Global};
 
@@ -132,13 +133,21 @@ impl<S: Durable> Lists<S> {
         Ok(i)
     }
 
-    /// Appends an entry that isn't a marker to the list at `i`, which has capacity for it.
-    pub fn push(&mut self, i: usize, entry: Entry)
+    /// Appends a write without holes to the list at `i`, which has capacity for it.
+    pub fn push_write(&mut self, i: usize, write: PendingWrite)
         requires room { HasRoomIn self.old.all.lists.items i Room.Entry }
-        requires unmarked { is_marker (view entry) ≡ false }
-        ensures { ChangesAt S.place self.old.all.lists.items self.new.all.lists.items i (λ q. q ++ left_in (entry ∷ [])) }
+        requires whole { write.holes.items ≡ [] }
+        ensures { ChangesAt S.place self.old.all.lists.items self.new.all.lists.items i (λ q. q ++ left_in (Entry.Write write ∷ [])) }
     {
-        self.all.lists[i].push(entry);
+        self.all.lists[i].push_write(write);
+    }
+
+    /// Appends a resize to the list at `i`, which has capacity for it.
+    pub fn push_resize(&mut self, i: usize, len: u64)
+        requires { HasRoomIn self.old.all.lists.items i Room.Entry }
+        ensures { ChangesAt S.place self.old.all.lists.items self.new.all.lists.items i (λ q. q ++ left_in (Entry.Resize len ∷ [])) }
+    {
+        self.all.lists[i].push_resize(len);
     }
 
     /// Appends a marker to the list at `i`, which has capacity for it.
