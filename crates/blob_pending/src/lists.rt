@@ -14,7 +14,7 @@ use crate::entry::Entry;
 use crate::incarnation::Incarnation;
 use crate::room::Room;
 use crate::write::PendingWrite;
-use blob_base::{Blob, Durable, Error, IoBufs};
+use blob_base::{Blob, Durable, Error};
 use std::alloc::{AllocError, Global};
 
 /// Pending lists with distinct origins. A type of its own, so that the check keeps this invariant through each call.
@@ -160,16 +160,17 @@ impl<S: Durable> Lists<S> {
 
     /// Returns the `copy` for `lay`: a copy of the bytes if the list at `i` queues durable ranges, otherwise no bytes. The only
     /// error is `Memory`.
-    pub fn copy_for(&self, i: usize, bytes: &IoBufs) -> Result<Vec<u8>, Error>
+    pub fn copy_for(&self, i: usize, bytes: &[u8]) -> Result<Vec<u8>, Error>
         requires { i < vec_len self.now.all.lists }
         ensures copied { IfOk result (λ copy. IsCopyAt S.place self.now.all.lists.items i bytes.now copy.items) }
         ensures len { IfOk result (λ copy. length copy.items ≤ length bytes.now) }
         ensures memory { OnErr result (IsMemory result) }
     {
+        let alloc = *self.all.lists.allocator();
         if self.all.lists[i].queues {
-            return bytes.copied()?.coalesce();
+            return Ok(Vec::from_slice(alloc, bytes)?);
         }
-        Ok(Vec::new(*self.all.lists.allocator()))
+        Ok(Vec::new(alloc))
     }
 
     /// Updates the list at `i` for a durable range. The list has capacity for it. `copy` has the range's bytes if it is queued.
