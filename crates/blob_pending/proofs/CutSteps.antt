@@ -1,5 +1,5 @@
 -- Loops that go over the entries of a list.
-use Rattle.std.proofs.Common.{◌≡◌, ℕ, zero, suc, ◌+◌, ◌<◌, ◌≤◌, Bool, true, false, cond, List, [], ◌∷◌, ◌++◌, map, length, get_or, take, drop, set, refl, sym, ◌∙◌, ap, ap₂, ⊎_elim, subst, arith, add-one}
+use Rattle.std.proofs.Common.{◌≡◌, ℕ, zero, suc, ◌+◌, ◌<◌, ◌≤◌, Bool, true, false, cond, List, [], ◌∷◌, ◌++◌, map, length, get_or, take, drop, set, refl, sym, ◌∙◌, ap, ⊎_elim, subst, arith, add-one}
 use Rattle.std.proofs.lemmas.Bool.{cases_eq, cond-true}
 use Rattle.std.proofs.lemmas.List.{get_or-set_same, get_or-set_other, map-append}
 use Rattle.std.specs.List.{All, filter}
@@ -41,8 +41,8 @@ pub written : (f : Pending → Pending) (q : List Entry) (i : ℕ) (d e' : Entry
 written f q i d e' h e = rw add-one (written_suc f q i d e' h e)
 
 -- one write
-pub pared_write : (o n : ℕ) (w v : Write) (hs gs : Holes) → v ≡ w → gs ≡ dug_by o n w hs → model.Waiting (need_in v gs) ≡ model.Waiting (pared_one o n (need_in w hs))
-pared_write o n w v hs gs vw is = ap (λ (m : Need). model.Waiting m) (ap₂ (λ (u : Write) (l : Holes). need_in u l) vw is ∙ need_dug o n w hs)
+pub pared_write : (o n : ℕ) (w : Write) (hs gs : Holes) → gs ≡ dug_by o n w hs → model.Waiting (need_in w gs) ≡ model.Waiting (pared_one o n (need_in w hs))
+pared_write o n w hs gs is = ap (λ (m : Need). model.Waiting m) (ap (need_in w) is ∙ need_dug o n w hs)
 
 -- those of which something is left, after a range
 pub cut_is : (o n : ℕ) (q : List Pending) → cut_by o n q ≡ filter is_left (map (pared_by o n) q)

@@ -1,27 +1,15 @@
 //! The pending entries of one incarnation, in issue order.
-ghost use Rattle.std.specs.Prelude.{◌≡◌, ◌<◌, ◌≤◌, ◌+◌, ◌*◌, ◌^◌, ℕ, List, ◌++◌, ◌∷◌, [], OnOk, map, filter, drop, length, vec_len, vec_capacity, true};
+ghost use Rattle.std.specs.Prelude.{◌≡◌, ◌<◌, ◌≤◌, ◌+◌, ◌*◌, ◌^◌, ℕ, List, ◌++◌, ◌∷◌, [], OnOk, map, drop, length, vec_len, vec_capacity, true};
 ghost use Rattle.blob_model.specs.Holes.{Holes};
 ghost use Rattle.blob_model.specs.Pending.{has_barrier, finish, ends};
 ghost use Rattle.blob_pending.specs.Blocks.{AreBounded};
 ghost use Rattle.blob_pending.specs.Replays.{unmarked, widest};
 ghost use Rattle.blob_pending.specs.Rooms.{AreWithin, HasRoomsFor, EachHasRoom, CanCut, KeepsRest};
-ghost use Rattle.blob_pending.specs.Views.{view, views, pared_by, is_left, left_in, CountsCovered};
+ghost use Rattle.blob_pending.specs.Views.{view, views, pared_by, left_in, CountsCovered};
 
 use crate::bounds::BlockBounds;
 use crate::entry::Entry;
 use std::alloc::AllocError;
-
-/// Reserves capacity for one more entry. The capacity grows by an eighth, not to its double: pending writes are what a list's memory
-/// is used for.
-pub fn reserve_one(entries: &mut Vec<Entry>) -> Result<(), AllocError>
-    ensures items { entries.new.items ≡ entries.old.items }
-    ensures ok { OnOk result (vec_len entries.new < vec_capacity entries.new) }
-{
-    if entries.len() < entries.capacity() {
-        return Ok(());
-    }
-    entries.reserve_exact(entries.len() / 8 + 4)
-}
 
 /// Reserves capacity for `count` more durable ranges between `start` and `end`. Only writes that overlap that range need some.
 /// Blocks whose bounds don't overlap it are skipped. After an error the list is unchanged.
@@ -73,15 +61,6 @@ pub(crate) fn cover_all(
     covered
 }
 
-/// Drops the fully covered writes.
-fn drop_covered(entries: &mut Vec<Entry>)
-    ensures items { entries.new.items ≡ filter (λ entry. is_left (view entry)) entries.old.items }
-    ensures capacity { vec_capacity entries.old ≤ vec_capacity entries.new }
-    ensures len { vec_len entries.new ≤ vec_len entries.old }
-{
-    entries.retain(|entry| entry.is_left());
-}
-
 /// Drops the fully covered writes and all bounds, once more than half of the list may be covered, so that the cost of one covered
 /// write doesn't grow with the list. There are at most `covered` of them.
 pub(crate) fn compact(entries: &mut Vec<Entry>, bounds: &mut BlockBounds, covered: &mut usize)
@@ -98,7 +77,7 @@ pub(crate) fn compact(entries: &mut Vec<Entry>, bounds: &mut BlockBounds, covere
     if *covered <= entries.len() / 2 {
         return;
     }
-    drop_covered(entries);
+    entries.retain(|entry| entry.is_left());
     bounds.clear();
     *covered = 0;
 }

@@ -1,6 +1,7 @@
 //! One pending mutation of a blob.
 ghost use Rattle.std.specs.Prelude.{◌<◌, ◌+◌, ◌^◌, length};
 
+use crate::holes::dig;
 use crate::write::PendingWrite;
 use std::alloc::AllocError;
 
@@ -41,20 +42,27 @@ impl Entry {
         let Entry::Write(write) = self else {
             return false;
         };
+        let first = start.max(write.offset);
+        let end = (start + len).min(write.end());
+        if end <= first {
+            return false;
+        }
         let was_covered = write.is_covered();
-        write.cover(start, len);
-        write.is_covered() != was_covered
+        dig(&mut write.holes, first, end);
+        !was_covered && write.is_covered()
     }
 
-    /// Reserves capacity in a write for the holes of `count` ranges between `start` and `end`. After an error it is unchanged.
+    /// Reserves capacity in a write for the holes of `count` ranges between `start` and `end`, at most one for each byte of the
+    /// write there. After an error it is unchanged.
     pub fn reserve(&mut self, start: u64, end: u64, count: usize) -> Result<(), AllocError>
         ensures view { view self.new ≡ view self.old }
         ensures ok { OnOk result ((ranges : Holes) → AreWithin start end count ranges → HasRoomFor ranges self.new) }
     {
-        match self {
-            Entry::Write(write) => write.reserve(start, end, count),
-            _ => Ok(()),
-        }
+        let Entry::Write(write) = self else {
+            return Ok(());
+        };
+        let there = end.min(write.end()).saturating_sub(start.max(write.offset));
+        write.holes.reserve(there.min(count as u64) as usize)
     }
 
     /// Returns whether a crash still draws for it or applies it. False for a fully covered write.

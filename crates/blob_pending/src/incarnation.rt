@@ -82,22 +82,24 @@ impl<O> Incarnation<O> {
         self.was_current = is_current;
     }
 
-    /// Reserves capacity. After an error the list is unchanged.
+    /// Reserves capacity. For one more entry it grows by an eighth, not to its double: pending writes are what a list's memory is
+    /// used for. After an error the list is unchanged.
     pub fn reserve(&mut self, room: Room) -> Result<(), AllocError>
         ensures same { Becomes self.old self.new (left_in self.old.entries.items) }
         ensures ok { OnOk result (HasRoom room self.new) }
     {
         match room {
-            Room::Entry => entries::reserve_one(&mut self.entries),
-            Room::Mark => {
-                self.marks.reserve(1)?;
-                entries::reserve_one(&mut self.entries)
-            }
             Room::Ranges(start, end, count) => {
                 self.bounds.add(&self.entries)?;
-                entries::reserve_ranges(&mut self.entries, &self.bounds, start, end, count)
+                return entries::reserve_ranges(&mut self.entries, &self.bounds, start, end, count);
             }
+            Room::Mark => self.marks.reserve(1)?,
+            Room::Entry => (),
         }
+        if self.entries.len() < self.entries.capacity() {
+            return Ok(());
+        }
+        self.entries.reserve_exact(self.entries.len() / 8 + 4)
     }
 
     /// Appends a write without holes. The list has capacity for it.
