@@ -110,6 +110,7 @@ impl BlockBounds {
     {
         let mut i = from;
         while i < len {
+            // A group or a block that begins here and doesn't overlap the range is passed as a whole.
             let passed = if i % GROUP == 0 && is_apart(&self.groups, i / GROUP, start, end) {
                 GROUP
             } else if i % BLOCK == 0 && is_apart(&self.blocks, i / BLOCK, start, end) {
