@@ -9,7 +9,7 @@ use Rattle.blob_model.specs.Durable.{Durable, with_changed}
 use Rattle.blob_model.specs.Holes.{Holes, in_holes, need_in}
 use Rattle.blob_model.specs.Log.{Choices, Write}
 use Rattle.blob_model.specs.Order.{ListAt, held_at, has_list}
-use Rattle.blob_model.specs.Pending.{Pending, has_marker, replay, bare_choices, end_of, ends}
+use Rattle.blob_model.specs.Pending.{Pending, replay, bare_choices, end_of, ends}
 use Rattle.blob_model.specs.Places.{Place, same_place}
 use Rattle.blob_model.specs.Runs.{is_chosen}
 use Rattle.blob_model.specs.SamePlace.{same_place_exact}
@@ -104,18 +104,11 @@ replay_first t h hs f f' a alone told = ap (replayed_at t (held_at hs a)) told �
     go None = refl
     go (Some x) = refl
 
--- the lists lay no more than the widest
-pub widest_in : {O : Type 0} (place : O → Place) (is : List (Incarnation O)) (i : ℕ) (x : Incarnation O) → i < length is → x ≡ get_or is i x → widest (left_in x.entries.items) ≤ widest_of_all (lists_of place is)
+-- no list needs more choices than the widest
+pub widest_in : {O : Type 0} (place : O → Place) (is : List (Incarnation O)) (i : ℕ) (x : Incarnation O) → i < length is → x ≡ get_or is i x → widest (unmarked (left_in x.entries.items)) ≤ widest_of_all (lists_of place is)
 widest_in place [] i x h e = absurd (omega arith)
-widest_in {O} place (y ∷ is) zero x h e = omega (arith, ap (λ (z : Incarnation O). widest (left_in z.entries.items)) e)
+widest_in {O} place (y ∷ is) zero x h e = omega (arith, ap (λ (z : Incarnation O). widest (unmarked (left_in z.entries.items))) e)
 widest_in place (y ∷ is) (suc i) x h e = omega (arith, widest_in place is i x (omega arith) e)
-
-pub widest_unmarked : (q : List Pending) → widest (unmarked q) ≤ widest q
-widest_unmarked [] = omega arith
-widest_unmarked (e ∷ q) = ⊎_elim
-    (λ y. omega (arith, ap widest (cond-true (has_marker (e ∷ q)) (unmarked q) (e ∷ q) y), widest_unmarked q))
-    (λ n. omega (arith, ap widest (cond-false (has_marker (e ∷ q)) (unmarked q) (e ∷ q) n)))
-    (cases_Bool (has_marker (e ∷ q)))
 
 -- a store that keeps its directory and lowers no capacity stays ready
 pub still_ready : (s s' : Storage) (h : ListAt) → directory s' ≡ directory s → ((o : Place) (n : ℕ) → HasCrashRoom s o n → HasCrashRoom s' o n) → IsReady s h → IsReady s' h

@@ -1,6 +1,5 @@
 //! The replay of pending entries over durable bytes, into capacity that was reserved before.
 ghost use Rattle.std.specs.Prelude.{◌≡◌, ◌≤◌, length, vec_capacity, All};
-ghost use Rattle.blob_model.specs.Bytes.{between};
 ghost use Rattle.blob_model.specs.Holes.{in_holes};
 ghost use Rattle.blob_model.specs.Pending.{replay_entry, end_of};
 ghost use Rattle.blob_pending.specs.Lists.{lists_of, held_by};
@@ -21,23 +20,16 @@ use blob_pending::holes::Hole;
 use blob_pending::incarnation::Incarnation;
 use blob_pending::write::PendingWrite;
 
-/// Deselects the bytes that a hole covers. `offset` is the position of the first byte.
-fn deselect(chosen: &mut [bool], offset: u64, hole: Hole)
-    ensures { StaysChosen offset (between hole.start hole.end) chosen.old chosen.new }
-{
-    let start = hole.start.saturating_sub(offset) as usize;
-    let end = (hole.end.saturating_sub(offset) as usize).min(chosen.len());
-    for i in start..end {
-        chosen[i] = false;
-    }
-}
-
-/// Deselects the bytes that any of the holes covers.
+/// Deselects the bytes that any of the holes covers. `offset` is the position of the first byte.
 fn deselect_covered(chosen: &mut [bool], offset: u64, holes: &[Hole])
     ensures { StaysChosen offset (in_holes (ranges holes.now)) chosen.old chosen.new }
 {
     for hole in holes {
-        deselect(chosen, offset, *hole);
+        let start = hole.start.saturating_sub(offset) as usize;
+        let end = (hole.end.saturating_sub(offset) as usize).min(chosen.len());
+        for i in start..end {
+            chosen[i] = false;
+        }
     }
 }
 

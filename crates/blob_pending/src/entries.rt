@@ -120,7 +120,7 @@ pub fn unmarked(entries: &[Entry]) -> &[Entry]
 {
     let mut start = entries.len();
     while start > 0 {
-        if entries[start - 1].is_marker() {
+        if let Entry::Marker(_) = entries[start - 1] {
             return &entries[start..];
         }
         start -= 1;
@@ -128,24 +128,23 @@ pub fn unmarked(entries: &[Entry]) -> &[Entry]
     entries
 }
 
-/// Returns the greatest end of an entry: the logical length that a replay may need.
-pub fn end(entries: &[Entry]) -> u64
-    ensures { result ≡ ends (left_in entries.now) }
+/// Returns what a replay of these entries needs: their greatest end, and the length of the longest write.
+pub fn replay_room(entries: &[Entry]) -> (u64, usize)
+    ensures end { result.0 ≡ ends (left_in entries.now) }
+    ensures width { result.1 ≡ widest (left_in entries.now) }
 {
     let mut end = 0;
-    for entry in entries {
-        end = end.max(entry.end());
-    }
-    end
-}
-
-/// Returns the length of the longest write or range.
-pub fn widest(entries: &[Entry]) -> usize
-    ensures { result ≡ widest (left_in entries.now) }
-{
     let mut most = 0;
     for entry in entries {
-        most = most.max(entry.width());
+        match entry {
+            Entry::Write(write) if !write.is_covered() => {
+                end = end.max(write.end());
+                most = most.max(write.bytes.len());
+            }
+            Entry::Resize(len) => end = end.max(*len),
+            Entry::Range(range) => end = end.max(range.offset + range.bytes.len() as u64),
+            Entry::Write(_) | Entry::Marker(_) => (),
+        }
     }
-    most
+    (end, most)
 }

@@ -27,10 +27,9 @@ pub enum Entry {
 impl Entry {
     ghost use Rattle.std.specs.Prelude.{◌≡◌, ◌&&◌, ◌∷◌, [], OnOk, not};
     ghost use Rattle.blob_model.specs.Holes.{Holes};
-    ghost use Rattle.blob_model.specs.Pending.{is_marker, is_barrier, is_mark, ends};
-    ghost use Rattle.blob_pending.specs.Replays.{widest};
+    ghost use Rattle.blob_model.specs.Pending.{is_barrier, is_mark};
     ghost use Rattle.blob_pending.specs.Rooms.{AreWithin, HasRoomFor, CanCut, KeepsRest};
-    ghost use Rattle.blob_pending.specs.Views.{view, pared_by, is_left, left_in};
+    ghost use Rattle.blob_pending.specs.Views.{view, pared_by, is_left};
 
     /// Adds a durable range to the holes of a write. Returns whether the write became fully covered by it.
     pub fn cover(&mut self, start: u64, len: u64) -> bool
@@ -85,15 +84,6 @@ impl Entry {
         }
     }
 
-    pub fn is_marker(&self) -> bool
-        ensures { result ≡ is_marker (view self.now) }
-    {
-        match self {
-            Entry::Marker(_) => true,
-            _ => false,
-        }
-    }
-
     /// Returns whether it is the marker with this number.
     pub fn is_mark(&self, marker: u64) -> bool
         ensures { result ≡ is_mark marker (view self.now) }
@@ -101,29 +91,6 @@ impl Entry {
         match self {
             Entry::Marker(number) => *number == marker,
             _ => false,
-        }
-    }
-
-    /// Returns its end, or 0 for a fully covered write and for a marker.
-    pub fn end(&self) -> u64
-        ensures { result ≡ ends (left_in (self.now ∷ [])) }
-    {
-        match self {
-            Entry::Write(write) if !write.is_covered() => write.end(),
-            Entry::Resize(len) => *len,
-            Entry::Range(range) => range.offset + range.bytes.len() as u64,
-            _ => 0,
-        }
-    }
-
-    /// Returns how many bytes it applies. 0 for a fully covered write, a resize and a marker.
-    pub fn width(&self) -> usize
-        ensures { result ≡ widest (left_in (self.now ∷ [])) }
-    {
-        match self {
-            Entry::Write(write) if !write.is_covered() => write.bytes.len(),
-            Entry::Range(range) => range.bytes.len(),
-            _ => 0,
         }
     }
 }
