@@ -5,7 +5,7 @@ ghost use Rattle.blob_pending.specs.Blocks.{AreBoundedBy, LiesApart, is_within};
 ghost use Rattle.blob_pending.specs.Views.{view, views};
 
 use crate::entry::Entry;
-use std::alloc::{AllocError, Global};
+use std::alloc::AllocError;
 
 /// The number of entries in a block.
 const BLOCK: usize = 64;
@@ -73,16 +73,6 @@ impl BlockBounds {
     ghost use Rattle.std.specs.Prelude.{◌+◌, List};
     ghost use Rattle.blob_model.specs.Pending.{Pending};
     ghost use Rattle.blob_pending.specs.Blocks.{AreBounded, IsPassed};
-
-    /// Returns the bounds of an empty list.
-    pub fn new(alloc: Global) -> BlockBounds
-        ensures { (entries : List Pending) → AreBounded result entries }
-    {
-        BlockBounds {
-            blocks: Vec::new(alloc),
-            groups: Vec::new(alloc),
-        }
-    }
 
     /// Adds the missing bounds of whole blocks and groups. After an error, those added before it stay.
     pub fn add(&mut self, entries: &[Entry]) -> Result<(), AllocError>

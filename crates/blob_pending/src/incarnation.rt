@@ -69,7 +69,10 @@ impl<O> Incarnation<O> {
             covered: 0,
             marks: Vec::new(alloc),
             queues: false,
-            bounds: BlockBounds::new(alloc),
+            bounds: BlockBounds {
+                blocks: Vec::new(alloc),
+                groups: Vec::new(alloc),
+            },
         }
     }
 
