@@ -100,10 +100,6 @@ row_other rows number i x up h e isnt below above = row_past rows number i below
     past : (k : ℕ) (d : ℕ × Vec Bool Global) → i ≤ k → k < length rows → number ≤ (get_or rows i x).0 → number < (get_or rows k d).0
     past k d a l least = omega (arith, first, isnt, least, up i k x a l, ap (λ (y : ℕ × Vec Bool Global). y.0) (get_or_default rows k x d l))
 
--- a row that was found by its place
-pub first_at : (rows : List (ℕ × Vec Bool Global)) (number i : ℕ) → AreNumbered rows → i < length rows → ((d : ℕ × Vec Bool Global) → (get_or rows i d).0 ≡ number) → ((d : ℕ × Vec Bool Global) → (get_or rows (i - 1) d).0 ≢ number) →
-    (k : ℕ) (d : ℕ × Vec Bool Global) → k < i → (get_or rows k d).0 < number
-first_at rows number i up h here before k d l =
-    let mine : (get_or rows i d).0 ≡ number = here d in
-    let other : (get_or rows (i - 1) d).0 ≢ number = before d in
-    omega (arith, mine, other, up k (i - 1) d (omega arith) (omega arith), up (i - 1) i d (omega arith) h)
+-- those before a row that is below a number are too
+pub first_at : (rows : List (ℕ × Vec Bool Global)) (number i : ℕ) → AreNumbered rows → i ≤ length rows → ((d : ℕ × Vec Bool Global) → (get_or rows (i - 1) d).0 < number) → (k : ℕ) (d : ℕ × Vec Bool Global) → k < i → (get_or rows k d).0 < number
+first_at rows number i up h before k d l = let last : (get_or rows (i - 1) d).0 < number = before d in omega (arith, last, up k (i - 1) d (omega arith) (omega arith))

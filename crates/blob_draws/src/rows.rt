@@ -1,5 +1,5 @@
 //! The rows of a crash: drawn in order, found by number.
-ghost use Rattle.std.specs.Prelude.{◌≡◌, IfOk, IfSome};
+ghost use Rattle.std.specs.Prelude.{◌≡◌, IfOk};
 ghost use Rattle.blob_model.specs.Draws.{row_of};
 ghost use Rattle.blob_draws.specs.Rows.{rows_in, AreNumbered, DrawsRows};
 
@@ -24,37 +24,20 @@ pub fn draw_rows<R: Rng>(
     Ok(rows)
 }
 
-/// Returns the choices of a write if the numbers are consecutive, as they usually are.
-fn guess_choices(rows: &[(u64, Vec<bool>)], number: u64) -> Option<&[bool]>
-    requires { AreNumbered rows.now }
-    ensures { IfSome result (λ row. row.now ≡ row_of (rows_in rows.now) number) }
-{
-    if rows.is_empty() {
-        return None;
-    }
-    let first = &rows[0];
-    if number < first.0 || number - first.0 >= rows.len() as u64 {
-        return None;
-    }
-    let i = (number - first.0) as usize;
-    let here = &rows[i];
-    if here.0 != number {
-        return None;
-    }
-    if i > 0 {
-        let before = &rows[i - 1];
-        if before.0 == number {
-            return None;
-        }
-    }
-    Some(here.1.as_slice())
-}
-
-/// Finds the choices of a write by binary search. Returns none if it has no row.
-fn search_choices(rows: &[(u64, Vec<bool>)], number: u64) -> &[bool]
+/// Returns the choices of a write, or none if it has no row. Without a search if the numbers are consecutive, as they usually are.
+pub fn choices_in(rows: &[(u64, Vec<bool>)], number: u64) -> &[bool]
     requires { AreNumbered rows.now }
     ensures { result.now ≡ row_of (rows_in rows.now) number }
 {
+    if let Some(first) = rows.first() {
+        let guess = number.saturating_sub(first.0);
+        if guess < rows.len() as u64 {
+            let row = &rows[guess as usize];
+            if row.0 == number && (guess == 0 || rows[guess as usize - 1].0 < number) {
+                return row.1.as_slice();
+            }
+        }
+    }
     let i = rows.partition_point(|row| row.0 < number);
     if i == rows.len() {
         return &[];
@@ -64,15 +47,4 @@ fn search_choices(rows: &[(u64, Vec<bool>)], number: u64) -> &[bool]
         return &[];
     }
     row.1.as_slice()
-}
-
-/// Returns the choices of a write, or none if it has no row.
-pub fn choices_in(rows: &[(u64, Vec<bool>)], number: u64) -> &[bool]
-    requires { AreNumbered rows.now }
-    ensures { result.now ≡ row_of (rows_in rows.now) number }
-{
-    match guess_choices(rows, number) {
-        Some(row) => row,
-        None => search_choices(rows, number),
-    }
 }

@@ -19,17 +19,6 @@ fn draw_each<R: Rng>(chosen: &mut Vec<bool>, rate: Probability, len: usize, rng:
     }
 }
 
-/// Adds `count` lost bytes.
-fn lose(chosen: &mut Vec<bool>, count: usize)
-    requires { vec_len chosen.old + count ≤ vec_capacity chosen.old }
-    ensures { chosen.new.items ≡ chosen.old.items ++ replicate count false }
-{
-    for i in 0..count {
-        let _ = i;
-        chosen.push(false).unwrap();
-    }
-}
-
 /// Draws byte by byte until one is lost. The bytes after it are lost too.
 fn draw_front<R: Rng>(chosen: &mut Vec<bool>, rate: Probability, len: usize, rng: &mut R)
     requires blank { IsBlank len chosen.old }
@@ -37,33 +26,14 @@ fn draw_front<R: Rng>(chosen: &mut Vec<bool>, rate: Probability, len: usize, rng
 {
     for i in 0..len {
         if !rate.sample(rng) {
-            lose(chosen, len - i);
+            chosen.resize(len, false).unwrap();
             return;
         }
         chosen.push(true).unwrap();
     }
 }
 
-/// Returns the choice of the byte at `position`. Draws at the first byte of the write or of a sector. Otherwise returns `last`.
-fn draw_sector<R: Rng>(
-    rate: Probability,
-    size: u64,
-    position: u64,
-    first: bool,
-    last: bool,
-    rng: &mut R,
-) -> bool
-    requires { 0 < size }
-    ensures { (result, R.stream rng.new) ≡ sector_choice rate size position first last (R.stream rng.old) }
-{
-    if first || position % size == 0 {
-        rate.sample(rng)
-    } else {
-        last
-    }
-}
-
-/// Draws each sector of the blob.
+/// Draws each sector of the blob, at its first byte in the write. The sector's other bytes share that draw.
 fn draw_sectors<R: Rng>(
     chosen: &mut Vec<bool>,
     rate: Probability,
@@ -79,7 +49,10 @@ fn draw_sectors<R: Rng>(
 {
     let mut last = false;
     for i in 0..len {
-        last = draw_sector(rate, size, offset + i as u64, i == 0, last, rng);
+        let position = offset + i as u64;
+        if i == 0 || position % size == 0 {
+            last = rate.sample(rng);
+        }
         chosen.push(last).unwrap();
     }
 }

@@ -1,15 +1,15 @@
 -- The replays of a crash, entry by entry and list by list.
-use Rattle.std.proofs.Common.{◌≡◌, ⊎_elim, ℕ, zero, suc, ◌+◌, ◌-◌, ◌<◌, ◌≤◌, max, min, Bool, true, false, not, ◌&&◌, List, [], ◌∷◌, length, get_or, drop, replicate, Option, Some, None, refl, sym, ◌∙◌, ap, ap₂, subst, arith, true≢false, nat_lt, take, ◌++◌}
+use Rattle.std.proofs.Common.{◌≡◌, ⊎_elim, ℕ, zero, suc, ◌+◌, ◌-◌, ◌<◌, ◌≤◌, min, Bool, true, false, not, ◌&&◌, List, [], ◌∷◌, length, get_or, drop, replicate, Option, Some, None, refl, sym, ◌∙◌, ap, ap₂, subst, arith, true≢false, nat_lt, take, ◌++◌}
 use Rattle.std.specs.Prelude.{option_map, is_some, nat_le, Result, Ok, OnOk, IfSome}
 use Rattle.std.proofs.lemmas.Bool.{cases_Bool, cases_eq, cond_both, cond-true, cond-false, and_parts, leb-true, ltb-true, le-leb, lt-ltb, cases_lt}
-use Rattle.std.proofs.lemmas.List.{get_or-replicate, get_or_default, at_drop_more, length-take, take_all, get_or_append_left, get_or-take, get_or-append_right, get_or_past}
+use Rattle.std.proofs.lemmas.List.{get_or-replicate, get_or_default, at_drop_more, length-append, length-take, length-drop, length-replicate, get_or-drop, take_all, get_or_append_left, get_or-take, get_or-append_right, get_or_past}
 use Rattle.blob_model.specs.Bytes.{overlay_by, between, reach}
 use Rattle.blob_model.specs.Directory.{Directory, is_current}
 use Rattle.blob_model.specs.Durable.{Durable, with_changed}
-use Rattle.blob_model.specs.Holes.{Holes, in_holes, need_in}
+use Rattle.blob_model.specs.Holes.{Holes, AreApart, in_holes, need_in}
 use Rattle.blob_model.specs.Log.{Choices, Write}
 use Rattle.blob_model.specs.Order.{ListAt, held_at, has_list}
-use Rattle.blob_model.specs.Pending.{Pending, has_marker, replay, bare_choices, end_of, ends}
+use Rattle.blob_model.specs.Pending.{Pending, replay, bare_choices, end_of, ends}
 use Rattle.blob_model.specs.Places.{Place, same_place}
 use Rattle.blob_model.specs.Runs.{is_chosen}
 use Rattle.blob_model.specs.SamePlace.{same_place_exact}
@@ -19,7 +19,10 @@ use Rattle.blob_model.proofs.Bytes.{lies_in, reach_below}
 use Rattle.blob_memory.specs.declared.storage.Storage.{Storage}
 use Rattle.blob_memory.specs.Store.{directory, HasCrashRoom}
 use Rattle.blob_pending.specs.declared.entry.Entry.{Entry}
+use Rattle.blob_pending.specs.declared.holes.Hole.{Hole}
 use Rattle.blob_pending.specs.declared.incarnation.Incarnation.{Incarnation}
+use Rattle.blob_pending.specs.declared.write.PendingWrite.{PendingWrite}
+use Rattle.blob_pending.specs.Ranges.{ranges}
 use Rattle.blob_pending.specs.Lists.{lists_of, held_by}
 use Rattle.blob_pending.specs.Replays.{width, widest, widest_of_all, unmarked}
 use Rattle.blob_faulty.specs.Ready.{IsReady}
@@ -64,10 +67,38 @@ in_between s e p y = let a = and_parts (nat_le s p) (nat_lt p e) y in (leb-true 
 between_in : (s e p : ℕ) → s ≤ p → p < e → between s e p ≡ true
 between_in s e p a b = ap₂ (λ (x y : Bool). x && y) (le-leb s p a) (lt-ltb p e b)
 
-pub covered_at : (start end o len s e i k : ℕ) → s ≡ start - o → e ≡ min (end - o) len → k < len → s ≤ i → e ≤ i → i ≤ max s e → between s i k ≡ between start end (o + k)
-covered_at start end o len s e i k is_s is_e h a b c = same_test (between s i k) (between start end (o + k))
-    (λ y. let r : (s ≤ k) × (k < i) = in_between s i k y in between_in start end (o + k) (omega arith) (omega arith))
-    (λ y. let r : (start ≤ o + k) × (o + k < end) = in_between start end (o + k) y in between_in s i k (omega arith) (omega arith))
+not_between : (s e p : ℕ) → (s ≤ p → p < e → ⊥) → between s e p ≡ false
+not_between s e p never = ⊎_elim (λ y. let r = in_between s e p y in absurd (never r.0 r.1)) (λ n. n) (cases_Bool (between s e p))
+
+-- as an index of the write, of a hole that lies in it
+pub covered_at : (start end o k : ℕ) → o ≤ start → between (start - o) ((start - o) + ((end - o) - (start - o))) k ≡ between start end (o + k)
+covered_at start end o k low = same_test (between (start - o) ((start - o) + ((end - o) - (start - o))) k) (between start end (o + k))
+    (λ y. let r : (start - o ≤ k) × (k < (start - o) + ((end - o) - (start - o))) = in_between (start - o) ((start - o) + ((end - o) - (start - o))) k y in between_in start end (o + k) (omega (arith, low, r.0, r.1)) (omega (arith, low, r.0, r.1)))
+    (λ y. let r : (start ≤ o + k) × (o + k < end) = in_between start end (o + k) y in between_in (start - o) ((start - o) + ((end - o) - (start - o))) k (omega (arith, low, r.0, r.1)) (omega (arith, low, r.0, r.1)))
+
+-- a part of the choices is cleared
+pub cleared_at : (a n k : ℕ) (xs ys : List Bool) → a + n ≤ length xs → ys ≡ replicate n false → get_or (take a xs ++ (ys ++ drop n (drop a xs))) k false ≡ (not (between a (a + n) k) && get_or xs k false)
+cleared_at a n k xs ys fits is =
+    let front : length (take a xs) ≡ a = omega (arith, length-take a xs, fits) in
+    let mid : length ys ≡ n = ap length is ∙ length-replicate n false in
+    let rest : List Bool = drop n (drop a xs) in
+    ⊎_elim
+    (λ before. get_or_append_left (take a xs) (ys ++ rest) false k (omega (arith, front, before)) ∙ get_or-take a xs k false before
+    ∙ sym (ap (λ (b : Bool). not b && get_or xs k false) (not_between a (a + n) k (λ l h. omega (arith, before, l)))))
+    (λ from. get_or-append_right (take a xs) (ys ++ rest) a k false front from ∙ ⊎_elim
+    (λ here. get_or_append_left ys rest false (k - a) (omega (arith, mid, here)) ∙ ap (λ (l : List Bool). get_or l (k - a) false) is ∙ get_or-replicate n (k - a) false false here
+    ∙ sym (ap (λ (b : Bool). not b && get_or xs k false) (between_in a (a + n) k from (omega (arith, here)))))
+    (λ past. get_or-append_right ys rest n (k - a) false mid past ∙ get_or-drop n (drop a xs) ((k - a) - n) false ∙ get_or-drop a xs (n + ((k - a) - n)) false ∙ ap (λ (j : ℕ). get_or xs j false) (at a n k from past)
+    ∙ sym (ap (λ (b : Bool). not b && get_or xs k false) (not_between a (a + n) k (λ l h. omega (arith, past, h)))))
+    (cases_lt (k - a) n))
+    (cases_lt k a)
+  where
+    at : (a n k : ℕ) → a ≤ k → n ≤ k - a → a + (n + ((k - a) - n)) ≡ k
+    at a n k low high = omega (arith, low, high)
+
+pub cleared_len : (a n : ℕ) (xs ys : List Bool) → a + n ≤ length xs → ys ≡ replicate n false → length (take a xs ++ (ys ++ drop n (drop a xs))) ≡ length xs
+cleared_len a n xs ys fits is =
+    omega (arith, fits, ap length is, length-replicate n false, length-append (take a xs) (ys ++ drop n (drop a xs)), length-append ys (drop n (drop a xs)), length-take a xs, length-drop n (drop a xs), length-drop a xs)
 
 -- the choices that are applied are those of the bare bytes
 pub masked : (w : Write) (hs : Holes) (t : Choices) (kept : List Bool) (x : List ℕ) → ((i : ℕ) → i < length w.bytes → get_or kept i false ≡ (not (in_holes hs (w.offset + i)) && t w.number i)) →
@@ -104,18 +135,11 @@ replay_first t h hs f f' a alone told = ap (replayed_at t (held_at hs a)) told �
     go None = refl
     go (Some x) = refl
 
--- the lists lay no more than the widest
-pub widest_in : {O : Type 0} (place : O → Place) (is : List (Incarnation O)) (i : ℕ) (x : Incarnation O) → i < length is → x ≡ get_or is i x → widest (left_in x.entries.items) ≤ widest_of_all (lists_of place is)
+-- no list needs more choices than the widest
+pub widest_in : {O : Type 0} (place : O → Place) (is : List (Incarnation O)) (i : ℕ) (x : Incarnation O) → i < length is → x ≡ get_or is i x → widest (unmarked (left_in x.entries.items)) ≤ widest_of_all (lists_of place is)
 widest_in place [] i x h e = absurd (omega arith)
-widest_in {O} place (y ∷ is) zero x h e = omega (arith, ap (λ (z : Incarnation O). widest (left_in z.entries.items)) e)
+widest_in {O} place (y ∷ is) zero x h e = omega (arith, ap (λ (z : Incarnation O). widest (unmarked (left_in z.entries.items))) e)
 widest_in place (y ∷ is) (suc i) x h e = omega (arith, widest_in place is i x (omega arith) e)
-
-pub widest_unmarked : (q : List Pending) → widest (unmarked q) ≤ widest q
-widest_unmarked [] = omega arith
-widest_unmarked (e ∷ q) = ⊎_elim
-    (λ y. omega (arith, ap widest (cond-true (has_marker (e ∷ q)) (unmarked q) (e ∷ q) y), widest_unmarked q))
-    (λ n. omega (arith, ap widest (cond-false (has_marker (e ∷ q)) (unmarked q) (e ∷ q) n)))
-    (cases_Bool (has_marker (e ∷ q)))
 
 -- a store that keeps its directory and lowers no capacity stays ready
 pub still_ready : (s s' : Storage) (h : ListAt) → directory s' ≡ directory s → ((o : Place) (n : ℕ) → HasCrashRoom s o n → HasCrashRoom s' o n) → IsReady s h → IsReady s' h
@@ -132,6 +156,22 @@ ready_more s s' is i x h e same room before here k d l = ⊎_elim
 -- one list further
 pub held_more : (is : List (Incarnation Place)) (i : ℕ) (x : Incarnation Place) → i < length is → x ≡ get_or is i x → lists_of (λ (o : Place). o) (drop i is) ≡ held_by (λ (o : Place). o) x ∷ lists_of (λ (o : Place). o) (drop (i + 1) is)
 held_more is i x h e = at_drop_more (λ (l : List (Incarnation Place)). lists_of (λ (o : Place). o) l) is i x h ∙ ap (λ (y : Incarnation Place). held_by (λ (o : Place). o) y ∷ lists_of (λ (o : Place). o) (drop (i + 1) is)) (sym e)
+
+-- each hole of a write lies in it
+pub record LiesIn (w : PendingWrite) (h : Hole) : Type 0 where
+  pub low : w.offset ≤ h.start
+  pub some : h.start < h.end
+  pub high : h.end ≤ w.offset + length w.bytes.items
+
+hole_at : (from : ℕ) (hs : List Hole) (end j : ℕ) (d : Hole) → AreApart from (ranges hs) end → j < length hs → (from ≤ (get_or hs j d).start) × ((get_or hs j d).start < (get_or hs j d).end) × ((get_or hs j d).end ≤ end)
+hole_at from [] end j d a l = absurd (omega arith)
+hole_at from (h ∷ hs) end zero d a l = (a.0, a.1, a.2)
+hole_at from (h ∷ hs) end (suc j) d a l = let r = hole_at (suc h.end) hs end j d a.3 (omega arith) in (omega (arith, r.0, a.0, a.1), r.1, r.2)
+
+pub hole_in : (w : PendingWrite) (hs : List Hole) (j : ℕ) (d : Hole) → hs ≡ w.holes.items → j < length hs → LiesIn w (get_or hs j d)
+hole_in w hs j d same l =
+    let r = hole_at w.offset hs (w.offset + length w.bytes.items) j d (subst (λ (l : List Hole). AreApart w.offset (ranges l) (w.offset + length w.bytes.items)) (sym same) w.apart) l in
+    record { low = r.0; some = r.1; high = r.2 }
 
 -- a prefix of a row, and false after it
 pub padded : (row xs ys : List Bool) (count len : ℕ) → count ≡ min (length row) len → xs ≡ take count row → ys ≡ take len xs ++ replicate (len - length xs) false → (i : ℕ) → i < len → get_or ys i false ≡ get_or row i false

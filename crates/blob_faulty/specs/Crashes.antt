@@ -40,10 +40,6 @@ ReplaysPending before after kept = (o : Place) → durable (inner_of after) o �
 abbrev pub ReplaysLists : List (Incarnation Place) → List (ℕ × Vec Bool Global) → Durable → Durable → Type 0
 ReplaysLists lists rows before after = ArePlacesApart (lists_of (λ o. o) lists) → (o : Place) → after o ≡ replayed_at (chosen_by (rows_in rows)) (list_of (λ o. o) lists o) (before o)
 
--- of the bytes of a write at offset those stay chosen that don't lie where this says
-abbrev pub StaysChosen : ℕ → (ℕ → Bool) → List Bool → List Bool → Type 0
-StaysChosen offset covered old new = (i : ℕ) → i < length old → slice_index_or new i false ≡ (not (covered (offset + i)) && slice_index_or old i false)
-
 -- for each byte of a write the row's choice, except those that a later durable range covers
 abbrev pub ChoosesUncovered : List Bool → PendingWrite → List Bool → Type 0
 ChoosesUncovered chosen write row = (i : ℕ) → i < length write.bytes.items

@@ -1,5 +1,5 @@
 //! The crash: the generator decides which pending bytes are kept.
-ghost use Rattle.std.specs.Prelude.{◌≡◌, ℕ, List, [], All, OnOk, OnErr, IfOk};
+ghost use Rattle.std.specs.Prelude.{◌≡◌, ◌≤◌, ℕ, List, [], All, OnOk, OnErr, IfOk, vec_capacity};
 ghost use Rattle.blob_model.specs.Places.{Place};
 ghost use Rattle.blob_header.specs.Refusals.{IsMemory};
 ghost use Rattle.blob_faulty.specs.Crashes.{CrashDraws, CrashLeaves, ReplaysPending};
@@ -17,40 +17,33 @@ use blob_base::Error;
 use blob_draws::rows::draw_rows;
 use blob_draws::selections::Selections;
 use blob_memory::Origin;
-use blob_pending::entries::{end, unmarked, widest};
+use blob_pending::entries::{replay_room, unmarked};
 use blob_pending::gather::gather;
 use blob_pending::incarnation::Incarnation;
 use rand_core::Rng;
-use std::alloc::AllocError;
+use std::alloc::{AllocError, Global};
 
-/// Returns the length of the longest pending write or range.
-fn widest_of_all<O>(lists: &[Incarnation<O>]) -> usize
-    ensures { (place : O → Place) → result ≡ widest_of_all (lists_of place lists.now) }
-{
-    let mut most = 0;
-    for list in lists {
-        most = most.max(widest(&list.entries));
-    }
-    most
-}
-
-/// Reserves capacity for the result of replaying each list whose incarnation is current. An overflowing length is reported as an
-/// allocation failure.
+/// Reserves capacity for the result of replaying each list whose incarnation is current, and returns no choices, with capacity
+/// for those of the longest write. An overflowing length is reported as an allocation failure.
 fn reserve_all(
     inner: &mut blob_memory::Storage,
+    alloc: Global,
     lists: &[Incarnation<Origin>],
-) -> Result<(), AllocError>
+) -> Result<Vec<bool>, AllocError>
     ensures ready { OnOk result (All (λ list. IsReady inner.new (held_by (λ o. o) list)) lists.now) }
+    ensures wide { IfOk result (λ chosen. widest_of_all (lists_of (λ o. o) lists.now) ≤ vec_capacity chosen) }
     ensures durable { durable inner.new ≡ durable inner.old }
     ensures directory { directory inner.new ≡ directory inner.old }
 {
+    let mut most = 0;
     for list in lists {
-        let len = end(unmarked(&list.entries));
-        if inner.reserve_crash(&list.origin, len).is_err() {
+        let (end, widest) = replay_room(unmarked(&list.entries));
+        if inner.reserve_crash(&list.origin, end).is_err() {
             return Err(AllocError);
         }
+        most = most.max(widest);
     }
-    Ok(())
+    Vec::with_capacity(alloc, most)
 }
 
 impl<R: Rng> Storage<blob_memory::Storage, R> {
@@ -81,8 +74,7 @@ impl<R: Rng> Storage<blob_memory::Storage, R> {
         let alloc = self.alloc();
         let draws = gather(alloc, &self.lists.all.lists)?;
         let rows = draw_rows(alloc, &draws, &mut self.rng)?;
-        let mut chosen = Vec::with_capacity(alloc, widest_of_all(&self.lists.all.lists))?;
-        reserve_all(&mut self.inner, &self.lists.all.lists)?;
+        let mut chosen = reserve_all(&mut self.inner, alloc, &self.lists.all.lists)?;
         replay_all(&mut self.inner, &self.lists.all.lists, &rows, &mut chosen);
         self.lists.all.lists.clear();
         Ok(Selections::new(rows))

@@ -1,12 +1,9 @@
 //! The replay of pending entries over durable bytes, into capacity that was reserved before.
 ghost use Rattle.std.specs.Prelude.{◌≡◌, ◌≤◌, length, vec_capacity, All};
-ghost use Rattle.blob_model.specs.Bytes.{between};
-ghost use Rattle.blob_model.specs.Holes.{in_holes};
 ghost use Rattle.blob_model.specs.Pending.{replay_entry, end_of};
 ghost use Rattle.blob_pending.specs.Lists.{lists_of, held_by};
-ghost use Rattle.blob_pending.specs.Ranges.{ranges};
 ghost use Rattle.blob_pending.specs.Replays.{width, widest_of_all};
-ghost use Rattle.blob_faulty.specs.Crashes.{chosen_in, ChoosesUncovered, ReplaysLists, StaysChosen};
+ghost use Rattle.blob_faulty.specs.Crashes.{chosen_in, ChoosesUncovered, ReplaysLists};
 ghost use Rattle.blob_faulty.specs.Ready.{IsReady, CanReplay};
 ghost use Rattle.blob_draws.specs.Rows.{AreNumbered};
 ghost use Rattle.blob_pending.specs.Views.{view};
@@ -17,29 +14,8 @@ use blob_draws::rows::choices_in;
 use blob_memory::{Bytes, Origin, overlay};
 use blob_pending::entries::unmarked;
 use blob_pending::entry::Entry;
-use blob_pending::holes::Hole;
 use blob_pending::incarnation::Incarnation;
 use blob_pending::write::PendingWrite;
-
-/// Deselects the bytes that a hole covers. `offset` is the position of the first byte.
-fn deselect(chosen: &mut [bool], offset: u64, hole: Hole)
-    ensures { StaysChosen offset (between hole.start hole.end) chosen.old chosen.new }
-{
-    let start = hole.start.saturating_sub(offset) as usize;
-    let end = (hole.end.saturating_sub(offset) as usize).min(chosen.len());
-    for i in start..end {
-        chosen[i] = false;
-    }
-}
-
-/// Deselects the bytes that any of the holes covers.
-fn deselect_covered(chosen: &mut [bool], offset: u64, holes: &[Hole])
-    ensures { StaysChosen offset (in_holes (ranges holes.now)) chosen.old chosen.new }
-{
-    for hole in holes {
-        deselect(chosen, offset, *hole);
-    }
-}
 
 /// Sets `chosen` to a row's choices for a write, without the bytes that later durable ranges cover. Bytes past the row's end
 /// aren't chosen.
@@ -54,7 +30,11 @@ fn put_choices(chosen: &mut Vec<bool>, write: &PendingWrite, row: &[bool])
     chosen.clear();
     chosen.extend_from_slice(&row[..count]).unwrap();
     chosen.resize(len, false).unwrap();
-    deselect_covered(chosen.as_mut_slice(), write.offset, &write.holes);
+    for hole in &write.holes {
+        let start = (hole.start - write.offset) as usize;
+        let end = (hole.end - write.offset) as usize;
+        chosen[start..end].fill(false);
+    }
 }
 
 /// Replays one entry over bytes with enough capacity. A write's row is found by the write's number.

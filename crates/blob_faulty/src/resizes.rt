@@ -14,7 +14,6 @@ use crate::blob::Blob;
 use crate::storage::Storage;
 use blob_base::Error;
 use blob_draws::faults::ResizeFate;
-use blob_pending::entry::Entry;
 use blob_pending::room::Room;
 
 impl<B> Blob<B> {
@@ -53,7 +52,7 @@ impl<B> Blob<B> {
     {
         let list = store.lists.room_for(&self.inner, self.list, Room::Entry)?;
         self.resize_unrecorded(store, len)?;
-        store.lists.push(list, Entry::Resize(len));
+        store.lists.push_resize(list, len);
         self.list = list;
         Ok(())
     }

@@ -16,7 +16,6 @@ use crate::storage::Storage;
 use blob_base::{Error, IoBufs, WriteOptions};
 use blob_draws::config::WriteConfig;
 use blob_draws::faults::{WriteFate, retained};
-use blob_pending::entry::Entry;
 use blob_pending::room::Room;
 use blob_pending::write::PendingWrite;
 
@@ -83,7 +82,7 @@ impl<B> Blob<B> {
             rate: config.retention_rate,
             holes,
         };
-        store.lists.push(list, Entry::Write(write));
+        store.lists.push_write(list, write);
         self.list = list;
         Ok(())
     }
@@ -168,7 +167,8 @@ impl<B> Blob<B> {
         let owned = bytes.into_bufs(store.alloc())?;
         let room = Room::Ranges(offset, end, 1);
         let list = store.lists.room_for(&self.inner, self.list, room)?;
-        let copy = store.lists.copy_for(list, &owned)?;
+        let whole = owned.copied()?.coalesce()?;
+        let copy = store.lists.copy_for(list, &whole)?;
         self.list = list;
         self.lay_range(store, list, offset, owned, copy)
     }

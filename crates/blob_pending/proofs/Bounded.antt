@@ -8,7 +8,7 @@ use Rattle.std.specs.Prelude.{nat_le, nat_lt}
 use Rattle.std.specs.List.{All}
 use Rattle.blob_model.specs.Holes.{Holes, need_in}
 use Rattle.blob_model.proofs.Holes.{need_dug}
-use Rattle.blob_model.specs.Log.{has_bare}
+use Rattle.blob_model.specs.Log.{Need, has_bare}
 use Rattle.blob_model.specs.Pending.{Pending, Waiting, Cut, Again, Marker, is_barrier, has_barrier, cut_by, pared_one}
 use Rattle.blob_pending.specs.Blocks.{AreBoundedBy, AreBounded, LiesApart, IsPassed, is_within, is_apart}
 use Rattle.blob_pending.specs.Ranges.{ranges}
@@ -38,7 +38,7 @@ or_more : (a b c : Bool) → (a || (b || c)) ≡ ((a || b) || c)
 or_more true b c = refl
 or_more false b c = refl
 
-pub barrier_push : (q : List Pending) (e : Pending) → has_barrier (q ++ e ∷ []) ≡ (has_barrier q || is_barrier e)
+barrier_push : (q : List Pending) (e : Pending) → has_barrier (q ++ e ∷ []) ≡ (has_barrier q || is_barrier e)
 barrier_push [] e = or_false (is_barrier e)
 barrier_push (x ∷ q) e = ap (λ (b : Bool). is_barrier x || b) (barrier_push q e) ∙ or_more (is_barrier x) (has_barrier q) (is_barrier e)
 
@@ -187,6 +187,9 @@ rest_room (entry.Resize n) h hs room = tt
 rest_room (entry.Range r) h hs room = tt
 rest_room (entry.Marker k) h hs room = tt
 
+pub barrier_write : (q : List Pending) (m : Need) → has_barrier (q ++ Waiting m ∷ []) ≡ has_barrier q
+barrier_write q m = barrier_push q (Waiting m) ∙ or_false (has_barrier q)
+
 pub barrier_mark : (q : List Pending) (k : ℕ) → has_barrier (q ++ Marker k ∷ []) ≡ has_barrier q
 barrier_mark q k = barrier_push q (Marker k) ∙ or_false (has_barrier q)
 
@@ -197,6 +200,9 @@ none_by size bs q e k b p l = absurd (omega (arith, l, ap (λ (x : List Bounds).
 or_true : (a : Bool) → (a || true) ≡ true
 or_true true = refl
 or_true false = refl
+
+pub barrier_resize : (q : List Pending) (n : ℕ) → has_barrier (q ++ Cut n ∷ []) ≡ true
+barrier_resize q n = barrier_push q (Cut n) ∙ or_true (has_barrier q)
 
 pub barrier_again : (q : List Pending) (o : ℕ) (b : List ℕ) → has_barrier (q ++ Again o b ∷ []) ≡ true
 barrier_again q o b = barrier_push q (Again o b) ∙ or_true (has_barrier q)

@@ -1,12 +1,14 @@
 -- The test whether one hole is the whole write.
-use Rattle.std.proofs.Common.{◌≡◌, ⊎_elim, ℕ, ◌+◌, ◌<◌, ◌≤◌, Bool, false, not, List, [], ◌∷◌, length, get_or, eqb, refl, sym, ◌∙◌, ap, ap₂, subst, arith}
+use Rattle.std.proofs.Common.{◌≡◌, ⊎_elim, ℕ, ◌+◌, ◌<◌, ◌≤◌, Bool, true, false, not, List, [], ◌∷◌, length, get_or, eqb, refl, sym, ◌∙◌, ap, ap₂, subst, arith}
 use Rattle.std.proofs.lemmas.Bool.{cases_Bool, cases_eq, eq-eqb, ne_eqb}
 use Rattle.std.proofs.lemmas.List.{length-map}
 use Rattle.blob_model.specs.Log.{Write, has_bare}
 use Rattle.blob_model.specs.Holes.{Holes, AreApart, need_in}
 use Rattle.blob_model.proofs.Shape.{covered_is, covered_by}
 use Rattle.blob_pending.specs.declared.holes.Hole.{Hole}
+use Rattle.blob_pending.specs.declared.write.PendingWrite.{PendingWrite}
 use Rattle.blob_pending.specs.Ranges.{range_of, ranges}
+use Rattle.blob_pending.specs.Views.{write_of}
 
 -- the first pair of a list
 front : Holes → ℕ × ℕ → ℕ × ℕ
@@ -44,6 +46,13 @@ covered_not w hs d some a h k isnt = ne_eqb _ _ isnt ∙ bare_unless w (ranges h
 -- none, or more than one
 pub covered_other : (w : Write) (hs : List Hole) → 0 < length w.bytes → AreApart w.offset (ranges hs) (w.offset + length w.bytes) → (length hs ≡ 1 → ⊥) → false ≡ not (has_bare (need_in w (ranges hs)))
 covered_other w hs some a other = bare_unless w (ranges hs) some a (λ e. other (sym (length-map hs range_of) ∙ ap length e))
+
+-- no hole at all
+pub whole_left : (w : PendingWrite) → w.holes.items ≡ [] → has_bare (need_in (write_of w) (ranges w.holes.items)) ≡ true
+whole_left w none = ⊎_elim
+    (λ y. y)
+    (λ n. let one = covered_is (write_of w) (ranges w.holes.items) w.some w.apart n in let no = ap ranges none in absurd (cc))
+    (cases_Bool (has_bare (need_in (write_of w) (ranges w.holes.items))))
 
 -- the same over a copy of the list, as a slice gives it, and an end that is told otherwise
 AreHoles : Write → List Hole → Type 0

@@ -1,16 +1,16 @@
 -- Loops that go over the entries of a list.
-use Rattle.std.proofs.Common.{◌≡◌, ℕ, zero, suc, ◌+◌, ◌<◌, ◌≤◌, Bool, true, false, cond, List, [], ◌∷◌, ◌++◌, map, length, get_or, take, drop, set, refl, sym, ◌∙◌, ap, ap₂, ⊎_elim, subst, arith, add-one}
-use Rattle.std.proofs.lemmas.Bool.{cases_eq}
-use Rattle.std.proofs.lemmas.List.{get_or-set_same, get_or-set_other}
+use Rattle.std.proofs.Common.{◌≡◌, ℕ, zero, suc, ◌+◌, ◌<◌, ◌≤◌, Bool, true, false, cond, List, [], ◌∷◌, ◌++◌, length, get_or, set, refl, sym, ◌∙◌, ap, ⊎_elim, subst, arith}
+use Rattle.std.proofs.lemmas.Bool.{cases_eq, cond-true}
+use Rattle.std.proofs.lemmas.List.{get_or-set_same, get_or-set_other, map-append}
 use Rattle.std.specs.List.{All, filter}
 use Rattle.std.proofs.lemmas.List.Elements.{All-append}
-use Rattle.blob_model.specs.Log.{Write, Need, has_bare}
+use Rattle.blob_model.specs.Log.{Write, Need}
 use Rattle.blob_model.specs.Holes.{Holes, dug_by, need_in}
 use Rattle.blob_model.proofs.Holes.{need_dug}
 use Rattle.blob_model.specs.Pending as model
 use Rattle.blob_model.specs.Pending.{Pending, is_barrier, has_barrier, cut_by, pared_one}
 use Rattle.blob_pending.specs.declared.entry.Entry.{Entry}
-use Rattle.blob_pending.specs.Views.{view, views, pared_by, is_left}
+use Rattle.blob_pending.specs.Views.{view, views}
 
 -- an entry is written that stands for the same
 pub views_set : (q : List Entry) (i : ℕ) (d e' : Entry) → i < length q → view e' ≡ view (get_or q i d) → views (set q i e') ≡ views q
@@ -29,28 +29,9 @@ below_set P q i e h below one k d l = ⊎_elim
 pub later_set : (q r : List Entry) (i : ℕ) (e : Entry) → ((k : ℕ) (d : Entry) → i ≤ k → get_or q k d ≡ get_or r k d) → (k : ℕ) (d : Entry) → i + 1 ≤ k → get_or (set q i e) k d ≡ get_or r k d
 later_set q r i e same k d h = get_or-set_other q i k e d (λ is. omega arith) ∙ same k d (omega arith)
 
--- the one at i is written
-written_suc : (f : Pending → Pending) (q : List Entry) (i : ℕ) (d e' : Entry) → i < length q → view e' ≡ f (view (get_or q i d)) →
-    views (take (suc i) (set q i e')) ++ map f (views (drop (suc i) (set q i e'))) ≡ views (take i q) ++ map f (views (drop i q))
-written_suc f [] i d e' h e = absurd (omega arith)
-written_suc f (x ∷ q) zero d e' h e = ap (λ (p : Pending). p ∷ map f (views q)) e
-written_suc f (x ∷ q) (suc i) d e' h e = ap (λ (r : List Pending). view x ∷ r) (written_suc f q i d e' (omega arith) e)
-
-pub written : (f : Pending → Pending) (q : List Entry) (i : ℕ) (d e' : Entry) → i < length q → view e' ≡ f (view (get_or q i d)) →
-    views (take (i + 1) (set q i e')) ++ map f (views (drop (i + 1) (set q i e'))) ≡ views (take i q) ++ map f (views (drop i q))
-written f q i d e' h e = rw add-one (written_suc f q i d e' h e)
-
 -- one write
-pub pared_write : (o n : ℕ) (w v : Write) (hs gs : Holes) → v ≡ w → gs ≡ dug_by o n w hs → model.Waiting (need_in v gs) ≡ model.Waiting (pared_one o n (need_in w hs))
-pared_write o n w v hs gs vw is = ap (λ (m : Need). model.Waiting m) (ap₂ (λ (u : Write) (l : Holes). need_in u l) vw is ∙ need_dug o n w hs)
-
--- those of which something is left, after a range
-pub cut_is : (o n : ℕ) (q : List Pending) → cut_by o n q ≡ filter is_left (map (pared_by o n) q)
-cut_is o n [] = refl
-cut_is o n (model.Waiting m ∷ q) = ap (λ (r : List Pending). cond (has_bare (pared_one o n m)) (model.Waiting (pared_one o n m) ∷ r) r) (cut_is o n q)
-cut_is o n (model.Cut m ∷ q) = ap (λ (r : List Pending). model.Cut m ∷ r) (cut_is o n q)
-cut_is o n (model.Again p b ∷ q) = ap (λ (r : List Pending). model.Again p b ∷ r) (cut_is o n q)
-cut_is o n (model.Marker k ∷ q) = ap (λ (r : List Pending). model.Marker k ∷ r) (cut_is o n q)
+pub pared_write : (o n : ℕ) (w : Write) (hs gs : Holes) → gs ≡ dug_by o n w hs → model.Waiting (need_in w gs) ≡ model.Waiting (pared_one o n (need_in w hs))
+pared_write o n w hs gs is = ap (λ (m : Need). model.Waiting m) (ap (need_in w) is ∙ need_dug o n w hs)
 
 pub views_filter : (p : Pending → Bool) (q : List Entry) → views (filter (λ e. p (view e)) q) ≡ filter p (views q)
 views_filter p [] = refl
@@ -61,6 +42,12 @@ views_filter p (x ∷ q) = step (p (view x)) (views_filter p q)
     step false e = e
 
 -- one entry more
+pub pushed_is : (q r : List Entry) (e : Entry) (ok : Bool) → r ≡ cond ok (q ++ e ∷ []) q → ok ≡ true → r ≡ q ++ e ∷ []
+pushed_is q r e ok is y = is ∙ cond-true ok (q ++ e ∷ []) q y
+
+pub views_push : (q r : List Entry) (e : Entry) → r ≡ q ++ e ∷ [] → views r ≡ views q ++ view e ∷ []
+views_push q r e is = ap views is ∙ map-append view q (e ∷ [])
+
 pub all_push : (P : Entry → Type 0) (q r : List Entry) (e : Entry) → r ≡ q ++ e ∷ [] → All P q → P e → All P r
 all_push P q r e is all one = subst (λ (l : List Entry). All P l) (sym is) (All-append P q (e ∷ []) all alone)
   where

@@ -116,17 +116,6 @@ held_at_filter (x ∷ hs) gone a = cond_both (not (gone x.0)) (x ∷ filter (λ 
     not_false true e = refl
     not_false false e = sym e
 
-has_filter : (p : ListAt → Bool) (hs : List ListAt) (a : Place) → has_list hs a ≡ false → has_list (filter p hs) a ≡ false
-has_filter p [] a h = refl
-has_filter p (i ∷ is) a h = ⊎_elim (λ y. absurd (true≢false (sym (cond-true (is_list_of a i) true (has_list is a) y) ∙ h)))
-    (λ no. let rest : has_list is a ≡ false = sym (cond-false (is_list_of a i) true (has_list is a) no) ∙ h in
-    cond_both (p i) (i ∷ filter p is) (filter p is) (λ r. has_list r a ≡ false) (λ _. cond-false (is_list_of a i) true _ no ∙ has_filter p is a rest) (λ _. has_filter p is a rest))
-    (cases_Bool (is_list_of a i))
-
-pub apart_filter : (p : ListAt → Bool) (hs : List ListAt) → ArePlacesApart hs → ArePlacesApart (filter p hs)
-apart_filter p [] h = tt
-apart_filter p (i ∷ is) h = cond_both (p i) (i ∷ filter p is) (filter p is) (λ r. ArePlacesApart r) (λ _. (has_filter p is i.0 h.0, apart_filter p is h.1)) (λ _. apart_filter p is h.1)
-
 -- one list made new in place
 pub held_at_set : (hs : List ListAt) (k : ℕ) (h : ListAt) (o a : Place) → IsAt hs k o → h.0 ≡ (get_or hs k h).0 → held_at (set hs k h) a ≡ with_at (held_at hs) o h.1 a
 held_at_set [] k h o a i e = absurd (omega (arith, i.inside))
@@ -152,16 +141,6 @@ held_here (x ∷ hs) zero d o i = sym (cond-true (is_list_of o x) _ _ (i.here x)
 held_here (x ∷ hs) (suc k) d o i = held_here hs k d o (record { inside = omega (arith, i.inside); here = λ e. i.here e; before = λ m e l. i.before (suc m) e (omega arith) })
     ∙ sym (cond-false (is_list_of o x) _ _ (i.before 0 x (omega arith)))
 
-has_set : (hs : List ListAt) (k : ℕ) (h : ListAt) (a : Place) → h.0 ≡ (get_or hs k h).0 → has_list (set hs k h) a ≡ has_list hs a
-has_set [] k h a e = refl
-has_set (i ∷ is) zero h a e = ap (λ (b : Bool). cond b true (has_list is a)) (other_than i.0 a h.0 e)
-has_set (i ∷ is) (suc k) h a e = ap (λ (b : Bool). cond (is_list_of a i) true b) (has_set is k h a e)
-
-pub apart_set : (hs : List ListAt) (k : ℕ) (h : ListAt) → h.0 ≡ (get_or hs k h).0 → ArePlacesApart hs → ArePlacesApart (set hs k h)
-apart_set [] k h e a = a
-apart_set (i ∷ is) zero h e a = (ap (λ (o : Place). has_list is o) e ∙ a.0, a.1)
-apart_set (i ∷ is) (suc k) h e a = (has_set is k h i.0 e ∙ a.0, apart_set is k h e a.1)
-
 pub at_set : (hs : List ListAt) (k : ℕ) (h : ListAt) (o : Place) → h.0 ≡ (get_or hs k h).0 → IsAt hs k o → IsAt (set hs k h) k o
 at_set hs k h o e i = record {
   inside = omega (arith, length-set hs k h, i.inside);
@@ -184,9 +163,6 @@ pub changed_list : {O : Type 0} (place : O → Place) (is : List (Incarnation O)
     list_of place (set is k j) a ≡ with_at (list_of place is) o q a
 changed_list place is k e j o q a h at same i is_q = ap (λ (hs : List ListAt). held_at hs a) (held_set place is k j) ∙ held_at_set (lists_of place is) k (held_by place j) o a i (place_at place is k e j h at same)
     ∙ ap (λ (r : List Pending). with_at (list_of place is) o r a) is_q
-
-pub changed_apart : {O : Type 0} (place : O → Place) (is : List (Incarnation O)) (k : ℕ) (e j : Incarnation O) → k < length is → e ≡ get_or is k e → j.origin ≡ e.origin → ArePlacesApart (lists_of place is) → ArePlacesApart (lists_of place (set is k j))
-changed_apart place is k e j h at same a = subst (λ (hs : List ListAt). ArePlacesApart hs) (sym (held_set place is k j)) (apart_set (lists_of place is) k (held_by place j) (place_at place is k e j h at same) a)
 
 pub changed_at : {O : Type 0} (place : O → Place) (is : List (Incarnation O)) (k : ℕ) (e j : Incarnation O) (o : Place) → k < length is → e ≡ get_or is k e → j.origin ≡ e.origin → IsAt (lists_of place is) k o → IsAt (lists_of place (set is k j)) k o
 changed_at place is k e j o h at same i = subst (λ (hs : List ListAt). IsAt hs k o) (sym (held_set place is k j)) (at_set (lists_of place is) k (held_by place j) o (place_at place is k e j h at same) i)
@@ -247,15 +223,3 @@ stays_is true true = refl
 stays_is true false = refl
 stays_is false true = refl
 stays_is false false = refl
-
--- lists taken out by any test
-has_left : {O : Type 0} (place : O → Place) (p : Incarnation O → Bool) (is : List (Incarnation O)) (a : Place) → has_list (lists_of place is) a ≡ false → has_list (lists_of place (filter p is)) a ≡ false
-has_left place p [] a h = refl
-has_left place p (i ∷ is) a h = ⊎_elim (λ y. absurd (true≢false (sym (cond-true (same_place (place i.origin) a) true (has_list (lists_of place is) a) y) ∙ h)))
-    (λ isnt. let rest : has_list (lists_of place is) a ≡ false = sym (cond-false (same_place (place i.origin) a) true (has_list (lists_of place is) a) isnt) ∙ h in
-    cond_both (p i) (i ∷ filter p is) (filter p is) (λ r. has_list (lists_of place r) a ≡ false) (λ _. cond-false (same_place (place i.origin) a) true _ isnt ∙ has_left place p is a rest) (λ _. has_left place p is a rest))
-    (cases_Bool (same_place (place i.origin) a))
-
-pub apart_left : {O : Type 0} (place : O → Place) (p : Incarnation O → Bool) (is : List (Incarnation O)) → ArePlacesApart (lists_of place is) → ArePlacesApart (lists_of place (filter p is))
-apart_left place p [] h = tt
-apart_left place p (i ∷ is) h = cond_both (p i) (i ∷ filter p is) (filter p is) (λ r. ArePlacesApart (lists_of place r)) (λ _. (has_left place p is (place i.origin) h.0, apart_left place p is h.1)) (λ _. apart_left place p is h.1)

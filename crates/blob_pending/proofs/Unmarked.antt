@@ -1,8 +1,8 @@
 -- The entries behind the last marker are all that a crash sees of a list.
-use Rattle.std.proofs.Common.{◌≡◌, ⊎_elim, ℕ, zero, suc, ◌<◌, Bool, true, false, cond, List, [], ◌∷◌, ◌++◌, length, get_or, take, drop, refl, sym, ◌∙◌, ap, arith, true≢false, ◌||◌}
+use Rattle.std.proofs.Common.{◌≡◌, ⊎_elim, ℕ, zero, suc, ◌<◌, Bool, true, false, cond, List, [], ◌∷◌, ◌++◌, length, get_or, take, drop, refl, sym, ◌∙◌, ap, arith, ◌||◌}
 use Rattle.std.proofs.lemmas.Bool.{cases_Bool, cond-true, cond-false}
 use Rattle.blob_model.specs.Log.{Choices}
-use Rattle.blob_model.specs.Pending.{Pending, Waiting, Cut, Again, Marker, is_marker, has_marker, waiting, replay, replay_entry}
+use Rattle.blob_model.specs.Pending.{Pending, Waiting, Cut, Again, Marker, is_marker, has_marker, waiting, replay}
 use Rattle.blob_pending.specs.Replays.{unmarked}
 use Rattle.blob_pending.specs.Views.{view, views}
 use Rattle.blob_pending.specs.declared.entry.Entry.{Entry}
@@ -64,13 +64,3 @@ pub unmarked_at : (q : List Entry) (i j : ℕ) (d : Entry) → j ≡ suc i → i
 unmarked_at q i j d is h m n =
     let at : views (drop j q) ≡ views (drop (suc i) q) = ap (λ (k : ℕ). views (drop k q)) is in
     at ∙ sym (ap unmarked (split_at q i d h) ∙ unmarked_skips (views (take i q)) (views (drop (suc i) q)) (view (get_or q i d)) m (ap has_marker (sym at) ∙ n))
-
-pub none_after : (e : Pending) (q : List Pending) → has_marker (e ∷ q) ≡ false → (is_marker e ≡ false) × (has_marker q ≡ false)
-none_after e q h = go (is_marker e) (has_marker q) h
-  where
-    go : (a b : Bool) → (a || b) ≡ false → (a ≡ false) × (b ≡ false)
-    go true b h = absurd (true≢false h)
-    go false b h = (refl, h)
-
-pub replay_more : (e : Pending) (q : List Pending) (t : Choices) (x : List ℕ) → has_marker q ≡ false → replay (e ∷ q) t x ≡ replay q t (replay_entry x e t)
-replay_more e q t x h = ap (λ (b : Bool). replay q t (cond b x (replay_entry x e t))) h

@@ -2,18 +2,11 @@
 use Rattle.std.specs.Prelude.{List}
 use Rattle.std.specs.List.Sorted.{IsPermutation}
 use Rattle.blob_model.specs.Order.{waiting_of_all}
-use Rattle.blob_model.specs.Pending.{waiting}
 use Rattle.blob_model.specs.Places.{Place}
 use Rattle.blob_draws.specs.Drawings.{Drawing, drawings_of, drawings_in}
 use Rattle.blob_draws.specs.declared.draw.Draw.{Draw}
 use Rattle.blob_pending.specs.Lists.{lists_of}
-use Rattle.blob_pending.specs.Views.{left_in}
-use Rattle.blob_pending.specs.declared.entry.Entry.{Entry}
 use Rattle.blob_pending.specs.declared.incarnation.Incarnation.{Incarnation}
-
--- the draws that the writes of these entries need
-abbrev pub draws_for : List Entry → List Drawing
-draws_for entries = drawings_of (waiting (left_in entries))
 
 -- the draws that a crash makes for all lists, list by list
 abbrev pub draws_for_all : {O : Type 0} → (O → Place) → List (Incarnation O) → List Drawing

@@ -8,18 +8,19 @@ abbrev pub unmarked : List Pending → List Pending
 unmarked [] = []
 unmarked (e ∷ q) = if has_marker (e ∷ q) then unmarked q else e ∷ q
 
--- how many bytes an entry applies
+-- how many choices the replay of an entry needs
 abbrev pub width : Pending → ℕ
 width (Waiting m) = length m.write.bytes
 width (Cut n) = 0
-width (Again o b) = length b
+width (Again o b) = 0
 width (Marker k) = 0
 
--- the most bytes that one entry applies
+-- the most that one entry needs
 abbrev pub widest : List Pending → ℕ
 widest [] = 0
 widest (e ∷ q) = max (width e) (widest q)
 
+-- the most that one entry after its list's last marker needs
 abbrev pub widest_of_all : List ListAt → ℕ
 widest_of_all [] = 0
-widest_of_all (h ∷ hs) = max (widest h.1) (widest_of_all hs)
+widest_of_all (h ∷ hs) = max (widest (unmarked h.1)) (widest_of_all hs)

@@ -30,10 +30,6 @@ HasRoomFor hs (entry.Marker k) = Unit {0}
 abbrev pub EachHasRoom : List Entry → Holes → Type 0
 EachHasRoom entries hs = All (HasRoomFor hs) entries
 
--- ranges for which the old entries and one more have that capacity, the new entries have it for too
-abbrev pub KeepsHoleRoom : List Entry → List Entry → Entry → Type 0
-KeepsHoleRoom old new more = (later : Holes) → EachHasRoom old later → HasRoomFor later more → EachHasRoom new later
-
 -- a list can take each of these ranges as an entry, and each of its writes the holes that they make in it
 pub record HasRoomsFor (hs : Holes) (list : Vec Entry Global) : Type 0 where
   pub entries : vec_len list + length hs ≤ vec_capacity list

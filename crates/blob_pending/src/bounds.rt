@@ -5,7 +5,7 @@ ghost use Rattle.blob_pending.specs.Blocks.{AreBoundedBy, LiesApart, is_within};
 ghost use Rattle.blob_pending.specs.Views.{view, views};
 
 use crate::entry::Entry;
-use std::alloc::{AllocError, Global};
+use std::alloc::AllocError;
 
 /// The number of entries in a block.
 const BLOCK: usize = 64;
@@ -21,21 +21,6 @@ pub struct Bounds {
 }
 
 impl Bounds {
-    /// Returns the bounds, widened to contain an entry.
-    fn with(self, entry: &Entry) -> Bounds
-        ensures start { result.start ≤ self.start }
-        ensures end { self.end ≤ result.end }
-        ensures entry { is_within result (view entry.now) ≡ true }
-    {
-        match entry {
-            Entry::Write(write) => Bounds {
-                start: self.start.min(write.offset),
-                end: self.end.max(write.end()),
-            },
-            _ => self,
-        }
-    }
-
     /// Returns the bounds of a block's entries.
     fn of(entries: &[Entry]) -> Bounds
         ensures { All (λ entry. is_within result (view entry) ≡ true) entries.now }
@@ -45,7 +30,10 @@ impl Bounds {
             end: 0,
         };
         for entry in entries {
-            bounds = bounds.with(entry);
+            if let Entry::Write(write) = entry {
+                bounds.start = bounds.start.min(write.offset);
+                bounds.end = bounds.end.max(write.end());
+            }
         }
         bounds
     }
@@ -86,16 +74,6 @@ impl BlockBounds {
     ghost use Rattle.blob_model.specs.Pending.{Pending};
     ghost use Rattle.blob_pending.specs.Blocks.{AreBounded, IsPassed};
 
-    /// Returns the bounds of an empty list.
-    pub fn new(alloc: Global) -> BlockBounds
-        ensures { (entries : List Pending) → AreBounded result entries }
-    {
-        BlockBounds {
-            blocks: Vec::new(alloc),
-            groups: Vec::new(alloc),
-        }
-    }
-
     /// Adds the missing bounds of whole blocks and groups. After an error, those added before it stay.
     pub fn add(&mut self, entries: &[Entry]) -> Result<(), AllocError>
         requires { AreBounded self.old (views entries.now) }
@@ -113,20 +91,6 @@ impl BlockBounds {
         self.groups.clear();
     }
 
-    /// Returns how many entries from the index `at` on don't overlap the range, by the bounds of a group or a block that begins
-    /// at `at`.
-    fn passed(&self, at: usize, start: u64, end: u64) -> usize
-        ensures { (k : ℕ) → at ≤ k → k < at + result → IsPassed self.now k start end }
-    {
-        if at % GROUP == 0 && is_apart(&self.groups, at / GROUP, start, end) {
-            GROUP
-        } else if at % BLOCK == 0 && is_apart(&self.blocks, at / BLOCK, start, end) {
-            BLOCK
-        } else {
-            0
-        }
-    }
-
     /// Returns the first index from `from` on at which an entry may overlap the range, or `len` if there is none.
     pub fn next_near(&self, from: usize, len: usize, start: u64, end: u64) -> usize
         requires { from ≤ len }
@@ -136,7 +100,14 @@ impl BlockBounds {
     {
         let mut i = from;
         while i < len {
-            let passed = self.passed(i, start, end);
+            // A group or a block that begins here and doesn't overlap the range is passed as a whole.
+            let passed = if i % GROUP == 0 && is_apart(&self.groups, i / GROUP, start, end) {
+                GROUP
+            } else if i % BLOCK == 0 && is_apart(&self.blocks, i / BLOCK, start, end) {
+                BLOCK
+            } else {
+                0
+            };
             if passed == 0 || len - i < passed {
                 break;
             }

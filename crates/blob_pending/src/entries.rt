@@ -1,27 +1,15 @@
 //! The pending entries of one incarnation, in issue order.
-ghost use Rattle.std.specs.Prelude.{◌≡◌, ◌<◌, ◌≤◌, ◌+◌, ◌*◌, ◌^◌, ℕ, List, ◌++◌, ◌∷◌, [], OnOk, map, filter, drop, length, vec_len, vec_capacity, true};
+ghost use Rattle.std.specs.Prelude.{◌≡◌, ◌<◌, ◌≤◌, ◌+◌, ◌*◌, ◌^◌, ℕ, List, ◌++◌, ◌∷◌, [], OnOk, map, drop, length, vec_len, vec_capacity, true};
 ghost use Rattle.blob_model.specs.Holes.{Holes};
 ghost use Rattle.blob_model.specs.Pending.{has_barrier, finish, ends};
 ghost use Rattle.blob_pending.specs.Blocks.{AreBounded};
 ghost use Rattle.blob_pending.specs.Replays.{unmarked, widest};
-ghost use Rattle.blob_pending.specs.Rooms.{AreWithin, HasRoomsFor, EachHasRoom, KeepsHoleRoom, CanCut, KeepsRest};
-ghost use Rattle.blob_pending.specs.Views.{view, views, pared_by, is_left, left_in, CountsCovered};
+ghost use Rattle.blob_pending.specs.Rooms.{AreWithin, HasRoomsFor, EachHasRoom, CanCut, KeepsRest};
+ghost use Rattle.blob_pending.specs.Views.{view, views, pared_by, left_in, CountsCovered};
 
 use crate::bounds::BlockBounds;
 use crate::entry::Entry;
 use std::alloc::AllocError;
-
-/// Reserves capacity for one more entry. The capacity grows by an eighth, not to its double: pending writes are what a list's memory
-/// is used for.
-pub fn reserve_one(entries: &mut Vec<Entry>) -> Result<(), AllocError>
-    ensures items { entries.new.items ≡ entries.old.items }
-    ensures ok { OnOk result (vec_len entries.new < vec_capacity entries.new) }
-{
-    if entries.len() < entries.capacity() {
-        return Ok(());
-    }
-    entries.reserve_exact(entries.len() / 8 + 4)
-}
 
 /// Reserves capacity for `count` more durable ranges between `start` and `end`. Only writes that overlap that range need some.
 /// Blocks whose bounds don't overlap it are skipped. After an error the list is unchanged.
@@ -73,15 +61,6 @@ pub(crate) fn cover_all(
     covered
 }
 
-/// Drops the fully covered writes.
-fn drop_covered(entries: &mut Vec<Entry>)
-    ensures items { entries.new.items ≡ filter (λ entry. is_left (view entry)) entries.old.items }
-    ensures capacity { vec_capacity entries.old ≤ vec_capacity entries.new }
-    ensures len { vec_len entries.new ≤ vec_len entries.old }
-{
-    entries.retain(|entry| entry.is_left());
-}
-
 /// Drops the fully covered writes and all bounds, once more than half of the list may be covered, so that the cost of one covered
 /// write doesn't grow with the list. There are at most `covered` of them.
 pub(crate) fn compact(entries: &mut Vec<Entry>, bounds: &mut BlockBounds, covered: &mut usize)
@@ -98,7 +77,7 @@ pub(crate) fn compact(entries: &mut Vec<Entry>, bounds: &mut BlockBounds, covere
     if *covered <= entries.len() / 2 {
         return;
     }
-    drop_covered(entries);
+    entries.retain(|entry| entry.is_left());
     bounds.clear();
     *covered = 0;
 }
@@ -113,17 +92,6 @@ pub fn has_barrier(entries: &[Entry]) -> bool
         }
     }
     false
-}
-
-/// Appends an entry. The list has capacity for it.
-pub fn push(entries: &mut Vec<Entry>, entry: Entry)
-    requires { vec_len entries.old < vec_capacity entries.old }
-    ensures views { views entries.new.items ≡ views entries.old.items ++ view entry ∷ [] }
-    ensures holes { KeepsHoleRoom entries.old.items entries.new.items entry }
-    ensures len { vec_len entries.new ≡ vec_len entries.old + 1 }
-    ensures capacity { vec_capacity entries.old ≤ vec_capacity entries.new }
-{
-    entries.push(entry).unwrap();
 }
 
 /// Drops the first `count` entries.
@@ -152,7 +120,7 @@ pub fn unmarked(entries: &[Entry]) -> &[Entry]
 {
     let mut start = entries.len();
     while start > 0 {
-        if entries[start - 1].is_marker() {
+        if let Entry::Marker(_) = entries[start - 1] {
             return &entries[start..];
         }
         start -= 1;
@@ -160,24 +128,23 @@ pub fn unmarked(entries: &[Entry]) -> &[Entry]
     entries
 }
 
-/// Returns the greatest end of an entry: the logical length that a replay may need.
-pub fn end(entries: &[Entry]) -> u64
-    ensures { result ≡ ends (left_in entries.now) }
+/// Returns what a replay of these entries needs: their greatest end, and the length of the longest write.
+pub fn replay_room(entries: &[Entry]) -> (u64, usize)
+    ensures end { result.0 ≡ ends (left_in entries.now) }
+    ensures width { result.1 ≡ widest (left_in entries.now) }
 {
     let mut end = 0;
-    for entry in entries {
-        end = end.max(entry.end());
-    }
-    end
-}
-
-/// Returns the length of the longest write or range.
-pub fn widest(entries: &[Entry]) -> usize
-    ensures { result ≡ widest (left_in entries.now) }
-{
     let mut most = 0;
     for entry in entries {
-        most = most.max(entry.width());
+        match entry {
+            Entry::Write(write) if !write.is_covered() => {
+                end = end.max(write.end());
+                most = most.max(write.bytes.len());
+            }
+            Entry::Resize(len) => end = end.max(*len),
+            Entry::Range(range) => end = end.max(range.offset + range.bytes.len() as u64),
+            Entry::Write(_) | Entry::Marker(_) => (),
+        }
     }
-    most
+    (end, most)
 }

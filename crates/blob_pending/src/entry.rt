@@ -1,6 +1,7 @@
 //! One pending mutation of a blob.
 ghost use Rattle.std.specs.Prelude.{◌<◌, ◌+◌, ◌^◌, length};
 
+use crate::holes::dig;
 use crate::write::PendingWrite;
 use std::alloc::AllocError;
 
@@ -26,10 +27,9 @@ pub enum Entry {
 impl Entry {
     ghost use Rattle.std.specs.Prelude.{◌≡◌, ◌&&◌, ◌∷◌, [], OnOk, not};
     ghost use Rattle.blob_model.specs.Holes.{Holes};
-    ghost use Rattle.blob_model.specs.Pending.{is_marker, is_barrier, is_mark, ends};
-    ghost use Rattle.blob_pending.specs.Replays.{widest};
+    ghost use Rattle.blob_model.specs.Pending.{is_barrier, is_mark};
     ghost use Rattle.blob_pending.specs.Rooms.{AreWithin, HasRoomFor, CanCut, KeepsRest};
-    ghost use Rattle.blob_pending.specs.Views.{view, pared_by, is_left, left_in};
+    ghost use Rattle.blob_pending.specs.Views.{view, pared_by, is_left};
 
     /// Adds a durable range to the holes of a write. Returns whether the write became fully covered by it.
     pub fn cover(&mut self, start: u64, len: u64) -> bool
@@ -41,20 +41,27 @@ impl Entry {
         let Entry::Write(write) = self else {
             return false;
         };
+        let first = start.max(write.offset);
+        let end = (start + len).min(write.end());
+        if end <= first {
+            return false;
+        }
         let was_covered = write.is_covered();
-        write.cover(start, len);
-        write.is_covered() != was_covered
+        dig(&mut write.holes, first, end);
+        !was_covered && write.is_covered()
     }
 
-    /// Reserves capacity in a write for the holes of `count` ranges between `start` and `end`. After an error it is unchanged.
+    /// Reserves capacity in a write for the holes of `count` ranges between `start` and `end`, at most one for each byte of the
+    /// write there. After an error it is unchanged.
     pub fn reserve(&mut self, start: u64, end: u64, count: usize) -> Result<(), AllocError>
         ensures view { view self.new ≡ view self.old }
         ensures ok { OnOk result ((ranges : Holes) → AreWithin start end count ranges → HasRoomFor ranges self.new) }
     {
-        match self {
-            Entry::Write(write) => write.reserve(start, end, count),
-            _ => Ok(()),
-        }
+        let Entry::Write(write) = self else {
+            return Ok(());
+        };
+        let there = end.min(write.end()).saturating_sub(start.max(write.offset));
+        write.holes.reserve(there.min(count as u64) as usize)
     }
 
     /// Returns whether a crash still draws for it or applies it. False for a fully covered write.
@@ -77,15 +84,6 @@ impl Entry {
         }
     }
 
-    pub fn is_marker(&self) -> bool
-        ensures { result ≡ is_marker (view self.now) }
-    {
-        match self {
-            Entry::Marker(_) => true,
-            _ => false,
-        }
-    }
-
     /// Returns whether it is the marker with this number.
     pub fn is_mark(&self, marker: u64) -> bool
         ensures { result ≡ is_mark marker (view self.now) }
@@ -93,29 +91,6 @@ impl Entry {
         match self {
             Entry::Marker(number) => *number == marker,
             _ => false,
-        }
-    }
-
-    /// Returns its end, or 0 for a fully covered write and for a marker.
-    pub fn end(&self) -> u64
-        ensures { result ≡ ends (left_in (self.now ∷ [])) }
-    {
-        match self {
-            Entry::Write(write) if !write.is_covered() => write.end(),
-            Entry::Resize(len) => *len,
-            Entry::Range(range) => range.offset + range.bytes.len() as u64,
-            _ => 0,
-        }
-    }
-
-    /// Returns how many bytes it applies. 0 for a fully covered write, a resize and a marker.
-    pub fn width(&self) -> usize
-        ensures { result ≡ widest (left_in (self.now ∷ [])) }
-    {
-        match self {
-            Entry::Write(write) if !write.is_covered() => write.bytes.len(),
-            Entry::Range(range) => range.bytes.len(),
-            _ => 0,
         }
     }
 }

@@ -9,6 +9,7 @@ use crate::bounds::BlockBounds;
 use crate::entries;
 use crate::entry::{DurableRange, Entry};
 use crate::room::Room;
+use crate::write::PendingWrite;
 use std::alloc::{AllocError, Global};
 
 /// The pending list of one incarnation.
@@ -52,10 +53,9 @@ fn drop_front(marks: &mut Vec<u64>, count: usize)
 impl<O> Incarnation<O> {
     ghost use Rattle.std.specs.Prelude.{◌<◌, ◌+◌, ◌*◌, ◌^◌, ◌++◌, ◌∷◌, ℕ, List, [], OnOk, false, true, length};
     ghost use Rattle.blob_model.specs.Holes.{Holes};
-    ghost use Rattle.blob_model.specs.Pending.{Marker, finish, is_marker};
+    ghost use Rattle.blob_model.specs.Pending.{Marker, finish};
     ghost use Rattle.blob_pending.specs.Lists.{Becomes, HasRoom, LaysInto};
     ghost use Rattle.blob_pending.specs.Rooms.{HasRoomsFor, CanCut, KeepsRest};
-    ghost use Rattle.blob_pending.specs.Views.{view};
 
     /// Returns an empty list.
     pub fn new(alloc: Global, origin: O) -> Incarnation<O>
@@ -69,7 +69,10 @@ impl<O> Incarnation<O> {
             covered: 0,
             marks: Vec::new(alloc),
             queues: false,
-            bounds: BlockBounds::new(alloc),
+            bounds: BlockBounds {
+                blocks: Vec::new(alloc),
+                groups: Vec::new(alloc),
+            },
         }
     }
 
@@ -82,35 +85,42 @@ impl<O> Incarnation<O> {
         self.was_current = is_current;
     }
 
-    /// Reserves capacity. After an error the list is unchanged.
+    /// Reserves capacity. For one more entry it grows by an eighth, not to its double: pending writes are what a list's memory is
+    /// used for. After an error the list is unchanged.
     pub fn reserve(&mut self, room: Room) -> Result<(), AllocError>
         ensures same { Becomes self.old self.new (left_in self.old.entries.items) }
         ensures ok { OnOk result (HasRoom room self.new) }
     {
         match room {
-            Room::Entry => entries::reserve_one(&mut self.entries),
-            Room::Mark => {
-                self.marks.reserve(1)?;
-                entries::reserve_one(&mut self.entries)
-            }
             Room::Ranges(start, end, count) => {
                 self.bounds.add(&self.entries)?;
-                entries::reserve_ranges(&mut self.entries, &self.bounds, start, end, count)
+                return entries::reserve_ranges(&mut self.entries, &self.bounds, start, end, count);
             }
+            Room::Mark => self.marks.reserve(1)?,
+            Room::Entry => (),
         }
+        if self.entries.len() < self.entries.capacity() {
+            return Ok(());
+        }
+        self.entries.reserve_exact(self.entries.len() / 8 + 4)
     }
 
-    /// Appends an entry that isn't a marker. The list has capacity for it. A fully covered write is dropped instead.
-    pub fn push(&mut self, entry: Entry)
+    /// Appends a write without holes. The list has capacity for it.
+    pub fn push_write(&mut self, write: PendingWrite)
         requires room { HasRoom Room.Entry self.old }
-        requires unmarked { is_marker (view entry) ≡ false }
-        ensures { Becomes self.old self.new (left_in self.old.entries.items ++ left_in (entry ∷ [])) }
+        requires whole { write.holes.items ≡ [] }
+        ensures { Becomes self.old self.new (left_in self.old.entries.items ++ left_in (Entry.Write write ∷ [])) }
     {
-        if !entry.is_left() {
-            return;
-        }
-        self.queues = self.queues || entry.is_barrier();
-        entries::push(&mut self.entries, entry);
+        self.entries.push(Entry::Write(write)).unwrap();
+    }
+
+    /// Appends a resize to a length. The list has capacity for it.
+    pub fn push_resize(&mut self, len: u64)
+        requires { HasRoom Room.Entry self.old }
+        ensures { Becomes self.old self.new (left_in self.old.entries.items ++ left_in (Entry.Resize len ∷ [])) }
+    {
+        self.queues = true;
+        self.entries.push(Entry::Resize(len)).unwrap();
     }
 
     /// Appends a marker. The list has capacity for it.
@@ -119,7 +129,7 @@ impl<O> Incarnation<O> {
         ensures { Becomes self.old self.new (left_in self.old.entries.items ++ Marker number ∷ []) }
     {
         self.marks.push(number).unwrap();
-        entries::push(&mut self.entries, Entry::Marker(number));
+        self.entries.push(Entry::Marker(number)).unwrap();
     }
 
     /// Updates the list for a durable range: the range joins the holes of the writes, and is queued if a resize or a queued range
@@ -139,7 +149,7 @@ impl<O> Incarnation<O> {
         if self.queues {
             let bytes = copy;
             let range = Entry::Range(DurableRange { offset, bytes });
-            entries::push(&mut self.entries, range);
+            self.entries.push(range).unwrap();
         }
     }
 

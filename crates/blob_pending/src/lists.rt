@@ -4,16 +4,17 @@ ghost use Rattle.blob_model.specs.Places.{Place, same_place};
 ghost use Rattle.blob_model.specs.Directory.{Directory};
 ghost use Rattle.blob_model.specs.Holes.{Holes};
 ghost use Rattle.blob_model.specs.Order.{has_list};
-ghost use Rattle.blob_model.specs.Pending.{Marker, is_marker};
+ghost use Rattle.blob_model.specs.Pending.{Marker};
 ghost use Rattle.blob_header.specs.Refusals.{IsMemory};
 ghost use Rattle.blob_pending.specs.Rooms.{CanCut, KeepsRest};
-ghost use Rattle.blob_pending.specs.Views.{view, left_in};
+ghost use Rattle.blob_pending.specs.Views.{left_in};
 ghost use Rattle.blob_pending.specs.Lists.{lists_of, IsAt, HasRoomIn, IsRoomAt, HasRangesAt, SameLists, ChangesAt, IsCopyAt, LaysAt, AreDistinct, finished_in, AreNoted, StaysAt, RetiresEnded, RetiresList, FinishesLists, is_kept};
 
 use crate::entry::Entry;
 use crate::incarnation::Incarnation;
 use crate::room::Room;
-use blob_base::{Blob, Durable, Error, IoBufs};
+use crate::write::PendingWrite;
+use blob_base::{Blob, Durable, Error};
 use std::alloc::{AllocError, Global};
 
 /// Pending lists with distinct origins. A type of its own, so that the check keeps this invariant through each call.
@@ -132,13 +133,21 @@ impl<S: Durable> Lists<S> {
         Ok(i)
     }
 
-    /// Appends an entry that isn't a marker to the list at `i`, which has capacity for it.
-    pub fn push(&mut self, i: usize, entry: Entry)
+    /// Appends a write without holes to the list at `i`, which has capacity for it.
+    pub fn push_write(&mut self, i: usize, write: PendingWrite)
         requires room { HasRoomIn self.old.all.lists.items i Room.Entry }
-        requires unmarked { is_marker (view entry) ≡ false }
-        ensures { ChangesAt S.place self.old.all.lists.items self.new.all.lists.items i (λ q. q ++ left_in (entry ∷ [])) }
+        requires whole { write.holes.items ≡ [] }
+        ensures { ChangesAt S.place self.old.all.lists.items self.new.all.lists.items i (λ q. q ++ left_in (Entry.Write write ∷ [])) }
     {
-        self.all.lists[i].push(entry);
+        self.all.lists[i].push_write(write);
+    }
+
+    /// Appends a resize to the list at `i`, which has capacity for it.
+    pub fn push_resize(&mut self, i: usize, len: u64)
+        requires { HasRoomIn self.old.all.lists.items i Room.Entry }
+        ensures { ChangesAt S.place self.old.all.lists.items self.new.all.lists.items i (λ q. q ++ left_in (Entry.Resize len ∷ [])) }
+    {
+        self.all.lists[i].push_resize(len);
     }
 
     /// Appends a marker to the list at `i`, which has capacity for it.
@@ -151,16 +160,17 @@ impl<S: Durable> Lists<S> {
 
     /// Returns the `copy` for `lay`: a copy of the bytes if the list at `i` queues durable ranges, otherwise no bytes. The only
     /// error is `Memory`.
-    pub fn copy_for(&self, i: usize, bytes: &IoBufs) -> Result<Vec<u8>, Error>
+    pub fn copy_for(&self, i: usize, bytes: &[u8]) -> Result<Vec<u8>, Error>
         requires { i < vec_len self.now.all.lists }
         ensures copied { IfOk result (λ copy. IsCopyAt S.place self.now.all.lists.items i bytes.now copy.items) }
         ensures len { IfOk result (λ copy. length copy.items ≤ length bytes.now) }
         ensures memory { OnErr result (IsMemory result) }
     {
+        let alloc = *self.all.lists.allocator();
         if self.all.lists[i].queues {
-            return bytes.copied()?.coalesce();
+            return Ok(Vec::from_slice(alloc, bytes)?);
         }
-        Ok(Vec::new(*self.all.lists.allocator()))
+        Ok(Vec::new(alloc))
     }
 
     /// Updates the list at `i` for a durable range. The list has capacity for it. `copy` has the range's bytes if it is queued.

@@ -19,7 +19,7 @@ use Rattle.blob_pending.specs.declared.entry.Entry.{Entry}
 use Rattle.blob_draws.specs.Rows.{rows_in}
 use Rattle.blob_faulty.specs.Ready.{IsReady}
 use Rattle.blob_pending.proofs.Unmarked.{unmarked_none, unmarked_replays}
-use Rattle.blob_faulty.proofs.Replaying.{changed_ended, end_in, held_more, if_some, replay_first, widest_in, widest_unmarked, width_in}
+use Rattle.blob_faulty.proofs.Replaying.{changed_ended, end_in, held_more, if_some, replay_first, widest_in, width_in}
 use Rattle.blob_faulty.proofs.replay.replay_all.Goals as goal
 
 pub loop-entry-init : goal.loop-entry-init
@@ -57,7 +57,7 @@ replay_entry-requires-clause-room c =
     record {
       counted = omega (arith, small, end, first.0);
       room = omega (arith, small, end, room, c.loop-entry.invariant.room);
-      width = omega (arith, narrow, widest_unmarked (left_in x.entries.items), within, widest_in (λ (o : Place). o) c.args.lists.now c.loop-list.list-index x there c.list-item.is, c.requires.width, c.loop-entry.invariant.capacity);
+      width = omega (arith, narrow, within, widest_in (λ (o : Place). o) c.args.lists.now c.loop-list.list-index x there c.list-item.is, c.requires.width, c.loop-entry.invariant.capacity);
     }
 
 pub loop-list-preserved-in_default : goal.loop-list-preserved-in_default

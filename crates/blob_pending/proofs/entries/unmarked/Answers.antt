@@ -8,10 +8,10 @@ use Rattle.blob_pending.proofs.Left.{unmarked_left}
 use Rattle.blob_pending.proofs.Unmarked.{unmarked_at, unmarked_all}
 use Rattle.blob_pending.proofs.entries.unmarked.Goals as goal
 
-pub returns-then-is_marker : goal.returns-then-is_marker
-returns-then-is_marker c =
+pub returns-in-Marker : goal.returns-in-Marker
+returns-in-Marker c =
     ap (λ (q : List Entry). left_in q) (take_all (length c.args.entries.now - c.loop-start.start) (drop c.loop-start.start c.args.entries.now) (omega (arith, length-drop c.loop-start.start c.args.entries.now)))
-    ∙ ap (filter is_left) (unmarked_at c.args.entries.now (c.loop-start.start - 1) c.loop-start.start c.index-entries-start.result (omega arith) (omega arith) (ap (λ (e : Entry). is_marker (view e)) (sym c.index-entries-start.is) ∙ sym c.if-is_marker.ensures) c.loop-start.invariant.none)
+    ∙ ap (filter is_left) (unmarked_at c.args.entries.now (c.loop-start.start - 1) c.loop-start.start _ (omega arith) (omega arith) (ap (λ (e : Entry). is_marker (view e)) c.in-Marker.is) c.loop-start.invariant.none)
     ∙ sym (unmarked_left (views c.args.entries.now))
 
 pub returns : goal.returns

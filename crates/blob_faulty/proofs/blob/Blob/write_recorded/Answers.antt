@@ -28,13 +28,13 @@ returns-clause-recorded g c =
     let place = g.S.Durable.place in
     let mid : Storage g.row.S.Denot g.row.R.Denot g.row.S-Origin.Denot = record c.args.store.now { lists = c.room_for.new.self } in
     let done = c.write_unrecorded.new.store in
-    let end : Storage g.row.S.Denot g.row.R.Denot g.row.S-Origin.Denot = record done { lists = c.push.new.self; next_write = done.next_write + 1 } in
+    let end : Storage g.row.S.Denot g.row.R.Denot g.row.S-Origin.Denot = record done { lists = c.push_write.new.self; next_write = done.next_write + 1 } in
     let lists = done.lists.all.lists.items in
     let copy = c.in_ok-copy.copy.items in
     let write : Write = new_write done.next_write c.args.offset copy c.args.config in
     let some : 0 < length copy = subst (λ (b : List ℕ). 0 < length b) (sym c.in_ok-copy.ensures.ok) c.requires.some in
     let gains : GainsWrite place done end c.in_ok-list.list c.args.offset copy c.args.config = λ o at a.
-    c.push.ensures o at a ∙ ap (λ (r : List Pending). with_at (list_of place lists) o (list_of place lists o ++ r) a) (fresh write c.new-holes.result.items c.new-holes.ensures.items some) in
+    c.push_write.ensures o at a ∙ ap (λ (r : List Pending). with_at (list_of place lists) o (list_of place lists o ++ r) a) (fresh write c.new-holes.result.items c.new-holes.ensures.items some) in
     pushed g.S.Durable g.B.Blob c.args.self.now c.write_unrecorded.new.self c.args.store.now mid done c.args.offset (g.P.Payload.bytes c.args.bytes) end _ c.in_ok-list.list c.args.config
     refl c.requires.some c.requires.retained refl c.room_for.ensures.same c.in_ok-list.ensures.ok.at c.write_unrecorded.ensures.rest c.in_ok-write_unrecorded.ensures.wrote
     (subst (λ (b : List ℕ). GainsWrite place done end c.in_ok-list.list c.args.offset b c.args.config) c.in_ok-copy.ensures.ok gains) refl
@@ -72,7 +72,7 @@ returns-clause-allowed g c =
 
 pub returns-clause-asked : goal.returns-clause-asked
 returns-clause-asked g c =
-    asked_behind g.B.Blob c.args.self.now c.args.store.now (record c.args.store.now { lists = c.room_for.new.self }) c.args.offset (g.P.Payload.bytes c.args.bytes) _ None c.write_unrecorded.new.self c.write_unrecorded.new.store.inner (record c.write_unrecorded.new.store { lists = c.push.new.self; next_write = c.write_unrecorded.new.store.next_write + 1 }) refl refl
+    asked_behind g.B.Blob c.args.self.now c.args.store.now (record c.args.store.now { lists = c.room_for.new.self }) c.args.offset (g.P.Payload.bytes c.args.bytes) _ None c.write_unrecorded.new.self c.write_unrecorded.new.store.inner (record c.write_unrecorded.new.store { lists = c.push_write.new.self; next_write = c.write_unrecorded.new.store.next_write + 1 }) refl refl
     refl c.in_ok-write_unrecorded.ensures.asked
 
 pub returns-in_err-write_unrecorded-clause-allowed : goal.returns-in_err-write_unrecorded-clause-allowed

@@ -1,12 +1,14 @@
 use Rattle.std.proofs.lemmas.List.{length-append, length-map}
-use Rattle.std.proofs.Common.{rules, ◌≡◌, ◌++◌, ◌∷◌, [], List, length, vec_len, true, false, true≢false, refl, sym, subst, ◌∙◌, ap, arith}
+use Rattle.std.proofs.Common.{rules, ◌≡◌, ◌+◌, ◌++◌, ◌∷◌, [], List, length, vec_len, true, false, true≢false, refl, sym, subst, ◌∙◌, ap, arith}
 use Rattle.std.specs.List.{filter}
 use Rattle.std.proofs.lemmas.List.Elements.{filter-append}
 use Rattle.blob_model.specs.Pending.{Pending, Again, has_barrier, cut_by}
 use Rattle.blob_pending.specs.Blocks.{AreBounded}
 use Rattle.blob_pending.specs.Marks.{marks_of}
+use Rattle.blob_pending.specs.Rooms.{HasRoomFor}
 use Rattle.blob_pending.specs.Views.{view, views, is_left, left_in, CountsCovered}
 use Rattle.blob_pending.proofs.Bounded.{barrier_again, bounded_pared, bounded_push}
+use Rattle.blob_pending.proofs.CutSteps.{pushed_is, views_push, all_push}
 use Rattle.blob_pending.proofs.Left.{barrier_left, counts_push, cut_left, compacted_barrier, compacted_marks}
 use Rattle.blob_pending.proofs.Marking.{marks-push}
 use Rattle.blob_pending.proofs.Queued.{queued_is, cut_is}
@@ -24,23 +26,22 @@ compact-requires-clause-counted g c =
     let cut_len : length cut.items ≡ vec_len cut = search rules in
     omega (arith, c.args.self.now.counted, c.cover_all-covered.ensures.left, c.cover_all-covered.ensures.len, c.saturating_add-self.ensures, old_len, cut_len, length-map old.items view, length-map cut.items view)
 
-pub push-requires : goal.push-requires
-push-requires g c = omega (arith, c.requires.room.room_for.entries, c.cover_all-covered.ensures.len, c.cover_all-covered.ensures.capacity, c.compact.ensures.len, c.compact.ensures.capacity)
-
 -- What is left if the range is queued, and if it isn't.
 
 pub returns-then-self-clause-laid : goal.returns-then-self-clause-laid
 returns-then-self-clause-laid g c bytes len same =
-    let q = views c.args.self.now.entries.items in
+    let old = views c.args.self.now.entries.items in
+    let q = c.compact.new.entries.items in
+    let pushed : views c.push.new.self.items ≡ views q ++ Again c.args.offset c.args.copy.items ∷ [] = views_push q c.push.new.self.items _ (pushed_is q c.push.new.self.items _ _ c.push.ensures.items (search rules)) in
     let queues : c.args.self.now.queues ≡ true = search rules in
     let rest : left_in c.compact.new.entries.items ≡ cut_by c.args.offset c.args.len (left_in c.args.self.now.entries.items) =
-    c.compact.ensures.left ∙ ap (λ (r : List Pending). filter is_left r) c.cover_all-covered.ensures.views ∙ sym (cut_left c.args.offset c.args.len q) in
+    c.compact.ensures.left ∙ ap (λ (r : List Pending). filter is_left r) c.cover_all-covered.ensures.views ∙ sym (cut_left c.args.offset c.args.len old) in
     record {
       origin = refl;
       noted = refl;
-      entries = ap (λ (r : List Pending). filter is_left r) c.push.ensures.views ∙ filter-append is_left (views c.compact.new.entries.items) (Again c.args.offset c.args.copy.items ∷ [])
+      entries = ap (λ (r : List Pending). filter is_left r) pushed ∙ filter-append is_left (views q) (Again c.args.offset c.args.copy.items ∷ [])
           ∙ ap (λ (r : List Pending). r ++ Again c.args.offset c.args.copy.items ∷ []) rest
-          ∙ queued_is (left_in c.args.self.now.entries.items) c.args.offset c.args.len c.args.copy.items bytes len same (barrier_left q ∙ sym c.args.self.now.queued ∙ queues);
+          ∙ queued_is (left_in c.args.self.now.entries.items) c.args.offset c.args.len c.args.copy.items bytes len same (barrier_left old ∙ sym c.args.self.now.queued ∙ queues);
     }
 
 pub returns-else-self-clause-laid : goal.returns-else-self-clause-laid
@@ -55,10 +56,13 @@ returns-else-self-clause-laid g c bytes len same =
     }
 
 pub returns-then-self-clause-room : goal.returns-then-self-clause-room
-returns-then-self-clause-room g c later h = record {
-  entries = omega (arith, h.entries, c.cover_all-covered.ensures.len, c.cover_all-covered.ensures.capacity, c.compact.ensures.len, c.compact.ensures.capacity, c.push.ensures.len, c.push.ensures.capacity);
-  holes = c.push.ensures.holes later (c.compact.ensures.holes later (c.cover_all-covered.ensures.room later h.holes)) tt;
-}
+returns-then-self-clause-room g c later h =
+    let q = c.compact.new.entries.items in
+    let one_more : vec_len c.push.new.self ≡ vec_len c.compact.new.entries + 1 = search rules in
+    record {
+      entries = omega (arith, h.entries, c.cover_all-covered.ensures.len, c.cover_all-covered.ensures.capacity, c.compact.ensures.len, c.compact.ensures.capacity, one_more, c.push.ensures.capacity);
+      holes = all_push (HasRoomFor later) q c.push.new.self.items _ (pushed_is q c.push.new.self.items _ _ c.push.ensures.items (search rules)) (c.compact.ensures.holes later (c.cover_all-covered.ensures.room later h.holes)) tt;
+    }
 
 pub returns-else-self-clause-room : goal.returns-else-self-clause-room
 returns-else-self-clause-room g c later h = record {
@@ -68,23 +72,27 @@ returns-else-self-clause-room g c later h = record {
 
 pub returns-then-self-clause-half : goal.returns-then-self-clause-half
 returns-then-self-clause-half g c =
-    let left : left_in c.push.new.entries.items ≡ left_in c.compact.new.entries.items ++ Again c.args.offset c.args.copy.items ∷ [] =
-    ap (λ (r : List Pending). filter is_left r) c.push.ensures.views ∙ filter-append is_left (views c.compact.new.entries.items) (Again c.args.offset c.args.copy.items ∷ []) in
-    omega (arith, c.compact.ensures.half, c.push.ensures.len, ap length left, length-append (left_in c.compact.new.entries.items) (Again c.args.offset c.args.copy.items ∷ []))
+    let q = c.compact.new.entries.items in
+    let pushed : views c.push.new.self.items ≡ views q ++ Again c.args.offset c.args.copy.items ∷ [] = views_push q c.push.new.self.items _ (pushed_is q c.push.new.self.items _ _ c.push.ensures.items (search rules)) in
+    let left : left_in c.push.new.self.items ≡ left_in q ++ Again c.args.offset c.args.copy.items ∷ [] = ap (λ (r : List Pending). filter is_left r) pushed ∙ filter-append is_left (views q) (Again c.args.offset c.args.copy.items ∷ []) in
+    let one_more : vec_len c.push.new.self ≡ vec_len c.compact.new.entries + 1 = search rules in
+    omega (arith, c.compact.ensures.half, one_more, ap length left, length-append (left_in q) (Again c.args.offset c.args.copy.items ∷ []))
 
 -- What the other fields say of the entries.
 
 pub invariant_of-self : goal.invariant_of-self
 invariant_of-self g c =
-    let kept = views c.compact.new.entries.items in
+    let q = c.compact.new.entries.items in
+    let pushed : views c.push.new.self.items ≡ views q ++ Again c.args.offset c.args.copy.items ∷ [] = views_push q c.push.new.self.items _ (pushed_is q c.push.new.self.items _ _ c.push.ensures.items (search rules)) in
+    let kept = views q in
     let queues : c.args.self.now.queues ≡ true = search rules in
     record {
       marked = c.args.self.now.marked
-          ∙ sym (ap marks_of c.push.ensures.views ∙ marks-push kept (Again c.args.offset c.args.copy.items) refl
+          ∙ sym (ap marks_of pushed ∙ marks-push kept (Again c.args.offset c.args.copy.items) refl
           ∙ compacted_marks (views c.args.self.now.entries.items) (views c.cover_all-covered.new.entries.items) kept c.args.offset c.args.len c.cover_all-covered.ensures.views c.compact.ensures.left);
-      queued = queues ∙ sym (ap has_barrier c.push.ensures.views ∙ barrier_again kept c.args.offset c.args.copy.items);
-      bounded = subst (λ (q : List Pending). AreBounded c.compact.new.bounds q) (sym c.push.ensures.views) (bounded_push c.compact.new.bounds kept (Again c.args.offset c.args.copy.items) c.compact.ensures.bounded);
-      counted = subst (λ (q : List Pending). CountsCovered c.compact.new.covered q) (sym c.push.ensures.views)
+      queued = queues ∙ sym (ap has_barrier pushed ∙ barrier_again kept c.args.offset c.args.copy.items);
+      bounded = subst (λ (r : List Pending). AreBounded c.compact.new.bounds r) (sym pushed) (bounded_push c.compact.new.bounds kept (Again c.args.offset c.args.copy.items) c.compact.ensures.bounded);
+      counted = subst (λ (r : List Pending). CountsCovered c.compact.new.covered r) (sym pushed)
           (counts_push c.compact.new.covered c.compact.new.covered kept (Again c.args.offset c.args.copy.items) c.compact.ensures.counted (λ never. absurd (true≢false never)) (omega arith));
     }
 

@@ -6,33 +6,13 @@ use Rattle.blob_pending.specs.Views.{views, CountsCovered}
 use Rattle.blob_pending.specs.declared.entry.Entry.{Entry}
 use Rattle.blob_pending.proofs.incarnation.Incarnation.reserve.Goals as goal
 
-pub invariant_of-self : goal.invariant_of-self
-invariant_of-self g c =
-    let same : c.reserve_one.new.entries.items ≡ c.args.self.now.entries.items = search rules in
-    record {
-      marked = c.args.self.now.marked ∙ ap (λ (q : List Entry). marks_of (views q)) (sym same);
-      queued = c.args.self.now.queued ∙ ap (λ (q : List Entry). has_barrier (views q)) (sym same);
-      bounded = subst (λ (q : List Entry). AreBounded c.args.self.now.bounds (views q)) (sym same) c.args.self.now.bounded;
-      counted = subst (λ (q : List Entry). CountsCovered c.args.self.now.covered (views q)) (sym same) c.args.self.now.counted;
-    }
-
-pub invariant_of-self-in-Mark : goal.invariant_of-self-in-Mark
-invariant_of-self-in-Mark g c =
-    let same : c.reserve_one-in-Mark.new.entries.items ≡ c.args.self.now.entries.items = c.reserve_one-in-Mark.ensures.items in
-    record {
-      marked = c.in_ok-reserve-in-Mark.ensures.items ∙ c.args.self.now.marked ∙ ap (λ (q : List Entry). marks_of (views q)) (sym same);
-      queued = c.args.self.now.queued ∙ ap (λ (q : List Entry). has_barrier (views q)) (sym same);
-      bounded = subst (λ (q : List Entry). AreBounded c.args.self.now.bounds (views q)) (sym same) c.args.self.now.bounded;
-      counted = subst (λ (q : List Entry). CountsCovered c.args.self.now.covered (views q)) (sym same) c.args.self.now.counted;
-    }
-
 pub add-requires : goal.add-requires
 add-requires g c =
     let value : c.deref.result.now ≡ c.args.self.now.entries.items = search rules in
     subst (λ (q : List Entry). AreBounded c.args.self.now.bounds (views q)) (sym value) c.args.self.now.bounded
 
-pub invariant_of-self-in-Break-branch-2 : goal.invariant_of-self-in-Break-branch-2
-invariant_of-self-in-Break-branch-2 g c = record {
+pub invariant_of-self : goal.invariant_of-self
+invariant_of-self g c = record {
   marked = c.args.self.now.marked;
   queued = c.args.self.now.queued;
   bounded = subst (λ (q : List Entry). AreBounded c.add.new.self (views q)) c.deref.ensures.value c.add.ensures;
@@ -49,3 +29,15 @@ invariant_of-self-in-Ranges g c = record {
   bounded = subst (λ (q : List Pending). AreBounded c.add.new.self q) (sym c.reserve_ranges.ensures.views) (subst (λ (q : List Entry). AreBounded c.add.new.self (views q)) c.deref.ensures.value c.add.ensures);
   counted = subst (λ (q : List Pending). CountsCovered c.args.self.now.covered q) (sym c.reserve_ranges.ensures.views) c.args.self.now.counted;
 }
+
+-- room for one more entry
+pub invariant_of-self-4 : goal.invariant_of-self-4
+invariant_of-self-4 g c =
+    let list = c.match-room.self in
+    let same : c.reserve_exact.new.self.items ≡ list.entries.items = c.reserve_exact.ensures.items in
+    record {
+      marked = list.marked ∙ ap (λ (q : List Entry). marks_of (views q)) (sym same);
+      queued = list.queued ∙ ap (λ (q : List Entry). has_barrier (views q)) (sym same);
+      bounded = subst (λ (q : List Entry). AreBounded list.bounds (views q)) (sym same) list.bounded;
+      counted = subst (λ (q : List Entry). CountsCovered list.covered (views q)) (sym same) list.counted;
+    }

@@ -1,0 +1,13 @@
+use Rattle.std.proofs.Common.{rules, ◌≡◌, ◌∙◌, ◌++◌, ◌∷◌, [], ap, List, get_or}
+use Rattle.blob_model.specs.Pending.{Pending}
+use Rattle.blob_pending.specs.Views.{left_in}
+use Rattle.blob_pending.specs.declared.entry.Entry.TheVariants as entry
+use Rattle.blob_pending.proofs.ListSteps.{changed_list, found}
+use Rattle.blob_pending.proofs.lists.Lists.push_resize.Goals as goal
+
+pub returns : goal.returns
+returns g c o i a =
+    let is = c.args.self.now.all.lists.items in
+    let at : c.index_mut.result.now ≡ get_or is c.args.i c.index_mut.result.now = search rules in
+    changed_list g.S.Durable.place is c.args.i c.index_mut.result.now c.push_resize.new.self o _ a (search rules) at c.push_resize.ensures.origin i
+    (c.push_resize.ensures.entries ∙ ap (λ (q : List Pending). q ++ left_in (entry.Resize c.args.len ∷ [])) (found g.S.Durable.place is c.args.i c.index_mut.result.now o (search rules) at i))
