@@ -1,5 +1,5 @@
 -- How the lines of a script are read, if the reader's remaining bytes are known.
-use Rattle.std.specs.Prelude.{◌≡◌, ◌≢◌, ◌⊎◌, ℕ, ◌+◌, List, [], ◌∷◌, ◌++◌, length, map, Option, Some, None, Result, IfErr, IfSome, IsSomeAnd}
+use Rattle.std.specs.Prelude.{◌≡◌, ◌⊎◌, ℕ, ◌+◌, List, [], ◌∷◌, ◌++◌, length, map, Option, Some, None, Result, IfErr, IfSome, IsSomeAnd}
 use Rattle.std.specs.List.{flat_map}
 use Rattle.std.specs.Io.Iter.{u64_saturate}
 use Rattle.std.specs.Io.KnownBytes.{Appends}
@@ -113,19 +113,6 @@ ReadsBadStart remaining i i' before after old number = OfRead remaining i i'
 -- a part of a preamble
 abbrev pub ReadsPreamblePart : {R : Type 0} → (R → Option (List ℕ)) → Input R → Input R → Preamble → Lines → Type 0
 ReadsPreamblePart remaining i i' before old = (t : Script) × (t.calls ≡ []) × OfRead remaining i i' (TakesPart (preamble_of before old.config) t)
-
--- the next call after others
-abbrev pub ReadsNextCall : {R : Type 0} → (R → Option (List ℕ)) → Input R → Input R → Lines → Lines → Call → Type 0
-ReadsNextCall remaining i i' old new call = (s : Script) → s.config ≡ old.config
-    → OfRead remaining i i' (TakesCall s s (old.number + 1) new.number (act_of call) new.config)
-
--- after a call, no further one: only empty lines and comments
-abbrev pub ReadsNoCall : {R : Type 0} → (R → Option (List ℕ)) → Input R → Input R → Type 0
-ReadsNoCall remaining i i' = (s : Script) → OfRead remaining i i' (λ lines _. with_lines s lines ≡ Some s)
-
--- after a call, a line of this number that isn't allowed there
-abbrev pub ReadsBadCall : {R : Type 0} → (R → Option (List ℕ)) → Input R → Input R → Lines → ℕ → Type 0
-ReadsBadCall remaining i i' old number = (s : Script) → s.calls ≢ [] → OfRead remaining i i' (TakesBadCall s s (old.number + 1) number)
 
 -- the next line, which is a bad line
 abbrev pub ReadsBadLine : {R : Type 0} → (R → Option (List ℕ)) → Input R → Input R → Lines → ℕ → Type 0

@@ -10,7 +10,7 @@ use super::lines::{Lines, Preamble};
 use crate::{Ending, Input, Output};
 use blob_lab_store::Lab;
 use blob_script::Call;
-use blob_script::script::print_reply;
+use blob_script::script::{Line, print_reply};
 use std::alloc::Global;
 use std::io::Write;
 
@@ -39,7 +39,7 @@ pub(super) fn run_lines<R: Ahead, W: Write>(
     ran
 }
 
-/// Runs each call and writes its reply before it reads the next one.
+/// Runs each call and writes its reply before it reads the next line. Rejects a line of the preamble.
 fn answer_calls<R: Ahead, W: Write>(
     alloc: Global,
     lab: &mut Lab,
@@ -63,9 +63,18 @@ fn answer_calls<R: Ahead, W: Write>(
             return Err(Ending::NoMemory);
         }
         output.write_all(text.as_bytes())?;
-        call = match lines.next_call(input, output)? {
-            Some(next) => next,
-            None => return Ok(()),
+        call = 'blanks: loop {
+            let Some(line) = lines.next_line(input, output)? else {
+                return Ok(());
+            };
+            match line {
+                Line::Blank => {}
+                Line::Image { .. } | Line::Words(_) | Line::Seed(_) => {
+                    return Err(Ending::BadCall(lines.number));
+                }
+                Line::Configure(setting) => break 'blanks lines.configure(setting),
+                Line::Call(call) => break 'blanks call,
+            }
         };
     }
 }

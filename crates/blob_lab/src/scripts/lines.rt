@@ -4,9 +4,8 @@ ghost use Rattle.std.specs.Io.Iter.{u64_saturate};
 ghost use Rattle.blob_lab.specs.Endings.{IfBadLine, is_cut};
 ghost use Rattle.blob_script.specs.Lines.{said_by};
 ghost use Rattle.blob_lab.specs.Reading.{IfEnd, IfRead};
-ghost use Rattle.blob_lab.specs.ScriptReading.{IsCreatedFrom, OfRead, TakesLine, TakesOne, TakesPart, ReadsToCall, ReadsPreamble, ReadsBadStart, ReadsPreamblePart};
-ghost use Rattle.blob_lab.specs.ScriptReading.{ReadsNextCall, ReadsNoCall, ReadsBadCall, ReadsBadLine, preamble_of};
-ghost use Rattle.blob_lab.specs.Scripts.{Script};
+ghost use Rattle.blob_lab.specs.ScriptReading.{IsCreatedFrom, OfRead, TakesLine, TakesOne, ReadsToCall, ReadsPreamble, ReadsBadStart, ReadsPreamblePart};
+ghost use Rattle.blob_lab.specs.ScriptReading.{ReadsBadLine, preamble_of};
 ghost use Rattle.blob_script.specs.Settings.{no_rates, with_setting};
 ghost use Rattle.blob_lab.specs.Streams.{IsReadToEnd, HasLineReady, KeepsKnown, KeepsOutput, is_flushed, lines_left, ToldEnding};
 
@@ -63,7 +62,7 @@ impl Preamble {
 #[derive(Drop)]
 pub(crate) struct Lines {
     line: Vec<u8>,
-    number: u64,
+    pub(crate) number: u64,
     config: Config,
 }
 
@@ -127,41 +126,9 @@ impl Lines {
         }
     }
 
-    /// Reads up to the next call. Rejects a line of the preamble.
-    pub(crate) fn next_call<R: Ahead, W: Write>(
-        &mut self,
-        input: &mut Input<R>,
-        output: &mut Output<W>,
-    ) -> Result<Option<Call>, Ending>
-        ensures cut { IfErr result (λ ending. is_cut ending ≡ true) }
-        ensures told { ToldEnding result input.old input.new output.old output.new }
-        ensures kept { KeepsOutput W.contents output.old output.new }
-        ensures known { OnOk result (KeepsKnown R.remaining input.old input.new) }
-        ensures end { IfEnd result (IsReadToEnd R.remaining input.old input.new) }
-        ensures call { IfRead result (ReadsNextCall R.remaining input.old input.new self.old self.new) }
-        ensures over { IfEnd result (ReadsNoCall R.remaining input.old input.new) }
-        ensures bad { IfBadLine result (ReadsBadCall R.remaining input.old input.new self.old) }
-        ensures part { IfErr result (λ _. (s : Script) → OfRead R.remaining input.old input.new (TakesPart s s)) }
-        ensures fewer { IfRead result (λ _. lines_left input.new < lines_left input.old) }
-    {
-        'lines: loop {
-            let Some(line) = self.next_line(input, output)? else {
-                return Ok(None);
-            };
-            match line {
-                Line::Blank => {}
-                Line::Image { .. } | Line::Words(_) | Line::Seed(_) => {
-                    return Err(Ending::BadCall(self.number));
-                }
-                Line::Configure(setting) => return Ok(Some(self.configure(setting))),
-                Line::Call(call) => return Ok(Some(call)),
-            }
-        }
-    }
-
     /// Reads one line. Returns `None` at the end of the input. Flushes the output first, unless a whole line is
     /// buffered: reading that doesn't wait.
-    fn next_line<R: Ahead, W: Write>(
+    pub(crate) fn next_line<R: Ahead, W: Write>(
         &mut self,
         input: &mut Input<R>,
         output: &mut Output<W>,
@@ -196,7 +163,7 @@ impl Lines {
     }
 
     /// Returns the call that sets the whole configuration so far, with this change.
-    fn configure(&mut self, setting: Setting) -> Call
+    pub(crate) fn configure(&mut self, setting: Setting) -> Call
         ensures whole { result ≡ Call.Configure (with_setting self.old.config setting) }
         ensures kept { self.new ≡ record self.old { config = with_setting self.old.config setting } }
     {

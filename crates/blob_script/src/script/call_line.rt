@@ -1,9 +1,9 @@
 // The lines of calls.
-ghost use Rattle.std.specs.Prelude.{◌≡◌, IfOk, Some, None, string_bytes, option_map, codes};
+ghost use Rattle.std.specs.Prelude.{◌≡◌, IfOk, Some, None, option_map, codes, if◌then◌else◌};
 ghost use Rattle.std.specs.Range.{range_inclusive_start, range_inclusive_end, range_inclusive_exhausted};
 ghost use Rattle.blob_script.specs.Acts.{Open, OpenLoose, act_of, versions_of};
 ghost use Rattle.blob_script.specs.CallLines.{call, open_form};
-ghost use Rattle.blob_script.specs.Forms.{text, hex, name, digits, versions};
+ghost use Rattle.blob_script.specs.Forms.{name, versions};
 ghost use Rattle.blob_script.specs.Tokens.{version_of};
 
 use crate::Call;
@@ -19,22 +19,22 @@ pub(crate) fn call(alloc: Global, word: &str, tokens: &mut Tokens) -> Result<Cal
     ensures bad { result ≡ Err RefusedLine.BadCall → call word.now tokens.old ≡ None }
 {
     match word {
-        "open" => open(alloc, tokens),
-        "loose" => loose(alloc, tokens),
+        "open" => open(alloc, tokens, false),
+        "loose" => open(alloc, tokens, true),
         "admit" => admit(alloc, tokens),
-        "close" => Ok(Call::Close(digits(tokens)? as usize)),
+        "close" => Ok(Call::Close(tokens.number()? as usize)),
         "read" => read(tokens),
         "write" | "writes" => Ok(Call::Write {
-            handle: digits(tokens)? as usize,
-            offset: digits(tokens)?,
-            bytes: hex(alloc, tokens)?,
+            handle: tokens.number()? as usize,
+            offset: tokens.number()?,
+            bytes: tokens.bytes(alloc)?,
             sync: word == "writes",
         }),
         "resize" => resize(tokens),
-        "size" => Ok(Call::Size(digits(tokens)? as usize)),
-        "sync" => Ok(Call::Sync(digits(tokens)? as usize)),
-        "startsync" => Ok(Call::StartSync(digits(tokens)? as usize)),
-        "finish" => Ok(Call::Finish(digits(tokens)? as usize)),
+        "size" => Ok(Call::Size(tokens.number()? as usize)),
+        "sync" => Ok(Call::Sync(tokens.number()? as usize)),
+        "startsync" => Ok(Call::StartSync(tokens.number()? as usize)),
+        "finish" => Ok(Call::Finish(tokens.number()? as usize)),
         "remove" => remove(alloc, tokens),
         "scan" => scan(alloc, tokens),
         "crash" => Ok(Call::Crash),
@@ -43,26 +43,21 @@ pub(crate) fn call(alloc: Global, word: &str, tokens: &mut Tokens) -> Result<Cal
     }
 }
 
-fn open(alloc: Global, tokens: &mut Tokens) -> Result<Call, RefusedLine>
-    ensures ok { IfOk result (λ asked. open_form Open tokens.old ≡ Some (act_of asked, tokens.new)) }
-    ensures bad { result ≡ Err RefusedLine.BadCall → open_form Open tokens.old ≡ None }
+/// Parses the tokens of an open, or of a loose one.
+fn open(alloc: Global, tokens: &mut Tokens, loose: bool) -> Result<Call, RefusedLine>
+    ensures ok { IfOk result (λ c. open_form (if loose then OpenLoose else Open) tokens.old ≡ Some (act_of c, tokens.new)) }
+    ensures bad { result ≡ Err RefusedLine.BadCall → open_form (if loose then OpenLoose else Open) tokens.old ≡ None }
 {
-    let (partition, name) = (text(alloc, tokens)?, hex(alloc, tokens)?);
+    let (partition, name) = (tokens.text(alloc)?, tokens.bytes(alloc)?);
     let versions = versions(tokens)?;
+    if loose {
+        return Ok(Call::OpenLoose {
+            partition,
+            name,
+            versions,
+        });
+    }
     Ok(Call::Open {
-        partition,
-        name,
-        versions,
-    })
-}
-
-fn loose(alloc: Global, tokens: &mut Tokens) -> Result<Call, RefusedLine>
-    ensures ok { IfOk result (λ asked. open_form OpenLoose tokens.old ≡ Some (act_of asked, tokens.new)) }
-    ensures bad { result ≡ Err RefusedLine.BadCall → open_form OpenLoose tokens.old ≡ None }
-{
-    let (partition, name) = (text(alloc, tokens)?, hex(alloc, tokens)?);
-    let versions = versions(tokens)?;
-    Ok(Call::OpenLoose {
         partition,
         name,
         versions,
@@ -74,8 +69,8 @@ fn admit(alloc: Global, tokens: &mut Tokens) -> Result<Call, RefusedLine>
     ensures bad { result ≡ Err RefusedLine.BadCall → call (codes "admit") tokens.old ≡ None }
 {
     Ok(Call::Admit {
-        partition: text(alloc, tokens)?,
-        name: hex(alloc, tokens)?,
+        partition: tokens.text(alloc)?,
+        name: tokens.bytes(alloc)?,
     })
 }
 
@@ -84,9 +79,9 @@ fn read(tokens: &mut Tokens) -> Result<Call, RefusedLine>
     ensures bad { result ≡ Err RefusedLine.BadCall → call (codes "read") tokens.old ≡ None }
 {
     Ok(Call::Read {
-        handle: digits(tokens)? as usize,
-        offset: digits(tokens)?,
-        len: digits(tokens)? as usize,
+        handle: tokens.number()? as usize,
+        offset: tokens.number()?,
+        len: tokens.number()? as usize,
     })
 }
 
@@ -95,8 +90,8 @@ fn resize(tokens: &mut Tokens) -> Result<Call, RefusedLine>
     ensures bad { result ≡ Err RefusedLine.BadCall → call (codes "resize") tokens.old ≡ None }
 {
     Ok(Call::Resize {
-        handle: digits(tokens)? as usize,
-        len: digits(tokens)?,
+        handle: tokens.number()? as usize,
+        len: tokens.number()?,
     })
 }
 
@@ -105,7 +100,7 @@ fn remove(alloc: Global, tokens: &mut Tokens) -> Result<Call, RefusedLine>
     ensures bad { result ≡ Err RefusedLine.BadCall → call (codes "remove") tokens.old ≡ None }
 {
     Ok(Call::Remove {
-        partition: text(alloc, tokens)?,
+        partition: tokens.text(alloc)?,
         name: name(alloc, tokens)?,
     })
 }
@@ -115,26 +110,8 @@ fn scan(alloc: Global, tokens: &mut Tokens) -> Result<Call, RefusedLine>
     ensures bad { result ≡ Err RefusedLine.BadCall → call (codes "scan") tokens.old ≡ None }
 {
     Ok(Call::Scan {
-        partition: text(alloc, tokens)?,
+        partition: tokens.text(alloc)?,
     })
-}
-
-/// Returns the next token.
-pub(crate) fn text(alloc: Global, tokens: &mut Tokens) -> Result<String, RefusedLine>
-    ensures ok { IfOk result (λ read. text tokens.old ≡ Some (string_bytes read, tokens.new)) }
-    ensures bad { result ≡ Err RefusedLine.BadCall → text tokens.old ≡ None }
-{
-    let token = tokens.next().ok_or(RefusedLine::BadCall)?;
-    Ok(String::from_str(alloc, token)?)
-}
-
-/// Parses the next token as bytes.
-#[inline(always)]
-pub(crate) fn hex(alloc: Global, tokens: &mut Tokens) -> Result<Vec<u8>, RefusedLine>
-    ensures ok { IfOk result (λ read. hex tokens.old ≡ Some (read.items, tokens.new)) }
-    ensures bad { result ≡ Err RefusedLine.BadCall → hex tokens.old ≡ None }
-{
-    bytes(alloc, tokens.next().ok_or(RefusedLine::BadCall)?)
 }
 
 /// Parses the next token as bytes, if there is one.
@@ -146,15 +123,6 @@ fn name(alloc: Global, tokens: &mut Tokens) -> Result<Option<Vec<u8>>, RefusedLi
         Some(token) => Ok(Some(bytes(alloc, token)?)),
         None => Ok(None),
     }
-}
-
-/// Parses the next token as a number.
-pub(crate) fn digits(tokens: &mut Tokens) -> Result<u64, RefusedLine>
-    ensures ok { IfOk result (λ read. digits tokens.old ≡ Some (read, tokens.new)) }
-    ensures bad { result ≡ Err RefusedLine.BadCall → digits tokens.old ≡ None }
-{
-    let token = tokens.next().ok_or(RefusedLine::BadCall)?;
-    number(token).ok_or(RefusedLine::BadCall)
 }
 
 /// Parses the next two tokens as versions. If there are no tokens, returns the default version only.

@@ -43,14 +43,6 @@ static LOW: [u16; 256] = [
     256, 256, 256,
 ];
 
-/// Returns the value of two hex digits of either case, or at least 256 if one isn't a digit.
-#[inline(always)]
-fn pair(high: u8, low: u8) -> u16
-    ensures { result ≡ 16 * unwrap_or (hex_digit_value high) 16 + unwrap_or (hex_digit_value low) 256 }
-{
-    HIGH[high as usize] + LOW[low as usize]
-}
-
 /// Returns the value of each lane as a hex digit of either case, or 255 if it isn't one.
 #[inline(always)]
 fn values(lanes: u8x16) -> u8x16
@@ -93,14 +85,16 @@ fn decode_pairs(digits: &[u8], bytes: &mut [u8]) -> bool
     // A test in each turn would keep the compiler from unrolling the loop.
     let mut seen = 0u16;
     'pairs: for i in 16 * blocks..bytes.len() {
-        let value = pair(digits[2 * i], digits[2 * i + 1]);
+        // At least 256 if one isn't a digit.
+        let value = HIGH[digits[2 * i] as usize] + LOW[digits[2 * i + 1] as usize];
         seen |= value;
         bytes[i] = (value % 256) as u8;
     }
     seen < 256
 }
 
-/// Decodes an even number of digits in parts of 512 bytes, so that the whole isn't filled with zeros first.
+/// Decodes an even number of digits in parts of 512 bytes, so that the whole isn't filled with zeros first. A function of
+/// its own, since a call fills `part` with zeros even if it doesn't use it.
 fn decode_parts(alloc: Global, digits: &[u8]) -> Result<Vec<u8>, RefusedLine>
     requires { length digits.now % 2 ≡ 0 }
     ensures ok { IfOk result (λ bytes. decode_pairs 0 digits.now ≡ Ok bytes.items) }

@@ -4,7 +4,7 @@ ghost use Rattle.blob_script.specs.Forms.{words};
 ghost use Rattle.blob_script.specs.Lines.{line_of, said_by};
 
 use crate::Call;
-use crate::script::call_line::{call, digits, hex, text};
+use crate::script::call_line::call;
 use crate::script::setting::read_setting;
 use crate::script::token::{Tokens, number};
 use crate::script::{RefusedLine, Setting};
@@ -53,12 +53,12 @@ pub fn read_line(alloc: Global, line: &[u8]) -> Result<Line, RefusedLine>
     }
     let read = match word {
         "image" => Line::Image {
-            partition: text(alloc, &mut tokens)?,
-            name: hex(alloc, &mut tokens)?,
-            bytes: hex(alloc, &mut tokens)?,
+            partition: tokens.text(alloc)?,
+            name: tokens.bytes(alloc)?,
+            bytes: tokens.bytes(alloc)?,
         },
         "words" => Line::Words(words(alloc, &mut tokens)?),
-        "seed" => Line::Seed(digits(&mut tokens)?),
+        "seed" => Line::Seed(tokens.number()?),
         "config" => Line::Configure(read_setting(&mut tokens).ok_or(RefusedLine::BadCall)?),
         _ => Line::Call(call(alloc, word, &mut tokens)?),
     };

@@ -3,7 +3,7 @@ ghost use Rattle.std.specs.Prelude.{◌≡◌, IfSome, IfNone, Some, None};
 ghost use Rattle.blob_script.specs.SettingLines.{setting, rate, mode};
 ghost use Rattle.blob_script.specs.Settings.{with_setting};
 
-use crate::script::token::{Tokens, number};
+use crate::script::token::Tokens;
 use blob_base::{Probability, SectorSize};
 use blob_draws::{Config, PartialWriteMode, ResizeConfig, WriteConfig};
 
@@ -90,8 +90,8 @@ fn rate(tokens: &mut Tokens) -> Option<Probability>
     ensures some { IfSome result (λ read. rate tokens.old ≡ Some (read, tokens.new)) }
     ensures none { IfNone result (rate tokens.old ≡ None) }
 {
-    let numerator = number(tokens.next()?)?;
-    let denominator = number(tokens.next()?)?;
+    let numerator = tokens.number().ok()?;
+    let denominator = tokens.number().ok()?;
     Probability::new(numerator, denominator)
 }
 
@@ -102,7 +102,7 @@ fn mode(tokens: &mut Tokens) -> Option<PartialWriteMode>
     Some(match tokens.next()? {
         "prefix" => PartialWriteMode::Prefix,
         "subset" => PartialWriteMode::Subset,
-        "sectors" => PartialWriteMode::Sectors(SectorSize::new(number(tokens.next()?)?)?),
+        "sectors" => PartialWriteMode::Sectors(SectorSize::new(tokens.number().ok()?)?),
         _ => return None,
     })
 }

@@ -1,6 +1,7 @@
 //! The tokens of a line, and their meaning.
-ghost use Rattle.std.specs.Prelude.{◌≡◌, ◌↔◌, ◌∷◌, [], ◌<◌, ◌^◌, IfSome, IfNone, IfOk, IfErr, OnErr, IsSome, IsErr, string_bytes};
+ghost use Rattle.std.specs.Prelude.{◌≡◌, ◌↔◌, ◌∷◌, [], ◌<◌, ◌^◌, IfSome, IfNone, IfOk, OnErr, IsSome, IsErr, string_bytes};
 ghost use Rattle.std.specs.Str.Parse.{digits_value};
+ghost use Rattle.blob_script.specs.Forms.{text, hex, digits};
 ghost use Rattle.blob_script.specs.Tokens.{tokens, bytes_of, number_of, IsNumber};
 
 use crate::script::RefusedLine;
@@ -54,6 +55,58 @@ impl<'a> Tokens<'a> {
             return None;
         }
         Some(last)
+    }
+
+    /// Removes and parses the next token, a number: decimal digits, at most `u64::MAX`.
+    ///
+    /// # Errors
+    ///
+    /// `BadCall` if there is no token or it isn't a number.
+    #[inline(always)]
+    pub fn number(&mut self) -> Result<u64, RefusedLine>
+        ensures ok { IfOk result (λ read. digits self.old ≡ Some (read, self.new)) }
+        ensures bad { OnErr result (digits self.old ≡ None) }
+    {
+        let token = self.next().ok_or(RefusedLine::BadCall)?;
+        // The library's parser accepts a sign. The first byte is compared, since `starts_with` takes a call.
+        if !token.is_empty() && token.as_bytes()[0] == b'+' {
+            return Err(RefusedLine::BadCall);
+        }
+        match token.parse() {
+            Ok(number) => Ok(number),
+            Err(_) => Err(RefusedLine::BadCall),
+        }
+    }
+
+    /// Removes and parses the next token, bytes: an even number of hex digits, or `-` for none.
+    ///
+    /// # Errors
+    ///
+    /// `BadCall` if there is no token or it is neither, `NoMemory` if the bytes can't be allocated.
+    #[inline(always)]
+    pub fn bytes(&mut self, alloc: Global) -> Result<Vec<u8>, RefusedLine>
+        ensures ok { IfOk result (λ read. hex self.old ≡ Some (read.items, self.new)) }
+        ensures bad { result ≡ Err RefusedLine.BadCall → hex self.old ≡ None }
+    {
+        let token = self.next().ok_or(RefusedLine::BadCall)?;
+        // Compares the length first, since comparing the texts takes a call.
+        if token.len() == 1 && token == "-" {
+            return Ok(Vec::new(alloc));
+        }
+        decode_hex(alloc, token.as_bytes())
+    }
+
+    /// Removes and returns the next token as a string.
+    ///
+    /// # Errors
+    ///
+    /// `BadCall` if there is no token, `NoMemory` if the string can't be allocated.
+    pub fn text(&mut self, alloc: Global) -> Result<String, RefusedLine>
+        ensures ok { IfOk result (λ read. text self.old ≡ Some (string_bytes read, self.new)) }
+        ensures bad { result ≡ Err RefusedLine.BadCall → text self.old ≡ None }
+    {
+        let token = self.next().ok_or(RefusedLine::BadCall)?;
+        Ok(String::from_str(alloc, token)?)
     }
 }
 

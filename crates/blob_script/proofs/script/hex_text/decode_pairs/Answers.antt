@@ -1,8 +1,8 @@
-use Rattle.std.proofs.Common.{◌≡◌, ◌+◌, ◌*◌, subst, arith}
-use Rattle.blob_script.proofs.HexDigits.{reads_step, reads_done}
+use Rattle.std.proofs.Common.{◌≡◌, ◌≤◌, ◌+◌, ◌*◌, ℕ, List, slice_index, Fits, w8, refl, ◌∙◌, subst, arith}
+use Rattle.blob_script.specs.declared.script.hex_text.TheConstants.{HIGH, LOW}
 use Rattle.std.specs.Simd.Lanes.{put_chunk}
 use Rattle.std.proofs.lemmas.Simd.{length-put_chunk}
-use Rattle.blob_script.proofs.HexDigits.{Decodes}
+use Rattle.blob_script.proofs.HexDigits.{Decodes, high_of, low_of, pair_at, reads_step, reads_done}
 use Rattle.blob_script.proofs.HexLanes.{block_step}
 use Rattle.blob_script.proofs.script.hex_text.decode_pairs.Goals as goal
 
@@ -18,9 +18,19 @@ blocks-2-preserved c =
       whole = omega (arith, length-put_chunk (16 * c.blocks-2.k) c.blocks-2.bytes c.sixteen-good.result.0);
     }
 
+-- the table values of pair i
+values_at : (text : List ℕ) (i : ℕ) → ((k : ℕ) → Fits w8 (slice_index text k)) → (value : ℕ) → value ≡ slice_index HIGH (slice_index text (2 * i)) + slice_index LOW (slice_index text (2 * i + 1))
+    → (value ≡ high_of (slice_index text (2 * i)) + low_of (slice_index text (2 * i + 1))) × (value ≤ 512)
+values_at text i fits value is =
+    let at = pair_at (slice_index text (2 * i)) (slice_index text (2 * i + 1)) (omega (arith, fits (2 * i))) (omega (arith, fits (2 * i + 1))) in
+    (is ∙ at.0, omega (arith, is, at.0, at.1))
+
+pub overflow_add-value-in-pairs : goal.overflow_add-value-in-pairs
+overflow_add-value-in-pairs c = omega (arith, (values_at c.args.digits.now c.pairs.i c.type_inv.digits _ refl).1)
+
 pub pairs-preserved : goal.pairs-preserved
 pairs-preserved c =
-    reads_step c.args.digits.now c.pairs.bytes c.pairs.i c.pairs.seen c.pair-value.result (omega arith) (omega arith) c.pair-value.ensures c.pairs.invariant
+    reads_step c.args.digits.now c.pairs.bytes c.pairs.i c.pairs.seen _ (omega arith) (omega arith) (values_at c.args.digits.now c.pairs.i c.type_inv.digits _ refl).0 c.pairs.invariant
 
 pub returns : goal.returns
 returns c =

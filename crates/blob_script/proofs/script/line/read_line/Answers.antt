@@ -4,7 +4,7 @@ use Rattle.blob_script.specs.Tokens.{tokens}
 use Rattle.blob_script.proofs.SaidLines.{is_comment, unless_left, line_no_text, line_said, said_comment, said_statement, call_said}
 use Rattle.blob_script.proofs.OtherWords.{passes}
 use Rattle.blob_script.proofs.script.line.read_line.Goals as goal
-use Rattle.blob_script.proofs.script.line.read_line.Goals.{After-next-2, in-image+in_ok-text-in-image+in_ok-hex-in-image+in_ok-hex-in-image-2, in-words+in_ok-words-in-words, in-seed+in_ok-digits-in-seed, in-config+in_ok-ok_or-in-config, in_default-word+in_ok-call-in_default-word}
+use Rattle.blob_script.proofs.script.line.read_line.Goals.{After-next-2, in-image+in_ok-text-in-image+in_ok-bytes-in-image+in_ok-bytes-in-image-2, in-words+in_ok-words-in-words, in-seed+in_ok-number-in-seed, in-config+in_ok-ok_or-in-config, in_default-word+in_ok-call-in_default-word}
 
 pub returns-in_default-clause-bad : goal.returns-in_default-clause-bad
 returns-in_default-clause-bad c = λ _. line_no_text c.args.line.now (search rules)
@@ -24,9 +24,9 @@ returns-then-starts_with-clause-ok c =
 -- the statement after the first word was read
 read : (c : After-next-2) → statement c.in-Some.word.now c.next.new.self ≡ Some (said_by c.match-word.read, c.match-word.tokens)
 read c = elim c.match-word.branch [
-  | in-image+in_ok-text-in-image+in_ok-hex-in-image+in_ok-hex-in-image-2 w ↦ rw (w.read-is, w.tokens-is) (search rules)
+  | in-image+in_ok-text-in-image+in_ok-bytes-in-image+in_ok-bytes-in-image-2 w ↦ rw (w.read-is, w.tokens-is) (search rules)
   | in-words+in_ok-words-in-words w ↦ rw (w.read-is, w.tokens-is) (search rules)
-  | in-seed+in_ok-digits-in-seed w ↦ rw (w.read-is, w.tokens-is) (search rules)
+  | in-seed+in_ok-number-in-seed w ↦ rw (w.read-is, w.tokens-is) (search rules)
   | in-config+in_ok-ok_or-in-config w ↦ rw (w.read-is, w.tokens-is) (search rules)
   | in_default-word+in_ok-call-in_default-word w ↦
       let is = w.in_default-word in
