@@ -1,6 +1,8 @@
 -- What a call changes in a store's directory and durable bytes, by the ghost members of its `Durable`.
 use Rattle.std.specs.Prelude.{◌≡◌, ℕ, ◌≤◌, List, Bool, true, false, Option, Result, OnOk}
+use Rattle.blob_base.specs.declared.options.WriteOptions.{WriteOptions}
 use Rattle.blob_base.specs.declared.storage.Durable as stores
+use Rattle.blob_base.specs.Options.{IsSync}
 use Rattle.blob_header.specs.declared.error.Error.{Error}
 use Rattle.blob_model.specs.Directory.{is_current, directory_without}
 use Rattle.blob_model.specs.Durable.{durable_without, with_changed, with_overlay}
@@ -31,6 +33,10 @@ module _ {S O : Type 0} (store : stores.Ghosts S O) (s : S) where
   -- a range is applied to the durable bytes of an incarnation, if it is current
   abbrev pub Overlays : S → Place → ℕ → List ℕ → Type 0
   Overlays s' o offset bytes = store.durable s' ≡ with_overlay (store.durable s) o offset bytes
+
+  -- the same, if the write has SYNC
+  abbrev pub OverlaysIfSync : WriteOptions → S → Place → ℕ → List ℕ → Type 0
+  OverlaysIfSync options s' o offset bytes = IsSync options → Overlays s' o offset bytes
 
   -- the directory loses this name, or with None this partition
   abbrev pub DropsNames : S → List ℕ → Option (List ℕ) → Type 0

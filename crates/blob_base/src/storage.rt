@@ -6,10 +6,10 @@ ghost use Rattle.blob_model.specs.Directory.{Directory, is_current};
 ghost use Rattle.blob_model.specs.Durable.{Durable};
 ghost use Rattle.blob_model.specs.Live.{live_written};
 ghost use Rattle.blob_base.specs.Names.{ListsNames};
-ghost use Rattle.blob_base.specs.HandleCalls.{AllowsNoMoreReserves, AllowsNoMoreWrites, HandleCall, Read, Write, Resize, Sync, StartSync, Reserve};
+ghost use Rattle.blob_base.specs.HandleCalls.{AllowsNoMoreReserves, AllowsNoMoreWrites, HandleCall, Read, Resize, Sync, StartSync, Reserve};
 ghost use Rattle.blob_base.specs.Handles.{outcome_of, outcome_error, marker_of, HasSynced};
 ghost use Rattle.blob_base.specs.Options.{is_sync, IsSync};
-ghost use Rattle.blob_base.specs.Writes.{live_after_write};
+ghost use Rattle.blob_base.specs.Writes.{WritesLive, write_call};
 ghost use Rattle.blob_model.specs.Places.{Place, same_place};
 ghost use Rattle.blob_header.specs.Refusals.{Refusal, error_of, Memory, Injected, OffsetOverflow, IsMemory};
 ghost use Rattle.blob_header.specs.Versions.{lower, upper};
@@ -63,7 +63,7 @@ pub trait Durable {
 /// wrapper adds `Injected`, after which a write or a resize may be applied in part, and the errors in its own docs.
 /// docs/BEHAVIOUR.md lists the errors of each implementation in the order of their checks, with what each leaves.
 pub trait Blob<S: Durable> {
-    ghost use Rattle.blob_base.specs.StoreChanges.{IsCurrentIn, IsStaleIn, Publishes, ReservesRoom, SameDurable, Overlays};
+    ghost use Rattle.blob_base.specs.StoreChanges.{IsCurrentIn, IsStaleIn, Publishes, ReservesRoom, SameDurable, OverlaysIfSync};
 
     // the bytes that a read sees
     ghost live: { Self → List ℕ };
@@ -165,9 +165,9 @@ pub trait Blob<S: Durable> {
         options: WriteOptions,
     ) -> Result<(), Error>
         ensures allowed { allows_write self.old store.old offset bytes (is_sync options) (error_of result) }
-        ensures leaves { leaves (Write offset bytes (is_sync options)) self.old store.old (error_of result) self.new store.new }
+        ensures leaves { leaves (write_call offset bytes options) self.old store.old (error_of result) self.new store.new }
         ensures live { OnOk result (live self.new ≡ live_written (is_sync options) (live self.old) offset bytes) }
-        ensures synced { OnOk result (IsSync options → Overlays S.Durable store.old store.new (place self.old) offset bytes) }
+        ensures synced { OnOk result (OverlaysIfSync S.Durable store.old options store.new (place self.old) offset bytes) }
         ensures current { OnOk result (IsSync options → bytes ≢ [] → IsCurrentIn S.Durable store.old (place self.old)) }
         ensures plain { OnOk result (is_sync options ≡ false → SameDurable S.Durable store.old store.new) }
         ensures room { room self.old store.old ≤ room self.new store.new }
@@ -175,7 +175,7 @@ pub trait Blob<S: Durable> {
 
         // after an error
         ensures memory { IsMemory result → (live self.new ≡ live self.old) × (S.durable store.new ≡ S.durable store.old) }
-        ensures direct_live { is_direct ≡ true → live self.new ≡ live_after_write options offset bytes result (live self.old) }
+        ensures direct_live { is_direct ≡ true → WritesLive options offset bytes result (live self.old) (live self.new) }
         ensures direct_durable { is_direct ≡ true → OnErr result (S.durable store.new ≡ S.durable store.old) }
 
         ensures stale { IsStaleIn S.Durable store.old (place self.old) → SameDurable S.Durable store.old store.new }
@@ -191,9 +191,9 @@ pub trait Blob<S: Durable> {
         options: WriteOptions,
     ) -> Result<(), Error>
         ensures allowed { allows_write self.old store.old offset bytes.now (is_sync options) (error_of result) }
-        ensures leaves { leaves (Write offset bytes.now (is_sync options)) self.old store.old (error_of result) self.new store.new }
+        ensures leaves { leaves (write_call offset bytes.now options) self.old store.old (error_of result) self.new store.new }
         ensures live { OnOk result (live self.new ≡ live_written (is_sync options) (live self.old) offset bytes.now) }
-        ensures synced { OnOk result (IsSync options → Overlays S.Durable store.old store.new (place self.old) offset bytes.now) }
+        ensures synced { OnOk result (OverlaysIfSync S.Durable store.old options store.new (place self.old) offset bytes.now) }
         ensures current { OnOk result (IsSync options → bytes.now ≢ [] → IsCurrentIn S.Durable store.old (place self.old)) }
         ensures plain { OnOk result (is_sync options ≡ false → SameDurable S.Durable store.old store.new) }
         ensures room { room self.old store.old ≤ room self.new store.new }
@@ -201,7 +201,7 @@ pub trait Blob<S: Durable> {
 
         // after an error
         ensures memory { IsMemory result → (live self.new ≡ live self.old) × (S.durable store.new ≡ S.durable store.old) }
-        ensures direct_live { is_direct ≡ true → live self.new ≡ live_after_write options offset bytes.now result (live self.old) }
+        ensures direct_live { is_direct ≡ true → WritesLive options offset bytes.now result (live self.old) (live self.new) }
         ensures direct_durable { is_direct ≡ true → OnErr result (S.durable store.new ≡ S.durable store.old) }
 
         ensures stale { IsStaleIn S.Durable store.old (place self.old) → SameDurable S.Durable store.old store.new }

@@ -11,12 +11,12 @@ last_behind before [] r = refl
 last_behind before (x ∷ rs) r = last_behind (x.0 + length x.1) rs r
 
 -- the first piece is the last run
-last_piece : (p : Piece) (ps : List Piece) → last_end 0 (runs_in (p ∷ ps)) ≡ p.offset + length p.bytes
+last_piece : (p : Piece) (ps : List Piece) → last_end 0 (runs_in (p ∷ ps)) ≡ p.offset + length p.bytes.now
 last_piece p ps = ap (λ (qs : List Piece). last_end 0 (map run_of qs)) (reverse-append (p ∷ []) ps) ∙ ap (last_end 0) (map-append run_of (reverse ps) (p ∷ [])) ∙ last_behind 0 (map run_of (reverse ps)) (run_of p)
 
-pub last_of : (ps : List Piece) (p : Piece) → 1 ≤ length ps → p ≡ get_or ps 0 p → p.offset + length p.bytes ≡ last_end 0 (runs_in ps)
+pub last_of : (ps : List Piece) (p : Piece) → 1 ≤ length ps → p ≡ get_or ps 0 p → p.offset + length p.bytes.now ≡ last_end 0 (runs_in ps)
 last_of [] p h e = absurd (omega arith)
-last_of (q ∷ ps) p h e = ap (λ (r : Piece). r.offset + length r.bytes) e ∙ sym (last_piece q ps)
+last_of (q ∷ ps) p h e = ap (λ (r : Piece). r.offset + length r.bytes.now) e ∙ sym (last_piece q ps)
 
 last_above : (from before : ℕ) (rs : List Run) → AreRunsApart from rs → before ≤ from → before ≤ last_end before rs
 last_above from before [] a h = omega arith

@@ -5,10 +5,8 @@ use Rattle.blob_base.specs.declared.storage.Blob as handles
 use Rattle.blob_base.specs.declared.storage.Durable as stores
 use Rattle.blob_header.specs.Refusals.{Refusal}
 use Rattle.blob_header.specs.declared.error.Error.{Error}
-use Rattle.blob_model.specs.Directory.{Directory, is_current}
-use Rattle.blob_model.specs.Durable.{with_overlay}
+use Rattle.blob_model.specs.Directory.{is_current}
 use Rattle.blob_model.specs.Holes.{Holes}
-use Rattle.blob_model.specs.Places.{Place}
 use Rattle.blob_model.specs.Runs.{Run}
 use Rattle.blob_draws.specs.Changes.{lacks_number}
 use Rattle.blob_draws.specs.Answers.{Allowed, or_memory, exhausted_or, last_end, allows_fate, allows_laid, allows_resize, allows_runs, allows_write}
@@ -21,10 +19,6 @@ use Rattle.blob_faulty.specs.declared.blob.Blob.{Blob}
 use Rattle.blob_faulty.specs.declared.storage.Storage.{Storage}
 use Rattle.blob_faulty.specs.Pieces.{EndsWithin}
 use Rattle.blob_faulty.specs.Wrapper.{inner_of, rng_of, config_of, next_write_of, inside}
-
--- an incarnation isn't its name's current one any more
-abbrev pub HasEnded : Directory → Place → Type 0
-HasEnded directory o = is_current directory o ≡ false
 
 module _ {S R O B : Type 0} (handle : handles.Ghosts B S O) (b : Blob B) (w : Storage S R O) where
   abbrev InnerWrites : ℕ → List ℕ → Bool → Allowed
@@ -73,21 +67,6 @@ module _ {S R O B : Type 0} (handle : handles.Ghosts B S O) (b : Blob B) (w : St
   AllowsAsMuch c after = (offset : ℕ) (bytes : List ℕ) (sync : Bool) (answer : Option Refusal) → handle.allows_write (inside c) (inner_of after) offset bytes sync answer → InnerWrites offset bytes sync answer
 
 module _ {S R O B : Type 0} (store : stores.Ghosts S O) (handle : handles.Ghosts B S O) (b : Blob B) (w : Storage S R O) where
-  -- the handle's incarnation is its name's current one, or has ended
-  abbrev pub IsCurrent : Type 0
-  IsCurrent = is_current (store.directory (inner_of w)) (handle.place (inside b)) ≡ true
-
-  abbrev pub IsStale : Type 0
-  IsStale = HasEnded (store.directory (inner_of w)) (handle.place (inside b))
-
-  -- after a SYNC write the durable bytes are the old ones, overlaid with its range at the handle's place
-  abbrev pub WritesDurable : Storage S R O → ℕ → List ℕ → Type 0
-  WritesDurable after offset bytes = store.durable (inner_of after) ≡ with_overlay (store.durable (inner_of w)) (handle.place (inside b)) offset bytes
-
-  -- if it has SYNC
-  abbrev pub WritesIfSync : Storage S R O → Bool → ℕ → List ℕ → Type 0
-  WritesIfSync after sync offset bytes = sync ≡ true → WritesDurable after offset bytes
-
   -- the list at this index is that of the handle's incarnation, and has capacity for these durable ranges
   abbrev pub HasListRoom : ℕ → Holes → Type 0
   HasListRoom list ranges = HasRoomAt store.place w.lists.all.lists.items list (handle.place (inside b)) ranges

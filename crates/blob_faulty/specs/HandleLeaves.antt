@@ -1,7 +1,6 @@
 -- What a call through a handle leaves of it and of its wrapper, apart from files.
-use Rattle.std.specs.Prelude.{◌≡◌, ◌≢◌, ◌⊎◌, ℕ, ◌+◌, max, Bool, true, false, List, [], ◌∷◌, ◌++◌, length, Option, Some, None, Result, IsSome, MatchBool}
+use Rattle.std.specs.Prelude.{◌≡◌, ◌≢◌, ◌⊎◌, ℕ, ◌+◌, max, Bool, true, false, List, [], ◌∷◌, ◌++◌, length, Option, Some, None, IsSome, MatchBool}
 use Rattle.rand_core.specs.Stream.{Stream}
-use Rattle.rand_core.specs.declared.Rng as rngs
 use Rattle.blob_model.specs.Durable.{with_at}
 use Rattle.blob_model.specs.Log.{Entry}
 use Rattle.blob_base.specs.HandleCalls.{HandleCall, Read, Write, Resize, Sync, StartSync, Reserve}
@@ -9,8 +8,7 @@ use Rattle.blob_base.specs.declared.storage.Blob as handles
 use Rattle.blob_base.specs.declared.storage.Durable as stores
 use Rattle.blob_model.specs.Pending.{Marker}
 use Rattle.blob_model.specs.Places.{Place}
-use Rattle.blob_header.specs.Refusals.{Refusal, Injected, Memory, WriteFailed, error_of}
-use Rattle.blob_header.specs.declared.error.Error.{Error}
+use Rattle.blob_header.specs.Refusals.{Refusal, Injected, Memory, WriteFailed}
 use Rattle.blob_model.specs.Runs.{Run, all_behind, runs}
 use Rattle.blob_faulty.specs.declared.storage.Storage.{Storage}
 use Rattle.blob_faulty.specs.declared.blob.Blob.{Blob}
@@ -102,10 +100,6 @@ pub record WriteLeaves {S R O B : Type 0} (store : stores.Ghosts S O) (handle : 
       Untouched store b before c after ⊎ AddsToLog store handle b before after (recorded_write (config_of before) (next_write_of before) (stream (rng_of before)) sync offset bytes (Some Injected))
   -- if the inner store rejected a run, those before it are recorded
   pub failed : answer ≡ Some WriteFailed → LeavesFailed store handle (drawn_fate (config_of before) sync offset (length bytes) (stream (rng_of before))).0 offset bytes b before c after
-
--- a write, by its result
-abbrev pub Leaves : {S R O B T : Type 0} → stores.Ghosts S O → handles.Ghosts B S O → rngs.Ghosts R → ℕ → List ℕ → Bool → Blob B → Storage S R O → Result T Error → Blob B → Storage S R O → Type 0
-Leaves store handle rng offset bytes sync b before result c after = WriteLeaves store handle rng.stream offset bytes sync b before (error_of result) c after
 
 -- a resize, by its drawn outcome
 pub record ResizeLeaves {S R O B : Type 0} (store : stores.Ghosts S O) (handle : handles.Ghosts B S O) (stream : R → Stream) (len : ℕ) (fate : ResizeFate) (left : Stream) (b : Blob B) (before : Storage S R O) (answer : Option Refusal) (c : Blob B) (after : Storage S R O) : Type 0 where

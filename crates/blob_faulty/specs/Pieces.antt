@@ -7,7 +7,7 @@ use Rattle.blob_model.specs.Runs.{Run}
 use Rattle.blob_faulty.specs.declared.write_runs.Piece.{Piece}
 
 abbrev pub run_of : Piece → Run
-run_of p = (p.offset, p.bytes)
+run_of p = (p.offset, p.bytes.now)
 
 -- the next run is the last piece
 abbrev pub runs_in : List Piece → List Run

@@ -13,9 +13,11 @@ use Rattle.blob_draws.specs.declared.faults.ResizeFate.{ResizeFate}
 use Rattle.blob_draws.specs.declared.faults.WriteFate.{WriteFate}
 use Rattle.blob_faulty.specs.declared.blob.Blob.{Blob}
 use Rattle.blob_faulty.specs.declared.storage.Storage.{Storage}
+use Rattle.blob_faulty.specs.declared.write_runs.Piece.{Piece}
 use Rattle.blob_faulty.specs.Asked.{Asks, AsksRuns, AsksWrite}
+use Rattle.blob_faulty.specs.Pieces.{runs_in}
 use Rattle.blob_faulty.specs.Wrapper.{inner_of, inside}
-use Rattle.blob_faulty.specs.Writes.{FailsBy, ReachesBy, Records, RecordsRuns, ResizesBy, Writes, WritesBy, resize_effect, laid_runs, plain, unrecorded_write}
+use Rattle.blob_faulty.specs.Writes.{FailsBy, LaysAll, ReachesBy, Records, RecordsRuns, ResizesBy, Writes, WritesBy, resize_effect, laid_runs, plain, unrecorded_write}
 
 -- The calls of the inner blob, of a handle and its wrapper before a step and after it.
 
@@ -58,6 +60,10 @@ module _ {S R O B T : Type 0} (store : stores.Ghosts S O) (handle : handles.Ghos
   -- the kept runs of a failed write
   abbrev pub LaysKept : ℕ → List ℕ → List Bool → Result T Error → Type 0
   LaysKept offset bytes kept result = RecordsRuns store handle b before c after (runs offset bytes kept) (error_of result)
+
+  -- the runs that pieces are: the calls of the inner blob too
+  abbrev pub LaysPieces : List Piece → Result T Error → Type 0
+  LaysPieces pieces result = LaysAll store handle b before c after (runs_in pieces) (error_of result)
 
   -- some of them, if a run after the first was rejected
   abbrev pub LaysPart : ℕ → List ℕ → List Bool → Result T Error → Type 0

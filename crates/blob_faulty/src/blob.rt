@@ -20,7 +20,6 @@ ghost use Rattle.blob_faulty.specs.Syncs.{Publishes, Starts};
 ghost use Rattle.blob_faulty.specs.Wrapper.{inner_of, rng_of, config_of, next_write_of, next_marker_of, pending_of, inside, size_of, KeepsRecords, KeepsNumbers, Adds};
 ghost use Rattle.blob_faulty.specs.AnswerLaws.{injected_alike, write_none, write_empty};
 
-use crate::payload::Payload;
 use crate::storage::Storage;
 use blob_base::{Error, Handle, IoBufs, IoBufsMut, ReadOptions, WriteOptions};
 use blob_draws::faults::{draw_resize, draw_write, draws};
@@ -45,48 +44,6 @@ impl<B> Blob<B> {
         ensures { result ≡ size_of self.now }
     {
         self.size
-    }
-}
-
-impl<B> Blob<B> {
-    ghost use Rattle.blob_faulty.specs.Allowed.{IsCurrent, IsStale, WritesIfSync};
-    ghost use Rattle.blob_faulty.specs.HandleLeaves.{Leaves};
-
-    /// Performs `write_at` of owned pieces and `write_from` of a slice: draws the outcome, then carries it out.
-    #[tactic(auto, unfolding(blob_draws::specs::Answers::allows_write))]
-    pub(crate) fn write<S: blob_base::Storage, R: Rng, P>(
-        &mut self,
-        store: &mut Storage<S, R>,
-        offset: u64,
-        len: usize,
-        buf: P,
-        sync: bool,
-    ) -> Result<(), Error>
-    where
-        B: blob_base::Blob<S>,
-        P: Payload<S, B>,
-        requires { len ≡ length (P.bytes buf) }
-        ensures allowed { MayWrite B.Blob self.old store.old R.stream offset (P.bytes buf) sync (error_of result) }
-        ensures leaves { Leaves S.Durable B.Blob R.Rng offset (P.bytes buf) sync self.old store.old result self.new store.new }
-        ensures live { OnOk result (B.live self.new.inner ≡ live_written sync (B.live self.old.inner) offset (P.bytes buf)) }
-        ensures synced { OnOk result (WritesIfSync S.Durable B.Blob self.old store.old store.new sync offset (P.bytes buf)) }
-        ensures plain { OnOk result (sync ≡ false → S.durable store.new.inner ≡ S.durable store.old.inner) }
-        ensures current { OnOk result (sync ≡ true → P.bytes buf ≢ [] → IsCurrent S.Durable B.Blob self.old store.old) }
-        ensures stale { IsStale S.Durable B.Blob self.old store.old → S.durable store.new.inner ≡ S.durable store.old.inner }
-        ensures memory_live { IsMemory result → B.live self.new.inner ≡ B.live self.old.inner }
-        ensures memory_durable { IsMemory result → S.durable store.new.inner ≡ S.durable store.old.inner }
-        ensures directory { S.directory store.new.inner ≡ S.directory store.old.inner }
-        ensures place { B.place self.new.inner ≡ B.place self.old.inner }
-    {
-        if sync && len == 0 {
-            return Ok(());
-        }
-        let Some(end) = offset.checked_add(len as u64) else {
-            return Err(Error::OffsetOverflow);
-        };
-        let alloc = store.alloc();
-        let fate = draw_write(alloc, &store.config, sync, offset, len, &mut store.rng)?;
-        self.write_by_fate(store, fate, offset, end, buf, sync)
     }
 }
 
@@ -157,8 +114,30 @@ impl<S: blob_base::Storage, R: Rng, B: blob_base::Blob<S>> blob_base::Blob<Stora
         inner.read_at_buf(&mut store.inner, offset, len, buf, options)
     }
 
+    /// Writes the bytes as `write_from` does, with its errors. Joins several pieces first: `Memory` if they can't be joined.
+    #[tactic(auto, unfolding(blob_draws::specs::Answers::allows_write))]
+    fn write_at(
+        &mut self,
+        store: &mut Storage<S, R>,
+        offset: u64,
+        bytes: IoBufs,
+        options: WriteOptions,
+    ) -> Result<(), Error> {
+        if let [piece] = bytes.pieces() {
+            return self.write_from(store, offset, piece, options);
+        }
+        if bytes.is_empty() {
+            return self.write_from(store, offset, &[], options);
+        }
+        if offset.checked_add(bytes.remaining() as u64).is_none() {
+            return Err(Error::OffsetOverflow);
+        }
+        let joined = bytes.coalesce()?;
+        self.write_from(store, offset, &joined, options)
+    }
+
     /// Draws whether the write fails. If it doesn't and has SYNC, draws whether its sync fails. An empty SYNC write returns Ok
-    /// and an overflowing logical end returns `OffsetOverflow` before any draw. `write` above has the contract.
+    /// and an overflowing logical end returns `OffsetOverflow` before any draw.
     ///
     /// - No failure: writes through the inner handle. If retention is set, a plain write of some bytes is pending from then on,
     ///   and a crash keeps the bytes that it draws.
@@ -176,15 +155,25 @@ impl<S: blob_base::Storage, R: Rng, B: blob_base::Blob<S>> blob_base::Blob<Stora
     ///   or its first run.
     /// - `WriteFailed` if the inner store rejected a run after the first. Those before it stay. A memory store rejects none.
     /// - `Memory`. Only the generator has changed.
-    fn write_at(
+    #[tactic(auto, unfolding(blob_draws::specs::Answers::allows_write))]
+    fn write_from(
         &mut self,
         store: &mut Storage<S, R>,
         offset: u64,
-        bytes: IoBufs,
+        bytes: &[u8],
         options: WriteOptions,
     ) -> Result<(), Error> {
         let sync = options.contains(WriteOptions::SYNC);
-        self.write(store, offset, bytes.remaining(), bytes, sync)
+        if sync && bytes.is_empty() {
+            return Ok(());
+        }
+        let Some(end) = offset.checked_add(bytes.len() as u64) else {
+            return Err(Error::OffsetOverflow);
+        };
+        let alloc = store.alloc;
+        let len = bytes.len();
+        let fate = draw_write(alloc, &store.config, sync, offset, len, &mut store.rng)?;
+        self.write_by_fate(store, fate, offset, end, bytes, sync)
     }
 
     /// Draws whether the resize fails. If it doesn't, resizes the inner handle, and a second draw decides whether the resize is

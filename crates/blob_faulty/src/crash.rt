@@ -23,8 +23,8 @@ use blob_pending::incarnation::Incarnation;
 use rand_core::Rng;
 use std::alloc::{AllocError, Global};
 
-/// Reserves capacity for the result of replaying each list whose incarnation is current, and returns no choices, with capacity
-/// for those of the longest write. An overflowing length is reported as an allocation failure.
+/// Reserves capacity for the result of replaying each list of a current incarnation. Returns an empty list of choices with capacity
+/// for the longest write. An overflowing length is reported as an allocation failure.
 fn reserve_all(
     inner: &mut blob_memory::Storage,
     alloc: Global,
@@ -71,7 +71,7 @@ impl<R: Rng> Storage<blob_memory::Storage, R> {
         ensures numbers { KeepsNumbers self.old self.new }
         ensures keeps { (o : Place) (bytes : List ℕ) → Keeps self.old o bytes → Keeps self.new o bytes }
     {
-        let alloc = self.alloc();
+        let alloc = self.alloc;
         let draws = gather(alloc, &self.lists.all.lists)?;
         let rows = draw_rows(alloc, &draws, &mut self.rng)?;
         let mut chosen = reserve_all(&mut self.inner, alloc, &self.lists.all.lists)?;

@@ -3,13 +3,12 @@
 
 mod admit;
 pub mod blob;
-mod borrowed;
 mod crash;
 pub mod laws;
 pub mod names;
 mod open_admitted;
 mod open_exclusive;
-mod payload;
+mod reads;
 mod replay;
 mod resizes;
 mod retired;

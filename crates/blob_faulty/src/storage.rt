@@ -26,6 +26,7 @@ pub struct Storage<S: Durable, R> {
     pub(crate) lists: Lists<S>,
     pub(crate) next_write: u64,
     pub(crate) next_marker: u64,
+    pub(crate) alloc: Global,
 }
 
 impl<S: Durable, R> Storage<S, R> {
@@ -54,12 +55,8 @@ impl<S: Durable, R> Storage<S, R> {
             lists: Lists::new(alloc),
             next_write,
             next_marker,
+            alloc,
         }
-    }
-
-    /// Returns the allocator of the pending lists.
-    pub(crate) fn alloc(&self) -> Global {
-        *self.lists.all.lists.allocator()
     }
 
     /// Returns the inner store. Its durable bytes don't include pending writes.

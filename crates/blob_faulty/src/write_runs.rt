@@ -2,25 +2,25 @@
 ghost use Rattle.std.specs.Prelude.{◌≡◌, ◌<◌, ◌+◌, ◌^◌, length};
 
 use crate::blob::Blob;
-use crate::payload::Payload;
 use crate::storage::Storage;
+use blob_base::Error;
 use blob_base::laws::overlays::runs_are_choices;
-use blob_base::{Error, IoBufs};
 use blob_draws::runs::Span;
 use blob_pending::room::Room;
+use std::alloc::Global;
 
 /// A run of a write's bytes, and their copy for the pending list.
 #[derive(Drop)]
-pub struct Piece {
+pub struct Piece<'a> {
     offset: u64,
-    bytes: IoBufs,
+    bytes: &'a [u8],
     copy: Vec<u8>,
-    ghost same: { copy.items ≡ bytes },
-    ghost some: { 0 < length bytes },
-    ghost fits: { offset + length bytes < 2 ^ 64 },
+    ghost same: { copy.items ≡ bytes.now },
+    ghost some: { 0 < length bytes.now },
+    ghost fits: { offset + length bytes.now < 2 ^ 64 },
 }
 
-impl Piece {
+impl<'a> Piece<'a> {
     ghost use Rattle.std.specs.Prelude.{◌≤◌, List, ℕ, [], All, IfOk, OnErr};
     ghost use Rattle.blob_header.specs.Refusals.{IsMemory};
     ghost use Rattle.blob_model.specs.Runs.{runs};
@@ -28,35 +28,37 @@ impl Piece {
     ghost use Rattle.blob_faulty.specs.Pieces.{run_of, runs_in, first_start};
     ghost use Rattle.blob_draws.specs.Spans.{piece, pieces, ends_by};
 
-    /// Copies a span of the bytes of a write at `offset`.
-    fn of(offset: u64, bytes: &Vec<u8>, span: Span) -> Result<Piece, Error>
-        requires inside { ends_by (length bytes.now.items) span }
-        requires fits { offset + length bytes.now.items < 2 ^ 64 }
-        ensures ok { IfOk result (λ p. run_of p ≡ piece offset bytes.now.items span) }
+    /// Returns the run of a span of the bytes of a write at `offset`. The only error is `Memory`.
+    fn of(alloc: Global, offset: u64, bytes: &'a [u8], span: Span) -> Result<Piece<'a>, Error>
+        requires inside { ends_by (length bytes.now) span }
+        requires fits { offset + length bytes.now < 2 ^ 64 }
+        ensures ok { IfOk result (λ p. run_of p ≡ piece offset bytes.now span) }
         ensures memory { OnErr result (IsMemory result) }
     {
         let part = &bytes[span.start..span.end];
-        let first = IoBufs::from_vec(Vec::from_slice(*bytes.allocator(), part)?)?;
-        let copy = Vec::from_slice(*bytes.allocator(), part)?;
         Ok(Piece {
             offset: offset + span.start as u64,
-            bytes: first,
-            copy,
+            bytes: part,
+            copy: Vec::from_slice(alloc, part)?,
         })
     }
 
     /// Returns the runs of the kept bytes, last first. The only error is `Memory`.
-    pub(crate) fn all_of(offset: u64, bytes: &Vec<u8>, kept: &[bool]) -> Result<Vec<Piece>, Error>
-        requires sized { length kept.now ≡ length bytes.now.items }
-        requires fits { offset + length bytes.now.items < 2 ^ 64 }
-        ensures ok { IfOk result (λ ps. runs_in ps.items ≡ runs offset bytes.now.items kept.now) }
+    pub(crate) fn all_of(
+        alloc: Global,
+        offset: u64,
+        bytes: &'a [u8],
+        kept: &[bool],
+    ) -> Result<Vec<Piece<'a>>, Error>
+        requires sized { length kept.now ≡ length bytes.now }
+        requires fits { offset + length bytes.now < 2 ^ 64 }
+        ensures ok { IfOk result (λ ps. runs_in ps.items ≡ runs offset bytes.now kept.now) }
         ensures memory { OnErr result (IsMemory result) }
     {
-        let alloc = *bytes.allocator();
         let spans = Span::of(alloc, kept)?;
         let mut all = Vec::new(alloc);
         for span in &spans {
-            all.push(Piece::of(offset, bytes, *span)?)?;
+            all.push(Piece::of(alloc, offset, bytes, *span)?)?;
         }
         all.reverse();
         Ok(all)
@@ -64,13 +66,13 @@ impl Piece {
 
     /// Returns the position after its last byte.
     fn end(&self) -> u64
-        ensures { result ≡ self.now.offset + length self.now.bytes }
+        ensures { result ≡ self.now.offset + length self.now.bytes.now }
     {
-        self.offset + self.bytes.remaining() as u64
+        self.offset + self.bytes.len() as u64
     }
 
     /// Returns the offset of the lowest run, which is the last in the list, or 0 if there is none.
-    pub(crate) fn lowest_start(pieces: &[Piece]) -> u64
+    pub(crate) fn lowest_start(pieces: &[Piece<'a>]) -> u64
         ensures { result ≡ first_start (runs_in pieces.now) }
     {
         match pieces.last() {
@@ -80,7 +82,7 @@ impl Piece {
     }
 
     /// Returns the end of the highest run, which is the first in the list, or 0 if there is none.
-    pub(crate) fn highest_end(pieces: &[Piece]) -> u64
+    pub(crate) fn highest_end(pieces: &[Piece<'a>]) -> u64
         ensures { result ≡ last_end 0 (runs_in pieces.now) }
     {
         match pieces {
@@ -98,25 +100,25 @@ impl<B> Blob<B> {
     ghost use Rattle.blob_faulty.specs.Allowed.{MayLay, MayLayKept, MayReserve, AllowsAsMuch, HasListRoom, HasInnerRoom, ReservesRoom};
     ghost use Rattle.blob_faulty.specs.Asked.{reserve_call};
     ghost use Rattle.blob_faulty.specs.Pieces.{run_of, runs_in, extents, EndsWithin};
-    ghost use Rattle.blob_faulty.specs.StepResults.{MayCallInner, AsksKept, LaysKept, LaysPart};
-    ghost use Rattle.blob_faulty.specs.Writes.{LaysAll, StaysUnchanged};
+    ghost use Rattle.blob_faulty.specs.StepResults.{MayCallInner, AsksKept, LaysKept, LaysPart, LaysPieces};
+    ghost use Rattle.blob_faulty.specs.Writes.{StaysUnchanged};
 
     /// Writes the runs after the first, lowest first. Returns `WriteFailed` if the inner blob rejects one. Those before it stay.
     fn lay_later<S: blob_base::Storage, R>(
         &mut self,
         store: &mut Storage<S, R>,
         list: usize,
-        pieces: Vec<Piece>,
+        pieces: Vec<Piece<'_>>,
     ) -> Result<(), Error>
     where
         B: blob_base::Blob<S>,
         requires room { HasListRoom S.Durable B.Blob self.old store.old list (extents (runs_in pieces.items)) }
         requires current { is_current (S.directory store.old.inner) (B.place self.old.inner) ≡ true }
         requires within { B.is_direct ≡ true → All (EndsWithin (B.room self.old.inner store.old.inner)) (runs_in pieces.items) }
-        ensures laid { LaysAll S.Durable B.Blob self.old store.old self.new store.new (runs_in pieces.items) (error_of result) }
+        ensures laid { LaysPieces S.Durable B.Blob self.old store.old self.new store.new pieces.entry.items result }
         ensures failed { OnErr result (error_of result ≡ Some WriteFailed) }
         ensures indirect { OnErr result (B.is_direct ≡ false) }
-        ensures some { OnErr result (runs_in pieces.items ≢ []) }
+        ensures some { OnErr result (runs_in pieces.entry.items ≢ []) }
     {
         let mut pieces = pieces;
         while let Some(run) = pieces.pop() {
@@ -137,14 +139,14 @@ impl<B> Blob<B> {
         &mut self,
         store: &mut Storage<S, R>,
         list: usize,
-        pieces: Vec<Piece>,
+        pieces: Vec<Piece<'_>>,
     ) -> Result<(), Error>
     where
         B: blob_base::Blob<S>,
         requires room { HasListRoom S.Durable B.Blob self.old store.old list (extents (runs_in pieces.items)) }
         requires within { HasInnerRoom S.Durable B.Blob self.old store.old (runs_in pieces.items) }
-        ensures allowed { MayLay B.Blob self.old store.old (runs_in pieces.items) (error_of result) }
-        ensures laid { LaysAll S.Durable B.Blob self.old store.old self.new store.new (runs_in pieces.items) (error_of result) }
+        ensures allowed { MayLay B.Blob self.old store.old (runs_in pieces.entry.items) (error_of result) }
+        ensures laid { LaysPieces S.Durable B.Blob self.old store.old self.new store.new pieces.entry.items result }
     {
         let mut pieces = pieces;
         let Some(first) = pieces.pop() else {
@@ -164,7 +166,7 @@ impl<B> Blob<B> {
     fn reserve_runs<S: blob_base::Storage, R>(
         &mut self,
         store: &mut Storage<S, R>,
-        pieces: &[Piece],
+        pieces: &[Piece<'_>],
     ) -> Result<usize, Error>
     where
         B: blob_base::Blob<S>,
@@ -186,29 +188,26 @@ impl<B> Blob<B> {
 
     /// Writes all runs of the kept bytes of a write. `kept` has a choice for each byte, or none at all.
     #[inline(never)]
-    pub(crate) fn lay_kept<S: blob_base::Storage, R, P>(
+    pub(crate) fn lay_kept<S: blob_base::Storage, R>(
         &mut self,
         store: &mut Storage<S, R>,
         offset: u64,
-        bytes: P,
+        bytes: &[u8],
         kept: &[bool],
     ) -> Result<(), Error>
     where
         B: blob_base::Blob<S>,
-        P: Payload<S, B>,
-        requires fits { offset + length (P.bytes bytes) < 2 ^ 64 }
-        requires sized { kept.now ≢ [] → length kept.now ≡ length (P.bytes bytes) }
-        ensures allowed { MayLayKept B.Blob self.old store.old (runs offset (P.bytes bytes) kept.now) (error_of result) }
-        ensures asked { AsksKept B.Blob self.old store.old self.new store.new offset (P.bytes bytes) kept.now result }
-        ensures laid { LaysKept S.Durable B.Blob self.old store.old self.new store.new offset (P.bytes bytes) kept.now result }
-        ensures front { LaysPart S.Durable B.Blob self.old store.old self.new store.new offset (P.bytes bytes) kept.now result }
+        requires fits { offset + length bytes.now < 2 ^ 64 }
+        requires sized { kept.now ≢ [] → length kept.now ≡ length bytes.now }
+        ensures allowed { MayLayKept B.Blob self.old store.old (runs offset bytes.now kept.now) (error_of result) }
+        ensures asked { AsksKept B.Blob self.old store.old self.new store.new offset bytes.now kept.now result }
+        ensures laid { LaysKept S.Durable B.Blob self.old store.old self.new store.new offset bytes.now kept.now result }
+        ensures front { LaysPart S.Durable B.Blob self.old store.old self.new store.new offset bytes.now kept.now result }
     {
         if kept.is_empty() {
             return Ok(());
         }
-        let owned = bytes.into_bufs(store.alloc())?;
-        let bytes = owned.coalesce()?;
-        let pieces = Piece::all_of(offset, &bytes, kept)?;
+        let pieces = Piece::all_of(store.alloc, offset, bytes, kept)?;
         if pieces.is_empty() {
             return Ok(());
         }

@@ -11,9 +11,8 @@ ghost use Rattle.blob_draws.specs.Fates.{write_fate_of, IsSized};
 ghost use Rattle.blob_draws.specs.Faults.{retention};
 
 use crate::blob::Blob;
-use crate::payload::Payload;
 use crate::storage::Storage;
-use blob_base::{Error, IoBufs, WriteOptions};
+use blob_base::{Error, WriteOptions};
 use blob_draws::config::WriteConfig;
 use blob_draws::faults::{WriteFate, retained};
 use blob_pending::room::Room;
@@ -22,24 +21,25 @@ use blob_pending::write::PendingWrite;
 impl<B> Blob<B> {
     /// Writes to the inner blob without SYNC and records nothing.
     #[inline(always)]
-    fn write_unrecorded<S: blob_base::Storage, R, P>(
+    fn write_unrecorded<S: blob_base::Storage, R>(
         &mut self,
         store: &mut Storage<S, R>,
         offset: u64,
         end: u64,
-        bytes: P,
+        bytes: &[u8],
     ) -> Result<(), Error>
     where
         B: blob_base::Blob<S>,
-        P: Payload<S, B>,
-        requires end { end ≡ offset + length (P.bytes bytes) }
-        ensures allowed { B.allows_write self.old.inner store.old.inner offset (P.bytes bytes) false (error_of result) }
-        ensures asked { CallsInner B.Blob self.old store.old self.new store.new (Write offset (P.bytes bytes) false) result }
-        ensures wrote { WritesUnrecorded S.Durable B.Blob self.old store.old self.new store.new offset (P.bytes bytes) result }
+        requires end { end ≡ offset + length bytes.now }
+        ensures allowed { B.allows_write self.old.inner store.old.inner offset bytes.now false (error_of result) }
+        ensures asked { CallsInner B.Blob self.old store.old self.new store.new (Write offset bytes.now false) result }
+        ensures wrote { WritesUnrecorded S.Durable B.Blob self.old store.old self.new store.new offset bytes.now result }
         ensures untracked { OnErr result (self.new.size ≡ self.old.size) }
         ensures rest { store.new ≡ record store.old { inner = store.new.inner } }
     {
-        bytes.write_plain(&mut self.inner, &mut store.inner, offset)?;
+        let plain = WriteOptions::default();
+        self.inner
+            .write_from(&mut store.inner, offset, bytes, plain)?;
         self.size = self.size.max(end);
         Ok(())
     }
@@ -47,33 +47,32 @@ impl<B> Blob<B> {
     /// Writes some bytes without SYNC while retention is set. The write is pending from then on and takes the next number. It isn't
     /// inlined, so that a write that isn't recorded doesn't pay for its locals.
     #[inline(never)]
-    fn write_recorded<S: blob_base::Storage, R, P>(
+    fn write_recorded<S: blob_base::Storage, R>(
         &mut self,
         store: &mut Storage<S, R>,
         offset: u64,
         end: u64,
-        bytes: P,
+        bytes: &[u8],
         config: WriteConfig,
     ) -> Result<(), Error>
     where
         B: blob_base::Blob<S>,
-        P: Payload<S, B>,
-        requires some { 0 < length (P.bytes bytes) }
-        requires end { end ≡ offset + length (P.bytes bytes) }
+        requires some { 0 < length bytes.now }
+        requires end { end ≡ offset + length bytes.now }
         requires retained { retention store.old.config.write_rate ≡ Some (config.mode, config.retention_rate) }
-        ensures allowed { MayWritePlain B.Blob self.old store.old offset (P.bytes bytes) (error_of result) }
-        ensures asked { MayCallInner B.Blob self.old store.old self.new store.new (Write offset (P.bytes bytes) false) result }
-        ensures recorded { RecordsPlain S.Durable B.Blob self.old store.old self.new store.new offset (P.bytes bytes) result }
+        ensures allowed { MayWritePlain B.Blob self.old store.old offset bytes.now (error_of result) }
+        ensures asked { MayCallInner B.Blob self.old store.old self.new store.new (Write offset bytes.now false) result }
+        ensures recorded { RecordsPlain S.Durable B.Blob self.old store.old self.new store.new offset bytes.now result }
     {
         if store.next_write == u64::MAX {
             return Err(Error::GenerationsExhausted);
         }
-        let copy = bytes.to_vec(store.alloc())?;
+        let copy = Vec::from_slice(store.alloc, bytes)?;
         let list = store.lists.room_for(&self.inner, self.list, Room::Entry)?;
         self.write_unrecorded(store, offset, end, bytes)?;
         let number = store.next_write;
         store.next_write = number + 1;
-        let holes = Vec::new(store.alloc());
+        let holes = Vec::new(store.alloc);
         let write = PendingWrite {
             number,
             offset,
@@ -89,20 +88,19 @@ impl<B> Blob<B> {
 
     /// Writes without SYNC. If retention is set, a write of some bytes is pending from then on and takes the next number.
     #[inline(always)]
-    fn write_plain<S: blob_base::Storage, R, P>(
+    fn write_plain<S: blob_base::Storage, R>(
         &mut self,
         store: &mut Storage<S, R>,
         offset: u64,
         end: u64,
-        bytes: P,
+        bytes: &[u8],
     ) -> Result<(), Error>
     where
         B: blob_base::Blob<S>,
-        P: Payload<S, B>,
-        requires end { end ≡ offset + length (P.bytes bytes) }
-        ensures allowed { MayWritePlain B.Blob self.old store.old offset (P.bytes bytes) (error_of result) }
-        ensures asked { MayCallInner B.Blob self.old store.old self.new store.new (Write offset (P.bytes bytes) false) result }
-        ensures recorded { RecordsPlain S.Durable B.Blob self.old store.old self.new store.new offset (P.bytes bytes) result }
+        requires end { end ≡ offset + length bytes.now }
+        ensures allowed { MayWritePlain B.Blob self.old store.old offset bytes.now (error_of result) }
+        ensures asked { MayCallInner B.Blob self.old store.old self.new store.new (Write offset bytes.now false) result }
+        ensures recorded { RecordsPlain S.Durable B.Blob self.old store.old self.new store.new offset bytes.now result }
     {
         match retained(store.config.write_rate) {
             Some(config) if offset < end => {
@@ -121,26 +119,26 @@ impl<B> Blob<B> {
         store: &mut Storage<S, R>,
         list: usize,
         offset: u64,
-        bytes: IoBufs,
+        run: &[u8],
         copy: Vec<u8>,
     ) -> Result<(), Error>
     where
         B: blob_base::Blob<S>,
-        requires some { 0 < length bytes }
-        requires fits { offset + length bytes < 2 ^ 64 }
-        requires len { length copy.items ≤ length bytes }
-        requires copied { has_barrier (pending_of S.place store.old (B.place self.old.inner)) ≡ true → copy.items ≡ bytes }
-        requires room { HasListRoom S.Durable B.Blob self.old store.old list ((offset, offset + length bytes) ∷ []) }
-        ensures allowed { B.allows_write self.old.inner store.old.inner offset bytes true (error_of result) }
-        ensures asked { CallsInner B.Blob self.old store.old self.new store.new (Write offset bytes true) result }
-        ensures recorded { RecordsRun S.Durable B.Blob self.old store.old self.new store.new (offset, bytes) result }
-        ensures laid { OnOk result (LaidRuns S.Durable B.Blob self.old store.old self.new store.new ((offset, bytes) ∷ [])) }
+        requires some { 0 < length run.now }
+        requires fits { offset + length run.now < 2 ^ 64 }
+        requires len { length copy.items ≤ length run.now }
+        requires copied { has_barrier (pending_of S.place store.old (B.place self.old.inner)) ≡ true → copy.items ≡ run.now }
+        requires room { HasListRoom S.Durable B.Blob self.old store.old list ((offset, offset + length run.now) ∷ []) }
+        ensures allowed { B.allows_write self.old.inner store.old.inner offset run.now true (error_of result) }
+        ensures asked { CallsInner B.Blob self.old store.old self.new store.new (Write offset run.now true) result }
+        ensures recorded { RecordsRun S.Durable B.Blob self.old store.old self.new store.new (offset, run.now) result }
+        ensures laid { OnOk result (LaidRuns S.Durable B.Blob self.old store.old self.new store.new ((offset, run.now) ∷ [])) }
         ensures kept_room { OnOk result (B.room self.old.inner store.old.inner ≤ B.room self.new.inner store.new.inner) }
-        ensures left { OnOk result (LeavesRoom S.Durable B.Blob self.old store.old self.new store.new list (offset, bytes)) }
+        ensures left { OnOk result (LeavesRoom S.Durable B.Blob self.old store.old self.new store.new list (offset, run.now)) }
     {
-        let len = bytes.remaining() as u64;
+        let len = run.len() as u64;
         self.inner
-            .write_at(&mut store.inner, offset, bytes, WriteOptions::SYNC)?;
+            .write_from(&mut store.inner, offset, run, WriteOptions::SYNC)?;
         self.size = self.size.max(offset + len);
         store.lists.lay(list, offset, len, copy);
         Ok(())
@@ -148,52 +146,48 @@ impl<B> Blob<B> {
 
     /// Writes with SYNC. The range becomes durable, and a crash no longer applies pending writes to it.
     #[inline(never)]
-    fn write_synced<S: blob_base::Storage, R, P>(
+    fn write_synced<S: blob_base::Storage, R>(
         &mut self,
         store: &mut Storage<S, R>,
         offset: u64,
         end: u64,
-        bytes: P,
+        bytes: &[u8],
     ) -> Result<(), Error>
     where
         B: blob_base::Blob<S>,
-        P: Payload<S, B>,
-        requires some { P.bytes bytes ≢ [] }
-        requires end { end ≡ offset + length (P.bytes bytes) }
-        ensures allowed { MayWriteSynced B.Blob self.old store.old offset (P.bytes bytes) (error_of result) }
-        ensures asked { MayCallInner B.Blob self.old store.old self.new store.new (Write offset (P.bytes bytes) true) result }
-        ensures recorded { RecordsRun S.Durable B.Blob self.old store.old self.new store.new (offset, P.bytes bytes) result }
+        requires some { bytes.now ≢ [] }
+        requires end { end ≡ offset + length bytes.now }
+        ensures allowed { MayWriteSynced B.Blob self.old store.old offset bytes.now (error_of result) }
+        ensures asked { MayCallInner B.Blob self.old store.old self.new store.new (Write offset bytes.now true) result }
+        ensures recorded { RecordsRun S.Durable B.Blob self.old store.old self.new store.new (offset, bytes.now) result }
     {
-        let owned = bytes.into_bufs(store.alloc())?;
         let room = Room::Ranges(offset, end, 1);
         let list = store.lists.room_for(&self.inner, self.list, room)?;
-        let whole = owned.copied()?.coalesce()?;
-        let copy = store.lists.copy_for(list, &whole)?;
+        let copy = store.lists.copy_for(list, bytes)?;
         self.list = list;
-        self.lay_range(store, list, offset, owned, copy)
+        self.lay_range(store, list, offset, bytes, copy)
     }
 
-    /// Performs a write by its drawn outcome. Copies a slice unless it is a plain write that is not recorded.
+    /// Performs a write by its drawn outcome. Copies the bytes only for what the pending lists record.
     #[inline(always)]
-    pub(crate) fn write_by_fate<S: blob_base::Storage, R, P>(
+    pub(crate) fn write_by_fate<S: blob_base::Storage, R>(
         &mut self,
         store: &mut Storage<S, R>,
         fate: WriteFate,
         offset: u64,
         end: u64,
-        bytes: P,
+        bytes: &[u8],
         sync: bool,
     ) -> Result<(), Error>
     where
         B: blob_base::Blob<S>,
-        P: Payload<S, B>,
-        requires some { sync ≡ true → P.bytes bytes ≢ [] }
-        requires end { end ≡ offset + length (P.bytes bytes) }
-        requires sized { IsSized (length (P.bytes bytes)) (write_fate_of fate) }
-        ensures allowed { MayWriteAs B.Blob self.old store.old fate sync offset (P.bytes bytes) (error_of result) }
-        ensures asked { AsksAs B.Blob self.old store.old self.new store.new fate sync offset (P.bytes bytes) result }
-        ensures wrote { WroteAs S.Durable B.Blob self.old store.old self.new store.new fate sync offset (P.bytes bytes) result }
-        ensures failed { FailsAs S.Durable B.Blob self.old store.old self.new store.new fate offset (P.bytes bytes) result }
+        requires some { sync ≡ true → bytes.now ≢ [] }
+        requires end { end ≡ offset + length bytes.now }
+        requires sized { IsSized (length bytes.now) (write_fate_of fate) }
+        ensures allowed { MayWriteAs B.Blob self.old store.old fate sync offset bytes.now (error_of result) }
+        ensures asked { AsksAs B.Blob self.old store.old self.new store.new fate sync offset bytes.now result }
+        ensures wrote { WroteAs S.Durable B.Blob self.old store.old self.new store.new fate sync offset bytes.now result }
+        ensures failed { FailsAs S.Durable B.Blob self.old store.old self.new store.new fate offset bytes.now result }
     {
         match fate {
             WriteFate::Done => {

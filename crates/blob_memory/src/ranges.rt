@@ -1,6 +1,6 @@
 // The ends of ranges.
-ghost use Rattle.std.specs.Prelude.{◌≡◌, ◌<◌, ◌+◌, ◌^◌, None, Some, OnOk, IfOk, if◌then◌else◌};
-ghost use Rattle.blob_header.specs.Refusals.{error_of, OffsetOverflow};
+ghost use Rattle.std.specs.Prelude.{◌≡◌, ◌<◌, ◌+◌, ◌^◌, OnOk, IfOk};
+ghost use Rattle.blob_header.specs.Refusals.{error_of, refused_if, OffsetOverflow};
 ghost use Rattle.blob_memory.specs.Answers.{is_uncounted};
 
 use crate::origin::Origin;
@@ -13,7 +13,7 @@ impl Origin {
     pub(crate) fn logical_end(&self, offset: u64, len: usize) -> Result<usize, Error>
         ensures end { IfOk result (λ end. end ≡ offset + len) }
         ensures counted { OnOk result (offset + self.now.start + len < 2 ^ 64) }
-        ensures refusal { error_of result ≡ (if is_uncounted (offset + self.now.start + len) then Some OffsetOverflow else None) }
+        ensures refusal { error_of result ≡ refused_if OffsetOverflow (is_uncounted (offset + self.now.start + len)) }
     {
         let Some(raw) = offset.checked_add(self.data_offset) else {
             return Err(Error::OffsetOverflow);

@@ -1,5 +1,5 @@
 -- The pending lists of the incarnations, each by its place.
-use Rattle.std.specs.Prelude.{◌≡◌, ◌≢◌, AllPairs, ℕ, ◌<◌, List, [], cond, Bool, true, false, not, ◌&&◌, ◌||◌, All, length, map, vec_len, vec_capacity}
+use Rattle.std.specs.Prelude.{◌≡◌, ◌≢◌, AllPairs, ℕ, ◌<◌, List, [], ◌∷◌, ◌++◌, cond, Bool, true, false, not, ◌&&◌, ◌||◌, All, length, map, vec_len, vec_capacity}
 use Rattle.std.proofs.Common.{get_or}
 use Rattle.blob_model.specs.Directory.{Directory, is_current}
 use Rattle.blob_model.specs.Durable.{with_at}
@@ -9,6 +9,7 @@ use Rattle.blob_model.specs.Order.{ListAt, held_at}
 use Rattle.blob_model.specs.Holes.{Holes}
 use Rattle.blob_pending.specs.Rooms.{AreWithin, HasRoomsFor}
 use Rattle.blob_pending.specs.Views.{left_in}
+use Rattle.blob_pending.specs.declared.entry.Entry.{Entry}
 use Rattle.blob_pending.specs.declared.incarnation.Incarnation.{Incarnation}
 use Rattle.blob_pending.specs.declared.room.Room.{Room}
 use Rattle.blob_pending.specs.declared.room.Room.TheVariants as room
@@ -73,6 +74,10 @@ SameLists place old new = (o : Place) → list_of place new o ≡ list_of place 
 -- the list at i alone is another, by whichever incarnation it is of
 abbrev pub ChangesAt : {O : Type 0} → (O → Place) → List (Incarnation O) → List (Incarnation O) → ℕ → (List Pending → List Pending) → Type 0
 ChangesAt place old new i change = (o : Place) → IsAt (lists_of place old) i o → (a : Place) → list_of place new a ≡ with_at (list_of place old) o (change (list_of place old o)) a
+
+-- what is left of an entry is appended to the list there
+abbrev pub AppendsAt : {O : Type 0} → (O → Place) → List (Incarnation O) → List (Incarnation O) → ℕ → Entry → Type 0
+AppendsAt place old new i entry = ChangesAt place old new i (λ q. q ++ left_in (entry ∷ []))
 
 -- the list at i, of any incarnation, gets these bytes if it queues a durable range of them
 abbrev pub IsCopyAt : {O : Type 0} → (O → Place) → List (Incarnation O) → ℕ → List ℕ → List ℕ → Type 0

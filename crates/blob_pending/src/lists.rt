@@ -8,7 +8,7 @@ ghost use Rattle.blob_model.specs.Pending.{Marker};
 ghost use Rattle.blob_header.specs.Refusals.{IsMemory};
 ghost use Rattle.blob_pending.specs.Rooms.{CanCut, KeepsRest};
 ghost use Rattle.blob_pending.specs.Views.{left_in};
-ghost use Rattle.blob_pending.specs.Lists.{lists_of, IsAt, HasRoomIn, IsRoomAt, HasRangesAt, SameLists, ChangesAt, IsCopyAt, LaysAt, AreDistinct, finished_in, AreNoted, StaysAt, RetiresEnded, RetiresList, FinishesLists, is_kept};
+ghost use Rattle.blob_pending.specs.Lists.{lists_of, IsAt, HasRoomIn, IsRoomAt, HasRangesAt, SameLists, AppendsAt, ChangesAt, IsCopyAt, LaysAt, AreDistinct, finished_in, AreNoted, StaysAt, RetiresEnded, RetiresList, FinishesLists, is_kept};
 
 use crate::entry::Entry;
 use crate::incarnation::Incarnation;
@@ -137,7 +137,7 @@ impl<S: Durable> Lists<S> {
     pub fn push_write(&mut self, i: usize, write: PendingWrite)
         requires room { HasRoomIn self.old.all.lists.items i Room.Entry }
         requires whole { write.holes.items ≡ [] }
-        ensures { ChangesAt S.place self.old.all.lists.items self.new.all.lists.items i (λ q. q ++ left_in (Entry.Write write ∷ [])) }
+        ensures { AppendsAt S.place self.old.all.lists.items self.new.all.lists.items i (Entry.Write write) }
     {
         self.all.lists[i].push_write(write);
     }
@@ -145,7 +145,7 @@ impl<S: Durable> Lists<S> {
     /// Appends a resize to the list at `i`, which has capacity for it.
     pub fn push_resize(&mut self, i: usize, len: u64)
         requires { HasRoomIn self.old.all.lists.items i Room.Entry }
-        ensures { ChangesAt S.place self.old.all.lists.items self.new.all.lists.items i (λ q. q ++ left_in (Entry.Resize len ∷ [])) }
+        ensures { AppendsAt S.place self.old.all.lists.items self.new.all.lists.items i (Entry.Resize len) }
     {
         self.all.lists[i].push_resize(len);
     }

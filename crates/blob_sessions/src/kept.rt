@@ -19,6 +19,7 @@ use crate::typed::{TypedCall, TypedReply, numbered_call, versions};
 use blob_faulty::Config;
 use blob_lab::script::{Line, RefusedLine, Setting, read_line};
 use blob_lab::{Call, Lab, Reply};
+use blob_script::script::setting::copy_of;
 use std::alloc::Global;
 
 /// A laboratory, its settings, and the reply to its last call.
@@ -249,20 +250,5 @@ impl Kept {
     {
         self.config = setting.apply(copy_of(&self.config));
         Call::Configure(copy_of(&self.config))
-    }
-}
-
-/// The same configuration once more.
-pub fn copy_of(config: &Config) -> Config
-    ensures { result ≡ config.now }
-{
-    Config {
-        open_rate: config.open_rate,
-        read_rate: config.read_rate,
-        write_rate: config.write_rate,
-        sync_rate: config.sync_rate,
-        resize_rate: config.resize_rate,
-        remove_rate: config.remove_rate,
-        scan_rate: config.scan_rate,
     }
 }

@@ -3,11 +3,12 @@ ghost use Rattle.std.specs.Prelude.{◌≡◌, ◌==◌, ◌<◌, ℕ, ◌∷◌
 ghost use Rattle.blob_lab.specs.Scripts.{Script, lines_of, no_script, with_line};
 ghost use Rattle.blob_sessions.specs.Preambles.{AreSettings, BreaksAt, IsCreatedWith, IsMadeOf, IsNoSetting, IsSetting, Says, SaysOneMore};
 
-use crate::kept::{Kept, copy_of};
+use crate::kept::Kept;
 use blob_base::Error;
 use blob_faulty::Config;
 use blob_lab::Lab;
 use blob_lab::script::{Line, RefusedLine, read_line};
+use blob_script::script::setting::copy_of;
 use std::alloc::Global;
 
 /// What the lines so far have said.

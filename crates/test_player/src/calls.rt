@@ -74,8 +74,9 @@ pub enum Own {
     ReadInto,
     ReadSlice,
     Write,
-    WriteFrom,
     WriteSynced,
+    WriteFrom,
+    WriteFromSynced,
     Resize,
     Sync,
     StartSync,
@@ -133,7 +134,7 @@ pub enum Debt {
 type Row = (&'static str, &'static str, Ask);
 
 // A word, the letters of its arguments, and the call.
-static CALLS: [Row; 99] = [
+static CALLS: [Row; 100] = [
     ("resolve", "bvv", Ask::Value(Value::Resolve)),
     ("parse", "bllvv", Ask::Value(Value::Parse)),
     ("maybetorn", "bllvv", Ask::Value(Value::MaybeTorn)),
@@ -183,8 +184,9 @@ static CALLS: [Row; 99] = [
     ("readinto", "nnu", Ask::Own(Own::ReadInto)),
     ("readslice", "nnb", Ask::Own(Own::ReadSlice)),
     ("write", "nnW", Ask::Own(Own::Write)),
-    ("writefrom", "nnb", Ask::Own(Own::WriteFrom)),
     ("writes", "nnW", Ask::Own(Own::WriteSynced)),
+    ("writefrom", "nnb", Ask::Own(Own::WriteFrom)),
+    ("writesfrom", "nnb", Ask::Own(Own::WriteFromSynced)),
     ("resize", "nn", Ask::Own(Own::Resize)),
     ("sync", "n", Ask::Own(Own::Sync)),
     ("startsync", "n", Ask::Own(Own::StartSync)),

@@ -85,6 +85,12 @@ pub fn call<S: Durable, B: Blob<S>>(
         Own::WriteSynced => blob
             .write_at(store, at, args.take_bufs(), WriteOptions::SYNC)
             .map(done),
+        Own::WriteFrom => blob
+            .write_from(store, at, &args.take_bytes(), WriteOptions::default())
+            .map(done),
+        Own::WriteFromSynced => blob
+            .write_from(store, at, &args.take_bytes(), WriteOptions::SYNC)
+            .map(done),
         Own::Resize => blob.resize(store, at).map(done),
         Own::Sync => blob.sync(store).map(done),
         Own::StartSync => start(started, blob.start_sync(store)),

@@ -67,15 +67,11 @@ impl MemoryPlace {
         Ok(done(()))
     }
 
-    // Reads into a slice, or writes from one.
-    fn borrow(&mut self, own: Own, args: &mut Args<'_>) -> Result<Found, Error> {
+    fn read_slice(&mut self, args: &mut Args<'_>) -> Result<Found, Error> {
         let [_, at, _, _] = args.numbers;
         let mut slice = args.take_bytes();
         let number = args.handle();
-        let blob = self.place.blobs.get_mut(number).ok_or(Error::Closed)?;
-        if let Own::WriteFrom = own {
-            return blob.write_from(at, &slice).map(done);
-        }
+        let blob = self.place.blobs.get(number).ok_or(Error::Closed)?;
         blob.read_into(at, &mut slice)?;
         Ok(bytes(slice))
     }
@@ -102,7 +98,7 @@ impl MemoryPlace {
             Own::Rebuild => self.rebuild(),
             Own::Fork => self.fork(),
             Own::Swap => self.swap(),
-            Own::ReadSlice | Own::WriteFrom => self.borrow(own, args),
+            Own::ReadSlice => self.read_slice(args),
             Own::Origin
             | Own::Retain
             | Own::RetainResize

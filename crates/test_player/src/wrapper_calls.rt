@@ -5,7 +5,7 @@ use crate::calls::Own;
 use crate::found::{Found, bytes, done};
 use crate::place::Place;
 use crate::words;
-use blob_base::{DEFAULT_BLOB_VERSION, Error, Storage, WriteOptions};
+use blob_base::{DEFAULT_BLOB_VERSION, Error, Storage};
 use blob_faulty::Config;
 use blob_lab_store::ScriptedRng;
 use blob_memory::Storage as Memory;
@@ -142,17 +142,11 @@ impl WrapperPlace<Memory> {
         self.place.opened(blob, size, version)
     }
 
-    // Reads into a slice, or writes from one.
-    fn borrow(&mut self, own: Own, args: &mut Args<'_>) -> Result<Found, Error> {
+    fn read_slice(&mut self, args: &mut Args<'_>) -> Result<Found, Error> {
         let [_, at, _, _] = args.numbers;
         let mut slice = args.take_bytes();
         let number = args.handle();
-        let blob = self.place.blobs.get_mut(number).ok_or(Error::Closed)?;
-        if let Own::WriteFrom = own {
-            let plain = WriteOptions::default();
-            let store = &mut self.place.store;
-            return blob.write_from(store, at, &slice, plain).map(done);
-        }
+        let blob = self.place.blobs.get(number).ok_or(Error::Closed)?;
         blob.read_into(&mut self.place.store, at, &mut slice)?;
         Ok(bytes(slice))
     }
@@ -167,7 +161,7 @@ impl WrapperPlace<Memory> {
             Own::Admit => self.admit(args),
             Own::OpenAdmitted => self.open_admitted(args),
             Own::OpenVersionedAdmitted => self.open_versioned_admitted(args),
-            Own::ReadSlice | Own::WriteFrom => self.borrow(own, args),
+            Own::ReadSlice => self.read_slice(args),
             Own::Crash => self.crash(),
             Own::Rewrap => self.rewrap(false),
             Own::Rebuild => self.rewrap(true),

@@ -23,7 +23,7 @@ slice_bounds-fill-start c = let hole = hole_in c.args.write.now c.deref-hole-ite
 pub slice_bounds-fill-end : goal.slice_bounds-fill-end
 slice_bounds-fill-end c = let hole = hole_in c.args.write.now c.deref-hole-items.result.now c.loop-hole.hole-index (record { start = 0; end = 0 }) c.deref-hole-items.ensures.value (omega arith) in omega (arith, hole.low, hole.some, hole.high, c.deref_mut.ensures.len, c.loop-hole.invariant.len)
 
--- neither in the first hole nor in those behind it
+-- neither in the first hole nor in those after it
 in_neither : (first later chosen : Bool) → (not later && (not first && chosen)) ≡ (not (first || later) && chosen)
 in_neither true true b = refl
 in_neither true false b = refl

@@ -24,10 +24,10 @@ returns-then-is_err-clause-indirect g c =
     let e : runs_in c.loop-run.pieces.items ≡ run_of c.in-Some.run' ∷ runs_in c.pop.new.self.items = popped _ _ c.in-Some.run' c.in-Some.ensures.items in
     let failed = is_refused c.lay_range.result (sym c.is_err.ensures.value ∙ c.if-is_err.true) in
     ⊎_elim
-    (λ direct. absurd (g.met.B.Blob.done_within c.loop-run.self.inner c.loop-run.store.inner c.in-Some.run'.offset c.in-Some.run'.bytes failed.0 direct
+    (λ direct. absurd (g.met.B.Blob.done_within c.loop-run.self.inner c.loop-run.store.inner c.in-Some.run'.offset c.in-Some.run'.bytes.now failed.0 direct
     (ap₂ is_current i.left.directory i.left.place ∙ c.requires.current)
     (first_within _ (run_of c.in-Some.run') (runs_in c.pop.new.self.items) (subst (λ (rs : List Run). All (EndsWithin (g.B.Blob.room c.loop-run.self.inner c.loop-run.store.inner)) rs) e (i.within direct)))
-    (subst (λ (a : Option Refusal). g.B.Blob.allows_write c.loop-run.self.inner c.loop-run.store.inner c.in-Some.run'.offset c.in-Some.run'.bytes true a) failed.1 c.lay_range.ensures.allowed)))
+    (subst (λ (a : Option Refusal). g.B.Blob.allows_write c.loop-run.self.inner c.loop-run.store.inner c.in-Some.run'.offset c.in-Some.run'.bytes.now true a) failed.1 c.lay_range.ensures.allowed)))
     (λ indirect. indirect)
     (cases_Bool g.B.Blob.is_direct)
 
@@ -42,7 +42,7 @@ returns-then-is_err-clause-laid g c = record {
           refusal = failed.0;
           is = c.loop-run.invariant.asked (Some failed.0) c.lay_range.new.self.inner c.lay_range.new.store.inner
               (subst (λ (rs : List Run). Made g.B.Blob.leaves (run_calls rs) (Some failed.0) c.loop-run.self.inner c.loop-run.store.inner c.lay_range.new.self.inner c.lay_range.new.store.inner) (sym e)
-              (inl (refl, subst (λ (a : Option Refusal). g.B.Blob.leaves (Write c.in-Some.run'.offset c.in-Some.run'.bytes true) c.loop-run.self.inner c.loop-run.store.inner a c.lay_range.new.self.inner c.lay_range.new.store.inner) failed.1 c.lay_range.ensures.asked)));
+              (inl (refl, subst (λ (a : Option Refusal). g.B.Blob.leaves (Write c.in-Some.run'.offset c.in-Some.run'.bytes.now true) c.loop-run.self.inner c.loop-run.store.inner a c.lay_range.new.self.inner c.lay_range.new.store.inner) failed.1 c.lay_range.ensures.asked)));
         },
       );
   recorded = later_refused _ true _ _ _ _ _ _ _ _ c.requires.current (returns-then-is_err-clause-indirect g c) c.loop-run.invariant.left c.lay_range.ensures.recorded;
@@ -51,7 +51,7 @@ returns-then-is_err-clause-laid g c = record {
       let failed = is_refused c.lay_range.result (sym c.is_err.ensures.value ∙ c.if-is_err.true) in
       front_refused g.B.Blob.leaves _ _ _ _ _ _ _ _ _ _ (run_of c.in-Some.run') (runs_in c.pop.new.self.items) failed.0 (rw e at c.loop-run.invariant.laid)
       (c.lay_range.ensures.recorded.refused refl (some_refusal (error_of c.lay_range.result) failed.0 failed.1))
-      (subst (λ (a : Option Refusal). g.B.Blob.leaves (Write c.in-Some.run'.offset c.in-Some.run'.bytes true) c.loop-run.self.inner c.loop-run.store.inner a c.lay_range.new.self.inner c.lay_range.new.store.inner) failed.1 c.lay_range.ensures.asked);
+      (subst (λ (a : Option Refusal). g.B.Blob.leaves (Write c.in-Some.run'.offset c.in-Some.run'.bytes.now true) c.loop-run.self.inner c.loop-run.store.inner a c.lay_range.new.self.inner c.lay_range.new.store.inner) failed.1 c.lay_range.ensures.asked);
 }
 
 pub returns-then-is_err-clause-some : goal.returns-then-is_err-clause-some
@@ -75,7 +75,7 @@ returns-clause-laid g c = record {
 
 pub lay_range-requires-clause-room : goal.lay_range-requires-clause-room
 lay_range-requires-clause-room g c =
-    first_at g.S.Durable.place c.loop-run.store.lists.all.lists.items c.args.list (g.B.Blob.place c.loop-run.self.inner) (c.in-Some.run'.offset, c.in-Some.run'.offset + length c.in-Some.run'.bytes) (extents (runs_in c.pop.new.self.items))
+    first_at g.S.Durable.place c.loop-run.store.lists.all.lists.items c.args.list (g.B.Blob.place c.loop-run.self.inner) (c.in-Some.run'.offset, c.in-Some.run'.offset + length c.in-Some.run'.bytes.now) (extents (runs_in c.pop.new.self.items))
     (subst (λ (rs : List Run). HasRoomAt g.S.Durable.place c.loop-run.store.lists.all.lists.items c.args.list (g.B.Blob.place c.loop-run.self.inner) (extents rs)) (popped _ _ c.in-Some.run' c.in-Some.ensures.items) c.loop-run.invariant.room)
 
 pub loop-run-init : goal.loop-run-init
@@ -103,8 +103,8 @@ loop-run-preserved g c =
       left = one_less g.B.Blob.is_direct _ _ _ _ (run_of c.in-Some.run') rest (error_of c.lay_range.result) (is_done c.lay_range.result ok)
           (rw e at i.left) l.recorded;
       laid = up_to_next g.B.Blob.leaves _ _ _ _ _ _ _ _ _ _ (run_of c.in-Some.run') rest i.left.place (rw e at i.laid) (ok_holds c.lay_range.result ok l.laid)
-          (subst (λ (a : Option Refusal). g.B.Blob.leaves (Write c.in-Some.run'.offset c.in-Some.run'.bytes true) c.loop-run.self.inner c.loop-run.store.inner a c.lay_range.new.self.inner c.lay_range.new.store.inner) (is_done c.lay_range.result ok) l.asked);
+          (subst (λ (a : Option Refusal). g.B.Blob.leaves (Write c.in-Some.run'.offset c.in-Some.run'.bytes.now true) c.loop-run.self.inner c.loop-run.store.inner a c.lay_range.new.self.inner c.lay_range.new.store.inner) (is_done c.lay_range.result ok) l.asked);
       asked = λ answer x y later. i.asked answer x y (subst (λ (rs : List Run). Made g.B.Blob.leaves (run_calls rs) answer c.loop-run.self.inner c.loop-run.store.inner x y) (sym e)
-          (then_made g.B.Blob.leaves (Write c.in-Some.run'.offset c.in-Some.run'.bytes true) (run_calls rest) answer _ _ _ _ x y
-          (subst (λ (a : Option Refusal). g.B.Blob.leaves (Write c.in-Some.run'.offset c.in-Some.run'.bytes true) c.loop-run.self.inner c.loop-run.store.inner a c.lay_range.new.self.inner c.lay_range.new.store.inner) (is_done c.lay_range.result ok) l.asked) later));
+          (then_made g.B.Blob.leaves (Write c.in-Some.run'.offset c.in-Some.run'.bytes.now true) (run_calls rest) answer _ _ _ _ x y
+          (subst (λ (a : Option Refusal). g.B.Blob.leaves (Write c.in-Some.run'.offset c.in-Some.run'.bytes.now true) c.loop-run.self.inner c.loop-run.store.inner a c.lay_range.new.self.inner c.lay_range.new.store.inner) (is_done c.lay_range.result ok) l.asked) later));
     }

@@ -14,24 +14,24 @@ use Rattle.blob_faulty.proofs.blob.Blob.lay_range.Goals as goal
 
 pub lay-requires-clause-room : goal.lay-requires-clause-room
 lay-requires-clause-room g c = record {
-  fits = omega (arith, c.remaining-len.ensures);
-  room_for = room_stays c.args.store.now.lists.all.lists.items c.args.store.now.lists.all.lists.items c.args.list c.args.offset c.remaining-len.result (length c.args.bytes) [] refl c.remaining-len.ensures c.requires.room.ranges;
+  fits = omega arith;
+  room_for = room_stays c.args.store.now.lists.all.lists.items c.args.store.now.lists.all.lists.items c.args.list c.args.offset (length c.args.run.now) (length c.args.run.now) [] refl refl c.requires.room.ranges;
 }
 
 abbrev old : (g : Over) (c : goal.After-lay g) → View g.row.R.Denot
 old g c = view_of g.S.Durable g.B.Blob c.args.self.now c.args.store.now
 
 abbrev new : (g : Over) (c : goal.After-lay g) → View g.row.R.Denot
-new g c = view_of g.S.Durable g.B.Blob (record c.args.self.now { inner = c.write_at.new.self; size = c.max-self.result }) (record c.args.store.now { inner = c.write_at.new.store; lists = c.lay.new.self })
+new g c = view_of g.S.Durable g.B.Blob (record c.args.self.now { inner = c.write_from.new.self; size = c.max-self.result }) (record c.args.store.now { inner = c.write_from.new.store; lists = c.lay.new.self })
 
-lists : (g : Over) (c : goal.After-lay g) (a : Place) → held_at (new g c).held a ≡ with_at (held_at (old g c).held) (old g c).place (apply_durable c.args.offset c.args.bytes (held_at (old g c).held (old g c).place)) a
-lists g c = c.lay.ensures.lists (old g c).place c.requires.room.at c.args.bytes (sym c.remaining-len.ensures) c.requires.copied
+lists : (g : Over) (c : goal.After-lay g) (a : Place) → held_at (new g c).held a ≡ with_at (held_at (old g c).held) (old g c).place (apply_durable c.args.offset c.args.run.now (held_at (old g c).held (old g c).place)) a
+lists g c = c.lay.ensures.lists (old g c).place c.requires.room.at c.args.run.now refl c.requires.copied
 
 pub returns-clause-recorded : goal.returns-clause-recorded
 returns-clause-recorded g c =
-    let w = c.in_ok-write_at.ensures in
-    let logs : Logs (old g c) (new g c) (Kept c.args.offset c.args.bytes ∷ []) = kept_logs (old g c) (new g c) c.args.offset c.args.bytes c.requires.some (first_of (search rules, cc)) (first_of (search rules, cc)) (lists g c) (first_of (search rules, cc)) (first_of (search rules, cc)) in
-    let written = some_written (old g c).live c.args.offset c.args.bytes c.requires.some in
+    let w = c.in_ok-write_from.ensures in
+    let logs : Logs (old g c) (new g c) (Kept c.args.offset c.args.run.now ∷ []) = kept_logs (old g c) (new g c) c.args.offset c.args.run.now c.requires.some (first_of (search rules, cc)) (first_of (search rules, cc)) (lists g c) (first_of (search rules, cc)) (first_of (search rules, cc)) in
+    let written = some_written (old g c).live c.args.offset c.args.run.now c.requires.some in
     record {
       wrote = record {
         done = λ ok. record { live = first_of (search rules, cc, grind (arith, common_steps)); durable = w.synced refl; size = first_of (search rules, cc, grind (arith, common_steps)) };
@@ -58,7 +58,7 @@ returns-clause-laid g c = record {
 
 pub returns-clause-left : goal.returns-clause-left
 returns-clause-left g c later h = record {
-  at = subst (λ (o : Place). IsAt (lists_of g.S.Durable.place c.lay.new.self.all.lists.items) c.args.list o) (sym c.in_ok-write_at.ensures.place) (c.lay.ensures.at _ h.at);
+  at = subst (λ (o : Place). IsAt (lists_of g.S.Durable.place c.lay.new.self.all.lists.items) c.args.list o) (sym c.in_ok-write_from.ensures.place) (c.lay.ensures.at _ h.at);
   inside = first_of (search rules, grind (arith, common_steps));
-  ranges = c.lay.ensures.room later (room_stays c.args.store.now.lists.all.lists.items c.args.store.now.lists.all.lists.items c.args.list c.args.offset c.remaining-len.result (length c.args.bytes) later refl c.remaining-len.ensures h.ranges);
+  ranges = c.lay.ensures.room later (room_stays c.args.store.now.lists.all.lists.items c.args.store.now.lists.all.lists.items c.args.list c.args.offset (length c.args.run.now) (length c.args.run.now) later refl refl h.ranges);
 }

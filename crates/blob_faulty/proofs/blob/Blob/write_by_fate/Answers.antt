@@ -38,9 +38,9 @@ returns-in_err-write_plain-in-Unsynced-clause-wrote g c =
     let is : error_of c.write_plain-in-Unsynced.result ≡ Some (refusal_of e) = same_unsynced g c ∙ same in
     let fate : write_fate_of c.args.fate ≡ Unsynced = ap write_fate_of c.in-Unsynced.is in
     of_fate _ _ _ _ _ _ _ _ _ _ fate same
-    (unsynced_refused _ _ _ c.args.sync _ _ (lacks_number (is_some (retention c.args.store.now.config.write_rate)) c.args.store.now.next_write (g.P.Payload.bytes c.args.bytes)) (g.B.Blob.allows_write c.args.self.now.inner c.args.store.now.inner c.args.offset (g.P.Payload.bytes c.args.bytes) false)
+    (unsynced_refused _ _ _ c.args.sync _ _ (lacks_number (is_some (retention c.args.store.now.config.write_rate)) c.args.store.now.next_write c.args.bytes.now) (g.B.Blob.allows_write c.args.self.now.inner c.args.store.now.inner c.args.offset c.args.bytes.now false)
     (error_of c.write_plain-in-Unsynced.result) (refusal_of e) is
-    (λ direct. g.met.B.Blob.uninjected c.args.self.now.inner c.args.store.now.inner c.args.offset (g.P.Payload.bytes c.args.bytes) false direct) c.write_plain-in-Unsynced.ensures.allowed c.write_plain-in-Unsynced.ensures.recorded)
+    (λ direct. g.met.B.Blob.uninjected c.args.self.now.inner c.args.store.now.inner c.args.offset c.args.bytes.now false direct) c.write_plain-in-Unsynced.ensures.allowed c.write_plain-in-Unsynced.ensures.recorded)
 
 pub returns-in_err-lay_kept-in-Failed-clause-wrote :
     goal.returns-in_err-lay_kept-in-Failed-clause-wrote
@@ -51,10 +51,10 @@ returns-in_err-lay_kept-in-Failed-clause-wrote g c =
     let fate : write_fate_of c.args.fate ≡ Failed c.deref.result.now = ap write_fate_of c.in-Failed.is ∙ ap Failed (sym c.deref.ensures.value) in
     of_fate _ _ _ _ _ _ _ _ _ _ fate same
     (failed_refused c.deref.result.now _ _ _ c.args.sync _ _ (error_of c.lay_kept.result) (refusal_of e) is
-    (λ direct. runs_uninjected (g.B.Blob.allows_write c.args.self.now.inner c.args.store.now.inner) (g.B.Blob.allows_reserve c.args.self.now.inner c.args.store.now.inner) g.B.Blob.is_direct (runs c.args.offset (g.P.Payload.bytes c.args.bytes) c.deref.result.now) (refusal_of e)
+    (λ direct. runs_uninjected (g.B.Blob.allows_write c.args.self.now.inner c.args.store.now.inner) (g.B.Blob.allows_reserve c.args.self.now.inner c.args.store.now.inner) g.B.Blob.is_direct (runs c.args.offset c.args.bytes.now c.deref.result.now) (refusal_of e)
     (λ o b. g.met.B.Blob.uninjected c.args.self.now.inner c.args.store.now.inner o b true direct)
     (λ end. reserve_uninjected _ (g.met.B.Blob.reserve_refused c.args.self.now.inner c.args.store.now.inner end _))
-    (subst (λ (a : Option Refusal). or_memory (allows_runs (g.B.Blob.allows_write c.args.self.now.inner c.args.store.now.inner) (g.B.Blob.allows_reserve c.args.self.now.inner c.args.store.now.inner) g.B.Blob.is_direct (runs c.args.offset (g.P.Payload.bytes c.args.bytes) c.deref.result.now)) a) is c.lay_kept.ensures.allowed))
+    (subst (λ (a : Option Refusal). or_memory (allows_runs (g.B.Blob.allows_write c.args.self.now.inner c.args.store.now.inner) (g.B.Blob.allows_reserve c.args.self.now.inner c.args.store.now.inner) g.B.Blob.is_direct (runs c.args.offset c.args.bytes.now c.deref.result.now)) a) is c.lay_kept.ensures.allowed))
     c.lay_kept.ensures.laid)
 
 pub returns-then-sync-clause-asked : goal.returns-then-sync-clause-asked
@@ -62,25 +62,25 @@ returns-then-sync-clause-asked g c =
     let r = c.write_synced in
     let fate : write_fate_of c.args.fate ≡ Done = ap write_fate_of c.in-Done.is in
     let sync : c.args.sync ≡ true = c.if-sync.true in
-    subst (λ (f : WriteFate). AsksWrite g.B.Blob c.args.self.now c.args.store.now r.new.self r.new.store f c.args.sync c.args.offset (g.P.Payload.bytes c.args.bytes) (error_of r.result)) (sym fate)
-    (subst (λ (s : Bool). AsksWrite g.B.Blob c.args.self.now c.args.store.now r.new.self r.new.store Done s c.args.offset (g.P.Payload.bytes c.args.bytes) (error_of r.result)) (sym sync)
-    (asked_once g.B.Blob c.args.self.now c.args.store.now r.new.self r.new.store (Write c.args.offset (g.P.Payload.bytes c.args.bytes) true) _ r.ensures.asked))
+    subst (λ (f : WriteFate). AsksWrite g.B.Blob c.args.self.now c.args.store.now r.new.self r.new.store f c.args.sync c.args.offset c.args.bytes.now (error_of r.result)) (sym fate)
+    (subst (λ (s : Bool). AsksWrite g.B.Blob c.args.self.now c.args.store.now r.new.self r.new.store Done s c.args.offset c.args.bytes.now (error_of r.result)) (sym sync)
+    (asked_once g.B.Blob c.args.self.now c.args.store.now r.new.self r.new.store (Write c.args.offset c.args.bytes.now true) _ r.ensures.asked))
 
 pub returns-else-sync-clause-asked : goal.returns-else-sync-clause-asked
 returns-else-sync-clause-asked g c =
     let r = c.write_plain in
     let fate : write_fate_of c.args.fate ≡ Done = ap write_fate_of c.in-Done.is in
     let sync : c.args.sync ≡ false = c.if-sync.false in
-    subst (λ (f : WriteFate). AsksWrite g.B.Blob c.args.self.now c.args.store.now r.new.self r.new.store f c.args.sync c.args.offset (g.P.Payload.bytes c.args.bytes) (error_of r.result)) (sym fate)
-    (subst (λ (s : Bool). AsksWrite g.B.Blob c.args.self.now c.args.store.now r.new.self r.new.store Done s c.args.offset (g.P.Payload.bytes c.args.bytes) (error_of r.result)) (sym sync)
-    (asked_once g.B.Blob c.args.self.now c.args.store.now r.new.self r.new.store (Write c.args.offset (g.P.Payload.bytes c.args.bytes) false) _ r.ensures.asked))
+    subst (λ (f : WriteFate). AsksWrite g.B.Blob c.args.self.now c.args.store.now r.new.self r.new.store f c.args.sync c.args.offset c.args.bytes.now (error_of r.result)) (sym fate)
+    (subst (λ (s : Bool). AsksWrite g.B.Blob c.args.self.now c.args.store.now r.new.self r.new.store Done s c.args.offset c.args.bytes.now (error_of r.result)) (sym sync)
+    (asked_once g.B.Blob c.args.self.now c.args.store.now r.new.self r.new.store (Write c.args.offset c.args.bytes.now false) _ r.ensures.asked))
 
 pub returns-in_ok-write_plain-in-Unsynced-clause-asked : goal.returns-in_ok-write_plain-in-Unsynced-clause-asked
 returns-in_ok-write_plain-in-Unsynced-clause-asked g c =
     let r = c.write_plain-in-Unsynced in
     let fate : write_fate_of c.args.fate ≡ Unsynced = ap write_fate_of c.in-Unsynced.is in
-    rw fate (faulted g.B.Blob c.args.self.now c.args.store.now r.new.self r.new.store (InnerMade g.B.Blob c.args.self.now c.args.store.now r.new.self r.new.store (Write c.args.offset (g.P.Payload.bytes c.args.bytes) false ∷ []))
-    (asked_once g.B.Blob c.args.self.now c.args.store.now r.new.self r.new.store (Write c.args.offset (g.P.Payload.bytes c.args.bytes) false) None c.in_ok-write_plain-in-Unsynced.ensures.asked))
+    rw fate (faulted g.B.Blob c.args.self.now c.args.store.now r.new.self r.new.store (InnerMade g.B.Blob c.args.self.now c.args.store.now r.new.self r.new.store (Write c.args.offset c.args.bytes.now false ∷ []))
+    (asked_once g.B.Blob c.args.self.now c.args.store.now r.new.self r.new.store (Write c.args.offset c.args.bytes.now false) None c.in_ok-write_plain-in-Unsynced.ensures.asked))
 
 pub returns-in_err-write_plain-in-Unsynced-clause-asked : goal.returns-in_err-write_plain-in-Unsynced-clause-asked
 returns-in_err-write_plain-in-Unsynced-clause-asked g c =
@@ -88,15 +88,15 @@ returns-in_err-write_plain-in-Unsynced-clause-asked g c =
     let fate : write_fate_of c.args.fate ≡ Unsynced = ap write_fate_of c.in-Unsynced.is in
     let same : error_of r.result ≡ error_of c.from_residual.result = same_unsynced g c in
     let some : IsSome (error_of r.result) = some_unsynced g c in
-    rw fate (subst (λ (a : Option Refusal). Unasked g.B.Blob c.args.self.now c.args.store.now r.new.self r.new.store a ⊎ injected_for (InnerMade g.B.Blob c.args.self.now c.args.store.now r.new.self r.new.store (Write c.args.offset (g.P.Payload.bytes c.args.bytes) false ∷ [])) a) same
-    (refused_too g.B.Blob c.args.self.now c.args.store.now r.new.self r.new.store (InnerMade g.B.Blob c.args.self.now c.args.store.now r.new.self r.new.store (Write c.args.offset (g.P.Payload.bytes c.args.bytes) false ∷ [])) (error_of r.result) some
-    (asked_once g.B.Blob c.args.self.now c.args.store.now r.new.self r.new.store (Write c.args.offset (g.P.Payload.bytes c.args.bytes) false) _ r.ensures.asked)))
+    rw fate (subst (λ (a : Option Refusal). Unasked g.B.Blob c.args.self.now c.args.store.now r.new.self r.new.store a ⊎ injected_for (InnerMade g.B.Blob c.args.self.now c.args.store.now r.new.self r.new.store (Write c.args.offset c.args.bytes.now false ∷ [])) a) same
+    (refused_too g.B.Blob c.args.self.now c.args.store.now r.new.self r.new.store (InnerMade g.B.Blob c.args.self.now c.args.store.now r.new.self r.new.store (Write c.args.offset c.args.bytes.now false ∷ [])) (error_of r.result) some
+    (asked_once g.B.Blob c.args.self.now c.args.store.now r.new.self r.new.store (Write c.args.offset c.args.bytes.now false) _ r.ensures.asked)))
 
 pub returns-in_ok-lay_kept-in-Failed-clause-asked : goal.returns-in_ok-lay_kept-in-Failed-clause-asked
 returns-in_ok-lay_kept-in-Failed-clause-asked g c =
     let r = c.lay_kept in
     let fate : write_fate_of c.args.fate ≡ Failed c.deref.result.now = ap write_fate_of c.in-Failed.is ∙ ap Failed (sym c.deref.ensures.value) in
-    rw fate (faulted g.B.Blob c.args.self.now c.args.store.now r.new.self r.new.store (or_failed (InnerMade g.B.Blob c.args.self.now c.args.store.now r.new.self r.new.store (kept_calls (runs c.args.offset (g.P.Payload.bytes c.args.bytes) c.deref.result.now))))
+    rw fate (faulted g.B.Blob c.args.self.now c.args.store.now r.new.self r.new.store (or_failed (InnerMade g.B.Blob c.args.self.now c.args.store.now r.new.self r.new.store (kept_calls (runs c.args.offset c.args.bytes.now c.deref.result.now))))
     c.in_ok-lay_kept-in-Failed.ensures.asked)
 
 pub returns-in_err-lay_kept-in-Failed-clause-asked : goal.returns-in_err-lay_kept-in-Failed-clause-asked
@@ -105,22 +105,22 @@ returns-in_err-lay_kept-in-Failed-clause-asked g c =
     let fate : write_fate_of c.args.fate ≡ Failed c.deref.result.now = ap write_fate_of c.in-Failed.is ∙ ap Failed (sym c.deref.ensures.value) in
     let same : error_of r.result ≡ error_of c.from_residual-in_err-lay_kept-in-Failed.result = same_failed g c in
     let some : IsSome (error_of r.result) = some_failed g c in
-    rw fate (subst (λ (a : Option Refusal). Unasked g.B.Blob c.args.self.now c.args.store.now r.new.self r.new.store a ⊎ injected_for (or_failed (InnerMade g.B.Blob c.args.self.now c.args.store.now r.new.self r.new.store (kept_calls (runs c.args.offset (g.P.Payload.bytes c.args.bytes) c.deref.result.now)))) a) same
-    (refused_too g.B.Blob c.args.self.now c.args.store.now r.new.self r.new.store (or_failed (InnerMade g.B.Blob c.args.self.now c.args.store.now r.new.self r.new.store (kept_calls (runs c.args.offset (g.P.Payload.bytes c.args.bytes) c.deref.result.now)))) (error_of r.result) some
+    rw fate (subst (λ (a : Option Refusal). Unasked g.B.Blob c.args.self.now c.args.store.now r.new.self r.new.store a ⊎ injected_for (or_failed (InnerMade g.B.Blob c.args.self.now c.args.store.now r.new.self r.new.store (kept_calls (runs c.args.offset c.args.bytes.now c.deref.result.now)))) a) same
+    (refused_too g.B.Blob c.args.self.now c.args.store.now r.new.self r.new.store (or_failed (InnerMade g.B.Blob c.args.self.now c.args.store.now r.new.self r.new.store (kept_calls (runs c.args.offset c.args.bytes.now c.deref.result.now)))) (error_of r.result) some
     r.ensures.asked))
 
 pub returns-then-sync-clause-failed : goal.returns-then-sync-clause-failed
 returns-then-sync-clause-failed g c is =
     let fate : write_fate_of c.args.fate ≡ Done = ap write_fate_of c.in-Done.is in
     let r = c.write_synced in
-    subst (λ (f : WriteFate). FailedBy g.S.Durable g.B.Blob c.args.self.now c.args.store.now r.new.self r.new.store f c.args.offset (g.P.Payload.bytes c.args.bytes)) (sym fate)
+    subst (λ (f : WriteFate). FailedBy g.S.Durable g.B.Blob c.args.self.now c.args.store.now r.new.self r.new.store f c.args.offset c.args.bytes.now) (sym fate)
     (r.ensures.recorded.refused refl (some_refusal _ _ is))
 
 pub returns-else-sync-clause-failed : goal.returns-else-sync-clause-failed
 returns-else-sync-clause-failed g c is =
     let fate : write_fate_of c.args.fate ≡ Done = ap write_fate_of c.in-Done.is in
     let r = c.write_plain in
-    subst (λ (f : WriteFate). FailedBy g.S.Durable g.B.Blob c.args.self.now c.args.store.now r.new.self r.new.store f c.args.offset (g.P.Payload.bytes c.args.bytes)) (sym fate)
+    subst (λ (f : WriteFate). FailedBy g.S.Durable g.B.Blob c.args.self.now c.args.store.now r.new.self r.new.store f c.args.offset c.args.bytes.now) (sym fate)
     (r.ensures.recorded.refused refl (some_refusal _ _ is))
 
 pub returns-in_err-write_plain-in-Unsynced-clause-failed : goal.returns-in_err-write_plain-in-Unsynced-clause-failed
@@ -128,7 +128,7 @@ returns-in_err-write_plain-in-Unsynced-clause-failed g c is =
     let r = c.write_plain-in-Unsynced in
     let fate : write_fate_of c.args.fate ≡ Unsynced = ap write_fate_of c.in-Unsynced.is in
     let same : error_of r.result ≡ error_of c.from_residual.result = same_unsynced g c in
-    subst (λ (f : WriteFate). FailedBy g.S.Durable g.B.Blob c.args.self.now c.args.store.now r.new.self r.new.store f c.args.offset (g.P.Payload.bytes c.args.bytes)) (sym fate)
+    subst (λ (f : WriteFate). FailedBy g.S.Durable g.B.Blob c.args.self.now c.args.store.now r.new.self r.new.store f c.args.offset c.args.bytes.now) (sym fate)
     (r.ensures.recorded.refused refl (some_refusal (error_of r.result) _ (same ∙ is)))
 
 pub returns-in_err-lay_kept-in-Failed-clause-failed : goal.returns-in_err-lay_kept-in-Failed-clause-failed
@@ -136,7 +136,7 @@ returns-in_err-lay_kept-in-Failed-clause-failed g c is =
     let r = c.lay_kept in
     let fate : write_fate_of c.args.fate ≡ Failed c.deref.result.now = ap write_fate_of c.in-Failed.is ∙ ap Failed (sym c.deref.ensures.value) in
     let same : error_of r.result ≡ error_of c.from_residual-in_err-lay_kept-in-Failed.result = same_failed g c in
-    subst (λ (f : WriteFate). FailedBy g.S.Durable g.B.Blob c.args.self.now c.args.store.now r.new.self r.new.store f c.args.offset (g.P.Payload.bytes c.args.bytes)) (sym fate) (r.ensures.front (same ∙ is))
+    subst (λ (f : WriteFate). FailedBy g.S.Durable g.B.Blob c.args.self.now c.args.store.now r.new.self r.new.store f c.args.offset c.args.bytes.now) (sym fate) (r.ensures.front (same ∙ is))
 
 -- What was done is recorded by the outcome.
 
@@ -187,10 +187,10 @@ returns-in_err-write_plain-in-Unsynced-clause-allowed g c =
 pub returns-in_ok-lay_kept-in-Failed-clause-allowed : goal.returns-in_ok-lay_kept-in-Failed-clause-allowed
 returns-in_ok-lay_kept-in-Failed-clause-allowed g c =
     let fate : write_fate_of c.args.fate ≡ Failed c.deref.result.now = ap write_fate_of c.in-Failed.is ∙ ap Failed (sym c.deref.ensures.value) in
-    rw fate (fault_allowed false (allows_runs (g.B.Blob.allows_write c.args.self.now.inner c.args.store.now.inner) (g.B.Blob.allows_reserve c.args.self.now.inner c.args.store.now.inner) g.B.Blob.is_direct (runs c.args.offset (g.P.Payload.bytes c.args.bytes) c.deref.result.now)) c.in_ok-lay_kept-in-Failed.ensures.allowed)
+    rw fate (fault_allowed false (allows_runs (g.B.Blob.allows_write c.args.self.now.inner c.args.store.now.inner) (g.B.Blob.allows_reserve c.args.self.now.inner c.args.store.now.inner) g.B.Blob.is_direct (runs c.args.offset c.args.bytes.now c.deref.result.now)) c.in_ok-lay_kept-in-Failed.ensures.allowed)
 
 pub returns-in_err-lay_kept-in-Failed-clause-allowed : goal.returns-in_err-lay_kept-in-Failed-clause-allowed
 returns-in_err-lay_kept-in-Failed-clause-allowed g c =
     let same : error_of c.lay_kept.result ≡ error_of c.from_residual-in_err-lay_kept-in-Failed.result = same_failed g c in
     let fate : write_fate_of c.args.fate ≡ Failed c.deref.result.now = ap write_fate_of c.in-Failed.is ∙ ap Failed (sym c.deref.ensures.value) in
-    rw fate (rw (sym same) (refusal_allowed false (allows_runs (g.B.Blob.allows_write c.args.self.now.inner c.args.store.now.inner) (g.B.Blob.allows_reserve c.args.self.now.inner c.args.store.now.inner) g.B.Blob.is_direct (runs c.args.offset (g.P.Payload.bytes c.args.bytes) c.deref.result.now)) _ (some_failed g c) c.lay_kept.ensures.allowed))
+    rw fate (rw (sym same) (refusal_allowed false (allows_runs (g.B.Blob.allows_write c.args.self.now.inner c.args.store.now.inner) (g.B.Blob.allows_reserve c.args.self.now.inner c.args.store.now.inner) g.B.Blob.is_direct (runs c.args.offset c.args.bytes.now c.deref.result.now)) _ (some_failed g c) c.lay_kept.ensures.allowed))

@@ -32,12 +32,12 @@ returns-clause-recorded g c =
     let lists = done.lists.all.lists.items in
     let copy = c.in_ok-copy.copy.items in
     let write : Write = new_write done.next_write c.args.offset copy c.args.config in
-    let some : 0 < length copy = subst (λ (b : List ℕ). 0 < length b) (sym c.in_ok-copy.ensures.ok) c.requires.some in
+    let some : 0 < length copy = subst (λ (b : List ℕ). 0 < length b) (sym c.in_ok-copy.ensures.items) c.requires.some in
     let gains : GainsWrite place done end c.in_ok-list.list c.args.offset copy c.args.config = λ o at a.
     c.push_write.ensures o at a ∙ ap (λ (r : List Pending). with_at (list_of place lists) o (list_of place lists o ++ r) a) (fresh write c.new-holes.result.items c.new-holes.ensures.items some) in
-    pushed g.S.Durable g.B.Blob c.args.self.now c.write_unrecorded.new.self c.args.store.now mid done c.args.offset (g.P.Payload.bytes c.args.bytes) end _ c.in_ok-list.list c.args.config
+    pushed g.S.Durable g.B.Blob c.args.self.now c.write_unrecorded.new.self c.args.store.now mid done c.args.offset c.args.bytes.now end _ c.in_ok-list.list c.args.config
     refl c.requires.some c.requires.retained refl c.room_for.ensures.same c.in_ok-list.ensures.ok.at c.write_unrecorded.ensures.rest c.in_ok-write_unrecorded.ensures.wrote
-    (subst (λ (b : List ℕ). GainsWrite place done end c.in_ok-list.list c.args.offset b c.args.config) c.in_ok-copy.ensures.ok gains) refl
+    (subst (λ (b : List ℕ). GainsWrite place done end c.in_ok-list.list c.args.offset b c.args.config) c.in_ok-copy.ensures.items gains) refl
 
 pub returns-in_err-write_unrecorded-clause-recorded : goal.returns-in_err-write_unrecorded-clause-recorded
 returns-in_err-write_unrecorded-clause-recorded g c =
@@ -45,7 +45,7 @@ returns-in_err-write_unrecorded-clause-recorded g c =
     let r = c.write_unrecorded in
     let same : error_of r.result ≡ error_of c.from_residual-in_err-write_unrecorded.result = first_of (search rules, cc, grind (arith, common_steps)) in
     let some : IsSome (error_of r.result) = first_of (search rules, cc, grind (arith, common_steps)) in
-    rw (sym same) (refused_behind g.S.Durable g.B.Blob c.args.self.now r.new.self c.args.store.now mid r.new.store c.args.offset (g.P.Payload.bytes c.args.bytes) _ (error_of r.result) refl some
+    rw (sym same) (refused_behind g.S.Durable g.B.Blob c.args.self.now r.new.self c.args.store.now mid r.new.store c.args.offset c.args.bytes.now _ (error_of r.result) refl some
     (relisted g.S.Durable g.B.Blob c.args.self.now c.args.self.now c.args.store.now mid refl refl refl c.room_for.ensures.same) (same_rest g.S.Durable g.B.Blob c.args.self.now r.new.self mid r.new.store r.ensures.rest) (first_of (search rules, cc)) r.ensures.wrote)
 
 -- Refused.
@@ -68,11 +68,11 @@ returns-in_err-list-clause-recorded g c =
 pub returns-clause-allowed : goal.returns-clause-allowed
 returns-clause-allowed g c =
     let left : (c.args.store.now.next_write == 2 ^ 64 - 1) ≡ false = first_of (search rules, grind (arith, common_steps)) in
-    allowed_behind g.B.Blob c.args.self.now c.args.store.now (record c.args.store.now { lists = c.room_for.new.self }) c.args.offset (g.P.Payload.bytes c.args.bytes) _ None refl refl left c.in_ok-write_unrecorded.ensures.allowed
+    allowed_behind g.B.Blob c.args.self.now c.args.store.now (record c.args.store.now { lists = c.room_for.new.self }) c.args.offset c.args.bytes.now _ None refl refl left c.in_ok-write_unrecorded.ensures.allowed
 
 pub returns-clause-asked : goal.returns-clause-asked
 returns-clause-asked g c =
-    asked_behind g.B.Blob c.args.self.now c.args.store.now (record c.args.store.now { lists = c.room_for.new.self }) c.args.offset (g.P.Payload.bytes c.args.bytes) _ None c.write_unrecorded.new.self c.write_unrecorded.new.store.inner (record c.write_unrecorded.new.store { lists = c.push_write.new.self; next_write = c.write_unrecorded.new.store.next_write + 1 }) refl refl
+    asked_behind g.B.Blob c.args.self.now c.args.store.now (record c.args.store.now { lists = c.room_for.new.self }) c.args.offset c.args.bytes.now _ None c.write_unrecorded.new.self c.write_unrecorded.new.store.inner (record c.write_unrecorded.new.store { lists = c.push_write.new.self; next_write = c.write_unrecorded.new.store.next_write + 1 }) refl refl
     refl c.in_ok-write_unrecorded.ensures.asked
 
 pub returns-in_err-write_unrecorded-clause-allowed : goal.returns-in_err-write_unrecorded-clause-allowed
@@ -80,12 +80,12 @@ returns-in_err-write_unrecorded-clause-allowed g c =
     let left : (c.args.store.now.next_write == 2 ^ 64 - 1) ≡ false = first_of (search rules, grind (arith, common_steps)) in
     let r = c.write_unrecorded in
     let same : error_of r.result ≡ error_of c.from_residual-in_err-write_unrecorded.result = first_of (search rules, cc, grind (arith, common_steps)) in
-    rw (sym same) (allowed_behind g.B.Blob c.args.self.now c.args.store.now (record c.args.store.now { lists = c.room_for.new.self }) c.args.offset (g.P.Payload.bytes c.args.bytes) _ (error_of r.result) refl refl left r.ensures.allowed)
+    rw (sym same) (allowed_behind g.B.Blob c.args.self.now c.args.store.now (record c.args.store.now { lists = c.room_for.new.self }) c.args.offset c.args.bytes.now _ (error_of r.result) refl refl left r.ensures.allowed)
 
 -- The entry is of the bytes that were copied.
 
 pub invariant_of-write-clause-fits : goal.invariant_of-write-clause-fits
-invariant_of-write-clause-fits g c = subst (λ (b : List ℕ). c.args.offset + length b < 2 ^ 64) (sym c.in_ok-copy.ensures.ok) (omega arith)
+invariant_of-write-clause-fits g c = subst (λ (b : List ℕ). c.args.offset + length b < 2 ^ 64) (sym c.in_ok-copy.ensures.items) (omega arith)
 
 pub invariant_of-write-clause-some : goal.invariant_of-write-clause-some
-invariant_of-write-clause-some g c = subst (λ (b : List ℕ). 0 < length b) (sym c.in_ok-copy.ensures.ok) c.requires.some
+invariant_of-write-clause-some g c = subst (λ (b : List ℕ). 0 < length b) (sym c.in_ok-copy.ensures.items) c.requires.some

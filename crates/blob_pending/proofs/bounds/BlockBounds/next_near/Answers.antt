@@ -5,7 +5,7 @@ use Rattle.blob_pending.specs.declared.bounds.Bounds.{Bounds}
 use Rattle.blob_pending.proofs.bounds.BlockBounds.next_near.Goals as goal
 use Rattle.blob_pending.proofs.bounds.BlockBounds.next_near.Goals.{then-i-eq0+then-is_apart, else-i-eq0+then-i-eq0-2+then-is_apart-2, else-i-eq0+else-i-eq0-2}
 
--- what lies behind the begin of a part is in it
+-- what comes after the start of a part is in it
 in_group : (bs : List Bounds) (at k start end : ℕ) → at % 4096 ≡ 0 → at ≤ k → k < at + 4096 → LiesApart bs (at / 4096) start end → LiesApart bs (k / 4096) start end
 in_group bs at k start end begins low high apart = let same : at / 4096 ≡ k / 4096 = omega (arith, begins, low, high) in subst (λ (j : ℕ). LiesApart bs j start end) same apart
 

@@ -30,7 +30,7 @@ invariant_of-self-in-Ranges g c = record {
   counted = subst (λ (q : List Pending). CountsCovered c.args.self.now.covered q) (sym c.reserve_ranges.ensures.views) c.args.self.now.counted;
 }
 
--- room for one more entry
+-- capacity for one more entry
 pub invariant_of-self-4 : goal.invariant_of-self-4
 invariant_of-self-4 g c =
     let list = c.match-room.self in
