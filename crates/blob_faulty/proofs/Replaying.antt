@@ -19,7 +19,7 @@ use Rattle.blob_model.proofs.Bytes.{lies_in, reach_below}
 use Rattle.blob_memory.specs.declared.storage.Storage.{Storage}
 use Rattle.blob_memory.specs.Store.{directory, HasCrashRoom}
 use Rattle.blob_pending.specs.declared.entry.Entry.{Entry}
-use Rattle.blob_pending.specs.declared.holes.Hole.{Hole}
+use Rattle.blob_pending.specs.declared.extent.Extent.{Extent}
 use Rattle.blob_pending.specs.declared.incarnation.Incarnation.{Incarnation}
 use Rattle.blob_pending.specs.declared.write.PendingWrite.{PendingWrite}
 use Rattle.blob_pending.specs.Ranges.{ranges}
@@ -158,19 +158,19 @@ pub held_more : (is : List (Incarnation Place)) (i : ℕ) (x : Incarnation Place
 held_more is i x h e = at_drop_more (λ (l : List (Incarnation Place)). lists_of (λ (o : Place). o) l) is i x h ∙ ap (λ (y : Incarnation Place). held_by (λ (o : Place). o) y ∷ lists_of (λ (o : Place). o) (drop (i + 1) is)) (sym e)
 
 -- each hole of a write lies in it
-pub record LiesIn (w : PendingWrite) (h : Hole) : Type 0 where
+pub record LiesIn (w : PendingWrite) (h : Extent) : Type 0 where
   pub low : w.offset ≤ h.start
   pub some : h.start < h.end
   pub high : h.end ≤ w.offset + length w.bytes.items
 
-hole_at : (from : ℕ) (hs : List Hole) (end j : ℕ) (d : Hole) → AreApart from (ranges hs) end → j < length hs → (from ≤ (get_or hs j d).start) × ((get_or hs j d).start < (get_or hs j d).end) × ((get_or hs j d).end ≤ end)
+hole_at : (from : ℕ) (hs : List Extent) (end j : ℕ) (d : Extent) → AreApart from (ranges hs) end → j < length hs → (from ≤ (get_or hs j d).start) × ((get_or hs j d).start < (get_or hs j d).end) × ((get_or hs j d).end ≤ end)
 hole_at from [] end j d a l = absurd (omega arith)
 hole_at from (h ∷ hs) end zero d a l = (a.0, a.1, a.2)
 hole_at from (h ∷ hs) end (suc j) d a l = let r = hole_at (suc h.end) hs end j d a.3 (omega arith) in (omega (arith, r.0, a.0, a.1), r.1, r.2)
 
-pub hole_in : (w : PendingWrite) (hs : List Hole) (j : ℕ) (d : Hole) → hs ≡ w.holes.items → j < length hs → LiesIn w (get_or hs j d)
+pub hole_in : (w : PendingWrite) (hs : List Extent) (j : ℕ) (d : Extent) → hs ≡ w.holes.items → j < length hs → LiesIn w (get_or hs j d)
 hole_in w hs j d same l =
-    let r = hole_at w.offset hs (w.offset + length w.bytes.items) j d (subst (λ (l : List Hole). AreApart w.offset (ranges l) (w.offset + length w.bytes.items)) (sym same) w.apart) l in
+    let r = hole_at w.offset hs (w.offset + length w.bytes.items) j d (subst (λ (l : List Extent). AreApart w.offset (ranges l) (w.offset + length w.bytes.items)) (sym same) w.apart) l in
     record { low = r.0; some = r.1; high = r.2 }
 
 -- a prefix of a row, and false after it

@@ -14,7 +14,7 @@ use Rattle.blob_pending.specs.Blocks.{AreBoundedBy, AreBounded, LiesApart, IsPas
 use Rattle.blob_pending.specs.Ranges.{ranges}
 use Rattle.blob_pending.specs.Rooms.{AreWithin, meets, HasRoomFor}
 use Rattle.blob_pending.specs.Views.{view, views, write_of, pared_by}
-use Rattle.blob_pending.specs.declared.bounds.Bounds.{Bounds}
+use Rattle.blob_pending.specs.declared.extent.Extent.{Extent}
 use Rattle.blob_pending.specs.declared.bounds.BlockBounds.{BlockBounds}
 use Rattle.blob_pending.specs.declared.entry.Entry.{Entry}
 use Rattle.blob_pending.specs.declared.entry.Entry.TheVariants as entry
@@ -22,7 +22,7 @@ use Rattle.blob_pending.proofs.CutSteps.{below_set, later_set}
 use Rattle.blob_pending.proofs.HoleRoom.{met_few, count-cons}
 
 -- an entry more
-push_by : (size : ℕ) (bs : List Bounds) (q : List Pending) (e : Pending) → AreBoundedBy size bs q → AreBoundedBy size bs (q ++ e ∷ [])
+push_by : (size : ℕ) (bs : List Extent) (q : List Pending) (e : Pending) → AreBoundedBy size bs q → AreBoundedBy size bs (q ++ e ∷ [])
 push_by size bs q e h k b d l =
     let old = h k b d l in
     (omega (arith, old.0, length-append q (e ∷ [])), ap (λ (p : Pending). is_within (get_or bs (k / size) b) p) (get_or_append_left q (e ∷ []) d k old.0) ∙ old.1)
@@ -62,10 +62,10 @@ in_part : (part k start size : ℕ) → part ≤ k → k < part + size → part 
 in_part part k start size low high same = (omega (arith, low, same), omega (arith, high, same))
 
 -- a part more
-pub bounded_more : (size : ℕ) (bs : List Bounds) (b : Bounds) (q : List Entry) (start : ℕ) → 0 < size → start ≡ length bs * size → start + size ≤ length q
+pub bounded_more : (size : ℕ) (bs : List Extent) (b : Extent) (q : List Entry) (start : ℕ) → 0 < size → start ≡ length bs * size → start + size ≤ length q
     → All (λ (e : Entry). is_within b (view e) ≡ true) (take size (drop start q)) → AreBoundedBy size bs (views q) → AreBoundedBy size (bs ++ b ∷ []) (views q)
 bounded_more size bs b q start some at fits part old k c e l = ⊎_elim
-    (λ here. let o = old k c e here in (o.0, ap (λ (x : Bounds). is_within x (get_or (views q) k e)) (get_or_append_left bs (b ∷ []) c (k / size) here) ∙ o.1))
+    (λ here. let o = old k c e here in (o.0, ap (λ (x : Extent). is_within x (get_or (views q) k e)) (get_or_append_left bs (b ∷ []) c (k / size) here) ∙ o.1))
     (λ there.
     let d : Entry = entry.Resize 0 in
     let last : k / size ≡ length bs = only_last (k / size) (length bs) there (subst (λ (n : ℕ). k / size < n) (length-append bs (b ∷ [])) l) in
@@ -74,7 +74,7 @@ bounded_more size bs b q start some at fits part old k c e l = ⊎_elim
     let off : start + (k - start) ≡ k = omega (arith, within.0) in
     let near : k - start < size = omega (arith, within.0, within.1) in (
       omega (arith, inside, length-map q view),
-      ap (λ (x : Bounds). is_within x (get_or (views q) k e)) (ap (λ (j : ℕ). get_or (bs ++ b ∷ []) j c) last ∙ get_or-append_seam bs b [] c)
+      ap (λ (x : Extent). is_within x (get_or (views q) k e)) (ap (λ (j : ℕ). get_or (bs ++ b ∷ []) j c) last ∙ get_or-append_seam bs b [] c)
           ∙ ap (λ (p : Pending). is_within b p) (get_or-map view q k d e inside)
           ∙ ap (λ (x : Entry). is_within b (view x)) (sym (get_or-take size (drop start q) (k - start) d near ∙ get_or-drop start q (k - start) d ∙ ap (λ (j : ℕ). get_or q j d) off))
           ∙ part (k - start) d (omega (arith, near, fits, length-take size (drop start q), length-drop start q)),
@@ -85,7 +85,7 @@ bounded_more size bs b q start some at fits part old k c e l = ⊎_elim
     only_last part count low high = omega (arith, low, high)
 
 -- what lies within bounds that are apart from a range doesn't meet it
-apart_le : (b : Bounds) (o e start end : ℕ) → nat_le b.start o ≡ true → nat_le e b.end ≡ true → is_apart start end b ≡ true → min end e ≤ max start o
+apart_le : (b : Extent) (o e start end : ℕ) → nat_le b.start o ≡ true → nat_le e b.end ≡ true → is_apart start end b ≡ true → min end e ≤ max start o
 apart_le b o e start end low high apart =
     let l : b.start ≤ o = leb-true b.start o low in
     let h : e ≤ b.end = leb-true e b.end high in
@@ -94,7 +94,7 @@ apart_le b o e start end low high apart =
     (λ n. let x : end ≤ b.start = leb-true end b.start (ap (λ (c : Bool). c || nat_le end b.start) (sym n) ∙ apart) in omega (arith, l, h, x))
     (cases_Bool (nat_le b.end start))
 
-pub room_apart : (b : Bounds) (e : Entry) (start end count : ℕ) (hs : Holes) → is_within b (view e) ≡ true → is_apart start end b ≡ true → AreWithin start end count hs → HasRoomFor hs e
+pub room_apart : (b : Extent) (e : Entry) (start end count : ℕ) (hs : Holes) → is_within b (view e) ≡ true → is_apart start end b ≡ true → AreWithin start end count hs → HasRoomFor hs e
 room_apart b (entry.Write w) start end count hs within apart few =
     let a = and_parts (nat_le b.start w.offset) _ within in
     let met = met_few w.offset (w.offset + length w.bytes.items) start end count hs (omega (arith, w.some)) few in
@@ -103,7 +103,7 @@ room_apart b (entry.Resize n) start end count hs within apart few = tt
 room_apart b (entry.Range r) start end count hs within apart few = tt
 room_apart b (entry.Marker k) start end count hs within apart few = tt
 
-pub pared_apart : (b : Bounds) (e : Entry) (o n : ℕ) → is_within b (view e) ≡ true → is_apart o (o + n) b ≡ true → pared_by o n (view e) ≡ view e
+pub pared_apart : (b : Extent) (e : Entry) (o n : ℕ) → is_within b (view e) ≡ true → is_apart o (o + n) b ≡ true → pared_by o n (view e) ≡ view e
 pared_apart b (entry.Write w) o n within apart =
     let a = and_parts (nat_le b.start w.offset) _ within in
     let le : min (o + n) (w.offset + length w.bytes.items) ≤ max o w.offset = apart_le b w.offset (w.offset + length w.bytes.items) o (o + n) a.0 a.1 apart in
@@ -112,23 +112,23 @@ pared_apart b (entry.Resize m) o n within apart = refl
 pared_apart b (entry.Range r) o n within apart = refl
 pared_apart b (entry.Marker k) o n within apart = refl
 
-within_pared : (b : Bounds) (p : Pending) (o n : ℕ) → is_within b p ≡ true → is_within b (pared_by o n p) ≡ true
+within_pared : (b : Extent) (p : Pending) (o n : ℕ) → is_within b p ≡ true → is_within b (pared_by o n p) ≡ true
 within_pared b (Waiting m) o n h = h
 within_pared b (Cut m) o n h = refl
 within_pared b (Again p x) o n h = refl
 within_pared b (Marker k) o n h = refl
 
 -- an entry that is passed over
-none : Bounds
+none : Extent
 none = record { start = 0; end = 0 }
 
 -- some bounds around it lie elsewhere
 record IsElsewhere (e : Entry) (start end : ℕ) : Type 0 where
-  bounds : Bounds
+  bounds : Extent
   within : is_within bounds (view e) ≡ true
   apart : is_apart start end bounds ≡ true
 
-passed_by : (size : ℕ) (bs : List Bounds) (q : List Entry) (k start end : ℕ) (d : Entry) → AreBoundedBy size bs (views q) → LiesApart bs (k / size) start end → IsElsewhere (get_or q k d) start end
+passed_by : (size : ℕ) (bs : List Extent) (q : List Entry) (k start end : ℕ) (d : Entry) → AreBoundedBy size bs (views q) → LiesApart bs (k / size) start end → IsElsewhere (get_or q k d) start end
 passed_by size bs q k start end d bounded apart =
     let a = apart none in
     let w = bounded k none (view d) a.0 in
@@ -162,7 +162,7 @@ views_each f [] (y ∷ r) l h = absurd (omega (arith, l))
 views_each f (x ∷ q) [] l h = absurd (omega (arith, l))
 views_each f (x ∷ q) (y ∷ r) l h = ap₂ (λ (p : Pending) (ps : List Pending). p ∷ ps) (h 0 x (omega arith)) (views_each f q r (omega (arith, l)) (λ k d m. h (suc k) d (omega (arith, m))))
 
-pared_in : (size : ℕ) (bs : List Bounds) (q r : List Pending) (o n : ℕ) → AreBoundedBy size bs q → r ≡ map (pared_by o n) q → AreBoundedBy size bs r
+pared_in : (size : ℕ) (bs : List Extent) (q r : List Pending) (o n : ℕ) → AreBoundedBy size bs q → r ≡ map (pared_by o n) q → AreBoundedBy size bs r
 pared_in size bs q r o n old is k b e l =
     let w = old k b e l in
     let len : length r ≡ length q = ap length is ∙ length-map q (pared_by o n) in
@@ -194,8 +194,8 @@ pub barrier_mark : (q : List Pending) (k : ℕ) → has_barrier (q ++ Marker k �
 barrier_mark q k = barrier_push q (Marker k) ∙ or_false (has_barrier q)
 
 -- no part has bounds
-pub none_by : (size : ℕ) (bs : List Bounds) (q : List Pending) → bs ≡ [] → AreBoundedBy size bs q
-none_by size bs q e k b p l = absurd (omega (arith, l, ap (λ (x : List Bounds). length x) e))
+pub none_by : (size : ℕ) (bs : List Extent) (q : List Pending) → bs ≡ [] → AreBoundedBy size bs q
+none_by size bs q e k b p l = absurd (omega (arith, l, ap (λ (x : List Extent). length x) e))
 
 or_true : (a : Bool) → (a || true) ≡ true
 or_true true = refl

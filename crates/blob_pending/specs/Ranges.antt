@@ -2,12 +2,12 @@
 use Rattle.std.specs.Prelude.{ℕ, suc, List, [], ◌∷◌, map}
 use Rattle.std.specs.Coded.{Unit-prop, le_prop}
 use Rattle.blob_model.specs.Holes.{Holes, AreApart}
-use Rattle.blob_pending.specs.declared.holes.Hole.{Hole}
+use Rattle.blob_pending.specs.declared.extent.Extent.{Extent}
 
-abbrev pub range_of : Hole → ℕ × ℕ
+abbrev pub range_of : Extent → ℕ × ℕ
 range_of h = (h.start, h.end)
 
-abbrev pub ranges : List Hole → Holes
+abbrev pub ranges : List Extent → Holes
 ranges hs = map range_of hs
 
 -- there is at most one way to be apart

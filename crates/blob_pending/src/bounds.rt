@@ -5,6 +5,7 @@ ghost use Rattle.blob_pending.specs.Blocks.{AreBoundedBy, LiesApart, is_within};
 ghost use Rattle.blob_pending.specs.Views.{view, views};
 
 use crate::entry::Entry;
+use crate::extent::Extent;
 use std::alloc::AllocError;
 
 /// The number of entries in a block.
@@ -13,47 +14,38 @@ const BLOCK: usize = 64;
 /// The number of entries in a group of blocks.
 const GROUP: usize = 64 * BLOCK;
 
-/// A range from `start` up to `end` that has all writes of a block or a group.
-#[derive(Clone, Copy)]
-pub struct Bounds {
-    pub start: u64,
-    pub end: u64,
-}
-
-impl Bounds {
-    /// Returns the bounds of a block's entries.
-    fn of(entries: &[Entry]) -> Bounds
-        ensures { All (λ entry. is_within result (view entry) ≡ true) entries.now }
-    {
-        let mut bounds = Bounds {
-            start: u64::MAX,
-            end: 0,
-        };
-        for entry in entries {
-            if let Entry::Write(write) = entry {
-                bounds.start = bounds.start.min(write.offset);
-                bounds.end = bounds.end.max(write.end());
-            }
+/// Returns an extent that has all writes among a block's entries.
+fn bounds_of(entries: &[Entry]) -> Extent
+    ensures { All (λ entry. is_within result (view entry) ≡ true) entries.now }
+{
+    let mut bounds = Extent {
+        start: u64::MAX,
+        end: 0,
+    };
+    for entry in entries {
+        if let Entry::Write(write) = entry {
+            bounds.start = bounds.start.min(write.offset);
+            bounds.end = bounds.end.max(write.end());
         }
-        bounds
     }
+    bounds
 }
 
 /// Adds the missing bounds of whole parts of `size` entries. After an error, those added before it stay.
-fn add_bounds(bounds: &mut Vec<Bounds>, size: usize, entries: &[Entry]) -> Result<(), AllocError>
+fn add_bounds(bounds: &mut Vec<Extent>, size: usize, entries: &[Entry]) -> Result<(), AllocError>
     requires size { 0 < size }
     requires bounded { AreBoundedBy size bounds.old.items (views entries.now) }
     ensures { AreBoundedBy size bounds.new.items (views entries.now) }
 {
     while bounds.len() < entries.len() / size {
         let start = bounds.len() * size;
-        bounds.push(Bounds::of(&entries[start..start + size]))?;
+        bounds.push(bounds_of(&entries[start..start + size]))?;
     }
     Ok(())
 }
 
 /// Returns whether there are bounds at an index and they don't overlap the range from `start` up to `end`.
-fn is_apart(bounds: &[Bounds], index: usize, start: u64, end: u64) -> bool
+fn is_apart(bounds: &[Extent], index: usize, start: u64, end: u64) -> bool
     ensures { result ≡ true → LiesApart bounds.now index start end }
 {
     match bounds.get(index) {
@@ -65,8 +57,8 @@ fn is_apart(bounds: &[Bounds], index: usize, start: u64, end: u64) -> bool
 /// The bounds of a list's whole blocks and of its whole groups of blocks.
 #[derive(Drop)]
 pub struct BlockBounds {
-    pub blocks: Vec<Bounds>,
-    pub groups: Vec<Bounds>,
+    pub blocks: Vec<Extent>,
+    pub groups: Vec<Extent>,
 }
 
 impl BlockBounds {

@@ -3,15 +3,10 @@ ghost use Rattle.std.specs.Prelude.{◌≡◌, ◌<◌, ◌≤◌, ◌+◌, vec_
 ghost use Rattle.blob_model.specs.Holes.{with_hole};
 ghost use Rattle.blob_pending.specs.Ranges.{ranges};
 
-/// A covered range, from the logical offset `start` up to `end`.
-#[derive(Clone, Copy, PartialEq, Eq)]
-pub struct Hole {
-    pub start: u64,
-    pub end: u64,
-}
+use crate::extent::Extent;
 
 /// Adds a covered range, merged with those that it overlaps or touches.
-pub fn dig(holes: &mut Vec<Hole>, mut start: u64, mut end: u64)
+pub fn dig(holes: &mut Vec<Extent>, mut start: u64, mut end: u64)
     requires { vec_len holes.old < vec_capacity holes.old }
     ensures holes { ranges holes.new.items ≡ with_hole start end (ranges holes.old.items) }
     ensures len { vec_len holes.new ≤ vec_len holes.old + 1 }
@@ -30,5 +25,5 @@ pub fn dig(holes: &mut Vec<Hole>, mut start: u64, mut end: u64)
             holes.remove(i);
         }
     }
-    holes.insert(i, Hole { start, end }).unwrap();
+    holes.insert(i, Extent { start, end }).unwrap();
 }

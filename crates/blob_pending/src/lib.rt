@@ -4,6 +4,7 @@
 pub mod bounds;
 pub mod entries;
 pub mod entry;
+pub mod extent;
 pub mod gather;
 pub mod holes;
 pub mod incarnation;

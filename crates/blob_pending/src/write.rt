@@ -3,7 +3,7 @@ ghost use Rattle.std.specs.Prelude.{◌<◌, ◌+◌, ◌^◌, length};
 ghost use Rattle.blob_model.specs.Holes.{AreApart};
 ghost use Rattle.blob_pending.specs.Ranges.{ranges, AreApart-prop};
 
-use crate::holes::Hole;
+use crate::extent::Extent;
 use blob_base::Probability;
 use blob_model::mode::PartialWriteMode;
 
@@ -18,7 +18,7 @@ pub struct PendingWrite {
     pub mode: PartialWriteMode,
     pub rate: Probability,
     /// Sorted, separate from each other, and within the write.
-    pub holes: Vec<Hole>,
+    pub holes: Vec<Extent>,
     ghost some: { 0 < length bytes.items },
     ghost fits: { offset + length bytes.items < 2 ^ 64 },
     ghost apart: { AreApart offset (ranges holes.items) (offset + length bytes.items) } by { AreApart-prop offset (ranges holes.items) (offset + length bytes.items) },

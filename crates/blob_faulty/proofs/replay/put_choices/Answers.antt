@@ -3,7 +3,7 @@ use Rattle.std.proofs.lemmas.List.{at_drop_more, get_or_append_left, get_or-take
 use Rattle.std.proofs.lemmas.Grind.{common_steps}
 use Rattle.blob_model.specs.Bytes.{between}
 use Rattle.blob_model.specs.Holes.{in_holes}
-use Rattle.blob_pending.specs.declared.holes.Hole.{Hole}
+use Rattle.blob_pending.specs.declared.extent.Extent.{Extent}
 use Rattle.blob_pending.specs.Ranges.{ranges}
 use Rattle.blob_faulty.proofs.Replaying.{cleared_at, cleared_len, covered_at, hole_in, padded}
 use Rattle.blob_faulty.proofs.replay.put_choices.Goals as goal
@@ -64,7 +64,7 @@ loop-hole-preserved c =
           cleared_at start count k xs ys fits cleared ∙ ap₂ (λ (b : Bool) (l : List Bool). not b && get_or l k false) (covered_at hole.start hole.end w.offset k lies.low) old in
           ap (λ (b : Bool). not later && b) (get_or-take c.loop-hole.chosen.len _ k false (omega (arith, inside, c.deref_mut.ensures.len)) ∙ get_or_append_left (take start xs ++ (ys ++ drop count (drop start xs))) _ false k (omega (arith, inside, cleared_len start count xs ys fits cleared)) ∙ here)
           ∙ in_neither (between hole.start hole.end p) later (get_or c.loop-hole.chosen.items k false)
-          ∙ ap (λ (b : Bool). not b && get_or c.loop-hole.chosen.items k false) (sym (ap (λ (hs : List Hole). in_holes (ranges (drop j hs)) p) (sym c.deref-hole-items.ensures.value) ∙ at_drop_more (λ (hs : List Hole). in_holes (ranges hs) p) holes j (record { start = 0; end = 0 }) (omega arith)
-          ∙ ap (λ (hs : List Hole). between hole.start hole.end p || in_holes (ranges (drop (j + 1) hs)) p) c.deref-hole-items.ensures.value))
+          ∙ ap (λ (b : Bool). not b && get_or c.loop-hole.chosen.items k false) (sym (ap (λ (hs : List Extent). in_holes (ranges (drop j hs)) p) (sym c.deref-hole-items.ensures.value) ∙ at_drop_more (λ (hs : List Extent). in_holes (ranges hs) p) holes j (record { start = 0; end = 0 }) (omega arith)
+          ∙ ap (λ (hs : List Extent). between hole.start hole.end p || in_holes (ranges (drop (j + 1) hs)) p) c.deref-hole-items.ensures.value))
           ∙ c.loop-hole.invariant.each k h;
     }

@@ -11,16 +11,16 @@ use Rattle.blob_model.proofs.Steps.{new_has_bare}
 use Rattle.blob_draws.specs.Faults.{new_write}
 use Rattle.blob_pending.specs.Lists.{list_of}
 use Rattle.blob_pending.specs.Ranges.{ranges}
-use Rattle.blob_pending.specs.declared.holes.Hole.{Hole}
+use Rattle.blob_pending.specs.declared.extent.Extent.{Extent}
 use Rattle.blob_faulty.specs.declared.storage.Storage.{Storage}
 use Rattle.blob_faulty.specs.Wrapper.{GainsWrite}
 use Rattle.blob_faulty.proofs.Plainly.{allowed_behind, asked_behind, same_view, pushed, refused_behind, relisted, same_rest, unasked, unwritten}
 use Rattle.blob_faulty.proofs.blob.Blob.write_recorded.Goals as goal
 
 -- of a write that nothing covers yet something is left
-fresh : (w : Write) (hs : List Hole) → hs ≡ [] → 0 < length w.bytes → cond (has_bare (need_in w (ranges hs))) (Waiting (need_in w (ranges hs)) ∷ []) [] ≡ Waiting (need_of w []) ∷ []
+fresh : (w : Write) (hs : List Extent) → hs ≡ [] → 0 < length w.bytes → cond (has_bare (need_in w (ranges hs))) (Waiting (need_in w (ranges hs)) ∷ []) [] ≡ Waiting (need_of w []) ∷ []
 fresh w hs none some =
-    ap (λ (l : List Hole). cond (has_bare (need_in w (ranges l))) (Waiting (need_in w (ranges l)) ∷ []) []) none
+    ap (λ (l : List Extent). cond (has_bare (need_in w (ranges l))) (Waiting (need_in w (ranges l)) ∷ []) []) none
     ∙ cond-true (has_bare (need_of w [])) (Waiting (need_of w []) ∷ []) [] (new_has_bare w some)
 
 pub returns-clause-recorded : goal.returns-clause-recorded
