@@ -114,7 +114,7 @@ impl<S: blob_base::Storage, R: Rng, B: blob_base::Blob<S>> blob_base::Blob<Stora
         inner.read_at_buf(&mut store.inner, offset, len, buf, options)
     }
 
-    /// Writes the bytes as `write_from` does, with its errors. Joins several pieces first: `Memory` if they can't be joined.
+    /// Writes the bytes as `write_from` does, with its errors. Several pieces are joined first. If that fails, the error is `Memory`.
     #[tactic(auto, unfolding(blob_draws::specs::Answers::allows_write))]
     fn write_at(
         &mut self,
@@ -137,7 +137,8 @@ impl<S: blob_base::Storage, R: Rng, B: blob_base::Blob<S>> blob_base::Blob<Stora
     }
 
     /// Draws whether the write fails. If it doesn't and has SYNC, draws whether its sync fails. An empty SYNC write returns Ok
-    /// and an overflowing logical end returns `OffsetOverflow` before any draw.
+    /// and an overflowing logical end returns `OffsetOverflow` before any draw. After the draws, the contract is that of
+    /// `write_by_fate`.
     ///
     /// - No failure: writes through the inner handle. If retention is set, a plain write of some bytes is pending from then on,
     ///   and a crash keeps the bytes that it draws.
