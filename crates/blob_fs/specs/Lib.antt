@@ -1,0 +1,5 @@
+pub mod Names
+pub mod Tables
+pub mod Profiles
+pub mod Sectors
+pub mod Files

@@ -1,0 +1,226 @@
+//! A file system over the fault wrapper.
+ghost use Rattle.std.specs.Prelude.{◌≡◌, None, Some, OnOk, OnErr, IfOk};
+ghost use Rattle.blob_fs.specs.Files.{KeepsNames, MakesEdit, SameNames, names_of};
+ghost use Rattle.blob_fs.specs.Names.{Same, edit_of, entry};
+
+use crate::edit::{Binding, Edit, Kind, entry_of};
+use crate::error::FsError;
+use crate::journal::Journal;
+use crate::path::check_name;
+use crate::profile::Profile;
+use crate::table::Table;
+use crate::tree::Tree;
+use crate::unsettled::{About, Unsettled};
+use blob_base::Probability;
+use blob_faulty::Config;
+use rand_core::Rng;
+use std::alloc::Global;
+use std::collections::BTreeMap;
+
+/// A fault wrapper over the memory store.
+pub type Store<R> = blob_faulty::Storage<blob_memory::Storage, R>;
+
+/// The wrapper's handle of a blob.
+pub type Handle = blob_faulty::Blob<blob_memory::Blob>;
+
+/// The number of the root directory.
+pub const ROOT: u64 = 1;
+
+/// The partition of files.
+pub(crate) const FILES: &str = "f";
+
+/// How many names a file may have.
+pub const LINKS_MAX: u32 = 65_000;
+
+/// The profile, the faults and the limits of a file system.
+#[derive(Debug, Drop)]
+pub struct Options {
+    pub profile: Profile,
+    /// The faults of calls on files, and which bytes of an unsynced write a crash keeps.
+    pub faults: Config,
+    /// How often a crash keeps an edit that nothing settled.
+    pub edit_rate: Probability,
+    /// The most bytes that all files together may have.
+    pub max_bytes: u64,
+    /// The most files that may be there.
+    pub max_files: u64,
+}
+
+/// An open file. It refers to the inode, not to a name. After a crash it is stale.
+#[derive(Clone, Copy, Debug, PartialEq, Eq)]
+pub struct Descriptor {
+    pub(crate) number: u64,
+}
+
+/// An inode of a file.
+#[derive(Drop)]
+pub(crate) struct File {
+    pub(crate) blob: Handle,
+    pub(crate) links: u32,
+    pub(crate) opens: u32,
+    /// Its size at its last sync.
+    pub(crate) synced: u64,
+    /// The number of the next edit when its size last grew.
+    pub(crate) grown: u64,
+    /// It was written or truncated since its last sync.
+    pub(crate) is_changed: bool,
+    /// An open truncated it.
+    pub(crate) is_truncated: bool,
+}
+
+/// Files with names over a fault wrapper.
+#[derive(Drop)]
+pub struct FileSystem<R> {
+    pub(crate) alloc: Global,
+    pub(crate) store: Store<R>,
+    pub(crate) options: Options,
+    pub(crate) names: Table,
+    pub(crate) directories: BTreeMap<u64, u64>,
+    pub(crate) files: BTreeMap<u64, File>,
+    pub(crate) opens: BTreeMap<u64, u64>,
+    pub(crate) journal: Journal,
+    pub(crate) unsettled: Vec<Unsettled>,
+    pub(crate) next_inode: u64,
+    pub(crate) next_open: u64,
+    pub(crate) next_edit: u64,
+    /// How many bytes all files have.
+    pub(crate) used: u64,
+    pub(crate) is_down: bool,
+}
+
+/// Returns a copy.
+pub(crate) fn copy_of(config: &Config) -> Config {
+    Config {
+        open_rate: config.open_rate,
+        read_rate: config.read_rate,
+        write_rate: config.write_rate,
+        sync_rate: config.sync_rate,
+        resize_rate: config.resize_rate,
+        remove_rate: config.remove_rate,
+        scan_rate: config.scan_rate,
+    }
+}
+
+impl<R: Rng + Drop> FileSystem<R> {
+    /// Returns an empty file system over a new store, with faults drawn from the generator.
+    ///
+    /// # Errors
+    ///
+    /// `Memory` only.
+    pub fn new(alloc: Global, rng: R, options: Options) -> Result<FileSystem<R>, FsError>
+        ensures { IfOk result (λ fs. Same (names_of fs) (λ _. None)) }
+    {
+        let memory = blob_memory::Storage::new(alloc);
+        let mut store = blob_faulty::Storage::new(alloc, memory, rng, Config::default());
+        let (journal, _) = Journal::open(alloc, &mut store, 0)?;
+        let tree = Tree::new(alloc)?;
+        Ok(FileSystem {
+            alloc,
+            store,
+            options,
+            names: tree.names,
+            directories: tree.directories,
+            files: BTreeMap::new(alloc),
+            opens: BTreeMap::new(alloc),
+            journal,
+            unsettled: Vec::new(alloc),
+            next_inode: ROOT + 1,
+            next_open: 0,
+            next_edit: 0,
+            used: 0,
+            is_down: false,
+        })
+    }
+
+    /// Returns the fault wrapper below.
+    pub fn store(&self) -> &Store<R> {
+        &self.store
+    }
+
+    /// Returns the options.
+    pub fn options(&self) -> &Options {
+        &self.options
+    }
+
+    /// Replaces the options. A write or an edit that is pending keeps the mode and the rate of its issue.
+    pub fn set_options(&mut self, options: Options)
+        ensures { KeepsNames self.old self.new }
+    {
+        self.options = options;
+    }
+
+    /// Refuses calls after a recovery that ran out of memory, and lets the wrapper draw the faults of files.
+    pub(crate) fn begin_call(&mut self) -> Result<(), FsError>
+        ensures { KeepsNames self.old self.new }
+    {
+        if self.is_down {
+            return Err(FsError::Crashed);
+        }
+        let faults = copy_of(&self.options.faults);
+        self.store.set_config(faults);
+        Ok(())
+    }
+
+    /// Returns the entry of a name in a directory.
+    pub(crate) fn entry_in(&self, directory: u64, name: &[u8]) -> Result<Vec<u8>, FsError>
+        ensures { IfOk result (λ e. e.items ≡ entry directory name.now) }
+    {
+        check_name(name)?;
+        if !self.directories.contains_key(&directory) {
+            return Err(if self.files.contains_key(&directory) {
+                FsError::NotDirectory
+            } else {
+                FsError::NotFound
+            });
+        }
+        Ok(entry_of(self.alloc, directory, name)?)
+    }
+
+    /// Makes an edit: it is in the journal, unsynced, and the names are changed.
+    ///
+    /// # Errors
+    ///
+    /// Those of the journal. No name has changed.
+    pub(crate) fn make(&mut self, edit: Edit, about: About) -> Result<(), FsError>
+        ensures made { OnOk result (MakesEdit (edit_of edit) self.old self.new) }
+        ensures refused { OnErr result (SameNames self.old self.new) }
+    {
+        self.names.prepare(&edit)?;
+        self.unsettled.reserve(1)?;
+        let number = self.next_edit;
+        let Some(next) = number.checked_add(1) else {
+            return Err(FsError::NoSpace);
+        };
+        let sector = self
+            .journal
+            .add(&mut self.store, &edit, self.options.edit_rate)?;
+        self.names.apply(&edit);
+        self.next_edit = next;
+        let _ = self.unsettled.push(Unsettled {
+            edit,
+            sector,
+            number,
+            about,
+            is_wanted: false,
+        });
+        Ok(())
+    }
+
+    /// Returns what a name in a directory is bound to.
+    pub(crate) fn binding_of(&self, entry: &[u8]) -> Result<Binding, FsError>
+        ensures { IfOk result (λ b. names_of self.now entry.now ≡ Some b) }
+    {
+        self.names.get(entry).ok_or(FsError::NotFound)
+    }
+
+    /// Returns the kind of an inode, if it is one.
+    pub fn kind_of(&self, inode: u64) -> Option<Kind> {
+        if self.directories.contains_key(&inode) {
+            Some(Kind::Directory)
+        } else if self.files.contains_key(&inode) {
+            Some(Kind::File)
+        } else {
+            None
+        }
+    }
+}

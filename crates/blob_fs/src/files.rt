@@ -1,0 +1,227 @@
+//! Open files: their bytes and sizes.
+ghost use Rattle.blob_fs.specs.Files.{KeepsNames};
+
+use crate::edit::Kind;
+use crate::error::FsError;
+use crate::file_system::{Descriptor, File, FileSystem, Handle};
+use blob_base::{Blob, WriteOptions};
+use blob_faulty::Config;
+use rand_core::Rng;
+
+impl File {
+    /// Returns a new file, which has one name and is not open.
+    pub(crate) fn new(blob: Handle) -> File {
+        File {
+            blob,
+            links: 1,
+            opens: 0,
+            synced: 0,
+            grown: 0,
+            is_changed: false,
+            is_truncated: false,
+        }
+    }
+}
+
+impl<R: Rng + Drop> FileSystem<R> {
+    /// Opens a file by its number.
+    ///
+    /// # Errors
+    ///
+    /// `IsDirectory`, `NotFound`, `NoSpace` if no number of a descriptor is left, `Memory`.
+    pub fn open_inode(&mut self, inode: u64) -> Result<Descriptor, FsError>
+        ensures { KeepsNames self.old self.new }
+    {
+        if self.directories.contains_key(&inode) {
+            return Err(FsError::IsDirectory);
+        }
+        let Some(file) = self.files.get_mut(&inode) else {
+            return Err(FsError::NotFound);
+        };
+        let number = self.next_open;
+        let Some(next) = number.checked_add(1) else {
+            return Err(FsError::NoSpace);
+        };
+        self.opens.insert(number, inode)?;
+        file.opens = file.opens.saturating_add(1);
+        self.next_open = next;
+        Ok(Descriptor { number })
+    }
+
+    /// Returns the number of an open file's inode.
+    ///
+    /// # Errors
+    ///
+    /// `Stale`.
+    pub fn inode_of(&self, file: Descriptor) -> Result<u64, FsError> {
+        match self.opens.get(&file.number) {
+            None => Err(FsError::Stale),
+            Some(inode) => Ok(*inode),
+        }
+    }
+
+    /// Closes a file. Its bytes stay as they are, synced or not. If an open truncated it and the profile flushes, they are made
+    /// durable first.
+    ///
+    /// # Errors
+    ///
+    /// `Stale`, and `Memory` of a flush. The file is still open.
+    pub fn close(&mut self, file: Descriptor) -> Result<(), FsError>
+        ensures { KeepsNames self.old self.new }
+    {
+        self.begin_call()?;
+        let inode = self.inode_of(file)?;
+        if self.options.profile.flushes && self.is_truncated(inode) {
+            self.flush(inode)?;
+        }
+        self.opens.remove(&file.number);
+        if let Some(found) = self.files.get_mut(&inode) {
+            found.opens = found.opens.saturating_sub(1);
+        }
+        Ok(())
+    }
+
+    fn is_truncated(&self, inode: u64) -> bool {
+        match self.files.get(&inode) {
+            None => false,
+            Some(file) => file.is_truncated,
+        }
+    }
+
+    /// Makes a file's bytes durable, and draws nothing.
+    pub(crate) fn flush(&mut self, inode: u64) -> Result<(), FsError>
+        ensures { KeepsNames self.old self.new }
+    {
+        self.store.set_config(Config::default());
+        let Some(file) = self.files.get_mut(&inode) else {
+            return Ok(());
+        };
+        file.blob.sync(&mut self.store)?;
+        file.synced = file.blob.size();
+        file.is_truncated = false;
+        Ok(())
+    }
+
+    /// Returns an open file's size in bytes.
+    ///
+    /// # Errors
+    ///
+    /// `Stale`.
+    pub fn size(&self, file: Descriptor) -> Result<u64, FsError> {
+        let inode = self.inode_of(file)?;
+        match self.files.get(&inode) {
+            None => Err(FsError::Stale),
+            Some(found) => Ok(found.blob.size()),
+        }
+    }
+
+    /// Reads the bytes from an offset on, as many as there are and as the buffer takes. Returns how many.
+    ///
+    /// # Errors
+    ///
+    /// `Stale`, and `Injected` of the layer's read.
+    pub fn read(&mut self, file: Descriptor, offset: u64, buf: &mut [u8]) -> Result<usize, FsError>
+        ensures { KeepsNames self.old self.new }
+    {
+        self.begin_call()?;
+        let inode = self.inode_of(file)?;
+        let Some(found) = self.files.get(&inode) else {
+            return Err(FsError::Stale);
+        };
+        let left = found.blob.size().saturating_sub(offset);
+        let count = (buf.len() as u64).min(left) as usize;
+        if count == 0 {
+            return Ok(0);
+        }
+        let part = &mut buf[..count];
+        found.blob.read_into(&mut self.store, offset, part)?;
+        Ok(count)
+    }
+
+    /// Refuses a file that would be too long.
+    fn check_room(&self, size: u64, end: u64) -> Result<(), FsError> {
+        let more = end.saturating_sub(size);
+        if more > 0 && self.used.saturating_add(more) > self.options.max_bytes {
+            return Err(FsError::NoSpace);
+        }
+        Ok(())
+    }
+
+    /// Counts a file that had one size and has another.
+    fn count(&mut self, size: u64, now: u64)
+        ensures { KeepsNames self.old self.new }
+    {
+        self.used = self.used.saturating_sub(size).saturating_add(now);
+    }
+
+    /// Writes bytes at an offset, unsynced.
+    ///
+    /// # Errors
+    ///
+    /// `Stale`; `NoSpace` beyond the limit of bytes; those of the layer's write, which may leave a part of it.
+    pub fn write(&mut self, file: Descriptor, offset: u64, bytes: &[u8]) -> Result<(), FsError>
+        ensures { KeepsNames self.old self.new }
+    {
+        self.begin_call()?;
+        let inode = self.inode_of(file)?;
+        let size = self.size(file)?;
+        self.check_room(size, offset.saturating_add(bytes.len() as u64))?;
+        let grown = self.next_edit;
+        let Some(found) = self.files.get_mut(&inode) else {
+            return Err(FsError::Stale);
+        };
+        found.is_changed = true;
+        let options = WriteOptions::default();
+        let written = found
+            .blob
+            .write_from(&mut self.store, offset, bytes, options);
+        let now = found.blob.size();
+        if now > size {
+            found.grown = grown;
+        }
+        self.count(size, now);
+        Ok(written?)
+    }
+
+    /// Truncates a file to a length, or extends it by zeros, unsynced.
+    ///
+    /// # Errors
+    ///
+    /// `Stale`; `NoSpace` beyond the limit of bytes; those of the layer's resize, which may leave a part of it.
+    pub fn truncate(&mut self, file: Descriptor, length: u64) -> Result<(), FsError>
+        ensures { KeepsNames self.old self.new }
+    {
+        self.begin_call()?;
+        let inode = self.inode_of(file)?;
+        let size = self.size(file)?;
+        self.check_room(size, length)?;
+        let grown = self.next_edit;
+        let Some(found) = self.files.get_mut(&inode) else {
+            return Err(FsError::Stale);
+        };
+        found.is_changed = true;
+        found.grown = grown;
+        let resized = found.blob.resize(&mut self.store, length);
+        let now = found.blob.size();
+        self.count(size, now);
+        Ok(resized?)
+    }
+
+    /// Truncates a file that an open made empty.
+    pub(crate) fn clear(&mut self, file: Descriptor) -> Result<(), FsError>
+        ensures { KeepsNames self.old self.new }
+    {
+        self.truncate(file, 0)?;
+        let inode = self.inode_of(file)?;
+        if let Some(found) = self.files.get_mut(&inode) {
+            found.is_truncated = true;
+        }
+        Ok(())
+    }
+
+    /// Returns what an open file's inode is: always a file.
+    pub fn open_kind(&self, file: Descriptor) -> Result<Kind, FsError> {
+        let inode = self.inode_of(file)?;
+        self.kind_of(inode).ok_or(FsError::Stale)
+    }
+}

@@ -1,0 +1,234 @@
+//! Names by directory: files are created, linked and unlinked, directories are made, removed and listed.
+ghost use Rattle.std.specs.Prelude.{◌≡◌, ◌∷◌, [], None, Some, OnOk, OnErr, IfOk};
+ghost use Rattle.blob_fs.specs.Files.{KeepsNames, MakesEdit, SameNames, fresh_inode, names_of};
+ghost use Rattle.blob_fs.specs.Names.{binds, directory_at, entry, file, frees};
+
+use crate::edit::{Binding, Edit, Kind};
+use crate::error::FsError;
+use crate::file_system::{Descriptor, FILES, File, FileSystem, Handle, LINKS_MAX};
+use crate::unsettled::About;
+use blob_base::Storage;
+use rand_core::Rng;
+
+/// An edit about one inode in one directory.
+fn about(inode: u64, directory: u64) -> About {
+    About {
+        inode,
+        other: None,
+        directory,
+        other_directory: None,
+    }
+}
+
+impl<R: Rng + Drop> FileSystem<R> {
+    /// Refuses a name that is taken.
+    fn check_free(&self, entry: &[u8]) -> Result<(), FsError>
+        ensures { OnOk result (names_of self.now entry.now ≡ None) }
+    {
+        if self.names.get(entry).is_some() {
+            return Err(FsError::Exists);
+        }
+        Ok(())
+    }
+
+    /// Returns the next number of an inode, and the one after it.
+    fn fresh_inode(&self) -> Result<(u64, u64), FsError>
+        ensures { IfOk result (λ r. r.0 ≡ fresh_inode self.now) }
+    {
+        let inode = self.next_inode;
+        let next = inode.checked_add(1).ok_or(FsError::NoSpace)?;
+        let count = self.files.len() as u64;
+        let count = count.saturating_add(self.directories.len() as u64);
+        if count > self.options.max_files {
+            return Err(FsError::NoSpace);
+        }
+        Ok((inode, next))
+    }
+
+    /// Makes an empty file and opens it.
+    ///
+    /// # Errors
+    ///
+    /// `Exists`, `NotFound` and `NotDirectory` of the directory, those of `check_name`, `NoSpace`, and those of the
+    /// layer's open of a new blob.
+    pub fn create_at(&mut self, directory: u64, name: &[u8]) -> Result<Descriptor, FsError>
+        ensures made { OnOk result (MakesEdit (binds directory name.now (file (fresh_inode self.old))) self.old self.new) }
+        ensures free { OnOk result (names_of self.old (entry directory name.now) ≡ None) }
+        ensures refused { OnErr result (SameNames self.old self.new) }
+    {
+        let inode = self.next_inode;
+        self.begin_call()?;
+        let entry = self.entry_in(directory, name)?;
+        self.check_free(&entry)?;
+        let (_, next) = self.fresh_inode()?;
+        let (blob, _) = self.store.open(FILES, &inode.to_be_bytes())?;
+        let descriptor = self.open_new(inode, blob)?;
+        let kind = Kind::File;
+        let edit = Edit::one(entry, Some(Binding { inode, kind }));
+        if let Err(error) = self.make(edit, about(inode, directory)) {
+            self.opens.remove(&descriptor.number);
+            self.files.remove(&inode);
+            return Err(error);
+        }
+        self.next_inode = next;
+        Ok(descriptor)
+    }
+
+    /// Adds a new file and opens it.
+    fn open_new(&mut self, inode: u64, blob: Handle) -> Result<Descriptor, FsError>
+        ensures { KeepsNames self.old self.new }
+    {
+        self.files.insert(inode, File::new(blob))?;
+        match self.open_inode(inode) {
+            Ok(descriptor) => Ok(descriptor),
+            Err(error) => {
+                self.files.remove(&inode);
+                Err(error)
+            }
+        }
+    }
+
+    /// Makes an empty directory and returns its number.
+    ///
+    /// # Errors
+    ///
+    /// `Exists`, `NotFound` and `NotDirectory` of the directory, those of `check_name`, `NoSpace`, `Memory`.
+    pub fn make_directory_at(&mut self, directory: u64, name: &[u8]) -> Result<u64, FsError>
+        ensures made { IfOk result (λ d. MakesEdit (binds directory name.now (directory_at d)) self.old self.new) }
+        ensures free { OnOk result (names_of self.old (entry directory name.now) ≡ None) }
+        ensures refused { OnErr result (SameNames self.old self.new) }
+    {
+        self.begin_call()?;
+        let entry = self.entry_in(directory, name)?;
+        self.check_free(&entry)?;
+        let (inode, next) = self.fresh_inode()?;
+        self.directories.insert(inode, directory)?;
+        let kind = Kind::Directory;
+        let edit = Edit::one(entry, Some(Binding { inode, kind }));
+        if let Err(error) = self.make(edit, about(inode, directory)) {
+            self.directories.remove(&inode);
+            return Err(error);
+        }
+        self.next_inode = next;
+        Ok(inode)
+    }
+
+    /// Gives a file one more name.
+    ///
+    /// # Errors
+    ///
+    /// `IsDirectory` and `NotFound` of the inode, `TooManyLinks` at 65,000 names, `Exists`, `NotFound` and `NotDirectory`
+    /// of the directory, those of `check_name`, `Memory`.
+    pub fn link_at(&mut self, inode: u64, directory: u64, name: &[u8]) -> Result<(), FsError>
+        ensures made { OnOk result (MakesEdit (binds directory name.now (file inode)) self.old self.new) }
+        ensures free { OnOk result (names_of self.old (entry directory name.now) ≡ None) }
+        ensures refused { OnErr result (SameNames self.old self.new) }
+    {
+        self.begin_call()?;
+        if self.directories.contains_key(&inode) {
+            return Err(FsError::IsDirectory);
+        }
+        let links = match self.files.get(&inode) {
+            None => return Err(FsError::NotFound),
+            Some(file) => file.links,
+        };
+        if links >= LINKS_MAX {
+            return Err(FsError::TooManyLinks);
+        }
+        let entry = self.entry_in(directory, name)?;
+        self.check_free(&entry)?;
+        let kind = Kind::File;
+        let edit = Edit::one(entry, Some(Binding { inode, kind }));
+        self.make(edit, about(inode, directory))?;
+        self.set_links(inode, links + 1);
+        Ok(())
+    }
+
+    pub(crate) fn set_links(&mut self, inode: u64, links: u32)
+        ensures { KeepsNames self.old self.new }
+    {
+        if let Some(file) = self.files.get_mut(&inode) {
+            file.links = links;
+        }
+    }
+
+    /// Takes one name off a file's count.
+    pub(crate) fn drop_link(&mut self, inode: u64)
+        ensures { KeepsNames self.old self.new }
+    {
+        if let Some(file) = self.files.get_mut(&inode) {
+            file.links = file.links.saturating_sub(1);
+        }
+    }
+
+    /// Removes a name of a file. The file lives on while it has a name or is open.
+    ///
+    /// # Errors
+    ///
+    /// `NotFound`, `IsDirectory`, `NotFound` and `NotDirectory` of the directory, those of `check_name`, `Memory`.
+    pub fn unlink_at(&mut self, directory: u64, name: &[u8]) -> Result<(), FsError>
+        ensures made { OnOk result (MakesEdit (frees directory name.now) self.old self.new) }
+        ensures refused { OnErr result (SameNames self.old self.new) }
+    {
+        self.begin_call()?;
+        let entry = self.entry_in(directory, name)?;
+        let was = self.binding_of(&entry)?;
+        if was.kind == Kind::Directory {
+            return Err(FsError::IsDirectory);
+        }
+        self.make(Edit::one(entry, None), about(was.inode, directory))?;
+        self.drop_link(was.inode);
+        Ok(())
+    }
+
+    /// Removes an empty directory.
+    ///
+    /// # Errors
+    ///
+    /// `NotFound`, `NotDirectory`, `NotEmpty`, `NotFound` and `NotDirectory` of the directory that has it, those of
+    /// `check_name`, `Memory`.
+    pub fn remove_directory_at(&mut self, directory: u64, name: &[u8]) -> Result<(), FsError>
+        ensures made { OnOk result (MakesEdit (frees directory name.now) self.old self.new) }
+        ensures refused { OnErr result (SameNames self.old self.new) }
+    {
+        self.begin_call()?;
+        let entry = self.entry_in(directory, name)?;
+        let was = self.binding_of(&entry)?;
+        if was.kind == Kind::File {
+            return Err(FsError::NotDirectory);
+        }
+        if !self.names.is_empty(was.inode)? {
+            return Err(FsError::NotEmpty);
+        }
+        self.make(Edit::one(entry, None), about(was.inode, directory))?;
+        self.directories.remove(&was.inode);
+        Ok(())
+    }
+
+    /// Returns what a name in a directory is bound to.
+    ///
+    /// # Errors
+    ///
+    /// `NotFound`, `NotDirectory`, those of `check_name`, `Memory`.
+    pub fn look_up(&self, directory: u64, name: &[u8]) -> Result<Binding, FsError>
+        ensures { IfOk result (λ b. names_of self.now (entry directory name.now) ≡ Some b) }
+    {
+        let entry = self.entry_in(directory, name)?;
+        self.binding_of(&entry)
+    }
+
+    /// Returns the names in a directory with their bindings, in the order of their bytes.
+    ///
+    /// # Errors
+    ///
+    /// `NotFound`, `NotDirectory`, `Memory`.
+    pub fn list_at(&self, directory: u64) -> Result<Vec<(Vec<u8>, Binding)>, FsError> {
+        if self.files.contains_key(&directory) {
+            return Err(FsError::NotDirectory);
+        }
+        if !self.directories.contains_key(&directory) {
+            return Err(FsError::NotFound);
+        }
+        Ok(self.names.names_in(directory)?)
+    }
+}

@@ -1,0 +1,120 @@
+//! The calls by paths: names behind slashes, from the root on.
+use crate::edit::{Binding, Kind};
+use crate::error::FsError;
+use crate::file_system::{Descriptor, FileSystem, ROOT};
+use crate::path::{first_name, last_name};
+use crate::renames::Rename;
+use rand_core::Rng;
+
+impl<R: Rng + Drop> FileSystem<R> {
+    /// Returns the number of a directory in a directory.
+    fn directory_in(&self, directory: u64, name: &[u8]) -> Result<u64, FsError> {
+        let found = self.look_up(directory, name)?;
+        if found.kind == Kind::File {
+            return Err(FsError::NotDirectory);
+        }
+        Ok(found.inode)
+    }
+
+    /// Returns the number of the directory of a path. The empty path is the root's.
+    ///
+    /// # Errors
+    ///
+    /// `NotFound` and `NotDirectory` of a name on the path, those of `check_name`, `Memory`.
+    pub fn directory_of(&self, path: &[u8]) -> Result<u64, FsError> {
+        let mut directory = ROOT;
+        let mut left = path;
+        while let Some(next) = first_name(left) {
+            directory = self.directory_in(directory, next.0)?;
+            left = next.1;
+        }
+        Ok(directory)
+    }
+
+    /// Returns the directory and the last name of a path.
+    fn place_of<'a>(&self, path: &'a [u8]) -> Result<(u64, &'a [u8]), FsError> {
+        let Some((above, name)) = last_name(path) else {
+            return Err(FsError::InvalidName);
+        };
+        Ok((self.directory_of(above)?, name))
+    }
+
+    /// Returns what a path is bound to.
+    ///
+    /// # Errors
+    ///
+    /// Those of `directory_of`.
+    pub fn find(&self, path: &[u8]) -> Result<Binding, FsError> {
+        let (directory, name) = self.place_of(path)?;
+        self.look_up(directory, name)
+    }
+
+    /// Makes an empty file and opens it. The errors are those of `directory_of` and of `create_at`.
+    pub fn create(&mut self, path: &[u8]) -> Result<Descriptor, FsError> {
+        let (directory, name) = self.place_of(path)?;
+        self.create_at(directory, name)
+    }
+
+    /// Opens a file that is there. The errors are those of `directory_of` and of `open_inode`.
+    pub fn open(&mut self, path: &[u8]) -> Result<Descriptor, FsError> {
+        self.begin_call()?;
+        let found = self.find(path)?;
+        self.open_inode(found.inode)
+    }
+
+    /// Opens a file that is there and makes it empty. If that fails, the file isn't open, and its bytes are as the layer's
+    /// resize left them. The errors are those of `open` and of `truncate`.
+    pub fn open_truncated(&mut self, path: &[u8]) -> Result<Descriptor, FsError> {
+        let file = self.open(path)?;
+        if let Err(error) = self.clear(file) {
+            self.close(file)?;
+            return Err(error);
+        }
+        Ok(file)
+    }
+
+    /// Gives the file of a path a second path. The errors are those of `directory_of` and of `link_at`.
+    pub fn link(&mut self, path: &[u8], to: &[u8]) -> Result<(), FsError> {
+        let found = self.find(path)?;
+        let (directory, name) = self.place_of(to)?;
+        self.link_at(found.inode, directory, name)
+    }
+
+    /// Removes a name of a file. The errors are those of `directory_of` and of `unlink_at`.
+    pub fn unlink(&mut self, path: &[u8]) -> Result<(), FsError> {
+        let (directory, name) = self.place_of(path)?;
+        self.unlink_at(directory, name)
+    }
+
+    /// Moves a file or a directory. The errors are those of `directory_of` and of `rename_at`.
+    pub fn rename(&mut self, path: &[u8], to: &[u8], how: Rename) -> Result<(), FsError> {
+        let from = self.place_of(path)?;
+        let to = self.place_of(to)?;
+        self.rename_at(from, to, how)
+    }
+
+    /// Makes an empty directory. The errors are those of `directory_of` and of `make_directory_at`.
+    pub fn make_directory(&mut self, path: &[u8]) -> Result<(), FsError> {
+        let (directory, name) = self.place_of(path)?;
+        self.make_directory_at(directory, name)?;
+        Ok(())
+    }
+
+    /// Removes an empty directory. The errors are those of `directory_of` and of `remove_directory_at`.
+    pub fn remove_directory(&mut self, path: &[u8]) -> Result<(), FsError> {
+        let (directory, name) = self.place_of(path)?;
+        self.remove_directory_at(directory, name)
+    }
+
+    /// Returns the names in a directory. The errors are those of `directory_of`.
+    pub fn list(&self, path: &[u8]) -> Result<Vec<(Vec<u8>, Binding)>, FsError> {
+        let directory = self.directory_of(path)?;
+        self.list_at(directory)
+    }
+
+    /// Settles the edits of a directory. The errors are those of `directory_of` and of `sync_directory_at`.
+    pub fn sync_directory(&mut self, path: &[u8]) -> Result<(), FsError> {
+        let directory = self.directory_of(path)?;
+        self.sync_directory_at(directory)
+    }
+}

@@ -1,0 +1,182 @@
+//! Renames, in one step.
+ghost use Rattle.std.specs.Prelude.{OnOk, OnErr};
+ghost use Rattle.blob_fs.specs.Files.{KeepsNames, MakesEdit, SameNames};
+ghost use Rattle.blob_fs.specs.Names.{exchanges, moves};
+
+use crate::edit::{Binding, Change, Edit, Kind};
+use crate::error::FsError;
+use crate::file_system::{FileSystem, ROOT};
+use crate::unsettled::About;
+use rand_core::Rng;
+
+/// What a rename does if the new name is taken.
+#[derive(Clone, Copy, Debug, PartialEq, Eq)]
+pub enum Rename {
+    /// It replaces the file or the empty directory there.
+    Replace,
+    /// It is refused with `Exists`.
+    NoReplace,
+    /// The two names change places. Both have to be there.
+    Exchange,
+}
+
+impl<R: Rng + Drop> FileSystem<R> {
+    /// Refuses to move a directory to a place below itself.
+    fn check_not_below(&self, inode: u64, directory: u64) -> Result<(), FsError> {
+        let mut at = directory;
+        for _ in 0..=self.directories.len() {
+            if at == inode {
+                return Err(FsError::Loop);
+            }
+            match self.directories.get(&at) {
+                None => return Ok(()),
+                Some(above) => at = *above,
+            }
+            if at == ROOT {
+                break;
+            }
+        }
+        Ok(())
+    }
+
+    /// Refuses a replacement that isn't of a file by a file or of an empty directory by a directory.
+    fn check_replaces(&self, was: Binding, by: Binding) -> Result<(), FsError> {
+        match (was.kind, by.kind) {
+            (Kind::File, Kind::Directory) => Err(FsError::NotDirectory),
+            (Kind::Directory, Kind::File) => Err(FsError::IsDirectory),
+            (Kind::File, Kind::File) => Ok(()),
+            (Kind::Directory, Kind::Directory) => {
+                if self.names.is_empty(was.inode)? {
+                    Ok(())
+                } else {
+                    Err(FsError::NotEmpty)
+                }
+            }
+        }
+    }
+
+    /// Moves a file or a directory to another name, in one step.
+    ///
+    /// If both names are of one file, nothing happens. If the profile flushes, a file that replaces another one is made
+    /// durable first, without its names.
+    ///
+    /// # Errors
+    ///
+    /// `NotFound`; `Exists` for `NoReplace`; `NotDirectory`, `IsDirectory` and `NotEmpty` of what is replaced; `Loop` if
+    /// a directory would come below itself; `NotFound` and `NotDirectory` of the directories; those of `check_name`; `Memory`.
+    pub fn rename_at(
+        &mut self,
+        from: (u64, &[u8]),
+        to: (u64, &[u8]),
+        how: Rename,
+    ) -> Result<(), FsError>
+        ensures { OnErr result (SameNames self.old self.new) }
+    {
+        self.begin_call()?;
+        let old = self.entry_in(from.0, from.1)?;
+        let new = self.entry_in(to.0, to.1)?;
+        let moved = self.binding_of(&old)?;
+        if moved.kind == Kind::Directory {
+            self.check_not_below(moved.inode, to.0)?;
+        }
+        let there = self.names.get(&new);
+        match (there, how) {
+            (None, Rename::Exchange) => Err(FsError::NotFound),
+            (None, _) => self.move_name((old, from.0), (new, to.0), moved),
+            (Some(_), Rename::NoReplace) => Err(FsError::Exists),
+            (Some(was), _) if was == moved => Ok(()),
+            (Some(was), Rename::Replace) => self.replace((old, from.0), (new, to.0), moved, was),
+            (Some(was), Rename::Exchange) => self.exchange((old, from.0), (new, to.0), moved, was),
+        }
+    }
+
+    /// Records that a directory is in another one now.
+    fn place(&mut self, binding: Binding, directory: u64)
+        ensures { KeepsNames self.old self.new }
+    {
+        if let Some(above) = self.directories.get_mut(&binding.inode) {
+            *above = directory;
+        }
+    }
+
+    fn move_name(
+        &mut self,
+        from: (Vec<u8>, u64),
+        to: (Vec<u8>, u64),
+        moved: Binding,
+    ) -> Result<(), FsError>
+        ensures made { OnOk result (MakesEdit (moves from.0.items to.0.items moved) self.old self.new) }
+        ensures refused { OnErr result (SameNames self.old self.new) }
+    {
+        let about = About {
+            inode: moved.inode,
+            other: None,
+            directory: from.1,
+            other_directory: Some(to.1),
+        };
+        let freed = Change {
+            entry: from.0,
+            to: None,
+        };
+        let bound = Change {
+            entry: to.0,
+            to: Some(moved),
+        };
+        self.make(Edit::two(freed, bound), about)?;
+        self.place(moved, to.1);
+        Ok(())
+    }
+
+    fn replace(
+        &mut self,
+        from: (Vec<u8>, u64),
+        to: (Vec<u8>, u64),
+        moved: Binding,
+        was: Binding,
+    ) -> Result<(), FsError>
+        ensures made { OnOk result (MakesEdit (moves from.0.items to.0.items moved) self.old self.new) }
+        ensures refused { OnErr result (SameNames self.old self.new) }
+    {
+        self.check_replaces(was, moved)?;
+        if self.options.profile.flushes {
+            self.flush(moved.inode)?;
+        }
+        self.move_name(from, to, moved)?;
+        self.drop_link(was.inode);
+        self.directories.remove(&was.inode);
+        Ok(())
+    }
+
+    fn exchange(
+        &mut self,
+        from: (Vec<u8>, u64),
+        to: (Vec<u8>, u64),
+        moved: Binding,
+        was: Binding,
+    ) -> Result<(), FsError>
+        ensures made { OnOk result (MakesEdit (exchanges from.0.items to.0.items moved was) self.old self.new) }
+        ensures refused { OnErr result (SameNames self.old self.new) }
+    {
+        if was.kind == Kind::Directory {
+            self.check_not_below(was.inode, from.1)?;
+        }
+        let about = About {
+            inode: moved.inode,
+            other: Some(was.inode),
+            directory: from.1,
+            other_directory: Some(to.1),
+        };
+        let first = Change {
+            entry: from.0,
+            to: Some(was),
+        };
+        let second = Change {
+            entry: to.0,
+            to: Some(moved),
+        };
+        self.make(Edit::two(first, second), about)?;
+        self.place(moved, to.1);
+        self.place(was, from.1);
+        Ok(())
+    }
+}

@@ -1,0 +1,186 @@
+//! Syncs of files and of directories.
+ghost use Rattle.blob_fs.specs.Files.{KeepsNames};
+
+use crate::error::FsError;
+use crate::file_system::{Descriptor, FileSystem, Store};
+use crate::journal::Journal;
+use crate::profile::Settles;
+use crate::unsettled::{Synced, Unsettled, want};
+use blob_base::{Blob, Error};
+use rand_core::Rng;
+
+/// Makes the sectors of the edits that are marked durable. Those before an error stay.
+fn settle_marked<R: Rng>(
+    store: &mut Store<R>,
+    journal: &mut Journal,
+    edits: &[Unsettled],
+) -> Result<(), Error> {
+    for edit in edits {
+        if edit.is_wanted {
+            journal.settle(store, edit.sector, &edit.edit)?;
+        }
+    }
+    Ok(())
+}
+
+impl<R: Rng + Drop> FileSystem<R> {
+    /// Settles the edits that are marked.
+    fn settle_wanted(&mut self) -> Result<(), FsError>
+        ensures { KeepsNames self.old self.new }
+    {
+        settle_marked(&mut self.store, &mut self.journal, &self.unsettled)?;
+        self.unsettled.retain(|edit| !edit.is_wanted);
+        Ok(())
+    }
+
+    /// Settles the edits that a sync settles by the profile.
+    fn settle_by(&mut self, settles: Settles, synced: Synced) -> Result<(), FsError>
+        ensures { KeepsNames self.old self.new }
+    {
+        want(self.alloc, &mut self.unsettled, settles, synced)?;
+        self.settle_wanted()
+    }
+
+    /// Syncs an inode's bytes. Returns what is needed to choose the edits that this settles.
+    fn sync_bytes(&mut self, inode: u64) -> Result<Synced, FsError>
+        ensures { KeepsNames self.old self.new }
+    {
+        let Some(file) = self.files.get_mut(&inode) else {
+            return Err(FsError::Stale);
+        };
+        file.blob.sync(&mut self.store)?;
+        let synced = Synced::File {
+            inode,
+            grown: file.grown,
+            is_changed: file.is_changed,
+        };
+        file.synced = file.blob.size();
+        file.is_changed = false;
+        file.is_truncated = false;
+        Ok(synced)
+    }
+
+    /// Says that a file has changed since its last sync.
+    fn touch(&mut self, inode: u64)
+        ensures { KeepsNames self.old self.new }
+    {
+        if let Some(file) = self.files.get_mut(&inode) {
+            file.is_changed = true;
+        }
+    }
+
+    /// Makes a file's bytes and size durable, and settles the edits that the profile says.
+    ///
+    /// # Errors
+    ///
+    /// `Stale`, `Injected` of the layer's sync, `Memory`. The names and bytes that the calls see stay. Some of the edits may be
+    /// settled.
+    pub fn sync(&mut self, file: Descriptor) -> Result<(), FsError>
+        ensures { KeepsNames self.old self.new }
+    {
+        self.begin_call()?;
+        let inode = self.inode_of(file)?;
+        let synced = self.sync_bytes(inode)?;
+        let settled = self.settle_by(self.options.profile.settles, synced);
+        if settled.is_err() {
+            self.touch(inode);
+        }
+        settled
+    }
+
+    /// Makes a file's bytes and size durable. Settles the edits of a `sync` if the file's size changed since its last
+    /// sync or one of its names did.
+    ///
+    /// # Errors
+    ///
+    /// Those of `sync`.
+    pub fn sync_data(&mut self, file: Descriptor) -> Result<(), FsError>
+        ensures { KeepsNames self.old self.new }
+    {
+        self.begin_call()?;
+        let inode = self.inode_of(file)?;
+        let (is_resized, is_changed) = match self.files.get(&inode) {
+            None => return Err(FsError::Stale),
+            Some(found) => (found.synced != found.blob.size(), found.is_changed),
+        };
+        let synced = match self.sync_bytes(inode)? {
+            Synced::File { inode, grown, .. } => Synced::File {
+                inode,
+                grown,
+                is_changed: is_resized,
+            },
+            directory => directory,
+        };
+        let settled = self.settle_by(self.options.profile.settles, synced);
+        if settled.is_err() || is_changed && !is_resized {
+            self.touch(inode);
+        }
+        settled
+    }
+
+    /// Settles the edits of a directory's names, and more if the profile says so. Makes no draw.
+    ///
+    /// # Errors
+    ///
+    /// `NotDirectory`, `NotFound`, `Memory`. Some of the edits may be settled.
+    pub fn sync_directory_at(&mut self, directory: u64) -> Result<(), FsError>
+        ensures { KeepsNames self.old self.new }
+    {
+        self.begin_call()?;
+        if self.files.contains_key(&directory) {
+            return Err(FsError::NotDirectory);
+        }
+        if !self.directories.contains_key(&directory) {
+            return Err(FsError::NotFound);
+        }
+        self.settle_by(self.options.profile.settles, Synced::Directory(directory))
+    }
+
+    /// Settles all edits.
+    fn settle_names(&mut self) -> Result<(), FsError>
+        ensures { KeepsNames self.old self.new }
+    {
+        self.settle_by(Settles::All, Synced::Directory(0))
+    }
+
+    /// Makes the bytes of all files and all names durable.
+    ///
+    /// # Errors
+    ///
+    /// `Injected` of the layer's syncs, `Memory`. What was done until then stays.
+    pub fn sync_all(&mut self) -> Result<(), FsError>
+        ensures { KeepsNames self.old self.new }
+    {
+        self.begin_call()?;
+        let inodes = self.inodes()?;
+        for inode in &inodes {
+            self.sync_bytes(*inode)?;
+        }
+        self.settle_names()
+    }
+
+    fn inodes(&self) -> Result<Vec<u64>, FsError> {
+        let mut inodes = Vec::new(self.alloc);
+        for (inode, _) in &self.files {
+            inodes.push(*inode)?;
+        }
+        Ok(inodes)
+    }
+
+    /// Makes the bytes of all files and all names durable, and draws nothing: the state before a test.
+    ///
+    /// # Errors
+    ///
+    /// `Memory`. What was done until then stays.
+    pub fn settle(&mut self) -> Result<(), FsError>
+        ensures { KeepsNames self.old self.new }
+    {
+        self.begin_call()?;
+        let inodes = self.inodes()?;
+        self.store.set_config(blob_faulty::Config::default());
+        for inode in &inodes {
+            self.sync_bytes(*inode)?;
+        }
+        self.settle_names()
+    }
+}
