@@ -85,8 +85,10 @@ if ! build "$@"; then
     exit 1
 fi
 
-rm -f "$out/libblobcrash.a.new"
-printf 'create %s\naddlib %s\naddlib %s\nsave\nend\n' "$out/libblobcrash.a.new" "$library" "$heap" | ar -M
+# The commands of `ar -M` can't name a path with spaces.
+ln -s "$heap" "$work/heap.a"
+(cd "$work" && printf 'create whole.a\naddlib libblob_c.a\naddlib heap.a\nsave\nend\n' | ar -M)
+cp "$work/whole.a" "$out/libblobcrash.a.new"
 place "$out/libblobcrash.a" "$out/libblobcrash.a.new" "$sum" "$out/bindings.began"
 
 if [ -n "$compiler" ]; then

@@ -33,6 +33,8 @@ if [ ! -f "$library" ]; then
     exit 1
 fi
 work=$(mktemp -d)
+# Other users read what is installed.
+umask 022
 version=$("$top/out/blobcrash" version | sed 's/^blobcrash \([0-9.]*\).*/\1/')
 
 # put MODE FILE TO: replaces a file in one step, so that a program that has it loaded isn't disturbed.
@@ -49,12 +51,17 @@ done
 cat >"$work/blobcrash" <<PROGRAM
 #!/bin/sh
 # Runs the program, or that of its first argument.
-case \${1:-} in
-explain | explore)
+name=blobcrash
+case \$#:\${1:-} in
+1:help | 1:--help)
+    exec cat <<'HELP'
+$(help_of_all)
+HELP
+    ;;
+*:explain | *:explore)
     name=blobcrash_\$1
     shift
     ;;
-*) name=blobcrash ;;
 esac
 exec "$prefix/libexec/blobcrash/\$name" "\$@"
 PROGRAM

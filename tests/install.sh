@@ -53,6 +53,11 @@ ok 'its files' diff "$work/files" "$work/found"
 DESTDIR=$work/package sh "$top/bindings/install.sh" /usr >"$work/shown" 2>&1
 list "$work/package/usr" >"$work/found"
 ok 'its files below DESTDIR' diff "$work/files" "$work/found"
+(umask 077 && sh "$top/bindings/install.sh" "$work/strict") >"$work/shown" 2>&1
+list "$work/strict" >"$work/found"
+ok 'its files under umask 077' diff "$work/files" "$work/found"
+find "$work/strict" ! -type l \( ! -perm -444 -o -type d ! -perm -111 \) >"$work/found"
+ok 'under umask 077 others can read them' test ! -s "$work/found"
 ok 'DESTDIR is not in blobcrash.pc' grep -qx 'prefix=/usr' "$work/package/usr/lib/pkgconfig/blobcrash.pc"
 
 mkdir "$work/far"
@@ -64,6 +69,11 @@ ok 'the program' cmp "$work/out" "$top/examples/FIRST.out"
 ok 'explain' grep -q '^# ' "$work/out"
 printf 'config write 0 1 1 2 prefix\nopen p 62\nwrite 0 0 61\ncrash\n' | "$prefix/bin/blobcrash" explore --limit 9 >"$work/out"
 ok 'explore, with its arguments' grep -qx '# 2 leaves, all of them; 2 outcomes' "$work/out"
+"$prefix/bin/blobcrash" help >"$work/shown_help"
+for named in '' ' explain' ' explore' ' resolve' ' help' ' version'; do
+    ok "help names blobcrash$named" grep -q "^  blobcrash$named \( \|\[\)" "$work/shown_help"
+done
+ok 'wrong arguments' expect_status 2 "$prefix/bin/blobcrash" explain more
 if has man; then
     ok 'the manual page' sh -c 'MANROFFSEQ="" man --warnings -l "$1" 2>"$2" >/dev/null && [ ! -s "$2" ]' sh \
         "$prefix/share/man/man1/blobcrash.1" "$work/err"

@@ -1,30 +1,12 @@
 #!/bin/sh
-# Tests of the program as a user meets it: replies, exit statuses, failing streams, and the launcher ./blobcrash.
+# Tests of the program as a user meets it: replies, arguments, exit statuses, failing streams.
 # The last line is `N passed, M failed`.
 # shellcheck disable=SC2016,SC2317,SC2119,SC2120
 top=$(CDPATH='' cd -- "$(dirname -- "$0")/.." && pwd -P)
 # shellcheck source=tests/counting.sh
 . "$top/tests/counting.sh"
-
-# expect NAME STATUS OUTPUT ERRORS: compares what the last `run` left.
-expect() {
-    if [ "$status" = "$2" ] && [ "$(cat "$work/out"; echo .)" = "$3." ] && [ "$(cat "$work/err")" = "$4" ]; then
-        pass
-    else
-        fail "$1: status $status, wanted $2"
-        echo "  out: $(head -c 400 "$work/out")"
-        echo "  err: $(head -c 400 "$work/err")"
-    fi
-}
-
-# run COMMAND..: its status, standard output and standard error, from this function's standard input.
-run() {
-    "$@" >"$work/out" 2>"$work/err"
-    status=$?
-}
-
-line='
-'
+# shellcheck source=tests/running.sh
+. "$top/tests/running.sh"
 
 need_program explain explore
 
@@ -70,36 +52,65 @@ head -c 8190 "$work/region" >"$work/in"
 run "$top/blobcrash" resolve <"$work/in"
 expect 'a region without its last byte' 0 "create$line" ''
 
-# Arguments.
+# Arguments, given to the programs: ./blobcrash refuses some itself (tests/launcher.sh).
 usage='usage: blobcrash [resolve]'
-for words in 'resolve resolve' 'resolve --' 'Resolve' '--version' 'help help' 'build resolve' 'explain more' 'explore more'; do
+for words in 'resolve resolve' 'resolve --' 'Resolve' '--version' 'help help' 'explain' 'explore' 'build'; do
     # shellcheck disable=SC2086
-    run "$top/blobcrash" $words </dev/null
+    run "$program" $words </dev/null
     expect "arguments '$words'" 2 '' "$usage"
 done
-run "$top/blobcrash" '' </dev/null
-expect 'an empty argument' 2 '' "$usage"
-run "$top/blobcrash" 'resolve ' </dev/null
-expect 'an argument with a space' 2 '' "$usage"
-run "$top/blobcrash" "$(printf '\377')" </dev/null
-expect 'an argument that is not UTF-8' 2 '' "$usage"
-
-# Help, which names each command, and the version with the toolchain that the README names. With
-# another toolchain, which may prove the program as well, this prints a note and doesn't fail.
-for word in help --help; do
-    run "$top/blobcrash" "$word" </dev/null
-    missing=0
-    for named in '' ' explain' ' explore' ' resolve' ' help' ' version'; do
-        grep -q "^  blobcrash$named \( \|\[\)" "$work/out" || missing=1
+for words in '' 'resolve ' "$(printf '\377')"; do
+    for way in "$program" "$top/blobcrash"; do
+        run "$way" "$words" </dev/null
+        expect 'an argument that no program takes' 2 '' "$usage"
     done
-    [ "$missing" -eq 1 ] || : >"$work/out"
-    expect "$word" 0 '' ''
 done
+for words in more 'help help' 'help more' 'more help' --limit; do
+    # shellcheck disable=SC2086
+    run "${program}_explain" $words </dev/null
+    expect "arguments of explain '$words'" 2 '' 'usage: blobcrash explain'
+done
+run "${program}_explain" "$(printf '\377')" </dev/null
+expect 'an argument of explain that is not UTF-8' 2 '' 'usage: blobcrash explain'
+
+# Help. Each program names what it does, and ./blobcrash all of it.
+# helps COMMAND..: runs it; what it prints is in $work/help.
+helps() {
+    run "$@" </dev/null
+    cp "$work/out" "$work/help"
+    expect "$*: its status" 0 "$(cat "$work/help")$line" ''
+}
+helps "$program" help
+ok 'the program names what it does' test "$(sed -n 's/^  blobcrash \([a-z]*\) .*/\1/p' "$work/help" | tr '\n' ' ')" = ' resolve help version '
+cp "$work/help" "$work/all"
+helps "$program" --help
+ok 'help and --help' cmp "$work/help" "$work/all"
+for name in explain explore; do
+    helps "${program}_$name" help
+    cp "$work/help" "$work/first"
+    helps "${program}_$name" --help
+    ok "help and --help of $name" cmp "$work/help" "$work/first"
+    ok "$name names itself alone" test "$(grep -c '^  blobcrash' "$work/help") $(grep -c "^  blobcrash $name " "$work/help")" = '1 1'
+    helps "$top/blobcrash" "$name" --help
+    ok "./blobcrash $name --help is its help" cmp "$work/help" "$work/first"
+done
+helps "$top/blobcrash" help
+for name in '' _explain _explore; do
+    "$program$name" help | grep '^  ' >"$work/own"
+    ok "./blobcrash help has that of blobcrash$name" sh -c '! grep -vxFf "$1" "$2"' sh "$work/help" "$work/own"
+done
+
+# The version, with the toolchain that the README names. With another toolchain, which may prove the program as well, this prints a
+# note and doesn't fail.
+run "$program" version </dev/null
+cp "$work/out" "$work/version"
 run "$top/blobcrash" version </dev/null
 kit=$(sed -n 's/^    \(rattle-kit-[^ ]*\) .*/\1/p' "$top/README.md")
 here=$("$(command -v rt || echo /opt/rattle/bin/rt)" version | cut -d ' ' -f 1)
 [ "$here" = "$kit" ] || echo "note: the toolchain here is $here, and README.md and \`blobcrash version\` name $kit"
 release=$(sed -n 's/^## \([0-9.]*\),.*/\1/p' "$top/CHANGELOG.md" | head -n 1)
+expect 'the version by ./blobcrash' 0 "blobcrash $release, proved with $kit$line" ''
+cp "$work/version" "$work/out"
 expect 'the version' 0 "blobcrash $release, proved with $kit$line" ''
 
 # Scripts.
@@ -183,148 +194,7 @@ in_place() { (cd "$work/a place" && CDPATH=/ "./to the top/blobcrash" resolve); 
 run in_place <"$work/in"
 expect 'from another directory' 0 "valid 0 7 8$line" ''
 
-# The launcher, with a toolchain that logs what it is asked for and makes a program that prints its arguments.
-copy=$work/copy
-tools=$work/kit/bin
-mkdir -p "$copy/crates/blobcrash/src" "$copy/crates/blobcrash_explain/src" "$copy/tools" "$tools"
-cp "$top/blobcrash" "$top/HANDLES" "$copy"
-cp "$top/tools/building.sh" "$top/tools/prove" "$copy/tools"
-printf 'blobcrash:\nblobcrash_explain:\n' >"$copy/crates.txt"
-main=$copy/crates/blobcrash/src/main.rt
-echo first >"$main"
-echo first >"$copy/crates/blobcrash_explain/src/main.rt"
-cat >"$tools/rt" <<TOOL
-#!/bin/sh
-echo "\$*" >>"$work/asked"
-exec "$tools/try" "\$@"
-TOOL
-cat >"$tools/rattle" <<TOOL
-#!/bin/sh
-echo "\$1 \$3" >>"$work/asked"
-sleep 1
-while [ "\$1" != -o ]; do shift; done
-case \$2 in *.rlib) mkdir "\$2" && : >"\$2/format" ;; esac
-TOOL
-cat >"$tools/rattle-link" <<'TOOL'
-#!/bin/sh
-while [ "$1" != -o ]; do shift; done
-printf '#!/bin/sh\nfor word in "$@"; do echo "<$word>"; done\ncat\nexit 7\n' >"$2"
-chmod +x "$2"
-TOOL
-cat >"$tools/try" <<'TOOL'
-#!/bin/sh
-shift 2
-for word in "$@"; do echo "[$word]"; done
-[ "${1:-}" = partly ] && exec echo 'run=none proved=no' >&2
-cat
-printf 'line 3: bad call\nchecked: ended status=2\nrun=ended status=2 runners=1 proved=no\n' >&2
-exit 2
-TOOL
-chmod +x "$tools"/*
-
-# The number of minutes in the notice depends on the number of processors.
-launch() {
-    PATH=$tools:$PATH "$copy/blobcrash" "$@" 2>"$work/told"
-    status=$?
-    sed 's/about [0-9]* minutes/about N minutes/' "$work/told" >&2
-    return "$status"
-}
-unproved() { (unset BLOBCRASH_PROVED && launch "$@"); }
-# asked NAME WANTED: the arguments of the toolchain since the last time.
-asked() {
-    : >"$work/err"
-    cp "$work/asked" "$work/out" 2>/dev/null || : >"$work/out"
-    rm -f "$work/asked"
-    status=0
-    expect "$1" 0 "$2" ''
-}
-note='not proved yet: ./blobcrash build proves and builds it, about N minutes'
-notice="proving 1 crates to build blobcrash, about N minutes${line}blobcrash is proved"
-
-echo 'open p 62' >"$work/in"
-run unproved <"$work/in"
-expect 'a script from a file is answered without a proof' 2 "open p 62$line" "$note${line}line 3: bad call"
-run unproved one 'two words' <"$work/in"
-expect 'its arguments' 2 "[one]${line}[two words]${line}open p 62$line" "$note${line}line 3: bad call"
-{ run unproved help; cat >>"$work/out"; } <"$work/in"
-expect 'help leaves its input alone' 2 "[help]${line}open p 62$line" "$note${line}line 3: bad call"
-asked 'nothing is built for these' "try --${line}try -- one two words${line}try -- help$line"
-run unproved partly <"$work/in"
-expect 'without a complete answer it is built and run' 7 "<partly>${line}open p 62$line" \
-    "$note${line}blobcrash: no complete answer from the unproved sources$line$notice"
-asked 'it was tried once' "try -- partly${line}build blobcrash$line"
-
-echo second >"$main"
-talk() { echo talk | unproved; }
-run talk
-expect 'a run that talks builds first' 7 "talk$line" "$notice"
-
-echo third >"$main"
-PATH=$tools:$PATH "$copy/blobcrash" one 'two words' </dev/null >"$work/first" 2>/dev/null &
-run launch one 'two words' </dev/null
-: >"$work/err"
-wait
-expect 'two first uses at once' 7 "<one>$line<two words>$line" ''
-cp "$work/first" "$work/out"
-expect 'the other first use' 7 "<one>$line<two words>$line" ''
-asked 'the two builds' "build blobcrash${line}build blobcrash$line"
-run launch </dev/null
-expect 'a later use builds nothing' 7 '' ''
-touch "$main"
-run launch </dev/null
-expect 'a source with a new date alone' 7 '' ''
-echo second >"$main"
-run launch </dev/null
-expect 'a source as it was before' 7 '' ''
-mkdir "$copy/crates/blobcrash/must-fail" "$copy/crates/other"
-run launch </dev/null
-expect 'files that the program is not built of' 7 '' ''
-run launch build
-expect 'a build where nothing is to be done' 0 '' 'blobcrash: out/blobcrash is proved and built'
-asked 'none of these is built' ''
-echo fourth >"$main"
-run launch build
-expect 'a build' 0 '' "$notice${line}blobcrash: out/blobcrash is proved and built"
-rm "$work/asked"
-
-# `explain` is a program of its own.
-run unproved explain 'two words' <"$work/in"
-expect 'explain without a proof' 2 "[two words]${line}open p 62$line" \
-    "not proved yet: ./blobcrash build explain proves and builds it, about N minutes${line}line 3: bad call"
-asked 'its arguments have no word before them' "try -- two words$line"
-run launch build explain
-expect 'a build of explain' 0 '' \
-    "proving 1 crates to build blobcrash_explain, about N minutes${line}blobcrash_explain is proved${line}blobcrash: out/blobcrash_explain is proved and built"
-run launch explain 'two words' </dev/null
-expect 'a run of explain' 7 "<two words>$line" ''
-asked 'one build' "build blobcrash_explain$line"
-
-# Libraries are kept: a build proves those that changed, and what is above them.
-mkdir -p "$copy/crates/low/src" "$copy/crates/high/src"
-echo first | tee "$copy/crates/high/src/lib.rt" >"$copy/crates/low/src/lib.rt"
-printf 'low:\nhigh: low\nblobcrash: high\n' >"$copy/crates.txt"
-run launch build
-asked 'libraries and a program' "build low${line}build high${line}build blobcrash$line"
-echo fifth >"$main"
-run launch build
-asked 'the program alone' "build blobcrash$line"
-echo second >"$copy/crates/high/src/lib.rt"
-run launch build
-expect 'a build over a kept library' 0 '' "proving 2 crates to build blobcrash, about N minutes
-high is proved, 1 left, about N minutes
-blobcrash is proved
-blobcrash: out/blobcrash is proved and built"
-asked 'a changed library and the program' "build high${line}build blobcrash$line"
-echo second >"$copy/crates/low/src/lib.rt"
-run launch build
-asked 'all that is above a changed library' "build low${line}build high${line}build blobcrash$line"
-
-printf '#!/bin/sh\necho "no proof of it"\nexit 1\n' >"$tools/rattle"
-echo sixth >"$main"
-run launch </dev/null
-expect 'a failed build' 125 '' "${notice%"$line"*}${line}== blobcrash${line}no proof of it${line}blobcrash: the build failed; see out/build.log"
-
-# A fresh copy, with nothing built: the sources answer as the program does.
+# A copy with nothing built: the sources answer as the program does.
 fresh=$work/fresh
 top=$top sh -c '. "$top/tools/building.sh" && copy_crates "$1" blobcrash' sh "$fresh"
 cp "$top/blobcrash" "$fresh"
@@ -333,18 +203,9 @@ cp -R "$top/tools" "$fresh"
 "$program" <"$work/in" >"$work/right" 2>"$work/wrong"
 unbuilt() { (unset BLOBCRASH_PROVED && "$fresh/blobcrash" "$@"); }
 run unbuilt <"$work/in"
+run unbuilt <"$work/in"
 sed -i 's/about [0-9]* minutes/about N minutes/' "$work/err"
-expect 'a script that the sources answer' 2 "$(cat "$work/right")$line" "$note$line$(cat "$work/wrong")"
-
-sed 's#/opt/rattle/#/opt/no_rattle/#g' "$top/blobcrash" >"$copy/blobcrash"
-no_toolchain() {
-    for tool in sh dirname find head mkdir flock sed awk sort tr xargs sha256sum cp mv rm ln ls cat; do
-        place=$(command -v "$tool") && ln -sf "$place" "$work/a place/$tool"
-    done
-    PATH="$work/a place" "$copy/blobcrash"
-}
-run no_toolchain </dev/null
-expect 'no toolchain' 127 '' "blobcrash: the program isn't built yet, and the Rattle toolchain is missing:\
- there is no rt on PATH, and no /opt/no_rattle/bin/rt"
+expect 'a script that the unproved program answers' 2 "$(cat "$work/right")$line" \
+    "not proved yet: ./blobcrash build proves and builds it, about N minutes$line$(cat "$work/wrong")"
 
 finish

@@ -1,6 +1,6 @@
 # shellcheck shell=sh disable=SC2154
 # Sourced by ./blobcrash, tools/built, tools/prove, test and bindings/build.sh: the crates below a crate, whether a built file is
-# current, and one build of a file at a time. `top` is the top of the repository.
+# current, one build of a file at a time, and what builds keep. `top` is the top of the repository.
 
 # How many versions of a file out/kept has at most. They are used after a change of branch and back.
 kept_most=4
@@ -8,6 +8,53 @@ kept_most=4
 # soname: the name by which programs load the shared library. Until 1.0 a minor version may change its functions.
 soname() {
     sed -n 's/^const VERSION: &str = "blobcrash \([0-9]*\.[0-9]*\)\..*/libblobcrash.so.\1/p' "$top/crates/blobcrash/src/main.rt"
+}
+
+# version: the release and the toolchain that it is proved with, as the program prints them.
+version() {
+    sed -n 's/^const VERSION: &str = "\(.*\)";$/\1/p' "$top/crates/blobcrash/src/main.rt"
+}
+
+# help_of NAME: the help of the program NAME, as it prints it.
+help_of() {
+    sed -n '/^const HELP: &str = "/,/";$/ { s/^const HELP: &str = "//; s/";$//; p; }' "$top/crates/$1/src/main.rt"
+}
+
+# help_of_all [LINE ..]: the help of a launcher of all programs, with further lines.
+help_of_all() {
+    echo 'usage: blobcrash [explain|explore|resolve|help|version]'
+    echo
+    for of in blobcrash blobcrash_explain blobcrash_explore; do help_of "$of" | grep '^  '; done
+    [ $# -eq 0 ] || printf '%s\n' "$@"
+    echo
+    help_of blobcrash | tail -n 1
+}
+
+# is_private FOLDER: whether FOLDER is a folder of this user, which no other user may read or write.
+is_private() {
+    [ -n "$(find "$1" -prune -type d -user "$(id -u)" -perm 700 2>/dev/null)" ] && [ -w "$1" ]
+}
+
+# cache_folder: prints the folder of this user that has what all clones share: proved libraries and unproved programs. A build takes
+# them from there as they are, so it isn't used if another user could have written to it. Its place is outside the repository, since
+# `rt ci` refuses sources that it doesn't check.
+cache_folder() {
+    case ${XDG_CACHE_HOME:-} in
+    /*) usual=$XDG_CACHE_HOME/blobcrash ;;
+    *) usual=${HOME:+$HOME/.cache/blobcrash} ;;
+    esac
+    other=${TMPDIR:-/tmp}/blobcrash-$(id -u)
+    for folder in ${usual:+"$usual"} "$other"; do
+        mkdir -p -- "${folder%/*}" 2>/dev/null || true
+        mkdir -m 700 -- "$folder" 2>/dev/null || true
+        if is_private "$folder"; then
+            [ "$folder" != "$other" ] || echo "blobcrash: ${usual:-the home folder} can't be used; $folder is used instead" >&2
+            echo "$folder"
+            return
+        fi
+    done
+    echo "blobcrash: ${usual:+$usual and }$other can't be used: not a folder of this user alone, with mode 0700" >&2
+    return 1
 }
 
 # crates_of TOP NAME ..: the lines of TOP/crates.txt of these crates and of all crates below them, in the file's order.
@@ -82,6 +129,9 @@ sum_of() (
         sed 's/ .*//'
 )
 
+# unproved_name TOP NAME KIT: the name of a program that is compiled from these sources without a proof, by the toolchain KIT.
+unproved_name() { echo "$2.$({ sum_of "$1" "$2" && cat "$3/KIT-ID" 2>/dev/null; } | sha256sum | cut -c 1-64)"; }
+
 # is_built FILE NAME: whether FILE exists and was built from the current sources of the crate NAME. FILE.sum has the checksum of
 # the sources that it was built from. Its modification time is that of the last comparison: the checksum is computed again only if
 # a source changed after it. If out/kept has a version that was built from the current sources, that becomes FILE.
@@ -89,14 +139,16 @@ is_built() {
     [ -f "$1" ] && [ -f "$1.sum" ] || return 1
     [ -n "$(cd "$top" && find crates.txt HANDLES crates \( -name out -o -name must-fail \) -prune -o \
         -cnewer "$1.sum" -print | head -n 1)" ] || return 0
-    # Its time is before the sources are read, so that a change during the reading is seen next time.
+    # Its time is before the sources are read, so that a change during the reading is seen next time. A folder that can't be written
+    # is compared each time.
     looked=$1.looked.$$
-    cp "$1.sum" "$looked" || return
+    cp "$1.sum" "$looked" 2>/dev/null || looked=
     sum=$(sum_of "$top" "$2")
     if [ "$sum" = "$(cat "$1.sum")" ]; then
-        mv -f "$looked" "$1.sum"
+        [ -z "$looked" ] || mv -f "$looked" "$1.sum"
         return
     fi
+    [ -n "$looked" ] || return
     kept=$top/out/kept/${1##*/}.$sum
     back=$1.back.$$
     is_back=1

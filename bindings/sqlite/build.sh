@@ -9,8 +9,6 @@ top=$(CDPATH='' cd -- "$here/../.." && pwd -P)
 out=${OUT:-$top/out/sqlite}
 compiler=${CC:-cc}
 archive=${BLOBCRASH_ARCHIVE:-}
-vfs="$here/layer.c $here/store.c $here/directory.c $here/parameters.c $here/vfs.c"
-flags="-std=c11 -D_XOPEN_SOURCE=700 -O2 -g -Wall -Wextra -Werror -I$top/bindings/c -I$here -I$here/crash ${CFLAGS:-}"
 
 if ! echo '#include <sqlite3ext.h>' | "$compiler" -E - >/dev/null 2>&1; then
     echo "build.sh: there is no $compiler with sqlite3ext.h (Debian: gcc, libsqlite3-dev)" >&2
@@ -30,16 +28,22 @@ is_current() {
 . "$top/tools/building.sh"
 mkdir -p "$out" "$top/out"
 lock sqlite
-# shellcheck disable=SC2086
+
+# compile FILE ARGUMENT ..: compiles the VFS and further sources to FILE, in one step.
+compile() {
+    file=$1
+    shift
+    # shellcheck disable=SC2086
+    "$compiler" -std=c11 -D_XOPEN_SOURCE=700 -O2 -g -Wall -Wextra -Werror "-I$top/bindings/c" "-I$here" "-I$here/crash" ${CFLAGS:-} \
+        -o "$file.new" "$here/layer.c" "$here/store.c" "$here/directory.c" "$here/parameters.c" "$here/vfs.c" "$@"
+    mv -f "$file.new" "$file"
+}
+
 if ! is_current "$out/crash"; then
-    "$compiler" $flags -DSQLITE_CORE -o "$out/crash.new" "$here"/crash/*.c $vfs "$archive" -lsqlite3
-    mv -f "$out/crash.new" "$out/crash"
+    compile "$out/crash" -DSQLITE_CORE "$here"/crash/*.c "$archive" -lsqlite3
 fi
-# shellcheck disable=SC2086
 if ! is_current "$out/blobcrash.so"; then
     # Only the entry point is visible, so that the names of the library don't meet those of a program that loads it.
     echo '{ global: sqlite3_blobcrash_init; local: *; };' >"$out/blobcrash.map"
-    "$compiler" $flags -fPIC -shared -o "$out/blobcrash.so.new" -Wl,--version-script="$out/blobcrash.map" \
-        $vfs "$here/extension.c" "$archive"
-    mv -f "$out/blobcrash.so.new" "$out/blobcrash.so"
+    compile "$out/blobcrash.so" -fPIC -shared "-Wl,--version-script=$out/blobcrash.map" "$here/extension.c" "$archive"
 fi

@@ -1,0 +1,22 @@
+# shellcheck shell=sh disable=SC2034,SC2154
+# Sourced after tests/counting.sh by tests of commands: runs one, and compares its status and both of its streams.
+
+line='
+'
+
+# run COMMAND..: its status, standard output and standard error, from this function's standard input.
+run() {
+    "$@" >"$work/out" 2>"$work/err"
+    status=$?
+}
+
+# expect NAME STATUS OUTPUT ERRORS: compares what the last `run` left.
+expect() {
+    if [ "$status" = "$2" ] && [ "$(cat "$work/out"; echo .)" = "$3." ] && [ "$(cat "$work/err")" = "$4" ]; then
+        pass
+    else
+        fail "$1: status $status, wanted $2"
+        echo "  out: $(head -c 400 "$work/out")"
+        echo "  err: $(head -c 400 "$work/err")"
+    fi
+}
