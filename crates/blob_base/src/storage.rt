@@ -1,11 +1,12 @@
 // The storage traits and their laws.
-ghost use Rattle.std.specs.Prelude.{◌≡◌, ◌≢◌, ◌⊎◌, ◌+◌, ◌≤◌, ◌<◌, ◌^◌, ◌↔◌, ℕ, List, [], Bool, true, false, Option, Some, None, is_some, IsSome, IsTrue, OnOk, OnErr, IfOk, length, take, drop, option_copied};
+ghost use Rattle.std.specs.Prelude.{◌≡◌, ◌≢◌, ◌⊎◌, ◌+◌, ◌≤◌, ◌<◌, ◌^◌, ◌↔◌, ℕ, List, [], Bool, true, false, Option, Some, None, is_some, IsSome, option_map, IsTrue, OnOk, OnErr, IfOk, length, take, drop, option_copied};
 ghost use Rattle.std.specs.Range.{range_inclusive_exhausted};
 ghost use Rattle.blob_model.specs.Bytes.{resize};
-ghost use Rattle.blob_model.specs.Directory.{Directory, is_current};
+ghost use Rattle.blob_model.specs.Directory.{Directory, current, is_current};
 ghost use Rattle.blob_model.specs.Durable.{Durable};
+ghost use Rattle.blob_model.specs.Files.{is_removed_by};
 ghost use Rattle.blob_model.specs.Live.{live_written};
-ghost use Rattle.blob_base.specs.Names.{ListsNames};
+ghost use Rattle.blob_base.specs.Names.{ListsNames, HasNumbers};
 ghost use Rattle.blob_base.specs.HandleCalls.{AllowsNoMoreReserves, AllowsNoMoreWrites, HandleCall, Read, Resize, Sync, StartSync, Reserve};
 ghost use Rattle.blob_base.specs.Handles.{outcome_of, outcome_error, marker_of, HasSynced};
 ghost use Rattle.blob_base.specs.Options.{is_sync, IsSync};
@@ -16,6 +17,7 @@ ghost use Rattle.blob_header.specs.Versions.{lower, upper};
 
 use crate::{Handle, IoBufs, IoBufsMut, ReadOptions, WriteOptions};
 use blob_header::{BlobVersion, DEFAULT_BLOB_VERSION, Error};
+use std::alloc::AllocError;
 use std::ops::RangeInclusive;
 
 /// Durable bytes by incarnation. An incarnation is one life of a name: from the open that creates or accepts its blob
@@ -36,6 +38,23 @@ pub trait Durable {
     /// Returns whether the incarnation is its name's current one. A handle on any other is stale. Doesn't allocate.
     fn is_current(&self, origin: &Self::Origin) -> bool
         ensures { result ≡ is_current (directory self.now) (place origin.now) };
+
+    /// Returns whether the incarnation is current and a removal of the name ends it, or without a name a removal of the
+    /// partition. Doesn't allocate.
+    fn is_removed(&self, origin: &Self::Origin, partition: &str, name: Option<&[u8]>) -> bool
+        ensures { result ≡ is_removed_by (directory self.now) partition.now (option_copied name.entry) (place origin.now) };
+
+    /// Returns the number of an incarnation. Doesn't allocate.
+    fn number_of(origin: &Self::Origin) -> u64
+        ensures { result ≡ (place origin.now).number };
+
+    /// Returns the number of the name's current incarnation, if it has one. Doesn't allocate.
+    fn current_number(&self, partition: &str, name: &[u8]) -> Option<u64>
+        ensures { result ≡ option_map (λ o. o.number) (current (directory self.now) partition.now name.now) };
+
+    /// Returns the numbers of the partition's current incarnations. The only error is out of memory.
+    fn current_numbers(&self, partition: &str) -> Result<Vec<u64>, AllocError>
+        ensures { IfOk result (λ numbers. HasNumbers (directory self.now) partition.now numbers.items) };
 
     // equal origins identify one incarnation, and an incarnation has one origin
     ghost same_origins: { (a b : Self.Origin) → Self.Origin.eq a b ≡ same_place (place a) (place b) };

@@ -1,5 +1,5 @@
 -- Opens with `admit` over the memory store: what they retire, what they leave of a wrapper, and what they find.
-use Rattle.std.specs.Prelude.{◌≡◌, ℕ, Bool, not, List, length, Option, None, Some, IsSome, MatchBool}
+use Rattle.std.specs.Prelude.{◌≡◌, ℕ, List, length, Option, None, Some, IsSome, MatchBool}
 use Rattle.std.specs.declared.ops.RangeInclusive.{RangeInclusive}
 use Rattle.rand_core.specs.Stream.{Stream}
 use Rattle.blob_header.specs.Fronts.{BeginsWith}
@@ -7,7 +7,7 @@ use Rattle.blob_header.specs.Refusals.{Refusal}
 use Rattle.blob_header.specs.Versions.{lower, upper}
 use Rattle.blob_header.specs.declared.version.BlobVersion.{BlobVersion}
 use Rattle.blob_model.specs.Directory.{Directory, current}
-use Rattle.blob_model.specs.Files.{Files, after_open, admit, is_removed_by}
+use Rattle.blob_model.specs.Files.{Files, after_open, admit}
 use Rattle.blob_model.specs.Opened.{IsNamed}
 use Rattle.blob_model.specs.Opening.{IsOpened}
 use Rattle.blob_model.specs.Places.{Place}
@@ -17,16 +17,11 @@ use Rattle.blob_memory.specs.Store.{directory, durable, place, live}
 use Rattle.blob_memory.specs.declared.blob.Blob as memory_blob
 use Rattle.blob_draws.specs.Answers.{injected_or}
 use Rattle.blob_draws.specs.Faults.{draw}
-use Rattle.blob_pending.specs.declared.incarnation.Incarnation.{Incarnation}
 use Rattle.blob_faulty.specs.declared.blob.Blob.{Blob}
 use Rattle.blob_faulty.specs.declared.storage.Storage.{Storage}
 use Rattle.blob_faulty.specs.Keeps.{OverMemory, IsFor, Keeps, LosesNothing}
 use Rattle.blob_faulty.specs.Names.{Steps}
 use Rattle.blob_faulty.specs.Wrapper.{inner_of, rng_of, config_of, pending_of, KeepsNumbers, inside, size_of}
-
--- whether a pending list is of another incarnation than a name's current one
-abbrev pub is_of_another : Directory → List ℕ → List ℕ → Incarnation Place → Bool
-is_of_another directory p n list = not (is_removed_by directory p (Some n) list.origin)
 
 -- what is pending of a name's current incarnation is retired
 pub record Admits {R : Type 0} (before after : OverMemory R) (p n : List ℕ) : Type 0 where

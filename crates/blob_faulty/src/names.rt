@@ -1,10 +1,12 @@
 //! Opens, removals, scans and finished syncs of the wrapper.
-ghost use Rattle.std.specs.Prelude.{◌≡◌, OnOk, OnErr, option_copied};
+ghost use Rattle.std.specs.Prelude.{◌≡◌, None, OnOk, OnErr, option_copied};
 ghost use Rattle.blob_base.specs.Handles.{outcome_of, marker_of};
+ghost use Rattle.blob_base.specs.StoreChanges.{DropsBytes, DropsNames, SameFiles};
 ghost use Rattle.blob_header.specs.Refusals.{error_of};
 ghost use Rattle.blob_draws.specs.Answers.{injected_or};
 ghost use Rattle.blob_draws.specs.Faults.{draw};
-ghost use Rattle.blob_faulty.specs.Names.{OpenLeaves, MayRemove, MayRemoveNamed, Removes, RemovesNamed, RemovesNames, RemovesBytes, RemovesFiles, ScanLeaves, FinishLeaves, SameStore, Steps};
+ghost use Rattle.blob_pending.specs.Lists.{SameLists};
+ghost use Rattle.blob_faulty.specs.Names.{EndsLists, OpenLeaves, MayRemove, MayRemoveNamed, Removes, RemovesNamed, RemovesNames, RemovesBytes, RemovesFiles, ScanLeaves, FinishLeaves, SameStore, Steps};
 ghost use Rattle.blob_faulty.specs.Wrapper.{inner_of, rng_of, config_of, inside, size_of};
 
 use crate::blob::Blob;
@@ -12,8 +14,53 @@ use crate::retired::Retired;
 use crate::storage::Storage;
 use blob_base::{BlobVersion, Error, Handle};
 use blob_draws::faults::draws;
+use blob_pending::lists::Lists;
 use rand_core::Rng;
 use std::ops::RangeInclusive;
+
+/// Removes a partition from a store, and retires the lists of the incarnations that this ends. Looks at each list.
+fn remove_partition<S: blob_base::Storage>(
+    inner: &mut S,
+    lists: &mut Lists<S>,
+    partition: &str,
+) -> Result<(), Error>
+    ensures allowed { S.allows_remove inner.old partition.now None (error_of result) }
+    ensures leaves { S.leaves_remove inner.old partition.now None (error_of result) inner.new }
+    ensures directory { OnOk result (DropsNames S.Durable inner.old inner.new partition.now None) }
+    ensures durable { OnOk result (DropsBytes S.Durable inner.old inner.new partition.now None) }
+    ensures err { OnErr result (SameFiles S.Durable inner.old inner.new) }
+    ensures retired { OnOk result (EndsLists S.Durable inner.old partition.now None lists.old.all lists.new.all) }
+    ensures kept { OnErr result (SameLists S.place lists.old.all.lists.items lists.new.all.lists.items) }
+{
+    lists.note_current(inner);
+    inner.remove(partition, None)?;
+    lists.retire_ended(inner);
+    Ok(())
+}
+
+/// Removes a blob from a store, or with no name the partition, and retires the lists of the incarnations that this ends.
+fn remove_listed<S: blob_base::Storage>(
+    inner: &mut S,
+    lists: &mut Lists<S>,
+    partition: &str,
+    name: Option<&[u8]>,
+) -> Result<(), Error>
+    ensures allowed { S.allows_remove inner.old partition.now (option_copied name.entry) (error_of result) }
+    ensures leaves { S.leaves_remove inner.old partition.now (option_copied name.entry) (error_of result) inner.new }
+    ensures directory { OnOk result (DropsNames S.Durable inner.old inner.new partition.now (option_copied name.entry)) }
+    ensures durable { OnOk result (DropsBytes S.Durable inner.old inner.new partition.now (option_copied name.entry)) }
+    ensures err { OnErr result (SameFiles S.Durable inner.old inner.new) }
+    ensures retired { OnOk result (EndsLists S.Durable inner.old partition.now (option_copied name.entry) lists.old.all lists.new.all) }
+    ensures kept { OnErr result (SameLists S.place lists.old.all.lists.items lists.new.all.lists.items) }
+{
+    let Some(name) = name else {
+        return remove_partition(inner, lists, partition);
+    };
+    let list = lists.find_name(inner, partition, name);
+    inner.remove(partition, Some(name))?;
+    lists.retire_found(list);
+    Ok(())
+}
 
 impl<S: blob_base::Storage, R: Rng> Storage<S, R> {
     /// Draws the remove rate, then removes the blob, or with no name the whole partition, and retires the pending lists of the
@@ -36,9 +83,7 @@ impl<S: blob_base::Storage, R: Rng> Storage<S, R> {
         if draws(self.config.remove_rate, &mut self.rng) {
             return Err(Error::Injected);
         }
-        self.lists.note_current(&self.inner);
-        self.inner.remove(partition, name)?;
-        self.lists.retire_ended(&self.inner);
+        remove_listed(&mut self.inner, &mut self.lists, partition, name)?;
         Ok(Retired { _private: () })
     }
 }

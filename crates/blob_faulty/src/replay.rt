@@ -55,6 +55,7 @@ fn replay_entry(bytes: &mut Bytes, entry: &Entry, rows: &[(u64, Vec<bool>)], cho
             overlay::write_slice(bytes, range.offset as usize, &range.bytes).unwrap();
         }
         Entry::Marker(_) => (),
+        Entry::Dropped => (),
     }
 }
 

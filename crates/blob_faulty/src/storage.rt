@@ -12,7 +12,8 @@ use blob_draws::config::Config;
 use blob_pending::incarnation::Incarnation;
 use blob_pending::lists::Lists;
 use rand_core::Rng;
-use std::alloc::Global;
+use std::alloc::{AllocError, Global};
+use std::mem;
 
 /// A store that fails by draws of a generator and records the mutations that a crash could still lose.
 ///
@@ -74,7 +75,7 @@ impl<S: Durable, R> Storage<S, R> {
     }
 
     /// Returns the pending lists, in no order. Ended incarnations and empty lists may be among them, and a list may have a write
-    /// that later durable ranges cover fully (`Entry::is_left` is false for it).
+    /// that later durable ranges cover fully, and entries that a sync dropped (`Entry::is_left` is false for them).
     pub fn pending(&self) -> &[Incarnation<S::Origin>]
         ensures { list_of S.place result.now ≡ pending_of S.place self.now }
     {
@@ -107,6 +108,15 @@ impl<S: Durable, R> Storage<S, R> {
         self.rng = rng;
     }
 
+    /// Replaces the generator as `set_rng` does, and returns the one before.
+    pub fn replace_rng(&mut self, rng: R) -> R
+        ensures before { result ≡ rng_of self.old }
+        ensures set { self.new ≡ with_rng self.old rng }
+        ensures files { Steps S.place S.directory S.durable self.old self.new (λ files. files) }
+    {
+        mem::replace(&mut self.rng, rng)
+    }
+
     /// Returns the inner store, the generator and the configuration. Drops the pending lists.
     pub fn into_inner(self) -> (S, R, Config)
         ensures inner { result.0 ≡ inner_of self }
@@ -137,5 +147,25 @@ impl<S: blob_base::Storage, R: Rng> Durable for Storage<S, R> {
     /// Returns whether the incarnation is its name's current one in the inner store.
     fn is_current(&self, origin: &S::Origin) -> bool {
         self.inner.is_current(origin)
+    }
+
+    /// Returns what the inner store returns.
+    fn is_removed(&self, origin: &S::Origin, partition: &str, name: Option<&[u8]>) -> bool {
+        self.inner.is_removed(origin, partition, name)
+    }
+
+    /// Returns the number of the incarnation.
+    fn number_of(origin: &S::Origin) -> u64 {
+        S::number_of(origin)
+    }
+
+    /// Returns the number of the name's current incarnation in the inner store, if it has one.
+    fn current_number(&self, partition: &str, name: &[u8]) -> Option<u64> {
+        self.inner.current_number(partition, name)
+    }
+
+    /// Returns the numbers of the partition's current incarnations in the inner store. The only error is out of memory.
+    fn current_numbers(&self, partition: &str) -> Result<Vec<u64>, AllocError> {
+        self.inner.current_numbers(partition)
     }
 }

@@ -7,4 +7,5 @@ pub mod ScriptRuns
 pub mod ScriptStarts
 pub mod ScriptSteps
 pub mod StreamSteps
+pub mod TextLines
 pub mod WorkedScripts

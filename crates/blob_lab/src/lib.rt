@@ -6,6 +6,7 @@ pub mod resolution_line;
 pub mod resolutions;
 pub mod scripts;
 pub mod streams;
+pub mod text_lines;
 
 pub use blob_debt::{Generation, GenerationId, Pending, Receiver, Sender, pending};
 pub use blob_lab_model::laws;
@@ -17,3 +18,4 @@ pub use resolution_line::ResolutionLine;
 pub use resolutions::{run_resolve, serve_resolve};
 pub use scripts::{run_script, serve_script};
 pub use streams::{Input, Output};
+pub use text_lines::first_line;

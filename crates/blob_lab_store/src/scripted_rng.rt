@@ -1,5 +1,5 @@
 //! A generator with given first words.
-ghost use Rattle.std.specs.Prelude.{◌≡◌, ◌++◌, IfOk, IfSome, is_none, is_some};
+ghost use Rattle.std.specs.Prelude.{◌≡◌, ◌≤◌, ◌++◌, IfOk, IfSome, OnErr, OnOk, drop, is_none, is_some, vec_len};
 ghost use Rattle.blob_tree.specs.WordsLeft.{EndsAfter};
 ghost use Rattle.blob_lab_model.specs.Scripted.{next_of, scripted_stream};
 ghost use Rattle.rand_xoshiro.specs.SplitMix64.{splitmix_seed};
@@ -8,7 +8,7 @@ ghost use Rattle.rand_xoshiro.specs.Xoshiro256.{of_seed};
 use rand_core::utils::NextWord;
 use rand_core::{Rng, SeedableRng, utils};
 use rand_xoshiro::Xoshiro256PlusPlus;
-use std::alloc::{AllocError, Global};
+use std::alloc::AllocError;
 use std::marker::Model;
 
 /// Returns the given words in order, and then zeros or the words of a seed.
@@ -30,6 +30,30 @@ impl Model for ScriptedRng {
     ghost view = { λ rng. (drop rng.at rng.words.items, rng.behind) };
 
     ghost invariant = { λ rng. rng.at ≤ length rng.words.items };
+}
+
+/// Puts words before those from index `at` on, over the ones that were taken. Returns the index of the first. If there is too little
+/// space, it makes as much as all of them take, so that the cost of a word doesn't grow with their number. After an error nothing
+/// has changed.
+fn put_before(all: &mut Vec<u64>, at: usize, words: &[u64]) -> Result<usize, AllocError>
+    requires { at ≤ vec_len all.old }
+    ensures ok { IfOk result (λ start. drop start all.new.items ≡ words.now ++ drop at all.old.items) }
+    ensures inside { IfOk result (λ start. start ≤ vec_len all.new) }
+    ensures err { OnErr result (all.new.items ≡ all.old.items) }
+{
+    if at >= words.len() {
+        let start = at - words.len();
+        all[start..at].copy_from_slice(words);
+        return Ok(start);
+    }
+    let left = &all[at..];
+    let start = words.len().saturating_add(left.len());
+    let mut more = Vec::with_capacity(*all.allocator(), start.saturating_mul(2))?;
+    more.resize(start, 0)?;
+    more.extend_from_slice(words)?;
+    more.extend_from_slice(left)?;
+    *all = more;
+    Ok(start)
 }
 
 impl ScriptedRng {
@@ -70,17 +94,13 @@ impl ScriptedRng {
         Some(end - self.at)
     }
 
-    /// Returns a generator that gives these words first, and then what this one gives. The only error is failed allocation.
-    pub fn with_words(&self, alloc: Global, words: &[u64]) -> Result<ScriptedRng, AllocError>
-        ensures { IfOk result (λ rng. rng ≡ (words.now ++ self.now.0, self.now.1)) }
+    /// Inserts words before those that it gives next. After an error it is unchanged.
+    pub fn push_words(&mut self, words: &[u64]) -> Result<(), AllocError>
+        ensures ok { OnOk result (self.new ≡ (words.now ++ self.old.0, self.old.1)) }
+        ensures err { OnErr result (self.new ≡ self.old) }
     {
-        let mut all = Vec::from_slice(alloc, words)?;
-        all.extend_from_slice(&self.words[self.at..])?;
-        Ok(ScriptedRng {
-            words: all,
-            at: 0,
-            behind: self.behind.clone()?,
-        })
+        self.at = put_before(&mut self.words, self.at, words)?;
+        Ok(())
     }
 }
 

@@ -9,7 +9,7 @@ use Rattle.blob_model.specs.Persistence.{any_touches}
 use Rattle.blob_faulty.specs.Admitted.{OpensAdmitted, StaysSame}
 use Rattle.blob_faulty.specs.Keeps.{OverMemory, IsFor}
 use Rattle.blob_faulty.specs.Wrapper.{inner_of, inside}
-use Rattle.blob_memory.specs.Store.{directory, live}
+use Rattle.blob_memory.specs.Store.{directory, durable, live}
 use Rattle.blob_log.specs.declared.log.Log.{Log}
 use Rattle.blob_log.specs.Frames.{frame}
 use Rattle.blob_log.specs.Held.{log_place, log_blob, log_end}
@@ -39,3 +39,7 @@ LieIn offset n entries = (p : ℕ) → lies offset n p ≡ false → any_touches
 abbrev pub TriesFrame : {R : Type 0} → Log → List ℕ → OverMemory R → OverMemory R → Type 0
 TriesFrame log entry before after = (files : Files) → IsFor before files → is_current (directory (inner_of before)) (log_place log) ≡ true →
     (entries : List Entry) × LieIn (log_end log) (length (frame entry)) entries × IsFor after (all_logged files (log_place log) entries)
+
+-- the live bytes of the log's handle, and the durable bytes of every file, are unchanged
+abbrev pub SameBytes : {R : Type 0} → Log → OverMemory R → Log → OverMemory R → Type 0
+SameBytes log before log' after = (log_live log' ≡ log_live log) × (durable (inner_of after) ≡ durable (inner_of before))

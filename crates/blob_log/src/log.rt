@@ -1,13 +1,13 @@
 //! A log of records in one blob of a fault wrapper.
 ghost use Rattle.std.specs.Prelude.{◌≡◌, ◌∷◌, [], List, ℕ, OnOk, OnErr, IfOk};
-ghost use Rattle.blob_header.specs.Refusals.{error_of};
+ghost use Rattle.blob_header.specs.Refusals.{IsMemory, error_of};
 ghost use Rattle.blob_model.specs.Opened.{IsNamed};
 ghost use Rattle.blob_model.specs.Places.{Place};
 ghost use Rattle.blob_faulty.specs.Admitted.{OpensAdmitted};
 ghost use Rattle.blob_faulty.specs.Keeps.{Keeps};
 ghost use Rattle.blob_faulty.specs.Wrapper.{config_of};
 ghost use Rattle.blob_log.specs.Held.{AddsRecords, FindsRecords, HoldsFrom, StillHolds, log_place, record_bytes};
-ghost use Rattle.blob_log.specs.Leaves.{AppendsFrame, MayOpenLog, TriesFrame, live_appended, log_live};
+ghost use Rattle.blob_log.specs.Leaves.{AppendsFrame, MayOpenLog, SameBytes, TriesFrame, live_appended, log_live};
 ghost use Rattle.blob_log.specs.Refused.{MayRecover};
 ghost use Rattle.blob_log.specs.Runs.{MayAppendTo};
 
@@ -41,7 +41,7 @@ impl Log {
     ///
     /// `OffsetOverflow` if the record has 2^32 bytes or more or the end of its frame doesn't fit in 64 bits, `Memory`,
     /// and the errors of the wrapper's SYNC write of the frame. The log holds what it held, and the next frame goes to
-    /// the same offset, over whatever a failed write left there.
+    /// the same offset, over whatever a failed write left there. `Memory` changes no live and no durable byte.
     pub fn append<R: Rng>(&mut self, store: &mut Store<R>, entry: &[u8]) -> Result<(), Error>
         ensures acknowledged { OnOk result (AddsRecords self.old store.old self.new store.new (entry.now ∷ [])) }
         ensures refused { OnErr result (StillHolds self.old store.old self.new store.new) }
@@ -49,6 +49,7 @@ impl Log {
         ensures appended { OnOk result (AppendsFrame self.old entry.now store.old store.new) }
         ensures failed { OnErr result (TriesFrame self.old entry.now store.old store.new) }
         ensures live { OnOk result (log_live self.new ≡ live_appended self.old entry.now) }
+        ensures memory { IsMemory result → SameBytes self.old store.old self.new store.new }
         ensures config { config_of store.new ≡ config_of store.old }
         ensures answer { MayAppendTo R.stream self.old store.old entry.now (error_of result) }
     {

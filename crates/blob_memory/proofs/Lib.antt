@@ -9,6 +9,7 @@ pub mod ListingOf
 pub mod Kept
 pub mod Lent
 pub mod Listings
+pub mod Numbered
 pub mod Openings
 pub mod Parts
 pub mod Rooms

@@ -9,6 +9,7 @@ mod adopt;
 mod bytes;
 mod copies;
 mod names;
+mod numbers;
 mod opening;
 
 /// The files of a store, and the number of its next incarnation.

@@ -4,6 +4,7 @@ ghost use Rattle.blob_memory.specs.Audit.{audit, IsListing};
 ghost use Rattle.blob_header.specs.Checksum.{crc32c};
 ghost use Rattle.blob_memory.specs.Listing.{listing_of, raw_at};
 ghost use Rattle.blob_memory.specs.Partitions.{item_at, is_there, without_partition, AreItemNames, AreKeys, SetsItem, SetsPartition};
+ghost use Rattle.blob_memory.specs.Numbers.{HasItemNumbers, HasNumbersIn};
 ghost use Rattle.blob_memory.specs.Contents.{current_bytes};
 ghost use Rattle.blob_memory.specs.Forks.{IsCopyIn};
 ghost use Rattle.blob_memory.specs.TableLends.{LendsItem, LendsBytesAt};
@@ -33,6 +34,19 @@ fn copied_names(alloc: Global, names: &BTreeMap<Vec<u8>, Item>) -> Result<Vec<Ve
         all.push(Vec::from_slice(alloc, name.as_slice())?)?;
     }
     Ok(all)
+}
+
+/// Returns the numbers of a map's incarnations. The only error is out of memory.
+fn numbers_in(alloc: Global, names: &BTreeMap<Vec<u8>, Item>) -> Result<Vec<u64>, AllocError>
+    ensures { IfOk result (λ numbers. HasNumbersIn names.now numbers.items) }
+{
+    let mut numbers = Vec::with_capacity(alloc, names.len())?;
+    for item in names.values() {
+        if let Item::Held(held) = item {
+            numbers.push(held.number)?;
+        }
+    }
+    Ok(numbers)
 }
 
 impl Partitions {
@@ -83,6 +97,16 @@ impl Partitions {
     {
         match self.names.get(partition) {
             Some(names) => copied_names(self.alloc, names),
+            None => Ok(Vec::new(self.alloc)),
+        }
+    }
+
+    /// Returns the numbers of a partition's incarnations, or none if it doesn't exist. The only error is out of memory.
+    pub fn numbers(&self, partition: &str) -> Result<Vec<u64>, AllocError>
+        ensures { IfOk result (λ numbers. HasItemNumbers self.now partition.now numbers.items) }
+    {
+        match self.names.get(partition) {
+            Some(names) => numbers_in(self.alloc, names),
             None => Ok(Vec::new(self.alloc)),
         }
     }

@@ -50,6 +50,34 @@ impl Durable for Storage {
     fn is_current(&self, origin: &Origin) -> bool {
         self.contents.is_current(origin)
     }
+
+    /// Returns whether the incarnation is current and a removal of the name or the partition ends it. Does not allocate.
+    fn is_removed(&self, origin: &Origin, partition: &str, name: Option<&[u8]>) -> bool {
+        if partition != origin.partition() {
+            return false;
+        }
+        if let Some(name) = name {
+            if name != origin.name() {
+                return false;
+            }
+        }
+        self.contents.is_current(origin)
+    }
+
+    /// Returns the number of the incarnation. Does not allocate.
+    fn number_of(origin: &Origin) -> u64 {
+        origin.generation()
+    }
+
+    /// Returns the number of the name's current incarnation, if it has one. Does not allocate.
+    fn current_number(&self, partition: &str, name: &[u8]) -> Option<u64> {
+        self.contents.current_number(partition, name)
+    }
+
+    /// Returns the numbers of the partition's current incarnations. The only error is out of memory.
+    fn current_numbers(&self, partition: &str) -> Result<Vec<u64>, AllocError> {
+        self.contents.current_numbers(partition)
+    }
 }
 
 impl Storage {

@@ -1,5 +1,5 @@
 // One page.
-ghost use Rattle.std.specs.Prelude.{◌≡◌, ◌≤◌, ◌<◌, ◌+◌, ◌*◌, ◌%◌, true, length, replicate, OnOk, IfOk};
+ghost use Rattle.std.specs.Prelude.{◌≡◌, ◌≤◌, ◌<◌, ◌+◌, ◌*◌, ◌%◌, true, false, length, replicate, OnOk, IfOk};
 ghost use Rattle.blob_pages.specs.Paged.{page_size, page_bytes, is_owned, splice};
 
 use std::alloc::{AllocError, Global};
@@ -109,6 +109,7 @@ pub fn on_page(at: usize, end: usize) -> usize
 pub fn share_page(alloc: Global, page: &mut Page) -> Result<Page, AllocError>
     ensures bytes { page_bytes page.new ≡ page_bytes page.old }
     ensures ok { IfOk result (λ copy. page_bytes copy ≡ page_bytes page.old) }
+    ensures shared { IfOk result (λ copy. (is_owned page.new ≡ false) × (is_owned copy ≡ false)) }
 {
     let taken = std::mem::replace(page, Page::Owned(Vec::new(alloc)));
     match taken {
@@ -134,7 +135,8 @@ pub fn share_page(alloc: Global, page: &mut Page) -> Result<Page, AllocError>
 /// Returns a second reference to a shared page, or a copy of one that only this value has. The only error is out of
 /// memory.
 pub fn copy_page(alloc: Global, page: &Page) -> Result<Page, AllocError>
-    ensures { IfOk result (λ copy. page_bytes copy ≡ page_bytes page.now) }
+    ensures bytes { IfOk result (λ copy. page_bytes copy ≡ page_bytes page.now) }
+    ensures shared { IfOk result (λ copy. is_owned copy ≡ is_owned page.now) }
 {
     match page {
         Page::Shared(bytes) => {

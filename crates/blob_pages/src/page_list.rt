@@ -1,6 +1,6 @@
 // The pages of a value, as a list. All pages are full. The bytes after the length are arbitrary.
-ghost use Rattle.std.specs.Prelude.{◌≡◌, ◌≤◌, ◌<◌, ◌+◌, ◌-◌, ◌*◌, ◌/◌, ◌^◌, ◌++◌, ℕ, true, length, map, take, drop, max, replicate, OnOk, IfOk, vec_capacity};
-ghost use Rattle.blob_pages.specs.Paged.{page_size, page_bytes, owned_at, AreFull, AreOwned, Keeps, Extends, Lays, bytes_in, Changes, Blanks, WritesRun};
+ghost use Rattle.std.specs.Prelude.{◌≡◌, ◌≤◌, ◌<◌, ◌+◌, ◌-◌, ◌*◌, ◌/◌, ◌^◌, ◌++◌, ℕ, All, true, false, length, map, take, drop, max, replicate, OnOk, IfOk, vec_capacity};
+ghost use Rattle.blob_pages.specs.Paged.{page_size, page_bytes, is_owned, owned_at, AreFull, AreOwned, Keeps, Extends, Lays, bytes_in, Changes, Blanks, WritesRun};
 ghost use Rattle.blob_model.specs.Bytes.{resize};
 
 use crate::page::{PAGE, Page, clear, copy_page, count, on_page, own, put, share_page, zeros};
@@ -146,6 +146,7 @@ pub fn share_all(alloc: Global, pages: &mut [Page], count: usize) -> Result<Vec<
     requires there { count ≤ length pages.old }
     ensures bytes { map page_bytes pages.new ≡ map page_bytes pages.old }
     ensures ok { IfOk result (λ copy. map page_bytes copy.items ≡ take count (map page_bytes pages.old)) }
+    ensures shared { IfOk result (λ copy. All (λ page. is_owned page ≡ false) copy.items) }
 {
     let mut copies = Vec::with_capacity(alloc, count)?;
     for i in 0..count {

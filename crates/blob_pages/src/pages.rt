@@ -24,7 +24,7 @@ pub struct Pages {
 }
 
 impl Pages {
-    ghost use Rattle.blob_pages.specs.Values.{bytes, room, Tries};
+    ghost use Rattle.blob_pages.specs.Values.{AreShared, bytes, room, Tries};
 
     /// Makes an empty value with the capacity of `spare`. Does not allocate.
     pub fn new(alloc: Global, spare: Vec<u8>) -> Pages
@@ -104,6 +104,7 @@ impl Pages {
     /// memory. The bytes are unchanged then.
     pub fn replace(&mut self, other: &mut Pages) -> Result<(), AllocError>
         ensures ok { OnOk result (bytes self.new ≡ bytes other.old) }
+        ensures shared { OnOk result (AreShared self.new) }
         ensures err { OnErr result (bytes self.new ≡ bytes self.old) }
         ensures room { room self.old ≤ room self.new }
         ensures other { bytes other.new ≡ bytes other.old }

@@ -1,6 +1,6 @@
 -- Parts of a list of entries with bounds: a part more, an entry more, entries that are passed over.
-use Rattle.std.proofs.Common.{◌≡◌, ℕ, suc, ◌+◌, ◌-◌, ◌*◌, ◌/◌, ◌<◌, ◌≤◌, min, max, ⊎_elim, Bool, true, false, ◌||◌, List, [], ◌∷◌, ◌++◌, length, get_or, set, take, drop, map, refl, sym, subst, ◌∙◌, ap, ap₂, arith}
-use Rattle.std.proofs.lemmas.Bool.{and_parts, cases_Bool, cases_lt, cond-false, cond_both, leb-true, le-ltb}
+use Rattle.std.proofs.Common.{◌≡◌, ℕ, suc, ◌+◌, ◌-◌, ◌*◌, ◌/◌, ◌<◌, ◌≤◌, min, max, ⊎_elim, Bool, true, false, eqb, ◌||◌, ◌&&◌, List, [], ◌∷◌, ◌++◌, length, get_or, set, take, drop, map, refl, sym, subst, ◌∙◌, ap, ap₂, arith}
+use Rattle.std.proofs.lemmas.Bool.{and_parts, ne_eqb, cases_Bool, cases_lt, cond-false, cond_both, leb-true, le-ltb}
 use Rattle.std.proofs.lemmas.List.{get_or-map, get_or_append_left, get_or-drop, get_or-take, length-append, length-map, length-take, length-drop}
 use Rattle.std.proofs.Math.Seq.{get_or-append_seam}
 use Rattle.std.proofs.Math.Nat.{div-mul-le_self, lt-div-mul-add, mul-le-mul_right, suc-mul}
@@ -16,6 +16,7 @@ use Rattle.blob_pending.specs.Rooms.{AreWithin, meets, HasRoomFor}
 use Rattle.blob_pending.specs.Views.{view, views, write_of, pared_by}
 use Rattle.blob_pending.specs.declared.extent.Extent.{Extent}
 use Rattle.blob_pending.specs.declared.bounds.BlockBounds.{BlockBounds}
+use Rattle.blob_pending.specs.declared.write.PendingWrite.{PendingWrite}
 use Rattle.blob_pending.specs.declared.entry.Entry.{Entry}
 use Rattle.blob_pending.specs.declared.entry.Entry.TheVariants as entry
 use Rattle.blob_pending.proofs.CutSteps.{below_set, later_set}
@@ -94,23 +95,30 @@ apart_le b o e start end low high apart =
     (λ n. let x : end ≤ b.start = leb-true end b.start (ap (λ (c : Bool). c || nat_le end b.start) (sym n) ∙ apart) in omega (arith, l, h, x))
     (cases_Bool (nat_le b.end start))
 
+lies_within : (b : Extent) (w : PendingWrite) → is_within b (view (entry.Write w)) ≡ true → (nat_le b.start w.offset ≡ true) × (nat_le (w.offset + length w.bytes.items) b.end ≡ true)
+lies_within b w within =
+    let some : eqb (length w.bytes.items) 0 ≡ false = ne_eqb _ _ (λ none. omega (arith, none, w.some)) in
+    and_parts (nat_le b.start w.offset) _ (sym (ap (λ (c : Bool). c || (nat_le b.start w.offset && nat_le (w.offset + length w.bytes.items) b.end)) some) ∙ within)
+
 pub room_apart : (b : Extent) (e : Entry) (start end count : ℕ) (hs : Holes) → is_within b (view e) ≡ true → is_apart start end b ≡ true → AreWithin start end count hs → HasRoomFor hs e
 room_apart b (entry.Write w) start end count hs within apart few =
-    let a = and_parts (nat_le b.start w.offset) _ within in
+    let a = lies_within b w within in
     let met = met_few w.offset (w.offset + length w.bytes.items) start end count hs (omega (arith, w.some)) few in
     omega (arith, met, apart_le b w.offset (w.offset + length w.bytes.items) start end a.0 a.1 apart, w.holes.ok)
 room_apart b (entry.Resize n) start end count hs within apart few = tt
 room_apart b (entry.Range r) start end count hs within apart few = tt
 room_apart b (entry.Marker k) start end count hs within apart few = tt
+room_apart b entry.Dropped start end count hs within apart few = tt
 
 pub pared_apart : (b : Extent) (e : Entry) (o n : ℕ) → is_within b (view e) ≡ true → is_apart o (o + n) b ≡ true → pared_by o n (view e) ≡ view e
 pared_apart b (entry.Write w) o n within apart =
-    let a = and_parts (nat_le b.start w.offset) _ within in
+    let a = lies_within b w within in
     let le : min (o + n) (w.offset + length w.bytes.items) ≤ max o w.offset = apart_le b w.offset (w.offset + length w.bytes.items) o (o + n) a.0 a.1 apart in
     ap Waiting (sym (need_dug o n (write_of w) (ranges w.holes.items)) ∙ ap (λ (hs : Holes). need_in (write_of w) hs) (cond-false (nat_lt (max o w.offset) (min (o + n) (w.offset + length w.bytes.items))) _ _ (le-ltb _ _ le)))
 pared_apart b (entry.Resize m) o n within apart = refl
 pared_apart b (entry.Range r) o n within apart = refl
 pared_apart b (entry.Marker k) o n within apart = refl
+pared_apart b entry.Dropped o n within apart = refl
 
 within_pared : (b : Extent) (p : Pending) (o n : ℕ) → is_within b p ≡ true → is_within b (pared_by o n p) ≡ true
 within_pared b (Waiting m) o n h = h
@@ -186,6 +194,7 @@ rest_room (entry.Write w) h hs room = omega (arith, room, count-cons (meets w.of
 rest_room (entry.Resize n) h hs room = tt
 rest_room (entry.Range r) h hs room = tt
 rest_room (entry.Marker k) h hs room = tt
+rest_room entry.Dropped h hs room = tt
 
 pub barrier_write : (q : List Pending) (m : Need) → has_barrier (q ++ Waiting m ∷ []) ≡ has_barrier q
 barrier_write q m = barrier_push q (Waiting m) ∙ or_false (has_barrier q)

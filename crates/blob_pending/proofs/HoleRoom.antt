@@ -44,6 +44,7 @@ first_room (entry.Write w) h hs room =
 first_room (entry.Resize n) h hs room = tt
 first_room (entry.Range r) h hs room = tt
 first_room (entry.Marker k) h hs room = tt
+first_room entry.Dropped h hs room = tt
 
 first_rooms : (list : Vec Entry Global) (h : ℕ × ℕ) (hs : Holes) → HasRoomsFor (h ∷ hs) list → HasRoomsFor (h ∷ []) list
 first_rooms list h hs room = record {

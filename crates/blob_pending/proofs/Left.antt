@@ -111,14 +111,14 @@ compacted_marks old cut new o n is same =
     sym (marks-left new) ∙ ap marks_of (compacted_is old cut new o n is same) ∙ marks-cut o n (filter is_left old) ∙ marks-left old
 
 -- how many are left, an entry before others
-abbrev bit : Bool → ℕ
+abbrev pub bit : Bool → ℕ
 bit b = cond b 1 0
 
-left_size : (e : Pending) (r : List Pending) → length (cond (is_left e) (e ∷ r) r) ≡ bit (is_left e) + length r
+pub left_size : (e : Pending) (r : List Pending) → length (cond (is_left e) (e ∷ r) r) ≡ bit (is_left e) + length r
 left_size e r = cond_both (is_left e) (e ∷ r) r (λ l. length l ≡ bit (is_left e) + length r)
     (λ y. let one = cond-true {A = ℕ} (is_left e) 1 0 y in omega (arith, one)) (λ n. let none = cond-false {A = ℕ} (is_left e) 1 0 n in omega (arith, none))
 
-bit_le : (b : Bool) → bit b ≤ 1
+pub bit_le : (b : Bool) → bit b ≤ 1
 bit_le true = omega arith
 bit_le false = omega arith
 

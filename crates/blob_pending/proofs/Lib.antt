@@ -1,7 +1,9 @@
 pub mod Bounded
 pub mod Covered
 pub mod CutSteps
+pub mod Digging
 pub mod Distinct
+pub mod Dropping
 pub mod Finishing
 pub mod Gathering
 pub mod HoleRoom
@@ -9,5 +11,6 @@ pub mod Left
 pub mod ListSteps
 pub mod Marking
 pub mod Queued
+pub mod Removing
 pub mod Taking
 pub mod Unmarked

@@ -6,7 +6,7 @@ use Rattle.blob_model.specs.Order.{ListAt, held_at, has_list}
 use Rattle.blob_model.specs.Places.{Place, same_place}
 use Rattle.blob_model.specs.SamePlace.{same_place_exact}
 use Rattle.blob_pending.specs.declared.incarnation.Incarnation.{Incarnation}
-use Rattle.blob_pending.specs.Lists.{lists_of, held_by, list_of, IsAt, AreDistinct}
+use Rattle.blob_pending.specs.Lists.{lists_of, held_by, list_of, IsAt, AreDistinct, TakesList}
 use Rattle.blob_pending.specs.Views.{left_in}
 use Rattle.blob_pending.proofs.Distinct.{of_origin}
 use Rattle.blob_pending.proofs.ListSteps.{held_get, held_here, held_len}
@@ -26,7 +26,7 @@ at_of place is k e o one distinct h his = record {
 entries_at : {O : Type 0} (place : O → Place) (is : List (Incarnation O)) (k : ℕ) (e : Incarnation O) (o : Place) → k < length is → IsAt (lists_of place is) k o → left_in (get_or is k e).entries.items ≡ list_of place is o
 entries_at place is k e o h at = sym (ap (λ (x : ListAt). x.1) (held_get place is k (held_by place e) e h)) ∙ held_here (lists_of place is) k (held_by place e) o at
 
-none_of : {O : Type 0} (place : O → Place) (is : List (Incarnation O)) (a : Place) → ((k : ℕ) (e : Incarnation O) → k < length is → same_place (place (get_or is k e).origin) a ≡ false) → list_of place is a ≡ []
+pub none_of : {O : Type 0} (place : O → Place) (is : List (Incarnation O)) (a : Place) → ((k : ℕ) (e : Incarnation O) → k < length is → same_place (place (get_or is k e).origin) a ≡ false) → list_of place is a ≡ []
 none_of place [] a none = refl
 none_of place (x ∷ is) a none = cond-false (same_place (place x.origin) a) _ _ (none 0 x (omega arith)) ∙ none_of place is a (λ k e h. none (suc k) e (omega arith))
 
@@ -144,3 +144,7 @@ taken_list {O} place is js i e o a one distinct at taken = ⊎_elim
         ∙ ap (λ (x : Incarnation O). left_in x.entries.items) to.2
         ∙ entries_at place is there.0 e a there.1 (at_of place is there.0 e a one distinct there.1 here)
         ∙ sym (cond-false (same_place o a) _ _ not_it)
+
+pub takes : {O : Type 0} (place : O → Place) (is js : List (Incarnation O)) (i n : ℕ) (e : Incarnation O) → ((x y : O) → place x ≡ place y → x ≡ y) → AreDistinct is → n ≡ length is → length js + 1 ≡ n →
+    ((d : Incarnation O) → i + 1 < n → get_or js i d ≡ get_or is (n - 1) d) × ((k : ℕ) (d : Incarnation O) → k ≢ i → k + 1 < n → get_or js k d ≡ get_or is k d) → TakesList place is js i
+takes place is js i n e one distinct count len by o at a = taken_list place is js i e o a one distinct at (taken_by place is js i n o count at len by)

@@ -1,13 +1,13 @@
 -- The parts of a pending list, blocks and groups of blocks, with bounds of where their writes lie.
-use Rattle.std.specs.Prelude.{◌≡◌, ◌⊎◌, ℕ, ◌+◌, ◌/◌, ◌<◌, Bool, true, ◌&&◌, ◌||◌, List, length, nat_le}
+use Rattle.std.specs.Prelude.{◌≡◌, ◌⊎◌, ℕ, ◌+◌, ◌/◌, ◌<◌, Bool, true, ◌&&◌, ◌||◌, ◌==◌, List, length, nat_le}
 use Rattle.std.proofs.Common.{get_or}
 use Rattle.blob_model.specs.Pending.{Pending, Waiting, Cut, Again, Marker}
 use Rattle.blob_pending.specs.declared.extent.Extent.{Extent}
 use Rattle.blob_pending.specs.declared.bounds.BlockBounds.{BlockBounds}
 
--- a write lies within the bounds
+-- a write lies within the bounds if it has bytes
 abbrev pub is_within : Extent → Pending → Bool
-is_within b (Waiting m) = nat_le b.start m.write.offset && nat_le (m.write.offset + length m.write.bytes) b.end
+is_within b (Waiting m) = length m.write.bytes == 0 || nat_le b.start m.write.offset && nat_le (m.write.offset + length m.write.bytes) b.end
 is_within b (Cut n) = true
 is_within b (Again o x) = true
 is_within b (Marker k) = true
@@ -19,6 +19,10 @@ AreBoundedBy size bs q = (k : ℕ) (b : Extent) (e : Pending) → k / size < len
 -- so do those of each block of 64 entries and of each group of 64 blocks
 abbrev pub AreBounded : BlockBounds → List Pending → Type 0
 AreBounded bs q = AreBoundedBy 64 bs.blocks.items q × AreBoundedBy 4096 bs.groups.items q
+
+-- bounds of the old entries are bounds of the new ones
+abbrev pub KeepsBounded : List Pending → List Pending → Type 0
+KeepsBounded old new = (bs : BlockBounds) → AreBounded bs old → AreBounded bs new
 
 -- nothing within these bounds lies from `start` up to `end`
 abbrev pub is_apart : ℕ → ℕ → Extent → Bool

@@ -1,11 +1,12 @@
 -- The pending lists of the incarnations, each by its place.
-use Rattle.std.specs.Prelude.{◌≡◌, ◌≢◌, AllPairs, ℕ, ◌<◌, List, [], ◌∷◌, ◌++◌, cond, Bool, true, false, not, ◌&&◌, ◌||◌, All, length, map, vec_len, vec_capacity}
+use Rattle.std.specs.Prelude.{◌≡◌, ◌≢◌, AllPairs, ℕ, ◌<◌, List, [], ◌∷◌, ◌++◌, cond, Bool, true, false, not, ◌&&◌, ◌||◌, All, length, map, Option, None, Some, vec_len, vec_capacity}
 use Rattle.std.proofs.Common.{get_or}
 use Rattle.blob_model.specs.Directory.{Directory, is_current}
 use Rattle.blob_model.specs.Durable.{with_at}
 use Rattle.blob_model.specs.Places.{Place, same_place}
 use Rattle.blob_model.specs.Pending.{Pending, finish, has_barrier, apply_durable}
 use Rattle.blob_model.specs.Order.{ListAt, held_at}
+use Rattle.blob_model.specs.Files.{is_removed_by}
 use Rattle.blob_model.specs.Holes.{Holes}
 use Rattle.blob_pending.specs.Rooms.{AreWithin, HasRoomsFor}
 use Rattle.blob_pending.specs.Views.{left_in}
@@ -44,7 +45,7 @@ AreDistinct is = AllPairs (λ a b. a.origin ≢ b.origin) is
 -- an incarnation's list can take this
 abbrev pub HasRoom : {O : Type 0} → Room → Incarnation O → Type 0
 HasRoom room.Entry i = vec_len i.entries < vec_capacity i.entries
-HasRoom room.Mark i = (vec_len i.entries < vec_capacity i.entries) × (vec_len i.marks < vec_capacity i.marks)
+HasRoom room.Mark i = (vec_len i.entries < vec_capacity i.entries) × (vec_len i.marks.numbers < vec_capacity i.marks.numbers)
 HasRoom (room.Ranges start end count) i = (hs : Holes) → AreWithin start end count hs → HasRoomsFor hs i.entries
 
 -- this is left in it, and it is of the same incarnation
@@ -116,6 +117,10 @@ is_kept place now i = not i.was_current || is_current now (place i.origin)
 abbrev pub RetiresList : {O : Type 0} → (O → Place) → List (Incarnation O) → List (Incarnation O) → Place → Type 0
 RetiresList place old new o = (a : Place) → list_of place new a ≡ with_at (list_of place old) o [] a
 
+-- nothing is pending of the incarnation of the list at i, and of the others the same
+abbrev pub TakesList : {O : Type 0} → (O → Place) → List (Incarnation O) → List (Incarnation O) → ℕ → Type 0
+TakesList place old new i = (o : Place) → IsAt (lists_of place old) i o → RetiresList place old new o
+
 -- the started sync with this marker is finished in each list
 abbrev pub FinishesLists : {O : Type 0} → (O → Place) → List (Incarnation O) → List (Incarnation O) → ℕ → Type 0
 FinishesLists place old new marker = (o : Place) → list_of place new o ≡ finish marker (list_of place old o)
@@ -123,6 +128,23 @@ FinishesLists place old new marker = (o : Place) → list_of place new o ≡ fin
 -- of incarnations that were current when this was noted and aren't any more nothing is pending, of others the same
 abbrev pub RetiresEnded : {O : Type 0} → (O → Place) → Directory → List (Incarnation O) → List (Incarnation O) → Type 0
 RetiresEnded place now old new = (noted : Directory) → AreNoted place noted old → (a : Place) → list_of place new a ≡ cond (has_ended noted now a) [] (list_of place old a)
+
+-- nothing is pending of the incarnations that a removal of this name ends, or with None of this partition; of others the same
+abbrev pub RetiresRemoved : {O : Type 0} → (O → Place) → Directory → List ℕ → Option (List ℕ) → List (Incarnation O) → List (Incarnation O) → Type 0
+RetiresRemoved place d p n old new = (a : Place) → list_of place new a ≡ cond (is_removed_by d p n a) [] (list_of place old a)
+
+-- whether a removal ends a list's incarnation
+abbrev pub is_removed_in : {O : Type 0} → (O → Place) → Directory → List ℕ → Option (List ℕ) → Incarnation O → Bool
+is_removed_in place d p n i = is_removed_by d p n (place i.origin)
+
+-- the list at i is of the incarnation that a removal of this name ends, or with None no list is
+abbrev pub IsListOf : {O : Type 0} → (O → Place) → Directory → List ℕ → List ℕ → List (Incarnation O) → Option ℕ → Type 0
+IsListOf {O} place d p n is (Some i) = (i < length is) × ((e : Incarnation O) → is_removed_in place d p (Some n) (get_or is i e) ≡ true)
+IsListOf {O} place d p n is None = (k : ℕ) (e : Incarnation O) → k < length is → is_removed_in place d p (Some n) (get_or is k e) ≡ false
+
+-- nothing is pending of the incarnation of this name whose list that is, if a list is; of the others the same
+abbrev pub RetiresName : {O : Type 0} → (O → Place) → List (Incarnation O) → List (Incarnation O) → Option ℕ → Type 0
+RetiresName place old new list = (d : Directory) (p n : List ℕ) → IsListOf place d p n old list → RetiresRemoved place d p (Some n) old new
 
 -- the list at i is of an incarnation and can take these durable ranges
 pub record HasRoomAt {O : Type 0} (place : O → Place) (is : List (Incarnation O)) (i : ℕ) (o : Place) (hs : Holes) : Type 0 where

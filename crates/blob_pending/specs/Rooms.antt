@@ -25,6 +25,7 @@ HasRoomFor hs (entry.Write w) = HasHolesFor hs w
 HasRoomFor hs (entry.Resize len) = Unit {0}
 HasRoomFor hs (entry.Range r) = Unit {0}
 HasRoomFor hs (entry.Marker k) = Unit {0}
+HasRoomFor hs entry.Dropped = Unit {0}
 
 -- each of these entries has capacity for the holes that the ranges make in it
 abbrev pub EachHasRoom : List Entry → Holes → Type 0

@@ -1,11 +1,12 @@
 //! The pending entries of one incarnation, in issue order.
-ghost use Rattle.std.specs.Prelude.{◌≡◌, ◌<◌, ◌≤◌, ◌+◌, ◌*◌, ◌^◌, ℕ, List, ◌++◌, ◌∷◌, [], OnOk, map, drop, length, vec_len, vec_capacity, true};
+ghost use Rattle.std.specs.Prelude.{◌≡◌, ◌<◌, ◌≤◌, ◌+◌, ◌*◌, ◌^◌, ℕ, List, ◌++◌, ◌∷◌, [], OnOk, IfSome, IfNone, map, drop, length, vec_len, vec_capacity, true};
 ghost use Rattle.blob_model.specs.Holes.{Holes};
-ghost use Rattle.blob_model.specs.Pending.{has_barrier, finish, ends};
-ghost use Rattle.blob_pending.specs.Blocks.{AreBounded};
+ghost use Rattle.blob_model.specs.Pending.{finish, ends};
+ghost use Rattle.blob_pending.specs.Blocks.{AreBounded, KeepsBounded};
+ghost use Rattle.blob_pending.specs.Marks.{barriers_in};
 ghost use Rattle.blob_pending.specs.Replays.{unmarked, widest};
 ghost use Rattle.blob_pending.specs.Rooms.{AreWithin, HasRoomsFor, EachHasRoom, CanCut, KeepsRest};
-ghost use Rattle.blob_pending.specs.Views.{view, views, pared_by, left_in, CountsCovered};
+ghost use Rattle.blob_pending.specs.Views.{view, views, pared_by, left_in, AreDropped, CountsCovered};
 
 use crate::bounds::BlockBounds;
 use crate::entry::Entry;
@@ -61,16 +62,23 @@ pub(crate) fn cover_all(
     covered
 }
 
-/// Drops the fully covered writes and all bounds, once more than half of the list may be covered, so that the cost of one covered
-/// write doesn't grow with the list. There are at most `covered` of them.
-pub(crate) fn compact(entries: &mut Vec<Entry>, bounds: &mut BlockBounds, covered: &mut usize)
+/// Removes the entries of which nothing is left and all bounds, once more than half of the list may be such entries, so that the cost
+/// of one of them doesn't grow with the list. There are at most `covered` of them, the first `front` entries among them.
+pub(crate) fn compact(
+    entries: &mut Vec<Entry>,
+    bounds: &mut BlockBounds,
+    covered: &mut usize,
+    front: &mut usize,
+)
     requires bounded { AreBounded bounds.old (views entries.old.items) }
+    requires dropped { AreDropped front.old (views entries.old.items) }
     requires counted { CountsCovered covered.old (views entries.old.items) }
     ensures left { left_in entries.new.items ≡ left_in entries.old.items }
     ensures bounded { AreBounded bounds.new (views entries.new.items) }
     ensures holes { (later : Holes) → EachHasRoom entries.old.items later → EachHasRoom entries.new.items later }
     ensures capacity { vec_capacity entries.old ≤ vec_capacity entries.new }
     ensures len { vec_len entries.new ≤ vec_len entries.old }
+    ensures dropped { AreDropped front.new (views entries.new.items) }
     ensures counted { CountsCovered covered.new (views entries.new.items) }
     ensures half { vec_len entries.new ≤ 2 * length (left_in entries.new.items) }
 {
@@ -80,38 +88,44 @@ pub(crate) fn compact(entries: &mut Vec<Entry>, bounds: &mut BlockBounds, covere
     entries.retain(|entry| entry.is_left());
     bounds.clear();
     *covered = 0;
+    *front = 0;
 }
 
-/// Returns whether a resize or a queued range is pending.
-pub fn has_barrier(entries: &[Entry]) -> bool
-    ensures { result ≡ has_barrier (views entries.now) }
+/// Returns the index after a marker, `None` if it doesn't exist. Nothing is left of the first `from` entries.
+pub(crate) fn end_of(entries: &[Entry], from: usize, marker: u64) -> Option<usize>
+    requires { AreDropped from (views entries.now) }
+    ensures some { IfSome result (λ end. views (drop end entries.now) ≡ finish marker (views entries.now)) }
+    ensures from { IfSome result (λ end. from ≤ end) }
+    ensures inside { IfSome result (λ end. end ≤ length entries.now) }
+    ensures none { IfNone result (views entries.now ≡ finish marker (views entries.now)) }
 {
-    for entry in entries {
-        if entry.is_barrier() {
-            return true;
-        }
-    }
-    false
-}
-
-/// Drops the first `count` entries.
-fn drop_front(entries: &mut Vec<Entry>, count: usize)
-    requires { count ≤ vec_len entries.old }
-    ensures { entries.new.items ≡ drop count entries.old.items }
-{
-    entries.drain(..count);
-}
-
-/// Completes a started sync: drops its marker, if it exists, and all entries before it.
-pub fn finish(entries: &mut Vec<Entry>, marker: u64)
-    ensures { views entries.new.items ≡ finish marker (views entries.old.items) }
-{
-    for i in 0..entries.len() {
+    for i in from..entries.len() {
         if entries[i].is_mark(marker) {
-            drop_front(entries, i + 1);
-            return;
+            return Some(i + 1);
         }
     }
+    None
+}
+
+/// Drops the entries from `from` up to `end`, where they are. Returns how many of them were resizes or queued ranges.
+pub(crate) fn drop_between(entries: &mut Vec<Entry>, from: usize, end: usize) -> usize
+    requires dropped { AreDropped from (views entries.old.items) }
+    requires order { from ≤ end }
+    requires inside { end ≤ vec_len entries.old }
+    ensures dropped { AreDropped end (views entries.new.items) }
+    ensures rest { drop end entries.new.items ≡ drop end entries.old.items }
+    ensures len { vec_len entries.new ≡ vec_len entries.old }
+    ensures barriers { barriers_in (views entries.new.items) + result ≡ barriers_in (views entries.old.items) }
+    ensures bounded { KeepsBounded (views entries.old.items) (views entries.new.items) }
+{
+    let mut barriers = 0;
+    for i in from..end {
+        if entries[i].is_barrier() {
+            barriers += 1;
+        }
+        entries[i] = Entry::Dropped;
+    }
+    barriers
 }
 
 /// Returns the entries after the last marker.
@@ -143,7 +157,7 @@ pub fn replay_room(entries: &[Entry]) -> (u64, usize)
             }
             Entry::Resize(len) => end = end.max(*len),
             Entry::Range(range) => end = end.max(range.offset + range.bytes.len() as u64),
-            Entry::Write(_) | Entry::Marker(_) => (),
+            Entry::Write(_) | Entry::Marker(_) | Entry::Dropped => (),
         }
     }
     (end, most)

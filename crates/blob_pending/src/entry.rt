@@ -22,6 +22,8 @@ pub enum Entry {
     Range(DurableRange),
     /// A started sync, by its number. The entries before it are durable.
     Marker(u64),
+    /// An entry that a finished sync dropped. Nothing is left of it.
+    Dropped,
 }
 
 impl Entry {
@@ -64,12 +66,13 @@ impl Entry {
         write.holes.reserve(there.min(count as u64) as usize)
     }
 
-    /// Returns whether a crash still draws for it or applies it. False for a fully covered write.
+    /// Returns whether a crash still draws for it or applies it. False for a fully covered write and for a dropped entry.
     pub fn is_left(&self) -> bool
         ensures { result ≡ is_left (view self.now) }
     {
         match self {
             Entry::Write(write) => !write.is_covered(),
+            Entry::Dropped => false,
             _ => true,
         }
     }

@@ -1,13 +1,14 @@
 //! The pending list of one incarnation, with its markers.
-ghost use Rattle.std.specs.Prelude.{◌≡◌, ◌≤◌, ◌==◌, drop, position, vec_len};
+ghost use Rattle.std.specs.Prelude.{◌≡◌, ◌≤◌, vec_len};
 ghost use Rattle.blob_model.specs.Pending.{has_barrier};
 ghost use Rattle.blob_pending.specs.Blocks.{AreBounded};
-ghost use Rattle.blob_pending.specs.Marks.{marks_of};
-ghost use Rattle.blob_pending.specs.Views.{views, left_in, CountsCovered};
+ghost use Rattle.blob_pending.specs.Marks.{marks_of, left_marks, barriers_in};
+ghost use Rattle.blob_pending.specs.Views.{views, left_in, AreDropped, CountsCovered};
 
 use crate::bounds::BlockBounds;
 use crate::entries;
 use crate::entry::{DurableRange, Entry};
+use crate::marks::Marks;
 use crate::room::Room;
 use crate::write::PendingWrite;
 use std::alloc::{AllocError, Global};
@@ -18,36 +19,26 @@ pub struct Incarnation<O> {
     pub origin: O,
     /// Whether it was its name's current incarnation when `note` was last called.
     pub was_current: bool,
-    /// The pending entries, and fully covered writes, which are dropped in bulk.
+    /// The pending entries, and those of which nothing is left, which are removed in bulk.
     pub entries: Vec<Entry>,
-    /// An upper bound on the number of fully covered writes.
+    /// An upper bound on the number of entries of which nothing is left.
     pub covered: usize,
-    /// The numbers of the markers among the entries, in their order. A sync without a marker is completed without a search of
-    /// the entries.
-    pub marks: Vec<u64>,
-    /// Whether the entries have a resize or a queued range.
+    /// Nothing is left of the entries before this index. The next sync is completed from here on.
+    pub front: usize,
+    /// The numbers of the markers among the entries, in their order.
+    pub marks: Marks,
+    /// The number of resizes and queued ranges among the entries.
+    pub barriers: usize,
+    /// Whether there are any.
     pub queues: bool,
     /// The bounds of the first blocks of entries.
     pub bounds: BlockBounds,
-    ghost marked: { marks.items ≡ marks_of (views entries.items) },
+    ghost dropped: { AreDropped front (views entries.items) },
+    ghost marked: { left_marks marks ≡ marks_of (views entries.items) },
+    ghost barred: { barriers ≡ barriers_in (views entries.items) },
     ghost queued: { queues ≡ has_barrier (views entries.items) },
     ghost bounded: { AreBounded bounds (views entries.items) },
     ghost counted: { CountsCovered covered (views entries.items) },
-}
-
-/// Returns the index of a marker's number.
-fn place_of(marks: &[u64], marker: u64) -> Option<usize>
-    ensures { result ≡ position (λ mark. mark == marker) marks.now }
-{
-    marks.iter().position(|mark| *mark == marker)
-}
-
-/// Drops the first `count` numbers.
-fn drop_front(marks: &mut Vec<u64>, count: usize)
-    requires { count ≤ vec_len marks.old }
-    ensures { marks.new.items ≡ drop count marks.old.items }
-{
-    marks.drain(..count);
 }
 
 impl<O> Incarnation<O> {
@@ -67,7 +58,9 @@ impl<O> Incarnation<O> {
             was_current: false,
             entries: Vec::new(alloc),
             covered: 0,
-            marks: Vec::new(alloc),
+            front: 0,
+            marks: Marks::new(alloc),
+            barriers: 0,
             queues: false,
             bounds: BlockBounds {
                 blocks: Vec::new(alloc),
@@ -96,7 +89,7 @@ impl<O> Incarnation<O> {
                 self.bounds.add(&self.entries)?;
                 return entries::reserve_ranges(&mut self.entries, &self.bounds, start, end, count);
             }
-            Room::Mark => self.marks.reserve(1)?,
+            Room::Mark => self.marks.reserve()?,
             Room::Entry => (),
         }
         if self.entries.len() < self.entries.capacity() {
@@ -119,6 +112,7 @@ impl<O> Incarnation<O> {
         requires { HasRoom Room.Entry self.old }
         ensures { Becomes self.old self.new (left_in self.old.entries.items ++ left_in (Entry.Resize len ∷ [])) }
     {
+        self.barriers += 1;
         self.queues = true;
         self.entries.push(Entry::Resize(len)).unwrap();
     }
@@ -128,7 +122,7 @@ impl<O> Incarnation<O> {
         requires { HasRoom Room.Mark self.old }
         ensures { Becomes self.old self.new (left_in self.old.entries.items ++ Marker number ∷ []) }
     {
-        self.marks.push(number).unwrap();
+        self.marks.push(number);
         self.entries.push(Entry::Marker(number)).unwrap();
     }
 
@@ -145,10 +139,16 @@ impl<O> Incarnation<O> {
     {
         let covered = entries::cover_all(&mut self.entries, &self.bounds, offset, len);
         self.covered = self.covered.saturating_add(covered);
-        entries::compact(&mut self.entries, &mut self.bounds, &mut self.covered);
+        entries::compact(
+            &mut self.entries,
+            &mut self.bounds,
+            &mut self.covered,
+            &mut self.front,
+        );
         if self.queues {
             let bytes = copy;
             let range = Entry::Range(DurableRange { offset, bytes });
+            self.barriers += 1;
             self.entries.push(range).unwrap();
         }
     }
@@ -157,11 +157,22 @@ impl<O> Incarnation<O> {
     pub fn finish(&mut self, marker: u64)
         ensures { Becomes self.old self.new (finish marker (left_in self.old.entries.items)) }
     {
-        if let Some(i) = place_of(&self.marks, marker) {
-            drop_front(&mut self.marks, i + 1);
-            self.bounds.clear();
-            entries::finish(&mut self.entries, marker);
-            self.queues = entries::has_barrier(&self.entries);
-        }
+        let Some(place) = self.marks.place_of(marker) else {
+            return;
+        };
+        let Some(end) = entries::end_of(&self.entries, self.front, marker) else {
+            return;
+        };
+        self.marks.drop_front(place + 1);
+        self.barriers -= entries::drop_between(&mut self.entries, self.front, end);
+        self.queues = self.barriers > 0;
+        self.covered = self.covered.saturating_add(end - self.front);
+        self.front = end;
+        entries::compact(
+            &mut self.entries,
+            &mut self.bounds,
+            &mut self.covered,
+            &mut self.front,
+        );
     }
 }

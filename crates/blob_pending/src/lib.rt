@@ -9,5 +9,7 @@ pub mod gather;
 pub mod holes;
 pub mod incarnation;
 pub mod lists;
+pub mod marks;
+pub mod naming;
 pub mod room;
 pub mod write;

@@ -7,6 +7,7 @@ ghost use Rattle.blob_lab_store.specs.LabStands.{Performs, Wraps, wrapper_of};
 ghost use Rattle.blob_tree.specs.WordsLeft.{EndsAfter};
 ghost use Rattle.blob_lab_model.specs.States.{State};
 
+use crate::ScriptedRng;
 use crate::lab::{Lab, Stands, Wrapper};
 use blob_base::Error;
 use blob_faulty::Config;
@@ -91,8 +92,11 @@ impl Lab {
         ensures memory { OnErr result (IsMemory result) }
         ensures err { OnErr result (self.new ≡ self.old) }
     {
-        let rng = self.wrapper.rng().with_words(self.alloc, words)?;
+        let empty = ScriptedRng::new(Vec::new(self.alloc));
+        let mut rng = self.wrapper.replace_rng(empty);
+        let pushed = rng.push_words(words);
         self.wrapper.set_rng(rng);
+        pushed?;
         Ok(())
     }
 

@@ -1,4 +1,4 @@
-use Rattle.std.proofs.Common.{rules, ◌≡◌, ◌<◌, ◌+◌, ◌∙◌, ap, ap₂, sym, List, ℕ, Bool, not, ◌&&◌, false, length, get_or, arith}
+use Rattle.std.proofs.Common.{rules, ◌≡◌, ◌<◌, ◌+◌, ◌∙◌, ap, ap₂, sym, List, [], ℕ, Bool, not, ◌&&◌, false, length, get_or, arith}
 use Rattle.blob_model.specs.Bytes.{overlay_by}
 use Rattle.blob_model.specs.Draws.{chosen_by}
 use Rattle.blob_model.specs.Holes.{in_holes}
@@ -9,6 +9,8 @@ use Rattle.blob_pending.specs.declared.entry.Entry.{Entry}
 use Rattle.blob_pending.specs.Ranges.{ranges}
 use Rattle.blob_draws.specs.Rows.{rows_in}
 use Rattle.blob_pending.specs.Views.{view, write_of}
+use Rattle.blob_model.proofs.Bytes.{none_chosen}
+use Rattle.blob_faulty.specs.Crashes.{chosen_in}
 use Rattle.blob_faulty.proofs.Replaying.{masked, reach_within, ok_is}
 use Rattle.blob_faulty.proofs.replay.replay_entry.Goals as goal
 
@@ -32,3 +34,9 @@ returns-in-Write-clause-bytes c =
           ∙ ap₂ (λ (b : List ℕ) (k : List Bool). overlay_by x w.offset b (is_chosen k)) run kept ∙ masked (write_of w) (ranges w.holes.items) t c.put_choices.new.chosen.items x each ∙ ap (λ (e : Entry). replay_entry x (view e) t) (sym c.in-Write.is);
       capacity = c.write_chosen_slice.ensures.capacity;
     }
+
+pub returns-in-Dropped-clause-bytes : goal.returns-in-Dropped-clause-bytes
+returns-in-Dropped-clause-bytes c =
+    let x = c.args.bytes.now.items in
+    let none : replay_entry x (view c.args.entry.now) (chosen_in c.args.rows.now) ≡ x = ap (λ (e : Entry). replay_entry x (view e) (chosen_in c.args.rows.now)) c.in-Dropped.is ∙ none_chosen x 0 [] in
+    record { items = sym none; capacity = omega arith }

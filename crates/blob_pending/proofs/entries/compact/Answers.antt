@@ -28,6 +28,7 @@ returns c =
       holes = λ later all. subst (λ (l : List Entry). All (HasRoomFor later) l) (sym kept) (All-filter (λ e. is_left (view e)) (HasRoomFor later) q all);
       capacity = search rules;
       len = search rules;
+      dropped = λ k p l. absurd (omega arith);
       counted = omega (arith, all_left);
       half = omega (arith, len, all_left, length-map r view);
     }

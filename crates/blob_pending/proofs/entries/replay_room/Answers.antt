@@ -7,7 +7,7 @@ use Rattle.blob_pending.specs.Views.{left_in}
 use Rattle.blob_pending.specs.declared.entry.Entry.{Entry}
 use Rattle.blob_pending.proofs.Left.{greatest_more, greatest}
 use Rattle.blob_pending.proofs.entries.replay_room.Goals as goal
-use Rattle.blob_pending.proofs.entries.replay_room.Goals.{in-Write, in-Write+else-not-is_covered, in-Resize, in-Range, in-Marker-1}
+use Rattle.blob_pending.proofs.entries.replay_room.Goals.{in-Write, in-Write+else-not-is_covered, in-Resize, in-Range, in-Marker-1, in-Dropped-1}
 
 pub loop-entry-preserved : goal.loop-entry-preserved
 loop-entry-preserved c =
@@ -20,6 +20,7 @@ loop-entry-preserved c =
       | in-Resize w ↦ rw w.end-is (first_of (search rules, grind (arith, common_steps)))
       | in-Range w ↦ rw w.end-is (first_of (search rules, grind (arith, common_steps)))
       | in-Marker-1 w ↦ rw w.end-is (first_of (search rules, grind (arith, common_steps)))
+      | in-Dropped-1 w ↦ rw w.end-is (first_of (search rules, grind (arith, common_steps)))
     ] in
     let most : c.match-entry.most ≡ max c.loop-entry.most (widest (left_in (x ∷ []))) = elim c.match-entry.branch [
       | in-Write w ↦ rw w.most-is (first_of (search rules, grind (arith, common_steps)))
@@ -27,6 +28,7 @@ loop-entry-preserved c =
       | in-Resize w ↦ rw w.most-is (first_of (search rules, grind (arith, common_steps)))
       | in-Range w ↦ rw w.most-is (first_of (search rules, grind (arith, common_steps)))
       | in-Marker-1 w ↦ rw w.most-is (first_of (search rules, grind (arith, common_steps)))
+      | in-Dropped-1 w ↦ rw w.most-is (first_of (search rules, grind (arith, common_steps)))
     ] in
     record {
       end = greatest c.loop-entry.end _ c.match-entry.end _ _ _ (end ∙ ap (λ (y : Entry). max c.loop-entry.end (ends (left_in (y ∷ [])))) c.entry-item.is)

@@ -1,15 +1,15 @@
-use Rattle.std.proofs.Common.{◌≡◌, ◌≤◌, ◌-◌, ◌++◌, take, drop, vec_len, vec_capacity}
+use Rattle.std.proofs.Common.{◌≡◌, ◌≤◌, ◌-◌, drop, vec_len}
 use Rattle.blob_model.specs.Holes.{with_hole}
 use Rattle.blob_pending.specs.Ranges.{ranges}
 use Rattle.blob_pending.proofs.holes.dig.Given as goal
 
-abbrev pub invariant-loop-i : goal.invariant-loop-i
-invariant-loop-i l = record {
-  within : l.i ≤ vec_len l.holes;
-  len : vec_len l.holes ≤ vec_len l.fn.holes;
-  capacity : vec_capacity l.fn.holes ≤ vec_capacity l.holes;
-  so_far : ranges (take l.i l.holes.items) ++ with_hole l.start l.end (ranges (drop l.i l.holes.items)) ≡ with_hole l.fn.start l.fn.end (ranges l.fn.holes.items);
+abbrev pub invariant-loop-last : goal.invariant-loop-last
+invariant-loop-last l = record {
+  order : l.first ≤ l.last;
+  inside : l.last ≤ vec_len l.holes;
+  low : l.start ≤ l.fn.start;
+  so_far : with_hole l.start l.end (ranges (drop l.last l.holes.items)) ≡ with_hole l.fn.start l.fn.end (ranges (drop l.first l.holes.items));
 }
 
-abbrev pub decreases-loop-i : goal.decreases-loop-i
-decreases-loop-i l = vec_len l.holes - l.i
+abbrev pub decreases-loop-last : goal.decreases-loop-last
+decreases-loop-last l = vec_len l.holes - l.last

@@ -5,6 +5,7 @@ use Rattle.blob_pending.specs.Ranges.{ranges}
 use Rattle.blob_pending.specs.Views.{view, write_of, pared_by}
 use Rattle.blob_pending.specs.declared.entry.Entry.{Entry}
 use Rattle.blob_pending.proofs.CutSteps.{pared_write}
+use Rattle.blob_pending.proofs.Digging.{ends_rise}
 use Rattle.blob_pending.proofs.entry.Entry.cover.Goals as goal
 
 pub invariant_of-write-clause-apart : goal.invariant_of-write-clause-apart
@@ -26,3 +27,6 @@ returns-else-not-was_covered-clause-view c =
     let dug : ranges c.dig.new.holes.items ≡ dug_by c.args.start c.args.len (write_of w) (ranges w.holes.items) = search rules in
     pared_write c.args.start c.args.len (write_of w) (ranges w.holes.items) (ranges c.dig.new.holes.items) dug
     ∙ ap (λ (e : Entry). pared_by c.args.start c.args.len (view e)) (sym c.in-Write.is)
+
+pub dig-requires-clause-sorted : goal.dig-requires-clause-sorted
+dig-requires-clause-sorted c = let w = c.in-Write.write in ends_rise w.offset w.holes.items (w.offset + length w.bytes.items) w.apart

@@ -4,11 +4,12 @@ use Rattle.std.specs.List.{filter}
 use Rattle.std.proofs.lemmas.List.Elements.{filter-append}
 use Rattle.blob_model.specs.Pending.{Pending, Again, has_barrier, cut_by}
 use Rattle.blob_pending.specs.Blocks.{AreBounded}
-use Rattle.blob_pending.specs.Marks.{marks_of}
+use Rattle.blob_pending.specs.Marks.{marks_of, barriers_in}
 use Rattle.blob_pending.specs.Rooms.{HasRoomFor}
-use Rattle.blob_pending.specs.Views.{view, views, is_left, left_in, CountsCovered}
+use Rattle.blob_pending.specs.Views.{view, views, is_left, left_in, AreDropped, CountsCovered}
 use Rattle.blob_pending.proofs.Bounded.{barrier_again, bounded_pared, bounded_push}
 use Rattle.blob_pending.proofs.CutSteps.{pushed_is, views_push, all_push}
+use Rattle.blob_pending.proofs.Dropping.{dropped_push, dropped_pared, barriers_push, compacted_barriers}
 use Rattle.blob_pending.proofs.Left.{barrier_left, counts_push, cut_left, compacted_barrier, compacted_marks}
 use Rattle.blob_pending.proofs.Marking.{marks-push}
 use Rattle.blob_pending.proofs.Queued.{queued_is, cut_is}
@@ -17,6 +18,10 @@ use Rattle.blob_pending.proofs.incarnation.Incarnation.lay.Goals as goal
 pub compact-requires-clause-bounded : goal.compact-requires-clause-bounded
 compact-requires-clause-bounded g c =
     bounded_pared c.args.self.now.bounds (views c.args.self.now.entries.items) (views c.cover_all-covered.new.entries.items) c.args.offset c.args.len c.args.self.now.bounded c.cover_all-covered.ensures.views
+
+pub compact-requires-clause-dropped : goal.compact-requires-clause-dropped
+compact-requires-clause-dropped g c =
+    dropped_pared c.args.self.now.front (views c.args.self.now.entries.items) (views c.cover_all-covered.new.entries.items) c.args.offset c.args.len c.args.self.now.dropped c.cover_all-covered.ensures.views
 
 pub compact-requires-clause-counted : goal.compact-requires-clause-counted
 compact-requires-clause-counted g c =
@@ -86,7 +91,10 @@ invariant_of-self g c =
     let pushed : views c.push.new.self.items ≡ views q ++ Again c.args.offset c.args.copy.items ∷ [] = views_push q c.push.new.self.items _ (pushed_is q c.push.new.self.items _ _ c.push.ensures.items (search rules)) in
     let kept = views q in
     let queues : c.args.self.now.queues ≡ true = search rules in
+    let barriers = compacted_barriers (views c.args.self.now.entries.items) (views c.cover_all-covered.new.entries.items) kept c.args.offset c.args.len c.cover_all-covered.ensures.views c.compact.ensures.left in
     record {
+      dropped = subst (λ (r : List Pending). AreDropped c.compact.new.front r) (sym pushed) (dropped_push c.compact.new.front kept (Again c.args.offset c.args.copy.items) c.compact.ensures.dropped);
+      barred = omega (arith, c.args.self.now.barred, barriers, ap barriers_in pushed, barriers_push kept (Again c.args.offset c.args.copy.items));
       marked = c.args.self.now.marked
           ∙ sym (ap marks_of pushed ∙ marks-push kept (Again c.args.offset c.args.copy.items) refl
           ∙ compacted_marks (views c.args.self.now.entries.items) (views c.cover_all-covered.new.entries.items) kept c.args.offset c.args.len c.cover_all-covered.ensures.views c.compact.ensures.left);
@@ -98,6 +106,9 @@ invariant_of-self g c =
 
 pub invariant_of-self-else-self : goal.invariant_of-self-else-self
 invariant_of-self-else-self g c = record {
+  dropped = c.compact.ensures.dropped;
+  barred = c.args.self.now.barred
+      ∙ sym (compacted_barriers (views c.args.self.now.entries.items) (views c.cover_all-covered.new.entries.items) (views c.compact.new.entries.items) c.args.offset c.args.len c.cover_all-covered.ensures.views c.compact.ensures.left);
   marked = c.args.self.now.marked
       ∙ sym (compacted_marks (views c.args.self.now.entries.items) (views c.cover_all-covered.new.entries.items) (views c.compact.new.entries.items) c.args.offset c.args.len c.cover_all-covered.ensures.views c.compact.ensures.left);
   queued = c.args.self.now.queued

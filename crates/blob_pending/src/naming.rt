@@ -1,0 +1,60 @@
+//! The list of a name's current incarnation.
+ghost use Rattle.std.specs.Prelude.{◌≡◌, ◌<◌, Some, option_map, IfSome, vec_len};
+ghost use Rattle.blob_model.specs.Directory.{current};
+ghost use Rattle.blob_model.specs.Files.{is_removed_by};
+ghost use Rattle.blob_pending.specs.Lists.{IsListOf, RetiresRemoved, RetiresName};
+
+use crate::lists::Lists;
+use blob_base::Durable;
+
+/// Returns whether an incarnation is the current one of the name, which has this number. Most others have another number.
+fn is_of_name<S: Durable>(
+    store: &S,
+    origin: &S::Origin,
+    number: u64,
+    partition: &str,
+    name: &[u8],
+) -> bool
+    requires { Some number ≡ option_map (λ o. o.number) (current (S.directory store.now) partition.now name.now) }
+    ensures { result ≡ is_removed_by (S.directory store.now) partition.now (Some name.now) (S.place origin.now) }
+{
+    if S::number_of(origin) != number {
+        return false;
+    }
+    store.is_removed(origin, partition, Some(name))
+}
+
+impl<S: Durable> Lists<S> {
+    /// Returns the index of the list of a name's current incarnation, if it has one. Call this before a removal.
+    pub fn find_name(&self, store: &S, partition: &str, name: &[u8]) -> Option<usize>
+        ensures { IsListOf S.place (S.directory store.now) partition.now name.now self.now.all.lists.items result }
+    {
+        let Some(number) = store.current_number(partition, name) else {
+            return None;
+        };
+        for (i, list) in self.all.lists.iter().enumerate() {
+            if is_of_name(store, &list.origin, number, partition, name) {
+                return Some(i);
+            }
+        }
+        None
+    }
+
+    /// Drops the list that `find_name` found, if it found one. Call this after a removal.
+    pub fn retire_found(&mut self, list: Option<usize>)
+        requires { IfSome list (λ i. i < vec_len self.old.all.lists) }
+        ensures { RetiresName S.place self.old.all.lists.items self.new.all.lists.items list }
+    {
+        if let Some(i) = list {
+            self.all.lists.swap_remove(i);
+        }
+    }
+
+    /// Drops the list of a name's current incarnation, if it has one.
+    pub fn retire_name(&mut self, store: &S, partition: &str, name: &[u8])
+        ensures { RetiresRemoved S.place (S.directory store.now) partition.now (Some name.now) self.old.all.lists.items self.new.all.lists.items }
+    {
+        let list = self.find_name(store, partition, name);
+        self.retire_found(list);
+    }
+}
