@@ -11,7 +11,7 @@ ghost use Rattle.blob_sessions.specs.Applying.{AppliesTo};
 ghost use Rattle.blob_sessions.specs.DurableBlobs.{CopiesDigestFrom, CopiesFrom};
 ghost use Rattle.blob_sessions.specs.Parts.{CopiesNameFrom, FindsName, FindsRun, no_run};
 ghost use Rattle.blob_sessions.specs.Preambles.{BreaksAt, IsMadeOf};
-ghost use Rattle.blob_sessions.specs.Sessions.{ChangesDebts, Inspects, ReadsInto, RepeatsReply, RunsLineIn, WritesBytes, kept_of, stopped};
+ghost use Rattle.blob_sessions.specs.Sessions.{Inspects, MakesDebt, ReadsInto, RepeatsReply, RunsLineIn, WritesBytes, kept_of, stopped};
 ghost use Rattle.blob_sessions.specs.Typed.{last_reply, without_reply};
 ghost use Rattle.blob_sessions.specs.WholeScripts.{IsRunStatus, PrintsScript, PrintsUntil, WantsRoom};
 ghost use Rattle.blob_sessions.specs.Words.{InsertsWords, TellsWordsLeft};
@@ -74,7 +74,7 @@ pub extern "C" fn blobcrash_open(alloc: Global, session: &mut Session, preamble:
         return ScriptRan::stopped(NO_MEMORY);
     };
     session.close(alloc);
-    *session = Session::of(kept);
+    session.put(kept);
     ScriptRan::stopped(DONE)
 }
 
@@ -96,7 +96,7 @@ pub extern "C" fn blobcrash_call(
         return Ran::stopped(CLOSED);
     };
     let ran = kept.call(alloc, line, reply);
-    *session = Session::of(kept);
+    session.put(kept);
     ran
 }
 
@@ -109,7 +109,7 @@ pub extern "C" fn blobcrash_reply(alloc: Global, session: &mut Session, reply: &
         return Ran::stopped(CLOSED);
     };
     let ran = kept.tell(reply);
-    *session = Session::of(kept);
+    session.put(kept);
     ran
 }
 
@@ -131,7 +131,7 @@ pub extern "C" fn blobcrash_write(
         return CLOSED;
     };
     let status = kept.write(handle, offset, bytes, sync);
-    *session = Session::of(kept);
+    session.put(kept);
     status
 }
 
@@ -152,7 +152,7 @@ pub extern "C" fn blobcrash_read(
         return CLOSED;
     };
     let status = kept.read(handle, offset, into);
-    *session = Session::of(kept);
+    session.put(kept);
     status
 }
 
@@ -177,7 +177,7 @@ pub extern "C" fn blobcrash_apply(
         return TypedReply::stopped(CLOSED);
     };
     let reply = kept.apply(asked, partition, name);
-    *session = Session::of(kept);
+    session.put(kept);
     reply
 }
 
@@ -193,7 +193,7 @@ pub extern "C" fn blobcrash_last(alloc: Global, session: &mut Session) -> TypedR
         return TypedReply::stopped(CLOSED);
     };
     let reply = kept.last();
-    *session = Session::of(kept);
+    session.put(kept);
     reply
 }
 
@@ -213,7 +213,7 @@ pub extern "C" fn blobcrash_name(
         return Ran::stopped(CLOSED);
     };
     let ran = kept.name(index, into);
-    *session = Session::of(kept);
+    session.put(kept);
     ran
 }
 
@@ -228,7 +228,7 @@ pub extern "C" fn blobcrash_find_name(alloc: Global, session: &mut Session, name
         return Ran::stopped(CLOSED);
     };
     let ran = kept.find_name(name);
-    *session = Session::of(kept);
+    session.put(kept);
     ran
 }
 
@@ -249,7 +249,7 @@ pub extern "C" fn blobcrash_kept_run(
         return KeptRun::stopped(CLOSED);
     };
     let run = kept.kept_run(row, from);
-    *session = Session::of(kept);
+    session.put(kept);
     run
 }
 
@@ -273,7 +273,7 @@ pub extern "C" fn blobcrash_durable_blob(
         return Ran::stopped(CLOSED);
     };
     let ran = kept.durable_blob(partition, name, with_header, into);
-    *session = Session::of(kept);
+    session.put(kept);
     ran
 }
 
@@ -288,7 +288,7 @@ pub extern "C" fn blobcrash_audit(alloc: Global, session: &mut Session, into: &m
         return Ran::stopped(CLOSED);
     };
     let ran = kept.audit(into);
-    *session = Session::of(kept);
+    session.put(kept);
     ran
 }
 
@@ -303,7 +303,7 @@ pub extern "C" fn blobcrash_words_left(alloc: Global, session: &mut Session) -> 
         return Ran::stopped(CLOSED);
     };
     let ran = kept.words_left();
-    *session = Session::of(kept);
+    session.put(kept);
     ran
 }
 
@@ -318,11 +318,12 @@ pub extern "C" fn blobcrash_push_words(alloc: Global, session: &mut Session, wor
         return CLOSED;
     };
     let status = kept.push_words(words);
-    *session = Session::of(kept);
+    session.put(kept);
     status
 }
 
-/// Makes a call of the registry of durability debt, which a session has as well as its store. The store doesn't change.
+/// Makes a call of the registry of durability debt, which a session has as well as its store, and returns what the registry
+/// returned. The store doesn't change.
 ///
 /// Errors, with nothing changed:
 /// - `BAD_CALL` if the kind is unknown, the failure has texts or the partition isn't UTF-8.
@@ -337,13 +338,13 @@ pub extern "C" fn blobcrash_debt(
     partition: &[u8],
     name: &[u8],
 ) -> DebtReply
-    ensures { ChangesDebts session.old session.new result }
+    ensures { MakesDebt session.old session.new asked.now partition.now name.now result }
 {
     let Some(mut kept) = session.take(alloc) else {
         return DebtReply::stopped(CLOSED);
     };
     let reply = kept.owe(alloc, asked, partition, name);
-    *session = Session::of(kept);
+    session.put(kept);
     reply
 }
 

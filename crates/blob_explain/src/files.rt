@@ -63,11 +63,11 @@ pub(crate) fn pending_files(
         if list.entries.iter().any(|entry| entry.is_left()) {
             let file = file_of(alloc, wrapper, list, bases)?;
             if !file.entries.is_empty() {
-                let at = files.iter().position(|other| comes_before(&file, other));
-                files.insert(at.unwrap_or(files.len()), file)?;
+                files.push(file)?;
             }
         }
     }
+    files.sort_unstable_by(|file, other| order_of(file, other));
     Ok(files)
 }
 
@@ -120,15 +120,13 @@ fn choices_of(rows: &[(u64, Vec<bool>)], number: u64) -> &[bool]
     row.1.as_slice()
 }
 
-fn comes_before(file: &File, other: &File) -> bool {
+fn order_of(file: &File, other: &File) -> Ordering {
     match file.partition.cmp(&other.partition) {
-        Ordering::Less => true,
-        Ordering::Greater => false,
         Ordering::Equal => match file.name.cmp(&other.name) {
-            Ordering::Less => true,
-            Ordering::Greater => false,
-            Ordering::Equal => file.number < other.number,
+            Ordering::Equal => file.number.cmp(&other.number),
+            order => order,
         },
+        order => order,
     }
 }
 
@@ -260,11 +258,10 @@ impl File {
 fn overlay(to: &mut Vec<u8>, offset: u64, bytes: &[u8]) -> Result<(), AllocError> {
     let start = offset as usize;
     let end = start.saturating_add(bytes.len());
-    for i in to.len()..end {
-        let _ = i;
-        to.push(0)?;
+    if to.len() < end {
+        to.resize(end, 0)?;
     }
-    for (place, byte) in to.iter_mut().skip(start).zip(bytes) {
+    for (place, byte) in to[start..].iter_mut().zip(bytes) {
         *place = *byte;
     }
     Ok(())
@@ -291,7 +288,7 @@ fn item_of(alloc: Global, entry: &Entry) -> Result<Option<Item>, Error> {
             offset: range.offset,
             bytes: Vec::from_slice(alloc, &range.bytes)?,
         },
-        Entry::Write(_) | Entry::Marker(_) => return Ok(None),
+        Entry::Write(_) | Entry::Marker(_) | Entry::Dropped => return Ok(None),
     };
     Ok(Some(item))
 }

@@ -4,7 +4,7 @@ ghost use Rattle.blob_explain.specs.Choices.{choice_at};
 
 use crate::files::{File, Item, Write};
 use crate::rows::{Cell, STRIPE, push_row};
-use std::alloc::AllocError;
+use std::alloc::{AllocError, Global};
 
 /// What became of a byte of a write.
 #[derive(Clone, Copy, PartialEq, Eq)]
@@ -103,13 +103,21 @@ fn push_counts(write: &Write, text: &mut String) -> Result<(), AllocError> {
     Ok(())
 }
 
+/// Whether an offset is in one of the holes, which are sorted.
+fn is_in(holes: &[(u64, u64)], at: u64) -> bool {
+    let i = holes.partition_point(|hole| hole.1 <= at);
+    match holes.get(i) {
+        Some(hole) => hole.0 <= at,
+        None => false,
+    }
+}
+
 /// Returns what became of the byte at an index of a write, by the choices of the crash.
 fn fate_of(write: &Write, i: usize) -> Fate
     ensures kept { result ≡ Fate.Kept → choice_at write.now.kept.items i ≡ true }
     ensures lost { result ≡ Fate.Lost → choice_at write.now.kept.items i ≡ false }
 {
-    let at = write.offset.saturating_add(i as u64);
-    if write.holes.iter().any(|hole| hole.0 <= at && at < hole.1) {
+    if is_in(&write.holes, write.offset.saturating_add(i as u64)) {
         Fate::Covered
     } else if write.kept.get(i) == Some(&true) {
         Fate::Kept
@@ -131,14 +139,20 @@ fn push_stripes(file: &File, after: &[u8], text: &mut String) -> Result<(), Allo
         push_label(item, &mut label)?;
         width = width.max(label.len());
     }
+    let laid = laid_in(alloc, loose)?;
+    let mut rest = laid.as_slice();
     let mut last = String::new(alloc);
     let mut next = 0;
     let mut is_folded = false;
-    for k in 0..end.div_ceil(STRIPE) {
-        let at = k.saturating_mul(STRIPE);
+    let mut at = 0;
+    for _ in 0..end.div_ceil(STRIPE) {
+        if at >= end {
+            break;
+        }
+        let (here, later) = split_at_stripe(rest, at / STRIPE);
         let mut stripe = String::new(alloc);
-        if is_reached(file, loose, after, at) {
-            push_stripe(file, loose, after, at, width, &mut stripe)?;
+        if !here.is_empty() || cut(&file.before, at) != cut(after, at) {
+            push_stripe(file, loose, here, after, at, width, &mut stripe)?;
         }
         if !stripe.is_empty() && stripe == last && next == at {
             is_folded = true;
@@ -154,11 +168,60 @@ fn push_stripes(file: &File, after: &[u8], text: &mut String) -> Result<(), Allo
             last = stripe;
         }
         next = at.saturating_add(STRIPE);
+        if here.is_empty() {
+            let alike = alike_until(&file.before, after, at, next_laid(later, end));
+            is_folded = is_folded || (next < alike && !last.is_empty());
+            next = next.max(alike);
+        }
+        rest = later;
+        at = next;
     }
     if is_folded {
         writeln!(text, "  and so on up to {end}")?;
     }
     Ok(())
+}
+
+/// Returns the number of each stripe that an entry writes in, with the entry's index. Sorted.
+fn laid_in(alloc: Global, loose: &[Item]) -> Result<Vec<(u64, usize)>, AllocError> {
+    let mut laid = Vec::new(alloc);
+    for (i, item) in loose.iter().enumerate() {
+        let (start, end) = range_of(item);
+        if start < end {
+            for stripe in start / STRIPE..end.div_ceil(STRIPE) {
+                laid.push((stripe, i))?;
+            }
+        }
+    }
+    laid.sort_unstable();
+    Ok(laid)
+}
+
+/// Returns what is laid in the next stripe, if it has this number, and the rest.
+fn split_at_stripe(laid: &[(u64, usize)], stripe: u64) -> (&[(u64, usize)], &[(u64, usize)]) {
+    let count = laid.iter().position(|place| place.0 != stripe);
+    laid.split_at(count.unwrap_or(laid.len()))
+}
+
+/// Returns where the next stripe begins that an entry writes in, at most `end`.
+fn next_laid(later: &[(u64, usize)], end: u64) -> u64 {
+    match later.first() {
+        Some(place) => end.min(place.0.saturating_mul(STRIPE)),
+        None => end,
+    }
+}
+
+/// Returns where the first stripe before `limit` begins that doesn't look like the one at an offset, or the end of the last one. No
+/// entry writes in these stripes.
+fn alike_until(before: &[u8], after: &[u8], at: u64, limit: u64) -> u64 {
+    let mut next = at.saturating_add(STRIPE);
+    while next < limit
+        && cut(before, next) == cut(before, at)
+        && cut(after, next) == cut(after, at)
+    {
+        next = next.saturating_add(STRIPE);
+    }
+    next
 }
 
 /// Returns the start and the end of the bytes that an entry writes.
@@ -173,16 +236,6 @@ fn range_of(item: &Item) -> (u64, u64) {
     }
 }
 
-fn is_laid_in(item: &Item, at: u64) -> bool {
-    let (start, end) = range_of(item);
-    start < end && start < at.saturating_add(STRIPE) && at < end
-}
-
-/// Returns whether an entry writes bytes in a stripe, or the stripe's bytes change.
-fn is_reached(file: &File, loose: &[Item], after: &[u8], at: u64) -> bool {
-    loose.iter().any(|item| is_laid_in(item, at)) || cut(&file.before, at) != cut(after, at)
-}
-
 /// The bytes of a stripe, as many as there are.
 fn cut(bytes: &[u8], at: u64) -> &[u8] {
     let start = (at as usize).min(bytes.len());
@@ -193,6 +246,7 @@ fn cut(bytes: &[u8], at: u64) -> &[u8] {
 fn push_stripe(
     file: &File,
     loose: &[Item],
+    here: &[(u64, usize)],
     after: &[u8],
     at: u64,
     width: usize,
@@ -202,8 +256,8 @@ fn push_stripe(
     push_bytes(cut(&file.before, at), &mut cells)?;
     push_row("before", width, &cells, text)?;
     let mut label = String::new(*text.allocator());
-    for item in loose {
-        if is_laid_in(item, at) {
+    for place in here {
+        if let Some(item) = loose.get(place.1) {
             cells.clear();
             for i in 0..STRIPE {
                 cells.push(cell_of(item, at.saturating_add(i)))?;

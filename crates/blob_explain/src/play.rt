@@ -54,7 +54,11 @@ fn read(alloc: Global, text: &[u8]) -> Result<Script, Error> {
     };
     for line in text.split(|byte| *byte == b'\n') {
         match read_line(alloc, line) {
-            Ok(line) => script.add(line)?,
+            Ok(line) => {
+                if !script.add(line)? {
+                    break;
+                }
+            }
             Err(RefusedLine::BadCall) => break,
             Err(RefusedLine::NoMemory) => return Err(Error::Memory(AllocError)),
         }
@@ -63,8 +67,11 @@ fn read(alloc: Global, text: &[u8]) -> Result<Script, Error> {
 }
 
 impl Script {
-    fn add(&mut self, line: Line) -> Result<(), Error> {
+    /// Adds a line. Returns whether the script goes on: it ends at a second seed, and at a line of the preamble after a call.
+    fn add(&mut self, line: Line) -> Result<bool, Error> {
+        let has_begun = !self.calls.is_empty();
         match line {
+            Line::Image { .. } | Line::Words(_) | Line::Seed(_) if has_begun => return Ok(false),
             Line::Blank => {}
             Line::Image {
                 partition,
@@ -72,6 +79,7 @@ impl Script {
                 bytes,
             } => self.images.push((partition, name, bytes))?,
             Line::Words(words) => self.words.extend_from_slice(&words)?,
+            Line::Seed(_) if self.seed.is_some() => return Ok(false),
             Line::Seed(seed) => self.seed = Some(seed),
             Line::Configure(setting) => {
                 self.config = setting.apply(copy_of(&self.config));
@@ -79,7 +87,7 @@ impl Script {
             }
             Line::Call(call) => self.calls.push(call)?,
         }
-        Ok(())
+        Ok(true)
     }
 }
 

@@ -113,7 +113,7 @@ impl Watch {
                 return Ok(());
             }
             _ => {
-                self.bases.forget(wrapper);
+                self.bases.forget(wrapper, &self.handles, step.call);
                 return Ok(());
             }
         };

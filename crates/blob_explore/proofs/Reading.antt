@@ -1,16 +1,18 @@
 -- The lines of a script, one after another.
-use Rattle.std.proofs.Common.{◌≡◌, ℕ, Bool, true, false, cond, List, [], ◌∷◌, ◌++◌, Option, Some, None, refl, sym, ap, ◌∙◌, rules, if◌then◌else◌, inl, inr, ⊎_elim}
-use Rattle.std.specs.Prelude.{◌==◌, ◌⊎◌, option_and_then}
-use Rattle.std.specs.List.{onto_first, slice_split}
+use Rattle.std.proofs.Common.{◌≡◌, ◌+◌, ℕ, suc, List, [], ◌∷◌, ◌++◌, length, Option, Some, None, refl, sym, ap, ◌∙◌, arith, subst, append_assoc, append-nil}
+use Rattle.std.proofs.lemmas.List.{length_push}
+use Rattle.std.specs.Prelude.{option_and_then}
 use Rattle.blob_script.specs.declared.call.Call.{Call}
 use Rattle.blob_script.specs.Acts.{Act, act_of}
-use Rattle.std.proofs.lemmas.Str.{is_utf8-from_IsUtf8}
-use Rattle.std.specs.Str.{is_utf8}
-use Rattle.blob_script.specs.Lines.{said_of}
-use Rattle.blob_script.specs.Tokens.{tokens}
+use Rattle.blob_script.specs.Lines.{line_of}
 use Rattle.blob_choices.specs.Outcomes.{acts_of}
 use Rattle.blob_lab.specs.Scripts as lab
-use Rattle.blob_lab.specs.Scripts.{lines_of, with_line, with_lines, with_said}
+use Rattle.blob_lab.specs.Scripts.{lines_of, no_script, script_of, with_line, with_lines}
+use Rattle.blob_explore.specs.RefusedLines.{IsRefused, IsRefusedAt, Refuses, RefusesLine}
+use Rattle.blob_explore.specs.ScriptTexts.{AddsLine, script_so_far}
+use Rattle.blob_explore.specs.declared.script.Reading.{Reading}
+use Rattle.blob_explore.specs.declared.script.RefusedScript.{RefusedScript}
+use Rattle.blob_explore.specs.declared.script.RefusedScript.TheVariants.{BadCall, PartialResize, NoMemory}
 
 pub acts_more : (calls : List Call) (call : Call) → acts_of (calls ++ call ∷ []) ≡ acts_of calls ++ act_of call ∷ []
 acts_more [] call = refl
@@ -28,36 +30,47 @@ lines_more s t u (l ∷ lines) line before here = by (with_line s l) before (λ 
     by None e more = absurd (cc)
     by (Some x) e more = more x e
 
-abbrev pub line_feed : ℕ → Bool
-line_feed byte = byte == 10
+-- the lines up to `rest` are those that were read
+pub record IsReadTo (text rest : List ℕ) (reading : Reading) : Type 0 where
+  pub front : List (List ℕ)
+  pub parts : lines_of text ≡ front ++ lines_of rest
+  pub numbered : reading.number ≡ length front
+  pub is : script_of front ≡ Some (script_so_far reading)
 
--- the pieces between line feeds are the lines, and then maybe an empty one
-pieces_are : (bytes : List ℕ) → (slice_split line_feed bytes ≡ lines_of bytes) ⊎ (slice_split line_feed bytes ≡ lines_of bytes ++ [] ∷ [])
-pieces_are [] = inr refl
-pieces_are (b ∷ bytes) = by (b == 10) (slice_split line_feed bytes) (lines_of bytes) (pieces_are bytes)
+pub begins : (text : List ℕ) (reading : Reading) → reading.number ≡ 0 → script_so_far reading ≡ no_script → IsReadTo text text reading
+begins text reading number none = record { front = []; parts = refl; numbered = number; is = ap Some (sym none) }
+
+pub goes_on : (text rest line others : List ℕ) (r r' : Reading) → IsReadTo text rest r → lines_of rest ≡ line ∷ lines_of others → AddsLine r line r' → r'.number ≡ r.number + 1 → IsReadTo text others r'
+goes_on text rest line others r r' h first adds number = record {
+  front = h.front ++ line ∷ [];
+  parts = h.parts ∙ ap (λ ls. h.front ++ ls) first ∙ sym (append_assoc h.front (line ∷ []) (lines_of others));
+  numbered = number ∙ ap (λ n. n + 1) h.numbered ∙ (omega arith) ∙ sym (length_push h.front line);
+  is = lines_more no_script (script_so_far r) (script_so_far r') h.front line h.is adds;
+}
+
+pub refused_at : (text rest line others : List ℕ) (r : Reading) (number : ℕ) (refused : RefusedScript) → IsReadTo text rest r → lines_of rest ≡ line ∷ lines_of others
+    → number ≡ r.number + 1 → RefusesLine r line number refused → IsRefused text refused
+refused_at text rest line others r number refused h first next refuses = by refused at
   where
-    by : (c : Bool) (pieces lines : List (List ℕ)) → (pieces ≡ lines) ⊎ (pieces ≡ lines ++ [] ∷ []) →
-        (cond c ([] ∷ pieces) (onto_first b pieces) ≡ cond c ([] ∷ lines) (onto_first b lines)) ⊎ (cond c ([] ∷ pieces) (onto_first b pieces) ≡ cond c ([] ∷ lines) (onto_first b lines) ++ [] ∷ [])
-    by true pieces lines (inl e) = inl (ap (λ (ls : List (List ℕ)). [] ∷ ls) e)
-    by true pieces lines (inr e) = inr (ap (λ (ls : List (List ℕ)). [] ∷ ls) e)
-    by false pieces lines (inl e) = inl (ap (onto_first b) e)
-    by false pieces [] (inr e) = inl (ap (onto_first b) e)
-    by false pieces (l ∷ lines) (inr e) = inr (ap (onto_first b) e)
+    is_next : number ≡ suc (length h.front)
+    is_next = next ∙ ap (λ n. n + 1) h.numbered ∙ omega arith
 
-no_bytes : is_utf8 [] ≡ true
-no_bytes = is_utf8-from_IsUtf8 [] (search rules)
+    at : IsRefusedAt text refused
+    at = record {
+      front = h.front;
+      bad = line;
+      rest = lines_of others;
+      parts = h.parts ∙ ap (λ ls. h.front ++ ls) first;
+      script = script_so_far r;
+      is = h.is;
+      refuses = subst (λ n. Refuses (script_so_far r) n (line_of line) (with_line (script_so_far r) line) refused) is_next refuses;
+    }
 
--- an empty line at the end changes nothing
-blank_end : (s : lab.Script) (lines : List (List ℕ)) → with_lines s (lines ++ [] ∷ []) ≡ with_lines s lines
-blank_end s [] = ap (λ (b : Bool). option_and_then (λ (x : lab.Script). Some x) (option_and_then (with_said s) (if b then said_of (tokens []) else None))) no_bytes
-blank_end s (l ∷ lines) = by (with_line s l) (λ x. blank_end x lines)
-  where
-    by : (o : Option lab.Script) → ((x : lab.Script) → with_lines x (lines ++ [] ∷ []) ≡ with_lines x lines) → option_and_then (λ x. with_lines x (lines ++ [] ∷ [])) o ≡ option_and_then (λ x. with_lines x lines) o
-    by None same = refl
-    by (Some x) same = same x
+    by : (e : RefusedScript) → IsRefusedAt text e → IsRefused text e
+    by (BadCall n) h = h
+    by (PartialResize n) h = h
+    by NoMemory h = tt
 
-pub lines_from_pieces : (s t : lab.Script) (bytes : List ℕ) → with_lines s (slice_split line_feed bytes) ≡ Some t → with_lines s (lines_of bytes) ≡ Some t
-lines_from_pieces s t bytes h = ⊎_elim
-    (λ (e : slice_split line_feed bytes ≡ lines_of bytes). ap (with_lines s) (sym e) ∙ h)
-    (λ (e : slice_split line_feed bytes ≡ lines_of bytes ++ [] ∷ []). sym (blank_end s (lines_of bytes)) ∙ ap (with_lines s) (sym e) ∙ h)
-    (pieces_are bytes)
+pub read_all : (text rest : List ℕ) (r : Reading) → IsReadTo text rest r → rest ≡ [] → script_of (lines_of text) ≡ Some (script_so_far r)
+read_all text rest r h none =
+    ap script_of (h.parts ∙ ap (λ (bytes : List ℕ). h.front ++ lines_of bytes) none ∙ append-nil h.front) ∙ h.is

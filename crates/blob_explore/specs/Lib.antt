@@ -2,4 +2,5 @@ pub mod Explorations
 pub mod Distinct
 pub mod Outcomes
 pub mod Printed
+pub mod RefusedLines
 pub mod ScriptTexts

@@ -1,6 +1,7 @@
 //! The leaves of a script, one after another.
 ghost use Rattle.std.specs.Prelude.{◌≡◌, ◌≢◌, [], None, IfOk, IfSome, IfNone, OnErr};
 ghost use Rattle.std.specs.Bool.{OnFalse, OnTrue};
+ghost use Rattle.blob_header.specs.Refusals.{IsMemory};
 ghost use Rattle.blob_tree.specs.Trees.{DecisionTree, leaves};
 ghost use Rattle.blob_explore.specs.Explorations.{VisitsNext, explored_script, remaining_leaves, path_of};
 
@@ -61,6 +62,7 @@ impl Exploration {
         ensures leaf { IfOk result (λ found. IfSome found (λ leaf. VisitsNext self.old leaf self.new)) }
         ensures end { IfOk result (λ found. IfNone found ((path_of self.old ≡ None) × (path_of self.new ≡ None))) }
         ensures err { OnErr result (path_of self.new ≡ path_of self.old) }
+        ensures memory { OnErr result (IsMemory result) }
         ensures script { explored_script self.new ≡ explored_script self.old }
     {
         if self.is_done {

@@ -1,5 +1,6 @@
 //! The distinct outcomes of a script.
-ghost use Rattle.std.specs.Prelude.{◌≡◌, ◌≤◌, ◌-◌, IfOk, false, if◌then◌else◌, string_bytes};
+ghost use Rattle.std.specs.Prelude.{◌≡◌, ◌≤◌, ◌-◌, IfOk, OnErr, false, if◌then◌else◌, string_bytes};
+ghost use Rattle.blob_header.specs.Refusals.{IsMemory};
 ghost use Rattle.blob_explore.specs.Outcomes.{IsExplored, replies_text};
 
 use crate::exploration::Exploration;
@@ -30,6 +31,7 @@ pub fn explore(alloc: Global, script: Script, limit: u64, last: bool) -> Result<
     ensures leaves { IfOk result (IsExplored script last) }
     ensures within { IfOk result (λ found. found.leaves ≤ limit) }
     ensures limit { IfOk result (λ found. found.is_complete ≡ false → found.leaves ≡ limit) }
+    ensures memory { OnErr result (IsMemory result) }
 {
     outcomes();
     every_run();
@@ -58,7 +60,8 @@ pub fn explore(alloc: Global, script: Script, limit: u64, last: bool) -> Result<
 
 /// Returns the text of a leaf: the lines of its replies, or of the last one.
 fn text_of(alloc: Global, replies: &[Reply], last: bool) -> Result<String, Error>
-    ensures { IfOk result (λ text. string_bytes text ≡ replies_text last replies.now) }
+    ensures ok { IfOk result (λ text. string_bytes text ≡ replies_text last replies.now) }
+    ensures memory { OnErr result (IsMemory result) }
 {
     let mut text = String::new(alloc);
     let from = first_shown(replies.len(), last);

@@ -1,7 +1,8 @@
 // What was explored, as lines.
-ghost use Rattle.std.specs.Prelude.{◌≡◌, ◌==◌, IfOk, OnOk, codes, if◌then◌else◌, string_bytes};
+ghost use Rattle.std.specs.Prelude.{◌≡◌, ◌==◌, IfOk, IfErr, OnOk, codes, if◌then◌else◌, string_bytes};
 ghost use Rattle.blob_explore.specs.Distinct.{distinct};
 ghost use Rattle.blob_explore.specs.Outcomes.{PrintsExploration};
+ghost use Rattle.blob_explore.specs.RefusedLines.{IsRefused};
 ghost use Rattle.blob_explore.specs.Printed.{Appends, explored_text, last_line};
 ghost use Rattle.blob_explore.specs.Printed.{leaves_text, limit_text, outcome_text, words_text};
 
@@ -18,7 +19,8 @@ pub fn explore_text(
     limit: u64,
     last: bool,
 ) -> Result<String, RefusedScript>
-    ensures { IfOk result (λ printed. PrintsExploration text.now limit last (string_bytes printed)) }
+    ensures text { IfOk result (λ printed. PrintsExploration text.now limit last (string_bytes printed)) }
+    ensures refused { IfErr result (IsRefused text.now) }
 {
     let script = read_script(alloc, text)?;
     let Ok(explored) = explore(alloc, script, limit, last) else {

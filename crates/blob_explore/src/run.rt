@@ -1,7 +1,7 @@
 // One run of the calls over given words.
-ghost use Rattle.std.specs.Prelude.{◌≡◌, ◌≢◌, ◌-◌, ◌^◌, ◌++◌, ◌∷◌, [], Some, IfOk, IfSome};
+ghost use Rattle.std.specs.Prelude.{◌≡◌, ◌≢◌, ◌-◌, ◌^◌, ◌++◌, ◌∷◌, [], Some, IfOk, IfSome, OnErr};
 ghost use Rattle.std.specs.Bool.{OnTrue, OnFalse};
-ghost use Rattle.blob_header.specs.Refusals.{Memory};
+ghost use Rattle.blob_header.specs.Refusals.{IsMemory, Memory};
 ghost use Rattle.blob_script.specs.Told.{refused_by};
 ghost use Rattle.blob_lab_store.specs.Tables.{images_of};
 ghost use Rattle.blob_choices.specs.Outcomes.{NoneOutOfMemory};
@@ -25,7 +25,8 @@ pub(crate) fn visit(
     explorer: &Explorer,
     spare: &mut usize,
 ) -> Result<Leaf, Error>
-    ensures { IfOk result (TakesPath script.now explorer.now) }
+    ensures ok { IfOk result (TakesPath script.now explorer.now) }
+    ensures memory { OnErr result (IsMemory result) }
 {
     for _ in 0..64 {
         match visit_within(alloc, script, explorer, *spare)? {
@@ -43,7 +44,8 @@ fn visit_within(
     explorer: &Explorer,
     spare: usize,
 ) -> Result<Option<Leaf>, Error>
-    ensures { IfOk result (λ found. IfSome found (TakesPath script.now explorer.now)) }
+    ensures ok { IfOk result (λ found. IfSome found (TakesPath script.now explorer.now)) }
+    ensures memory { OnErr result (IsMemory result) }
 {
     taken_words();
     let mut words = explorer.words()?;
@@ -66,7 +68,8 @@ fn visit_within(
 }
 
 fn with_last(alloc: Global, words: &[u64]) -> Result<Vec<u64>, Error>
-    ensures { IfOk result (λ given. given.items ≡ words.now ++ (2 ^ 64 - 1) ∷ []) }
+    ensures ok { IfOk result (λ given. given.items ≡ words.now ++ (2 ^ 64 - 1) ∷ []) }
+    ensures memory { OnErr result (IsMemory result) }
 {
     let mut given = Vec::from_slice(alloc, words)?;
     given.push(u64::MAX)?;
@@ -101,7 +104,8 @@ fn run(
     script: &Script,
     words: Vec<u64>,
 ) -> Result<(Vec<Reply>, Option<usize>), Error>
-    ensures { IfOk result (λ ran. Ran script.now.images.items script.now.calls.items words.items ran.0.items ran.1) }
+    ensures ok { IfOk result (λ ran. Ran script.now.images.items script.now.calls.items words.items ran.0.items ran.1) }
+    ensures memory { OnErr result (IsMemory result) }
 {
     let images = copies(alloc, &script.images)?;
     let mut lab = Lab::new(images, words, Config::default())?;
@@ -122,7 +126,8 @@ fn copies(
     alloc: Global,
     images: &[(String, Vec<u8>, Vec<u8>)],
 ) -> Result<Vec<(String, Vec<u8>, Vec<u8>)>, Error>
-    ensures { IfOk result (λ all. images_of all.items ≡ images_of images.now) }
+    ensures ok { IfOk result (λ all. images_of all.items ≡ images_of images.now) }
+    ensures memory { OnErr result (IsMemory result) }
 {
     let mut all = Vec::with_capacity(alloc, images.len())?;
     for image in images {
@@ -133,7 +138,8 @@ fn copies(
 }
 
 fn copied(image: &(String, Vec<u8>, Vec<u8>)) -> Result<(String, Vec<u8>, Vec<u8>), Error>
-    ensures { IfOk result (λ copy. image_of copy ≡ image_of image.now) }
+    ensures ok { IfOk result (λ copy. image_of copy ≡ image_of image.now) }
+    ensures memory { OnErr result (IsMemory result) }
 {
     let (partition, name, bytes) = image;
     Ok((partition.clone()?, name.clone()?, bytes.clone()?))

@@ -1,14 +1,16 @@
 //! A script to be explored: what lies in the store, and the calls.
-ghost use Rattle.std.specs.Prelude.{◌≡◌, [], Some, IfOk, OnOk};
-ghost use Rattle.std.specs.Bool.{OnFalse};
+ghost use Rattle.std.specs.Prelude.{◌≡◌, ◌<◌, ◌+◌, ◌-◌, ◌^◌, [], Some, IfOk, IfErr, OnOk};
+ghost use Rattle.std.specs.Bool.{OnFalse, OnTrue};
 ghost use Rattle.blob_script.specs.Acts.{act_of};
-ghost use Rattle.blob_script.specs.Lines.{said_by};
+ghost use Rattle.blob_script.specs.Lines.{Configure, said_by};
 ghost use Rattle.blob_script.specs.Settings.{no_rates};
 ghost use Rattle.blob_choices.specs.Outcomes.{HasNoPartialResize, SetNoPartialResize, SetsNoPartialResize, acts_of};
 ghost use Rattle.blob_explore.specs.Explorations.{AddsNoPartialResize};
 ghost use Rattle.blob_explore.specs.ScriptTexts.{AddsCall, AddsImage, AddsLine, AddsSaid, AddsSetting, IsScriptOf};
+ghost use Rattle.blob_explore.specs.RefusedLines.{IsRefused, RefusesCall, RefusesLine, RefusesSaid, image_said, status_of};
 
 use blob_faulty::Config;
+use blob_lab::first_line;
 use blob_script::Call;
 use blob_script::script::setting::copy_of;
 use blob_script::script::{Line, RefusedLine, Setting, read_line};
@@ -33,8 +35,10 @@ pub enum RefusedScript {
 }
 
 impl RefusedScript {
-    /// The exit status of the program, as that of a script's run.
-    pub fn status(self) -> u8 {
+    /// Returns the exit status of the program, as that of a script's run: 3 if memory ran out, otherwise 2.
+    pub fn status(self) -> u8
+        ensures { result ≡ status_of self }
+    {
         match self {
             RefusedScript::BadCall(_) | RefusedScript::PartialResize(_) => 2,
             RefusedScript::NoMemory => 3,
@@ -67,14 +71,18 @@ impl fmt::Display for RefusedScript {
     }
 }
 
-/// Reads a script without words and seed. No call of it makes a partial resize possible.
+/// Reads a script without words and seed. No call of it makes a partial resize possible. The refusal is that of the first line that
+/// can't follow those before it.
 pub fn read_script(alloc: Global, text: &[u8]) -> Result<Script, RefusedScript>
     ensures script { IfOk result (IsScriptOf text.now) }
     ensures sizes { IfOk result (λ script. SetNoPartialResize (acts_of script.calls.items)) }
+    ensures refused { IfErr result (IsRefused text.now) }
 {
     let mut reading = Reading::new(alloc);
-    for line in text.split(|byte| *byte == b'\n') {
+    let mut rest = text;
+    'lines: while let Some((line, others)) = first_line(rest) {
         reading.add(alloc, line)?;
+        rest = others;
     }
     Ok(Script {
         images: reading.images,
@@ -96,6 +104,7 @@ impl Reading {
         ensures calls { result.calls.items ≡ [] }
         ensures images { result.images.items ≡ [] }
         ensures config { result.config ≡ no_rates }
+        ensures number { result.number ≡ 0 }
     {
         Reading {
             images: Vec::new(alloc),
@@ -105,11 +114,15 @@ impl Reading {
         }
     }
 
+    /// Adds the next line.
     fn add(&mut self, alloc: Global, line: &[u8]) -> Result<(), RefusedScript>
+        requires { self.old.number < 2 ^ 64 - 1 }
         ensures sizes { OnOk result (AddsNoPartialResize self.old.calls.items self.new.calls.items) }
         ensures line { OnOk result (AddsLine self.old line.now self.new) }
+        ensures number { self.new.number ≡ self.old.number + 1 }
+        ensures refused { IfErr result (RefusesLine self.old line.now self.new.number) }
     {
-        self.number = self.number.saturating_add(1);
+        self.number += 1;
         match read_line(alloc, line) {
             Ok(line) => self.add_line(line),
             Err(RefusedLine::BadCall) => Err(RefusedScript::BadCall(self.number)),
@@ -120,6 +133,8 @@ impl Reading {
     fn add_line(&mut self, line: Line) -> Result<(), RefusedScript>
         ensures sizes { OnOk result (AddsNoPartialResize self.old.calls.items self.new.calls.items) }
         ensures line { OnOk result (AddsSaid self.old (said_by line) self.new) }
+        ensures number { self.new.number ≡ self.old.number }
+        ensures refused { IfErr result (RefusesSaid self.old (said_by line)) }
     {
         match line {
             Line::Blank => Ok(()),
@@ -136,7 +151,7 @@ impl Reading {
     }
 
     fn refuse<T: Drop>(&self, _given: T) -> Result<(), RefusedScript>
-        ensures { OnOk result ⊥ }
+        ensures { result ≡ Err (RefusedScript.BadCall self.now.number) }
     {
         Err(RefusedScript::BadCall(self.number))
     }
@@ -145,6 +160,8 @@ impl Reading {
     fn add_image(&mut self, image: (String, Vec<u8>, Vec<u8>)) -> Result<(), RefusedScript>
         ensures calls { self.new.calls ≡ self.old.calls }
         ensures image { OnOk result (AddsImage self.old image self.new) }
+        ensures number { self.new.number ≡ self.old.number }
+        ensures refused { IfErr result (RefusesSaid self.old (image_said image)) }
     {
         if !self.calls.is_empty() {
             return Err(RefusedScript::BadCall(self.number));
@@ -159,6 +176,8 @@ impl Reading {
     fn configure(&mut self, setting: Setting) -> Result<(), RefusedScript>
         ensures sizes { OnOk result (AddsNoPartialResize self.old.calls.items self.new.calls.items) }
         ensures setting { OnOk result (AddsSetting self.old setting self.new) }
+        ensures number { self.new.number ≡ self.old.number }
+        ensures refused { IfErr result (RefusesSaid self.old (Configure setting)) }
     {
         self.config = setting.apply(copy_of(&self.config));
         let call = Call::Configure(copy_of(&self.config));
@@ -168,6 +187,8 @@ impl Reading {
     fn add_call(&mut self, call: Call) -> Result<(), RefusedScript>
         ensures sizes { OnOk result (AddsNoPartialResize self.old.calls.items self.new.calls.items) }
         ensures call { OnOk result (AddsCall self.old call self.new) }
+        ensures number { self.new.number ≡ self.old.number }
+        ensures refused { IfErr result (RefusesCall self.old (act_of call)) }
     {
         if draws_size(&call) {
             return Err(RefusedScript::PartialResize(self.number));
@@ -179,9 +200,10 @@ impl Reading {
     }
 }
 
-/// Whether the call configures partial resizes.
+/// Returns whether the call sets a rate of partial resizes other than zero.
 fn draws_size(call: &Call) -> bool
-    ensures { OnFalse result (SetsNoPartialResize (act_of call.now)) }
+    ensures no { OnFalse result (SetsNoPartialResize (act_of call.now)) }
+    ensures yes { OnTrue result (SetsNoPartialResize (act_of call.now) → ⊥) }
 {
     match call {
         Call::Configure(config) => has_partial_resize(config),
@@ -190,7 +212,8 @@ fn draws_size(call: &Call) -> bool
 }
 
 fn has_partial_resize(config: &Config) -> bool
-    ensures { OnFalse result (HasNoPartialResize config.now) }
+    ensures no { OnFalse result (HasNoPartialResize config.now) }
+    ensures yes { OnTrue result (HasNoPartialResize config.now → ⊥) }
 {
     match &config.resize_rate {
         None => false,

@@ -3,6 +3,5 @@ pub mod Answering
 pub mod Putting
 pub mod Registry
 pub mod Resolving
-pub mod TextLines
 pub mod TypedCalls
 pub mod Values

@@ -12,7 +12,8 @@ use Rattle.blob_script.specs.Lines.{Blank, Configure, Call, line_of}
 use Rattle.blob_script.specs.Replies.{reply_line}
 use Rattle.blob_lab.specs.Scripts.{Script, with_line}
 use Rattle.blob_script.specs.Settings.{with_setting}
-use Rattle.blob_sessions.specs.Debts.{no_debt}
+use Rattle.blob_sessions.specs.Debts.{MakesDebtCall, no_debt}
+use Rattle.blob_sessions.specs.declared.debts.DebtCall.{DebtCall}
 use Rattle.blob_sessions.specs.declared.debts.DebtReply.{DebtReply}
 use Rattle.blob_sessions.specs.declared.kept.Kept.{Kept}
 use Rattle.blob_sessions.specs.declared.session.Session.{Session}
@@ -146,9 +147,11 @@ WritesBytes before after handle offset bytes sync status =
     OnHeld (kept_of before) (kept_of after) (λ k k'. AnswersWrite k k' handle offset bytes sync status) (status ≡ CLOSED)
 
 -- a call of the registry of durability debt, which changes no other part of the session
-abbrev pub ChangesDebts : Session → Session → DebtReply → Type 0
-ChangesDebts before after reply =
-    OnHeld (kept_of before) (kept_of after) (λ k k'. k' ≡ record k { debts = k'.debts }) (reply ≡ no_debt CLOSED)
+abbrev pub MakesDebt : Session → Session → DebtCall → List ℕ → List ℕ → DebtReply → Type 0
+MakesDebt before after asked partition name reply =
+    OnHeld (kept_of before) (kept_of after)
+    (λ k k'. MakesDebtCall k.debts k'.debts asked partition name reply × (k' ≡ record k { debts = k'.debts }))
+    (reply ≡ no_debt CLOSED)
 
 -- a session that is only read: what holds of what it holds, and of a closed one
 abbrev pub Inspects : Session → Session → (Kept → Type 0) → Type 0 → Type 0

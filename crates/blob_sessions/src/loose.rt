@@ -15,8 +15,9 @@ pub struct Opaque {
     byte: u8,
 }
 
+///
+/// It can't be dropped, since the box would be lost: `into_box` takes it out, or `destroy_empty` ends it if it has none.
 #[repr(C)]
-#[derive(Drop)]
 pub struct Loose {
     at: *mut Opaque,
     alloc: Global,
@@ -52,5 +53,12 @@ impl Loose {
         let Loose { at, alloc } = self;
         let at = at as *mut Kept;
         unsafe { Box::from_raw(alloc, at) }
+    }
+
+    /// Ends it. It has no box.
+    pub fn destroy_empty(self)
+        requires { self.value ≡ None }
+    {
+        let Loose { at: _, alloc: _ } = self;
     }
 }

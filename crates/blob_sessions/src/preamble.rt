@@ -1,13 +1,13 @@
 // What a session is opened with: the lines of a script before its calls, and settings.
-ghost use Rattle.std.specs.Prelude.{◌≡◌, ◌==◌, ◌<◌, ℕ, ◌∷◌, [], Some, IfSome, IfNone, IfOk, OnOk, All, length, position};
+ghost use Rattle.std.specs.Prelude.{◌≡◌, ℕ, Some, IfOk, OnOk, All};
 ghost use Rattle.blob_lab.specs.Scripts.{Script, lines_of, no_script, with_line};
 ghost use Rattle.blob_sessions.specs.Preambles.{AreSettings, BreaksAt, IsCreatedWith, IsMadeOf, IsNoSetting, IsSetting, Says, SaysOneMore};
 
 use crate::kept::Kept;
 use blob_base::Error;
 use blob_faulty::Config;
-use blob_lab::Lab;
 use blob_lab::script::{Line, RefusedLine, read_line};
+use blob_lab::{Lab, first_line};
 use blob_script::script::setting::copy_of;
 use std::alloc::Global;
 
@@ -134,25 +134,4 @@ fn read(alloc: Global, text: &[u8]) -> Result<Preamble, RefusedPreamble>
         rest = others;
     }
     Ok(preamble)
-}
-
-/// Returns the first line, without its line feed, and the text after it. Returns `None` if the text is empty.
-fn first_line(text: &[u8]) -> Option<(&[u8], &[u8])>
-    ensures line { IfSome result (λ parts. lines_of text.now ≡ parts.0.now ∷ lines_of parts.1.now) }
-    ensures shorter { IfSome result (λ parts. length parts.1.now < length text.now) }
-    ensures none { IfNone result (text.now ≡ []) }
-{
-    if text.is_empty() {
-        return None;
-    }
-    match line_feed(text) {
-        Some(at) => Some((&text[..at], &text[at + 1..])),
-        None => Some((text, &[])),
-    }
-}
-
-fn line_feed(text: &[u8]) -> Option<usize>
-    ensures { result ≡ position (λ byte. byte == 10) text.now }
-{
-    text.iter().position(|byte| *byte == b'\n')
 }

@@ -6,9 +6,8 @@ use crate::loose::Loose;
 use std::alloc::Global;
 use std::mem;
 
-/// A laboratory, or none. All zeros are none.
+/// A laboratory, or none. All zeros are none. It can't be dropped or replaced, since what it holds would be lost: `close` ends that.
 #[repr(C)]
-#[derive(Drop)]
 pub struct Session {
     loose: Loose,
     is_open: bool,
@@ -27,14 +26,17 @@ impl Session {
         }
     }
 
-    /// An open session.
-    pub fn of(kept: Box<Kept>) -> Session
-        ensures { kept_of result ≡ Some kept.value }
+    /// Opens a closed session with a laboratory.
+    pub fn put(&mut self, kept: Box<Kept>)
+        requires { kept_of self.old ≡ None }
+        ensures { kept_of self.new ≡ Some kept.value }
     {
-        Session {
+        let opened = Session {
             loose: Loose::of(kept),
             is_open: true,
-        }
+        };
+        let Session { loose, is_open: _ } = mem::replace(self, opened);
+        loose.destroy_empty();
     }
 
     /// Takes out what it holds, and leaves it closed.
@@ -46,6 +48,7 @@ impl Session {
         if is_open {
             Some(loose.into_box())
         } else {
+            loose.destroy_empty();
             None
         }
     }

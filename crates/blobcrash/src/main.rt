@@ -12,15 +12,9 @@ const VERSION: &str = "blobcrash 0.2.0, proved with rattle-kit-13f";
 /// The capacity of the input's buffer in bytes. A line that lies in it whole is found fastest.
 const INPUT_BUFFER: usize = 16384;
 
-const HELP: &str = "usage: blobcrash [explain|explore|resolve|help|version]
+const HELP: &str = "usage: blobcrash [resolve|help|version]
 
   blobcrash          runs the script on standard input, one call a line, and prints the reply to each
-  blobcrash explain  the same to its end, and shows behind each crash what it kept and lost
-  blobcrash explore [--limit N] [--last]
-                     runs the script once for each combination of outcomes of its draws, and prints each distinct
-                     outcome with the number of its leaves and the words of the first, then the number of leaves
-                       --limit N  visits at most N leaves (1000000)
-                       --last     compares the last reply alone
   blobcrash resolve  reads a line of hex, the bytes of a blob, and prints what an open makes of them
   blobcrash help     prints this, as --help does
   blobcrash version  prints the release and the toolchain that it is proved with

@@ -7,6 +7,15 @@ use std::env;
 use std::io::{self, BufReader, BufWriter, ErrorKind};
 use std::process::ExitCode;
 
+const USAGE: &str = "usage: blobcrash explain";
+
+const HELP: &str = "usage: blobcrash explain
+
+  blobcrash explain  runs the script on standard input to its end, prints the reply to each call, and shows behind each
+                     crash what it kept and lost
+
+docs/FORMATS.md has the lines, the replies and the exit statuses.";
+
 fn main(rt: HostRuntime) -> ExitCode {
     let ending = match env::args(&rt) {
         Ok(args) => run(&rt, args),
@@ -14,18 +23,41 @@ fn main(rt: HostRuntime) -> ExitCode {
         // An argument that isn't UTF-8.
         Err(_) => Ending::Usage,
     };
-    if ending != Ending::Done {
-        // If standard error fails too, only the exit status reports the ending.
-        let _ = eprintln!(rt; "{ending}");
+    // If standard error fails too, only the exit status reports the ending.
+    match ending {
+        Ending::Done => {}
+        Ending::Usage => {
+            let _ = eprintln!(rt; "{USAGE}");
+        }
+        _ => {
+            let _ = eprintln!(rt; "{ending}");
+        }
     }
     ExitCode::from(ending.status())
 }
 
 fn run<T: AllocGlobal + Input + Print>(rt: &T, mut args: env::Args) -> Ending {
     let _program = args.next();
-    if args.next().is_some() {
-        return Ending::Usage;
+    let word = args.next();
+    match word {
+        None => explain_input(rt),
+        Some(word) if args.next().is_none() && is_help(word.as_str()) => print_help(rt),
+        Some(_) => Ending::Usage,
     }
+}
+
+fn is_help(word: &str) -> bool {
+    word == "help" || word == "--help"
+}
+
+fn print_help<T: Print>(rt: &T) -> Ending {
+    match println!(rt; "{HELP}") {
+        Ok(()) => Ending::Done,
+        Err(_) => Ending::OutputFailed,
+    }
+}
+
+fn explain_input<T: AllocGlobal + Input + Print>(rt: &T) -> Ending {
     let Ok(reader) = BufReader::new(rt.alloc(), rt.reader()) else {
         return Ending::NoMemory;
     };

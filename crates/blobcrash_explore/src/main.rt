@@ -11,6 +11,18 @@ use std::process::ExitCode;
 /// The most leaves that an exploration visits, unless `--limit` says otherwise.
 const LIMIT: u64 = 1_000_000;
 
+const USAGE: &str = "usage: blobcrash explore [--limit N] [--last]";
+
+const HELP: &str = "usage: blobcrash explore [--limit N] [--last]
+
+  blobcrash explore [--limit N] [--last]
+                     runs the script once for each combination of outcomes of its draws, and prints each distinct
+                     outcome with the number of its leaves and the words of the first, then the number of leaves
+                       --limit N  visits at most N leaves (1000000)
+                       --last     compares the last reply alone
+
+docs/FORMATS.md has the lines, the replies and the exit statuses.";
+
 /// How the program ends.
 enum Exit {
     /// As a run of a script does.
@@ -29,6 +41,10 @@ fn main(rt: HostRuntime) -> ExitCode {
     // If standard error fails too, only the exit status reports the ending.
     let status = match exit {
         Exit::Run(Ending::Done) => Ending::Done.status(),
+        Exit::Run(Ending::Usage) => {
+            let _ = eprintln!(rt; "{USAGE}");
+            Ending::Usage.status()
+        }
         Exit::Run(ending) => {
             let _ = eprintln!(rt; "{ending}");
             ending.status()
@@ -43,38 +59,57 @@ fn main(rt: HostRuntime) -> ExitCode {
 
 /// What the arguments ask for.
 #[derive(Clone, Copy)]
-struct ExploreArgs {
-    limit: Option<u64>,
-    last: bool,
+enum Asked {
+    Help,
+    Outcomes { limit: u64, last: bool },
 }
 
 /// Reads the arguments, each at most once. Returns None if they are others.
-fn read_explore_args(args: env::Args) -> Option<ExploreArgs> {
-    let mut asked = ExploreArgs {
-        limit: None,
-        last: false,
-    };
+fn read_args(args: env::Args) -> Option<Asked> {
+    let mut limit = None;
+    let mut last = false;
+    let mut help = false;
     let mut wants_limit = false;
     for word in args {
-        if wants_limit {
-            asked.limit = Some(number(word.as_str())?);
+        let is_first = limit.is_none() && !last && !wants_limit;
+        if help {
+            return None;
+        } else if wants_limit {
+            limit = Some(number(word.as_str())?);
             wants_limit = false;
-        } else if word.as_str() == "--last" && !asked.last {
-            asked.last = true;
-        } else if word.as_str() == "--limit" && asked.limit.is_none() {
+        } else if word.as_str() == "--last" && !last {
+            last = true;
+        } else if word.as_str() == "--limit" && limit.is_none() {
             wants_limit = true;
+        } else if is_first && (word.as_str() == "help" || word.as_str() == "--help") {
+            help = true;
         } else {
             return None;
         }
     }
-    if wants_limit { None } else { Some(asked) }
+    match (wants_limit, help) {
+        (true, _) => None,
+        (false, true) => Some(Asked::Help),
+        (false, false) => Some(Asked::Outcomes {
+            limit: limit.unwrap_or(LIMIT),
+            last,
+        }),
+    }
 }
 
 fn run<T: AllocGlobal + Input + Print>(rt: &T, mut args: env::Args) -> Exit {
     let _program = args.next();
-    match read_explore_args(args) {
-        Some(asked) => explore_input(rt, asked.limit.unwrap_or(LIMIT), asked.last),
+    match read_args(args) {
+        Some(Asked::Help) => Exit::Run(print_help(rt)),
+        Some(Asked::Outcomes { limit, last }) => explore_input(rt, limit, last),
         None => Exit::Run(Ending::Usage),
+    }
+}
+
+fn print_help<T: Print>(rt: &T) -> Ending {
+    match println!(rt; "{HELP}") {
+        Ok(()) => Ending::Done,
+        Err(_) => Ending::OutputFailed,
     }
 }
 

@@ -12,5 +12,5 @@ returns c =
     let new = c.audit-ran.new.into in
     let copies : CopiesDigest v ran old new = subst (λ (k : Kept). CopiesDigest k ran old new) c.deref.ensures c.audit-ran.ensures in
     let held : OnHeld (Some v) (Some v) (λ k k'. (k' ≡ k) × CopiesDigest k ran old new) (IsClosed ran old new) = (refl, copies) in
-    subst (λ (a : Option Kept). OnHeld a (kept_of c.of.result) (λ k k'. (k' ≡ k) × CopiesDigest k ran old new) (IsClosed ran old new)) c.in-Some.ensures.was
-    (subst (λ (b : Option Kept). OnHeld (Some v) b (λ k k'. (k' ≡ k) × CopiesDigest k ran old new) (IsClosed ran old new)) (sym c.of.ensures) held)
+    subst (λ (a : Option Kept). OnHeld a (kept_of c.put.new.self) (λ k k'. (k' ≡ k) × CopiesDigest k ran old new) (IsClosed ran old new)) c.in-Some.ensures.was
+    (subst (λ (b : Option Kept). OnHeld (Some v) b (λ k k'. (k' ≡ k) × CopiesDigest k ran old new) (IsClosed ran old new)) (sym c.put.ensures) held)

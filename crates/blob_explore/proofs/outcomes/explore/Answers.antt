@@ -20,7 +20,7 @@ visits-preserved c =
     let e = c.visits.exploration in
     let V : Option Leaf → Type 0 = λ found. IfSome found (λ leaf. VisitsNext e leaf c.next.new.self) in
     let visits : VisitsNext e c.in-Some.leaf c.next.new.self = subst V c.in-Some.is c.in_ok-leaf.ensures.leaf in
-    let text : string_bytes c.in_ok-text.text ≡ replies_text c.args.last c.in-Some.leaf.replies.items = c.in_ok-text.ensures ∙ ap (replies_text c.args.last) c.deref.ensures.value in
+    let text : string_bytes c.in_ok-text.text ≡ replies_text c.args.last c.in-Some.leaf.replies.items = c.in_ok-text.ensures.ok ∙ ap (replies_text c.args.last) c.deref.ensures.value in
     let few : c.visits.leaves < 2 ^ 64 - 1 = omega arith in
     record {
       most = omega arith;

@@ -1,8 +1,8 @@
 use Rattle.blob_explore.specs.Distinct.{outcomes_in}
 use Rattle.blob_explore.proofs.print.explore_text.Goals as goal
 
-pub returns : goal.returns
-returns c =
+pub returns-clause-text : goal.returns-clause-text
+returns-clause-text c =
     let found = c.in-Ok.explored in
     record {
       explored = c.in_ok-script.script;

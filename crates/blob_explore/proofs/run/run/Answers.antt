@@ -10,8 +10,8 @@ use Rattle.blob_lab_model.specs.Scripted.{only}
 use Rattle.blob_lab_model.specs.States.{Image, State, start}
 use Rattle.blob_explore.proofs.run.run.Goals as goal
 
-pub returns-in-Ok : goal.returns-in-Ok
-returns-in-Ok c =
+pub returns-in-Ok-clause-ok : goal.returns-in-Ok-clause-ok
+returns-in-Ok-clause-ok c =
     let words = c.args.words.items in
     let S : State → Type 0 = λ v. LabStandsFor c.in_ok-lab.lab v in
     let I : List Image → Type 0 = λ images. S (start images (only words) c.default.result) in

@@ -3,8 +3,8 @@ use Rattle.blob_choices.specs.Outcomes.{NoneOutOfMemory}
 use Rattle.blob_explore.proofs.Runs.{takes_given}
 use Rattle.blob_explore.proofs.run.visit_within.Goals as goal
 
-pub returns-in-Some-left : goal.returns-in-Some-left
-returns-in-Some-left c =
+pub returns-in-Some-left-clause-ok : goal.returns-in-Some-left-clause-ok
+returns-in-Some-left-clause-ok c =
     let words = c.in_ok-words.words.items in
     let resized = c.resize.new.self.items in
     let len : c.in-Some.len ≡ length words + c.args.spare = search rules in
@@ -14,4 +14,4 @@ returns-in-Some-left c =
     let there : NoneOutOfMemory c.in_ok-replies.replies.items = subst NoneOutOfMemory replies c.if-is_short.ensures in
     takes_given c.taken_words.ensures c.args.script.now c.args.explorer.now c.args.spare c.in-Some-left.left c.in-Some.len c.saturating_sub.result
     c.in_ok-replies.replies.items words resized c.in_ok-given.given.items c.truncate.new.self.items c.in_ok-replies.left
-    c.in_ok-words.ensures len grown all c.in_ok-replies.ensures c.in-Some-left.is there c.if-left-gt0.true c.saturating_sub.ensures c.truncate.ensures.items
+    c.in_ok-words.ensures len grown all c.in_ok-replies.ensures.ok c.in-Some-left.is there c.if-left-gt0.true c.saturating_sub.ensures c.truncate.ensures.items
