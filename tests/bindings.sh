@@ -51,7 +51,7 @@ lives() {
 compiler=${CC:-cc}
 if has "$compiler"; then
     build="$compiler -std=c11 -Wall -Wextra -Werror -pedantic -O2 -I$top/bindings/c"
-    for program in first calls typed fork lines log hostile; do
+    for program in first calls typed numbers fork lines log hostile; do
         $build -o "$work/$program" "$top/bindings/c/$program.c" "$top/out/libblobcrash.a" >"$work/out" 2>"$work/err"
         tell $? "C: $program.c"
     done
@@ -62,6 +62,8 @@ if has "$compiler"; then
     tell $? 'C: what each function answers'
     "$work/typed" >"$work/out" 2>"$work/err"
     tell $? 'C: what each typed call returns'
+    "$work/numbers" >"$work/out" 2>"$work/err"
+    tell $? 'C: what each number of the header does'
     "$work/fork" >"$work/out" 2>"$work/err"
     tell $? 'C: forks of a session'
     "$work/hostile" "$top/tests/hostile.tsv" >"$work/out" 2>"$work/err"
@@ -105,7 +107,7 @@ END
     # The library and its clients under the address sanitizer, which also reports leaks.
     if $build -g -fsanitize=address,undefined -o "$work/lines.sanitized" "$top/bindings/c/lines.c" \
         "$top/out/libblobcrash.a" 2>"$work/err" && "$work/lines.sanitized" </dev/null 2>"$work/err"; then
-        for program in calls typed fork log hostile; do
+        for program in calls typed numbers fork log hostile; do
             $build -g -fsanitize=address,undefined -o "$work/$program.sanitized" "$top/bindings/c/$program.c" \
                 "$top/out/libblobcrash.a"
         done
@@ -113,6 +115,8 @@ END
         tell $? 'C, sanitized: what each function answers'
         "$work/typed.sanitized" >"$work/out" 2>"$work/err"
         tell $? 'C, sanitized: what each typed call returns'
+        "$work/numbers.sanitized" >"$work/out" 2>"$work/err"
+        tell $? 'C, sanitized: what each number of the header does'
         "$work/fork.sanitized" >"$work/out" 2>"$work/err"
         tell $? 'C, sanitized: forks of a session'
         "$work/hostile.sanitized" "$top/tests/hostile.tsv" >"$work/out" 2>"$work/err"
@@ -160,6 +164,8 @@ if has_python && [ -f "$top/out/libblobcrash.so" ]; then
         run_python "$top/tests/$test.py" library >"$work/out" 2>"$work/err"
         tell $? "Python: $test.py"
     done
+    run_python "$top/tests/numbers.py" >"$work/out" 2>"$work/err"
+    tell $? 'Python: the numbers of the header'
     need_program
     export BLOBCRASH="$program"
     answers 'Python, by a pipe' run_python "$top/bindings/python/lines.py" --pipe

@@ -173,6 +173,28 @@ def test_the_power_fails_after_some_calls():
     assert visited.outcomes == {(b"ab", True): 2, (b"", False): 4}
 
 
+def test_a_refused_crash_has_not_crashed():
+    class Refuses(Library):
+        refused = b""
+
+        def call(self, line):
+            return b"error Memory" if line == self.refused else super().call(line)
+
+    with Store(7, by=Refuses) as store:
+        store.open("p", b"b")[0].write(0, b"kept", sync=True)
+        store.crash_after(0)
+        raises(PowerLoss, store.scan, "p")
+        for refused in (b"crash", b"reopen"):
+            Refuses.refused = refused
+            raises(blobcrash.Memory, store.restart)
+            raises(PowerLoss, store.scan, "p")
+            if refused == b"crash":
+                raises(PowerLoss, store.reopen)
+        Refuses.refused = b""
+        store.restart()
+        assert store.open("p", b"b")[1] == 4
+
+
 def test_with_a_seed_only_choices_are_enumerated():
     visited = explore(lambda store: (store.choose(4), torn(store)), settings=["write 0 1 1 2 subset"], seed=5)
     with Store(5, settings=["write 0 1 1 2 subset"], by=Library) as store:

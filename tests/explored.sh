@@ -1,5 +1,5 @@
 #!/bin/sh
-# Tests of explorations of code: in C (bindings/c/explore.c, and a log with power losses in explore_log.c), in Python (tests/explore_bodies.py), and the log of examples/log.py over
+# Tests of explorations of code: in C (bindings/c/explore.c, and a log with power losses in explore_log.c), in Python (tests/explore_bodies.py, explore_bounds.py), and the log of examples/log.py over
 # every outcome of small runs, with planted bugs (tests/explore_log.py). The last line is `N passed, M failed`.
 set -u
 
@@ -109,6 +109,7 @@ done
 python=$(with_distributed)
 export PYTHONDONTWRITEBYTECODE=1
 add "$python" "$top/tests/explore_bodies.py"
+add "$python" "$top/tests/explore_bounds.py"
 add "$python" "$top/tests/explore_log.py"
 
 # The example finds nothing in the log, and a lost record if the log forgets its sync.

@@ -32,7 +32,7 @@ def printed(script):
     """What a whole script prints."""
     if BY is Library:
         return blobcrash.run(script.encode()).decode()
-    return subprocess.run([blobcrash.program()], input=script, stdout=subprocess.PIPE, check=True, text=True).stdout
+    return subprocess.run([blobcrash.program()], input=script.encode(), stdout=subprocess.PIPE, check=True).stdout.decode()
 
 
 def seeded(**named):
@@ -77,6 +77,33 @@ def test_a_restart_closes_every_handle():
         blob.close()
         assert store.script[-5:] == ["write 0 0 6c6f7374", "crash", "close 0", "reopen", "open wal 30"]
         assert again.handle == 1
+
+
+def test_a_handle_that_a_line_closes():
+    for line in ("close 0", " close  00 "):
+        with seeded() as store:
+            blob, _ = store.open("p", b"b")
+            blob.write(0, b"kept", sync=True)
+            assert store.call(line) == ["ok"]
+            raises(NoHandle, store.call, line)
+            assert store.restart() == []
+            assert store.script[-2:] == ["crash", "reopen"]
+            assert store.open("p", b"b")[1] == 4
+            with blob:
+                pass
+            raises(NoHandle, blob.close)
+
+
+def test_only_a_line_feed_ends_a_line():
+    """Other characters that Python takes for the end of a line are a part of a token, which is then no name."""
+    for end in ("\r", "\v", "\f", "\x1c", "\x85", "\u2028"):
+        with seeded() as store:
+            store.open("p", b"b")[0].write(0, b"kept", sync=True)
+            assert raises(blobcrash.PartitionNameInvalid, store.call, "remove p" + end).fields == ("p" + end,)
+            store.note("one" + end + "remove p")
+            assert store.script[-2:] == ["remove p" + end, "# one" + end + "remove p"]
+            assert store.restart() == [] and store.open("p", b"b")[1] == 4
+            assert printed("\n".join(store.script) + "\n").split("\n")[2:4] == ["error PartitionNameInvalid p" + end, "crashed"]
 
 
 def test_a_crash_that_keeps_bytes_tells_them():
@@ -311,6 +338,55 @@ def test_a_file_that_is_dropped_stays_open():
         store.file("p", b"b").write(b"a")
         assert "close 0" not in store.script
         raises(blobcrash.BlobAlreadyOpen, store.file, "p", b"b")
+
+
+def test_a_child_does_not_share_the_pipe():
+    """A forked child's calls are refused or are its own, and don't keep the parent's program alive."""
+    store = seeded()
+    store.note("buffered")
+    blob, _ = store.open("p", b"b")
+    done, waits = os.pipe()
+    child = os.fork()
+    if child == 0:
+        os.close(waits)
+        status = 0
+        try:
+            blob.write(0, b"child")
+            status = 1 if BY is Program else 0
+        except ValueError:
+            pass
+        try:
+            store.close()
+            os.read(done, 1)
+        except BaseException:
+            status = 2
+        os._exit(status)
+    os.close(done)
+    blob.write(0, b"ab")
+    assert blob.read(0, 2) == b"ab" and blob.size() == 2
+    # The child still lives: the program ends all the same.
+    store.close()
+    os.close(waits)
+    assert os.waitpid(child, 0)[1] == 0
+
+
+def test_ctrl_c_between_calls_ends_nothing():
+    lines = [
+        "import os, signal, sys",
+        f"sys.path.insert(0, {os.path.join(TOP, 'bindings', 'python')!r})",
+        f"from blobcrash import {BY.__name__}, Store",
+        f"with Store(7, by={BY.__name__}) as store:",
+        "    blob, _ = store.open('p', b'b')",
+        "    try:",
+        "        os.killpg(0, signal.SIGINT)",
+        "        signal.pause()",
+        "    except KeyboardInterrupt:",
+        "        pass",
+        "    blob.write(0, b'after')",
+        "    assert blob.size() == 5",
+    ]
+    run = subprocess.run([sys.executable, "-c", "\n".join(lines)], start_new_session=True, stderr=subprocess.PIPE, timeout=60)
+    assert run.returncode == 0, run.stderr.decode()
 
 
 def test_words_are_pushed():

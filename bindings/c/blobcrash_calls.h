@@ -3,7 +3,7 @@
  *
  * Each returns BLOBCRASH_DONE; a refusal such as BLOBCRASH_E_INJECTED, with texts that blobcrash_reply prints; or CLOSED, NO_MEMORY,
  * BAD_CALL or BAD_LINE, and then no call was made. An out-parameter is written only if the call is DONE, and may be NULL. So may
- * a pointer to no bytes. What each call does: docs/BEHAVIOUR.md.
+ * a pointer to no bytes; NULL with a length other than 0 is a BAD_CALL. What each call does: docs/BEHAVIOUR.md.
  *
  * A failure as a script: define BLOBCRASH_ON_LINE as the name of a function before this header is included:
  *
@@ -31,6 +31,11 @@ static inline const uint8_t *blobcrash_bytes(const void *bytes) {
     return (const uint8_t *)(bytes == NULL ? "" : bytes);
 }
 
+/* Whether a pointer may have this length. */
+static inline bool blobcrash_has_bytes(const void *bytes, size_t len) {
+    return bytes != NULL || len == 0;
+}
+
 static inline bool blobcrash_is_made(uint32_t status) {
     return status != BLOBCRASH_BAD_CALL && status != BLOBCRASH_NO_MEMORY && status != BLOBCRASH_CLOSED;
 }
@@ -40,6 +45,8 @@ static inline struct blobcrash_typed_reply blobcrash_make(struct blobcrash_sessi
                                                           uint64_t first, uint64_t last, const char *partition, size_t partition_len,
                                                           const void *name, size_t name_len) {
     struct blobcrash_asked asked = {kind, number, first, last};
+    struct blobcrash_typed_reply none = {BLOBCRASH_BAD_CALL, 0, 0, 0};
+    if (!blobcrash_has_bytes(partition, partition_len) || !blobcrash_has_bytes(name, name_len)) return none;
     struct blobcrash_typed_reply reply =
         blobcrash_apply(session, &asked, blobcrash_bytes(partition), partition_len, blobcrash_bytes(name), name_len);
     (void)form;
@@ -111,12 +118,14 @@ static inline uint32_t blobcrash_moved(struct blobcrash_session *session, uint32
 /* Reads exactly `len` bytes. */
 static inline uint32_t blobcrash_read_at(struct blobcrash_session *session, size_t handle, uint64_t offset, void *into, size_t len) {
     uint8_t none;
+    if (!blobcrash_has_bytes(into, len)) return BLOBCRASH_BAD_CALL;
     uint32_t status = blobcrash_read(session, handle, offset, into == NULL ? &none : (uint8_t *)into, len);
     return blobcrash_moved(session, status, "read NFL", handle, offset, NULL, len);
 }
 
 /* Writes bytes. */
 static inline uint32_t blobcrash_write_at(struct blobcrash_session *session, size_t handle, uint64_t offset, const void *bytes, size_t len) {
+    if (!blobcrash_has_bytes(bytes, len)) return BLOBCRASH_BAD_CALL;
     uint32_t status = blobcrash_write(session, handle, offset, blobcrash_bytes(bytes), len, false);
     return blobcrash_moved(session, status, "write NFB", handle, offset, bytes, len);
 }
@@ -124,6 +133,7 @@ static inline uint32_t blobcrash_write_at(struct blobcrash_session *session, siz
 /* Writes bytes as a SYNC write, which is durable once it is DONE. */
 static inline uint32_t blobcrash_write_at_sync(struct blobcrash_session *session, size_t handle, uint64_t offset, const void *bytes,
                                                size_t len) {
+    if (!blobcrash_has_bytes(bytes, len)) return BLOBCRASH_BAD_CALL;
     uint32_t status = blobcrash_write(session, handle, offset, blobcrash_bytes(bytes), len, true);
     return blobcrash_moved(session, status, "writes NFB", handle, offset, bytes, len);
 }
@@ -189,6 +199,7 @@ static inline uint32_t blobcrash_scan(struct blobcrash_session *session, const c
 /* Returns whether a blob of this name exists, by a scan. DONE too if its partition doesn't exist. */
 static inline uint32_t blobcrash_exists(struct blobcrash_session *session, const char *partition, size_t partition_len, const void *name,
                                         size_t name_len, bool *exists) {
+    if (!blobcrash_has_bytes(name, name_len)) return BLOBCRASH_BAD_CALL;
     uint32_t status = blobcrash_scan(session, partition, partition_len, NULL);
     bool is_found = status == BLOBCRASH_DONE &&
                     blobcrash_find_name(session, blobcrash_bytes(name), name_len).status == BLOBCRASH_DONE;
@@ -209,10 +220,11 @@ static inline uint32_t blobcrash_reopen(struct blobcrash_session *session) {
     return blobcrash_by_number(session, "reopen", BLOBCRASH_REOPEN, 0).status;
 }
 
-/* Makes the call of a line, for example `config sync 1 8`. Returns its refusal, like the other functions, or BAD_LINE if it has a line
- * feed. A comment and an empty line are DONE, and make no call. */
+/* Makes the call of a line, for example `config sync 1 8`. Returns its refusal, like the other functions, or BAD_LINE if it is NULL or has
+ * a line feed. A comment and an empty line are DONE, and make no call. */
 static inline uint32_t blobcrash_line(struct blobcrash_session *session, const char *line) {
     uint8_t none;
+    if (line == NULL) return BLOBCRASH_BAD_LINE;
     size_t len = strlen(line);
     if (memchr(line, '\n', len) != NULL) return BLOBCRASH_BAD_LINE;
     /* With a capacity of 0 only a line without a reply is DONE. */

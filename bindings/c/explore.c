@@ -1,9 +1,11 @@
 /* Every outcome of a torn write, by explore.h: the nine of a write of eight bytes in prefix mode, each once, and those of runs with a
  * failing sync. The last line is `N passed, M failed`. */
+#define _POSIX_C_SOURCE 200809L
 #include "blobcrash_calls.h"
 #include "explore.h"
 
 #include <stdio.h>
+#include <sys/resource.h>
 
 static int passed, failed;
 
@@ -71,10 +73,171 @@ static void refusals(void) {
     blobcrash_free_paths(&paths);
 }
 
+/* What one run makes that tries some call until it succeeds. */
+typedef void body(struct blobcrash_paths *paths, struct blobcrash_session *session);
+
+static bool is_done(struct blobcrash_paths *paths, struct blobcrash_session *session, const char *line) {
+    uint8_t reply[64] = "";
+    struct blobcrash_ran ran = blobcrash_explored_call(paths, session, (const uint8_t *)line, strlen(line), reply, sizeof reply);
+    return ran.status == BLOBCRASH_DONE && memcmp(reply, "error", 5) != 0;
+}
+
+static void retry_sync(struct blobcrash_paths *paths, struct blobcrash_session *session) {
+    is_done(paths, session, "open p 62");
+    while (!is_done(paths, session, "sync 0")) {}
+}
+
+/* Three loops: after the first the words are used up. */
+static void retry_often(struct blobcrash_paths *paths, struct blobcrash_session *session) {
+    retry_sync(paths, session);
+    while (blobcrash_explored_write(paths, session, 0, 0, (const uint8_t *)"abc", 3, true) != BLOBCRASH_DONE) {}
+    while (blobcrash_explored_read(paths, session, 0, 0, (uint8_t *)(char[3]){0}, 3) != BLOBCRASH_DONE) {}
+}
+
+/* Without a power loss it ends: it retries while the power is off, of which it knows nothing. */
+static void retry_open(struct blobcrash_paths *paths, struct blobcrash_session *session) {
+    while (!is_done(paths, session, "open p 62")) {}
+    is_done(paths, session, "crash");
+}
+
+/* By calls that aren't explored. */
+static void retry_directly(struct blobcrash_paths *paths, struct blobcrash_session *session) {
+    (void)paths;
+    blobcrash_open_blob(session, "p", 1, "b", 1, NULL, NULL);
+    while (blobcrash_sync(session, 0) != BLOBCRASH_DONE) {}
+    while (blobcrash_sync(session, 0) != BLOBCRASH_DONE) {}
+}
+
+/* Explores a body until its end, or what ends it earlier. */
+static int explore(struct blobcrash_paths *paths, const char *settings, body *of) {
+    struct blobcrash_session session = {0};
+    for (;;) {
+        int status = blobcrash_next_run(paths, &session, settings);
+        if (status != BLOBCRASH_EXPLORE_RUN) return status;
+        of(paths, &session);
+        status = blobcrash_end_run(paths, &session);
+        if (status != BLOBCRASH_EXPLORE_RUN && status != BLOBCRASH_EXPLORE_AGAIN) return status;
+    }
+}
+
+static void crash_ten_times(struct blobcrash_paths *paths, struct blobcrash_session *session) {
+    for (int i = 0; i < 10; i++) is_done(paths, session, "crash");
+}
+
+static void draw_hundred(struct blobcrash_paths *paths, struct blobcrash_session *session) {
+    (void)paths;
+    torn(session, 100);
+}
+
+static void too_long(void) {
+    static const struct { body *of; const char *settings; unsigned losses; uint64_t calls; } rows[] = {
+        {retry_sync, "config sync 1 2\n", 0, 0},
+        {retry_sync, "config sync 1 2\n", 1, 100},
+        {retry_often, "config sync 1 2\nconfig write 1 2 1 2 subset\nconfig read 1 2\n", 0, 0},
+        {retry_open, "", 1, 100},
+        {retry_directly, "config sync 1 2\n", 0, 0},
+        {retry_directly, "config sync 1 2\n", 0, 1000},
+        {crash_ten_times, "", 0, 9},
+        {draw_hundred, "config write 0 1 1 2 prefix\n", 0, 99},
+        {draw_hundred, "config write 0 1 1 2 prefix\n", 0, 20},
+    };
+    for (size_t row = 0; row < sizeof rows / sizeof *rows; row++) {
+        struct blobcrash_paths paths = {.power_losses = rows[row].losses, .calls_per_run = rows[row].calls};
+        char name[64];
+        snprintf(name, sizeof name, "row %zu of too_long", row);
+        tell(explore(&paths, rows[row].settings, rows[row].of) == BLOBCRASH_EXPLORE_TOO_LONG, name);
+        blobcrash_free_paths(&paths);
+    }
+    /* Just as many. */
+    struct blobcrash_paths ten = {.calls_per_run = 10}, hundred = {.calls_per_run = 100}, open = {.power_losses = 0};
+    tell(explore(&ten, "", crash_ten_times) == BLOBCRASH_EXPLORE_END && ten.runs == 1, "ten calls of ten");
+    tell(explore(&hundred, "config write 0 1 1 2 prefix\n", draw_hundred) == BLOBCRASH_EXPLORE_END && hundred.runs == 101, "draws");
+    tell(explore(&open, "", retry_open) == BLOBCRASH_EXPLORE_END && open.runs == 1, "a loop that ends");
+    blobcrash_free_paths(&ten);
+    blobcrash_free_paths(&hundred);
+    blobcrash_free_paths(&open);
+}
+
+/* The script of a run that is too long has the calls that it made. */
+static void script_of_a_long_run(void) {
+    struct blobcrash_paths paths = {.calls_per_run = 5};
+    char *text = NULL;
+    size_t len = 0;
+    tell(explore(&paths, "config sync 1 2\n", retry_sync) == BLOBCRASH_EXPLORE_TOO_LONG, "a limit of five calls");
+    FILE *script = open_memstream(&text, &len);
+    if (script == NULL) return;
+    blobcrash_repeat_run(&paths, script);
+    tell(explore(&paths, "config sync 1 2\n", retry_sync) == BLOBCRASH_EXPLORE_TOO_LONG, "again");
+    fclose(script);
+    tell(strcmp(text, "config sync 1 2\nopen p 62\nsync 0\nsync 0\nsync 0\nsync 0\nsync 0\n") == 0, text);
+    free(text);
+    blobcrash_free_paths(&paths);
+}
+
+/* While the power is off, what makes no call of the store is made. */
+static void what_is_made_without_power(void) {
+    static const struct { const char *line; bool is_made; } rows[] = {
+        {"", true}, {"  ", true}, {"# a comment", true}, {"  # a comment", true}, {" config clear", true}, {"#", true},
+        {"size 0", false}, {" reopen", false}, {"close 0", false},
+    };
+    struct blobcrash_paths paths = {.power_losses = 1};
+    struct blobcrash_session session = {0};
+    for (int run = 0; run < 2; run++) {
+        blobcrash_next_run(&paths, &session, "");
+        is_done(&paths, &session, "open p 62");
+        for (size_t row = 0; paths.is_off && row < sizeof rows / sizeof *rows; row++) {
+            const char *line = rows[row].line;
+            uint8_t reply[64];
+            struct blobcrash_ran ran = blobcrash_explored_call(&paths, &session, (const uint8_t *)line, strlen(line), reply, sizeof reply);
+            tell((ran.status == BLOBCRASH_DONE) == rows[row].is_made && (ran.status == BLOBCRASH_POWER_LOSS) != rows[row].is_made, line);
+        }
+        tell(blobcrash_end_run(&paths, &session) == BLOBCRASH_EXPLORE_RUN, "a run without power");
+    }
+    blobcrash_free_paths(&paths);
+}
+
+/* How many pages of memory the process has, or 0. */
+static long pages_of_memory(void) {
+    long pages = 0;
+    FILE *file = fopen("/proc/self/statm", "r");
+    if (file == NULL || fscanf(file, "%ld", &pages) != 1) pages = 0;
+    if (file != NULL) fclose(file);
+    return pages;
+}
+
+/* A restart whose crash is refused memory hasn't reopened the store. */
+static void a_refused_restart(void) {
+    struct blobcrash_paths paths = {0};
+    struct blobcrash_session session = {0};
+    const char *preamble = "config write 0 1 1 1 subset\n";
+    size_t len = (size_t)64 << 20;
+    char *bytes = calloc(len, 1);
+    blobcrash_open(&session, (const uint8_t *)preamble, strlen(preamble));
+    blobcrash_open_blob(&session, "p", 1, "b", 1, NULL, NULL);
+    bool is_written = bytes != NULL && blobcrash_write_at(&session, 0, 0, bytes, len) == BLOBCRASH_DONE;
+    free(bytes);
+    struct rlimit before, limit;
+    long pages = pages_of_memory();
+    if (is_written && pages > 0 && getrlimit(RLIMIT_AS, &before) == 0) {
+        limit = before;
+        limit.rlim_cur = (rlim_t)pages * 4096 + (1 << 20);
+        setrlimit(RLIMIT_AS, &limit);
+        tell(blobcrash_restart(&paths, &session) == BLOBCRASH_E_MEMORY, "a crash that is refused memory");
+        tell(blobcrash_open_blob(&session, "p", 1, "b", 1, NULL, NULL) == BLOBCRASH_E_BLOB_ALREADY_OPEN, "a store that isn't reopened");
+        setrlimit(RLIMIT_AS, &before);
+        tell(blobcrash_restart(&paths, &session) == BLOBCRASH_DONE, "a restart with memory");
+    }
+    blobcrash_close(&session);
+}
+
 int main(void) {
     outcomes(8);
     outcomes(150);
     refusals();
+    too_long();
+    script_of_a_long_run();
+    what_is_made_without_power();
+    a_refused_restart();
     printf("%d passed, %d failed\n", passed, failed);
     return failed != 0;
 }

@@ -16,6 +16,12 @@
  *
  * Power losses, and the script of a run: blobcrash_explored_call and blobcrash_repeat_run. explore_log.c has an example of both.
  *
+ * A loop that retries until it succeeds never ends when every try fails; bound it. The first run has such a path. So a run has a limit:
+ * `paths.calls_per_run` explored calls (power.h), and as many choices. Past it no draw of an explored call is true and the power stays on,
+ * so that a loop that waits for a success ends, and blobcrash_end_run returns TOO_LONG. Calls of blobcrash.h and blobcrash_calls.h aren't
+ * counted. Their draws are false once the zeros of a run are taken, so a loop of these ends too, unless the calls before it have taken
+ * as many words again.
+ *
  * Partial resizes draw sizes, which two words don't reach: leave their rate at 0.
  */
 #ifndef BLOBCRASH_EXPLORE_H
@@ -34,8 +40,15 @@ enum {
     BLOBCRASH_EXPLORE_AGAIN = 2,         /* the run took more words than it was given, and is made again: discard it */
     BLOBCRASH_EXPLORE_BAD_SETTINGS = 3,  /* a line of the settings isn't one */
     BLOBCRASH_EXPLORE_NO_MEMORY = 4,     /* nothing was begun, or the run doesn't count */
-    BLOBCRASH_EXPLORE_OTHER_DRAWS = 5    /* the run made other choices than an earlier one on the same path: it isn't deterministic */
+    BLOBCRASH_EXPLORE_OTHER_DRAWS = 5,   /* the run made other choices than an earlier one on the same path: it isn't deterministic */
+    BLOBCRASH_EXPLORE_TOO_LONG = 6       /* the run has more explored calls, or more choices, than `calls_per_run`: it doesn't count */
 };
+
+/* Why a run is TOO_LONG, for a message. */
+#define BLOBCRASH_EXPLORE_BOUND_IT "a loop that retries until it succeeds never ends when every try fails; bound it"
+
+/* The limit of a run for which none is set. */
+enum { BLOBCRASH_CALLS_PER_RUN = 10000 };
 
 /* The status of a call that isn't made because the power is off. No other status has this value. */
 enum { BLOBCRASH_POWER_LOSS = 255 };
@@ -47,11 +60,12 @@ enum { BLOBCRASH_TRUE = 0, BLOBCRASH_FALSE = 1, BLOBCRASH_POWER_STAYS = 2, BLOBC
 struct blobcrash_paths {
     uint8_t *path;          /* its choices */
     size_t len;
-    size_t room;            /* how many zeros are given after the path */
+    size_t room;            /* how many zeros are given after the path, and then as many of the greatest word */
     uint64_t runs;          /* how many runs counted */
     bool has_ended;         /* the run of the path counts, and the next one takes the next path */
     bool is_over;
     unsigned power_losses;  /* at most how often the power fails in a run. Set it before the first run */
+    uint64_t calls_per_run; /* how many explored calls, and how many choices, a run has at most. If it is 0, 10,000 */
     FILE *script;           /* gets the lines of explored calls, or is NULL */
     /* Of the run that is under way: */
     size_t capacity;        /* of `path` */
@@ -63,7 +77,16 @@ struct blobcrash_paths {
     bool has_crashed;       /* and the store has crashed since */
     bool differs;           /* a choice is of another kind than that of the path */
     bool has_no_memory;
+    bool is_running;
+    bool is_long;           /* it has too many calls */
+    uint64_t calls;         /* how many explored calls it has */
+    size_t kept;            /* how many words were left when it got too long */
 };
+
+/* How many explored calls, and how many choices, a run has at most. */
+static inline uint64_t blobcrash_most_calls(const struct blobcrash_paths *paths) {
+    return paths->calls_per_run == 0 ? (uint64_t)BLOBCRASH_CALLS_PER_RUN : paths->calls_per_run;
+}
 
 /* The words of a path as a line of a script, for a failure: `words 0 max`. Returns its length without the final zero, which `text`
  * gets if both fit. */
@@ -90,8 +113,10 @@ static inline size_t blobcrash_words_of(const struct blobcrash_paths *paths, cha
 static inline void blobcrash_begin_run(struct blobcrash_paths *paths, const char *words, size_t words_len, const char *settings) {
     paths->taken = paths->drawn = 0;
     paths->losses = 0;
-    paths->is_off = paths->has_crashed = paths->differs = paths->has_no_memory = false;
-    paths->given = paths->room + 1;
+    paths->is_off = paths->has_crashed = paths->differs = paths->has_no_memory = paths->is_long = false;
+    paths->is_running = true;
+    paths->calls = 0;
+    paths->given = 2 * paths->room;
     for (size_t i = 0; i < paths->len; i++) paths->given += paths->path[i] <= BLOBCRASH_FALSE;
     if (paths->script != NULL) {
         if (words_len > 5) fprintf(paths->script, "%.*s\n", (int)words_len, words);
@@ -110,16 +135,14 @@ static inline int blobcrash_next_run(struct blobcrash_paths *paths, struct blobc
     }
     if (paths->is_over) return BLOBCRASH_EXPLORE_END;
     if (paths->room == 0) paths->room = 64;
-    size_t words = blobcrash_words_of(paths, NULL, 0), rest = strlen(settings), len = words + 2 * paths->room + 5 + rest;
+    size_t words = blobcrash_words_of(paths, NULL, 0), rest = strlen(settings), len = words + 6 * paths->room + 1 + rest;
     char *preamble = malloc(len);
     if (preamble == NULL) return BLOBCRASH_EXPLORE_NO_MEMORY;
     char *end = preamble + blobcrash_words_of(paths, preamble, len);
-    for (size_t i = 0; i < paths->room; i++) {
-        memcpy(end, " 0", 2);
-        end += 2;
-    }
-    memcpy(end, " max\n", 5);
-    memcpy(end + 5, settings, rest);
+    for (size_t i = 0; i < paths->room; i++, end += 2) memcpy(end, " 0", 2);
+    for (size_t i = 0; i < paths->room; i++, end += 4) memcpy(end, " max", 4);
+    *end = '\n';
+    memcpy(end + 1, settings, rest);
     struct blobcrash_script_ran ran = blobcrash_open(session, (const uint8_t *)preamble, len);
     if (ran.status == BLOBCRASH_DONE) blobcrash_begin_run(paths, preamble, words, settings);
     free(preamble);
@@ -155,19 +178,24 @@ static inline struct blobcrash_ran blobcrash_count_draws(struct blobcrash_paths 
     return left;
 }
 
-/* Closes the session of a run. RUN if it counts: `paths` then has its path until the next run begins. AGAIN, OTHER_DRAWS, NO_MEMORY, or
- * BAD_SETTINGS if these have a seed or words: the run doesn't count, and the next run is the same one again. */
+/* Closes the session of a run. RUN if it counts: `paths` then has its path until the next run begins. AGAIN, OTHER_DRAWS, TOO_LONG,
+ * NO_MEMORY, or BAD_SETTINGS if these have a seed or words: the run doesn't count, and the next run is the same one again. */
 static inline int blobcrash_end_run(struct blobcrash_paths *paths, struct blobcrash_session *session) {
     struct blobcrash_ran left = blobcrash_count_draws(paths, session);
+    uint64_t most = blobcrash_most_calls(paths);
     blobcrash_close(session);
+    paths->is_running = false;
     if (left.status != BLOBCRASH_DONE) {
         return left.status == BLOBCRASH_ENDLESS ? BLOBCRASH_EXPLORE_BAD_SETTINGS : BLOBCRASH_EXPLORE_NO_MEMORY;
     }
-    if (left.len == 0) {
+    if (paths->is_long) return BLOBCRASH_EXPLORE_TOO_LONG;
+    if (left.len < paths->room) {
+        if (paths->given - paths->room > most) return BLOBCRASH_EXPLORE_TOO_LONG;
         paths->room *= 2;
         return BLOBCRASH_EXPLORE_AGAIN;
     }
     if (left.len > paths->given) return BLOBCRASH_EXPLORE_BAD_SETTINGS;
+    if (paths->taken > most) return BLOBCRASH_EXPLORE_TOO_LONG;
     if (paths->has_no_memory) return BLOBCRASH_EXPLORE_NO_MEMORY;
     if (paths->differs || paths->taken < paths->len) return BLOBCRASH_EXPLORE_OTHER_DRAWS;
     paths->len = paths->taken;

@@ -2,17 +2,32 @@
  * Power losses of an explored run. explore.h includes this header.
  *
  * With `paths.power_losses` the power may fail at each call that may change what a crash leaves. This call and all later ones aren't made
- * and return BLOBCRASH_POWER_LOSS, until the store has crashed and reopened. A run counts the calls that these functions make. Before any
- * other call of the session, call blobcrash_power_fails.
+ * and return BLOBCRASH_POWER_LOSS, until the store has crashed and reopened. A run counts the calls that these functions make
+ * (`paths.calls_per_run`). Before any other call of the session, call blobcrash_power_fails.
  */
 #ifndef BLOBCRASH_POWER_H
 #define BLOBCRASH_POWER_H
 
 #include "explore.h"
 
+/* Counts an explored call. From the first one past the limit on no draw is true and the power is on. */
+static inline void blobcrash_count_call(struct blobcrash_paths *paths, struct blobcrash_session *session) {
+    uint64_t words[64];
+    if (!paths->is_running || ++paths->calls <= blobcrash_most_calls(paths)) return;
+    struct blobcrash_ran left = blobcrash_words_left(session);
+    if (left.status != BLOBCRASH_DONE) return;
+    if (!paths->is_long) paths->kept = left.len;
+    paths->is_long = true;
+    paths->is_off = paths->has_crashed = false;
+    paths->losses = paths->power_losses;
+    memset(words, 0xff, sizeof words);
+    if (left.len <= paths->kept) blobcrash_push_words(session, words, sizeof words / sizeof *words);
+}
+
 /* Returns whether the power is off at a call, which then isn't made. `changes` says that it may change what a crash leaves: it opens,
- * admits, writes, resizes, syncs or removes. */
+ * admits, writes, resizes, syncs or removes. Counts the call. */
 static inline bool blobcrash_power_fails(struct blobcrash_paths *paths, struct blobcrash_session *session, bool changes) {
+    blobcrash_count_call(paths, session);
     if (paths->is_off || !changes || paths->losses == paths->power_losses) return paths->is_off;
     blobcrash_count_draws(paths, session);
     if (blobcrash_choose(paths, BLOBCRASH_POWER_STAYS) == BLOBCRASH_POWER_STAYS) return false;
@@ -42,14 +57,19 @@ static inline bool blobcrash_has_word(const uint8_t *line, size_t len, const cha
 static inline struct blobcrash_ran blobcrash_explored_call(struct blobcrash_paths *paths, struct blobcrash_session *session,
                                                            const uint8_t *line, size_t len, uint8_t *reply, size_t reply_room) {
     bool crashes = blobcrash_has_word(line, len, "crash "), reopens = blobcrash_has_word(line, len, "reopen ");
-    bool is_made_anyway = crashes || len == 0 || *line == '#' || blobcrash_has_word(line, len, "config ") ||
+    size_t first = 0;
+    while (first < len && line[first] == ' ') first++;
+    bool is_made_anyway = crashes || first == len || line[first] == '#' || blobcrash_has_word(line, len, "config ") ||
                           (paths->has_crashed && (reopens || blobcrash_has_word(line, len, "close ")));
     bool changes = blobcrash_has_word(line, len, "open loose admit write writes resize sync startsync finish remove ");
-    if (!is_made_anyway && blobcrash_power_fails(paths, session, changes)) return (struct blobcrash_ran){BLOBCRASH_POWER_LOSS, 0};
+    if (is_made_anyway) blobcrash_count_call(paths, session);
+    else if (blobcrash_power_fails(paths, session, changes)) return (struct blobcrash_ran){BLOBCRASH_POWER_LOSS, 0};
     struct blobcrash_ran ran = blobcrash_call(session, line, len, reply, reply_room);
     if (!blobcrash_was_made(ran.status)) return ran;
-    if (crashes) paths->has_crashed = paths->is_off;
-    if (reopens) paths->is_off = paths->has_crashed = false;
+    /* A refused crash has lost nothing, and a refused reopening hasn't reopened. */
+    bool is_refused = (crashes || reopens) && blobcrash_last(session).status != BLOBCRASH_DONE;
+    if (crashes && !is_refused) paths->has_crashed = paths->is_off;
+    if (reopens && !is_refused) paths->is_off = paths->has_crashed = false;
     if (paths->script != NULL) {
         fwrite(line, 1, len, paths->script);
         fputc('\n', paths->script);
@@ -79,12 +99,17 @@ static inline uint32_t blobcrash_explored_write(struct blobcrash_paths *paths, s
     return status;
 }
 
-/* Crashes and reopens the store. Returns DONE, or the status of the call that wasn't made. */
+/* Makes the call of a text. Returns DONE, its refusal, or the status of a call that wasn't made. */
+static inline uint32_t blobcrash_explored_text(struct blobcrash_paths *paths, struct blobcrash_session *session, const char *line) {
+    uint8_t none;
+    struct blobcrash_ran ran = blobcrash_explored_call(paths, session, (const uint8_t *)line, strlen(line), &none, 0);
+    return blobcrash_was_made(ran.status) ? blobcrash_last(session).status : ran.status;
+}
+
+/* Crashes and reopens the store. Returns DONE; E_MEMORY if one of them is refused; or the status of the call that wasn't made. */
 static inline uint32_t blobcrash_restart(struct blobcrash_paths *paths, struct blobcrash_session *session) {
-    uint8_t reply[16];
-    struct blobcrash_ran ran = blobcrash_explored_call(paths, session, (const uint8_t *)"crash", 5, reply, sizeof reply);
-    if (blobcrash_was_made(ran.status)) ran = blobcrash_explored_call(paths, session, (const uint8_t *)"reopen", 6, reply, sizeof reply);
-    return blobcrash_was_made(ran.status) ? (uint32_t)BLOBCRASH_DONE : ran.status;
+    uint32_t status = blobcrash_explored_text(paths, session, "crash");
+    return status == BLOBCRASH_DONE ? blobcrash_explored_text(paths, session, "reopen") : status;
 }
 
 /* Restarts the store and calls `step`, and does so again if the power fails meanwhile. Returns what the last `step` returned, or `false`

@@ -209,6 +209,15 @@ static void refusals_have_numbers_and_texts(void) {
     CHECK(were_lines("") && prints(&session, "error NoHandle"));
     CHECK(blobcrash_line(&session, "# a comment") == BLOBCRASH_DONE && blobcrash_line(&session, "config clear") == BLOBCRASH_DONE);
     CHECK(were_lines("# a comment\nconfig clear\n"));
+    /* NULL with a length. */
+    CHECK(blobcrash_open_blob(&session, NULL, 1, "a", 1, NULL, NULL) == BLOBCRASH_BAD_CALL);
+    CHECK(blobcrash_remove_blob(&session, "p", 1, NULL, SIZE_MAX) == BLOBCRASH_BAD_CALL);
+    CHECK(blobcrash_write_at(&session, 0, 0, NULL, 5000) == BLOBCRASH_BAD_CALL);
+    CHECK(blobcrash_write_at_sync(&session, 0, 0, NULL, 5000) == BLOBCRASH_BAD_CALL);
+    CHECK(blobcrash_resize(&session, 0, 5000) == BLOBCRASH_DONE && blobcrash_read_at(&session, 0, 0, NULL, 5000) == BLOBCRASH_BAD_CALL);
+    CHECK(blobcrash_read_some(&session, 0, 0, NULL, 5000, NULL) == BLOBCRASH_BAD_CALL);
+    CHECK(blobcrash_exists(&session, "p", 1, NULL, 5000, NULL) == BLOBCRASH_BAD_CALL);
+    CHECK(blobcrash_line(&session, NULL) == BLOBCRASH_BAD_LINE && were_lines("resize 0 5000\nsize 0\n"));
     blobcrash_close(&session);
     CHECK(blobcrash_sync(&session, 0) == BLOBCRASH_CLOSED && blobcrash_line(&session, "crash") == BLOBCRASH_CLOSED);
     CHECK(blobcrash_read_at(&session, 0, 0, NULL, 0) == BLOBCRASH_CLOSED && blobcrash_last(&session).status == BLOBCRASH_CLOSED);

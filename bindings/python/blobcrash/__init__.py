@@ -52,7 +52,7 @@ from .errors import (
     WrongThread,
 )
 from .exploration import Explored, explore
-from .failures import Failed
+from .failures import Failed, TooLong
 from .files import BlobFile
 from .follow import ExploredStore, NotDeterministic, Unexplorable
 from .foreign import TOP, library
@@ -107,6 +107,7 @@ __all__ = [
     "StorageError",
     "Store",
     "TOP",
+    "TooLong",
     "Unexplorable",
     "WriteFailed",
     "WrongThread",

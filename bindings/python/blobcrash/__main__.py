@@ -6,7 +6,7 @@
 
 import sys
 
-from .commands import check_command, judge_command, shrink_command
+from .commands import OutputFailed, check_command, judge_command, read, shrink_command, write
 from .errors import BadLine
 from .layers import run
 
@@ -23,6 +23,9 @@ def main(arguments: list) -> int:
     except OSError as error:
         print(f"input failed: {error}", file=sys.stderr)
         return 1
+    except OutputFailed:
+        print("output failed", file=sys.stderr)
+        return 1
     except MemoryError:
         print("no memory", file=sys.stderr)
         return 3
@@ -30,16 +33,11 @@ def main(arguments: list) -> int:
 
 def run_command(arguments: list) -> int:
     """Runs a script, and prints the replies."""
-    if arguments:
-        with open(arguments[0], "rb") as file:
-            script = file.read()
-    else:
-        script = sys.stdin.buffer.read()
+    script = read(arguments)
     try:
-        sys.stdout.buffer.write(run(script))
+        write(run(script))
     except BadLine as bad:
-        sys.stdout.buffer.write(bad.replies)
-        sys.stdout.buffer.flush()
+        write(bad.replies)
         print(f"line {bad.line}: bad call", file=sys.stderr)
         return 2
     return 0

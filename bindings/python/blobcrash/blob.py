@@ -101,4 +101,5 @@ class Blob:
 
     def _refuse_stale(self) -> None:
         if not self.allow_stale:
+            self._store._refused()
             raise StaleHandle(f"handle {self._handle} is stale: {self._stale}. Open the blob again, or set `allow_stale`")

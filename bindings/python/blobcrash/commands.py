@@ -11,34 +11,65 @@ from typing import Callable, List
 from .checking import check
 from .cutting import cut, cut_lines, loses
 from .errors import BadLine, LibraryMissing
-from .judging import judge
+from .judging import Verdict, judge, verdict
+
+
+class OutputFailed(Exception):
+    """Standard output can't be written."""
+
+
+def write(data: bytes) -> None:
+    """Writes bytes to standard output, all of them. Raises `OutputFailed`."""
+    try:
+        sys.stdout.buffer.write(data)
+        sys.stdout.buffer.flush()
+    except (AttributeError, OSError):
+        # What is left in the buffer must not fail again at the exit.
+        if sys.stdout is not None:
+            with open(os.devnull, "wb") as null:
+                os.dup2(null.fileno(), sys.stdout.fileno())
+        raise OutputFailed from None
 
 
 def check_command(arguments: List[str]) -> int:
     """Prints each line of a script that isn't a call, and why. Status 2 if there is one."""
-    faults = check(_input(arguments))
-    for fault in faults:
-        print(f"line {fault.line}: bad call: {fault.why}")
+    faults = check(read(arguments))
+    write("".join(f"line {fault.line}: bad call: {fault.why}\n" for fault in faults).encode())
     if faults:
-        sys.stdout.flush()
         print(f"line {faults[0].line}: bad call", file=sys.stderr)
     return 2 if faults else 0
 
 
 def judge_command(arguments: List[str]) -> int:
-    """Prints what a script loses of acknowledged content. Status 1 if it loses some."""
+    """Prints what a script loses of acknowledged content. Status 1 if it loses some, 2 if it can't be judged."""
     try:
-        lost = judge(_input(arguments))
+        found = verdict(read(arguments))
+        write((found.lost + "\n").encode() if found.lost is not None else b"")
     except BadLine as bad:
         print(bad, file=sys.stderr)
         return 2
-    if lost is not None:
-        print(lost)
-    return int(lost is not None)
+    except OutputFailed:
+        print("output failed", file=sys.stderr)
+        return 2
+    except (OSError, MemoryError) as error:
+        print(f"judge: {error or 'no memory'}", file=sys.stderr)
+        return 2
+    if found.counted == 0:
+        print(f"judge: {_none_counts(found)}", file=sys.stderr)
+    return int(found.lost is not None)
 
 
-def _input(arguments: List[str]) -> bytes:
+def _none_counts(found: Verdict) -> str:
+    if not found.found:
+        return "the script acknowledges nothing: it has no comment `# acknowledged PARTITION NAME OFFSET HEX`"
+    return "no acknowledgement counts: the script has not written or read those bytes there before"
+
+
+def read(arguments: List[str]) -> bytes:
+    """Returns the bytes of the file that is named, or of standard input."""
     if not arguments:
+        if sys.stdin is None:
+            raise OSError("standard input is closed")
         return sys.stdin.buffer.read()
     with open(arguments[0], "rb") as file:
         return file.read()
@@ -54,15 +85,19 @@ def shrink_command(arguments: List[str]) -> int:
             with open(arguments[0], "rb") as file:
                 script = file.read().decode("utf-8", "surrogateescape")
             fails = _command(arguments[1:], os.path.join(folder, "script")) if arguments[1:] else loses
+            if not arguments[1:]:
+                # A bad line isn't a loss.
+                judge(script)
             if not fails(script):
                 print("shrink: the whole script doesn't fail", file=sys.stderr)
                 return 1
-            short = _shortened(script, fails)
-        except (OSError, MemoryError) as error:
-            print(f"shrink: {error}", file=sys.stderr)
+            write(_shortened(script, fails).encode("utf-8", "surrogateescape"))
+        except (BadLine, OSError, MemoryError) as error:
+            print(f"shrink: {error or 'no memory'}", file=sys.stderr)
             return 2
-    sys.stdout.buffer.write(short.encode("utf-8", "surrogateescape"))
-    sys.stdout.buffer.flush()
+        except OutputFailed:
+            print("output failed", file=sys.stderr)
+            return 2
     return 0
 
 

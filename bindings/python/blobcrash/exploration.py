@@ -21,16 +21,20 @@ import threading
 import time
 from typing import Any, Callable, Dict, Iterable, List, NamedTuple, Optional, Tuple, Union
 
-from .failures import Failed, reason_of, reporter
+from .bodies import check_body, check_result
+from .bounds import CALLS_PER_RUN, FIRST_RUN, Bounds, RunEnded
+from .failures import Failed, TooLong, reason_of, reporter
 from .follow import ExploredStore, MoreWords, NotDeterministic, Run, refuse_sizes
 from .grammar import MAX, image_line, number, setting_tokens
-from .layers import Library
+from .layers import Library, line_of
 from .paths import Choice, next_path, path_of, rest_from, text_of
 from .power import PowerLoss
 
 Body = Callable[[ExploredStore], Any]
 # How many words a run is given at first after those of its path. If it takes more, it is made again.
 _ROOM = 64
+# A longer line of a report is cut.
+_SHOWN = 80
 _running = threading.local()
 
 
@@ -65,6 +69,15 @@ class Tree(NamedTuple):
     seed: Optional[int]
     power_losses: int
     allow_stale: bool
+    calls_per_run: int
+
+
+class Times(NamedTuple):
+    """When no further run begins, and when a run that is under way is ended: the first one, and any other."""
+
+    last: float
+    first_end: float
+    end: float
 
 
 class Part(NamedTuple):
@@ -84,6 +97,7 @@ def explore(
     seed: Optional[int] = None,
     runs: Optional[int] = None,
     seconds: Optional[float] = None,
+    calls_per_run: int = CALLS_PER_RUN,
     under: Union[str, Iterable[str]] = "",
     executor: Any = None,
     report: Optional[str] = None,
@@ -96,22 +110,24 @@ def explore(
     at which calls the power fails, at most that many times a run; the body then catches `PowerLoss`, and lets the store crash and reopen.
     With a `seed` the draws are those of the seed, and only the others are chosen.
 
-    `settings`, `images`, `by` and `allow_stale` are those of `Store`. `runs` and `seconds` are limits; at least one run is made before
-    the time is over. Without a limit all runs are made, however many there are. `under` names subtrees by the paths of `Explored.rest`
-    or `Failed.path`, and only these are explored. With an `executor` of `concurrent.futures` the subtrees are spread over its workers;
-    the body is then a function that they can import.
+    `settings`, `images`, `by` and `allow_stale` are those of `Store`. `runs` and `seconds` are limits. Without a limit all runs are made,
+    however many there are. After `seconds` a run that is under way is ended at its next call, and is left in `rest`; without an executor
+    the first run is given a second at least. A run may have `calls_per_run` calls, and as many draws and choices. `under` names subtrees
+    by the paths of `Explored.rest` or `Failed.path`, and only these are explored. With an `executor` of `concurrent.futures` the subtrees
+    are spread over its workers; the body is then a function that they can import.
 
-    Raises `Failed`, with a script, for the first run in which the body raises; `report` is a file for a page that shows it.
-    `NotDeterministic` if the body makes other calls along the same path. `Unexplorable` for a partial resize. `LostWork` if workers
-    are lost. `ValueError` or `TypeError` for an invalid argument, before the body is called.
+    Raises `Failed`, with a script, for the first run in which the body raises; `report` is a file for a page that shows it. `TooLong`,
+    with the script so far, for a run with more calls or draws. `NotDeterministic` if the body makes other calls along the same path.
+    `Unexplorable` for a partial resize. `LostWork` if workers are lost. `ValueError` or `TypeError` for an invalid argument, before the
+    body is called. `TypeError` too for a body that hasn't run when it returns: a generator or a coroutine.
     """
-    if not callable(body):
-        raise TypeError(f"the body is a function that takes a store, not {type(body).__name__}")
+    check_body(body)
     if getattr(_running, "is_on", False):
         raise RuntimeError("an explored body can't explore: call `explore` outside of it, and use `store.choose` inside")
     if isinstance(settings, str):
         raise TypeError("settings are a list of texts")
-    tree = Tree(body, tuple(settings), tuple(images), by, seed, number(power_losses, "a number of power losses"), bool(allow_stale))
+    losses, most_calls = number(power_losses, "a number of power losses"), number(calls_per_run, "a number of calls")
+    tree = Tree(body, tuple(settings), tuple(images), by, seed, losses, bool(allow_stale), most_calls)
     if seed is not None:
         number(seed, "a seed")
     for setting in tree.settings:
@@ -122,11 +138,12 @@ def explore(
         raise ValueError("an exploration counts the draws of its runs, which only `by=Library` can")
     most = MAX if runs is None else number(runs, "a number of runs")
     subtrees = [text_of(path_of(path)) for path in ([under] if isinstance(under, str) else under)]
-    until = time.monotonic() + seconds_of(seconds)
+    now = time.monotonic()
+    until = now + seconds_of(seconds)
     show = reporter(report)
     try:
         if executor is None:
-            part = visit(tree, subtrees, most, until)
+            part = visit(tree, subtrees, most, Times(until, max(until, now + FIRST_RUN), until))
         else:
             from .spread import visit_with
 
@@ -148,35 +165,42 @@ def seconds_of(seconds: Optional[float]) -> float:
     return float(seconds)
 
 
-def visit(tree: Tree, subtrees: List[str], most: int, until: float) -> Part:
-    """Visits the leaves of subtrees until there were `most` runs, or at least one and the time is `until`. Raises `Failed`."""
-    visitor = _Visitor(tree)
+def visit(tree: Tree, subtrees: List[str], most: int, times: Times) -> Part:
+    """Visits the leaves of subtrees until there were `most` runs, or the time is over. Raises `Failed` and `TooLong`."""
+    visitor = _Visitor(tree, times)
     for at, subtree in enumerate(subtrees):
-        rest = visitor.visit(path_of(subtree), most, until)
+        rest = visitor.visit(path_of(subtree), most)
         if rest:
             return Part(visitor.runs, visitor.outcomes, rest + subtrees[at + 1 :])
     return Part(visitor.runs, visitor.outcomes, [])
 
 
+class _Late(Exception):
+    """The time was over in a run."""
+
+
 class _Visitor:
     """Makes the runs of a tree."""
 
-    def __init__(self, tree: Tree) -> None:
+    def __init__(self, tree: Tree, times: Times) -> None:
         self._tree = tree
+        self._times = times
         self._room = _ROOM
         self.runs = 0
         self.outcomes: Dict[Any, int] = {}
 
-    def visit(self, path: List[Choice], most: int, until: float) -> List[str]:
+    def visit(self, path: List[Choice], most: int) -> List[str]:
         """Visits the leaves below a path, depth first, and returns the subtrees that the limits left."""
         root = len(path)
         before: Optional[Run] = None
         at: Optional[List[Choice]] = path
         while at is not None:
-            if self.runs >= most or (self.runs and time.monotonic() >= until):
+            if self.runs >= most or (self.runs and time.monotonic() >= self._times.last):
                 return rest_from(at, root)
             try:
                 run = self._made(at)
+            except _Late:
+                return rest_from(at, root)
             except NotDeterministic as error:
                 if before is None and path:
                     why = "it is the path of another body, or this one isn't deterministic"
@@ -190,7 +214,7 @@ class _Visitor:
 
     def _made(self, path: List[Choice]) -> Run:
         """Makes one run, with as many words as it takes."""
-        run, store, outcome, error = self._attempt(path)
+        run, store, outcome, error = self._attempt(path, self._times.end if self.runs else self._times.first_end)
         self.runs += 1
         if len(run.taken) < len(path):
             raise NotDeterministic.by(f"it made {len(run.taken)} choices where it had made {len(path)}") from error
@@ -201,11 +225,12 @@ class _Visitor:
             self._tally(outcome)
         return run
 
-    def _attempt(self, path: List[Choice]) -> Tuple[Run, ExploredStore, Any, Optional[BaseException]]:
+    def _attempt(self, path: List[Choice], until: float = float("inf")) -> Tuple[Run, ExploredStore, Any, Optional[BaseException]]:
         """Calls the body, again with more words if it takes all of them. Returns what it returned or raised."""
         tree = self._tree
         while True:
-            run = Run(path, self._room, tree.power_losses, tree.seed)
+            bounds = Bounds(tree.calls_per_run, until)
+            run = Run(path, self._room, tree.power_losses, tree.seed, bounds)
             store = ExploredStore(run, tree.settings, tree.images, tree.by, tree.allow_stale)
             outcome: Any = None
             error: Optional[BaseException] = None
@@ -214,14 +239,20 @@ class _Visitor:
                 outcome = tree.body(store)
             except (Exception, PowerLoss) as raised:
                 error = raised
-            except MoreWords:
+            except (MoreWords, RunEnded):
                 pass
             finally:
                 _running.is_on = False
                 store.close()
             if run.error is not None:
                 raise run.error
+            if bounds.is_long:
+                raise TooLong(text_of(run.taken), store.script, self.runs + 1, tree.calls_per_run)
+            if bounds.is_late:
+                raise _Late
             if not run.is_short:
+                if error is None:
+                    check_result(outcome)
                 return run, store, outcome, error
             self._room *= 2
 
@@ -242,18 +273,28 @@ class _Visitor:
 def _compare(before: Run, run: Run) -> None:
     """Raises `NotDeterministic` if two runs differ before the choice at which their paths part."""
     at = len(run.path) - 1
-    calls = before.made[at]
-    if before.calls[:calls] != run.calls[:calls] or run.made[at] != calls:
-        pairs = enumerate(zip(before.calls, run.calls))
-        where = next((k for k, (was, now) in pairs if was != now), min(len(before.calls), len(run.calls)))
-        was, now = (_call(calls, where) for calls in (before.calls, run.calls))
-        raise NotDeterministic.by(f"call {where} of a run was {was}, and of the next one, which had made the same choices, {now}")
+    calls = min(before.made[at], run.made[at])
+    for where, (was, now) in enumerate(zip(before.calls[:calls], run.calls[:calls])):
+        if was != now:
+            first, second = _different(was, now)
+            raise NotDeterministic.by(f"call {where} of a run was {first}, and of the next one, which had made the same choices, {second}")
+    if before.made[at] != run.made[at]:
+        which = f"choice {at} of a run came after {before.made[at]} calls"
+        raise NotDeterministic.by(f"{which}, and of the next one, which had made the same choices, after {run.made[at]}")
 
 
-def _call(calls: List[Any], at: int) -> str:
-    if at >= len(calls):
-        return "none"
-    call = calls[at]
-    if isinstance(call, bytes):
-        return f"`{call.decode(errors='backslashreplace')}`"
-    return f"a {'read' if len(call) == 3 else 'write'} of handle {call[0]} at {call[1]}"
+def _different(was: Any, now: Any) -> Tuple[str, str]:
+    """Two calls as lines, each cut to its start and to what is around the first character at which they differ."""
+    first, second = (call.decode(errors="backslashreplace") if isinstance(call, bytes) else line_of(*call) for call in (was, now))
+    at = next((k for k, (one, other) in enumerate(zip(first, second)) if one != other), min(len(first), len(second)))
+    return _cut(first, at), _cut(second, at)
+
+
+def _cut(line: str, at: int) -> str:
+    if len(line) <= _SHOWN:
+        return f"`{line}`"
+    start, end = max(0, at - _SHOWN // 4), at + _SHOWN // 4
+    dots = " .." if end < len(line) else ""
+    if start <= _SHOWN // 4:
+        return f"`{line[:end]}{dots}`"
+    return f"`{line[: _SHOWN // 4]} .. {line[start:end]}{dots}` (from character {start} on)"

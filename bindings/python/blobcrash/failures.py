@@ -5,31 +5,65 @@ from __future__ import annotations
 from typing import Any, Callable, List, Optional
 
 from .layers import explain, run
+from .paths import legend_of
 from .power import PowerLoss
 
-# A longer script is cut in the middle: `script` has all of it.
+# A longer script is cut in the middle: `script` has all of it. So is a path with more characters.
 _MOST_LINES = 80
+_MOST_CHARACTERS = 2000
 
 
 class Failed(AssertionError):
     """A run of a body failed. `__cause__` is what it raised.
 
     `script` are the lines that make the same calls again, to run or to explain. `path` names the run: `explore(body, under=[path])`
-    makes it again. Of a run by a seed it is `seed N`. `reason` is what the body raised, as a text.
+    makes it again. Of a run by a seed it is `seed N`. `reason` is what the body raised, as a text. `stopped` is a text if `shrink` returns
+    it and stopped at a limit: there may be a smaller run.
     """
 
-    def __init__(self, path: str, script: List[str], reason: str, run: int) -> None:
-        self.path, self.script, self.reason, self.run = path, script, reason, run
-        shown = script
-        if len(script) > _MOST_LINES:
-            left = len(script) - _MOST_LINES
-            shown = [*script[: _MOST_LINES // 2], f"# .. {left} more lines, all in `script`", *script[-_MOST_LINES // 2 :]]
-        name = path if path.startswith(("seed", "words")) else f"path: {path or 'no choices'}"
-        lines = [f"run {run} failed: {reason}", f"its {name}", "its script, to explain with `blobcrash explain`:"]
-        super().__init__("\n".join([*lines, *("    " + line for line in shown)]))
+    def __init__(self, path: str, script: List[str], reason: str, run: int, stopped: str = "") -> None:
+        self.path, self.script, self.reason, self.run, self.stopped = path, script, reason, run, stopped
+        lines = [f"run {run} failed: {reason}", *([stopped] if stopped else []), *_named(path)]
+        super().__init__("\n".join([*lines, "its script, to explain with `blobcrash explain`:", *_shown(script)]))
 
     def __reduce__(self) -> Any:
-        return Failed, (self.path, self.script, self.reason, self.run)
+        return Failed, (self.path, self.script, self.reason, self.run, self.stopped)
+
+
+class TooLong(RuntimeError):
+    """A run of an exploration has more calls, or more draws and choices, than `calls_per_run`.
+
+    `script` are the lines of the run so far, `path` its choices, and `run` its number.
+    """
+
+    def __init__(self, path: str, script: List[str], run: int, most: int) -> None:
+        self.path, self.script, self.run, self.most = path, script, run, most
+        why = "a loop that retries until it succeeds never ends when every try fails; bound it"
+        lines = [f"run {run} has more than {most} calls or draws: {why}. For a run that is as long, set `calls_per_run`", *_named(path)]
+        super().__init__("\n".join([*lines, "its script so far:", *_shown(script)]))
+
+    def __reduce__(self) -> Any:
+        return TooLong, (self.path, self.script, self.run, self.most)
+
+
+def _named(path: str) -> List[str]:
+    """The lines of a report that name a run."""
+    if path.startswith("seed"):
+        return [f"its {path}"]
+    legend = legend_of(path)
+    left = len(path) - _MOST_CHARACTERS
+    if left > 0:
+        path = f"{path[: _MOST_CHARACTERS // 2]} .. {path[-_MOST_CHARACTERS // 2 :]} ({left} more characters, all in `path`)"
+    name = path if path.startswith("words") else f"path: {path or 'no choices'}"
+    return [f"its {name}", *([f"    {legend}"] if legend else [])]
+
+
+def _shown(script: List[str]) -> List[str]:
+    """The lines of a report that show a script."""
+    left = len(script) - _MOST_LINES
+    if left > 0:
+        script = [*script[: _MOST_LINES // 2], f"# .. {left} more lines, all in `script`", *script[-_MOST_LINES // 2 :]]
+    return ["    " + (line if len(line) <= _MOST_CHARACTERS else line[:_MOST_CHARACTERS] + " ..") for line in script]
 
 
 class Trace(Exception):
@@ -61,7 +95,7 @@ def page_writer(wanted_by: str) -> Callable[[str, List[str], str], None]:
         script = "".join(line + "\n" for line in lines)
         # Without the program the page has no remarks.
         explained = explain(script) or run(script.encode()).decode()
-        replies = "".join(line for line in explained.splitlines(True) if not line.startswith("# "))
+        replies = "".join(line + "\n" for line in explained.split("\n")[:-1] if not line.startswith("# "))
         with open(path, "w", encoding="utf-8") as file:
             file.write(page(script, replies, explained, title=title))
 

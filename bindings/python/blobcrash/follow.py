@@ -4,11 +4,11 @@ from __future__ import annotations
 
 from typing import Any, Iterable, List, Optional, Tuple
 
+from .bounds import BoundedStore, Bounds
 from .grammar import MAX, number, setting_tokens
 from .layers import Library
 from .paths import CHOICE, DRAW, POWER, TRUE, WORDS, Choice
 from .power import Supply
-from .store import Store
 
 
 class NotDeterministic(RuntimeError):
@@ -44,11 +44,12 @@ class Run:
     """The choices of one run. It follows a path, and then takes the first branch of each choice.
 
     `taken` are all of them, and `made` says of each how many calls there were, with the one that drew it. With a seed the draws are the
-    seed's, and aren't choices.
+    seed's, and aren't choices. `bounds` end the run.
     """
 
-    def __init__(self, path: List[Choice], room: int, losses: int, seed: Optional[int] = None) -> None:
+    def __init__(self, path: List[Choice], room: int, losses: int, seed: Optional[int] = None, bounds: Optional[Bounds] = None) -> None:
         self.path = path
+        self.bounds = bounds or Bounds()
         self.words = [WORDS[branch] for kind, branch, _ in path if kind == DRAW] + [0] * room + [MAX]
         self.taken: List[Choice] = []
         self.made: List[int] = []
@@ -70,6 +71,7 @@ class Run:
                 raise self.error
         self.taken.append(choice)
         self.made.append(len(self.calls))
+        self.bounds.check(len(self.taken))
         return choice[1]
 
     def fails(self) -> bool:
@@ -83,6 +85,7 @@ class Run:
         """Counts the draws of a call, after which `left` words are left."""
         if left == 0:
             self.is_short = True
+            self.bounds.check(len(self.words))
             raise MoreWords
         drawn = len(self.words) - left
         new = drawn - self._drawn
@@ -92,12 +95,15 @@ class Run:
         if len(self.taken) >= len(self.path):
             self.taken += [TRUE] * new
             self.made += [len(self.calls)] * new
+            self.bounds.check(len(self.taken))
             return
         for _ in range(new):
             self.choose(DRAW, 2)
 
     def draws(self) -> List[int]:
-        """The words of the draws that were made."""
+        """The words of the draws that were made. If the run is short, all that it was given."""
+        if self.is_short:
+            return self.words
         return [WORDS[branch] for kind, branch, _ in self.taken if kind == DRAW]
 
 
@@ -139,13 +145,14 @@ class _Followed:
             self._run.count(self._left())
 
 
-class ExploredStore(Store):
+class ExploredStore(BoundedStore):
     """The store of one run."""
 
     def __init__(
         self, run: Run, settings: Iterable[str], images: Iterable[Tuple[str, bytes, bytes]], by: Any = None, allow_stale: bool = False
     ) -> None:
         self._run = run
+        self._bounds = run.bounds
 
         def way(preamble: bytes) -> Supply:
             return Supply(_Followed((by or Library)(preamble), run), run.fails if run.losses else None)
@@ -169,7 +176,7 @@ class ExploredStore(Store):
         branches = number(branches, "a number of branches", 10**9 - 1)
         if branches == 0:
             raise ValueError("there is nothing to choose from: a number of branches is at least 1")
-        self._check()
+        self._count()
         branch = self._run.choose(CHOICE, branches) if branches > 1 else 0
         self.note(f"choose({branches}) is {branch}")
         return branch

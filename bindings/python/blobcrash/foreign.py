@@ -14,8 +14,10 @@ TOP = os.path.dirname(os.path.dirname(os.path.dirname(_HERE)))
 # The shared library of an installed package.
 INSIDE = os.path.join(_HERE, "libblobcrash.so")
 
-# How a call ended.
+# How a call ended. tests/numbers.py compares each of these numbers with the C header.
 DONE, ENDLESS, BAD_LINE, NO_MEMORY, NO_ROOM, CLOSED, OTHER_REPLY, UNPRINTED = range(8)
+# The refusal of a blob that doesn't exist.
+BLOB_MISSING = 20
 
 
 class Session(ctypes.Structure):

@@ -11,7 +11,7 @@ from functools import lru_cache
 from typing import List, Optional, Tuple
 
 from .errors import BadLine
-from .shapes import LAST_VERSION, MAX, misplaced, reason_of, shown, usual_tokens
+from .shapes import LAST_VERSION, MAX, misplaced, reason_of, shown, usual_tokens, value_of
 
 _NAME = re.compile(r"[A-Za-z0-9_-]+")
 # One token that is no partition name, so that a call with it makes the draw and gets the refusal of every such name.
@@ -100,7 +100,7 @@ def setting_line(setting: str) -> Tuple[str, bool]:
 
 def needs_draws(tokens: List[str]) -> bool:
     """Whether a `config` line sets a rate that takes words of the generator."""
-    rates = [int(token) for token in tokens[2:6] if token.isdigit()]
+    rates = [value_of(token) for token in tokens[2:6] if token.isdigit()]
     pairs = list(zip(rates[0::2], rates[1::2]))
     is_partial = tokens[1] == "resize" and all(top > 0 for top, _ in pairs)
     return is_partial or any(0 < top < bottom for top, bottom in pairs)

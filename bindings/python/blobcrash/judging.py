@@ -4,6 +4,7 @@ A comment says what the code under test has promised to its caller:
 
     # acknowledged PARTITION NAME OFFSET HEX     these bytes at this offset survive every crash from here on
     # released PARTITION NAME                    nothing that was acknowledged of this blob counts any more
+    # released PARTITION NAME OFFSET LENGTH      nor of these bytes, as of a slot that is used again
 
 An acknowledgement counts if calls of the same script wrote or read these bytes there before it, and if a crash and a reopen follow it. The
 content must be readable at each reopen that follows a crash. A later acknowledgement of an overlapping range replaces it.
@@ -12,12 +13,14 @@ content must be readable at each reopen that follows a crash. A later acknowledg
 from __future__ import annotations
 
 import os
-from typing import Any, Dict, List, NamedTuple, Optional, Tuple, Union
+from typing import Any, Dict, Iterator, List, NamedTuple, Optional, Tuple, Union
 
+from .checking import check
 from .errors import BadLine
 from .foreign import library
-from .grammar import LAST_VERSION, hex_of, unhex
+from .grammar import LAST_VERSION, MAX, hex_of, unhex
 from .layers import Library, Program
+from .shapes import value_of
 
 Name = Tuple[str, str]
 
@@ -36,6 +39,35 @@ class Acknowledged(NamedTuple):
     def end(self) -> int:
         return self.offset + len(self.data)
 
+    def without(self, released: Released) -> Iterator[Acknowledged]:
+        """The rest of it, as one or two parts, or none."""
+        if not released.reaches(self):
+            yield self
+            return
+        if self.offset < released.start:
+            yield self._replace(data=self.data[: released.start - self.offset])
+        if released.end < self.end:
+            yield self._replace(offset=released.end, data=self.data[released.end - self.offset :])
+
+
+class Released(NamedTuple):
+    """Bytes of a blob of which no acknowledgement counts any more."""
+
+    blob: Name
+    start: int
+    end: int
+
+    def reaches(self, found: Acknowledged) -> bool:
+        return self.blob == found.blob and self.start < found.end and found.offset < self.end
+
+
+class Verdict(NamedTuple):
+    """What a script loses, and how many of its acknowledgements count, of how many."""
+
+    lost: Optional[str]
+    counted: int
+    found: int
+
 
 def acknowledgement(partition: str, name: bytes, offset: int, data: bytes) -> str:
     """Returns the text of an acknowledgement, for `Store.note`."""
@@ -48,9 +80,28 @@ def acknowledgement_of(line: str) -> Optional[Acknowledged]:
     if len(tokens) != 6 or tokens[:2] != ["#", "acknowledged"]:
         return None
     try:
-        return Acknowledged((tokens[2], tokens[3].lower()), int(tokens[4]), unhex(tokens[5]))
+        offset = _number(tokens[4])
+        return None if offset is None else Acknowledged((tokens[2], tokens[3].lower()), offset, unhex(tokens[5]))
     except ValueError:
         return None
+
+
+def release_of(line: str) -> Optional[Released]:
+    """Returns what a comment releases, or `None` for any other line."""
+    tokens = line.split()
+    if len(tokens) not in (4, 6) or tokens[:2] != ["#", "released"]:
+        return None
+    start, length = (0, MAX) if len(tokens) == 4 else map(_number, tokens[4:])
+    if start is None or length is None:
+        return None
+    return Released((tokens[2], tokens[3].lower()), start, start + length)
+
+
+def _number(token: str) -> Optional[int]:
+    if not token.isascii() or not token.isdigit() or len(token.lstrip("0")) > 20:
+        return None
+    value = value_of(token)
+    return value if value <= MAX else None
 
 
 def judge(script: Union[str, bytes], by: Any = None) -> Optional[str]:
@@ -59,11 +110,22 @@ def judge(script: Union[str, bytes], by: Any = None) -> Optional[str]:
     The script is run once, and again up to each such reopen. `by` is `Library` or `Program`; by default the library if it is built.
     Raises `BadLine` if a line isn't a call.
     """
-    text = script.decode() if isinstance(script, bytes) else script
-    preamble, calls = _parts(text.split("\n"))
+    return verdict(script, by).lost
+
+
+def verdict(script: Union[str, bytes], by: Any = None) -> Verdict:
+    """As `judge`, with how many acknowledgements count."""
+    data = script if isinstance(script, bytes) else script.encode("utf-8", "surrogateescape")
+    for fault in check(data):
+        raise BadLine(f"bad call: {fault.why}", fault.line, fault.why)
+    preamble, calls = _parts(data.decode().split("\n"))
     way = by or (Library if os.path.exists(library()) else Program)
     watch = _Watch()
     _run(way, preamble, calls, watch).close()
+    return Verdict(_first_lost(way, preamble, calls, watch), watch.counted, watch.found)
+
+
+def _first_lost(way: Any, preamble: List[str], calls: List[str], watch: _Watch) -> Optional[str]:
     for at, due in watch.reopens:
         layer = _run(way, preamble, calls[: at + 1], None)
         lost = _lost(layer, due)
@@ -100,10 +162,12 @@ class _Watch:
     """What the calls so far have written, and what is acknowledged of it."""
 
     def __init__(self) -> None:
-        self._names: Dict[str, Name] = {}
+        self._names: Dict[int, Name] = {}
         self._content: Dict[Name, Dict[int, int]] = {}
         self._acknowledged: List[Acknowledged] = []
         self._at_crash: List[Acknowledged] = []
+        # How many acknowledgements there are, and how many of them count.
+        self.found = self.counted = 0
         # The reopens after a crash by the places of their lines, and what must be readable there.
         self.reopens: List[Tuple[int, List[Acknowledged]]] = []
 
@@ -111,43 +175,47 @@ class _Watch:
         tokens = line.split() or ["#"]
         word = tokens[0]
         if word.startswith("#"):
-            self._note(line, tokens)
+            self._note(line)
         elif word in ("open", "loose") and reply[0] == "opened":
-            self._names[reply[1]] = (tokens[1], tokens[2].lower())
+            self._names[int(reply[1])] = (tokens[1], tokens[2].lower())
         elif word in ("write", "writes") and reply == ["ok"]:
-            self._put(tokens[1], int(tokens[2]), unhex(tokens[3]))
+            self._put(tokens[1], value_of(tokens[2]), unhex(tokens[3]))
         elif word == "read" and reply[0] == "bytes":
-            self._put(tokens[1], int(tokens[2]), unhex(reply[1]))
+            self._put(tokens[1], value_of(tokens[2]), unhex(reply[1]))
         elif word == "resize" and reply == ["ok"]:
-            self._cut(tokens[1], int(tokens[2]))
+            self._cut(tokens[1], value_of(tokens[2]))
         elif word == "crash":
             self._at_crash = list(self._acknowledged)
         elif word == "reopen" and self._at_crash:
             self.reopens.append((at, self._at_crash))
             self._at_crash = []
 
-    def _note(self, line: str, tokens: List[str]) -> None:
+    def _note(self, line: str) -> None:
         found = acknowledgement_of(line)
         if found is not None:
+            self.found += 1
             content = self._content.get(found.blob, {})
             if all(content.get(found.offset + at) == byte for at, byte in enumerate(found.data)):
+                self.counted += 1
                 self._replace(found)
-        elif tokens[:2] == ["#", "released"] and len(tokens) == 4:
-            blob = (tokens[2], tokens[3].lower())
-            self._acknowledged = [one for one in self._acknowledged if one.blob != blob]
+            return
+        released = release_of(line)
+        if released is not None:
+            self._acknowledged = [left for one in self._acknowledged for left in one.without(released)]
 
     def _replace(self, new: Acknowledged) -> None:
         others = [one for one in self._acknowledged if one.blob != new.blob or one.end <= new.offset or new.end <= one.offset]
         self._acknowledged = [*others, new]
 
     def _put(self, handle: str, offset: int, data: bytes) -> None:
-        if handle in self._names:
-            content = self._content.setdefault(self._names[handle], {})
-            content.update(enumerate(data, offset))
+        name = self._names.get(value_of(handle))
+        if name is not None:
+            self._content.setdefault(name, {}).update(enumerate(data, offset))
 
     def _cut(self, handle: str, length: int) -> None:
-        if handle in self._names:
-            content = self._content.get(self._names[handle], {})
+        name = self._names.get(value_of(handle))
+        if name is not None:
+            content = self._content.get(name, {})
             for at in [at for at in content if at >= length]:
                 del content[at]
 

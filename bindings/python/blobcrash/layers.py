@@ -7,13 +7,17 @@ from __future__ import annotations
 
 import ctypes
 import os
+import signal
 import subprocess
+import weakref
+from contextlib import suppress
 from typing import Any, List, NamedTuple, Optional, Union
 
 from .checking import check
 from .errors import BadLine, Interrupted, LibraryMissing, NotMade, ProgramEnded
 from .foreign import (
     BAD_LINE,
+    BLOB_MISSING,
     CLOSED,
     DONE,
     ENDLESS,
@@ -78,11 +82,15 @@ class Program:
     """The layer as a program of its own, one line and one reply at a time.
 
     A call that is cut short, as by Ctrl-C, leaves a reply unread. From then on each call raises `Interrupted`. After a bad line the
-    program has ended, and each call raises `BadLine` with the first bad one.
+    program has ended, and each call raises `BadLine` with the first bad one. In a child after a fork each call raises `ValueError`: the
+    program is the parent's.
     """
 
     def __init__(self, preamble: bytes = b"") -> None:
-        self._run = subprocess.Popen([program()], stdin=subprocess.PIPE, stdout=subprocess.PIPE)
+        # In a session of its own, so that Ctrl-C at a terminal reaches this process alone.
+        self._run = subprocess.Popen([program()], stdin=subprocess.PIPE, stdout=subprocess.PIPE, start_new_session=True)
+        self._is_parents = False
+        _programs.add(self)
         # Why no call can be made any more.
         self._lost: Optional[BaseException] = None
         lines = preamble.split(b"\n")
@@ -118,15 +126,33 @@ class Program:
         return None if reply == "ok" else Reply(reply)
 
     def close(self) -> int:
-        """Ends the program, and returns its exit status."""
-        if self._lost is not None and not isinstance(self._lost, BadLine):
-            self._run.kill()
+        """Ends the program, and returns its exit status; 0 in a child after a fork."""
+        if self._is_parents:
+            return 0
+        if self._lost is not None and not isinstance(self._lost, BadLine) and self._run.poll() is None:
+            # With what `./blobcrash` has started, if it builds.
+            with suppress(ProcessLookupError):
+                os.killpg(self._run.pid, signal.SIGTERM)
+            try:
+                self._run.wait(5)
+            except subprocess.TimeoutExpired:
+                self._run.kill()
         if self._lost is None:
             self._lost = ValueError("the store is closed")
         if not self._run.stdin.closed:
             self._flush()
             self._run.communicate()
         return self._run.returncode
+
+    def _leave_to_parent(self) -> None:
+        """Gives up the pipes in a child: what is buffered goes nowhere, and the program ends when the parent closes them."""
+        self._is_parents = True
+        self._lost = ValueError("the program is the parent process's: open a store after the fork")
+        null = os.open(os.devnull, os.O_RDWR)
+        for stream in (self._run.stdin, self._run.stdout):
+            if not stream.closed:
+                os.dup2(null, stream.fileno())
+        os.close(null)
 
     def _refuse(self) -> None:
         if isinstance(self._lost, (BadLine, ProgramEnded, ValueError)):
@@ -157,6 +183,17 @@ class Program:
             self._run.stdin.flush()
         except (BrokenPipeError, ValueError):
             pass
+
+
+_programs: weakref.WeakSet = weakref.WeakSet()
+
+
+def _leave_programs() -> None:
+    for each in _programs:
+        each._leave_to_parent()
+
+
+os.register_at_fork(after_in_child=_leave_programs)
 
 
 class Library:
@@ -231,6 +268,20 @@ class Library:
         array = (ctypes.c_uint64 * len(words))(*words)
         _check(self._added("push_words")(self._at, array, len(words)))
 
+    def durable(self, partition: bytes, name: bytes) -> Optional[bytes]:
+        """Returns the durable bytes of a blob without its header, or `None` if there is no such blob. Draws nothing."""
+        room, arguments = len(self._room), (partition, len(partition), name, len(name), False)
+        while True:
+            bytes_at = ctypes.create_string_buffer(room)
+            ran = self._added("durable_blob")(self._at, *arguments, bytes_at, room)
+            if ran.status == DONE:
+                return bytes_at[: ran.len]
+            if ran.status == BLOB_MISSING:
+                return None
+            if ran.status != NO_ROOM:
+                _check(ran.status)
+            room = ran.len
+
     def close(self) -> int:
         """Ends the session, and returns 0."""
         if self._is_open:
@@ -251,6 +302,9 @@ class Library:
         session = ctypes.POINTER(Session)
         if name == "words_left":
             function.restype, function.argtypes = Ran, [session]
+        elif name == "durable_blob":
+            text, size = ctypes.c_char_p, ctypes.c_size_t
+            function.restype, function.argtypes = Ran, [session, text, size, text, size, ctypes.c_bool, ctypes.c_void_p, size]
         else:
             function.restype, function.argtypes = ctypes.c_uint32, [session, ctypes.POINTER(ctypes.c_uint64), ctypes.c_size_t]
         return function

@@ -25,6 +25,20 @@ _TOKENS = {"0": TRUE, "max": (DRAW, 1, 2), "on": (POWER, 0, 2), "off": (POWER, 1
 _BRANCH = re.compile(r"([0-9]{1,9})/([0-9]{1,9})")
 
 
+# What the tokens of a text mean, for a report. With `on` or `off` a path has power losses.
+_LEGENDS = (
+    (re.compile(r"(0|max)"), "0, max: a draw that is true, false"),
+    (_BRANCH, "K/N: `choose(N)` is K"),
+    (re.compile(r"(on|off)"), "on, off: the power stays on, goes off, at a call that changes something"),
+)
+
+
+def legend_of(text: str) -> str:
+    """What the tokens of a path mean, of those kinds that it has."""
+    tokens = set(text.split(" "))
+    return "; ".join(legend for form, legend in _LEGENDS if any(map(form.fullmatch, tokens)))
+
+
 def text_of(path: List[Choice]) -> str:
     """The text of a path."""
     known = {choice: token for token, choice in _TOKENS.items()}

@@ -43,16 +43,19 @@ class Supply:
         self._left = calls
 
     def call(self, line: bytes) -> bytes:
-        word = (line.split(None, 1) or [b""])[0]
+        word = line.lstrip(b" ").split(b" ", 1)[0]
         if word == b"crash":
             reply = self._layer.call(line)
+            if reply.startswith(b"error "):
+                return reply
             if self._left == 0:
                 self._is_off, self._left = True, None
             self._has_crashed = self._is_off
             return reply
         if word == b"reopen" and self._has_crashed == self._is_off:
             reply = self._layer.call(line)
-            self._is_off = self._has_crashed = False
+            if not reply.startswith(b"error "):
+                self._is_off = self._has_crashed = False
             return reply
         if word != b"config" and not (word == b"close" and self._has_crashed):
             self._spend(word in _CHANGES)

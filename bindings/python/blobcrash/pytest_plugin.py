@@ -4,34 +4,59 @@
     def test_recovers(blobcrash):
         ...
 
-The seed is in the test's name. If a test fails, its script is written to a file, and the report has the file's path and a picture of
-the crashes. With `--blobcrash-report FOLDER` it also has the path of a page that shows the run in a browser. The arguments of the mark
-are `seeds`, how many there are, and those of `Store`.
+The store has `seed` and `choose`, as that of `seeds`. The seed is in the test's name. If a test fails, its script is written to a file.
+The first failing seed of a test is shrunk: the test is called again with fewer and smaller choices, and a smaller run that fails is
+written to a second file. The report has the files' paths and a picture of the crashes. With `--blobcrash-report FOLDER` it also has the
+path of a page that shows the run in a browser. The arguments of the mark are `seeds`, how many there are, and those of `Store`. Options
+of the command line come before the mark.
 """
 
 from __future__ import annotations
 
-import os
-import re
-from typing import Any, Iterator, List
+import argparse
+from typing import Any, Iterator, List, Sequence
 
 import pytest
 
-from .errors import LibraryMissing
 from .failures import page_writer
-from .layers import explain
-from .store import Store
+from .grammar import number
+from .pytest_report import show
+from .seeding import SeededStore
 
-# A longer picture is cut here: all of it can be drawn from the script.
-MOST_LINES = 200
+_SEEDS = 20
+_SECONDS = 10.0
+
+
+def _whole(what: str, first: int) -> Any:
+    """A type of an option: a whole number from `first` on."""
+
+    def of(text: str) -> int:
+        if not text.isascii() or not text.isdigit() or not first <= int(text) < 2**64:
+            raise argparse.ArgumentTypeError(f"{what} is a number from {first} to 2^64 - 1, not {text!r}")
+        return int(text)
+
+    return of
+
+
+def _seconds(text: str) -> float:
+    try:
+        seconds = float(text) if text.isascii() else -1.0
+    except ValueError:
+        seconds = -1.0
+    if not 0 <= seconds < 1e9:
+        raise argparse.ArgumentTypeError(f"a number of seconds is at least 0, not {text!r}")
+    return seconds
 
 
 def pytest_addoption(parser: Any) -> None:
     group = parser.getgroup("blobcrash")
-    group.addoption("--blobcrash-seeds", type=int, default=20, metavar="N", help="run each test of `blobcrash` with N seeds from 0 (20)")
-    group.addoption("--blobcrash-seed", type=int, action="append", metavar="SEED", help="run it with this seed alone; may be repeated")
+    seeds, seed = _whole("a number of seeds", 1), _whole("a seed", 0)
+    group.addoption("--blobcrash-seeds", type=seeds, metavar="N", help=f"run each test of `blobcrash` with N seeds from 0 ({_SEEDS})")
+    group.addoption("--blobcrash-seed", type=seed, action="append", metavar="SEED", help="run it with this seed alone; may be repeated")
     group.addoption("--blobcrash-scripts", default="blobcrash-scripts", metavar="FOLDER", help="where scripts of failures are written")
     group.addoption("--blobcrash-report", metavar="FOLDER", help="write a page of each failure for a browser to this folder")
+    shrinks = f"look this long for a smaller run of a test's first failure ({_SECONDS:g}); 0 for not at all"
+    group.addoption("--blobcrash-shrink", type=_seconds, default=_SECONDS, metavar="SECONDS", help=shrinks)
 
 
 def pytest_configure(config: Any) -> None:
@@ -45,23 +70,39 @@ def pytest_configure(config: Any) -> None:
 
 def _arguments(node: Any) -> dict:
     marker = node.get_closest_marker("blobcrash")
+    if marker is not None and marker.args:
+        raise pytest.UsageError(f"{node.nodeid}: the arguments of the mark `blobcrash` have names, as `seeds=50`")
     return dict(marker.kwargs) if marker else {}
+
+
+def _seeds_of(node: Any) -> Sequence[int]:
+    """The seeds of a test: those of the command line, or as many as it says, or as the mark says."""
+    option, arguments = node.config.getoption, _arguments(node)
+    if option("--blobcrash-seed"):
+        return list(dict.fromkeys(option("--blobcrash-seed")))
+    if option("--blobcrash-seeds") is not None:
+        return range(option("--blobcrash-seeds"))
+    try:
+        count = number(arguments.get("seeds", _SEEDS), "a number of seeds")
+    except (TypeError, ValueError) as error:
+        raise pytest.UsageError(f"{node.nodeid}: {error}") from None
+    if count == 0:
+        raise pytest.UsageError(f"{node.nodeid}: a number of seeds is at least 1")
+    return range(count)
 
 
 def pytest_generate_tests(metafunc: Any) -> None:
     if "blobcrash" in metafunc.fixturenames:
-        config = metafunc.config
-        count = _arguments(metafunc.definition).get("seeds", config.getoption("--blobcrash-seeds"))
-        seeds = config.getoption("--blobcrash-seed") or range(count)
+        seeds = _seeds_of(metafunc.definition)
         metafunc.parametrize("blobcrash", seeds, indirect=True, ids=[f"seed={seed}" for seed in seeds])
 
 
 @pytest.fixture
-def blobcrash(request: Any) -> Iterator[Store]:
+def blobcrash(request: Any) -> Iterator[SeededStore]:
     """A store, with the seed of the test."""
     arguments = _arguments(request.node)
     arguments.pop("seeds", None)
-    with Store(request.param, **arguments) as store:
+    with SeededStore(getattr(request, "param", 0), **arguments) as store:
         request.node._blobcrash = store
         yield store
 
@@ -71,37 +112,6 @@ def pytest_runtest_makereport(item: Any, call: Any) -> Iterator[None]:
     outcome = yield
     report = outcome.get_result()
     store = getattr(item, "_blobcrash", None)
-    if store is not None and call.when == "call" and report.failed:
-        script = _written(item, "--blobcrash-scripts", ".script")
-        with open(script, "w", encoding="utf-8") as file:
-            file.writelines(line + "\n" for line in store.script)
-        shown = [f"the script of this failure: {script}"]
-        if item.config.getoption("--blobcrash-report") is not None:
-            shown.append(_page(item, call, store))
-        report.sections.append(("blobcrash", "\n".join(shown + _picture(store))))
-
-
-def _written(item: Any, option: str, ending: str) -> str:
-    """The path of a file for a failure, in the folder of an option, which is made."""
-    folder = os.path.join(str(item.config.rootpath), item.config.getoption(option))
-    os.makedirs(folder, exist_ok=True)
-    return os.path.join(folder, re.sub(r"[^A-Za-z0-9_.=-]+", "_", item.nodeid) + ending)
-
-
-def _page(item: Any, call: Any, store: Store) -> str:
-    """Writes the page of a failure, and returns the line of the report that names it."""
-    path = _written(item, "--blobcrash-report", ".html")
-    try:
-        page_writer("--blobcrash-report")(path, store.script, f"{item.name}: {call.excinfo.exconly().splitlines()[0]}")
-    except LibraryMissing as error:
-        return f"no page of this failure: name the program in BLOBCRASH, since {error}"
-    return f"the page of this failure: {path}"
-
-
-def _picture(store: Store) -> List[str]:
-    """The lines of a picture of the crashes."""
-    picture = explain("".join(line + "\n" for line in store.script))
-    if picture is None:
-        return ["for a picture of the crashes name the program in BLOBCRASH"]
-    lines = picture.splitlines()
-    return lines if len(lines) <= MOST_LINES else [*lines[:MOST_LINES], "..."]
+    if store is not None and call.when in ("setup", "call") and report.failed:
+        lines: List[str] = show(item, call, store, _arguments(item))
+        report.sections.append(("blobcrash", "\n".join(lines)))

@@ -5,6 +5,7 @@ from __future__ import annotations
 from typing import Dict, List, NamedTuple, Optional, Tuple
 
 from .grammar import MAX
+from .shapes import value_of
 
 Rate = Tuple[int, int]
 NEVER: Rate = (0, 1)
@@ -27,7 +28,7 @@ class Recorded(NamedTuple):
             lost = kept.find("0")
             return [0] * self.length if lost < 0 else [0] * lost + [MAX]
         if self.mode[0] == "sectors":
-            size = int(self.mode[1])
+            size = value_of(self.mode[1])
             starts = [at for at in range(self.length) if at == 0 or (self.offset + at) % size == 0]
             return [_word(kept[at]) for at in starts]
         return [_word(choice) for choice in kept]
@@ -61,11 +62,11 @@ class Rates:
         if what == "clear":
             self.__init__()  # type: ignore[misc]
             return
-        self._rates[what] = (int(tokens[2]), int(tokens[3]))
+        self._rates[what] = (value_of(tokens[2]), value_of(tokens[3]))
         if what == "write":
-            self._retention, self._mode = (int(tokens[4]), int(tokens[5])), tuple(tokens[6:])
+            self._retention, self._mode = (value_of(tokens[4]), value_of(tokens[5])), tuple(tokens[6:])
         if what == "resize":
-            self._rates["partial"] = (int(tokens[4]), int(tokens[5]))
+            self._rates["partial"] = (value_of(tokens[4]), value_of(tokens[5]))
 
     def of(self, what: str) -> Rate:
         return self._rates.get(what, NEVER)
@@ -82,7 +83,7 @@ class Rates:
             return None
         if (tokens[0] == "write") != (reply == ["ok"]) or (tokens[0] == "writes" and self.fails(words)):
             return None
-        return Recorded(self._retention, self._mode, int(tokens[2]), length)
+        return Recorded(self._retention, self._mode, value_of(tokens[2]), length)
 
     def plain(self, tokens: List[str], words: List[int]) -> List[int]:
         """The words of a call as 0 for each draw that was true, and the greatest one for each that was false."""

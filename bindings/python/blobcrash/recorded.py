@@ -9,9 +9,10 @@ from typing import Dict, Iterator, List, NamedTuple, Optional, Tuple
 from .errors import BadLine
 from .generator import words_of
 from .grammar import MAX
-from .judging import Acknowledged, acknowledgement_of
+from .judging import Acknowledged, acknowledgement_of, release_of
 from .layers import Library
 from .rates import Rates, Recorded
+from .shapes import value_of
 
 # The calls that take a handle as their first argument.
 ON_HANDLE = frozenset(("close", "read", "write", "writes", "resize", "size", "sync", "startsync"))
@@ -109,9 +110,9 @@ def _split(script: str) -> _Parts:
 
 
 def _number(token: str, line: int) -> int:
-    if not token.isascii() or not token.isdigit() or int(token) > MAX:
+    if not token.isascii() or not token.isdigit() or len(token.lstrip("0")) > 20 or value_of(token) > MAX:
         raise BadLine("bad call", line)
-    return int(token)
+    return value_of(token)
 
 
 def _recorded(parts: _Parts, room: int) -> Optional[Lines]:
@@ -164,9 +165,9 @@ class _Recorder:
 
     def _maker(self, tokens: List[str]) -> Optional[int]:
         if tokens[0] in ON_HANDLE:
-            return self._made.get(("opened", str(int(tokens[1]))))
+            return self._made.get(("opened", str(value_of(tokens[1]))))
         if tokens[0] == "finish":
-            return self._made.get(("started", str(int(tokens[1]))))
+            return self._made.get(("started", str(value_of(tokens[1]))))
         return None
 
 
@@ -176,16 +177,19 @@ class Needs:
     def __init__(self, whole: Lines) -> None:
         self._whole = whole
         self._places = sorted(whole, reverse=True)
+        releases = [(at, release_of(" ".join(line.tokens))) for at, line in whole.items()]
+        self._releases = [(at, released) for at, released in releases if released is not None]
         self._known: Dict[Tuple[int, Acknowledged], List[int]] = {}
 
     def of(self, at: int, line: Line) -> List[int]:
-        """The lines without which the acknowledgement in the line `at` would promise something else: the last writes of its bytes, and each
-        sync of that blob between them and the acknowledgement."""
+        """The lines without which the acknowledgement in the line `at` would promise something else: the last writes of its bytes, each
+        sync of that blob between them and the acknowledgement, and what releases some of them later."""
         found = line.acknowledges
         if found is None:
             return []
         if (at, found) not in self._known:
-            self._known[at, found] = self._needed(at, found)
+            later = [place for place, released in self._releases if place > at and released.reaches(found)]
+            self._known[at, found] = [*self._needed(at, found), *later]
         return self._known[at, found]
 
     def _needed(self, at: int, found: Acknowledged) -> List[int]:
@@ -199,7 +203,8 @@ class Needs:
             if line.tokens[0] in ("sync", "startsync"):
                 syncs.append(before)
             if line.tokens[0] in ("write", "writes") and line.reply == ("ok",):
-                written = set(range(int(line.tokens[2]), int(line.tokens[2]) + len(line.tokens[3]) // 2))
+                start = value_of(line.tokens[2])
+                written = set(range(start, start + len(line.tokens[3]) // 2))
                 if written & unwritten:
                     needed += [before, *syncs]
                     unwritten, syncs = unwritten - written, []

@@ -6,6 +6,8 @@ import random
 import time
 from typing import Any, Callable, Iterable, List, NamedTuple, Optional, Tuple, Union
 
+from .bodies import check_body, check_result
+from .bounds import FIRST_RUN, BoundedStore, Bounds, RunEnded
 from .exploration import seconds_of
 from .failures import Failed, reason_of, reporter
 from .grammar import number
@@ -17,10 +19,11 @@ _CHUNK = 16
 
 
 class SeededStore(Store):
-    """The store of a run by a seed."""
+    """The store of a run by a seed, which is `seed`."""
 
     def __init__(self, seed: int, **arguments: Any) -> None:
         super().__init__(seed, **arguments)
+        self.seed = seed
         self._random = random.Random(seed)
 
     def choose(self, branches: int) -> int:
@@ -32,6 +35,18 @@ class SeededStore(Store):
         branch = self._random.randrange(branches)
         self.note(f"choose({branches}) is {branch}")
         return branch
+
+
+class _TimedStore(BoundedStore, SeededStore):
+    """The store of a run that is ended when its time is over."""
+
+    def __init__(self, seed: int, until: float, **arguments: Any) -> None:
+        self._bounds = Bounds(until=until)
+        super().__init__(seed, **arguments)
+
+    def choose(self, branches: int) -> int:
+        self._count()
+        return super().choose(branches)
 
 
 class Seeded(NamedTuple):
@@ -59,15 +74,14 @@ def seeds(
 ) -> Seeded:
     """Calls `body` with a new store for each seed: for the first `which` ones, or for each of `which`.
 
-    After `seconds` no further run begins, but at least one is made. With an `executor` of `concurrent.futures` the seeds are spread over
-    its workers.
+    After `seconds` no further run begins, and one that is under way is ended at its next call: its seed is one of `rest`. Without an
+    executor the first run is given a second at least. With an `executor` of `concurrent.futures` the seeds are spread over its workers.
     `arguments` are those of `Store`.
 
     Raises `Failed`, with a script, if the body raises: for the first such seed, or by an executor for one of them. `report` is a file
-    for a page that shows it.
+    for a page that shows it. `TypeError` for a body that hasn't run when it returns: a generator or a coroutine.
     """
-    if not callable(body):
-        raise TypeError(f"the body is a function that takes a store, not {type(body).__name__}")
+    check_body(body)
     for name in ("seed", "words", "pushed"):
         if name in arguments:
             raise TypeError(f"`{name}` is no argument here: each run has a seed of its own")
@@ -77,29 +91,47 @@ def seeds(
     if isinstance(which, int):
         which = range(number(which, "a number of seeds"))
     every = [number(seed, "a seed") for seed in which]
-    until = time.monotonic() + seconds_of(seconds)
+    now = time.monotonic()
+    until = now + seconds_of(seconds)
     show = reporter(report)
     runs = _Runs(body, arguments)
     try:
         if executor is None:
-            return Seeded(*_visit(runs, every, 0, until))
+            return Seeded(*_visit(runs, every, 0, until, max(until, now + FIRST_RUN)))
         return Seeded(*_visit_with(executor, runs, every, until))
     except Failed as failed:
         show(failed)
         raise
 
 
-def _visit(runs: _Runs, every: List[int], before: int, until: float) -> Tuple[int, Tuple[int, ...]]:
-    """Makes the run of each seed, of at least one, until it is too late. `before` is how many runs there were."""
+def _visit(runs: _Runs, every: List[int], before: int, until: float, first_until: float) -> Tuple[int, Tuple[int, ...]]:
+    """Makes the run of each seed until it is too late, for the first one `first_until`. `before` is how many runs there were."""
     for at, seed in enumerate(every):
         if at and time.monotonic() >= until:
             return at, tuple(every[at:])
-        with SeededStore(seed, **runs.arguments) as store:
+        with _store(runs, seed, until if at else first_until) as store:
             try:
-                runs.body(store)
+                result = runs.body(store)
+            except RunEnded:
+                result = None
             except (Exception, PowerLoss) as error:
-                raise Failed(f"seed {seed}", store.script, reason_of(error), before + at + 1) from error
+                if not _is_late(store):
+                    raise Failed(f"seed {seed}", store.script, reason_of(error), before + at + 1) from error
+                result = None
+            if _is_late(store):
+                return at, tuple(every[at:])
+            check_result(result)
     return len(every), ()
+
+
+def _store(runs: _Runs, seed: int, until: float) -> SeededStore:
+    if until == float("inf"):
+        return SeededStore(seed, **runs.arguments)
+    return _TimedStore(seed, until, **runs.arguments)
+
+
+def _is_late(store: SeededStore) -> bool:
+    return isinstance(store, _TimedStore) and store._bounds.is_late
 
 
 def _visit_with(executor: Any, runs: _Runs, every: List[int], until: float) -> Tuple[int, Tuple[int, ...]]:
@@ -125,4 +157,5 @@ def _visit_with(executor: Any, runs: _Runs, every: List[int], until: float) -> T
 
 
 def _visit_for(runs: _Runs, every: List[int], before: int, seconds: float) -> Tuple[int, Tuple[int, ...]]:
-    return _visit(runs, every, before, time.monotonic() + seconds)
+    until = time.monotonic() + seconds
+    return _visit(runs, every, before, until, until)

@@ -18,17 +18,25 @@ _SHOWN = 40
 _NUMBER, _VERSION = "[0-9]{1,19}", "[0-9]{1,4}"
 _PARTITION, _DIGIT = "[A-Za-z0-9_-]+", "[0-9a-fA-F]"
 # Long runs of digits in steps, each of which is one loop of the matcher.
-_BYTES = f"(?:-|(?={_DIGIT})(?:{_DIGIT}{{128}})*(?:{_DIGIT}{{16}})*(?:{_DIGIT}{{2}})*)"
+_PAIRS = f"(?:{_DIGIT}{{128}})*(?:{_DIGIT}{{16}})*(?:{_DIGIT}{{2}})*"
 _RATE = f"{_NUMBER} {_NUMBER}"
 _MODE = "(?:prefix|subset|sectors [1-9][0-9]{0,18})"
+
+
+def _bytes(name: str) -> str:
+    """The expression of bytes, with a group of this name. What a lookahead has found isn't tried again in other steps, so that a line
+    that doesn't match takes no longer than one that does."""
+    return f"(?:-|(?={_DIGIT})(?=(?P<{name}>{_PAIRS}))(?P={name}))"
+
+
 _FORMS = (
     f"(?:size|sync|close|startsync|finish) {_NUMBER}",
     f"read {_NUMBER} {_NUMBER} {_NUMBER}",
-    f"writes? {_NUMBER} {_NUMBER} {_BYTES}",
-    f"(?:open|loose) {_PARTITION} {_BYTES}(?: {_VERSION} {_VERSION})?",
+    f"writes? {_NUMBER} {_NUMBER} {_bytes('data')}",
+    f"(?:open|loose) {_PARTITION} {_bytes('opened')}(?: {_VERSION} {_VERSION})?",
     f"resize {_NUMBER} {_NUMBER}",
-    f"admit {_PARTITION} {_BYTES}",
-    f"remove {_PARTITION}(?: {_BYTES})?",
+    f"admit {_PARTITION} {_bytes('admitted')}",
+    f"remove {_PARTITION}(?: {_bytes('removed')})?",
     f"scan {_PARTITION}",
     "crash|reopen|config clear",
     f"config (?:open|read|sync|remove|scan) {_RATE}",
@@ -88,6 +96,11 @@ def shown(token: str) -> str:
     data = token.encode("utf-8", "surrogateescape")
     texts = [{13: "\\r", 9: "\\t"}.get(byte) or (chr(byte) if 32 <= byte < 127 else f"\\x{byte:02x}") for byte in data[:_SHOWN]]
     return f"`{''.join(texts)}{'..' if len(data) > _SHOWN else ''}`"
+
+
+def value_of(digits: str) -> int:
+    """The value of decimal digits, of which any number may be leading zeros."""
+    return int(digits.lstrip("0") or "0")
 
 
 def usual_tokens(line: str) -> Optional[List[str]]:
@@ -177,4 +190,4 @@ def _unmet(kind: str, token: str) -> Optional[str]:
 
 
 def _is_rate(top: str, bottom: str) -> bool:
-    return 0 < int(bottom.lstrip("0") or "0") and int(top.lstrip("0") or "0") <= int(bottom.lstrip("0") or "0")
+    return 0 < value_of(bottom) and value_of(top) <= value_of(bottom)

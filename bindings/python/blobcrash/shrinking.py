@@ -15,6 +15,8 @@ import random
 import time
 from typing import Any, Callable, Iterable, Iterator, List, NamedTuple, Optional, Tuple, Union
 
+from .bodies import check_body, check_result
+from .bounds import Bounds, RunEnded
 from .exploration import Body, seconds_of
 from .failures import Failed, reason_of
 from .follow import ExploredStore, MoreWords, Run
@@ -27,6 +29,9 @@ from .store import Store
 
 # How many lists of random draws are tried with smaller choices.
 _DRAWS = 6
+# A run with other choices may take some more calls than the one that failed, until it ends: these, and as many again.
+_MORE_CALLS = 1000
+_NO_TIME = "the search for a smaller run stopped when its time was over: give it more `seconds`"
 
 
 class Choices(NamedTuple):
@@ -45,6 +50,7 @@ class _Made(NamedTuple):
 
     choices: Choices
     calls: int
+    counted: int
     path: str
     script: List[str]
     reason: str
@@ -70,10 +76,12 @@ def shrink(
 
     `failed` is raised by `explore` without a seed, or by `seeds`, or it is its `path`. The other arguments are those of that call. A run is
     smaller if it makes fewer calls; then if it has fewer power losses, smaller results of `store.choose`, fewer draws, and fewer of them
-    true. It has to raise an error of the same type. `runs` and `seconds` limit the search.
+    true. It has to raise an error of the same type. `runs` and `seconds` limit the search; if it stopped at one of them, `stopped` of the
+    result says so.
 
     Raises `ValueError` if the run of `failed` doesn't fail again.
     """
+    check_body(body)
     settings, images = tuple(settings), tuple(images)
     path = failed if isinstance(failed, str) else failed.path
 
@@ -86,15 +94,15 @@ def shrink(
     while True:
         smaller = next(search.failing(made), None)
         if smaller is None:
-            return Failed(made.path, made.script, made.reason, search.runs)
+            return Failed(made.path, made.script, made.reason, search.runs, search.stopped)
         made = smaller
 
 
 class Replay(Run):
     """A run by given choices."""
 
-    def __init__(self, choices: Choices, room: int) -> None:
-        super().__init__([], 0, len(choices.losses))
+    def __init__(self, choices: Choices, room: int, bounds: Optional[Bounds] = None) -> None:
+        super().__init__([], 0, len(choices.losses), bounds=bounds)
         self.words = [*choices.draws, *[MAX] * (room + 1)]
         self._picks = iter(choices.picks)
         self._gaps = iter(choices.losses)
@@ -165,6 +173,8 @@ class _Search:
         self._reason: Optional[str] = None
         self._room = 64
         self.runs = 0
+        # Why the search ended although there may be a smaller run.
+        self.stopped = ""
 
     def first(self, path: str, reason: Optional[str]) -> _Made:
         """Makes the run of a path."""
@@ -182,10 +192,15 @@ class _Search:
 
     def failing(self, made: _Made) -> Iterator[_Made]:
         """Runs that fail and are smaller, while there are runs and time left."""
+        most = 2 * made.counted + _MORE_CALLS
         for choices in _smaller(made.choices):
-            if self.runs >= self._most or time.monotonic() >= self._until:
+            if self.runs >= self._most:
+                self.stopped = f"the search for a smaller run stopped at its limit of {self._most} runs: give it more `runs`"
+            elif time.monotonic() >= self._until:
+                self.stopped = _NO_TIME
+            if self.stopped:
                 return
-            other = self._made(lambda: Replay(choices, self._room))
+            other = self._made(lambda: Replay(choices, self._room, Bounds(most, self._until)))
             if other is not None and other.size < made.size:
                 yield other
 
@@ -195,21 +210,27 @@ class _Search:
             run = begin()
             store = self._store(run)
             error: Optional[BaseException] = None
+            result = None
             self.runs += 1
             try:
-                self._body(store)
+                result = self._body(store)
             except (Exception, PowerLoss) as raised:
                 error = raised
-            except MoreWords:
+            except (MoreWords, RunEnded):
                 pass
             finally:
                 store.close()
+            if run.bounds.is_late:
+                self.stopped = _NO_TIME
+            if run.bounds.is_long or run.bounds.is_late:
+                return None
             if not run.is_short:
                 break
             self._room *= 2
+        check_result(result)
         if error is None or (self._reason is not None and reason_of(error).split(":")[0] != self._reason):
             return None
-        return _Made(run.choices(), len(run.calls), _path_text(run.taken), store.script, reason_of(error))
+        return _Made(run.choices(), len(run.calls), run.bounds.calls, _path_text(run.taken), store.script, reason_of(error))
 
 
 def _path_text(taken: List[Choice]) -> str:

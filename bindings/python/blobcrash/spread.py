@@ -10,7 +10,7 @@ import uuid
 from concurrent.futures import FIRST_COMPLETED, Future, wait
 from typing import Any, Callable, Dict, Iterator, List, NamedTuple, Optional, Tuple
 
-from .exploration import Part, Tree, visit
+from .exploration import Part, Times, Tree, visit
 from .failures import Failed, Trace
 
 # How long a worker goes on before it returns the subtrees that it has left, in seconds: at first, so that there soon are enough for all
@@ -55,9 +55,10 @@ def told(key: str, task: Callable[..., Any], *arguments: Any) -> Told:
         return Told(None, error, trace)
 
 
-def visit_for(tree: Tree, subtrees: List[str], most: int, seconds: float) -> Part:
-    """The task of a worker: visits subtrees for a time of its own clock."""
-    return visit(tree, subtrees, most, time.monotonic() + seconds)
+def visit_for(tree: Tree, subtrees: List[str], most: int, seconds: float, left: float) -> Part:
+    """The task of a worker: visits subtrees for a time of its own clock. When no time is left, it ends the run that is under way."""
+    now = time.monotonic()
+    return visit(tree, subtrees, most, Times(now + seconds, now + left, now + left))
 
 
 class Spread:
@@ -149,7 +150,7 @@ def visit_with(executor: Any, tree: Tree, subtrees: List[str], most: int, until:
             part = [waiting.pop() for _ in range(count)]
             quota = left if left < spread.workers else left // spread.workers
             promised += quota
-            spread.submit(part, _visited, tree, part, quota, min(length, until - now))
+            spread.submit(part, _visited, tree, part, quota, min(length, until - now), until - now)
         if not len(spread):
             break
         for quota, part in spread.done():
@@ -163,5 +164,5 @@ def visit_with(executor: Any, tree: Tree, subtrees: List[str], most: int, until:
     return Part(runs, outcomes, waiting)
 
 
-def _visited(tree: Tree, subtrees: List[str], quota: int, seconds: float) -> Tuple[int, Part]:
-    return quota, visit_for(tree, subtrees, quota, seconds)
+def _visited(tree: Tree, subtrees: List[str], quota: int, seconds: float, left: float) -> Tuple[int, Part]:
+    return quota, visit_for(tree, subtrees, quota, seconds, left)

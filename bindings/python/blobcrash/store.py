@@ -157,7 +157,9 @@ class Store:
             self._lines.append(line.encode())
             return []
         words = self._ask(line)
-        if tokens[0] == "remove":
+        if tokens[0] == "close":
+            self._opened.pop(int(tokens[1]), None)
+        elif tokens[0] == "remove":
             self._end_blobs(tokens[1], unhex(tokens[2]) if tokens[2:] else None)
         elif tokens[0] in ("crash", "reopen"):
             self._end_handles(f"the store had the call `{tokens[0]}` since")
@@ -285,6 +287,9 @@ class Store:
         error = Interrupted("an earlier call was cut short, so its reply is lost: the store can't be used any more")
         error.__cause__ = self._cause
         return error
+
+    def _refused(self) -> None:
+        """Is called before a use of a handle is refused without a call."""
 
     def _ended(self, error: BaseException) -> None:
         """Forgets a call that wasn't made. A call that may have been made ends the store."""

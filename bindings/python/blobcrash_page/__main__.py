@@ -7,6 +7,8 @@
 The program is the one that `BLOBCRASH` names, or else `blobcrash` at the top of the checkout. If that doesn't exist, as for an
 installed package, the library runs the script, and the page has no remarks. `--explored` adds a chart of what `blobcrash explore`
 printed, and `--chart` prints it for a terminal. A run fails if its last reply begins with the text of `--fails`.
+
+The status is that of the run, or 2 if there is no page: standard error has the reason.
 """
 
 import os
@@ -65,26 +67,52 @@ def main(arguments):
     if options is None:
         sys.stderr.write(USAGE)
         return 2
+    try:
+        return show(options)
+    except UnicodeDecodeError:
+        why = "what was explored isn't UTF-8"
+    except (OSError, ValueError, MemoryError) as error:
+        why = str(error) or "no memory"
+    sys.stderr.write(f"crash_page: {why}\n")
+    return 2
+
+
+def write(text):
+    """Writes to standard output, all of it."""
+    try:
+        sys.stdout.buffer.write(text.encode())
+        sys.stdout.buffer.flush()
+    except (AttributeError, OSError):
+        # What is left in the buffer must not fail again at the exit.
+        if sys.stdout is not None:
+            with open(os.devnull, "wb") as null:
+                os.dup2(null.fileno(), sys.stdout.fileno())
+        raise OSError("output failed") from None
+
+
+def show(options):
     fails = None
     if "--fails" in options:
         fails = lambda replies: bool(replies) and replies[-1].startswith(options["--fails"])
+    if sys.stdin is None:
+        raise OSError("standard input is closed")
     given = sys.stdin.buffer.read()
     if "--chart" in options:
-        print(table(exploration(given.decode(), fails)))
+        write(table(exploration(given.decode(), fails)) + "\n")
         return 0
     chart = None
     if "--explored" in options:
         with open(options["--explored"], encoding="utf-8") as file:
             chart = exploration(file.read(), fails)
     text, errors, status = explained(os.environ.get("BLOBCRASH", os.path.join(TOP, "blobcrash")), given)
-    sys.stderr.write(errors)
     script = given.decode(errors="replace")
     if "--picture" in options:
         shown = picture(script, text)
     else:
         replies = "".join(line + "\n" for line in lines_of(text) if not line.startswith("# "))
         shown = page(script, replies, text, options["--title"], chart)
-    sys.stdout.buffer.write(shown.encode())
+    write(shown)
+    sys.stderr.write(errors)
     return status
 
 

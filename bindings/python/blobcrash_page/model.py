@@ -9,6 +9,8 @@ from .script import unhex
 from .state import CUT, GAP, LIVE, PENDING, State, without
 
 END = 1 << 64
+# The most bytes of a blob that are shown.
+LONGEST = 1 << 24
 
 
 class Lane:
@@ -82,6 +84,9 @@ class Model:
             make(step, *step.words[1:])
 
     def _change(self, *change):
+        if any(isinstance(it, int) and it > LONGEST for it in change):
+            line = self.script.steps[self._call].line
+            raise ValueError(f"line {line} makes a blob longer than {LONGEST} bytes, which no page shows")
         self._row.changes.append(list(change))
         self.state.apply(change, self._call, self.data, self._answer)
 

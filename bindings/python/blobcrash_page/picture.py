@@ -7,6 +7,8 @@ from .script import Script
 from .state import CUT, GAP, LIVE, PENDING, State, kept_ranges
 
 ROW, CELL, LETTER, MARGIN = 24, 24, 7.3, 14
+# The most bytes of a blob in a picture.
+WIDEST = 4096
 
 # The background and the letters of each kind of byte, as in the light page.
 COLOURS = {
@@ -30,10 +32,12 @@ def bytes_shown(state, values, lane, marks, answer, model):
     it = state.lanes[lane]
     durable = it.durable or b""
     end = max([len(durable)] + [i + 1 for i, kind in enumerate(it.over) if kind])
+    refuse_wide(end)
     shown = []
     for i in range(end):
         over = it.over[i] if i < len(it.over) else 0
-        kind = KINDS[over] if over else "gap" if it.gaps[i] else "durable"
+        # No byte is durable past the end, before bytes that only a stale handle has.
+        kind = KINDS[over] if over else "gap" if i >= len(durable) or it.gaps[i] else "durable"
         value = values[lane].get(i, 0) if over in (PENDING, LIVE, GAP) else durable[i] if i < len(durable) else None
         shown.append([kind, value])
     for kind, at, *more in marks:
@@ -52,8 +56,15 @@ def bytes_shown(state, values, lane, marks, answer, model):
     return shown
 
 
+def refuse_wide(end):
+    """Raises `ValueError` if a blob with this end is too long for a picture."""
+    if end > WIDEST:
+        raise ValueError(f"a picture shows blobs of up to {WIDEST} bytes, and one has {end}")
+
+
 def paint(shown, kind, start, end, data=None):
     """Gives a range of bytes a kind. Bytes that are lost past the end show what was lost."""
+    refuse_wide(end)
     for i in range(start, end):
         while len(shown) <= i:
             shown.append(["lost", data[len(shown) - start] if data and len(shown) >= start else None])
@@ -89,7 +100,7 @@ def picture(script_text, explain_text):
 
 
 def drawn(rows, lanes):
-    left = MARGIN + LETTER * max(len(text) + 2 + len(reply) for _, text, reply, _ in rows) + 12
+    left = MARGIN + LETTER * max((len(text) + 2 + len(reply) for _, text, reply, _ in rows), default=0) + 12
     widths = [CELL * max([len(shown[lane]) for _, _, _, shown in rows if shown] or [0]) + 16 for lane in range(lanes)]
     width, height = left + sum(widths) + MARGIN, ROW * (len(rows) + 1) + 2 * MARGIN
     parts = [

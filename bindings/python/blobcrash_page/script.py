@@ -4,6 +4,7 @@ import re
 
 PREAMBLE = ("image", "words", "seed")
 
+_HEX = re.compile("-|(?:[0-9a-fA-F]{2})+")
 _FAILED = re.compile(r"  failed write (\d+)\.\.(\d+)(?:, of which (\d+)\.\.(\d+) is live)?")
 _UNSYNCED = re.compile(r"  write (?:(\d+) )?(\d+)\.\.(\d+), whose sync failed")
 _RESIZE = re.compile(r"  resize to (\d+), which ")
@@ -122,7 +123,7 @@ class Script:
     def images(self):
         """The raw blobs from before the first call: partition, name and bytes each."""
         for step in self.preamble:
-            if step.words[0] == "image" and len(step.words) == 4:
+            if step.words[0] == "image" and len(step.words) == 4 and all(map(_HEX.fullmatch, step.words[2:])):
                 yield step.words[1], unhex(step.words[2]), unhex(step.words[3])
 
 

@@ -334,8 +334,11 @@ impl Blob {
     /// Takes the store's lock, if the handle may be used.
     #[inline]
     fn usable(&self) -> Result<MutexGuard<'_, State>, Error> {
-        let state = self.shared.lock();
-        self.opened.check()?;
+        let mut state = self.shared.lock();
+        if let Err(stale) = self.opened.check() {
+            state.count_call()?;
+            return Err(stale);
+        }
         Ok(state)
     }
 }

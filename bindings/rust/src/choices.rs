@@ -1,4 +1,6 @@
 //! The choices of an explored run: its draws, its branches and its power losses.
+use crate::Error;
+use std::panic::resume_unwind;
 
 /// What a choice decides.
 #[derive(Clone, Copy, Debug, PartialEq, Eq)]
@@ -51,10 +53,32 @@ pub(crate) struct Choices {
     losses: u64,
     differs: bool,
     is_short: bool,
+    /// How many calls the run has, and at most may have. It may have as many choices.
+    calls: u64,
+    most: u64,
+    is_long: bool,
 }
 
+/// What a run that is too long unwinds with.
+struct TooLong;
+
+/// Unwinds to the exploration from a run that is too long, without the message of a panic. While a panic unwinds already, returns an error.
+pub(crate) fn too_long() -> Result<(), Error> {
+    if std::thread::panicking() {
+        return Err(Error::PowerLoss);
+    }
+    if cfg!(panic = "abort") {
+        eprintln!("a run of an exploration is too long: {BOUND_IT}");
+    }
+    resume_unwind(Box::new(TooLong))
+}
+
+/// Why a run is too long.
+pub(crate) const BOUND_IT: &str =
+    "a loop that retries until it succeeds never ends when every try fails; bound it";
+
 impl Choices {
-    pub(crate) fn new(path: Vec<Choice>, losses: u64) -> Choices {
+    pub(crate) fn new(path: Vec<Choice>, losses: u64, most: u64) -> Choices {
         Choices {
             path,
             taken: Vec::new(),
@@ -63,7 +87,29 @@ impl Choices {
             losses,
             differs: false,
             is_short: false,
+            calls: 0,
+            most,
+            is_long: false,
         }
+    }
+
+    /// Counts a call. Returns whether the run may have it.
+    pub(crate) fn count_call(&mut self) -> bool {
+        self.calls += 1;
+        self.is_long |= self.calls > self.most;
+        !self.is_long
+    }
+
+    /// Whether the run has more calls, or more choices, than it may have.
+    pub(crate) fn is_long(&self) -> bool {
+        self.is_long
+    }
+
+    /// Lifts the limit of a run that has ended, and returns whether the run is too long. Nothing could catch a later unwinding: a body may
+    /// keep its store.
+    pub(crate) fn end(&mut self) -> bool {
+        self.most = u64::MAX;
+        std::mem::take(&mut self.is_long)
     }
 
     /// Returns the words of the path, then `more` zeros and a last word that isn't zero.
@@ -82,6 +128,7 @@ impl Choices {
         let choice = self.path.get(self.taken.len()).copied().unwrap_or(first);
         self.differs |= !choice.is_like(first);
         self.taken.push(choice);
+        self.is_long |= self.taken.len() as u64 > self.most;
         // A run that is made again, or that isn't on its path, must still get a branch that exists.
         choice.branch.min(of - 1)
     }

@@ -124,3 +124,46 @@ impl DebtReply {
         }
     }
 }
+
+#[cfg(test)]
+mod tests {
+    use super::*;
+    use crate::foreign::tests::{header, upper};
+
+    #[test]
+    fn calls_and_failures_are_those_of_the_header() {
+        let header = header();
+        let (number, failure, dirty) = (0, None, false);
+        let calls = [
+            DebtCall::Admit { existing: false },
+            DebtCall::Release { number },
+            DebtCall::Settle {
+                number,
+                dirty,
+                failure: None,
+            },
+            DebtCall::Debt { number },
+            DebtCall::Clear { number, failure },
+            DebtCall::Fail {
+                number,
+                failure: Error::Closed,
+            },
+            DebtCall::Close { number },
+            DebtCall::Forget,
+            DebtCall::ForgetPartition,
+            DebtCall::IsSettled { number },
+            DebtCall::Keeps,
+        ];
+        for (at, call) in calls.iter().enumerate() {
+            let text = format!("{call:?}");
+            let name = format!("DEBT_{}", upper(text.split(' ').next().unwrap()));
+            assert_eq!(header.get(name.as_str()), Some(&call.raw().kind), "{name}");
+            assert_eq!(call.raw().kind as usize, at);
+        }
+        assert_eq!(header["E_BLOB_ALREADY_OPEN"], BLOB_ALREADY_OPEN);
+        for (status, error) in PLAIN_FAILURES {
+            let name = format!("E_{}", upper(&format!("{error:?}")));
+            assert_eq!(header.get(name.as_str()), Some(&status), "{name}");
+        }
+    }
+}

@@ -47,11 +47,11 @@ pub enum Error {
         /// The blob's version.
         found: u16,
     },
-    /// No call returns it.
+    /// No call of a store returns it. [`Pending`](crate::Pending) returns a failure that its caller gave it.
     Closed,
-    /// No call returns it.
+    /// As [`Error::Closed`].
     ReadFailed,
-    /// No call returns it over the memory store.
+    /// As [`Error::Closed`].
     WriteFailed,
     /// A fault that a draw chose, in place of a device's I/O error.
     Injected,

@@ -1,13 +1,18 @@
 //! Every outcome of a small run.
-use crate::choices::{Choice, Choices, Kind, advance};
+use crate::choices::{BOUND_IT, Choice, Choices, Kind, advance, too_long};
 use crate::shared::State;
 use crate::{Builder, Error, Store};
 use std::collections::BTreeMap;
 use std::fmt;
 use std::ops::Deref;
+use std::panic::{AssertUnwindSafe, catch_unwind, resume_unwind};
 
 /// How many words a run is given at first after those of its path.
 const WORDS: usize = 256;
+/// How many calls, and how many choices, a run has at most if no other limit is set.
+const CALLS_PER_RUN: u64 = 10_000;
+/// How many lines of a script that is too long are shown.
+const SHOWN: usize = 40;
 
 /// What an exploration visited.
 ///
@@ -50,6 +55,15 @@ pub enum ExploreError<E> {
         /// The calls of the run, which make the same calls again; `blobcrash explain` shows them.
         script: String,
     },
+    /// A run has more calls, or more draws and choices, than [`Exploration::calls_per_run`].
+    TooLong {
+        /// The number of the run, from 1.
+        run: u64,
+        /// How many it may have.
+        most: u64,
+        /// The calls of the run so far.
+        script: String,
+    },
     /// The body made other choices than before on the same path.
     NotDeterministic,
     /// A store can't be made, or not be explored: its builder has a seed or words, or a partial resize.
@@ -67,6 +81,15 @@ impl<E: fmt::Display> fmt::Display for ExploreError<E> {
         match self {
             ExploreError::Failed { error, run, script } => {
                 write!(f, "run {run} failed: {error}\nits script:\n{script}")
+            }
+            ExploreError::TooLong { run, most, script } => {
+                write!(
+                    f,
+                    "run {run} has more than {most} calls or draws: {BOUND_IT}. For a run that is as long, set \
+                     `calls_per_run`\nits script starts with:\n"
+                )?;
+                let mut lines = script.split_inclusive('\n').take(SHOWN);
+                lines.try_for_each(|line| f.write_str(line))
             }
             ExploreError::NotDeterministic => f.write_str(
                 "the body isn't deterministic: along the same choices it must make the same calls, so it may use no clock, \
@@ -119,10 +142,15 @@ impl Run {
     pub fn choose(&self, branches: usize) -> usize {
         assert!(branches > 0, "there is nothing to choose from");
         let mut state = self.store.shared.lock();
+        // Without an error to return, a run that is too long goes on while a panic unwinds.
+        let _ = state.count_call();
         state.count_draws();
         let choices = state.choices.as_mut();
         let branch = choices.map_or(0, |choices| choices.take(Kind::Branch, branches));
         state.note(&format!("choose({branches}) is {branch}"));
+        if state.choices.as_ref().is_some_and(Choices::is_long) {
+            let _ = too_long();
+        }
         branch
     }
 
@@ -198,6 +226,7 @@ pub struct Exploration {
     builder: Builder,
     limit: u64,
     losses: u64,
+    calls: u64,
 }
 
 impl Exploration {
@@ -213,6 +242,7 @@ impl Exploration {
             builder: builder.clone(),
             limit: u64::MAX,
             losses: 0,
+            calls: CALLS_PER_RUN,
         }
     }
 
@@ -245,6 +275,24 @@ impl Exploration {
         self
     }
 
+    /// Sets how many calls a run may have, and as many draws and choices: 10,000 if it isn't set. A run with more is ended by unwinding,
+    /// like a panic but without its message, and `visit` returns [`ExploreError::TooLong`].
+    ///
+    /// ```
+    /// # use blobcrash::{Config, ExploreError, Exploration, Probability, Store};
+    /// let half = Config::default().sync(Probability::new(1, 2).unwrap());
+    /// let found = Exploration::of(&Store::builder().config(half)).calls_per_run(100).visit(|run| {
+    ///     let (blob, _) = run.open("p", b"b")?;
+    ///     while blob.sync().is_err() {}
+    ///     Ok::<_, blobcrash::Error>(())
+    /// });
+    /// assert!(matches!(found, Err(ExploreError::TooLong { run: 1, .. })));
+    /// ```
+    pub fn calls_per_run(mut self, calls: u64) -> Exploration {
+        self.calls = calls;
+        self
+    }
+
     /// Calls `body` with each run.
     ///
     /// The body must be deterministic. It may check with `assert!`: the script of a run that panics is printed. A run that takes more
@@ -252,6 +300,7 @@ impl Exploration {
     ///
     /// Errors:
     /// - `Failed` for the first run in which the body returns an error.
+    /// - `TooLong` for a run with too many calls or draws.
     /// - `NotDeterministic`.
     /// - `Store` with `Argument` if the builder has a seed, words or a partial resize (the two outcomes of a word don't reach all of
     ///   its sizes), or with what [`Builder::open`] returns.
@@ -273,7 +322,12 @@ impl Exploration {
         };
         while visited.runs < self.limit {
             let run = self.begin(path.clone(), words, visited.runs + 1)?;
-            let result = body(&run);
+            let result = catch_unwind(AssertUnwindSafe(|| body(&run)));
+            if run.choices(Choices::end) {
+                let (run, script, most) = (visited.runs + 1, run.script(), self.calls);
+                return Err(ExploreError::TooLong { run, most, script });
+            }
+            let result = result.unwrap_or_else(|panic| resume_unwind(panic));
             if run.choices(|choices| choices.is_short()) {
                 words *= 2;
                 continue;
@@ -299,7 +353,7 @@ impl Exploration {
     }
 
     fn begin(&self, path: Vec<Choice>, words: usize, number: u64) -> Result<Run, Error> {
-        let choices = Choices::new(path, self.losses);
+        let choices = Choices::new(path, self.losses, self.calls);
         let store = self.builder.explored(choices, words)?;
         Ok(Run { store, number })
     }

@@ -177,3 +177,85 @@ unsafe extern "C" {
         room: usize,
     ) -> ScriptRan;
 }
+
+/// The numbers are those of the C header. `bindings/c/numbers.c` tests what each of them does.
+#[cfg(test)]
+pub(crate) mod tests {
+    use super::*;
+    use std::collections::BTreeMap;
+
+    /// The enumerators of the header, by their names without `BLOBCRASH_`.
+    pub(crate) fn header() -> BTreeMap<&'static str, u32> {
+        let text = include_str!("../../c/blobcrash.h");
+        let lines = text
+            .split('\n')
+            .filter_map(|line| line.trim().strip_prefix("BLOBCRASH_"));
+        let numbers = lines.filter_map(|line| {
+            let (name, rest) = line.split_once(" = ")?;
+            let digits = rest.split([',', ' ']).next()?;
+            Some((name, digits.parse().ok()?))
+        });
+        numbers.collect()
+    }
+
+    /// `OpenLoose` as `OPEN_LOOSE`.
+    pub(crate) fn upper(name: &str) -> String {
+        let mut text = String::new();
+        for letter in name.chars() {
+            if letter.is_ascii_uppercase() && !text.is_empty() {
+                text.push('_');
+            }
+            text.push(letter.to_ascii_uppercase());
+        }
+        text
+    }
+
+    #[test]
+    fn statuses_and_refusals() {
+        let header = header();
+        for (name, number) in [
+            ("DONE", DONE),
+            ("ENDLESS", ENDLESS),
+            ("BAD_LINE", BAD_LINE),
+            ("NO_MEMORY", NO_MEMORY),
+            ("NO_ROOM", NO_ROOM),
+            ("OTHER_REPLY", OTHER_REPLY),
+            ("BAD_CALL", BAD_CALL),
+            ("E_BLOB_MISSING", BLOB_MISSING),
+            ("H_INVALID_MAGIC", INVALID_MAGIC),
+            ("H_UNSUPPORTED_LAYOUT_VERSION", UNSUPPORTED_LAYOUT_VERSION),
+            ("H_LAYOUT_MISMATCH", LAYOUT_MISMATCH),
+            ("H_VERSION_MISMATCH", VERSION_MISMATCH),
+            ("H_INVALID_CHECKSUM", INVALID_CHECKSUM),
+            ("H_INVALID_PADDING", INVALID_PADDING),
+        ] {
+            assert_eq!(header.get(name), Some(&number), "{name}");
+        }
+        let refusals = header.iter().filter(|(name, _)| name.starts_with("E_"));
+        assert_eq!(refusals.map(|row| *row.1).min(), Some(FIRST_REFUSAL));
+    }
+
+    #[test]
+    fn kinds() {
+        let header = header();
+        let kinds = [
+            Kind::Open,
+            Kind::OpenLoose,
+            Kind::Admit,
+            Kind::Close,
+            Kind::Resize,
+            Kind::Size,
+            Kind::Sync,
+            Kind::StartSync,
+            Kind::Finish,
+            Kind::RemoveBlob,
+            Kind::RemovePartition,
+        ];
+        for (at, kind) in kinds.into_iter().enumerate() {
+            let name = upper(&format!("{kind:?}"));
+            assert_eq!(header.get(name.as_str()), Some(&(kind as u32)), "{name}");
+            // None is left out.
+            assert_eq!(kind as usize, at);
+        }
+    }
+}

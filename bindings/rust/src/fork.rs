@@ -40,7 +40,8 @@ impl Store {
             return Err(refused(text));
         }
         let text = script.text();
-        let lines: Vec<&str> = text.lines().collect();
+        // Only a line feed ends a line: `str::lines` would drop a carriage return, which is a part of a token.
+        let lines: Vec<&str> = text.split_terminator('\n').collect();
         let is_first = |line: &&str| ["image", "words", "seed"].contains(&first_word(line));
         let first = lines.iter().rposition(is_first).map_or(0, |last| last + 1);
         let mut session = Session::open(&lines[..first].join("\n"))?;

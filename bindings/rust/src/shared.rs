@@ -1,5 +1,5 @@
 //! What a store shares with its clones, its blobs and its started syncs: one session, which a lock protects.
-use crate::choices::Choices;
+use crate::choices::{Choices, too_long};
 use crate::foreign::{Kind, TypedReply};
 use crate::library::Session;
 use crate::power::{Effect, Power};
@@ -194,6 +194,7 @@ impl State {
 
     #[cold]
     fn permit_limited(&mut self, effect: Effect) -> Result<(), Error> {
+        self.count_call()?;
         if self.is_unset && effect != Effect::Nothing {
             self.set(self.config)?;
         }
@@ -209,6 +210,19 @@ impl State {
             return Err(Error::PowerLoss);
         }
         self.power.count(effect);
+        Ok(())
+    }
+
+    /// Counts a call of an explored run, or a use that is refused without one. If there are too many, unwinds to the exploration: no error
+    /// would end a loop that retries. While a panic unwinds already, returns `PowerLoss`.
+    pub(crate) fn count_call(&mut self) -> Result<(), Error> {
+        if self
+            .choices
+            .as_mut()
+            .is_some_and(|choices| !choices.count_call())
+        {
+            return too_long();
+        }
         Ok(())
     }
 
@@ -330,10 +344,18 @@ impl State {
         match tokens(line)[..] {
             ["crash"] => self.end_handles("the store has crashed since"),
             ["reopen"] => self.was_reopened(),
+            ["close", handle] => self.was_closed(handle),
             ["remove", partition] => self.end_blobs(partition, None),
             ["remove", partition, name] => self.end_blobs(partition, unhex(name).as_deref()),
             ["config", ref setting @ ..] => self.config.apply(setting),
             _ => {}
+        }
+    }
+
+    fn was_closed(&mut self, handle: &str) {
+        let number = handle.parse::<usize>().ok();
+        if let Some(opened) = number.and_then(|number| self.opened.remove(&number)) {
+            opened.is_closed.store(true, Ordering::Relaxed);
         }
     }
 

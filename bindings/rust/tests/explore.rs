@@ -1,9 +1,11 @@
 //! Each outcome of small runs, and what can't be explored.
+use blobcrash::Exploration;
 use blobcrash::{
     Config, Error, ExploreError, Explored, PartialWriteMode, Probability, ResizeConfig, Run, Store,
     WriteConfig, WriteOptions, explore, run_script,
 };
 use std::collections::BTreeMap;
+use std::panic::{AssertUnwindSafe, catch_unwind};
 
 fn half() -> Probability {
     Probability::new(1, 2).unwrap()
@@ -126,6 +128,138 @@ fn a_body_that_is_not_deterministic() {
         torn(run, 3).map(|_| ())
     });
     assert_eq!(visited, Err(ExploreError::NotDeterministic));
+}
+
+fn failing_syncs(rate: Probability) -> Exploration {
+    Exploration::of(&Store::builder().config(Config::default().sync(rate)))
+}
+
+type Body = fn(&Run) -> Result<(), Error>;
+
+/// Tries a sync until it succeeds.
+fn retries(run: &Run) -> Result<(), Error> {
+    let (blob, _) = run.open("p", b"b")?;
+    while blob.sync().is_err() {}
+    Ok(())
+}
+
+#[test]
+fn a_body_that_retries_for_ever() {
+    let found = failing_syncs(half()).visit(retries);
+    let Err(ExploreError::TooLong { run, most, script }) = &found else {
+        panic!("{found:?}");
+    };
+    assert_eq!((*run, *most), (1, 10_000));
+    assert!(script.starts_with("words 0 0 "), "{script:.40}");
+    assert_eq!(
+        script.lines().filter(|line| *line == "sync 0").count(),
+        9999
+    );
+    let replies = String::from_utf8(run_script(script.as_bytes()).unwrap()).unwrap();
+    assert_eq!(replies.matches("error Injected\n").count(), 9999);
+    let text = found.unwrap_err().to_string();
+    let why = "a loop that retries until it succeeds never ends when every try fails; bound it";
+    assert!(text.contains(why) && text.len() < 40_000, "{text:.200}");
+
+    // What needs no draw, has no power, is stale, or is a choice.
+    let bodies: [Body; 4] = [
+        retries,
+        |run| {
+            while run.open("p", b"b").is_err() {}
+            Ok(())
+        },
+        |run| {
+            let (blob, _) = run.open("p", b"b")?;
+            run.restart()?;
+            while blob.size().is_err() {}
+            Ok(())
+        },
+        |run| {
+            while run.choose(2) == 0 {}
+            Ok(())
+        },
+    ];
+    for body in bodies {
+        let always = failing_syncs(Probability::ONE).calls_per_run(50);
+        let found = always.power_losses(1).visit(body);
+        assert!(
+            matches!(found, Err(ExploreError::TooLong { most: 50, .. })),
+            "{found:?}"
+        );
+    }
+}
+
+#[test]
+fn how_long_a_run_may_be() {
+    let crashes = |times: u32| move |run: &Run| (0..times).try_for_each(|_| run.crash().map(drop));
+    let ten = Exploration::of(&Store::builder()).calls_per_run(10);
+    assert_eq!(ten.visit(crashes(10)).unwrap().runs, 1);
+    assert!(matches!(
+        ten.visit(crashes(11)),
+        Err(ExploreError::TooLong { run: 1, .. })
+    ));
+    // A crash takes as many draws as the bytes that it draws for.
+    let builder = Store::builder().config(config(PartialWriteMode::Prefix));
+    let of = |calls| Exploration::of(&builder).calls_per_run(calls);
+    assert_eq!(of(300).visit(|run| torn(run, 300)).unwrap().runs, 301);
+    let found = of(299).visit(|run| torn(run, 300));
+    assert!(matches!(found, Err(ExploreError::TooLong { run: 1, .. })));
+    let found = of(9).visit(|run| torn(run, 300));
+    assert!(matches!(found, Err(ExploreError::TooLong { run: 1, .. })));
+}
+
+#[test]
+fn what_a_body_drops_while_its_run_is_ended() {
+    // A started sync and a blob are dropped: their last calls return an error, and don't panic again.
+    let found = failing_syncs(half()).calls_per_run(20).visit(|run| {
+        let (blob, _) = run.open("p", b"b")?;
+        let _started = blob.start_sync()?;
+        while blob.sync().is_err() {}
+        Ok::<_, Error>(())
+    });
+    assert!(matches!(found, Err(ExploreError::TooLong { .. })));
+    // The limit is reached at any call, also at that of a drop or of a finished sync.
+    for calls in 0..20 {
+        let found = failing_syncs(half()).calls_per_run(calls).visit(|run| {
+            loop {
+                let (blob, _) = run.open("p", b"b")?;
+                let _ = blob.start_sync().map(|started| started.finish());
+                let _dropped = (blob.start_sync(), blob);
+            }
+            #[allow(unreachable_code)]
+            Ok::<_, Error>(())
+        });
+        assert!(
+            matches!(found, Err(ExploreError::TooLong { .. })),
+            "{found:?}"
+        );
+    }
+    // A body that catches the unwinding is found out all the same, and so is one that does it on a thread of its own.
+    let found = failing_syncs(half()).calls_per_run(20).visit(|run| {
+        let caught = catch_unwind(AssertUnwindSafe(|| retries(run)));
+        assert!(caught.is_err());
+        Ok::<_, Error>(())
+    });
+    assert!(matches!(found, Err(ExploreError::TooLong { .. })));
+    let found = failing_syncs(half()).calls_per_run(20).visit(|run| {
+        let _ = std::thread::scope(|scope| scope.spawn(|| retries(run)).join());
+        Ok::<_, Error>(())
+    });
+    assert!(matches!(found, Err(ExploreError::TooLong { .. })));
+    // A store that the body keeps may be used when its run has ended, however often.
+    let mut kept = None;
+    let found = failing_syncs(half()).calls_per_run(20).visit(|run| {
+        kept = Some(Store::clone(run));
+        retries(run)
+    });
+    assert!(matches!(found, Err(ExploreError::TooLong { .. })));
+    let kept = kept.unwrap();
+    assert!((0..50).all(|_| kept.crash().is_ok()));
+    // A panic of a body is the caller's, as before.
+    let panics = catch_unwind(|| {
+        failing_syncs(half()).visit(|_| -> Result<(), Error> { panic!("by the body") })
+    });
+    assert_eq!(panics.unwrap_err().downcast_ref(), Some(&"by the body"));
 }
 
 #[test]

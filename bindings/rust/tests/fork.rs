@@ -48,6 +48,24 @@ fn a_fork_has_the_pushed_words_that_are_left() {
 }
 
 #[test]
+fn only_a_line_feed_ends_a_line() {
+    for end in ["\r", "\u{b}", "\u{c}", "\u{85}", "\u{2028}"] {
+        let store = Store::builder().seed(7).open().unwrap();
+        let (blob, _) = store.open("p", b"b").unwrap();
+        blob.write_at(0, b"kept", WriteOptions::SYNC).unwrap();
+        let reply = store.call(&format!("remove p{end}")).unwrap();
+        assert_eq!(reply, format!("error PartitionNameInvalid p{end}"));
+        store.note(&format!("a note{end}remove p"));
+        let fork = store.fork().unwrap();
+        assert_eq!(fork.audit(), store.audit(), "{end:?}");
+        assert_eq!(fork.scan("p").as_deref(), Ok(&[b"b".to_vec()][..]));
+        let replies = blobcrash::run_script(fork.script().as_bytes()).unwrap();
+        let replies = String::from_utf8(replies).unwrap();
+        assert_eq!(replies.split('\n').nth(2), Some(reply.as_str()));
+    }
+}
+
+#[test]
 fn what_cannot_be_forked_says_so() {
     let unrecorded = Store::builder().unrecorded().open().unwrap();
     assert!(matches!(unrecorded.fork(), Err(Error::Argument(_))));

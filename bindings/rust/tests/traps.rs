@@ -109,6 +109,25 @@ fn a_restart_closes_every_handle() {
 }
 
 #[test]
+fn a_handle_that_a_line_closes() {
+    for line in ["close 0", " close  00 "] {
+        let store = seeded();
+        let (blob, _) = store.open("p", b"b").unwrap();
+        blob.write_at(0, b"kept", WriteOptions::SYNC).unwrap();
+        assert_eq!(store.call(line).unwrap(), "ok");
+        assert_eq!(store.call(line).unwrap(), "error NoHandle");
+        assert_eq!(store.restart(), Ok(Vec::new()));
+        assert_eq!(store.open("p", b"b").unwrap().1, 4);
+        assert!(store.script().contains("crash\nreopen\n"));
+        // It isn't closed a second time.
+        assert_eq!(blob.size(), Err(Error::NoHandle));
+        let closes = store.script().matches("close").count();
+        drop(blob);
+        assert_eq!(store.script().matches("close").count(), closes);
+    }
+}
+
+#[test]
 fn stale_handles_are_refused() {
     let store = seeded();
     let (blob, _) = store.open("wal", b"0").unwrap();

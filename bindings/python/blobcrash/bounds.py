@@ -1,0 +1,70 @@
+"""What ends a run before its body does: too many calls, or a time that is over."""
+
+from __future__ import annotations
+
+from time import monotonic
+from typing import Optional
+
+from .store import Store
+
+# How many calls, and how many choices, an explored run has at most if no other limit is given.
+CALLS_PER_RUN = 10_000
+# A first run may take this many seconds, however little time there is: so that a search that is continued gets somewhere.
+FIRST_RUN = 1.0
+_NEVER = float("inf")
+
+
+class RunEnded(BaseException):
+    """A run is ended at a call. This is no `Exception`, so that a body doesn't handle it like a call that fails."""
+
+
+class Bounds:
+    """The bounds of one run. Once one is reached, each further call ends the run. `is_long` and `is_late` say which one it was."""
+
+    def __init__(self, most: float = _NEVER, until: float = _NEVER) -> None:
+        self.most = most
+        self.until = _NEVER if until == _NEVER else until
+        self.calls = 0
+        self.is_long = self.is_late = False
+
+    def count(self) -> None:
+        """Counts a call, before it is made."""
+        self.calls = calls = self.calls + 1
+        if calls > self.most or self.until is not _NEVER:
+            self.check(calls)
+
+    def check(self, count: int) -> None:
+        """Ends the run if it has more than `most` of something, or if its time is over."""
+        if count > self.most:
+            self.is_long = True
+        elif monotonic() >= self.until:
+            self.is_late = True
+        else:
+            return
+        raise RunEnded
+
+
+class BoundedStore(Store):
+    """A store that counts its calls, and those that it refuses."""
+
+    _bounds: Bounds
+
+    def _count(self) -> None:
+        """Counts a call. A store of a run that has ended says so, whatever its bounds were."""
+        self._check()
+        self._bounds.count()
+
+    def _call(self, line: bytes, partition: Optional[str] = None) -> bytes:
+        self._count()
+        return super()._call(line, partition)
+
+    def _read(self, handle: int, offset: int, length: int) -> bytes:
+        self._count()
+        return super()._read(handle, offset, length)
+
+    def _write(self, handle: int, offset: int, data: bytes, sync: bool) -> None:
+        self._count()
+        super()._write(handle, offset, data, sync)
+
+    def _refused(self) -> None:
+        self._count()

@@ -1,0 +1,257 @@
+"""The pytest plugin: options, names of files, the fixture, smaller runs, pictures, and what is no option. It is run by a Python that has
+pytest, with the package on its path. The last line is `N passed, M failed`. With the name of a test only that one is run."""
+
+import glob
+import os
+import re
+import subprocess
+import sys
+import tempfile
+
+from importlib.metadata import distributions
+
+from passing import run_tests
+
+import blobcrash
+from blobcrash.pictured import picture
+
+# Settings by which a crash loses half of the pending bytes, and by which it loses all.
+ALL = "by=Library"
+HALF = 'settings=["write 0 1 1 2 subset"], by=Library'
+LOSES = """
+import pytest, sys
+from blobcrash import Library
+
+def lose(store, count):
+    blob, _ = store.open("p", b"b")
+    for at in range(count):
+        blob.write(at, b"x")
+    store.restart()
+    return store.open("p", b"b")[1] < count
+"""
+
+
+# An installed package has its plugin found by pytest.
+IS_INSTALLED = any(entry.group == "pytest11" and entry.name == "blobcrash" for each in distributions() for entry in each.entry_points)
+PLUGIN = [] if IS_INSTALLED else ["-p", "blobcrash.pytest_plugin"]
+
+
+class Ran:
+    """What pytest printed for a file of tests, and the scripts that it left."""
+
+    def __init__(self, text, *options, **environment):
+        with tempfile.TemporaryDirectory() as folder:
+            with open(os.path.join(folder, "test_it.py"), "w", encoding="utf-8") as file:
+                file.write(LOSES + text)
+            command = [sys.executable, "-m", "pytest", "-p", "no:cacheprovider", "--color=no", "-q", "-rA", *PLUGIN]
+            # There is no program: what is drawn is drawn by the library.
+            environment = {**os.environ, "BLOBCRASH": "/nowhere/blobcrash", "PYTHONDONTWRITEBYTECODE": "1", **environment}
+            ran = subprocess.run([*command, *options], cwd=folder, env=environment, stdout=subprocess.PIPE, stderr=subprocess.STDOUT)
+            self.status, self.text = ran.returncode, ran.stdout.decode()
+            self.scripts = {}
+            for path in sorted(glob.glob(os.path.join(folder, "blobcrash-scripts", "*"))):
+                with open(path, encoding="utf-8") as file:
+                    self.scripts[os.path.basename(path)] = file.read().split("\n")[:-1]
+        assert "INTERNALERROR" not in self.text, self.text
+
+    def counted(self, what):
+        found = re.search(rf"(\d+) {what}", self.text)
+        return int(found.group(1)) if found else 0
+
+    def short(self):
+        """The calls of the only smaller run."""
+        (script,) = [lines for name, lines in self.scripts.items() if name.endswith(".short.script")]
+        return [line for line in script if not line.startswith(("words", "config", "seed", "# choose"))]
+
+
+LOST = ["open p 62", "write 0 0 78", "crash", "close 0", "reopen", "open p 62"]
+
+
+def test_names_of_files():
+    ran = Ran(f"""
+@pytest.mark.blobcrash(seeds=1, {ALL})
+@pytest.mark.parametrize("name", ["a/b", "a b", "a\\nb", "x" * 300, "é" * 200, "../../up", "..", "", "\\0", "A B"])
+def test_loses(blobcrash, name):
+    assert not lose(blobcrash, 40)
+""", "--blobcrash-shrink", "0")
+    assert (ran.counted("failed"), len(ran.scripts), ran.status) == (10, 10, 1), ran.text
+    assert all(len(name) < 130 and re.fullmatch("test_it[A-Za-z0-9_.=-]*.script", name) for name in ran.scripts), ran.scripts.keys()
+
+
+def test_the_command_line_comes_before_the_mark():
+    text = "@pytest.mark.blobcrash(seeds=5, by=Library)\ndef test_it(blobcrash):\n    print('seed', blobcrash.seed)\n"
+    for options, seeds in (
+        ([], range(5)),
+        (["--blobcrash-seeds", "3"], range(3)),
+        (["--blobcrash-seeds=8"], range(8)),
+        (["--blobcrash-seed", "7"], [7]),
+        (["--blobcrash-seed", "7", "--blobcrash-seed", "7", "--blobcrash-seed", "0", "--blobcrash-seeds", "2"], [7, 0]),
+        (["--blobcrash-seed", str(2**64 - 1)], [2**64 - 1]),
+    ):
+        ran = Ran(text, *options)
+        assert re.findall(r"(?m)^seed (\d+)$", ran.text) == [str(seed) for seed in seeds], (options, ran.text)
+        assert all(f"test_it[seed={seed}]" in ran.text for seed in seeds), ran.text
+    assert Ran("@pytest.mark.blobcrash(by=Library)\ndef test_it(blobcrash):\n    pass\n").counted("passed") == 20
+
+
+def test_the_store_chooses_as_that_of_seeds():
+    body = "    print('chosen', [blobcrash.choose(1000) for _ in 'abc'])\n"
+    ran = Ran("@pytest.mark.blobcrash(seeds=4, by=Library)\ndef test_it(blobcrash):\n" + body)
+    chosen = []
+    blobcrash.seeds(lambda store: chosen.append([store.choose(1000) for _ in "abc"]), 4, by=blobcrash.Library)
+    assert re.findall(r"(?m)^chosen (.*)$", ran.text) == [str(each) for each in chosen], ran.text
+
+
+def test_a_failure_is_shrunk_and_drawn():
+    ran = Ran(f"""
+@pytest.mark.blobcrash(seeds=9, {HALF})
+def test_loses(blobcrash, tmp_path):
+    assert tmp_path.exists()
+    print("printed by the test")
+    assert not lose(blobcrash, 1 + blobcrash.choose(30)), blobcrash.seed
+""")
+    assert ran.counted("failed") > 1 and ran.short() == LOST, (ran.text, ran.scripts)
+    assert ran.text.count("a smaller run that fails, of 6 calls: ") == 1 and "printed by the test" in ran.text, ran.text
+    # By hand: the byte is pending at the crash, and is lost.
+    picture = ["crashed 0:0", "# p 62: length 0 before, length 0 after", "#   write 0 0..1: 0 kept, 1 lost", "#   at 0", "#     before"]
+    assert "\n".join([*picture, "#     write 0  --", "#     after"]) in ran.text, ran.text
+
+
+def test_other_ways_to_fail():
+    """What is raised is no `Exception`, a power loss, an error of a class; a method; what skips with other choices."""
+    for statement in ("pytest.fail('lost')", "sys.exit(3)", "raise BaseException('lost')", "raise ValueError"):
+        ran = Ran(f"""
+class TestIt:
+    @pytest.mark.blobcrash(seeds=3, {HALF})
+    def test_loses(self, blobcrash):
+        count = blobcrash.choose(9)
+        if count == 0:
+            pytest.skip("nothing to do")
+        if lose(blobcrash, count):
+            {statement}
+""")
+        assert ran.counted("failed") and ran.short() == LOST, (statement, ran.text)
+    body = "    blobcrash.crash_after(0)\n    lose(blobcrash, 1)\n"
+    ran = Ran("@pytest.mark.blobcrash(seeds=1, by=Library)\ndef test_off(blobcrash):\n" + body)
+    assert ran.counted("failed") == 1 and "PowerLoss" in ran.text, ran.text
+
+
+def test_what_cannot_be_shrunk_says_why():
+    log = "@pytest.fixture\ndef log(blobcrash):\n    return blobcrash\n\nMARK\n"
+    for text, why in (
+        (log + "def test_it(blobcrash, log):\n    assert not lose(log, 20)\n", "`log` uses"),
+        (log + "def test_it(log):\n    assert not lose(log, 20)\n", "take `blobcrash` itself"),
+        ("once = []\nMARK\ndef test_it(blobcrash):\n    once.append(1)\n    assert len(once) > 1\n", "doesn't fail again"),
+    ):
+        ran = Ran(text.replace("MARK", f"@pytest.mark.blobcrash(seeds=1, {ALL})"))
+        assert ran.counted("failed") == 1 and why in ran.text and len(ran.scripts) == 1, (why, ran.text)
+    ran = Ran(f"@pytest.mark.blobcrash(seeds=2, words=[1], {ALL})\ndef test_it(blobcrash):\n    assert not lose(blobcrash, 20)\n")
+    assert "its mark has `words`" in ran.text, ran.text
+    # A test that would retry for ever with other choices.
+    ran = Ran(f"""
+@pytest.mark.blobcrash(seeds=9, {HALF})
+def test_it(blobcrash):
+    while blobcrash.choose(3) != 2:
+        pass
+    assert not lose(blobcrash, 1 + blobcrash.choose(5))
+""")
+    assert ran.counted("failed") and ran.short() == LOST, ran.text
+    ran = Ran(f"@pytest.mark.blobcrash(seeds=2, {HALF})\ndef test_it(blobcrash):\n    assert not lose(blobcrash, 30)\n", "--blobcrash-shrink=0")
+    assert "smaller" not in ran.text and len(ran.scripts) == ran.counted("failed"), ran.text
+
+
+def test_failures_outside_of_the_test():
+    ran = Ran("""
+@pytest.fixture
+def opened(blobcrash):
+    blobcrash.open("p", b"b")
+    raise OSError("in the fixture")
+
+@pytest.mark.blobcrash(seeds=1, by=Library)
+def test_it(blobcrash, opened):
+    pass
+
+@pytest.mark.blobcrash(seeds=1, by=Library)
+@pytest.mark.xfail(strict=True)
+def test_passes(blobcrash):
+    blobcrash.crash()
+""")
+    assert ran.counted("error") == 1 and ran.counted("failed") == 1, ran.text
+    assert sorted(lines[-1] for lines in ran.scripts.values()) == ["crash", "open p 62"], ran.scripts
+
+
+def test_what_cannot_be_written():
+    text = f"@pytest.mark.blobcrash(seeds=1, {ALL})\ndef test_it(blobcrash):\n    assert not lose(blobcrash, 30)\n"
+    for folder in ("test_it.py", "/proc/nowhere", "/dev/null/x", "a\0b"):
+        if "\0" not in folder:
+            ran = Ran(text, "--blobcrash-scripts", folder)
+            assert "the script of this failure can't be written: " in ran.text and ran.counted("failed") == 1, ran.text
+        ran = Ran(text, "--blobcrash-report", folder.replace("\0", ""), "--blobcrash-shrink", "0")
+        assert ran.counted("failed") == 1, ran.text
+
+
+def test_what_is_no_option():
+    text = "@pytest.mark.blobcrash(by=Library, **dict(ARGUMENTS))\ndef test_it(blobcrash):\n    pass\n"
+    for option in ("--blobcrash-seeds", "--blobcrash-seed", "--blobcrash-shrink"):
+        for value in ("-1", "", "٣", str(2**64), "nan", *(["0"] if option == "--blobcrash-seeds" else [])):
+            ran = Ran(text.replace("ARGUMENTS", ""), f"{option}={value}")
+            assert ran.status == 4 and ran.counted("passed") == 0, (option, value, ran.text)
+    ran = Ran("@pytest.mark.blobcrash(5)\ndef test_it(blobcrash):\n    pass\n")
+    assert ran.status not in (0, 1, 5) and "seeds=50" in ran.text, ran.text
+    for arguments in ("seeds=0", "seeds=-1", "seeds='5'", "seeds=True", "seeds=None", "seeds=1.5"):
+        ran = Ran(text.replace("ARGUMENTS", arguments))
+        assert ran.status not in (0, 1, 5) and ran.counted("passed") == 0, (arguments, ran.text)
+    ran = Ran(text.replace("ARGUMENTS", "seeds=1, frob=1"))
+    assert ran.status == 1 and "frob" in ran.text, ran.text
+
+
+def test_pictures():
+    """Two writes of one blob, of which the first overlaps synced bytes, and one of a blob whose name is empty; by hand."""
+    script = """words max 0 max 0 0 max
+open p 62
+open q -
+writes 0 0 6161616161616161616161616161616161616161
+config write 0 1 1 2 subset
+write 0 18 62626262
+write 1 0 78
+write 0 3 7a
+# a note
+scan frob
+crash
+reopen
+open p 62""".split("\n")
+    assert picture(script) == """opened 0 0 0
+opened 1 0 0
+ok
+ok
+ok
+ok
+ok
+error PartitionMissing frob
+crashed 0:0101 1:1 2:0
+# p 62: length 20 before, length 22 after
+#   write 0 18..22: 2 kept, 2 lost
+#   write 2 3..4: 0 kept, 1 lost
+#   at 0
+#     before   61 61 61 61 61 61 61 61 61 61 61 61 61 61 61 61
+#     write 2           --
+#     after    61 61 61 61 61 61 61 61 61 61 61 61 61 61 61 61
+#   at 16
+#     before   61 61 61 61
+#     write 0        -- 62 -- 62
+#     after    61 61 61 62 00 62
+# q -: length 0 before, length 1 after
+#   write 1 0..1: 1 kept, 0 lost
+#   at 0
+#     before
+#     write 1  78
+#     after    78
+ok
+opened 2 22 0""".split("\n")
+    long = picture(["config write 0 1 1 1 subset", "open p 62", "write 0 5 " + 5000 * "61", "crash"])
+    assert long[-1] == "#   and 297 more rows, up to 5008" and len(long) < 90, long[-2:]
+    assert picture([]) == [] and picture(["# only a note"]) == []
+
+
+if __name__ == "__main__":
+    sys.exit(run_tests(globals(), sys.argv[1:]))
