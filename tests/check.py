@@ -6,11 +6,13 @@ import random
 import re
 import subprocess
 import sys
+import time
 
 TESTS = os.path.dirname(os.path.abspath(__file__))
 sys.path.insert(0, os.path.join(os.path.dirname(TESTS), "bindings", "python"))
 
-from blobcrash import check, program
+from blobcrash import BadLine, check, program
+from blobcrash.grammar import tokens_of
 
 SEEDS = 300
 # Tokens of which some are right in each place.
@@ -63,8 +65,23 @@ def agrees(script):
     return ended(script) == ((f"line {faults[0].line}: bad call\n".encode(), 2) if faults else (b"", 0))
 
 
+def is_read_at_once():
+    """Whether long tokens, right and wrong ones, take time by their length alone. A second for each is many times what they take."""
+    longest = [("write 0 0", 32000), ("write 0 0", 32001), ("open p", 32001), ("admit p", 32001), ("remove p", 32001)]
+    for first, length in longest:
+        for last in ("", " ", " x"):
+            began = time.monotonic()
+            try:
+                is_call = tokens_of(f"{first} {'a' * length}{last}") != []
+            except BadLine:
+                is_call = False
+            if time.monotonic() - began > 1 or is_call != (length % 2 == 0 and last != " x"):
+                return False
+    return True
+
+
 def main():
-    failed = []
+    failed = [] if is_read_at_once() else ["a long token takes too long, or is read wrongly"]
     rows = list(reasons())
     for line, why in rows:
         faults = [fault.why.encode() for fault in check(line)]
@@ -81,7 +98,7 @@ def main():
             failed.append(f"seed {seed}: {script!r}: {check(script)} and {ended(script)}")
     for text in failed:
         print(f"check.py: {text}")
-    print(f"{len(rows) + 1 + SEEDS - len(failed)} passed, {len(failed)} failed")
+    print(f"{len(rows) + 2 + SEEDS - len(failed)} passed, {len(failed)} failed")
     return int(bool(failed))
 
 

@@ -118,10 +118,15 @@ explore
 expect_end 'no partial resize' '3 leaves, all of them; 3 outcomes'
 
 # Arguments and streams.
-for words in '--limit' '--limit x' '--limit +1' '--limit 1 --limit 1' '--last --last' '--all' 'explore' '--limit 18446744073709551616'; do
+for words in '--limit' '--limit x' '--limit +1' '--limit 1 --limit 1' '--last --last' '--all' 'explore' '--limit 18446744073709551616' \
+    'help help' '--last help' 'help --last'; do
     # shellcheck disable=SC2086
     explore $words
-    expect "arguments '$words'" 2 '' 'usage: blobcrash [resolve]'
+    expect "arguments '$words'" 2 '' 'usage: blobcrash explore [--limit N] [--last]'
+    # shellcheck disable=SC2086
+    "${program}_explore" $words <"$work/script" >"$work/out" 2>"$work/err"
+    status=$?
+    expect "arguments '$words' of its program" 2 '' 'usage: blobcrash explore [--limit N] [--last]'
 done
 torn subset
 "$top/blobcrash" explore <"$work/script" >/dev/full 2>"$work/err"

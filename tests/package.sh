@@ -117,6 +117,7 @@ if [ -n "$python" ]; then
     rm -rf "$work/far/pages"
     run_pytest --blobcrash-report pages test_log_pytest.py && [ ! -e "$work/far/pages" ]
     tell $? 'pytest: no page without a failure'
+    add "$python" "$top/tests/plugin.py"
     mkdir "$work/no_page"
     echo 'raise ImportError("as if it were missing")' >"$work/no_page/blobcrash_page.py"
     PYTHONPATH=$work/no_page:$PYTHONPATH run_pytest --blobcrash-report pages test_log_pytest.py

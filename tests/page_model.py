@@ -2,7 +2,7 @@
 """The states that a page shows, against the replies of the program: `page_model.py PROGRAM [COUNT]`.
 
 Each worked script, and COUNT random ones: each read has the bytes that the handle has in the model, each open the size, and after
-each crash the durable bytes are those that `explain` shows. The last line is `N passed, M failed`.
+each crash the durable bytes are those that `explain` shows. Each can be drawn as a picture. The last line is `N passed, M failed`.
 """
 
 import glob
@@ -18,6 +18,7 @@ sys.path.insert(0, os.path.join(TOP, "tests"))
 from random_scripts import random_script
 
 from blobcrash_page.model import Model
+from blobcrash_page.picture import picture
 from blobcrash_page.script import Script
 from blobcrash_page.state import State
 
@@ -52,9 +53,15 @@ def shown_after(step):
 
 def problems_of(program, text):
     """How the model of a script differs from its replies."""
-    script = Script(text, explained(program, text))
+    told = explained(program, text)
+    script = Script(text, told)
     model = Model(script)
     problems = list(model.problems)
+    try:
+        picture(text, told)
+    except ValueError as error:
+        if "a picture shows blobs of up to 4096 bytes" not in str(error):
+            problems.append(f"its picture: {error}")
     state = State()
     for lane in range(len(model.lanes)):
         state._begin(lane, "")

@@ -1,7 +1,7 @@
 #!/bin/sh
 # Pictures of crashes: `./blobcrash explain` prints tests/pictures/NAME.out for each NAME.script, to the byte. For each worked
 # script of tests/scripts it prints what the plain run prints, with the same status, and lines that begin with `# `, none of them
-# wider than 80. The last line is `N passed, M failed`.
+# wider than 80. pictures.py compares random scripts' pictures with the replies. The last line is `N passed, M failed`.
 top=$(CDPATH='' cd -- "$(dirname -- "$0")/.." && pwd -P)
 # shellcheck source=tests/counting.sh
 . "$top/tests/counting.sh"
@@ -36,6 +36,13 @@ for worked in "$top"/tests/scripts/*.script; do
         ! grep -q '^# .\{79,\}' "$work/out"
     tell $? "${worked##*/}: status $status, wanted $wanted"
 done
+
+if has_python; then
+    python3 "$top/tests/pictures.py" "$program" "${program}_explain" 300 >"$work/shown" 2>&1
+    tell $? 'pictures of random scripts'
+else
+    skip 'pictures of random scripts: no python3'
+fi
 
 "$top/blobcrash" explain <"$top/examples/FIRST.script" >/dev/full 2>"$work/shown"
 [ $? -eq 1 ] && [ "$(cat "$work/shown")" = 'output failed' ]

@@ -120,7 +120,8 @@ crash
 reopen
 open p 62
 SCRIPT
-judged 'content that this script has not written' 'status 0' <<'SCRIPT'
+judged 'content that this script has not written' 'judge: no acknowledgement counts: the script has not written or read those bytes there before
+status 0' <<'SCRIPT'
 open p 62
 # acknowledged p 62 0 6162
 crash
@@ -141,6 +142,49 @@ open p 62
 write 0 0 6162
 # acknowledged p 62 0 6162
 # released p 62
+crash
+reopen
+SCRIPT
+judged 'a slot that is used again' 'status 0' <<'SCRIPT'
+open p 62
+writes 0 0 61616161
+# acknowledged p 62 0 61616161
+# released p 62 1 2
+write 0 1 6262
+crash
+reopen
+SCRIPT
+judged 'what is before and after a released slot' 'line 7: acknowledged p 62 3 61, found 63
+status 1' <<'SCRIPT'
+open p 62
+writes 0 0 61616161
+# acknowledged p 62 0 61616161
+# released p 62 1 2
+writes 0 1 626263
+crash
+reopen
+SCRIPT
+judged 'a release of other bytes' 'line 7: acknowledged p 62 0 6161, found 6261
+status 1' <<'SCRIPT'
+open p 62
+writes 0 0 6161
+# acknowledged p 62 0 6161
+# released p 62 2 8
+writes 0 0 62
+crash
+reopen
+SCRIPT
+judged 'a handle with leading zeros' 'line 5: acknowledged p 62 0 61, found -
+status 1' <<'SCRIPT'
+open p 62
+write 00 0 61
+# acknowledged p 62 0 61
+crash
+reopen
+SCRIPT
+judged 'a script without an acknowledgement' 'judge: the script acknowledges nothing: it has no comment `# acknowledged PARTITION NAME OFFSET HEX`
+status 0' <<'SCRIPT'
+open p 62
 crash
 reopen
 SCRIPT

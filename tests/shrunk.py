@@ -2,6 +2,7 @@
 The last line is `N passed, M failed`. With the name of a test only that one is run."""
 
 import os
+import pickle
 import sys
 import traceback
 
@@ -68,6 +69,14 @@ def test_forgotten_sync():
         noise(store, 1)
     short = shortened(store.script, 5)
     assert short == "open p 62\nwrite 0 40 6c\n# acknowledged p 62 40 6c\ncrash\nreopen\n", short
+
+
+def test_a_slot_that_is_used_again():
+    """An acknowledgement isn't left without what releases it. Three lines that are tried together have the loss and the release."""
+    script = ["open p 62", "open p 63", "writes 1 0 6f6c64", "# acknowledged p 63 0 6f6c64", "write 0 0 6c", "size 0", "size 0"]
+    script += ["# acknowledged p 62 0 6c", "# released p 63 0 3", "writes 1 0 6e6577", "crash", "reopen"]
+    short = shortened(script, 5)
+    assert short == "open p 62\nwrite 0 0 6c\n# acknowledged p 62 0 6c\ncrash\nreopen\n", short
 
 
 def test_ignored_error():
@@ -216,6 +225,34 @@ def test_body_by_explore():
     assert [line for line in short.script if line.startswith("# choose")] == ["# choose(4) is 1"], short
     assert short.path.split().count("off") == 1, short
     assert failure(explore, body, under=[short.path], power_losses=1).script == short.script
+
+
+def test_a_search_that_stops_at_a_limit_says_so():
+    settings = ["write 0 1 1 2 subset"]
+    failed = failure(seeds, records, 500, settings=settings, by=Library)
+    assert failed.stopped == "" and shrink(records, failed, settings=settings).stopped == ""
+    short = shrink(records, failed, settings=settings, runs=20)
+    assert short.run <= 21 and "limit of 20 runs" in short.stopped and short.stopped in str(short), short
+    copy = pickle.loads(pickle.dumps(short))
+    assert (copy.stopped, str(copy)) == (short.stopped, str(short))
+    short = shrink(records, failed, settings=settings, seconds=0)
+    assert "time was over" in short.stopped and short.stopped in str(short), short
+
+
+def test_a_smaller_run_that_would_never_end():
+    """With other choices a body may retry for ever, which is no smaller run."""
+
+    def body(store):
+        while store.choose(3) != 2:
+            pass
+        blob, _ = store.open("p", b"b")
+        blob.write(0, b"lost")
+        store.restart()
+        assert store.open("p", b"b")[1] == 4
+
+    failed = failure(seeds, body, 50, by=Library)
+    short = shrink(body, failed)
+    assert short.script.count("# choose(3) is 2") == 1 and "open p 62" in short.script and short.stopped == "", short
 
 
 def test_body_that_does_not_fail():

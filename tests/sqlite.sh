@@ -43,6 +43,12 @@ fi
 
 check 'the driver and the extension are built' run 0 sh bindings/sqlite/build.sh
 archive=${BLOBCRASH_ARCHIVE:-$top/out/libblobcrash.a}
+mkdir -p "$work/a clone/out" "$work/a clone/tools"
+cp -R bindings "$work/a clone"
+cp tools/building.sh "$work/a clone/tools"
+cp "$archive" "$work/a clone/out"
+check 'in a path with spaces too' run 0 env BLOBCRASH_ARCHIVE="$work/a clone/out/${archive##*/}" sh "$work/a clone/bindings/sqlite/build.sh"
+check 'and the driver runs there' run 0 "$work/a clone/out/sqlite/crash" 1 delete-full
 crash=$top/out/sqlite/crash
 seeds=${SEEDS:-50}
 

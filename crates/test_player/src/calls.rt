@@ -101,6 +101,7 @@ pub enum Own {
     RemovePartitionRetired,
     Admit,
     Crash,
+    Holes,
     Rewrap,
     Wrap,
     Unwrap,
@@ -134,7 +135,7 @@ pub enum Debt {
 type Row = (&'static str, &'static str, Ask);
 
 // A word, the letters of its arguments, and the call.
-static CALLS: [Row; 100] = [
+static CALLS: [Row; 101] = [
     ("resolve", "bvv", Ask::Value(Value::Resolve)),
     ("parse", "bllvv", Ask::Value(Value::Parse)),
     ("maybetorn", "bllvv", Ask::Value(Value::MaybeTorn)),
@@ -211,6 +212,7 @@ static CALLS: [Row; 100] = [
     ("removeretired", "pa", Ask::Own(Own::RemoveRetired)),
     ("admit", "pa", Ask::Own(Own::Admit)),
     ("crash", "", Ask::Own(Own::Crash)),
+    ("holes", "n", Ask::Own(Own::Holes)),
     ("rewrap", "", Ask::Own(Own::Rewrap)),
     ("wrap", "G", Ask::Own(Own::Wrap)),
     ("unwrap", "", Ask::Own(Own::Unwrap)),

@@ -95,6 +95,7 @@ pub fn call<S: Durable, B: Blob<S>>(
         Own::Sync => blob.sync(store).map(done),
         Own::StartSync => start(started, blob.start_sync(store)),
         Own::Reserve => blob.reserve(store, at).map(done),
+        Own::Origin => Ok(Found::Is(*blob.origin_ref() == blob.origin()?)),
         Own::Current => Ok(Found::Is(store.is_current(blob.origin_ref()))),
         Own::Live => live(store, blob, at),
         Own::All => all(store, blob),

@@ -9,8 +9,10 @@ use blob_base::{DEFAULT_BLOB_VERSION, Error, Storage};
 use blob_faulty::Config;
 use blob_lab_store::ScriptedRng;
 use blob_memory::Storage as Memory;
+use blob_pending::entry::Entry;
+use blob_pending::extent::Extent;
 use blob_script::Reply;
-use std::alloc::Global;
+use std::alloc::{AllocError, Global};
 use std::mem;
 
 /// The wrapper of a store.
@@ -91,6 +93,16 @@ impl<S: Storage + Drop> WrapperPlace<S> {
     }
 }
 
+// Prints each hole by its first and its last byte.
+fn print_holes(holes: &[Extent], line: &mut String) -> Result<(), AllocError> {
+    line.push_str("holes")?;
+    for hole in holes {
+        let (first, last) = (hole.start, hole.end.wrapping_sub(1));
+        write!(line, " {first}-{last}")?;
+    }
+    Ok(())
+}
+
 impl WrapperPlace<Memory> {
     /// Takes the wrapper and leaves an empty one.
     pub fn take(&mut self) -> Wrapper<Memory> {
@@ -151,6 +163,22 @@ impl WrapperPlace<Memory> {
         Ok(bytes(slice))
     }
 
+    // Returns the holes of a pending write, by its number.
+    fn holes(&self, number: u64) -> Result<Found, Error> {
+        let mut line = String::new(self.alloc);
+        for list in self.place.store.pending() {
+            for entry in &list.entries {
+                match entry {
+                    Entry::Write(write) if write.number == number => {
+                        print_holes(&write.holes, &mut line)?;
+                    }
+                    _ => {}
+                }
+            }
+        }
+        Ok(Found::Text(line))
+    }
+
     fn crash(&mut self) -> Result<Found, Error> {
         Ok(Found::Told(Reply::Crashed(self.place.store.crash()?)))
     }
@@ -163,6 +191,7 @@ impl WrapperPlace<Memory> {
             Own::OpenVersionedAdmitted => self.open_versioned_admitted(args),
             Own::ReadSlice => self.read_slice(args),
             Own::Crash => self.crash(),
+            Own::Holes => self.holes(args.numbers[0]),
             Own::Rewrap => self.rewrap(false),
             Own::Rebuild => self.rewrap(true),
             _ => self.place.call_wrapper(own, args),

@@ -138,6 +138,19 @@ impl Laboratory {
         Ok(Found::Told(Reply::Size(answer?.len() as u64)))
     }
 
+    // Adds words behind those that are left.
+    fn push_words(&mut self, words: &str) -> Result<Found, Error> {
+        let mut given = Vec::new(self.alloc);
+        for word in words.split(' ') {
+            given.push(tokens::number(word)?)?;
+        }
+        let lab = self.lab.as_mut().ok_or(Error::Closed)?;
+        window::begin(self.alloc);
+        let answer = lab.push_words(&given);
+        window::end(self.alloc);
+        answer.map(done)
+    }
+
     fn end_lab(&mut self) -> Result<Found, Error> {
         window::begin(self.alloc);
         if let Some(lab) = self.lab.take() {
@@ -169,6 +182,9 @@ impl Laboratory {
         }
         if let Some(lines) = line.strip_prefix("run ") {
             return self.run(lines);
+        }
+        if let Some(words) = line.strip_prefix("pushwords ") {
+            return self.push_words(words);
         }
         let words: Vec<&str> = line.split(' ').collect(self.alloc)?;
         match words.as_slice() {

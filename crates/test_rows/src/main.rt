@@ -3,11 +3,14 @@
 //!
 //!     test_rows FILE ..
 //!     test_rows try FILE NAME
+//!     test_rows script FILE
+//!     test_rows resolve FILE
 //!
 //! Prints a line for each row with another result, and for each file the number of rows. A file that ends in `.calls`
 //! has calls that are tried while a preloaded library makes allocations fail: `window` marks them, and without the
 //! library none fails. `try` tries one of these calls by its name. Exit statuses: 0 if every result is as expected, 1
-//! if one isn't or a file can't be read.
+//! if one isn't or a file can't be read. `script` and `resolve` print what `run_script` and `run_resolve` write for a file,
+//! with the ending on standard error, and end with its status.
 #![tactic(auto)]
 
 mod debts;
@@ -21,6 +24,7 @@ mod trial;
 mod world;
 
 use anyhow::{Context, Result, bail};
+use blob_lab::{Ending, run_resolve, run_script};
 use sections::Section;
 use std::alloc::Global;
 use std::process::ExitCode;
@@ -75,7 +79,39 @@ fn is_right<R: AllocGlobal + Files + Print>(rt: &R, file: &str) -> Result<bool> 
     Ok(play(rt, file, &text)? == 0)
 }
 
-fn run<R: AllocGlobal + Files + Print>(rt: &R, words: &[String]) -> Result<bool> {
+// Runs a whole file by `run_script` or `run_resolve`, and prints what it wrote. Returns the exit status.
+fn run_whole<R: AllocGlobal + Files + Print + Eprint>(
+    rt: &R,
+    resolves: bool,
+    file: &str,
+) -> Result<u8> {
+    let input = fs::read(rt, file).context(format_args!("{file}"))?;
+    let output = Vec::new(rt.alloc());
+    let (ending, _, printed) = if resolves {
+        run_resolve(rt.alloc(), input.as_slice(), output)
+    } else {
+        run_script(rt.alloc(), input.as_slice(), output)
+    };
+    let text = std::str::from_utf8(&printed)?;
+    print!(rt; "{text}")?;
+    if ending != Ending::Done {
+        eprintln!(rt; "{ending}")?;
+    }
+    Ok(ending.status())
+}
+
+fn run<R: AllocGlobal + Files + Print + Eprint>(rt: &R, words: &[String]) -> Result<u8> {
+    if let [word, file] = words {
+        match word.as_str() {
+            "script" => return run_whole(rt, false, file),
+            "resolve" => return run_whole(rt, true, file),
+            _ => {}
+        }
+    }
+    Ok(u8::from(!are_right(rt, words)?))
+}
+
+fn are_right<R: AllocGlobal + Files + Print>(rt: &R, words: &[String]) -> Result<bool> {
     if let [word, file, name] = words {
         if word.as_str() == "try" {
             let text = read(rt, file)?;
@@ -94,5 +130,5 @@ fn main(rt: HostRuntime) -> Result<ExitCode> {
     let mut args = env::args(&rt)?;
     let _program = args.next();
     let words: Vec<String> = args.collect(rt.alloc())?;
-    Ok(ExitCode::from(u8::from(!run(&rt, &words)?)))
+    Ok(ExitCode::from(run(&rt, &words)?))
 }

@@ -10,7 +10,7 @@ use blob_faulty::{
 };
 use blob_lab::ScriptedRng;
 use blob_memory::{Origin, Storage as Memory};
-use std::alloc::Global;
+use std::alloc::{AllocError, Global};
 
 type Faulty = Wrapper<Memory, ScriptedRng>;
 
@@ -86,6 +86,10 @@ pub fn set_config(store: &mut Faulty) {
     store.set_config(Config::default());
 }
 
+pub fn replace_rng(store: &mut Faulty, rng: ScriptedRng) -> ScriptedRng {
+    store.replace_rng(rng)
+}
+
 pub fn inner(store: &Faulty) -> &Memory {
     store.inner()
 }
@@ -152,6 +156,22 @@ pub fn finish(store: &mut Faulty, started: Handle) -> Result<(), Error> {
 
 pub fn is_current(store: &Faulty, origin: &Origin) -> bool {
     store.is_current(origin)
+}
+
+pub fn is_removed(store: &Faulty, origin: &Origin) -> bool {
+    store.is_removed(origin, "p", Some(b"b"))
+}
+
+pub fn number_of(origin: &Origin) -> u64 {
+    Faulty::number_of(origin)
+}
+
+pub fn current_number(store: &Faulty) -> Option<u64> {
+    store.current_number("p", b"b")
+}
+
+pub fn current_numbers(store: &Faulty) -> Result<Vec<u64>, AllocError> {
+    store.current_numbers("p")
 }
 
 pub fn read_at(store: &mut Faulty, blob: &Opened) -> Result<IoBufsMut, Error> {

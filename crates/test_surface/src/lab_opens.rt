@@ -122,3 +122,70 @@ fn an_exclusive_open(rt: HostRuntime) -> Result<(), Fail> {
     assert!(rt; held && !is_refused(&mut store, &mut opens));
     Ok(())
 }
+
+/// Opens a name over the plain store, unless that is refused.
+fn take(opens: &mut Opens, store: &mut Memory, partition: &str, name: &[u8]) -> Option<Held> {
+    let versions = DEFAULT_BLOB_VERSION..=DEFAULT_BLOB_VERSION;
+    match opens.open(store, partition, name, versions) {
+        Ok((blob, _, _)) => Some(blob),
+        Err(_) => None,
+    }
+}
+
+/// Whether the registry refuses an open of the name, since it is open.
+fn is_open(opens: &mut Opens, store: &mut Memory, partition: &str, name: &[u8]) -> bool {
+    let versions = DEFAULT_BLOB_VERSION..=DEFAULT_BLOB_VERSION;
+    match opens.open(store, partition, name, versions) {
+        Ok((blob, _, _)) => {
+            opens.close(blob);
+            false
+        }
+        Err(e) => matches!(&e, Error::BlobAlreadyOpen(_, _)),
+    }
+}
+
+/// Closes a handle, if there is one. Returns whether there is.
+fn close_held(opens: &mut Opens, held: Option<Held>) -> bool {
+    match held {
+        Some(blob) => {
+            opens.close(blob);
+            true
+        }
+        None => false,
+    }
+}
+
+#[test]
+fn a_refused_replacement_over_plain_memory(rt: HostRuntime) -> Result<(), Fail> {
+    let mut store = Memory::new(rt.alloc());
+    let mut opens = Opens::new(rt.alloc());
+    let held = [
+        take(&mut opens, &mut store, "a", b"x"),
+        take(&mut opens, &mut store, "a", b"y"),
+        take(&mut opens, &mut store, "b", b"x"),
+    ];
+    let refused: Result<u64, Error> = opens.replace("a", None, || Err(Error::Closed));
+    let mut stay = is_open(&mut opens, &mut store, "a", b"x");
+    stay &= is_open(&mut opens, &mut store, "a", b"y");
+    stay &= is_open(&mut opens, &mut store, "b", b"x");
+    let [first, second, third] = held;
+    stay &= close_held(&mut opens, first);
+    stay &= close_held(&mut opens, second);
+    stay &= close_held(&mut opens, third);
+    assert!(rt; stay && matches!(&refused, Err(Error::Closed)));
+    Ok(())
+}
+
+#[test]
+fn a_replacement_over_plain_memory(rt: HostRuntime) -> Result<(), Fail> {
+    let mut store = Memory::new(rt.alloc());
+    let mut opens = Opens::new(rt.alloc());
+    let old = take(&mut opens, &mut store, "a", b"x");
+    let replaced: Result<u64, Error> = opens.replace("a", Some(b"x"), || Ok(7));
+    let new = take(&mut opens, &mut store, "a", b"x");
+    let was_held = close_held(&mut opens, old);
+    let is_held = is_open(&mut opens, &mut store, "a", b"x");
+    let is_new = close_held(&mut opens, new);
+    assert!(rt; replaced.is_ok() && was_held && is_held && is_new);
+    Ok(())
+}

@@ -1,4 +1,4 @@
-//! Calls each public item of `blob_base`, `blob_memory`, `blob_faulty` and `blob_lab` by its public path. Most functions here make
+//! Calls the ported items of `blob_base`, `blob_memory`, `blob_faulty` and `blob_lab` by their public paths. Most functions here make
 //! one call: that it compiles and is proved is the test. What the calls do is tested by rows of `test_rows` and by worked scripts.
 #![tactic(auto)]
 

@@ -38,6 +38,22 @@ pub fn is_current(store: &Memory, origin: &Origin) -> bool {
     store.is_current(origin)
 }
 
+pub fn is_removed(store: &Memory, origin: &Origin) -> bool {
+    store.is_removed(origin, "p", Some(b"b"))
+}
+
+pub fn number_of(origin: &Origin) -> u64 {
+    Memory::number_of(origin)
+}
+
+pub fn current_number(store: &Memory) -> Option<u64> {
+    store.current_number("p", b"b")
+}
+
+pub fn current_numbers(store: &Memory) -> Result<Vec<u64>, AllocError> {
+    store.current_numbers("p")
+}
+
 pub fn raw_blob(store: &Memory) -> Result<Option<Vec<u8>>, Error> {
     store.raw_blob("p", b"b")
 }
