@@ -164,7 +164,7 @@ if has_python && [ -f "$top/out/libblobcrash.so" ]; then
         run_python "$top/tests/$test.py" library >"$work/out" 2>"$work/err"
         tell $? "Python: $test.py"
     done
-    run_python "$top/tests/numbers.py" >"$work/out" 2>"$work/err"
+    run_python "$top/tests/c_numbers.py" >"$work/out" 2>"$work/err"
     tell $? 'Python: the numbers of the header'
     need_program
     export BLOBCRASH="$program"

@@ -14,7 +14,7 @@ TOP = os.path.dirname(os.path.dirname(os.path.dirname(_HERE)))
 # The shared library of an installed package.
 INSIDE = os.path.join(_HERE, "libblobcrash.so")
 
-# How a call ended. tests/numbers.py compares each of these numbers with the C header.
+# How a call ended. tests/c_numbers.py compares each of these numbers with the C header.
 DONE, ENDLESS, BAD_LINE, NO_MEMORY, NO_ROOM, CLOSED, OTHER_REPLY, UNPRINTED = range(8)
 # The refusal of a blob that doesn't exist.
 BLOB_MISSING = 20

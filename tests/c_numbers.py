@@ -62,7 +62,7 @@ def main():
     checks.append(("the structs", own_layouts() == layouts()))
     for what, holds in checks:
         if not holds:
-            print(f"numbers.py: FAILED: {what}")
+            print(f"c_numbers.py: FAILED: {what}")
     failed = sum(not holds for _, holds in checks)
     print(f"{len(checks) - failed} passed, {failed} failed")
     return int(failed > 0)
