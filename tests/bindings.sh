@@ -139,6 +139,9 @@ if has cargo "$compiler"; then
     tell $? 'Rust: cargo check without features'
     run_cargo build --release --examples >"$work/out" 2>"$work/err"
     tell $? 'Rust: cargo build --examples'
+    # Of six bytes each is kept or lost, and only all six are the record.
+    [ "$("$top/out/rust/release/examples/first" 2>&1)" = '63 of 64 outcomes lose a part of it' ]
+    tell $? 'Rust: the first example'
     answers 'Rust, line by line' "$top/out/rust/release/examples/lines"
     answers 'Rust, at once' "$top/out/rust/release/examples/lines" --whole
     if cargo clippy --version >/dev/null 2>&1; then
