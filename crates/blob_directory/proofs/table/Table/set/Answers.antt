@@ -1,7 +1,7 @@
 use Rattle.std.proofs.Common.{Some, refl, rules}
-use Rattle.blob_fs.specs.Tables.{cell}
-use Rattle.blob_fs.proofs.Maps.{found_after, set_flat, still_some}
-use Rattle.blob_fs.proofs.table.Table.set.Goals as goal
+use Rattle.blob_directory.specs.Tables.{cell}
+use Rattle.blob_directory.proofs.Maps.{found_after, set_flat, still_some}
+use Rattle.blob_directory.proofs.table.Table.set.Goals as goal
 
 pub returns-clause-set : goal.returns-clause-set
 returns-clause-set c = λ h e. set_flat (cell c.args.self.now) (cell (record { alloc = c.args.self.now.alloc; entries = c.get_mut.follows.lender c.args.to })) c.args.entry.now (Some c.args.to)

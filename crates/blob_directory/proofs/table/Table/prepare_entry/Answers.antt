@@ -1,7 +1,7 @@
 use Rattle.std.proofs.Common.{◌≡◌, ◌∙◌, Some, None, false, ap, refl, is_some, rules}
-use Rattle.blob_fs.specs.Tables.{bound, cell}
-use Rattle.blob_fs.proofs.Maps.{found_after, same_flat, still_some, flat_of_none}
-use Rattle.blob_fs.proofs.table.Table.prepare_entry.Goals as goal
+use Rattle.blob_directory.specs.Tables.{bound, cell}
+use Rattle.blob_directory.proofs.Maps.{found_after, same_flat, still_some, flat_of_none}
+use Rattle.blob_directory.proofs.table.Table.prepare_entry.Goals as goal
 
 pub returns-clause-same : goal.returns-clause-same
 returns-clause-same c =

@@ -1,29 +1,31 @@
 //! The names that a crash leaves, from the sectors of a journal.
 ghost use Rattle.std.specs.Prelude.{None, IfOk};
-ghost use Rattle.blob_fs.specs.Names.{Same};
-ghost use Rattle.blob_fs.specs.Tables.{bound};
+ghost use Rattle.blob_directory.specs.Names.{Same};
+ghost use Rattle.blob_directory.specs.Tables.{bound};
 
 use crate::edit::{Binding, Edit, Kind, entry_of};
-use crate::file_system::ROOT;
 use crate::profile::Keeps;
 use crate::sector::{SECTOR, decode};
 use crate::table::Table;
 use std::alloc::{AllocError, Global};
 use std::collections::BTreeMap;
 
+/// The number of the root directory.
+pub const ROOT: u64 = 1;
+
 /// The names that the root reaches.
 #[derive(Drop)]
-pub(crate) struct Tree {
-    pub(crate) names: Table,
+pub struct Tree {
+    pub names: Table,
     /// Each directory with the one that has it. The root is its own.
-    pub(crate) directories: BTreeMap<u64, u64>,
+    pub directories: BTreeMap<u64, u64>,
     /// How many names each file has.
-    pub(crate) links: BTreeMap<u64, u32>,
+    pub links: BTreeMap<u64, u32>,
 }
 
 impl Tree {
     /// Returns the tree of a root without names. Fails only if memory runs out.
-    pub(crate) fn new(alloc: Global) -> Result<Tree, AllocError>
+    pub fn new(alloc: Global) -> Result<Tree, AllocError>
         ensures { IfOk result (λ tree. Same (bound tree.names) (λ _. None)) }
     {
         let mut directories = BTreeMap::new(alloc);
@@ -65,7 +67,7 @@ impl Tree {
 /// Applies the edits of a journal that a crash kept, in order. Where only those up to some point are kept, an unsettled
 /// edit behind a lost one isn't. Returns the names, and of each sector whether its edit was kept. Fails only if memory
 /// runs out.
-pub(crate) fn kept_names(
+pub fn kept_names(
     alloc: Global,
     bytes: &[u8],
     keeps: Keeps,
@@ -89,7 +91,7 @@ pub(crate) fn kept_names(
 }
 
 /// Returns the part of the names that the root reaches. Fails only if memory runs out.
-pub(crate) fn reached(alloc: Global, names: &Table, most: u64) -> Result<Tree, AllocError> {
+pub fn reached(alloc: Global, names: &Table, most: u64) -> Result<Tree, AllocError> {
     let mut tree = Tree::new(alloc)?;
     let mut next = Vec::new(alloc);
     next.push(ROOT)?;

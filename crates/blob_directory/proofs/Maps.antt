@@ -10,7 +10,7 @@ use Rattle.std.specs.Map.{lookup, IsKeyTest, AreApart, KeepsOthers}
 use Rattle.std.specs.Str.{bytes_eq}
 use Rattle.std.proofs.lemmas.Bool.{cases_Bool, cond-true, cond-false}
 use Rattle.std.proofs.lemmas.Map.Text.{is_eq-slice_cmp}
-use Rattle.blob_fs.specs.Tables.{flat}
+use Rattle.blob_directory.specs.Tables.{flat}
 
 apart : (bs cs ks : List ℕ) → bytes_eq bs cs ≡ false → is_eq (slice_cmp nat_cmp bs ks) ≡ true → is_eq (slice_cmp nat_cmp cs ks) ≡ false
 apart bs cs ks n y =

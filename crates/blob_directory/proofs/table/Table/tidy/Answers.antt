@@ -1,7 +1,7 @@
 use Rattle.std.proofs.Common.{◌≡◌, None, refl, rules}
-use Rattle.blob_fs.specs.Tables.{bound, cell}
-use Rattle.blob_fs.proofs.Maps.{found_after, same_flat}
-use Rattle.blob_fs.proofs.table.Table.tidy.Goals as goal
+use Rattle.blob_directory.specs.Tables.{bound, cell}
+use Rattle.blob_directory.proofs.Maps.{found_after, same_flat}
+use Rattle.blob_directory.proofs.table.Table.tidy.Goals as goal
 
 pub returns-then-is_none : goal.returns-then-is_none
 returns-then-is_none c =

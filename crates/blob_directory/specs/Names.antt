@@ -2,10 +2,10 @@
 use Rattle.std.specs.Prelude.{◌≡◌, ℕ, List, [], ◌∷◌, ◌++◌, Option, Some, None, if◌then◌else◌}
 use Rattle.std.specs.Int.{w64, to_be_bytes}
 use Rattle.std.specs.Str.{bytes_eq}
-use Rattle.blob_fs.specs.declared.edit.Binding.{Binding}
-use Rattle.blob_fs.specs.declared.edit.Change as rust_change
-use Rattle.blob_fs.specs.declared.edit.Edit as rust_edit
-use Rattle.blob_fs.specs.declared.edit.Kind.TheVariants.{File, Directory}
+use Rattle.blob_directory.specs.declared.edit.Binding.{Binding}
+use Rattle.blob_directory.specs.declared.edit.Change as rust_change
+use Rattle.blob_directory.specs.declared.edit.Edit as rust_edit
+use Rattle.blob_directory.specs.declared.edit.Kind.TheVariants.{File, Directory}
 
 -- a name in a directory, as one list of bytes: the directory's number in eight bytes, the high one first, and the name
 abbrev pub entry : ℕ → List ℕ → List ℕ

@@ -1,10 +1,10 @@
 -- An edit as one sector of 1,024 bytes.
 use Rattle.std.specs.Prelude.{ℕ, ◌-◌, Bool, List, [], ◌∷◌, ◌++◌, length, take, Option, Some, None, if◌then◌else◌, replicate}
 use Rattle.std.specs.Int.{w64, to_be_bytes}
-use Rattle.blob_fs.specs.declared.edit.Binding.{Binding}
-use Rattle.blob_fs.specs.declared.edit.Kind.{Kind}
-use Rattle.blob_fs.specs.declared.edit.Kind.TheVariants.{File, Directory}
-use Rattle.blob_fs.specs.Names.{Change, Edit}
+use Rattle.blob_directory.specs.declared.edit.Binding.{Binding}
+use Rattle.blob_directory.specs.declared.edit.Kind.{Kind}
+use Rattle.blob_directory.specs.declared.edit.Kind.TheVariants.{File, Directory}
+use Rattle.blob_directory.specs.Names.{Change, Edit}
 
 abbrev pub kind_number : Kind → ℕ
 kind_number File = 1

@@ -1,8 +1,8 @@
 -- Which edits a crash keeps, and which bytes of a file.
 use Rattle.std.specs.Prelude.{ℕ, suc, Bool, true, false, List, [], ◌∷◌, Option, Some, None, if◌then◌else◌, nat_eq}
-use Rattle.blob_fs.specs.declared.profile.Keeps.{Keeps}
-use Rattle.blob_fs.specs.declared.profile.Keeps.TheVariants.{Any, Prefix}
-use Rattle.blob_fs.specs.Names.{Edit}
+use Rattle.blob_directory.specs.declared.profile.Keeps.{Keeps}
+use Rattle.blob_directory.specs.declared.profile.Keeps.TheVariants.{Any, Prefix}
+use Rattle.blob_directory.specs.Names.{Edit}
 
 -- an edit as it was found in its sector, and whether it was settled; none if the sector was lost
 abbrev pub Found : Type 0

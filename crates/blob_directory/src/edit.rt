@@ -1,6 +1,6 @@
 //! Edits of names.
 ghost use Rattle.std.specs.Prelude.{◌≡◌, [], ◌∷◌, IfOk};
-ghost use Rattle.blob_fs.specs.Names.{change_of, edit_of, entry};
+ghost use Rattle.blob_directory.specs.Names.{change_of, edit_of, entry};
 
 use std::alloc::{AllocError, Global};
 

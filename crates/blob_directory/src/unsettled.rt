@@ -5,24 +5,24 @@ use std::alloc::{AllocError, Global};
 
 /// An edit that nothing settled.
 #[derive(Drop)]
-pub(crate) struct Unsettled {
-    pub(crate) edit: Edit,
+pub struct Unsettled {
+    pub edit: Edit,
     /// Its sector in the journal.
-    pub(crate) sector: u64,
+    pub sector: u64,
     /// Its number, counted from the start of the file system.
-    pub(crate) number: u64,
-    pub(crate) about: About,
+    pub number: u64,
+    pub about: About,
     /// A sync settles it.
-    pub(crate) is_wanted: bool,
+    pub is_wanted: bool,
 }
 
 /// What an edit is about: one inode or two, and the directories of its names.
 #[derive(Clone, Copy)]
-pub(crate) struct About {
-    pub(crate) inode: u64,
-    pub(crate) other: Option<u64>,
-    pub(crate) directory: u64,
-    pub(crate) other_directory: Option<u64>,
+pub struct About {
+    pub inode: u64,
+    pub other: Option<u64>,
+    pub directory: u64,
+    pub other_directory: Option<u64>,
 }
 
 impl About {
@@ -37,7 +37,7 @@ impl About {
 
 /// What is synced.
 #[derive(Clone, Copy)]
-pub(crate) enum Synced {
+pub enum Synced {
     /// A file, with the number of the next edit when its size last grew, and whether it changed since its last sync.
     File {
         inode: u64,
@@ -108,7 +108,7 @@ fn want_names(alloc: Global, edits: &mut [Unsettled], inode: u64) -> Result<(), 
 }
 
 /// Marks the edits that a sync settles, and no other. Fails only if memory runs out.
-pub(crate) fn want(
+pub fn want(
     alloc: Global,
     edits: &mut [Unsettled],
     settles: Settles,

@@ -1,7 +1,7 @@
 //! The names of all directories, as a table of entries.
 ghost use Rattle.std.specs.Prelude.{◌≡◌, None, OnOk, IsTrue};
-ghost use Rattle.blob_fs.specs.Names.{Same, changed, edit_of, edited};
-ghost use Rattle.blob_fs.specs.Tables.{HasRoom, HasRoomFor, KeepsRoom, bound};
+ghost use Rattle.blob_directory.specs.Names.{Same, changed, edit_of, edited};
+ghost use Rattle.blob_directory.specs.Tables.{HasRoom, HasRoomFor, KeepsRoom, bound};
 
 use crate::edit::{Binding, Edit};
 use std::alloc::{AllocError, Global};
@@ -71,7 +71,7 @@ impl Table {
     }
 
     /// Makes room for an edit, and changes no binding. Fails only if memory runs out.
-    pub(crate) fn prepare(&mut self, edit: &Edit) -> Result<(), AllocError>
+    pub fn prepare(&mut self, edit: &Edit) -> Result<(), AllocError>
         ensures same { Same (bound self.old) (bound self.new) }
         ensures room { OnOk result (HasRoomFor self.new (edit_of edit.now)) }
     {
@@ -83,7 +83,7 @@ impl Table {
     }
 
     /// Applies an edit for which room was made.
-    pub(crate) fn apply(&mut self, edit: &Edit)
+    pub fn apply(&mut self, edit: &Edit)
         ensures { HasRoomFor self.old (edit_of edit.now) → Same (bound self.new) (edited (bound self.old) (edit_of edit.now)) }
     {
         self.set(&edit.first.entry, edit.first.to);

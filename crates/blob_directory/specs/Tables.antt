@@ -3,9 +3,9 @@ use Rattle.std.specs.Prelude.{◌≡◌, ℕ, true, List, [], ◌∷◌, Option,
 use Rattle.std.specs.BTreeMap.{get_by}
 use Rattle.std.specs.Cmp.Lexicographic.{slice_cmp}
 use Rattle.std.specs.Ordering.{nat_cmp}
-use Rattle.blob_fs.specs.declared.edit.Binding.{Binding}
-use Rattle.blob_fs.specs.declared.table.Table.{Table}
-use Rattle.blob_fs.specs.Names.{Edit, Names}
+use Rattle.blob_directory.specs.declared.edit.Binding.{Binding}
+use Rattle.blob_directory.specs.declared.table.Table.{Table}
+use Rattle.blob_directory.specs.Names.{Edit, Names}
 
 abbrev pub flat : {T : Type 0} → Option (Option T) → Option T
 flat None = None
