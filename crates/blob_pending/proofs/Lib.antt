@@ -10,6 +10,7 @@ pub mod HoleRoom
 pub mod Left
 pub mod ListSteps
 pub mod Marking
+pub mod Numbering
 pub mod Queued
 pub mod Removing
 pub mod Taking

@@ -73,10 +73,10 @@ pub record IsTaken {O : Type 0} (is js : List (Incarnation O)) (i : ℕ) : Type 
   pub same : (k : ℕ) (d : Incarnation O) → k ≢ i → k + 1 < length is → get_or js k d ≡ get_or is k d
 
 -- as the code tells it
-pub taken_by : {O : Type 0} (place : O → Place) (is js : List (Incarnation O)) (i n : ℕ) (o : Place) → n ≡ length is → IsAt (lists_of place is) i o → length js + 1 ≡ n →
+pub taken_of : {O : Type 0} (is js : List (Incarnation O)) (i n : ℕ) → n ≡ length is → i < length is → length js + 1 ≡ n →
     ((d : Incarnation O) → i + 1 < n → get_or js i d ≡ get_or is (n - 1) d) × ((k : ℕ) (d : Incarnation O) → k ≢ i → k + 1 < n → get_or js k d ≡ get_or is k d) → IsTaken is js i
-taken_by {O} place is js i n o count at len by = record {
-  inside = omega (arith, at.inside, held_len place is);
+taken_of {O} is js i n count inside len by = record {
+  inside = inside;
   len = omega (arith, len, count);
   moved = λ d h. by.0 d (omega (arith, count, h)) ∙ ap (λ (m : ℕ). get_or is (m - 1) d) count;
   same = λ k d ne h. by.1 k d ne (omega (arith, count, h));
@@ -147,4 +147,4 @@ taken_list {O} place is js i e o a one distinct at taken = ⊎_elim
 
 pub takes : {O : Type 0} (place : O → Place) (is js : List (Incarnation O)) (i n : ℕ) (e : Incarnation O) → ((x y : O) → place x ≡ place y → x ≡ y) → AreDistinct is → n ≡ length is → length js + 1 ≡ n →
     ((d : Incarnation O) → i + 1 < n → get_or js i d ≡ get_or is (n - 1) d) × ((k : ℕ) (d : Incarnation O) → k ≢ i → k + 1 < n → get_or js k d ≡ get_or is k d) → TakesList place is js i
-takes place is js i n e one distinct count len by o at a = taken_list place is js i e o a one distinct at (taken_by place is js i n o count at len by)
+takes place is js i n e one distinct count len by o at a = taken_list place is js i e o a one distinct at (taken_of is js i n count (omega (arith, at.inside, held_len place is)) len by)
