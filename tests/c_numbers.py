@@ -58,7 +58,7 @@ def own_layouts():
 
 def main():
     checks = [(f"{name} is {value}", numbers_of("blobcrash.h").get(name) == value) for name, value in named().items()]
-    checks.append(("nine numbers are compared", len(checks) == 9))
+    checks.append(("eight numbers are compared", len(checks) == 8))
     checks.append(("the structs", own_layouts() == layouts()))
     for what, holds in checks:
         if not holds:

@@ -79,9 +79,11 @@ def shrink(
     true. It has to raise an error of the same type. `runs` and `seconds` limit the search; if it stopped at one of them, `stopped` of the
     result says so.
 
-    Raises `ValueError` if the run of `failed` doesn't fail again.
+    Raises `ValueError` if the run of `failed` doesn't fail again, and for `by=Program`, before any run.
     """
     check_body(body)
+    if not hasattr(by, "words_left"):
+        raise ValueError("`shrink` counts the draws of its runs, which only `by=Library` can")
     settings, images = tuple(settings), tuple(images)
     path = failed if isinstance(failed, str) else failed.path
 
