@@ -1,0 +1,16 @@
+/* The loop of the daemon: one call at a time, so that their order is that of the layer's. */
+#ifndef MOUNT_SERVE_H
+#define MOUNT_SERVE_H
+
+#include "layer.h"
+
+struct fuse_session;
+
+/* Serves calls and lines of the control socket until the end. Returns 0 or a number of errno. */
+int serve(struct fuse_session *session);
+/* Ends the loop. */
+void serve_end(void);
+/* Ends the calls that wait with EIO, and crashes. */
+int serve_crash(struct layer_crash *crash);
+
+#endif
