@@ -62,7 +62,7 @@ void call_open(fuse_req_t req, fuse_ino_t id, struct fuse_file_info *info) {
     call_opened(node, info);
     if (fuse_reply_open(req, info)) {
         node->opens--;
-        node_drop(node);
+        node_rest(node);
     }
 }
 
@@ -71,7 +71,7 @@ void call_release(fuse_req_t req, fuse_ino_t id, struct fuse_file_info *info) {
     if (node) {
         if (node->is_truncated && !power.is_ending) node_close(node);
         node->opens--;
-        node_drop(node);
+        node_rest(node);
     }
     fuse_reply_err(req, 0);
 }

@@ -22,7 +22,7 @@ void call_lookup(fuse_req_t req, fuse_ino_t parent, const char *name) {
         return;
     }
     if (!node->name) node_name(node, directory->inode, name);
-    call_reply_entry(req, directory, node);
+    call_reply_entry(req, node);
 }
 
 /* Makes a file, a directory, a symbolic link or another kind of node. Returns it, or NULL after a reply. */
@@ -57,31 +57,28 @@ void call_mknod(fuse_req_t req, fuse_ino_t parent, const char *name, mode_t mode
     struct node *node = directory ? make(req, directory, name, mode, NULL) : NULL;
     if (!node) return;
     node->device = device;
-    call_reply_entry(req, directory, node);
+    call_reply_entry(req, node);
 }
 
 void call_mkdir(fuse_req_t req, fuse_ino_t parent, const char *name, mode_t mode) {
     struct node *directory = call_begin(req, parent, CALL_CHANGES_NAMES);
     struct node *node = directory ? make(req, directory, name, S_IFDIR | (mode & 07777), NULL) : NULL;
-    if (node) call_reply_entry(req, directory, node);
+    if (node) call_reply_entry(req, node);
 }
 
 void call_symlink(fuse_req_t req, const char *target, fuse_ino_t parent, const char *name) {
     struct node *directory = call_begin(req, parent, CALL_CHANGES_NAMES);
     struct node *node = directory ? make(req, directory, name, S_IFLNK | 0777, target) : NULL;
-    if (node) call_reply_entry(req, directory, node);
+    if (node) call_reply_entry(req, node);
 }
 
 void call_create(fuse_req_t req, fuse_ino_t parent, const char *name, mode_t mode, struct fuse_file_info *info) {
     struct node *directory = call_begin(req, parent, CALL_CHANGES_NAMES);
     struct node *node = directory ? make(req, directory, name, S_IFREG | (mode & 07777), NULL) : NULL;
     if (!node) return;
-    struct fuse_entry_param entry = call_entry(directory, node);
+    struct fuse_entry_param entry = call_entry(node);
     call_opened(node, info);
-    if (fuse_reply_create(req, &entry, info)) {
-        node->opens--;
-        call_forget(node, 1);
-    }
+    if (fuse_reply_create(req, &entry, info)) node->opens--;
 }
 
 void call_link(fuse_req_t req, fuse_ino_t id, fuse_ino_t parent, const char *name) {
@@ -97,7 +94,7 @@ void call_link(fuse_req_t req, fuse_ino_t id, fuse_ino_t parent, const char *nam
     node_name(node, directory->inode, name);
     node_changed(node);
     node_written(directory);
-    call_reply_entry(req, directory, node);
+    call_reply_entry(req, node);
 }
 
 /* Returns the node of a name, or NULL without one. */
@@ -114,7 +111,7 @@ static void lose_name(struct node *directory, struct node *node) {
     }
     node->links = is_directory(node) ? 0 : node->links - 1;
     node_changed(node);
-    node_drop(node);
+    node_rest(node);
 }
 
 void call_unlink(fuse_req_t req, fuse_ino_t parent, const char *name) {

@@ -9,8 +9,8 @@
 
 /*
  * The kernel's number of a node has the life in its upper bits, so numbers of an older life are refused. The root is 1 in each life.
- * The kernel may keep what it is told, since all changes come through it. A crash is the exception: names in the root are asked for
- * each time, and lead to the nodes of the new life.
+ * The kernel may keep what it is told, since all changes come through it. After a crash it is told to forget the names in the root:
+ * then each path leads to nodes of the new life.
  */
 enum { LIFE_SHIFT = 40 };
 #define FOREVER 86400.0
@@ -66,29 +66,19 @@ static struct stat attributes_of(const struct node *node) {
     return found;
 }
 
-static double time_of(const struct node *node) { return node->inode == ROOT ? 0 : FOREVER; }
-
-struct fuse_entry_param call_entry(const struct node *directory, struct node *node) {
-    node->lookups++;
-    return (struct fuse_entry_param){.ino = id_of(node),
-                                     .attr = attributes_of(node),
-                                     .attr_timeout = time_of(node),
-                                     .entry_timeout = time_of(directory)};
+struct fuse_entry_param call_entry(const struct node *node) {
+    return (struct fuse_entry_param){
+        .ino = id_of(node), .attr = attributes_of(node), .attr_timeout = FOREVER, .entry_timeout = FOREVER};
 }
 
-void call_forget(struct node *node, uint64_t times) {
-    node->lookups -= times > node->lookups ? node->lookups : times;
-    node_drop(node);
-}
-
-void call_reply_entry(fuse_req_t req, const struct node *directory, struct node *node) {
-    struct fuse_entry_param entry = call_entry(directory, node);
-    if (fuse_reply_entry(req, &entry)) call_forget(node, 1);
+void call_reply_entry(fuse_req_t req, const struct node *node) {
+    struct fuse_entry_param entry = call_entry(node);
+    fuse_reply_entry(req, &entry);
 }
 
 void call_reply_attributes(fuse_req_t req, const struct node *node) {
     struct stat found = attributes_of(node);
-    fuse_reply_attr(req, &found, time_of(node));
+    fuse_reply_attr(req, &found, FOREVER);
 }
 
 /* The kernel may keep pages of files, for MAP_SHARED, but passes each write on at once. */
@@ -99,17 +89,9 @@ static void begin(void *data, struct fuse_conn_info *connection) {
     connection->want |= connection->capable & FUSE_CAP_EXPLICIT_INVAL_DATA;
 }
 
+/* The kernel doesn't know a node any more. It is kept all the same: a crash may bring a name back. */
 static void forget(fuse_req_t req, fuse_ino_t id, uint64_t times) {
-    struct node *node = call_node(id);
-    if (node) call_forget(node, times);
-    fuse_reply_none(req);
-}
-
-static void forget_many(fuse_req_t req, size_t count, struct fuse_forget_data *forgotten) {
-    for (size_t at = 0; at < count; at++) {
-        struct node *node = call_node(forgotten[at].ino);
-        if (node) call_forget(node, forgotten[at].nlookup);
-    }
+    (void)id, (void)times;
     fuse_reply_none(req);
 }
 
@@ -169,7 +151,6 @@ static void get_counts(fuse_req_t req, fuse_ino_t id) {
 const struct fuse_lowlevel_ops calls = {
     .init = begin,
     .forget = forget,
-    .forget_multi = forget_many,
     .getattr = get_attributes,
     .setattr = set_attributes,
     .readlink = read_link,

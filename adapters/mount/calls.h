@@ -21,14 +21,12 @@ struct node *call_begin(fuse_req_t req, fuse_ino_t id, enum call_kind kind);
 /* Returns the node of the kernel's number, or NULL if that is of an older life. */
 struct node *call_node(fuse_ino_t id);
 
-/* Replies with a node in a directory. */
-void call_reply_entry(fuse_req_t req, const struct node *directory, struct node *node);
+/* Replies with a node that a name leads to. */
+void call_reply_entry(fuse_req_t req, const struct node *node);
 /* Replies with attributes. */
 void call_reply_attributes(fuse_req_t req, const struct node *node);
-/* Fills an entry for the kernel, which has the node then. */
-struct fuse_entry_param call_entry(const struct node *directory, struct node *node);
-/* The kernel has forgotten the node some times. */
-void call_forget(struct node *node, uint64_t times);
+/* Returns an entry for the kernel. */
+struct fuse_entry_param call_entry(const struct node *node);
 
 /* Names: call_names.c. */
 void call_lookup(fuse_req_t req, fuse_ino_t parent, const char *name);

@@ -77,9 +77,9 @@ static int settle(void) {
     return error;
 }
 
-static int crash(char *reply, size_t room) {
+static int crash(char *reply, size_t room, pid_t *child) {
     struct layer_crash kept;
-    int error = serve_crash(&kept);
+    int error = serve_crash(&kept, child);
     if (error) return error;
     snprintf(reply, room,
              "ok life %" PRIu64 " writes %" PRIu64 " kept-bytes %" PRIu64 " lost-bytes %" PRIu64 " edits %" PRIu64 " kept-edits %" PRIu64,
@@ -101,27 +101,36 @@ static int crash_after(const char *text) {
 
 static bool begins(const char *line, const char *word) { return strncmp(line, word, strlen(word)) == 0; }
 
-/* Makes the command of a line, and writes the reply. */
-static void answer(const char *line, char *reply, size_t room) {
+/* Makes the command of a line, and writes the reply. Returns the process that is to send it: 0 for this one. */
+static pid_t answer(const char *line, char *reply, size_t room) {
     int error = 0;
+    pid_t child = 0;
     snprintf(reply, room, "ok");
     if (!strcmp(line, "status")) print_status(reply, room);
     else if (!strcmp(line, "settle")) error = settle();
     else if (!strcmp(line, "off")) power.is_off = true;
     else if (!strcmp(line, "on")) power_on();
-    else if (!strcmp(line, "crash")) error = crash(reply, room);
+    else if (!strcmp(line, "crash")) error = crash(reply, room, &child);
     else if (!strcmp(line, "umount")) serve_end();
     else if (begins(line, "crash-after ")) error = crash_after(line + strlen("crash-after "));
     else if (begins(line, "config ") || begins(line, "profile ") || begins(line, "keep ")) error = layer_set(line);
     else error = ENOSYS;
     if (error == ENOSYS) snprintf(reply, room, "error: no such command");
     else if (error) snprintf(reply, room, "error: %s", strerror(error));
+    return error ? 0 : child;
 }
 
-static void drop(struct client *client) {
+static void drop_client(struct client *client) {
     close(client->fd);
     client->fd = -1;
     client->len = 0;
+}
+
+/* Adds the end of the line to a reply, and sends it. Returns whether that was possible without waiting. */
+static bool send_reply(int fd, char *reply) {
+    size_t len = strlen(reply);
+    reply[len++] = '\n';
+    return send(fd, reply, len, MSG_NOSIGNAL | MSG_DONTWAIT) == (ssize_t)len;
 }
 
 /* Answers the lines that a client has sent whole. */
@@ -130,21 +139,21 @@ static void answer_lines(struct client *client) {
     while (client->fd >= 0 && (end = memchr(client->line, '\n', client->len))) {
         size_t used = (size_t)(end + 1 - client->line);
         *end = 0;
-        answer(client->line, reply, sizeof reply - 1);
-        size_t len = strlen(reply);
-        reply[len++] = '\n';
+        pid_t owner = getpid();
+        pid_t child = answer(client->line, reply, sizeof reply - 1);
+        if (child == 0 && !send_reply(client->fd, reply)) drop_client(client);
+        if (getpid() != owner) _exit(0);
         client->len -= used;
         memmove(client->line, client->line + used, client->len);
-        if (send(client->fd, reply, len, MSG_NOSIGNAL | MSG_DONTWAIT) != (ssize_t)len) drop(client);
     }
-    if (client->len == LINE_MOST) drop(client);
+    if (client->len == LINE_MOST) drop_client(client);
 }
 
 static void hear(struct client *client) {
     ssize_t got = recv(client->fd, client->line + client->len, LINE_MOST - client->len, MSG_DONTWAIT);
     if (got < 0 && (errno == EAGAIN || errno == EINTR)) return;
     if (got <= 0) {
-        drop(client);
+        drop_client(client);
         return;
     }
     client->len += (size_t)got;

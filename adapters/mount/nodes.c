@@ -85,10 +85,8 @@ static void node_remove(struct node *node) {
     node_free(node);
 }
 
-void node_drop(struct node *node) {
-    if (node->inode == ROOT || node->links > 0 || node->opens > 0 || node->lookups > 0) return;
-    node_close(node);
-    node_remove(node);
+void node_rest(struct node *node) {
+    if (node->links == 0 && node->opens == 0) node_close(node);
 }
 
 int nodes_begin(uid_t owner, gid_t group) {
@@ -178,7 +176,7 @@ static void reset(void) {
     for (size_t at = 0; at < table_size; at++) {
         for (struct node *node = table[at]; node; node = node->next) {
             node->links = is_directory(node) ? 2 : 0;
-            node->opens = node->lookups = node->size = node->unsynced = 0;
+            node->opens = node->size = node->unsynced = 0;
             node->is_open = node->is_truncated = node->is_reached = false;
         }
     }

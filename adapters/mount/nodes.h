@@ -1,6 +1,7 @@
 /*
  * What the daemon keeps of each inode: its kind, mode, owner, times and counts, and the target of a symbolic link. The layer has the
- * names and the bytes. A node is kept by the number of its inode, so it survives a crash if the inode does.
+ * names and the bytes. A node is kept by the number of its inode, so it survives a crash if the inode does. One without a name is
+ * kept until the next crash too, which may bring a name back.
  */
 #ifndef MOUNT_NODES_H
 #define MOUNT_NODES_H
@@ -22,7 +23,6 @@ struct node {
     char *target;
     uint64_t links;   /* names of a file; 2 and the directories in it of a directory */
     uint64_t opens;   /* by programs */
-    uint64_t lookups; /* how often the kernel got it, and didn't forget it */
     uint64_t size;
     uint64_t unsynced; /* bytes written since the last sync */
     uint64_t descriptor;
@@ -64,8 +64,8 @@ struct node *nodes_find(uint64_t inode);
 struct node *node_new(mode_t mode, uid_t owner, gid_t group);
 void node_add(struct node *node, uint64_t inode);
 void node_free(struct node *node);
-/* Removes a node that nothing needs any more: no name, no open, no lookup. */
-void node_drop(struct node *node);
+/* Closes a file that has no name and isn't open in a program. */
+void node_rest(struct node *node);
 
 /* Remembers a name of the node. */
 void node_name(struct node *node, uint64_t directory, const char *name);

@@ -7,6 +7,10 @@
 #include <errno.h>
 #include <fcntl.h>
 #include <poll.h>
+#include <signal.h>
+#include <stdlib.h>
+#include <string.h>
+#include <unistd.h>
 
 /* The most calls that a crash ends. A program that goes on after a power loss may make calls without end. */
 enum { ENDED_MOST = 1 << 16 };
@@ -19,11 +23,34 @@ static void take_call(void) {
     if (fuse_session_receive_buf(session, &buffer) > 0) fuse_session_process_buf(session, &buffer);
 }
 
-int serve_crash(struct layer_crash *crash) {
+/* Ends the calls that wait. */
+static void end_calls(void) {
     struct pollfd wait = {.fd = fuse_session_fd(session), .events = POLLIN};
     power.is_off = power.is_ending = true;
     for (int ended = 0; ended < ENDED_MOST && !fuse_session_exited(session) && poll(&wait, 1, 0) > 0; ended++) take_call();
-    return power_crash(crash);
+}
+
+/* Lets the kernel forget names in the root, and what it knows of the root. */
+static void forget_names(const struct layer_name *names, size_t count) {
+    for (size_t at = 0; at < count; at++)
+        fuse_lowlevel_notify_inval_entry(session, FUSE_ROOT_ID, names[at].name, strlen(names[at].name));
+    fuse_lowlevel_notify_inval_inode(session, FUSE_ROOT_ID, -1, 0);
+}
+
+int serve_crash(struct layer_crash *crash, pid_t *child) {
+    struct layer_name *names;
+    size_t count;
+    end_calls();
+    int error = layer_list(ROOT, &names, &count);
+    if (error) return error;
+    error = power_crash(crash);
+    if (!error) {
+        *child = fork();
+        if (*child < 0) error = errno;
+        if (*child == 0) forget_names(names, count);
+    }
+    free(names);
+    return error;
 }
 
 void serve_end(void) { fuse_session_exit(session); }
@@ -36,6 +63,7 @@ static int do_not_block(int fd) {
 
 int serve(struct fuse_session *mounted) {
     session = mounted;
+    signal(SIGCHLD, SIG_IGN); /* no child is waited for */
     int error = do_not_block(fuse_session_fd(session));
     while (!error && !fuse_session_exited(session)) {
         struct pollfd waits[1 + CONTROL_WAITS];

@@ -4,13 +4,20 @@
 
 #include "layer.h"
 
+#include <sys/types.h>
+
 struct fuse_session;
 
 /* Serves calls and lines of the control socket until the end. Returns 0 or a number of errno. */
 int serve(struct fuse_session *session);
 /* Ends the loop. */
 void serve_end(void);
-/* Ends the calls that wait with EIO, and crashes. */
-int serve_crash(struct layer_crash *crash);
+/*
+ * Ends the calls that wait with EIO, and crashes. Returns 0 or a number of errno.
+ *
+ * The kernel has to forget the names of the life before. Meanwhile it may wait for a call, so a child process tells it: after a
+ * crash this returns in both, with `child` 0 in the child, when the kernel has forgotten them. The child only sends the reply.
+ */
+int serve_crash(struct layer_crash *crash, pid_t *child);
 
 #endif
