@@ -1,0 +1,547 @@
+"""
+Tests of the mount (adapters/mount): mount.py PROGRAM [SANITIZED]. Random calls on the mount and on tmpfs agree, and what a crash
+leaves is in the sets that docs/FILES.md allows, worked out by hand. SANITIZED is the daemon under the sanitizers. The last line is
+`N passed, M failed`.
+"""
+
+import ctypes
+import errno
+import mmap
+import os
+import random
+import shutil
+import signal
+import stat
+import subprocess
+import sys
+import tempfile
+import time
+import traceback
+
+sys.dont_write_bytecode = True
+TOP = os.path.join(os.path.dirname(os.path.realpath(__file__)), "..")
+sys.path.insert(0, os.path.join(TOP, "adapters", "mount"))
+from mounting import Control, Failed  # noqa: E402
+
+PROGRAM = sys.argv[1]
+SECTOR = 512
+PROFILES = ("ext4", "xfs", "btrfs", "posix")
+libc = ctypes.CDLL(None, use_errno=True)
+counts = {"passed": 0, "failed": 0}
+
+
+def check(name, holds, shown=""):
+    """Counts one test."""
+    counts["passed" if holds else "failed"] += 1
+    if not holds:
+        print(f"mount.py: FAILED: {name} {str(shown)[:2000]}")
+
+
+class Mount:
+    """A mount with a daemon of its own, in the foreground."""
+
+    def __init__(self, *options, program=None):
+        self.folder = tempfile.mkdtemp(prefix="blobcrash-mount-")
+        self.at = os.path.join(self.folder, "a mount")
+        os.mkdir(self.at)
+        self.log = open(os.path.join(self.folder, "log"), "w+b")
+        path = os.path.join(self.folder, "socket")
+        command = [program or PROGRAM, self.at, "--control", path, "--foreground", *options]
+        self.daemon = subprocess.Popen(command, stdin=subprocess.DEVNULL, stderr=self.log)
+        for _ in range(1000):
+            try:
+                self.control = Control(path)
+                self.control.status()
+                return
+            except Failed:
+                if self.daemon.poll() is not None:
+                    break
+                time.sleep(0.01)
+        raise RuntimeError("the daemon doesn't start: " + self.messages())
+
+    def messages(self):
+        """Returns what the daemon has printed."""
+        self.log.seek(0)
+        return self.log.read().decode(errors="replace")
+
+    def ask(self, line):
+        """Sends a command."""
+        return self.control.ask(line)
+
+    def __enter__(self):
+        return self
+
+    def __exit__(self, *_):
+        try:
+            self.control.end()
+        except Failed:
+            subprocess.run(["umount", "-l", self.at], stderr=subprocess.DEVNULL)
+        try:
+            self.daemon.wait(20)
+        except subprocess.TimeoutExpired:
+            self.daemon.kill()
+        self.control.close()
+        self.log.close()
+        shutil.rmtree(self.folder, ignore_errors=True)
+
+
+def put(path, data, sync=False, flags=os.O_CREAT, at=None):
+    """Writes bytes by one call."""
+    descriptor = os.open(path, os.O_WRONLY | flags, 0o644)
+    try:
+        if at is None:
+            os.write(descriptor, data)
+        else:
+            os.pwrite(descriptor, data, at)
+        if sync:
+            os.fsync(descriptor)
+    finally:
+        os.close(descriptor)
+
+
+def fill(path, length):
+    """Writes zeros until the file has this length."""
+    with open(path, "wb", buffering=0) as file:
+        while file.tell() < length:
+            file.write(bytes(min(1 << 16, length - file.tell())))
+
+
+def get(path):
+    """Returns the bytes of a file, or None."""
+    try:
+        with open(path, "rb") as file:
+            return file.read()
+    except FileNotFoundError:
+        return None
+
+
+def sync_folder(path):
+    """Makes the names in a folder durable."""
+    descriptor = os.open(path, os.O_RDONLY)
+    try:
+        os.fsync(descriptor)
+    finally:
+        os.close(descriptor)
+
+
+def refusal(call, *arguments):
+    """Returns the name of the error of a call, or what it returned."""
+    try:
+        return call(*arguments)
+    except OSError as error:
+        return errno.errorcode[error.errno]
+
+
+def rename_by(path, to, flags):
+    """renameat2: 1 refuses a name that is taken, 2 exchanges."""
+    if libc.renameat2(-100, os.fsencode(path), -100, os.fsencode(to), flags):
+        raise OSError(ctypes.get_errno(), "renameat2")
+
+
+def allocate(path, mode, offset, length):
+    """fallocate: 0 extends, 3 punches a hole, 16 zeroes."""
+    descriptor = os.open(path, os.O_RDWR)
+    try:
+        if libc.fallocate(descriptor, mode, ctypes.c_long(offset), ctypes.c_long(length)):
+            raise OSError(ctypes.get_errno(), "fallocate")
+        return os.fstat(descriptor).st_size
+    finally:
+        os.close(descriptor)
+
+
+def tree(root):
+    """Returns all that is in a folder: kinds, modes, links, sizes, bytes, and which names are one file."""
+    found, first = {}, {}
+    for folder, folders, files in os.walk(root):
+        for name in sorted(folders + files):
+            path = os.path.join(folder, name)
+            about = os.lstat(path)
+            key = os.path.relpath(path, root)
+            row = [about.st_mode, about.st_nlink, about.st_uid]
+            if stat.S_ISREG(about.st_mode):
+                row += [about.st_size, get(path), first.setdefault(about.st_ino, key)]
+            elif stat.S_ISLNK(about.st_mode):
+                row += [about.st_size, os.readlink(path)]
+            found[key] = row
+    return found
+
+
+class Random:
+    """Random calls on two folders."""
+
+    NAMES = ["a", "b", "c", "d", "d/a", "d/b", "d/e", "d/e/a", "c/x", "b/y", "\udcff\n'$(x)"]
+
+    def __init__(self, seed, roots):
+        self.random = random.Random(seed)
+        self.roots = roots
+        self.held = [[] for _ in roots]
+
+    def write(self, root, name, flags, offset, data, length):
+        """Opens, writes, truncates and reads a file."""
+        descriptor = os.open(f"{root}/{name}", flags, 0o640)
+        try:
+            count = os.write(descriptor, data) if flags & os.O_APPEND else os.pwrite(descriptor, data, offset)
+            if length is not None:
+                os.ftruncate(descriptor, length)
+            return count, os.fstat(descriptor).st_size, os.pread(descriptor, 300000, 0)
+        finally:
+            os.close(descriptor)
+
+    def use(self, at, which, offset, data, closes):
+        """Writes to an open file, whatever has happened to its name."""
+        descriptor = self.held[at][which]
+        try:
+            os.pwrite(descriptor, data, offset)
+            os.fsync(descriptor)
+            found = os.fstat(descriptor)
+            return found.st_size, found.st_nlink, os.pread(descriptor, 300000, 0)
+        finally:
+            if closes:
+                os.close(self.held[at].pop(which))
+
+    def hold(self, at, name):
+        """Opens a file, and keeps it open."""
+        self.held[at].append(os.open(f"{self.roots[at]}/{name}", os.O_RDWR))
+
+    def call(self):
+        """Draws a call. Returns its name, and a function of the index of a root."""
+        draw, roots = self.random, self.roots
+        one, two, kind = draw.choice(self.NAMES), draw.choice(self.NAMES), draw.randrange(19)
+        offset = draw.choice([0, 1, 10, 4095, 4096, 70000])
+        data = bytes([draw.randrange(97, 123)]) * draw.choice([0, 1, 100, 5000, 140000])
+        if kind < 5:
+            flags = os.O_RDWR | draw.choice([0, os.O_CREAT, os.O_CREAT | os.O_EXCL, os.O_TRUNC, os.O_CREAT | os.O_TRUNC, os.O_APPEND])
+            length = draw.choice([None, None, 0, 3, 5000, 66000])
+            return "write", lambda at: self.write(roots[at], one, flags, offset, data, length)
+        if kind == 5 and len(self.held[0]) < 20:
+            return "hold", lambda at: self.hold(at, one)
+        if kind in (6, 7) and self.held[0]:
+            which, closes = draw.randrange(len(self.held[0])), draw.random() < 0.3
+            return "use", lambda at: self.use(at, which, offset, data, closes)
+        paths = lambda at: (f"{roots[at]}/{one}", f"{roots[at]}/{two}")  # noqa: E731
+        flag, mode = draw.choice([1, 2]), draw.choice([0o600, 0o755, 0o4711])
+        shape, room = draw.choice([0, 1, 3]), draw.choice([1, 5000, 70000])
+        calls = {
+            8: ("mkdir", lambda at: os.mkdir(paths(at)[0])),
+            9: ("rmdir", lambda at: os.rmdir(paths(at)[0])),
+            10: ("unlink", lambda at: os.unlink(paths(at)[0])),
+            11: ("rename", lambda at: os.rename(*paths(at))),
+            12: ("rename", lambda at: os.rename(*paths(at))),
+            13: ("renameat2", lambda at: rename_by(*paths(at), flag)),
+            14: ("link", lambda at: os.link(*paths(at))),
+            15: ("symlink", lambda at: os.symlink(two, paths(at)[0])),
+            16: ("chmod", lambda at: os.chmod(paths(at)[0], mode)),
+            17: ("fallocate", lambda at: allocate(paths(at)[0], shape, offset, room)),
+        }
+        return calls.get(kind, ("truncate", lambda at: os.truncate(paths(at)[0], room)))
+
+
+def differential(seed, count, program):
+    """Makes random calls on the mount and on tmpfs. Results, errors and trees agree, and no settled byte or name is lost."""
+    reference = tempfile.mkdtemp(dir="/dev/shm" if os.access("/dev/shm", os.W_OK) else None)
+    with Mount("--seed", str(seed), program=program) as mount:
+        calls = Random(seed, [mount.at, reference])
+        differs, worked = "", 0
+        for number in range(count):
+            name, call = calls.call()
+            ours, theirs = refusal(call, 0), refusal(call, 1)
+            worked += not isinstance(theirs, str)
+            if ours != theirs:
+                differs = f"call {number}, {name}: {str(ours)[:90]}, not {str(theirs)[:90]}"
+            elif number % 40 == 0 and tree(mount.at) != tree(reference):
+                differs = f"the trees after call {number}, {name}"
+            if differs:
+                break
+        for held in calls.held:
+            for descriptor in held:
+                os.close(descriptor)
+        check(f"random calls of seed {seed}", not differs and worked > count // 6, differs or worked)
+        mount.ask("settle")
+        mount.ask("crash")
+        check(f"the tree of seed {seed} after settle and crash", tree(mount.at) == tree(reference))
+        mount.control.end()
+        mount.daemon.wait(20)
+        check(f"the daemon of seed {seed} ends well", mount.daemon.returncode == 0 and not mount.messages(), mount.messages())
+    shutil.rmtree(reference)
+
+
+# What crashes leave: a program, what is before it, what is looked at, and the outcomes that each profile allows.
+
+A, B = b"A" * SECTOR, b"B" * SECTOR
+
+
+def letters(data):
+    """Writes a sector as a letter, zeros as 0."""
+    if data is None:
+        return "none"
+    if data == b"":
+        return "empty"
+    return "".join({A: "A", B: "B", b"\0" * SECTOR: "0"}.get(data[at:at + SECTOR], "?") for at in range(0, len(data), SECTOR))
+
+
+def replaces(folder, syncs_file, syncs_folder):
+    """Replaces f by a new file."""
+    put(f"{folder}/t", B + B, sync=syncs_file)
+    os.rename(f"{folder}/t", f"{folder}/f")
+    if syncs_folder:
+        sync_folder(folder)
+
+
+def uses_unlinked(folder, syncs):
+    """Unlinks f while it is open, and writes to it."""
+    descriptor = os.open(f"{folder}/f", os.O_RDWR)
+    try:
+        os.unlink(f"{folder}/f")
+        os.pwrite(descriptor, B + B, 0)
+        if syncs:
+            os.fsync(descriptor)
+    finally:
+        os.close(descriptor)
+
+
+def truncates(folder):
+    """Writes f again as a shell's `>` does."""
+    put(f"{folder}/f", B + B, flags=os.O_TRUNC)
+
+
+TORN = {"AA", "BB", "B", "0B", "empty"}
+MIXED = {"none", "AA", "AB", "BA", "BB"}
+PROGRAMS = [
+    ("create, write, fsync, rename, fsync", lambda at: replaces(at, True, True), [{"BB"}] * 4),
+    ("create, write, fsync, rename", lambda at: replaces(at, True, False), [{"AA", "BB"}] * 4),
+    ("create, write, rename", lambda at: replaces(at, False, False), [{"AA", "BB"}, TORN, TORN, TORN]),
+    ("unlink, write", lambda at: uses_unlinked(at, False), [MIXED] * 4),
+    ("unlink, write, fsync", lambda at: uses_unlinked(at, True), [{"none"}, {"none"}, {"none"}, {"none", "BB"}]),
+    ("fsync", lambda at: put(f"{at}/f", B + B, sync=True), [{"BB"}] * 4),
+    ("open that truncates, write, close", truncates, [{"BB"}, TORN | MIXED, TORN | MIXED, TORN | MIXED]),
+]
+
+
+def outcomes(mount, run, crashes):
+    """Runs a program on f = AA, and crashes. Returns what f was after each crash."""
+    seen = set()
+    for number in range(crashes):
+        folder = f"{mount.at}/{number}"
+        os.mkdir(folder)
+        put(f"{folder}/f", A + A)
+        mount.ask("settle")
+        run(folder)
+        mount.ask("crash")
+        seen.add(letters(get(f"{folder}/f")))
+        shutil.rmtree(folder)
+        mount.ask("settle")
+    return seen
+
+
+def test_profiles():
+    """What crashes leave of the programs."""
+    with Mount("--seed", "5", "--keep", "3/4") as mount:
+        for at, profile in enumerate(PROFILES):
+            mount.ask(f"profile {profile}")
+            for name, run, allowed in PROGRAMS:
+                seen = outcomes(mount, run, 16)
+                check(f"{profile}: {name}", seen <= allowed[at] and (len(seen) > 1) >= (len(allowed[at]) > 4), seen)
+
+
+def test_stale():
+    """After a crash, descriptors of the life before get EIO."""
+    with Mount() as mount:
+        put(f"{mount.at}/f", A)
+        os.mkdir(f"{mount.at}/d")
+        mount.ask("settle")
+        file = os.open(f"{mount.at}/f", os.O_RDWR)
+        folder = os.open(f"{mount.at}/d", os.O_RDONLY)
+        root = os.open(mount.at, os.O_RDONLY)
+        mount.ask("crash")
+        check("an old file", refusal(os.pwrite, file, B, 0) == "EIO")
+        check("an old fsync", refusal(os.fsync, file) == "EIO")
+        check("an old folder", refusal(os.listdir, folder) == "EIO")
+        check("the old root", refusal(os.listdir, root) == "EIO")
+        check("a name in an old folder", refusal(lambda: os.mkdir("x", dir_fd=folder)) == "EIO")
+        for descriptor in (file, folder, root):
+            os.close(descriptor)
+        check("a new open", get(f"{mount.at}/f") == A)
+
+
+def test_names():
+    """Names: long ones, hard links, moved directories, offsets of readdir."""
+    with Mount() as mount:
+        at = mount.at
+        check("a name of 255 bytes", refusal(put, f"{at}/{'n' * 255}", A) is None)
+        check("a name of 256 bytes", refusal(put, f"{at}/{'n' * 256}", A) == "ENAMETOOLONG")
+        os.link(f"{at}/{'n' * 255}", f"{at}/m")
+        os.makedirs(f"{at}/x/y/z")
+        os.mkdir(f"{at}/u")
+        check("a directory below itself", refusal(os.rename, f"{at}/x", f"{at}/x/y/z/w") == "EINVAL")
+        check("over a directory with names", refusal(os.rename, f"{at}/u", f"{at}/x") == "ENOTEMPTY")
+        os.rename(f"{at}/x/y", f"{at}/u/y")
+        check("links of directories", [os.stat(f"{at}/{name}").st_nlink for name in ("", "x", "u", "u/y")] == [4, 2, 3, 3])
+        check("the parent", os.stat(f"{at}/u/y/..").st_ino == os.stat(f"{at}/u").st_ino)
+        os.mkdir(f"{at}/many")
+        for number in range(700):
+            put(f"{at}/many/{number}", b"")
+        with os.scandir(f"{at}/many") as entries:
+            seen = [next(entries).name for _ in range(50)]
+            for number in range(0, 700, 2):
+                os.unlink(f"{at}/many/{number}")
+            put(f"{at}/many/aa", b"")
+            seen += [entry.name for entry in entries]
+        check("offsets stay", all(seen.count(str(number)) == 1 for number in range(1, 700, 2)))
+        before = tree(at)
+        mount.ask("settle")
+        mount.ask("crash")
+        check("names after a crash", tree(at) == before and os.stat(f"{at}/m").st_nlink == 2)
+
+
+def test_kinds():
+    """Kinds, modes and owners survive with their inode."""
+    with Mount("--keep", "0/1") as mount:
+        at = mount.at
+        os.symlink("far/away", f"{at}/link")
+        os.mkfifo(f"{at}/fifo", 0o620)
+        os.mkdir(f"{at}/d", 0o700)
+        put(f"{at}/f", A)
+        os.chmod(f"{at}/f", 0o4711)
+        os.utime(f"{at}/f", (1000, 2000))
+        before = tree(at)
+        mount.ask("settle")
+        os.symlink("lost", f"{at}/lost")
+        mount.ask("crash")
+        check("kinds and modes after a crash", tree(at) == before, (tree(at), before))
+        check("times after a crash", os.stat(f"{at}/f").st_mtime == 2000)
+
+
+def test_bytes():
+    """Sparse files, a full disk and mapped files."""
+    with Mount("--size", "2M") as mount:
+        at = mount.at
+        put(f"{at}/sparse", B, at=1 << 20)
+        check("a sparse file", get(f"{at}/sparse") == bytes(1 << 20) + B)
+        put(f"{at}/zeroed", A + A + A)
+        check("a range of zeros", allocate(f"{at}/zeroed", 16, SECTOR, SECTOR) == 3 * SECTOR and letters(get(f"{at}/zeroed")) == "A0A")
+        free = os.statvfs(at).f_bavail
+        check("a full disk", refusal(fill, f"{at}/full", 1 << 20) == "ENOSPC" and free < 256)
+        check("a file beyond it", refusal(os.truncate, f"{at}/sparse", 1 << 40) == "ENOSPC")
+        check("other calls go on", refusal(put, f"{at}/small", A) is None and get(f"{at}/small") == A)
+        mount.ask("settle")
+        os.unlink(f"{at}/sparse")
+        sync_folder(at)
+        mount.ask("crash")
+        check("room after a crash", refusal(fill, f"{at}/full", 1 << 20) is None)
+        check("many files", "ENOSPC" in [refusal(put, f"{at}/{number}", b"") for number in range(1100)])
+    with Mount("--keep", "0/1") as mount:
+        with open(f"{mount.at}/mapped", "w+b") as file:
+            file.truncate(8192)
+            os.fsync(file.fileno())
+            sync_folder(mount.at)
+            with mmap.mmap(file.fileno(), 8192) as mapped:
+                mapped[0:SECTOR] = A
+                mapped.flush()
+                mapped[4096:4096 + SECTOR] = B
+                mount.ask("crash")
+        found = get(f"{mount.at}/mapped")
+        check("a mapped page after msync", found[:SECTOR] == A and found[4096:] == bytes(4096))
+
+
+def test_write_back():
+    """Unsynced bytes beyond the limit of memory are written back."""
+    with Mount("--size", "1M", "--keep", "0/1") as mount:
+        put(f"{mount.at}/f", A)
+        sync_folder(mount.at)
+        for _ in range(5):
+            put(f"{mount.at}/f", bytes(1 << 19), flags=0, at=0)
+        status = mount.control.status()
+        check("written back", int(status["write-backs"]) >= 1 and int(status["unsynced"]) <= 1 << 20, status)
+
+
+def program(text, *arguments):
+    """Starts a program in Python that prints what it sees."""
+    command = [sys.executable, "-c", "import errno, os, signal, sys\n" + text, *arguments]
+    return subprocess.Popen(command, stdout=subprocess.PIPE, text=True)
+
+
+WRITES = """
+try:
+    descriptor = os.open(sys.argv[1], os.O_CREAT | os.O_WRONLY)
+    print(os.write(descriptor, b"x"))
+except OSError as error:
+    print(errno.errorcode[error.errno])
+"""
+
+
+def test_power():
+    """While the power is off calls wait: signals don't end them, but SIGKILL does."""
+    with Mount() as mount:
+        mount.ask("off")
+        interrupted = program("signal.signal(signal.SIGALRM, lambda *_: None); signal.setitimer(signal.ITIMER_REAL, 0.05, 0.05)"
+                              + WRITES, f"{mount.at}/a")
+        killed = program(WRITES, f"{mount.at}/b")
+        time.sleep(0.4)
+        check("calls wait", interrupted.poll() is None and killed.poll() is None)
+        killed.kill()
+        check("a killed program ends", killed.wait(5) == -signal.SIGKILL)
+        mount.ask("on")
+        check("calls go on", interrupted.communicate(timeout=5)[0] == "1\n")
+        mount.ask("off")
+        ended = program(WRITES, f"{mount.at}/c")
+        time.sleep(0.2)
+        mount.ask("crash")
+        check("a crash ends calls with EIO", ended.communicate(timeout=5)[0] == "EIO\n")
+        check("and their file isn't there", "c" not in os.listdir(mount.at))
+        check("the power is on", mount.control.status()["power"] == "on")
+        mount.ask("settle")
+        mount.ask("crash-after 3")
+        counted = program("for number in range(9): os.mkdir(f'{sys.argv[1]}/{number}'); print(number, flush=True)", mount.at)
+        time.sleep(0.3)
+        check("the power goes off behind the third call", mount.control.is_off())
+        counted.kill()
+        check("three calls were made", counted.communicate(timeout=5)[0] == "0\n1\n2\n")
+        mount.ask("crash")
+        check("a bad command", refused(mount, "crash-after x") and refused(mount, "frob") and refused(mount, "config frob"))
+
+
+def refused(mount, line):
+    """Returns whether a command is refused."""
+    try:
+        mount.ask(line)
+    except Failed:
+        return True
+    return False
+
+
+def test_kill():
+    """A daemon that is killed leaves no hung process."""
+    mount = Mount()
+    try:
+        put(f"{mount.at}/f", A)
+        mount.ask("off")
+        waits = program(WRITES, f"{mount.at}/f")
+        time.sleep(0.2)
+        mount.daemon.kill()
+        check("its calls end", waits.communicate(timeout=5)[0] in ("ECONNABORTED\n", "ENOTCONN\n"))
+        check("later calls too", refusal(os.listdir, mount.at) == "ENOTCONN")
+    finally:
+        mount.__exit__()
+
+
+def main():
+    """Runs all tests."""
+    sanitized = sys.argv[2] if len(sys.argv) > 2 else None
+    tests = [lambda seed=seed: differential(seed, 400, PROGRAM) for seed in (1, 2, 3)]
+    if sanitized:
+        tests.append(lambda: differential(4, 400, sanitized))
+    tests += [test_profiles, test_stale, test_names, test_kinds, test_bytes, test_write_back, test_power, test_kill]
+    for test in tests:
+        began = time.time()
+        try:
+            test()
+        except Exception:  # noqa: BLE001 - a test that breaks is one failure, and the others run
+            check(getattr(test, "__name__", "test"), False, traceback.format_exc())
+        if os.environ.get("VERBOSE"):
+            print(f"{getattr(test, '__name__', 'test')} {time.time() - began:.1f} s")
+    print(f"{counts['passed']} passed, {counts['failed']} failed")
+    sys.exit(counts["failed"] > 0)
+
+
+if __name__ == "__main__":
+    main()

@@ -1,0 +1,97 @@
+#!/bin/sh
+# Tests of the mount (adapters/mount, tools/mount, tools/mountctl) and of crash runs (tools/crash_run): tests/mount.py, once with the
+# daemon under the sanitizers, and the commands. Skipped where FUSE or the right to mount is missing, with CI=true too, since no package
+# brings them. BLOBCRASH_ARCHIVE names a library that is built already. The last line is `N passed, M failed`.
+top=$(CDPATH='' cd -- "$(dirname -- "$0")/.." && pwd -P)
+# shellcheck source=tests/counting.sh
+. "$top/tests/counting.sh"
+# shellcheck source=tests/running.sh
+. "$top/tests/running.sh"
+export PYTHONDONTWRITEBYTECODE=1
+
+at="$work/a mount"
+mkdir "$at"
+unmount() { [ ! -d "$at" ] || "$top/tools/mountctl" "$at" umount >/dev/null 2>&1; }
+trap 'unmount; rm -rf "$work"' EXIT
+
+if ! has "${CC:-cc}" pkg-config || ! pkg-config --exists fuse3; then
+    skip 'there is no C compiler with libfuse 3 (Debian: gcc, pkg-config, libfuse3-dev)'
+    finish
+fi
+if ! has_python; then
+    skip 'there is no Python 3.8 or later'
+    finish
+fi
+
+# What is said without FUSE, and without the right.
+run "$top/tools/mount" "$work/none"
+expect 'no folder' 1 '' "mount: $work/none: no such folder"
+run "$top/tools/mount"
+ok 'no words' [ "$status" -eq 2 ]
+run "$top/tools/mount" "$at" --frob
+ok 'no such option' [ "$status" -eq 2 ]
+
+if ! program=$(sh "$top/adapters/mount/build.sh" 2>"$work/err"); then
+    cat "$work/err"
+    give_up "the daemon can't be built"
+fi
+run "$top/tools/mount" "$at"
+if [ "$status" -eq 3 ]; then
+    leave_out "$(tail -n 1 "$work/err")"
+    finish
+fi
+expect 'a mount' 0 '' ''
+run "$top/tools/mount" "$at"
+ok 'a second one' [ "$status" -eq 1 ]
+printf 'durable' >"$at/a file"
+run "$top/tools/mountctl" "$at" settle
+expect settle 0 '' ''
+run "$top/tools/mountctl" "$at" keep 0 1
+expect keep 0 '' ''
+run "$top/tools/mountctl" "$at" config write 0 1 0 1 prefix
+expect config 0 '' ''
+printf 'lost' >"$at/lost"
+run "$top/tools/mountctl" "$at" crash
+ok 'a crash' grep -q '^life 2 writes [0-9]* kept-bytes 0 lost-bytes [0-9]* edits 1 kept-edits 0$' "$work/out"
+run ls "$at"
+expect 'the tree is what was durable' 0 "a file$line" ''
+run "$top/tools/mountctl" "$at" export "$work/copy"
+expect export 0 "$work/copy$line" ''
+ok 'the copy' [ "$(cat "$work/copy/a file")" = durable ]
+run "$top/tools/mountctl" "$at" off
+run "$top/tools/mountctl" "$at" export "$work/copy2"
+expect 'no export while the power is off' 1 '' 'mountctl: the power is off: crash first, or switch it on'
+run "$top/tools/mountctl" "$at" on
+run "$top/tools/mountctl" "$at" frob
+ok 'no such command' [ "$status" -eq 2 ]
+run "$top/tools/mountctl" "$at" crash-after x
+expect 'a bad number' 1 '' 'mountctl: Invalid argument'
+socket=$("$top/tools/mountctl" "$at" socket)
+ok 'the socket is its owner'"'"'s alone' [ "$(stat -c %a "$socket") $(stat -c %a "${socket%/*}")" = '600 700' ]
+run "$top/tools/mountctl" "$at" umount
+expect umount 0 '' ''
+ok 'nothing is left' [ "$(ls -A "$at") $(ls "$socket" 2>/dev/null)" = ' ' ]
+run "$top/tools/mountctl" "$at" status
+ok 'no daemon' [ "$status" -eq 1 ]
+
+run "$top/tools/mount" "$at" --from "$work/copy" --seed 7 --profile posix --tear prefix --keep 1/3 --size 64M --control "$work/socket"
+expect 'a mount with options' 0 '' ''
+run "$top/tools/mountctl" "$work/socket" crash
+ok 'what was copied in is durable' [ "$(cat "$at/a file")" = durable ]
+run umount "$at"
+ok 'the daemon ends with the mount' timeout 5 sh -c 'while [ -e "$1" ]; do sleep 0.05; done' sh "$work/socket"
+for bad in '--seed x' '--profile zfs' '--tear sectors' '--keep 3/2' '--keep 1' '--size 1X'; do
+    # shellcheck disable=SC2086
+    run "$top/tools/mount" "$at" $bad
+    ok "bad: $bad" [ "$status" -eq 2 ]
+done
+
+sanitized=
+if OUT="$work/sanitized" CFLAGS="${CFLAGS:-} -fsanitize=address,undefined -fno-sanitize-recover=all" \
+    sh "$top/adapters/mount/build.sh" >"$work/path" 2>"$work/err"; then
+    sanitized=$(cat "$work/path")
+else
+    skip 'the daemon under the address sanitizer'
+fi
+add python3 "$top/tests/mount.py" "$program" ${sanitized:+"$sanitized"}
+finish
