@@ -21,7 +21,7 @@ import traceback
 sys.dont_write_bytecode = True
 TOP = os.path.join(os.path.dirname(os.path.realpath(__file__)), "..")
 sys.path.insert(0, os.path.join(TOP, "adapters", "mount"))
-from mounting import Control, Failed  # noqa: E402
+from mounting import Failed, Mount  # noqa: E402
 
 PROGRAM = sys.argv[1]
 SECTOR = 512
@@ -37,52 +37,9 @@ def check(name, holds, shown=""):
         print(f"mount.py: FAILED: {name} {str(shown)[:2000]}")
 
 
-class Mount:
-    """A mount with a daemon of its own, in the foreground."""
-
-    def __init__(self, *options, program=None):
-        self.folder = tempfile.mkdtemp(prefix="blobcrash-mount-")
-        self.at = os.path.join(self.folder, "a mount")
-        os.mkdir(self.at)
-        self.log = open(os.path.join(self.folder, "log"), "w+b")
-        path = os.path.join(self.folder, "socket")
-        command = [program or PROGRAM, self.at, "--control", path, "--foreground", *options]
-        self.daemon = subprocess.Popen(command, stdin=subprocess.DEVNULL, stderr=self.log)
-        for _ in range(1000):
-            try:
-                self.control = Control(path)
-                self.control.status()
-                return
-            except Failed:
-                if self.daemon.poll() is not None:
-                    break
-                time.sleep(0.01)
-        raise RuntimeError("the daemon doesn't start: " + self.messages())
-
-    def messages(self):
-        """Returns what the daemon has printed."""
-        self.log.seek(0)
-        return self.log.read().decode(errors="replace")
-
-    def ask(self, line):
-        """Sends a command."""
-        return self.control.ask(line)
-
-    def __enter__(self):
-        return self
-
-    def __exit__(self, *_):
-        try:
-            self.control.end()
-        except Failed:
-            subprocess.run(["umount", "-l", self.at], stderr=subprocess.DEVNULL)
-        try:
-            self.daemon.wait(20)
-        except subprocess.TimeoutExpired:
-            self.daemon.kill()
-        self.control.close()
-        self.log.close()
-        shutil.rmtree(self.folder, ignore_errors=True)
+def mounted(*options, program=PROGRAM):
+    """Returns a mount."""
+    return Mount(program, *options)
 
 
 def put(path, data, sync=False, flags=os.O_CREAT, at=None):
@@ -239,7 +196,7 @@ class Random:
 def differential(seed, count, program):
     """Makes random calls on the mount and on tmpfs. Results, errors and trees agree, and no settled byte or name is lost."""
     reference = tempfile.mkdtemp(dir="/dev/shm" if os.access("/dev/shm", os.W_OK) else None)
-    with Mount("--seed", str(seed), program=program) as mount:
+    with mounted("--seed", str(seed), program=program) as mount:
         calls = Random(seed, [mount.at, reference])
         differs, worked = "", 0
         for number in range(count):
@@ -335,7 +292,7 @@ def outcomes(mount, run, crashes):
 
 def test_profiles():
     """What crashes leave of the programs."""
-    with Mount("--seed", "5", "--keep", "3/4") as mount:
+    with mounted("--seed", "5", "--keep", "3/4") as mount:
         for at, profile in enumerate(PROFILES):
             mount.ask(f"profile {profile}")
             for name, run, allowed in PROGRAMS:
@@ -345,7 +302,7 @@ def test_profiles():
 
 def test_stale():
     """After a crash, descriptors of the life before get EIO."""
-    with Mount() as mount:
+    with mounted() as mount:
         put(f"{mount.at}/f", A)
         os.mkdir(f"{mount.at}/d")
         mount.ask("settle")
@@ -365,7 +322,7 @@ def test_stale():
 
 def test_names():
     """Names: long ones, hard links, moved directories, offsets of readdir."""
-    with Mount() as mount:
+    with mounted() as mount:
         at = mount.at
         check("a name of 255 bytes", refusal(put, f"{at}/{'n' * 255}", A) is None)
         check("a name of 256 bytes", refusal(put, f"{at}/{'n' * 256}", A) == "ENAMETOOLONG")
@@ -395,7 +352,7 @@ def test_names():
 
 def test_kinds():
     """Kinds, modes and owners survive with their inode."""
-    with Mount("--keep", "0/1") as mount:
+    with mounted("--keep", "0/1") as mount:
         at = mount.at
         os.symlink("far/away", f"{at}/link")
         os.mkfifo(f"{at}/fifo", 0o620)
@@ -413,7 +370,7 @@ def test_kinds():
 
 def test_bytes():
     """Sparse files, a full disk and mapped files."""
-    with Mount("--size", "2M") as mount:
+    with mounted("--size", "2M") as mount:
         at = mount.at
         put(f"{at}/sparse", B, at=1 << 20)
         check("a sparse file", get(f"{at}/sparse") == bytes(1 << 20) + B)
@@ -429,7 +386,7 @@ def test_bytes():
         mount.ask("crash")
         check("room after a crash", refusal(fill, f"{at}/full", 1 << 20) is None)
         check("many files", "ENOSPC" in [refusal(put, f"{at}/{number}", b"") for number in range(1100)])
-    with Mount("--keep", "0/1") as mount:
+    with mounted("--keep", "0/1") as mount:
         with open(f"{mount.at}/mapped", "w+b") as file:
             file.truncate(8192)
             os.fsync(file.fileno())
@@ -445,7 +402,7 @@ def test_bytes():
 
 def test_write_back():
     """Unsynced bytes beyond the limit of memory are written back."""
-    with Mount("--size", "1M", "--keep", "0/1") as mount:
+    with mounted("--size", "1M", "--keep", "0/1") as mount:
         put(f"{mount.at}/f", A)
         sync_folder(mount.at)
         for _ in range(5):
@@ -471,7 +428,7 @@ except OSError as error:
 
 def test_power():
     """While the power is off calls wait: signals don't end them, but SIGKILL does."""
-    with Mount() as mount:
+    with mounted() as mount:
         mount.ask("off")
         interrupted = program("signal.signal(signal.SIGALRM, lambda *_: None); signal.setitimer(signal.ITIMER_REAL, 0.05, 0.05)"
                               + WRITES, f"{mount.at}/a")
@@ -497,7 +454,31 @@ def test_power():
         counted.kill()
         check("three calls were made", counted.communicate(timeout=5)[0] == "0\n1\n2\n")
         mount.ask("crash")
+        maps_and_waits(mount)
         check("a bad command", refused(mount, "crash-after x") and refused(mount, "frob") and refused(mount, "config frob"))
+
+
+MAPS = """
+import mmap
+file = open(sys.argv[1], "w+b")
+file.truncate(4096)
+mapped = mmap.mmap(file.fileno(), 4096)
+mapped[0:1] = b"x"
+print("mapped", flush=True)
+signal.pause()
+"""
+
+
+def maps_and_waits(mount):
+    """A killed program with a page to write back may have to wait for the crash."""
+    maps = program(MAPS, f"{mount.at}/mapped")
+    maps.stdout.readline()
+    mount.ask("off")
+    maps.kill()
+    time.sleep(0.1)
+    mount.ask("crash")
+    check("a killed program with a mapped page ends", maps.wait(5) == -signal.SIGKILL)
+    maps.stdout.close()
 
 
 def refused(mount, line):
@@ -511,7 +492,7 @@ def refused(mount, line):
 
 def test_kill():
     """A daemon that is killed leaves no hung process."""
-    mount = Mount()
+    mount = mounted()
     try:
         put(f"{mount.at}/f", A)
         mount.ask("off")
@@ -521,7 +502,7 @@ def test_kill():
         check("its calls end", waits.communicate(timeout=5)[0] in ("ECONNABORTED\n", "ENOTCONN\n"))
         check("later calls too", refusal(os.listdir, mount.at) == "ENOTCONN")
     finally:
-        mount.__exit__()
+        mount.close()
 
 
 def main():

@@ -86,6 +86,32 @@ for bad in '--seed x' '--profile zfs' '--tear sectors' '--keep 3/2' '--keep 1' '
     ok "bad: $bad" [ "$status" -eq 2 ]
 done
 
+# Crash runs of a log: what it forgets is found, in the profiles in which a crash may show it, and a seed repeats.
+log=$top/examples/mount_log.py
+crash_run() {
+    options=$1
+    shift
+    # shellcheck disable=SC2086
+    run "$top/tools/crash_run" $options --out "$work/failed" --work "'$log' append $*" --check "'$log' check"
+}
+crash_run '--seeds 4 --profile posix'
+ok 'a log that loses nothing' [ "$status" -eq 0 ]
+crash_run '--seeds 4 --profile ext4' --forget-directory
+ok 'ext4 makes a name durable with its file' [ "$status" -eq 0 ]
+crash_run '--seeds 4 --profile posix --keep 1/8' --forget-directory
+ok 'POSIX need not' grep -q '^seed .*: lost$' "$work/out"
+crash_run '--seeds 3' --forget-sync
+ok 'a forgotten sync' [ "$status" -eq 1 ]
+ok 'the durable tree and the acknowledgements' [ -d "$work/failed/seed-3/tree" -a -s "$work/failed/seed-3/acknowledged" ]
+again=$(sed -n 's/^  again: //p' "$work/out" | tail -n 1)
+cp -R "$work/failed/seed-3/tree" "$work/tree"
+ok 'the command that repeats a seed' [ -n "$again" ]
+(cd "$top" && eval "$again") >"$work/again" 2>&1
+ok 'fails again' grep -q '^seed 3: lost$' "$work/again"
+ok 'with the same tree' diff -r "$work/tree" "$work/failed/seed-3/tree"
+run "$top/tools/crash_run" --seeds 1 --work true --check false
+ok 'a check that fails without a crash' [ "$status" -eq 2 ]
+
 sanitized=
 if OUT="$work/sanitized" CFLAGS="${CFLAGS:-} -fsanitize=address,undefined -fno-sanitize-recover=all" \
     sh "$top/adapters/mount/build.sh" >"$work/path" 2>"$work/err"; then

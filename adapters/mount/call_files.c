@@ -48,6 +48,7 @@ void call_opened(struct node *node, struct fuse_file_info *info) {
     node->opens++;
     info->fh = power.life;
     info->keep_cache = 1;
+    info->noflush = 1; /* the kernel would wait for a flush at the end of a killed program too */
 }
 
 void call_open(fuse_req_t req, fuse_ino_t id, struct fuse_file_info *info) {

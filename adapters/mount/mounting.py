@@ -1,11 +1,13 @@
-"""What tools/mountctl and tools/crash_run share: where the control socket of a mount is, and its lines."""
+"""What tools/mountctl, tools/crash_run and the tests share: where a control socket is, its lines, and mounts of their own."""
 
 import hashlib
 import os
+import shutil
 import socket
 import stat
-
-FUSE_HELP = "docker run --device /dev/fuse --cap-add SYS_ADMIN"
+import subprocess
+import tempfile
+import time
 
 
 class Failed(Exception):
@@ -90,6 +92,68 @@ class Control:
         """Closes the connection."""
         self._lines.close()
         self._socket.close()
+
+    def __enter__(self):
+        return self
+
+    def __exit__(self, *_):
+        self.close()
+
+
+class Mount:
+    """A mount on a new folder, with a daemon in the foreground that ends with it."""
+
+    def __init__(self, program, *options):
+        self.folder = tempfile.mkdtemp(prefix="blobcrash-mount-")
+        self.at = os.path.join(self.folder, "a mount")
+        os.mkdir(self.at)
+        self.control = None
+        self._log = open(os.path.join(self.folder, "log"), "w+b")
+        path = os.path.join(self.folder, "socket")
+        command = [program, self.at, "--control", path, "--foreground", *options]
+        self.daemon = subprocess.Popen(command, stdin=subprocess.DEVNULL, stderr=self._log)
+        try:
+            self._connect(path)
+        except Failed:
+            self.close()
+            raise
+
+    def _connect(self, path):
+        for _ in range(2000):
+            if self.daemon.poll() is not None:
+                raise Failed(self.messages().strip() or "the daemon has ended")
+            try:
+                self.control = Control(path)
+                self.control.status()
+                return
+            except Failed:
+                time.sleep(0.005)
+        raise Failed("the daemon doesn't answer")
+
+    def messages(self):
+        """Returns what the daemon has printed."""
+        self._log.seek(0)
+        return self._log.read().decode(errors="replace")
+
+    def ask(self, line):
+        """Sends a command, and returns its reply."""
+        return self.control.ask(line)
+
+    def close(self):
+        """Unmounts, ends the daemon, and removes the folder."""
+        try:
+            if self.control:
+                self.control.end()
+                self.control.close()
+        except Failed:
+            subprocess.run(["umount", "-l", "--", self.at], stderr=subprocess.DEVNULL)
+        try:
+            self.daemon.wait(20)
+        except subprocess.TimeoutExpired:
+            self.daemon.kill()
+            self.daemon.wait()
+        self._log.close()
+        shutil.rmtree(self.folder, ignore_errors=True)
 
     def __enter__(self):
         return self
