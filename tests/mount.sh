@@ -28,6 +28,10 @@ run "$top/tools/mount" "$work/none"
 expect 'no folder' 1 '' "mount: $work/none: no such folder"
 run "$top/tools/mount"
 ok 'no words' [ "$status" -eq 2 ]
+for tool in mount mountctl crash_run; do
+    run "$top/tools/$tool" --help
+    ok "$tool --help" [ "$status" -eq 0 -a -s "$work/out" -a ! -s "$work/err" ]
+done
 run "$top/tools/mount" "$at" --frob
 ok 'no such option' [ "$status" -eq 2 ]
 
@@ -87,12 +91,13 @@ for bad in '--seed x' '--profile zfs' '--tear sectors' '--keep 3/2' '--keep 1' '
 done
 
 # Crash runs of a log: what it forgets is found, in the profiles in which a crash may show it, and a seed repeats.
-log=$top/examples/mount_log.py
+cd "$top" || exit 1
+log=examples/mount_log.py
 crash_run() {
     options=$1
     shift
     # shellcheck disable=SC2086
-    run "$top/tools/crash_run" $options --out "$work/failed" --work "'$log' append $*" --check "'$log' check"
+    run tools/crash_run $options --out "$work/failed" --work "$log append $*" --check "$log check"
 }
 crash_run '--seeds 4 --profile posix'
 ok 'a log that loses nothing' [ "$status" -eq 0 ]
@@ -106,11 +111,27 @@ ok 'the durable tree and the acknowledgements' [ -d "$work/failed/seed-3/tree" -
 again=$(sed -n 's/^  again: //p' "$work/out" | tail -n 1)
 cp -R "$work/failed/seed-3/tree" "$work/tree"
 ok 'the command that repeats a seed' [ -n "$again" ]
-(cd "$top" && eval "$again") >"$work/again" 2>&1
+(eval "$again") >"$work/again" 2>&1
 ok 'fails again' grep -q '^seed 3: lost$' "$work/again"
 ok 'with the same tree' diff -r "$work/tree" "$work/failed/seed-3/tree"
-run "$top/tools/crash_run" --seeds 1 --work true --check false
+run tools/crash_run --seeds 1 --work true --check false
 ok 'a check that fails without a crash' [ "$status" -eq 2 ]
+
+# SQLite deletes its journal after a commit, and syncs the folder only at EXTRA.
+crash_sqlite() {
+    run tools/crash_run --seeds "$2" --profile posix --out "$work/failed" --prepare "sh examples/mount_sqlite.sh prepare" \
+        --work "sh examples/mount_sqlite.sh work $1" --check "sh examples/mount_sqlite.sh check"
+}
+if has sqlite3; then
+    crash_sqlite EXTRA 6
+    ok 'SQLite at EXTRA loses nothing' [ "$status" -eq 0 ]
+    crash_sqlite FULL 12
+    ok 'at FULL it loses a commit' grep -q '^seed .*: lost$' "$work/out"
+else
+    leave_out 'SQLite: there is no sqlite3'
+fi
+run sh examples/mount.sh
+ok 'examples/mount.sh' grep -q '^ *4 .*/synced$' "$work/out"
 
 sanitized=
 if OUT="$work/sanitized" CFLAGS="${CFLAGS:-} -fsanitize=address,undefined -fno-sanitize-recover=all" \

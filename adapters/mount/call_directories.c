@@ -57,8 +57,9 @@ void call_releasedir(fuse_req_t req, fuse_ino_t id, struct fuse_file_info *info)
     fuse_reply_err(req, 0);
 }
 
-/* Writes the entry at an offset: `.`, `..`, then the names. Returns its length, 0 behind the last. */
-static size_t add_entry(fuse_req_t req, const struct directory *open, const struct node *node, off_t at, char *into, size_t room) {
+/* Writes the entry at an offset: `.`, `..`, then the names. Returns its length, 0 after the last. */
+static size_t add_entry(fuse_req_t req, const struct directory *open, const struct node *node, off_t at, char *into,
+                        size_t capacity) {
     struct stat found = {.st_ino = node->inode, .st_mode = S_IFDIR};
     const char *name = ".";
     if (at == 1) {
@@ -73,7 +74,7 @@ static size_t add_entry(fuse_req_t req, const struct directory *open, const stru
         found.st_ino = entry->inode;
         if (!entry->is_directory) found.st_mode = there ? there->mode : S_IFREG;
     }
-    return fuse_add_direntry(req, into, room, name, &found, at + 1);
+    return fuse_add_direntry(req, into, capacity, name, &found, at + 1);
 }
 
 void call_readdir(fuse_req_t req, fuse_ino_t id, size_t size, off_t offset, struct fuse_file_info *info) {
@@ -82,19 +83,19 @@ void call_readdir(fuse_req_t req, fuse_ino_t id, size_t size, off_t offset, stru
     struct directory *open = directory_of(info);
     int error = open->life == power.life ? 0 : EIO;
     if (!error && (offset == 0 || !open->is_read)) error = read_names(open, node);
-    char *room = error ? NULL : malloc(size);
-    if (!room) {
+    char *entries = error ? NULL : malloc(size);
+    if (!entries) {
         fuse_reply_err(req, error ? error : ENOMEM);
         return;
     }
     size_t used = 0;
     for (;; offset++) {
-        size_t len = add_entry(req, open, node, offset, room + used, size - used);
+        size_t len = add_entry(req, open, node, offset, entries + used, size - used);
         if (len == 0 || len > size - used) break;
         used += len;
     }
-    fuse_reply_buf(req, room, used);
-    free(room);
+    fuse_reply_buf(req, entries, used);
+    free(entries);
 }
 
 void call_fsyncdir(fuse_req_t req, fuse_ino_t id, int only_data, struct fuse_file_info *info) {

@@ -81,19 +81,19 @@ void call_read(fuse_req_t req, fuse_ino_t id, size_t size, off_t offset, struct 
     (void)info;
     struct node *node = call_begin(req, id, CALL_READS);
     if (!node) return;
-    char *room = malloc(size + 1);
+    char *bytes = malloc(size + 1);
     size_t len = 0;
-    int error = room ? node_open(node) : ENOMEM;
-    if (!error) error = layer_read(node->descriptor, (uint64_t)offset, room, size, &len);
+    int error = bytes ? node_open(node) : ENOMEM;
+    if (!error) error = layer_read(node->descriptor, (uint64_t)offset, bytes, size, &len);
     if (error)
         fuse_reply_err(req, error);
     else
-        fuse_reply_buf(req, room, len);
-    free(room);
+        fuse_reply_buf(req, bytes, len);
+    free(bytes);
 }
 
-/* Makes room in memory for unsynced bytes. */
-static int make_room(uint64_t len) {
+/* Bounds the memory of unsynced bytes: writes them back if these are too many. */
+static int bound_unsynced(uint64_t len) {
     if (node_counts.unsynced + len <= node_limits.bytes) return 0;
     power.write_backs++;
     nodes_write_back();
@@ -103,7 +103,7 @@ static int make_room(uint64_t len) {
 /* Writes bytes, unsynced. */
 static int write_at(struct node *node, uint64_t offset, const void *bytes, size_t len) {
     int error = node_open(node);
-    if (!error) error = make_room(len);
+    if (!error) error = bound_unsynced(len);
     if (!error) error = layer_write(node->descriptor, offset, bytes, len);
     if (error) {
         node_measure(node);

@@ -8,9 +8,9 @@
 #include <string.h>
 
 /*
- * The kernel's number of a node has the life in its upper bits, so numbers of an older life are refused. The root is 1 in each life.
- * The kernel may keep what it is told, since all changes come through it. After a crash it is told to forget the names in the root:
- * then each path leads to nodes of the new life.
+ * The kernel's number of a node has the life in its upper bits, so numbers of an older life are refused. The root is 1 in each
+ * life. The kernel may cache names and attributes for ever, since all changes come through it. After a crash the names in the root
+ * are invalidated: then each path leads to nodes of the new life.
  */
 enum { LIFE_SHIFT = 40 };
 #define FOREVER 86400.0
@@ -25,7 +25,7 @@ struct node *call_node(fuse_ino_t id) {
     return nodes_find(id & (((uint64_t)1 << LIFE_SHIFT) - 1));
 }
 
-/* Counts a changing call. If it is the last one of a count, the power goes off behind it. */
+/* Counts a changing call. If it is the last one of a count, the power goes off after it. */
 static void count_change(enum call_kind kind) {
     power.changing_calls++;
     if (kind == CALL_CHANGES_NAMES) node_counts.changes++;
@@ -81,7 +81,7 @@ void call_reply_attributes(fuse_req_t req, const struct node *node) {
     fuse_reply_attr(req, &found, FOREVER);
 }
 
-/* The kernel may keep pages of files, for MAP_SHARED, but passes each write on at once. */
+/* The kernel may keep pages of files, for MAP_SHARED, but passes each write on immediately. */
 static void begin(void *data, struct fuse_conn_info *connection) {
     (void)data;
     connection->want &= ~(unsigned)(FUSE_CAP_AUTO_INVAL_DATA | FUSE_CAP_WRITEBACK_CACHE | FUSE_CAP_HANDLE_KILLPRIV |

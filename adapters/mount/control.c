@@ -28,7 +28,7 @@ static int listens = -1;
 static struct sockaddr_un address = {.sun_family = AF_UNIX};
 static struct client clients[CONTROL_CLIENTS];
 
-/* Removes the socket of a daemon that is gone. */
+/* Removes the socket of a daemon that has ended. */
 static int clear_path(void) {
     struct stat there;
     if (lstat(address.sun_path, &there)) return errno == ENOENT ? 0 : errno;
@@ -62,8 +62,8 @@ void control_end(void) {
     unlink(address.sun_path);
 }
 
-static void print_status(char *reply, size_t room) {
-    snprintf(reply, room,
+static void print_status(char *reply, size_t capacity) {
+    snprintf(reply, capacity,
              "ok power %s life %" PRIu64 " calls %" PRIu64 " changing %" PRIu64 " bytes %" PRIu64 "/%" PRIu64 " files %" PRIu64
              "/%" PRIu64 " unsynced %" PRIu64 " names-changed %" PRIu64 "/%" PRIu64 " write-backs %" PRIu64 " stale %" PRIu64,
              power.is_off ? "off" : "on", power.life, power.calls, power.changing_calls, node_counts.bytes, node_limits.bytes,
@@ -77,11 +77,11 @@ static int settle(void) {
     return error;
 }
 
-static int crash(char *reply, size_t room, pid_t *child) {
+static int crash(char *reply, size_t capacity, pid_t *child) {
     struct layer_crash kept;
     int error = serve_crash(&kept, child);
     if (error) return error;
-    snprintf(reply, room,
+    snprintf(reply, capacity,
              "ok life %" PRIu64 " writes %" PRIu64 " kept-bytes %" PRIu64 " lost-bytes %" PRIu64 " edits %" PRIu64 " kept-edits %" PRIu64,
              power.life, kept.writes, kept.kept_bytes, kept.lost_bytes, kept.edits, kept.kept_edits);
     return 0;
@@ -102,21 +102,21 @@ static int crash_after(const char *text) {
 static bool begins(const char *line, const char *word) { return strncmp(line, word, strlen(word)) == 0; }
 
 /* Makes the command of a line, and writes the reply. Returns the process that is to send it: 0 for this one. */
-static pid_t answer(const char *line, char *reply, size_t room) {
+static pid_t answer(const char *line, char *reply, size_t capacity) {
     int error = 0;
     pid_t child = 0;
-    snprintf(reply, room, "ok");
-    if (!strcmp(line, "status")) print_status(reply, room);
+    snprintf(reply, capacity, "ok");
+    if (!strcmp(line, "status")) print_status(reply, capacity);
     else if (!strcmp(line, "settle")) error = settle();
     else if (!strcmp(line, "off")) power.is_off = true;
     else if (!strcmp(line, "on")) power_on();
-    else if (!strcmp(line, "crash")) error = crash(reply, room, &child);
+    else if (!strcmp(line, "crash")) error = crash(reply, capacity, &child);
     else if (!strcmp(line, "umount")) serve_end();
     else if (begins(line, "crash-after ")) error = crash_after(line + strlen("crash-after "));
     else if (begins(line, "config ") || begins(line, "profile ") || begins(line, "keep ")) error = layer_set(line);
     else error = ENOSYS;
-    if (error == ENOSYS) snprintf(reply, room, "error: no such command");
-    else if (error) snprintf(reply, room, "error: %s", strerror(error));
+    if (error == ENOSYS) snprintf(reply, capacity, "error: no such command");
+    else if (error) snprintf(reply, capacity, "error: %s", strerror(error));
     return error ? 0 : child;
 }
 
@@ -160,7 +160,7 @@ static void hear(struct client *client) {
     answer_lines(client);
 }
 
-/* Takes a new client, if there is room. */
+/* Takes a new client, unless there are too many. */
 static void take_client(void) {
     int fd = accept4(listens, NULL, NULL, SOCK_CLOEXEC | SOCK_NONBLOCK);
     if (fd < 0) return;

@@ -7,7 +7,7 @@
 
 enum { CONTROL_CLIENTS = 16, CONTROL_WAITS = CONTROL_CLIENTS + 1 };
 
-/* Opens the socket. Returns 0 or a number of errno: EADDRINUSE if a daemon answers there, EEXIST if something else is there. */
+/* Opens the socket. Returns 0 or a number of errno: EADDRINUSE if another daemon uses it, EEXIST if the path isn't a socket's. */
 int control_begin(const char *path);
 void control_end(void);
 /* Fills what to wait for, CONTROL_WAITS of them. */

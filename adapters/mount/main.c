@@ -41,7 +41,7 @@ static void end(int status, const char *format, ...) {
     exit(status);
 }
 
-/* Reads a size in bytes, with K, M or G behind it for powers of 1024. */
+/* Reads a size in bytes, with K, M or G after it for powers of 1024. */
 static uint64_t size_of(const char *text) {
     char *unit;
     errno = 0;

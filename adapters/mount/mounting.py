@@ -31,7 +31,7 @@ def socket_folder():
 
 
 def whole_path(directory):
-    """Returns the absolute path of a folder, without a call on the folder itself: it may be a mount whose power is off."""
+    """Returns the absolute path of a folder, without a call on the folder itself: the power of its mount may be off."""
     path = os.path.abspath(directory)
     return os.path.join(os.path.realpath(os.path.dirname(path)), os.path.basename(path))
 
@@ -51,11 +51,11 @@ class Control:
             self._socket.connect(path)
         except OSError as error:
             self._socket.close()
-            raise Failed(f"no daemon answers at {path}: {error.strerror}") from None
+            raise Failed(f"no daemon has the socket {path}: {error.strerror}") from None
         self._lines = self._socket.makefile("r", encoding="ascii", errors="replace")
 
     def ask(self, line):
-        """Sends a command, and returns its reply behind `ok`. An error of the daemon is raised."""
+        """Sends a command, and returns its reply without the `ok`. An error of the daemon is raised."""
         if "\n" in line or len(line) > 500:
             raise Failed("a command is one line of at most 500 bytes")
         try:

@@ -105,9 +105,9 @@ void node_name(struct node *node, uint64_t directory, const char *name) {
     node->name = strdup(name);
 }
 
-bool node_path(const struct node *node, char *path, size_t room) {
-    size_t at = room;
-    if (room == 0) return false;
+bool node_path(const struct node *node, char *path, size_t capacity) {
+    size_t at = capacity;
+    if (capacity == 0) return false;
     path[--at] = 0;
     while (node->inode != ROOT) {
         size_t len = node->name ? strlen(node->name) : 0;
@@ -118,7 +118,7 @@ bool node_path(const struct node *node, char *path, size_t room) {
         node = nodes_find(node->directory);
         if (!node) return false;
     }
-    memmove(path, path + at, room - at);
+    memmove(path, path + at, capacity - at);
     return true;
 }
 
@@ -202,7 +202,7 @@ static bool reach(const struct layer_name *found, struct node *directory) {
     return false;
 }
 
-/* Counts the names of a directory. Adds its directories to a list with room for all. */
+/* Counts the names of a directory. Adds its directories to a list that is long enough for all. */
 static int reach_all(uint64_t inode, uint64_t *directories, size_t *count) {
     struct layer_name *names;
     size_t all;

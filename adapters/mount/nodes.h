@@ -29,7 +29,7 @@ struct node {
     bool is_open; /* the descriptor is the layer's, of this life */
     bool is_truncated; /* by an open, and not closed since */
     bool is_reached;   /* used by nodes_recover */
-    /* One of its names. NULL if there was no memory for it, or the name is gone. */
+    /* One of its names. NULL without memory. The name may have been removed. */
     uint64_t directory;
     char *name;
     struct node *next;
@@ -70,7 +70,7 @@ void node_rest(struct node *node);
 /* Remembers a name of the node. */
 void node_name(struct node *node, uint64_t directory, const char *name);
 /* Writes the path of one of its names. Returns whether it has one that fits. */
-bool node_path(const struct node *node, char *path, size_t room);
+bool node_path(const struct node *node, char *path, size_t capacity);
 
 /* Opens the layer's descriptor, if it isn't open. */
 int node_open(struct node *node);

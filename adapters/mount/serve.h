@@ -15,8 +15,8 @@ void serve_end(void);
 /*
  * Ends the calls that wait with EIO, and crashes. Returns 0 or a number of errno.
  *
- * The kernel has to forget the names of the life before. Meanwhile it may wait for a call, so a child process tells it: after a
- * crash this returns in both, with `child` 0 in the child, when the kernel has forgotten them. The child only sends the reply.
+ * The kernel caches the names of the life before. To invalidate them it may wait for a call that this process is to make, so a
+ * child process does it. After a crash this returns in both, with `child` 0 in the child, which only sends the reply.
  */
 int serve_crash(struct layer_crash *crash, pid_t *child);
 
