@@ -95,6 +95,7 @@ def tree(root):
     """Returns all that is in a folder: kinds, modes, links, sizes, bytes, and which names are one file."""
     found, first = {}, {}
     for folder, folders, files in os.walk(root):
+        folders.sort()
         for name in sorted(folders + files):
             path = os.path.join(folder, name)
             about = os.lstat(path)
@@ -106,6 +107,12 @@ def tree(root):
                 row += [about.st_size, os.readlink(path)]
             found[key] = row
     return found
+
+
+def difference(ours, theirs):
+    """Returns what differs between two trees, shortened, or an empty text."""
+    names = [name for name in sorted(set(ours) | set(theirs)) if ours.get(name) != theirs.get(name)]
+    return "; ".join(f"{name}: {str(ours.get(name))[:70]}, not {str(theirs.get(name))[:70]}" for name in names)
 
 
 class Random:
@@ -190,8 +197,9 @@ def differential(seed, count, program):
             worked += not isinstance(theirs, str)
             if ours != theirs:
                 differs = f"call {number}, {name}: {str(ours)[:90]}, not {str(theirs)[:90]}"
-            elif number % 40 == 0 and tree(mount.at) != tree(reference):
-                differs = f"the trees after call {number}, {name}"
+            elif number % 40 == 0:
+                differs = difference(tree(mount.at), tree(reference))
+                differs = differs and f"the trees after call {number}, {name}: {differs}"
             if differs:
                 break
         for held in calls.held:
