@@ -6,7 +6,6 @@ leaves is in the sets that docs/FILES.md allows, worked out by hand. SANITIZED i
 
 import mmap
 import os
-import shutil
 import signal
 import subprocess
 import sys
@@ -15,11 +14,10 @@ import traceback
 
 sys.dont_write_bytecode = True
 from mount_calls import allocate, check, counts, differential, fill, get, put, refusal, sync_folder, tree  # noqa: E402
+from mount_programs import A, B, SECTOR, letters, test_programs  # noqa: E402
 from mounting import Failed, Mount  # noqa: E402
 
 PROGRAM = sys.argv[1]
-SECTOR = 512
-PROFILES = ("ext4", "xfs", "btrfs", "posix")
 
 
 def mounted(*options):
@@ -27,82 +25,10 @@ def mounted(*options):
     return Mount(PROGRAM, *options)
 
 
-# What crashes leave: a program, what is before it, what is looked at, and the outcomes that each profile allows.
-
-A, B = b"A" * SECTOR, b"B" * SECTOR
-
-
-def letters(data):
-    """Writes a sector as a letter, zeros as 0."""
-    if data is None:
-        return "none"
-    if data == b"":
-        return "empty"
-    return "".join({A: "A", B: "B", b"\0" * SECTOR: "0"}.get(data[at:at + SECTOR], "?") for at in range(0, len(data), SECTOR))
-
-
-def replaces(folder, syncs_file, syncs_folder):
-    """Replaces f by a new file."""
-    put(f"{folder}/t", B + B, sync=syncs_file)
-    os.rename(f"{folder}/t", f"{folder}/f")
-    if syncs_folder:
-        sync_folder(folder)
-
-
-def uses_unlinked(folder, syncs):
-    """Unlinks f while it is open, and writes to it."""
-    descriptor = os.open(f"{folder}/f", os.O_RDWR)
-    try:
-        os.unlink(f"{folder}/f")
-        os.pwrite(descriptor, B + B, 0)
-        if syncs:
-            os.fsync(descriptor)
-    finally:
-        os.close(descriptor)
-
-
-def truncates(folder):
-    """Writes f again as a shell's `>` does."""
-    put(f"{folder}/f", B + B, flags=os.O_TRUNC)
-
-
-TORN = {"AA", "BB", "B", "0B", "empty"}
-MIXED = {"none", "AA", "AB", "BA", "BB"}
-PROGRAMS = [
-    ("create, write, fsync, rename, fsync", lambda at: replaces(at, True, True), [{"BB"}] * 4),
-    ("create, write, fsync, rename", lambda at: replaces(at, True, False), [{"AA", "BB"}] * 4),
-    ("create, write, rename", lambda at: replaces(at, False, False), [{"AA", "BB"}, TORN, TORN, TORN]),
-    ("unlink, write", lambda at: uses_unlinked(at, False), [MIXED] * 4),
-    ("unlink, write, fsync", lambda at: uses_unlinked(at, True), [{"none"}, {"none"}, {"none"}, {"none", "BB"}]),
-    ("fsync", lambda at: put(f"{at}/f", B + B, sync=True), [{"BB"}] * 4),
-    ("open that truncates, write, close", truncates, [{"BB"}, TORN | MIXED, TORN | MIXED, TORN | MIXED]),
-]
-
-
-def outcomes(mount, run, crashes):
-    """Runs a program on f = AA, and crashes. Returns what f was after each crash."""
-    seen = set()
-    for number in range(crashes):
-        folder = f"{mount.at}/{number}"
-        os.mkdir(folder)
-        put(f"{folder}/f", A + A)
-        mount.ask("settle")
-        run(folder)
-        mount.ask("crash")
-        seen.add(letters(get(f"{folder}/f")))
-        shutil.rmtree(folder)
-        mount.ask("settle")
-    return seen
-
-
 def test_profiles():
-    """What crashes leave of the programs."""
+    """What crashes leave of small programs."""
     with mounted("--seed", "5", "--keep", "3/4") as mount:
-        for at, profile in enumerate(PROFILES):
-            mount.ask(f"profile {profile}")
-            for name, run, allowed in PROGRAMS:
-                seen = outcomes(mount, run, 16)
-                check(f"{profile}: {name}", seen <= allowed[at] and (len(seen) > 1) >= (len(allowed[at]) > 4), seen)
+        test_programs(mount)
 
 
 def test_stale():

@@ -13,10 +13,12 @@
 #include <fcntl.h>
 #include <getopt.h>
 #include <inttypes.h>
+#include <signal.h>
 #include <stdarg.h>
 #include <stdio.h>
 #include <stdlib.h>
 #include <string.h>
+#include <sys/prctl.h>
 #include <unistd.h>
 
 enum { FAILED = 1, BAD_OPTION = 2, NO_FUSE = 3 };
@@ -143,6 +145,8 @@ int main(int count, char **words) {
     }
     options.directory = directory;
     struct fuse_session *session = mount_it(words[0]);
+    /* In the foreground the daemon ends with the process that started it. */
+    if (options.stays && prctl(PR_SET_PDEATHSIG, SIGTERM)) end(FAILED, "the foreground: %s", strerror(errno));
     if (!options.stays && daemon(0, 0)) end(FAILED, "the background: %s", strerror(errno));
     error = serve(session);
     fuse_session_unmount(session);
