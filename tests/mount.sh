@@ -113,7 +113,7 @@ crash_run '--seeds 4 --profile ext4' --forget-directory
 ok 'ext4 makes a name durable with its file' [ "$status" -eq 0 ]
 crash_run '--seeds 4 --profile posix --keep 1/8' --forget-directory
 ok 'POSIX need not' grep -q '^seed .*: lost$' "$work/out"
-crash_run '--seeds 3' --forget-sync
+crash_run '--seeds 3 --jobs 2' --forget-sync
 ok 'a forgotten sync' [ "$status" -eq 1 ]
 ok 'the durable tree and the acknowledgements' [ -d "$work/failed/seed-3/tree" -a -s "$work/failed/seed-3/acknowledged" ]
 again=$(sed -n 's/^  again: //p' "$work/out" | tail -n 1)
