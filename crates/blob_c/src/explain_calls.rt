@@ -5,7 +5,8 @@ ghost use Rattle.blob_sessions.specs.WholeScripts.{IsRunStatus};
 
 use blob_explain::explain_script;
 use blob_lab::{Ending, Input, Output};
-use blob_sessions::ran::{BAD_LINE, DONE, ENDLESS, NO_MEMORY, NO_ROOM, ScriptRan};
+use blob_sessions::ran::{BAD_LINE, DONE, ENDLESS, NO_MEMORY, NO_ROOM};
+use blob_sessions::{ScriptRan, script};
 use std::alloc::Global;
 
 /// Runs a script, and writes what `blobcrash explain` prints to the start of `text`: the script's replies, with remarks between
@@ -27,23 +28,7 @@ pub extern "C" fn blobcrash_explain(alloc: Global, script: &[u8], text: &mut [u8
     ensures status { IsRunStatus result.status }
 {
     let (ending, explained) = explained_by(alloc, script);
-    let (status, line) = match ending {
-        Ending::Done => (DONE, 0),
-        Ending::BadCall(line) => (BAD_LINE, line),
-        Ending::InputFailed => return ScriptRan::stopped(ENDLESS),
-        // A list is a writer that fails only if memory runs out.
-        _ => return ScriptRan::stopped(NO_MEMORY),
-    };
-    let len = explained.len();
-    if len > text.len() {
-        return ScriptRan {
-            status: NO_ROOM,
-            len,
-            line,
-        };
-    }
-    text[..len].copy_from_slice(&explained);
-    ScriptRan { status, len, line }
+    script::put(ending, &explained, text)
 }
 
 /// How a script ends, and its explanation.
