@@ -18,7 +18,7 @@ use blob_pending::lists::Lists;
 use rand_core::Rng;
 use std::ops::RangeInclusive;
 
-/// Removes a partition from a store, and retires the lists of the incarnations that this ends. Looks at each list.
+/// Removes a partition from a store, and retires the lists of the incarnations that this ends.
 fn remove_partition<S: blob_base::Storage>(
     inner: &mut S,
     lists: &mut Lists<S>,
@@ -32,9 +32,9 @@ fn remove_partition<S: blob_base::Storage>(
     ensures retired { OnOk result (EndsLists S.Durable inner.old partition.now None lists.old lists.new) }
     ensures kept { OnErr result (SameLists S.place lists.old.all.lists.items lists.new.all.lists.items) }
 {
-    lists.note_partition(inner, partition);
+    let ending = lists.find_partition(inner, partition);
     inner.remove(partition, None)?;
-    lists.retire_noted();
+    lists.retire_partition(ending);
     Ok(())
 }
 

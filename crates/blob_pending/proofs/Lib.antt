@@ -4,6 +4,7 @@ pub mod CutSteps
 pub mod Digging
 pub mod Distinct
 pub mod Dropping
+pub mod Ending
 pub mod Finishing
 pub mod Gathering
 pub mod HoleRoom

@@ -19,7 +19,7 @@ use Rattle.blob_pending.specs.Lists.{lists_of, finished_in, is_removed_in, IsLis
 use Rattle.blob_pending.proofs.Removing.{other_number}
 use Rattle.blob_pending.specs.Numbers.{numbers_of, AreIndexed}
 
-equal : (a b : ℕ) → nat_eq a b ≡ true → a ≡ b
+pub equal : (a b : ℕ) → nat_eq a b ≡ true → a ≡ b
 equal a b e = grind (arith, nat_tests)
 
 not_equal : (a b : ℕ) → nat_eq a b ≡ false → a ≢ b
@@ -94,7 +94,7 @@ module _ {O : Type 0} (place : O → Place) (is : List (Incarnation O)) (keys : 
   keys_len = ap length (ix.numbers refl) ∙ length-map is (λ (x : Incarnation O). (place x.origin).number)
 
   -- no two lists have one number
-  same_at : (j k : ℕ) (d : Incarnation O) → j < length is → k < length is → (place (get_or is j d).origin).number ≡ (place (get_or is k d).origin).number → j ≡ k
+  pub same_at : (j k : ℕ) (d : Incarnation O) → j < length is → k < length is → (place (get_or is j d).origin).number ≡ (place (get_or is k d).origin).number → j ≡ k
   same_at j k d hj hk same = ⊎_elim (λ e. e) (λ ne. ⊎_elim
       (λ lt. absurd (not_equal _ _ (apart_from_distinct nat_eq keys j k 0 ix.distinct lt (omega (arith, hk, keys_len))) (key_at j d 0 hj ∙ same ∙ sym (key_at k d 0 hk))))
       (λ le. absurd (not_equal _ _ (apart_from_distinct nat_eq keys k j 0 ix.distinct (omega (arith, le, ne)) (omega (arith, hj, keys_len))) (key_at k d 0 hk ∙ sym same ∙ sym (key_at j d 0 hj))))

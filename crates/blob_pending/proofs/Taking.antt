@@ -31,17 +31,17 @@ none_of place [] a none = refl
 none_of place (x ∷ is) a none = cond-false (same_place (place x.origin) a) _ _ (none 0 x (omega arith)) ∙ none_of place is a (λ k e h. none (suc k) e (omega arith))
 
 -- where a list of an incarnation is, or that none is
-abbrev Somewhere : {O : Type 0} → (O → Place) → List (Incarnation O) → Place → Type 0
+abbrev pub Somewhere : {O : Type 0} → (O → Place) → List (Incarnation O) → Place → Type 0
 Somewhere {O} place is a = (k : ℕ) × (k < length is) × ((e : Incarnation O) → same_place (place (get_or is k e).origin) a ≡ true)
 
-abbrev Nowhere : {O : Type 0} → (O → Place) → List (Incarnation O) → Place → Type 0
+abbrev pub Nowhere : {O : Type 0} → (O → Place) → List (Incarnation O) → Place → Type 0
 Nowhere {O} place is a = (k : ℕ) (e : Incarnation O) → k < length is → same_place (place (get_or is k e).origin) a ≡ false
 
 nowhere_more : {O : Type 0} (place : O → Place) (x : Incarnation O) (is : List (Incarnation O)) (a : Place) → same_place (place x.origin) a ≡ false → Nowhere place is a → Nowhere place (x ∷ is) a
 nowhere_more place x is a other rest zero e h = other
 nowhere_more place x is a other rest (suc k) e h = rest k e (omega arith)
 
-look : {O : Type 0} (place : O → Place) (is : List (Incarnation O)) (a : Place) → Somewhere place is a ⊎ Nowhere place is a
+pub look : {O : Type 0} (place : O → Place) (is : List (Incarnation O)) (a : Place) → Somewhere place is a ⊎ Nowhere place is a
 look place [] a = inr (λ k e h. absurd (omega arith))
 look {O} place (x ∷ is) a = ⊎_elim
     (λ his. inl (0, omega arith, λ e. his))

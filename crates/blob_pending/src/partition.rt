@@ -1,8 +1,8 @@
 //! The lists of a partition's current incarnations.
-ghost use Rattle.std.specs.Prelude.{◌≡◌, not, filter};
+ghost use Rattle.std.specs.Prelude.{◌≡◌, nat_eq, false, not, filter};
 ghost use Rattle.blob_pending.specs.Lists.{lists_of, SameLists};
 ghost use Rattle.blob_pending.specs.Numbers.{AreIndexed};
-ghost use Rattle.blob_pending.specs.Partition.{AreNoted, RetiresNoted};
+ghost use Rattle.blob_pending.specs.Partition.{AreNoted, EndsIndexed, KeepsEnding, AreOfPartition, RetiresNumber, RetiresPartition};
 
 use crate::incarnation::Incarnation;
 use crate::lists::{Lists, insert_new};
@@ -35,6 +35,13 @@ fn drop_noted<O: Drop>(lists: &mut Vec<Incarnation<O>>)
     lists.retain(|list| !list.ends);
 }
 
+/// Drops the lists of incarnations with this number.
+fn drop_numbered<S: Durable>(lists: &mut Vec<Incarnation<S::Origin>>, number: u64)
+    ensures { lists.new.items ≡ filter (λ i. not (nat_eq (S.place i.origin).number number)) lists.old.items }
+{
+    lists.retain(|list| S::number_of(&list.origin) != number);
+}
+
 /// Makes an index of the lists and returns whether it can't be used.
 fn index_all<S: Durable>(numbers: &mut IndexSet<u64>, lists: &[Incarnation<S::Origin>]) -> bool
     ensures { AreIndexed S.place lists.now numbers.new.keys result }
@@ -49,21 +56,83 @@ fn index_all<S: Durable>(numbers: &mut IndexSet<u64>, lists: &[Incarnation<S::Or
     searched
 }
 
+/// Returns whether a removal of the partition ends an incarnation with this number that has a list, found in the index.
+fn has_ending<S: Durable>(
+    lists: &[Incarnation<S::Origin>],
+    numbers: &IndexSet<u64>,
+    store: &S,
+    partition: &str,
+    number: &u64,
+) -> bool
+    ensures { EndsIndexed S.place (S.directory store.now) partition.now lists.now numbers.now.keys number.now result }
+{
+    let Some(i) = numbers.get_index_of(number) else {
+        return false;
+    };
+    match lists.get(i) {
+        Some(list) => store.is_removed(&list.origin, partition, None),
+        None => false,
+    }
+}
+
+/// Keeps the numbers of incarnations that have lists and that a removal of the partition ends.
+fn keep_ending<S: Durable>(
+    ending: &mut Vec<u64>,
+    lists: &[Incarnation<S::Origin>],
+    numbers: &IndexSet<u64>,
+    store: &S,
+    partition: &str,
+)
+    requires { AreIndexed S.place lists.now numbers.now.keys false }
+    ensures { KeepsEnding S.place (S.directory store.now) partition.now lists.now ending.old.items ending.new.items }
+{
+    ending.retain(|number| has_ending(lists, numbers, store, partition, number));
+}
+
 impl<S: Durable> Lists<S> {
-    /// Notes which lists are of current incarnations of the partition. Call this before a removal of the partition.
-    pub fn note_partition(&mut self, store: &S, partition: &str)
+    /// Finds the lists of a partition's current incarnations. Call this before a removal of the partition. Returns their
+    /// incarnations' numbers. Returns None if the index is not used or if memory for the numbers is refused, and then notes it
+    /// in each list.
+    pub fn find_partition(&mut self, store: &S, partition: &str) -> Option<Vec<u64>>
         ensures same { SameLists S.place self.old.all.lists.items self.new.all.lists.items }
-        ensures noted { AreNoted S.place (S.directory store.now) partition.now self.new.all.lists.items }
+        ensures found { AreOfPartition S.place (S.directory store.now) partition.now self.new.all.lists.items result }
     {
+        if !self.searched {
+            if let Ok(mut ending) = store.current_numbers(partition) {
+                let all = &self.all;
+                keep_ending::<S>(&mut ending, &all.lists, &self.numbers, store, partition);
+                return Some(ending);
+            }
+        }
         note_all(&mut self.all.lists, store, partition);
+        None
     }
 
-    /// Drops the lists that `note_partition` noted. Call this after a removal of the partition.
-    pub fn retire_noted(&mut self)
-        ensures { RetiresNoted S.place self.old.all.lists.items self.new.all.lists.items }
+    /// Drops the lists of the incarnations with a number. The index has at most one.
+    fn retire_number(&mut self, number: u64)
+        ensures { RetiresNumber S.place self.old.all.lists.items self.new.all.lists.items number }
     {
-        drop_noted(&mut self.all.lists);
-        let all = &self.all;
-        self.searched = index_all::<S>(&mut self.numbers, &all.lists);
+        if self.searched {
+            drop_numbered::<S>(&mut self.all.lists, number);
+            return;
+        }
+        if let Some(i) = self.numbers.get_index_of(&number) {
+            self.take(i);
+        }
+    }
+
+    /// Drops the lists that `find_partition` found. Call this after a removal of the partition.
+    pub fn retire_partition(&mut self, ending: Option<Vec<u64>>)
+        ensures { RetiresPartition S.place self.old.all.lists.items self.new.all.lists.items ending }
+    {
+        let Some(ending) = ending else {
+            drop_noted(&mut self.all.lists);
+            let all = &self.all;
+            self.searched = index_all::<S>(&mut self.numbers, &all.lists);
+            return;
+        };
+        for number in &ending {
+            self.retire_number(*number);
+        }
     }
 }
