@@ -136,7 +136,7 @@ if has sqlite3; then
     crash_sqlite FULL 12
     ok 'at FULL it loses a commit' grep -q '^seed .*: lost$' "$work/out"
 else
-    leave_out 'SQLite: there is no sqlite3'
+    skip 'SQLite: there is no sqlite3'
 fi
 run sh examples/mount.sh
 ok 'examples/mount.sh' grep -q '^ *4 .*/synced$' "$work/out"
