@@ -212,6 +212,46 @@ def maps_and_waits(mount):
     maps.stdout.close()
 
 
+SURVIVES = """
+import random
+draw, root, held = random.Random(int(sys.argv[2])), sys.argv[1], []
+name = lambda: root + "/" + draw.choice(["a", "b", "c", "d", "d/x", "e", "e/z", "e/f", "e/f/g"])
+calls = [lambda: os.mkdir(name()), lambda: os.rename(name(), name()), lambda: os.unlink(name()), lambda: os.rmdir(name()),
+         lambda: os.link(name(), name()), lambda: os.listdir(name()), lambda: os.symlink("a", name()),
+         lambda: held.append(os.open(name(), os.O_RDWR | draw.choice([0, os.O_CREAT, os.O_TRUNC]))),
+         lambda: os.pwrite(draw.choice(held), bytes(draw.choice([1, 5000, 100000])), draw.choice([0, 77, 4096])),
+         lambda: os.fsync(draw.choice(held)), lambda: os.close(held.pop(draw.randrange(len(held))))]
+while True:
+    try:
+        draw.choice(calls)()
+    except (OSError, IndexError, ValueError):
+        pass
+"""
+
+
+def test_survivors(daemon):
+    """Programs that aren't killed go on through crashes, and neither they nor the daemon hang."""
+    with Mount(daemon, "--seed", "9", "--size", "64M") as mount:
+        programs = [program(SURVIVES, mount.at, str(seed)) for seed in range(4)]
+        for number in range(24):
+            time.sleep(0.02)
+            if number % 3 == 1:
+                mount.ask("off")
+            if number % 3 == 2:
+                mount.ask("crash-after 30")
+                time.sleep(0.02)
+            mount.ask("crash")
+        status = mount.control.status()
+        check("the programs run on", all(survivor.poll() is None for survivor in programs) and status["life"] == "25", status)
+        for survivor in programs:
+            survivor.kill()
+        check("the programs end", [survivor.wait(10) for survivor in programs] == [-signal.SIGKILL] * 4)
+        for survivor in programs:
+            survivor.stdout.close()
+        mount.control.end()
+        check("the daemon ends well after them", mount.daemon.wait(20) == 0 and not mount.messages(), mount.messages())
+
+
 def refused(mount, line):
     """Returns whether a command is refused."""
     try:
@@ -242,6 +282,7 @@ def main():
     tests = [lambda seed=seed: differential(seed, 400, PROGRAM) for seed in (1, 2, 3)]
     if sanitized:
         tests.append(lambda: differential(4, 400, sanitized))
+    tests.append(lambda: test_survivors(sanitized or PROGRAM))
     tests += [test_profiles, test_stale, test_names, test_kinds, test_bytes, test_write_back, test_power, test_kill]
     for test in tests:
         began = time.time()

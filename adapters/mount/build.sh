@@ -18,6 +18,7 @@ if ! pkg-config --atleast-version=3.10 fuse3 2>/dev/null; then
     exit 3
 fi
 if [ -z "$archive" ]; then
+    [ -f "$top/out/libblobcrash.a" ] || echo "mount: the library is proved and built first, which takes some minutes" >&2
     sh "$top/bindings/build.sh" >&2
     archive=$top/out/libblobcrash.a
 fi

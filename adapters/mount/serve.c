@@ -10,6 +10,7 @@
 #include <signal.h>
 #include <stdlib.h>
 #include <string.h>
+#include <sys/prctl.h>
 #include <unistd.h>
 
 /* The most calls that a crash ends. A program that goes on after a power loss may make calls without end. */
@@ -47,7 +48,7 @@ int serve_crash(struct layer_crash *crash, pid_t *child) {
     if (!error) {
         *child = fork();
         if (*child < 0) error = errno;
-        if (*child == 0) forget_names(names, count);
+        if (*child == 0 && prctl(PR_SET_PDEATHSIG, SIGKILL) == 0) forget_names(names, count);
     }
     free(names);
     return error;
