@@ -84,6 +84,10 @@ if has "$compiler"; then
     tell $? 'C: forks of a session'
     "$work/hostile" "$top/tests/hostile.tsv" >"$work/out" 2>"$work/err"
     tell $? 'C: hostile arguments'
+    # The linker passes the allocations of the program and of the library on to the program, which refuses some.
+    build_files() { $build "$@" "$top/bindings/c/files.c" "$top/out/libblobcrash.a" -Wl,--wrap=malloc,--wrap=realloc; }
+    build_files -o "$work/files" >"$work/out" 2>"$work/err" && "$work/files" >"$work/out" 2>"$work/err"
+    tell $? 'C: what each call on files returns'
     answers 'C, line by line' "$work/lines"
     answers 'C, at once' "$work/lines" --whole
     explains C "$work/lines"
@@ -96,7 +100,7 @@ if has "$compiler"; then
     tell $? 'C: the script of the log that forgets a sync'
     if has c++; then
         cat >"$work/headers.cc" <<'END'
-#include "blobcrash.h"
+#include "blobcrash_files.h"
 static void on_line(blobcrash_session *, const char *, size_t) {}
 #define BLOBCRASH_ON_LINE on_line
 #include "fork.h"
@@ -138,6 +142,8 @@ END
         tell $? 'C, sanitized: forks of a session'
         "$work/hostile.sanitized" "$top/tests/hostile.tsv" >"$work/out" 2>"$work/err"
         tell $? 'C, sanitized: hostile arguments'
+        build_files -g -fsanitize=address,undefined -o "$work/files.sanitized" && "$work/files.sanitized" >"$work/out" 2>"$work/err"
+        tell $? 'C, sanitized: what each call on files returns'
         answers 'C, sanitized' "$work/lines.sanitized"
         answers 'C, at once, sanitized' "$work/lines.sanitized" --whole
         explains 'C, sanitized' "$work/lines.sanitized"

@@ -1,5 +1,5 @@
-"""The numbers and structs of the package for Python are those of the C header: bindings/c/numbers.c has what each number does. The last
-line is `N passed, M failed`."""
+"""The numbers and structs of the package for Python are those of the C header, and the numbers of calls on files those of the library's
+sources: bindings/c/numbers.c and bindings/c/files.c have what each number does. The last line is `N passed, M failed`."""
 
 import ctypes
 import os
@@ -14,6 +14,7 @@ sys.path.insert(0, os.path.join(TOP, "bindings", "python"))
 from blobcrash import foreign
 
 HEADERS = os.path.join(TOP, "bindings", "c")
+SOURCES = os.path.join(TOP, "crates", "blob_file_sessions", "src")
 STRUCTS = {"blobcrash_session": foreign.Session, "blobcrash_ran": foreign.Ran, "blobcrash_script_ran": foreign.ScriptRan}
 
 
@@ -22,6 +23,15 @@ def numbers_of(header):
     with open(os.path.join(HEADERS, header), encoding="utf-8") as file:
         found = re.findall(r"^ *BLOBCRASH_(\w+) = (\d+)", file.read(), re.M)
     return {name[2:] if name.startswith("E_") and name != "E_CLOSED" else name: int(number) for name, number in found}
+
+
+def numbers_in(sources):
+    """The constants of source files of the library, as lines of a header."""
+    found = []
+    for source in sources:
+        with open(os.path.join(SOURCES, source), encoding="utf-8") as file:
+            found += re.findall(r"^pub const (\w+): u32 = (\d+);", file.read(), re.M)
+    return sorted((f"F_{name}", int(number)) for name, number in found)
 
 
 def named():
@@ -59,6 +69,8 @@ def own_layouts():
 def main():
     checks = [(f"{name} is {value}", numbers_of("blobcrash.h").get(name) == value) for name, value in named().items()]
     checks.append(("eight numbers are compared", len(checks) == 8))
+    files = numbers_in(["kinds.rt", "refusals.rt"])
+    checks.append(("the numbers of files", len(files) == 42 and files == sorted(numbers_of("blobcrash_files.h").items())))
     checks.append(("the structs", own_layouts() == layouts()))
     for what, holds in checks:
         if not holds:

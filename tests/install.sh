@@ -33,6 +33,7 @@ cat >"$work/files" <<'FILES'
 bin/blobcrash
 include/blobcrash/blobcrash.h
 include/blobcrash/blobcrash_calls.h
+include/blobcrash/blobcrash_files.h
 include/blobcrash/blobcrash_lines.h
 include/blobcrash/explore.h
 include/blobcrash/fork.h

@@ -4,6 +4,7 @@
 #![tactic(auto)]
 
 pub mod explain_calls;
+pub mod file_calls;
 pub mod header_calls;
 
 ghost use Rattle.std.specs.Prelude.{◌≡◌, ◌⊎◌, ◌<◌, ◌≤◌, None, IsSome, IfSome, take, drop, length};

@@ -1,5 +1,8 @@
 -- The names of a file system, and what its calls leave of them.
 use Rattle.std.specs.Prelude.{◌≡◌, ℕ}
+use Rattle.blob_faulty.specs.Lends.{with_rng}
+use Rattle.blob_faulty.specs.Wrapper.{rng_of}
+use Rattle.blob_fs.specs.declared.file_system.Descriptor.{Descriptor}
 use Rattle.blob_fs.specs.declared.file_system.FileSystem.{FileSystem}
 use Rattle.blob_directory.specs.declared.table.Table.{Table}
 use Rattle.blob_directory.specs.Names.{Edit, Names, Same, edited}
@@ -16,6 +19,17 @@ names_of fs = bound fs.names
 -- the number of the next inode
 abbrev pub fresh_inode : {R : Type 0} → FileSystem R → ℕ
 fresh_inode fs = fs.next_inode
+
+abbrev pub descriptor_number : Descriptor → ℕ
+descriptor_number descriptor = descriptor.number
+
+-- the generator that the draws come from
+abbrev pub generator_of : {R : Type 0} → FileSystem R → R
+generator_of fs = rng_of fs.store
+
+-- with another generator; all else stays
+abbrev pub with_generator : {R : Type 0} → FileSystem R → R → FileSystem R
+with_generator fs rng = record fs { store = with_rng fs.store rng }
 
 -- nothing has happened to the names
 abbrev pub KeepsNames : {R : Type 0} → FileSystem R → FileSystem R → Type 0

@@ -1,6 +1,7 @@
 //! Files with names, directories, renames and their syncs over the fault wrapper.
 #![tactic(auto)]
 
+pub mod access;
 pub mod crash;
 pub mod error;
 pub mod file_system;

@@ -1,0 +1,172 @@
+/*
+ * Files with names, directories, renames and their syncs, over the storage layer: a crash keeps only some of the bytes, and of the
+ * changes of names, that no sync made durable. docs/FILES.md says what a crash may leave.
+ *
+ * The duties of a caller are those of blobcrash.h, with `struct blobcrash_files` in place of a session.
+ *
+ * A path is names behind slashes, from the root on: bytes, without a final zero. An inode is a file or a directory, by its number; the
+ * root has the number 1. A descriptor is a number too, from 0 on; no number is used again, and after a crash all are stale. An edit is
+ * a change of names that one call made.
+ */
+#ifndef BLOBCRASH_FILES_H
+#define BLOBCRASH_FILES_H
+
+#include "blobcrash.h"
+
+#ifdef __cplusplus
+extern "C" {
+#endif
+
+/* The status of a call on files that was made and refused, in the words of errno. Refusals of the layer keep their numbers. */
+enum blobcrash_file_refusal {
+    BLOBCRASH_F_EXISTS = 64,         /* the name is taken */
+    BLOBCRASH_F_NOT_FOUND = 65,      /* no file or directory has this name or number */
+    BLOBCRASH_F_NOT_EMPTY = 66,      /* the directory has names */
+    BLOBCRASH_F_IS_DIRECTORY = 67,   /* the call wants a file */
+    BLOBCRASH_F_NOT_DIRECTORY = 68,  /* the call wants a directory */
+    BLOBCRASH_F_NAME_TOO_LONG = 69,  /* a name has more than 255 bytes */
+    BLOBCRASH_F_INVALID_NAME = 70,   /* a name is empty, `.` or `..`, or has a zero or a slash */
+    BLOBCRASH_F_TOO_MANY_LINKS = 71, /* the file has 65,000 names */
+    BLOBCRASH_F_STALE = 72,          /* the descriptor is closed, or from before the last crash */
+    BLOBCRASH_F_NO_SPACE = 73,       /* a limit of bytes or files is reached, or no number is left */
+    BLOBCRASH_F_LOOP = 74,           /* a directory would be moved below itself */
+    BLOBCRASH_F_CRASHED = 75         /* memory ran out in the recovery of the last crash: crash again */
+};
+
+/* The kinds of calls, each with the fields and bytes that it uses, and what it returns. It ignores the others. */
+enum blobcrash_file_kind {
+    /* By paths. */
+    BLOBCRASH_F_CREATE = 0,           /* path. Returns a descriptor in `number`. Refused as EXISTS if the name is taken */
+    BLOBCRASH_F_OPEN = 1,             /* path. Returns a descriptor */
+    BLOBCRASH_F_OPEN_TRUNCATED = 2,   /* path. Returns a descriptor */
+    BLOBCRASH_F_LINK = 3,             /* path, to */
+    BLOBCRASH_F_UNLINK = 4,           /* path */
+    BLOBCRASH_F_RENAME = 5,           /* path, to, first: 0 replaces, 1 refuses a name that is taken, 2 exchanges */
+    BLOBCRASH_F_MAKE_DIRECTORY = 6,   /* path */
+    BLOBCRASH_F_REMOVE_DIRECTORY = 7, /* path */
+    BLOBCRASH_F_LIST = 8,             /* path. Returns in `size` how many names the directory has; blobcrash_files_name copies one */
+    BLOBCRASH_F_SYNC_DIRECTORY = 9,   /* path */
+    BLOBCRASH_F_FIND = 10,            /* path. Returns an inode in `number`, and in `kind` 0 for a file or 1 for a directory */
+    /* By the number of a directory, in `number`, and a name, in `path`. */
+    BLOBCRASH_F_CREATE_AT = 16,           /* returns a descriptor in `number` */
+    BLOBCRASH_F_LINK_AT = 17,             /* first: the inode that gets the name */
+    BLOBCRASH_F_UNLINK_AT = 18,
+    BLOBCRASH_F_RENAME_AT = 19,           /* first: the other directory; to: the other name; last: 0, 1 or 2 as for RENAME */
+    BLOBCRASH_F_MAKE_DIRECTORY_AT = 20,   /* returns its inode in `number` */
+    BLOBCRASH_F_REMOVE_DIRECTORY_AT = 21,
+    BLOBCRASH_F_LIST_AT = 22,             /* no name. Returns as LIST */
+    BLOBCRASH_F_SYNC_DIRECTORY_AT = 23,   /* no name */
+    BLOBCRASH_F_FIND_AT = 24,             /* returns as FIND */
+    BLOBCRASH_F_OPEN_INODE = 25,          /* no name; number: a file's inode. Returns a descriptor */
+    /* By a descriptor, in `number`. */
+    BLOBCRASH_F_CLOSE = 32,
+    BLOBCRASH_F_TRUNCATE = 33,  /* first: the length, also one beyond the end */
+    BLOBCRASH_F_SIZE = 34,      /* returns `size`, in bytes */
+    BLOBCRASH_F_SYNC = 35,
+    BLOBCRASH_F_SYNC_DATA = 36,
+    BLOBCRASH_F_INODE_OF = 37,  /* returns an inode in `number` */
+    /* The whole file system. */
+    BLOBCRASH_F_SYNC_ALL = 48,
+    BLOBCRASH_F_SETTLE = 49,    /* makes all durable, without a draw: the state before a test */
+    BLOBCRASH_F_CRASH = 50      /* returns in `size` for how many writes it drew, in `number` how many edits were unsettled */
+};
+
+/* A file system, or none. Of all zeros it is closed. Its fields belong to the library. */
+struct blobcrash_files {
+    void *at;
+    bool is_open;
+};
+
+/* A call without its bytes. */
+struct blobcrash_file_call {
+    uint32_t kind;
+    uint64_t number;
+    uint64_t first;
+    uint64_t last;
+};
+
+/* What a call returns. The numbers that it doesn't return are 0. */
+struct blobcrash_file_reply {
+    /* DONE, a refusal, or another status if no call was made. */
+    uint32_t status;
+    uint32_t kind;
+    uint64_t number;
+    uint64_t size;
+};
+
+/*
+ * Opens a new, empty file system. The preamble has the lines `words W ..` and `seed N`, and then settings, in any order and all
+ * optional: `profile ext4|xfs|btrfs|posix` (ext4 without one); `config ..` as for a session (the faults of calls on files, and which
+ * bytes of an unsynced write a crash keeps: none without one); `keep N D`, how often a crash keeps an edit that nothing settled (1 2
+ * without one); `space BYTES FILES`, the limits. If the files were open, their file system ends.
+ *
+ * DONE; BAD_LINE with the number of a line that isn't allowed there; NO_MEMORY. The last two change nothing.
+ */
+struct blobcrash_script_ran blobcrash_files_open(struct blobcrash_files *files, const uint8_t *preamble, size_t preamble_len);
+
+/*
+ * Makes a setting, a line as in the preamble without its line feed. What is pending keeps the mode and the rate of its issue.
+ *
+ * DONE; BAD_LINE if it is no setting, NO_MEMORY and CLOSED, which change nothing.
+ */
+uint32_t blobcrash_files_configure(struct blobcrash_files *files, const uint8_t *setting, size_t setting_len);
+
+/*
+ * Makes a call.
+ *
+ * DONE; a refusal; BAD_CALL if the kind is unknown or the number of a rename is above 2, and CLOSED, which change nothing.
+ */
+struct blobcrash_file_reply blobcrash_files_apply(struct blobcrash_files *files, const struct blobcrash_file_call *asked,
+                                                  const uint8_t *path, size_t path_len, const uint8_t *to, size_t to_len);
+
+/*
+ * Writes bytes at an offset, unsynced.
+ *
+ * DONE; F_STALE, F_NO_SPACE, F_CRASHED, and refusals of the layer's write, of which E_INJECTED may leave a part; CLOSED.
+ */
+uint32_t blobcrash_files_write(struct blobcrash_files *files, uint64_t descriptor, uint64_t offset, const uint8_t *bytes, size_t len);
+
+/*
+ * Reads the bytes from an offset on, as many as there are and as fit. Returns how many in `len`, 0 at and beyond the end.
+ *
+ * DONE; F_STALE, F_CRASHED, and refusals of the layer's read; CLOSED. Only DONE changes `into`.
+ */
+struct blobcrash_ran blobcrash_files_read(struct blobcrash_files *files, uint64_t descriptor, uint64_t offset, uint8_t *into,
+                                          size_t capacity);
+
+/*
+ * Copies the name with an index, from 0 on, to the start of `into`. The last call is a LIST or a LIST_AT; names are sorted by their
+ * bytes. `kind` and `number` of the reply are those of FIND, `size` is the length of the name.
+ *
+ * DONE; NO_ROOM with the length in `size`; OTHER_REPLY if the last call has no such name; CLOSED. None changes anything else.
+ */
+struct blobcrash_file_reply blobcrash_files_name(struct blobcrash_files *files, size_t index, uint8_t *into, size_t capacity);
+
+/*
+ * Returns the first run of kept bytes at or after the index `from` of one write. The last call is a CRASH, and `row` counts the writes
+ * for which it drew, from 0 on, in the order of their issue. The sector of an unsettled edit, of 1,024 bytes, is a write too.
+ *
+ * DONE, also if no further byte was kept; OTHER_REPLY if the last call has no such row; CLOSED. None changes anything.
+ */
+struct blobcrash_kept_run blobcrash_files_kept_run(struct blobcrash_files *files, size_t row, size_t from);
+
+/*
+ * Returns in `len` 1 if the last call, a CRASH, kept the unsettled edit with this index, from 0 on in the order of their issue, and 0 if
+ * not.
+ *
+ * DONE; OTHER_REPLY if the last call has no such edit; CLOSED. None changes anything.
+ */
+struct blobcrash_ran blobcrash_files_kept_edit(struct blobcrash_files *files, size_t index);
+
+/* As blobcrash_words_left and blobcrash_push_words. */
+struct blobcrash_ran blobcrash_files_words_left(struct blobcrash_files *files);
+uint32_t blobcrash_files_push_words(struct blobcrash_files *files, const uint64_t *words, size_t count);
+
+/* Closes files and frees their file system. Closed ones stay closed. */
+void blobcrash_files_close(struct blobcrash_files *files);
+
+#ifdef __cplusplus
+}
+#endif
+
+#endif

@@ -1,0 +1,37 @@
+-- Calls on files, by the status that they return. If no call was made, nothing has changed.
+use Rattle.std.specs.Prelude.{◌≡◌, ◌⊎◌, ◌++◌, ℕ, List, true, is_some}
+use Rattle.blob_lab_model.specs.Scripted.{scripted_stream}
+use Rattle.blob_tree.specs.WordsLeft.{EndsAfter}
+use Rattle.blob_fs.specs.Files.{KeepsNames, generator_of}
+use Rattle.blob_sessions.specs.declared.ran.TheConstants.{BAD_CALL, BAD_LINE, DONE, ENDLESS, NO_MEMORY}
+use Rattle.blob_sessions.specs.declared.ran.Ran.{Ran}
+use Rattle.blob_file_sessions.specs.Held.{fs_of}
+use Rattle.blob_file_sessions.specs.Replies.{last_reply, no_reply}
+use Rattle.blob_file_sessions.specs.declared.call.FileReply.{FileReply}
+use Rattle.blob_file_sessions.specs.declared.kept.KeptFiles.{KeptFiles}
+
+-- a call by its numbers: no call was made, or these are the numbers of its reply, which is kept
+abbrev pub Answers : KeptFiles → KeptFiles → FileReply → Type 0
+Answers k k' reply = ((reply ≡ no_reply BAD_CALL) × (k' ≡ k)) ⊎ (reply ≡ last_reply k')
+
+-- a setting
+pub record Configures (k k' : KeptFiles) (status : ℕ) : Type 0 where
+  pub names : KeepsNames (fs_of k) (fs_of k')
+  pub bad_line : status ≡ BAD_LINE → k' ≡ k
+  pub no_memory : status ≡ NO_MEMORY → k' ≡ k
+  pub last : k'.last ≡ k.last
+  pub known : (status ≡ DONE) ⊎ (status ≡ BAD_LINE) ⊎ (status ≡ NO_MEMORY)
+
+-- `len` words are left, after which all words are zero; or a seed gives the words after them
+pub record TellsFileWords (k : KeptFiles) (ran : Ran) : Type 0 where
+  pub done : ran.status ≡ DONE → EndsAfter (scripted_stream (generator_of (fs_of k))) ran.len
+  pub endless : ran.status ≡ ENDLESS → (ran.len ≡ 0) × (is_some (generator_of (fs_of k)).1 ≡ true)
+  pub status : (ran.status ≡ DONE) ⊎ (ran.status ≡ ENDLESS)
+
+-- these words come next; the rest stays as it is
+pub record TakesWords (k k' : KeptFiles) (words : List ℕ) (status : ℕ) : Type 0 where
+  pub done : status ≡ DONE → (generator_of (fs_of k')).0 ≡ words ++ (generator_of (fs_of k)).0
+  pub seed : (generator_of (fs_of k')).1 ≡ (generator_of (fs_of k)).1
+  pub names : KeepsNames (fs_of k) (fs_of k')
+  pub no_memory : status ≡ NO_MEMORY → k' ≡ k
+  pub known : (status ≡ DONE) ⊎ (status ≡ NO_MEMORY)

@@ -1,0 +1,45 @@
+-- What an exported call does with files: open ones stay open, and closed ones closed.
+use Rattle.std.specs.Prelude.{◌≡◌, ℕ, List, Option, Some, None}
+use Rattle.blob_fs.specs.Files.{KeepsNames}
+use Rattle.blob_sessions.specs.declared.ran.TheConstants.{CLOSED}
+use Rattle.blob_file_sessions.specs.Calls.{Answers, Configures, TakesWords}
+use Rattle.blob_file_sessions.specs.Held.{files_of, fs_of}
+use Rattle.blob_file_sessions.specs.LastParts.{CopiesEntry}
+use Rattle.blob_file_sessions.specs.Replies.{last_reply, no_reply}
+use Rattle.blob_file_sessions.specs.declared.call.FileReply.{FileReply}
+use Rattle.blob_file_sessions.specs.declared.files.Files.{Files}
+use Rattle.blob_file_sessions.specs.declared.kept.KeptFiles.{KeptFiles}
+
+-- what was held and is: open files stay open, and closed ones closed
+abbrev pub OnHeld : Option KeptFiles → Option KeptFiles → (KeptFiles → KeptFiles → Type 0) → Type 0 → Type 0
+OnHeld None None Open Closed = Closed
+OnHeld (Some k) (Some k') Open Closed = Open k k'
+OnHeld old new Open Closed = ⊥
+
+-- what holds of open files, and of closed ones
+abbrev pub OnFiles : Files → Files → (KeptFiles → KeptFiles → Type 0) → Type 0 → Type 0
+OnFiles before after Open Closed = OnHeld (files_of before) (files_of after) Open Closed
+
+-- open files are only read
+abbrev pub ReadsFiles : Files → Files → (KeptFiles → Type 0) → Type 0 → Type 0
+ReadsFiles before after Open Closed = OnFiles before after (λ k k'. (k' ≡ k) × Open k) Closed
+
+-- a call by its numbers
+abbrev pub AnswersCall : Files → Files → FileReply → Type 0
+AnswersCall before after reply = OnFiles before after (λ k k'. Answers k k' reply) (reply ≡ no_reply CLOSED)
+
+abbrev pub MakesSetting : Files → Files → ℕ → Type 0
+MakesSetting before after status = OnFiles before after (λ k k'. Configures k k' status) (status ≡ CLOSED)
+
+-- a write or a read, which changes no name. The status is that of its reply, which is kept
+abbrev pub Transfers : Files → Files → ℕ → Type 0
+Transfers before after status =
+    OnFiles before after (λ k k'. KeepsNames (fs_of k) (fs_of k') × (status ≡ (last_reply k').status)) (status ≡ CLOSED)
+
+-- the name of an entry of the last reply
+abbrev pub CopiesEntryFrom : Files → Files → ℕ → FileReply → List ℕ → List ℕ → Type 0
+CopiesEntryFrom before after index reply old new =
+    ReadsFiles before after (λ k. CopiesEntry k.last index reply old new) ((reply ≡ no_reply CLOSED) × (new ≡ old))
+
+abbrev pub InsertsFileWords : Files → Files → List ℕ → ℕ → Type 0
+InsertsFileWords before after words status = OnFiles before after (λ k k'. TakesWords k k' words status) (status ≡ CLOSED)

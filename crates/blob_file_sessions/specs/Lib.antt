@@ -1,0 +1,6 @@
+pub mod Calls
+pub mod Exports
+pub mod Held
+pub mod LastParts
+pub mod Owned
+pub mod Replies

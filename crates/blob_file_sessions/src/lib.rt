@@ -1,0 +1,20 @@
+//! Files for a program in another language: a file system that is begun by a preamble, and its calls by numbers and bytes. `blob_c`
+//! exports these to C.
+#![tactic(auto)]
+
+pub mod call;
+pub mod files;
+pub mod kept;
+pub mod kinds;
+mod loose;
+pub mod parts;
+pub mod preamble;
+pub mod refusals;
+pub mod reply;
+pub mod setting;
+
+pub use call::{FileCall, FileReply};
+pub use files::Files;
+pub use kept::KeptFiles;
+pub use reply::Reply;
+pub use setting::FileSetting;

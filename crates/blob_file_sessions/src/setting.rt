@@ -1,0 +1,133 @@
+// The lines that begin a file system and set what it does.
+use blob_base::Probability;
+use blob_fs::{Options, Profile};
+use blob_lab::script::{Line, RefusedLine, Setting, read_line};
+use blob_script::script::setting::copy_of;
+use blob_script::script::token::Tokens;
+use std::alloc::Global;
+
+/// A change of a file system's options.
+#[derive(Clone, Copy)]
+pub enum FileSetting {
+    /// What a crash may leave and a sync settles.
+    Profile(Profile),
+    /// The faults of calls on files, and which bytes of an unsynced write a crash keeps.
+    Faults(Setting),
+    /// How often a crash keeps an edit that nothing settled.
+    Keep(Probability),
+    /// The limits.
+    Space { bytes: u64, files: u64 },
+}
+
+/// What a line before the first call says.
+#[derive(Drop)]
+pub enum FileLine {
+    /// An empty line or a comment.
+    Blank,
+    /// More words for the generator.
+    Words(Vec<u64>),
+    /// The seed of the words after the given ones.
+    Seed(u64),
+    Set(FileSetting),
+}
+
+/// Returns the profile with a name.
+fn profile(tokens: &mut Tokens) -> Option<Profile> {
+    match tokens.next()? {
+        "ext4" => Some(Profile::ext4()),
+        "xfs" => Some(Profile::xfs()),
+        "btrfs" => Some(Profile::btrfs()),
+        "posix" => Some(Profile::posix()),
+        _ => None,
+    }
+}
+
+fn rate(tokens: &mut Tokens) -> Result<Probability, RefusedLine> {
+    let numerator = tokens.number()?;
+    let denominator = tokens.number()?;
+    Probability::new(numerator, denominator).ok_or(RefusedLine::BadCall)
+}
+
+/// Parses a line of a preamble, without its line feed. The caller checks whether it is allowed after those before it.
+///
+/// # Errors
+///
+/// `BadCall` if it is no such line, `NoMemory`.
+pub fn read_file_line(alloc: Global, line: &[u8]) -> Result<FileLine, RefusedLine> {
+    let Ok(text) = std::str::from_utf8(line) else {
+        return Err(RefusedLine::BadCall);
+    };
+    let mut tokens = Tokens::new(text);
+    let setting = match tokens.next() {
+        Some("profile") => {
+            FileSetting::Profile(profile(&mut tokens).ok_or(RefusedLine::BadCall)?)
+        }
+        Some("keep") => FileSetting::Keep(rate(&mut tokens)?),
+        Some("space") => FileSetting::Space {
+            bytes: tokens.number()?,
+            files: tokens.number()?,
+        },
+        _ => return shared_line(alloc, line),
+    };
+    match tokens.next() {
+        None => Ok(FileLine::Set(setting)),
+        Some(_) => Err(RefusedLine::BadCall),
+    }
+}
+
+/// Parses a setting. The errors are those of `read_file_line`; a line that is no setting is a `BadCall` too.
+pub fn read_file_setting(alloc: Global, line: &[u8]) -> Result<FileSetting, RefusedLine> {
+    match &read_file_line(alloc, line)? {
+        FileLine::Set(setting) => Ok(*setting),
+        FileLine::Blank | FileLine::Words(_) | FileLine::Seed(_) => Err(RefusedLine::BadCall),
+    }
+}
+
+/// Parses a line that a script has too.
+fn shared_line(alloc: Global, line: &[u8]) -> Result<FileLine, RefusedLine> {
+    match read_line(alloc, line)? {
+        Line::Blank => Ok(FileLine::Blank),
+        Line::Words(words) => Ok(FileLine::Words(words)),
+        Line::Seed(seed) => Ok(FileLine::Seed(seed)),
+        Line::Configure(setting) => Ok(FileLine::Set(FileSetting::Faults(setting))),
+        Line::Image { .. } | Line::Call(_) => Err(RefusedLine::BadCall),
+    }
+}
+
+/// Returns the options of a file system without settings: ext4, no fault, no limit; a crash loses all bytes that aren't synced, and
+/// keeps an unsettled edit with a rate of 1/2.
+pub fn first_options() -> Options {
+    Options {
+        profile: Profile::ext4(),
+        faults: blob_faulty::Config::default(),
+        edit_rate: Probability::new(1, 2).unwrap_or(Probability::ZERO),
+        max_bytes: u64::MAX,
+        max_files: u64::MAX,
+    }
+}
+
+impl FileSetting {
+    /// Returns the options with this change.
+    pub fn apply(self, options: &Options) -> Options {
+        let faults = copy_of(&options.faults);
+        let mut changed = Options {
+            profile: options.profile,
+            faults,
+            edit_rate: options.edit_rate,
+            max_bytes: options.max_bytes,
+            max_files: options.max_files,
+        };
+        match self {
+            FileSetting::Profile(profile) => changed.profile = profile,
+            FileSetting::Faults(setting) => changed.faults = setting.apply(copy_of(
+                &options.faults,
+            )),
+            FileSetting::Keep(rate) => changed.edit_rate = rate,
+            FileSetting::Space { bytes, files } => {
+                changed.max_bytes = bytes;
+                changed.max_files = files;
+            }
+        }
+        changed
+    }
+}
