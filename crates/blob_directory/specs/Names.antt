@@ -40,6 +40,10 @@ all_edited names (edit ∷ edits) = all_edited (edited names edit) edits
 abbrev pub Same : Names → Names → Type 0
 Same a b = (e : List ℕ) → a e ≡ b e
 
+-- each binding of the first is one of the second
+abbrev pub Within : Names → Names → Type 0
+Within a b = (e : List ℕ) (to : Binding) → a e ≡ Some to → b e ≡ Some to
+
 abbrev pub binds : ℕ → List ℕ → Binding → Edit
 binds directory name to = (entry directory name, Some to) ∷ []
 
