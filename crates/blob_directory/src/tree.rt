@@ -1,6 +1,7 @@
 //! The names that a crash leaves, from the sectors of a journal.
-ghost use Rattle.std.specs.Prelude.{◌≡◌, ◌&&◌, ◌||◌, not, None, Some, IfOk, OnOk};
-ghost use Rattle.blob_directory.specs.Names.{Names, Same, Within, entry};
+ghost use Rattle.std.specs.Prelude.{◌≡◌, ◌&&◌, ◌||◌, not, true, None, Some, IfOk, OnOk};
+ghost use Rattle.blob_directory.specs.Names.{Names, Reached, Same, Within, entry};
+ghost use Rattle.blob_directory.specs.declared.edit.Kind.TheVariants.{Directory};
 ghost use Rattle.blob_directory.specs.Profiles.{counts, is_prefix, names_told, with_found};
 ghost use Rattle.blob_directory.specs.Sectors.{found_in};
 ghost use Rattle.blob_directory.specs.Tables.{bound};
@@ -41,7 +42,8 @@ impl Tree {
 
     /// Adds a name. A directory that has a name already gets no other.
     fn add(&mut self, directory: u64, name: &[u8], to: Binding) -> Result<bool, AllocError>
-        ensures { OnOk result ((names : Names) → names (entry directory name.now) ≡ Some to → Within (bound self.old.names) names → Within (bound self.new.names) names) }
+        ensures within { OnOk result ((names : Names) → Reached names directory → names (entry directory name.now) ≡ Some to → Within (bound self.old.names) names → Within (bound self.new.names) names) }
+        ensures directory { IfOk result (λ is_new. is_new ≡ true → to.kind ≡ Directory) }
     {
         match to.kind {
             Kind::File => {
@@ -112,7 +114,7 @@ pub fn kept_names(
 
 /// Returns the part of the names that the root reaches. Fails only if memory runs out.
 pub fn reached(alloc: Global, names: &Table, most: u64) -> Result<Tree, AllocError>
-    ensures { IfOk result (λ tree. Within (bound tree.names) (bound names.now)) }
+    ensures { IfOk result (λ tree. (told : Names) → Same (bound names.now) told → Within (bound tree.names) told) }
 {
     let mut tree = Tree::new(alloc)?;
     let mut next = Vec::new(alloc);

@@ -37,10 +37,10 @@ generation_of fs = fs.journal.generation
 abbrev pub keeps_of : {R : Type 0} → FileSystem R → Keeps
 keeps_of fs = fs.options.profile.keeps
 
--- each name after a recovery is one that the journal gives
+-- each name after a recovery is one that the journal gives, in a directory that the root reaches by those
 abbrev pub FindsNames : {R : Type 0} → FileSystem R → FileSystem R → Type 0
 FindsNames fs fs' = (journal : List ℕ) → IsJournal (store_of fs) (generation_of fs) journal → Within (names_of fs') (names_told (keeps_of fs) journal)
 
--- each name after a crash is one that the journal gives, with those of its pending sectors that the crash kept
+-- The same after a crash: the journal has those of its pending sectors that the crash kept.
 abbrev pub FindsKept : {R : Type 0} → FileSystem R → Selections → FileSystem R → Type 0
 FindsKept fs kept fs' = (journal : List ℕ) → IsJournalAfter (store_of fs) (generation_of fs) kept journal → Within (names_of fs') (names_told (keeps_of fs) journal)
