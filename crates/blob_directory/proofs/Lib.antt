@@ -1,1 +1,4 @@
+pub mod Journals
 pub mod Maps
+pub mod Sectors
+pub mod Withins

@@ -70,3 +70,19 @@ more_of (Some c) = change_of c ∷ []
 
 abbrev pub edit_of : rust_edit.Edit → Edit
 edit_of e = change_of e.first ∷ more_of e.second
+
+-- a directory that the root reaches by these names
+pub data Reached (names : Names) : ℕ → Type 0 where
+  Root : Reached names 1
+  Below : (d : ℕ) (name : List ℕ) (i : ℕ) → Reached names d → names (entry d name) ≡ Some (directory_at i) → Reached names i
+
+-- an entry of such a directory
+pub record IsReached (names : Names) (e : List ℕ) : Type 0 where
+  pub directory : ℕ
+  pub name : List ℕ
+  pub is : e ≡ entry directory name
+  pub reached : Reached names directory
+
+-- each binding of the first is one of the second, in a directory that the root reaches by the second
+abbrev pub Within : Names → Names → Type 0
+Within a b = (e : List ℕ) (to : Binding) → a e ≡ Some to → (b e ≡ Some to) × IsReached b e

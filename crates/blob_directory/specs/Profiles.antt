@@ -1,23 +1,44 @@
--- Which edits a crash keeps, and which bytes of a file.
-use Rattle.std.specs.Prelude.{ℕ, suc, Bool, true, false, List, [], ◌∷◌, Option, Some, None, if◌then◌else◌, nat_eq}
+-- Which edits of a journal a crash keeps, the names that they give, and which bytes of a file it keeps.
+use Rattle.std.specs.Prelude.{ℕ, zero, suc, ◌/◌, Bool, true, false, not, ◌||◌, List, [], ◌∷◌, length, take, drop, Some, None, if◌then◌else◌, nat_eq}
 use Rattle.blob_directory.specs.declared.profile.Keeps.{Keeps}
 use Rattle.blob_directory.specs.declared.profile.Keeps.TheVariants.{Any, Prefix}
-use Rattle.blob_directory.specs.Names.{Edit}
+use Rattle.blob_directory.specs.Names.{Edit, Names, all_edited, edited}
+use Rattle.blob_directory.specs.Sectors.{Found, found_in}
 
--- an edit as it was found in its sector, and whether it was settled; none if the sector was lost
-abbrev pub Found : Type 0
-Found = Option (Edit × Bool)
+-- what the first sectors of a journal have
+abbrev pub found_in_all : ℕ → List ℕ → List Found
+found_in_all zero bytes = []
+found_in_all (suc n) bytes = found_in (take 1024 bytes) ∷ found_in_all n (drop 1024 bytes)
 
--- Of the edits that were found, those that count: settled ones, and the others. With `Prefix` an unsettled one behind a
--- lost one doesn't.
+-- with `Prefix` a crash keeps no unsettled edit behind a lost one
+abbrev pub is_prefix : Keeps → Bool
+is_prefix Any = false
+is_prefix Prefix = true
+
+-- an edit counts if it was found, and it was settled or none before it was lost
+abbrev pub counts : Bool → Found → Bool
+counts lost None = false
+counts lost (Some (edit, settled)) = settled || not lost
+
+-- the names after a sector
+abbrev pub with_found : Names → Bool → Found → Names
+with_found names lost None = names
+with_found names lost (Some (edit, settled)) = if settled || not lost then edited names edit else names
+
+-- Of the edits that were found, those that count: the settled ones, and the others up to the first lost one.
 abbrev pub kept_edits : Keeps → Bool → List Found → List Edit
 kept_edits keeps lost [] = []
-kept_edits Any lost (None ∷ found) = kept_edits Any lost found
-kept_edits Prefix lost (None ∷ found) = kept_edits Prefix true found
-kept_edits Any lost (Some (edit, settled) ∷ found) = edit ∷ kept_edits Any lost found
-kept_edits Prefix lost (Some (edit, true) ∷ found) = edit ∷ kept_edits Prefix lost found
-kept_edits Prefix true (Some (edit, false) ∷ found) = kept_edits Prefix true found
-kept_edits Prefix false (Some (edit, false) ∷ found) = edit ∷ kept_edits Prefix false found
+kept_edits keeps lost (None ∷ found) = kept_edits keeps (lost || is_prefix keeps) found
+kept_edits keeps lost (Some (edit, settled) ∷ found) =
+    if settled || not lost then edit ∷ kept_edits keeps lost found else kept_edits keeps lost found
+
+-- the edits of a journal that count
+abbrev pub edits_of : Keeps → List ℕ → List Edit
+edits_of keeps journal = kept_edits keeps false (found_in_all (length journal / 1024) journal)
+
+-- the names that a journal gives: its edits that count, applied in order to no names
+abbrev pub names_told : Keeps → List ℕ → Names
+names_told keeps journal = all_edited (λ _. None) (edits_of keeps journal)
 
 -- the length of the longest common front of two lists
 abbrev pub alike : List ℕ → List ℕ → ℕ

@@ -1,6 +1,6 @@
 //! Edits of names.
 ghost use Rattle.std.specs.Prelude.{◌≡◌, [], ◌∷◌, IfOk};
-ghost use Rattle.blob_directory.specs.Names.{change_of, edit_of, entry};
+ghost use Rattle.blob_directory.specs.Names.{change_of, edit_of, entry, exchanges, moves};
 
 use std::alloc::{AllocError, Global};
 
@@ -53,6 +53,36 @@ impl Edit {
             first,
             second: Some(second),
         }
+    }
+
+    /// Returns the edit that frees one name and gives its binding to another, in one step.
+    pub fn moving(from: Vec<u8>, to: Vec<u8>, moved: Binding) -> Edit
+        ensures { edit_of result ≡ moves from.items to.items moved }
+    {
+        let freed = Change {
+            entry: from,
+            to: None,
+        };
+        let bound = Change {
+            entry: to,
+            to: Some(moved),
+        };
+        Edit::two(freed, bound)
+    }
+
+    /// Returns the edit that exchanges the bindings of two names, in one step. The first has `moved`.
+    pub fn exchanging(from: Vec<u8>, to: Vec<u8>, moved: Binding, was: Binding) -> Edit
+        ensures { edit_of result ≡ exchanges from.items to.items moved was }
+    {
+        let first = Change {
+            entry: from,
+            to: Some(was),
+        };
+        let second = Change {
+            entry: to,
+            to: Some(moved),
+        };
+        Edit::two(first, second)
     }
 }
 

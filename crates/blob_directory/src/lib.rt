@@ -2,6 +2,7 @@
 #![tactic(auto)]
 
 pub mod edit;
+pub mod laws;
 pub mod path;
 pub mod profile;
 pub mod sector;

@@ -1,9 +1,9 @@
 //! The names of all directories, as a table of entries.
-ghost use Rattle.std.specs.Prelude.{◌≡◌, None, OnOk, IsTrue};
-ghost use Rattle.blob_directory.specs.Names.{Same, changed, edit_of, edited};
+ghost use Rattle.std.specs.Prelude.{◌≡◌, None, Some, All, IfOk, OnOk, OnErr};
+ghost use Rattle.blob_directory.specs.Names.{Same, changed, edit_of, edited, entry};
 ghost use Rattle.blob_directory.specs.Tables.{HasRoom, HasRoomFor, KeepsRoom, bound};
 
-use crate::edit::{Binding, Edit};
+use crate::edit::{Binding, Edit, entry_of};
 use std::alloc::{AllocError, Global};
 use std::collections::BTreeMap;
 
@@ -94,16 +94,36 @@ impl Table {
         self.tidy(&edit.first.entry);
     }
 
+    /// Makes room for an edit and applies it. Fails only if memory runs out, and then changes no binding.
+    pub fn make(&mut self, edit: &Edit) -> Result<(), AllocError>
+        ensures made { OnOk result (Same (bound self.new) (edited (bound self.old) (edit_of edit.now))) }
+        ensures refused { OnErr result (Same (bound self.old) (bound self.new)) }
+    {
+        self.prepare(edit)?;
+        self.apply(edit);
+        Ok(())
+    }
+
+    /// Binds a name in a directory. Fails only if memory runs out.
+    pub fn bind(&mut self, directory: u64, name: &[u8], to: Binding) -> Result<(), AllocError>
+        ensures { OnOk result (Same (bound self.new) (changed (bound self.old) (entry directory name.now, Some to))) }
+    {
+        let entry = entry_of(self.alloc, directory, name)?;
+        self.make(&Edit::one(entry, Some(to)))
+    }
+
     /// Returns the names in a directory with their bindings, in the order of their bytes. Fails only if memory runs out.
-    pub fn names_in(&self, directory: u64) -> Result<Vec<(Vec<u8>, Binding)>, AllocError> {
+    pub fn names_in(&self, directory: u64) -> Result<Vec<(Vec<u8>, Binding)>, AllocError>
+        ensures { IfOk result (λ names. All (λ n. bound self.now (entry directory n.0.items) ≡ Some n.1) names.items) }
+    {
         let start = directory.to_be_bytes();
         let mut names = Vec::new(self.alloc);
-        for (entry, binding) in self.entries.range(Vec::from_slice(self.alloc, &start)?..) {
+        for (entry, _) in self.entries.range(Vec::from_slice(self.alloc, &start)?..) {
             let Some(name) = entry.strip_prefix(&start) else {
                 break;
             };
-            if let Some(binding) = binding {
-                names.push((Vec::from_slice(self.alloc, name)?, *binding))?;
+            if let Some(binding) = self.get(entry) {
+                names.push((Vec::from_slice(self.alloc, name)?, binding))?;
             }
         }
         Ok(names)

@@ -1,9 +1,12 @@
 //! The names that a crash leaves, from the sectors of a journal.
-ghost use Rattle.std.specs.Prelude.{None, IfOk};
-ghost use Rattle.blob_directory.specs.Names.{Same};
+ghost use Rattle.std.specs.Prelude.{◌≡◌, ◌&&◌, ◌||◌, not, true, None, Some, IfOk, OnOk};
+ghost use Rattle.blob_directory.specs.Names.{Names, Reached, Same, Within, entry};
+ghost use Rattle.blob_directory.specs.declared.edit.Kind.TheVariants.{Directory};
+ghost use Rattle.blob_directory.specs.Profiles.{counts, is_prefix, names_told, with_found};
+ghost use Rattle.blob_directory.specs.Sectors.{found_in};
 ghost use Rattle.blob_directory.specs.Tables.{bound};
 
-use crate::edit::{Binding, Edit, Kind, entry_of};
+use crate::edit::{Binding, Kind};
 use crate::profile::Keeps;
 use crate::sector::{SECTOR, decode};
 use crate::table::Table;
@@ -38,13 +41,10 @@ impl Tree {
     }
 
     /// Adds a name. A directory that has a name already gets no other.
-    fn add(
-        &mut self,
-        alloc: Global,
-        directory: u64,
-        name: &[u8],
-        to: Binding,
-    ) -> Result<bool, AllocError> {
+    fn add(&mut self, directory: u64, name: &[u8], to: Binding) -> Result<bool, AllocError>
+        ensures within { OnOk result ((names : Names) → Reached names directory → names (entry directory name.now) ≡ Some to → Within (bound self.old.names) names → Within (bound self.new.names) names) }
+        ensures directory { IfOk result (λ is_new. is_new ≡ true → to.kind ≡ Directory) }
+    {
         match to.kind {
             Kind::File => {
                 let links = self.links.entry(to.inode)?.or_insert(0);
@@ -57,10 +57,34 @@ impl Tree {
                 self.directories.insert(to.inode, directory)?;
             }
         }
-        let edit = Edit::one(entry_of(alloc, directory, name)?, Some(to));
-        self.names.prepare(&edit)?;
-        self.names.apply(&edit);
+        self.names.bind(directory, name, to)?;
         Ok(to.kind == Kind::Directory)
+    }
+}
+
+/// Applies the edit of a sector, if the sector has one and the edit is settled or none before it was lost. Returns whether it
+/// did. Fails only if memory runs out.
+fn keep(alloc: Global, names: &mut Table, sector: &[u8], is_lost: bool) -> Result<bool, AllocError>
+    ensures kept { IfOk result (λ kept. kept ≡ counts is_lost (found_in sector.now)) }
+    ensures names { OnOk result (Same (bound names.new) (with_found (bound names.old) is_lost (found_in sector.now))) }
+{
+    let Some(found) = decode(alloc, sector)? else {
+        return Ok(false);
+    };
+    if !found.is_settled && is_lost {
+        return Ok(false);
+    }
+    names.make(&found.edit)?;
+    Ok(true)
+}
+
+/// Returns whether an unsettled edit of the next sector is lost.
+fn is_next_lost(keeps: Keeps, is_lost: bool, is_kept: bool) -> bool
+    ensures { result ≡ (is_lost || (is_prefix keeps && not is_kept)) }
+{
+    match keeps {
+        Keeps::Any => is_lost,
+        Keeps::Prefix => is_lost || !is_kept,
     }
 }
 
@@ -71,27 +95,27 @@ pub fn kept_names(
     alloc: Global,
     bytes: &[u8],
     keeps: Keeps,
-) -> Result<(Table, Vec<bool>), AllocError> {
+) -> Result<(Table, Vec<bool>), AllocError>
+    ensures { IfOk result (λ r. Same (bound r.0) (names_told keeps bytes.now)) }
+{
     let mut names = Table::new(alloc);
     let mut kept = Vec::new(alloc);
     let mut is_lost = false;
-    for sector in bytes.chunks(SECTOR) {
-        let mut is_kept = false;
-        if let Some(found) = decode(alloc, sector)? {
-            if found.is_settled || !is_lost {
-                names.prepare(&found.edit)?;
-                names.apply(&found.edit);
-                is_kept = true;
-            }
-        }
-        is_lost |= !is_kept && keeps == Keeps::Prefix;
+    let mut left = bytes;
+    for i in 0..bytes.len() / SECTOR {
+        let (sector, behind) = left.split_at(SECTOR);
+        let is_kept = keep(alloc, &mut names, sector, is_lost)?;
+        is_lost = is_next_lost(keeps, is_lost, is_kept);
         kept.push(is_kept)?;
+        left = behind;
     }
     Ok((names, kept))
 }
 
 /// Returns the part of the names that the root reaches. Fails only if memory runs out.
-pub fn reached(alloc: Global, names: &Table, most: u64) -> Result<Tree, AllocError> {
+pub fn reached(alloc: Global, names: &Table, most: u64) -> Result<Tree, AllocError>
+    ensures { IfOk result (λ tree. (told : Names) → Same (bound names.now) told → Within (bound tree.names) told) }
+{
     let mut tree = Tree::new(alloc)?;
     let mut next = Vec::new(alloc);
     next.push(ROOT)?;
@@ -100,7 +124,7 @@ pub fn reached(alloc: Global, names: &Table, most: u64) -> Result<Tree, AllocErr
             break;
         };
         for (name, to) in &names.names_in(directory)? {
-            if tree.add(alloc, directory, name, *to)? {
+            if tree.add(directory, name, *to)? {
                 next.push(to.inode)?;
             }
         }

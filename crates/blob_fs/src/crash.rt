@@ -1,6 +1,7 @@
 //! The crash, and the recovery after it.
-ghost use Rattle.std.specs.Prelude.{OnErr};
+ghost use Rattle.std.specs.Prelude.{IfOk, OnErr};
 ghost use Rattle.blob_fs.specs.Files.{KeepsNames};
+ghost use Rattle.blob_fs.specs.Journals.{FindsKept};
 
 use crate::error::FsError;
 use crate::file_system::FileSystem;
@@ -25,7 +26,8 @@ impl<R: Rng + Drop> FileSystem<R> {
     /// `Memory`. If the layer's crash ran out, nothing has changed. If the recovery did, all other calls return `Crashed` until a
     /// crash returns Ok.
     pub fn crash(&mut self) -> Result<Crash, FsError>
-        ensures { OnErr result (KeepsNames self.old self.new) }
+        ensures found { IfOk result (λ crash. FindsKept self.old crash.rows self.new) }
+        ensures refused { OnErr result (KeepsNames self.old self.new) }
     {
         let rows = self.store.crash()?;
         self.is_down = true;

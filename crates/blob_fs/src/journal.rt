@@ -1,5 +1,9 @@
 //! The journal: a blob with one edit in each sector.
+ghost use Rattle.std.specs.Prelude.{◌≡◌, ℕ, List, IfOk};
+ghost use Rattle.blob_fs.specs.Journals.{IsJournal};
+
 use crate::file_system::{Handle, Store};
+use blob_base::laws::opens::accepted_opens;
 use blob_base::{Blob, Error, Probability, SectorSize, Storage, WriteOptions};
 use blob_directory::edit::Edit;
 use blob_directory::sector::{SECTOR, encode};
@@ -41,7 +45,10 @@ impl Journal {
         alloc: Global,
         store: &mut Store<R>,
         generation: u64,
-    ) -> Result<(Journal, Vec<u8>), Error> {
+    ) -> Result<(Journal, Vec<u8>), Error>
+        ensures { IfOk result (λ r. (bytes : List ℕ) → IsJournal store.old generation bytes → r.1.items ≡ bytes) }
+    {
+        accepted_opens();
         let (blob, size) = store.open(JOURNALS, &generation.to_be_bytes())?;
         let mut bytes = Vec::new(alloc);
         bytes.resize(size as usize, 0)?;

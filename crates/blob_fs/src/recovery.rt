@@ -1,6 +1,7 @@
 //! The recovery: names from the journal, files from their blobs, and a new journal.
-ghost use Rattle.std.specs.Prelude.{OnErr};
-ghost use Rattle.blob_fs.specs.Files.{KeepsNames};
+ghost use Rattle.std.specs.Prelude.{◌≡◌, OnOk, OnErr};
+ghost use Rattle.blob_fs.specs.Files.{KeepsNames, table_of};
+ghost use Rattle.blob_fs.specs.Journals.{FindsNames};
 
 use crate::error::FsError;
 use crate::file_system::{FILES, File, FileSystem, Handle, Store};
@@ -101,7 +102,8 @@ fn reopen_all<R: Rng>(
 impl<R: Rng + Drop> FileSystem<R> {
     /// Recovers after a crash of the layer. Returns of each unsettled edit whether it was kept.
     pub(crate) fn recover(&mut self) -> Result<Vec<bool>, FsError>
-        ensures { OnErr result (KeepsNames self.old self.new) }
+        ensures found { OnOk result (FindsNames self.old self.new) }
+        ensures refused { OnErr result (KeepsNames self.old self.new) }
     {
         let generation = self.journal.generation;
         let (_, bytes) = Journal::open(self.alloc, &mut self.store, generation)?;
@@ -138,7 +140,9 @@ impl<R: Rng + Drop> FileSystem<R> {
     }
 
     /// Takes the new names, files and journal. Removes the blobs of files that no name reaches, and the old journal.
-    fn begin_life(&mut self, tree: Tree, files: BTreeMap<u64, File>, journal: Journal) {
+    fn begin_life(&mut self, tree: Tree, files: BTreeMap<u64, File>, journal: Journal)
+        ensures { table_of self.new ≡ tree.names }
+    {
         for (inode, _) in &self.files {
             if !files.contains_key(inode) {
                 let _ = self.store.remove(FILES, Some(&inode.to_be_bytes()));

@@ -5,7 +5,7 @@ ghost use Rattle.blob_directory.specs.Names.{exchanges, moves};
 
 use crate::error::FsError;
 use crate::file_system::{FileSystem, ROOT};
-use blob_directory::edit::{Binding, Change, Edit, Kind};
+use blob_directory::edit::{Binding, Edit, Kind};
 use blob_directory::unsettled::About;
 use rand_core::Rng;
 
@@ -114,15 +114,7 @@ impl<R: Rng + Drop> FileSystem<R> {
             directory: from.1,
             other_directory: Some(to.1),
         };
-        let freed = Change {
-            entry: from.0,
-            to: None,
-        };
-        let bound = Change {
-            entry: to.0,
-            to: Some(moved),
-        };
-        self.make(Edit::two(freed, bound), about)?;
+        self.make(Edit::moving(from.0, to.0, moved), about)?;
         self.place(moved, to.1);
         Ok(())
     }
@@ -166,15 +158,7 @@ impl<R: Rng + Drop> FileSystem<R> {
             directory: from.1,
             other_directory: Some(to.1),
         };
-        let first = Change {
-            entry: from.0,
-            to: Some(was),
-        };
-        let second = Change {
-            entry: to.0,
-            to: Some(moved),
-        };
-        self.make(Edit::two(first, second), about)?;
+        self.make(Edit::exchanging(from.0, to.0, moved, was), about)?;
         self.place(moved, to.1);
         self.place(was, from.1);
         Ok(())
