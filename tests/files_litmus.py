@@ -81,7 +81,7 @@ def truncate(files, path, letters):
 
 
 def sync(files, path, data=False):
-    if files.stat(path).is_directory:
+    if files.stat(path).kind == "directory":
         return files.fsync_directory(path)
     with files.open(path, "rb") as file:
         return files.fdatasync(file) if data else files.fsync(file)

@@ -53,13 +53,18 @@ from .errors import (
 )
 from .exploration import Explored, explore
 from .failures import Failed, TooLong
+from .file_calls import Kept
+from .file_follow import ExploredFiles
+from .file_library import FilesLibrary
+from .file_system import Files, FileStatus
 from .files import BlobFile
 from .follow import ExploredStore, NotDeterministic, Unexplorable
 from .foreign import TOP, library
 from .judging import acknowledgement, judge
 from .layers import Library, Program, Reply, explain, program, run
+from .open_file import OpenFile
 from .power import PowerLoss
-from .seeding import Seeded, SeededStore, seeds
+from .seeding import Seeded, SeededFiles, SeededStore, seeds
 from .shrinking import shrink
 from .spread import LostWork
 from .store import Store
@@ -79,12 +84,17 @@ __all__ = [
     "Closed",
     "EmptyRange",
     "Explored",
+    "ExploredFiles",
     "ExploredStore",
     "Failed",
     "Fault",
+    "FileStatus",
+    "Files",
+    "FilesLibrary",
     "GenerationsExhausted",
     "Injected",
     "Interrupted",
+    "Kept",
     "Library",
     "LibraryMissing",
     "LostWork",
@@ -94,6 +104,7 @@ __all__ = [
     "NotDeterministic",
     "NotMade",
     "OffsetOverflow",
+    "OpenFile",
     "PartitionMissing",
     "PartitionNameInvalid",
     "PowerLoss",
@@ -102,6 +113,7 @@ __all__ = [
     "ReadFailed",
     "Reply",
     "Seeded",
+    "SeededFiles",
     "SeededStore",
     "StaleHandle",
     "StorageError",

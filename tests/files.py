@@ -1,0 +1,659 @@
+"""`Files` of the package for Python: every public call, refusals, hostile arguments, power losses, `explore`, `seeds` and `shrink` of files,
+a process pool, pickling, and the numbers of the C header. The last line is `N passed, M failed`. With the name of a test only that one is
+run."""
+
+import ctypes
+import errno
+import io
+import os
+import pickle
+import re
+import subprocess
+import sys
+import tempfile
+import threading
+from concurrent.futures import ProcessPoolExecutor
+
+TOP = os.path.dirname(os.path.dirname(os.path.abspath(__file__)))
+sys.path.insert(0, os.path.join(TOP, "bindings", "python"))
+sys.path.insert(0, os.path.join(TOP, "tests"))
+
+from passing import run_tests
+
+from blobcrash import BadLine, Failed, Files, Injected, NeedsSeed, NotDeterministic, OpenFile, PowerLoss, TooLong, Unexplorable, WrongThread
+from blobcrash import explore, foreign_files, seeds, shrink
+
+# Of unsynced bytes and unsettled edits a crash keeps all, or none.
+KEEPS, LOSES = ["write 0 1 1 1 prefix", "keep 1 1"], ["write 0 1 0 1 prefix", "keep 0 1"]
+HALF = ["write 0 1 1 2 sectors 4"]
+PROFILES = ("ext4", "xfs", "btrfs", "posix")
+
+
+def raises(error, call, *arguments, **named):
+    """The error that a call raises, which is one of this kind."""
+    try:
+        result = call(*arguments, **named)
+    except error as raised:
+        return raised
+    raise AssertionError(f"{error} isn't raised, and the result is {result!r}")
+
+
+def refused(kind, number, name, call, *arguments, **named):
+    """Checks that a call is refused: by the class of the error, its errno, and the name of its refusal."""
+    error = raises(OSError, call, *arguments, **named)
+    assert type(error) is kind and error.errno == number and error.refusal == name, (type(error), error.errno, error.refusal)
+    assert name in str(error), error
+    return error
+
+
+def put(files, path, data, mode="wb"):
+    with files.open(path, mode) as file:
+        file.write(data)
+
+
+def get(files, path):
+    with files.open(path, "rb") as file:
+        return file.read()
+
+
+def test_reads_and_writes():
+    with Files(settings=KEEPS) as files:
+        with files.open("/f", "xb") as file:
+            assert isinstance(file, OpenFile) and isinstance(file, io.RawIOBase) and (file.name, file.mode) == ("/f", "xb")
+            assert file.writable() and not file.readable() and file.seekable()
+            assert file.write(b"hello world") == 11 and file.tell() == 11
+            assert file.write(memoryview(b"!")) == 1 and file.write(b"") == 0 and file.size() == 12
+            raises(io.UnsupportedOperation, file.read, 1)
+            raises(io.UnsupportedOperation, file.fileno)
+        with files.open("/f", "r+b") as file:
+            assert (file.read(5), file.tell(), file.read()) == (b"hello", 5, b" world!")
+            assert file.read(1) == b"" and file.seek(-6, os.SEEK_END) == 6 and file.seek(1, os.SEEK_CUR) == 7
+            assert file.write(b"O") == 1 and file.seek(0) == 0 and file.read() == b"hello wOrld!"
+            assert file.seek(20) == 20 and file.read(3) == b"" and file.write(b"z") == 1 and file.size() == 21
+            assert file.truncate(3) == 3 and file.tell() == 21 and file.seek(2) == 2 and file.truncate() == 2
+            assert file.truncate(4) == 4 and file.size() == 4
+        assert get(files, "/f") == b"he\0\0"
+        with files.open("/f", "a+b") as file:
+            assert file.write(b"ab") == 2 and file.tell() == 6 and file.seek(0) == 0
+            assert file.read(2) == b"he" and file.write(b"cd") == 2 and file.tell() == 8
+        put(files, "/f", b"new")
+        assert get(files, b"/f") == b"new"
+        put(files, "/g", b"1", "ab")
+        put(files, "/g", b"2", "ab")
+        assert get(files, "//g/") == b"12"
+        with files.open("/g", "w+b") as file:
+            assert file.read() == b"" and file.write(b"3") == 1 and file.seek(0) == 0
+            buffer = bytearray(b"....")
+            assert file.readinto(buffer) == 1 and buffer == b"3..." and file.readinto(bytearray()) == 0
+        files.truncate("/g", 3)
+        assert get(files, "/g") == b"3\0\0" and files.stat("/g").size == 3
+        with files.open("/g") as file:
+            raises(io.UnsupportedOperation, file.write, b"x")
+            raises(io.UnsupportedOperation, file.truncate, 0)
+        large = os.urandom(200_000)
+        put(files, "/large", large)
+        assert get(files, "/large") == large
+
+
+def test_names():
+    with Files(settings=KEEPS) as files:
+        files.mkdir("/d")
+        files.makedirs("/a/b/c")
+        files.makedirs("/a/b/c", exist_ok=True)
+        files.makedirs("d", exist_ok=True)
+        refused(FileExistsError, errno.EEXIST, "Exists", files.makedirs, "/a/b/c")
+        assert files.listdir() == ["a", "d"] == files.listdir("/") and files.listdir(b"/") == [b"a", b"d"]
+        put(files, "/d/f", b"F")
+        files.link("/d/f", "/a/g")
+        status, other = files.stat("/d/f"), files.stat("/a/g")
+        assert status == other == (1, "file", status.inode) and status.kind == "file"
+        assert files.stat("/").kind == "directory" == files.stat("/d").kind and files.stat("/d").size == 0
+        assert files.exists("/d/f") and files.exists("/") and files.exists("d") and not files.exists("/x") and not files.exists("/d/f/x")
+        files.unlink("/d/f")
+        assert not files.exists("/d/f") and get(files, "/a/g") == b"F" and files.listdir("/d") == []
+        files.rename("/a/g", "/d/h")
+        put(files, "/i", b"I")
+        refused(FileExistsError, errno.EEXIST, "Exists", files.rename, "/i", "/d/h", replaces=False)
+        files.exchange("/i", "/d/h")
+        assert (get(files, "/i"), get(files, "/d/h")) == (b"F", b"I")
+        files.replace("/i", "/d/h")
+        assert get(files, "/d/h") == b"F" and files.listdir() == ["a", "d"]
+        files.rename("/d", "/a/b/d")
+        files.remove("/a/b/d/h")
+        files.rmdir("/a/b/d")
+        files.rename("/a/b/c", "/a/b/e")
+        assert files.listdir("/a/b") == ["e"] and files.listdir("a") == ["b"]
+        for name in ("é", "\udcff", " ", "\n", "\\", "a b", "x" * 255):
+            put(files, "/" + name, b"n")
+        assert files.listdir() == sorted(["a", "é", "\udcff", " ", "\n", "\\", "a b", "x" * 255], key=lambda n: n.encode("utf-8", "surrogateescape"))
+        assert not any("\n" in line for line in files.script)
+
+
+def test_an_open_file_outlives_its_name():
+    with Files(settings=KEEPS) as files:
+        file = files.open("/f", "w+b")
+        file.write(b"F")
+        files.unlink("/f")
+        put(files, "/f", b"other")
+        assert file.seek(0) == 0 and file.read() == b"F"
+        file.close()
+        file.close()
+        assert file.closed and get(files, "/f") == b"other"
+
+
+def test_syncs():
+    for profile in PROFILES:
+        with Files(profile=profile, settings=LOSES) as files:
+            with files.open("/f", "xb") as file:
+                file.write(b"F")
+                files.fsync(file)
+            files.fsync_directory("/")
+            with files.open("/f", "ab") as file:
+                file.write(b"G")
+                files.fdatasync(file)
+                file.write(b"lost")
+            put(files, "/g", b"lost")
+            kept = files.restart()
+            assert files.listdir() == ["f"] and get(files, "/f") == b"FG", profile
+            assert all("1" not in digits for _, digits in kept.writes) and kept.edits == [False]
+            put(files, "/g", b"G")
+            files.sync()
+            files.restart()
+            assert get(files, "/g") == b"G"
+            files.mkdir("/h")
+            files.settle()
+            assert files.restart().edits == [] and files.listdir() == ["f", "g", "h"]
+
+
+def test_what_a_crash_kept():
+    with Files(settings=KEEPS) as files:
+        put(files, "/f", b"FFFF")
+        files.mkdir("/d")
+        kept = files.crash()
+        assert kept.edits == [True, True] and "1111" in [digits for _, digits in kept.writes], kept
+        assert "# of the unsettled edits it keeps 11" in files.script and files.listdir() == ["d", "f"]
+    # Words decide: of each draw, 0 keeps and the greatest word loses.
+    with Files(words=[2**64 - 1], settings=["write 0 1 1 1 prefix"]) as files:
+        files.mkdir("/d")
+        assert files.crash().edits == [False] and files.listdir() == []
+    assert [Files(5, settings=HALF).crash() for _ in range(2)] == [([], [])] * 2
+
+
+def test_seeds_decide():
+    def run(seed):
+        with Files(seed, profile="posix", settings=HALF) as files:
+            for name in "abcdefgh":
+                put(files, name, b"12345678")
+            return files.restart(), files.listdir(), [get(files, name) for name in files.listdir()]
+
+    assert run(1) == run(1) and len({str(run(seed)) for seed in range(5)}) == 5
+
+
+def test_refusals():
+    with Files(settings=KEEPS) as files:
+        files.makedirs("/d/e")
+        put(files, "/f", b"F")
+        put(files, "/d/g", b"G")
+        exists = FileExistsError, errno.EEXIST, "Exists"
+        missing = FileNotFoundError, errno.ENOENT, "NotFound"
+        for call, arguments in ((files.open, ("/f", "xb")), (files.mkdir, ("/d",)), (files.mkdir, ("/f",)), (files.link, ("/f", "/d/g"))):
+            refused(*exists, call, *arguments)
+        for call in (files.open, files.unlink, files.rmdir, files.listdir, files.fsync_directory, files.stat):
+            refused(*missing, call, "/x")
+            refused(*missing, call, "/x/y")
+        for call in (files.rename, files.link, files.exchange):
+            refused(*missing, call, "/x", "/f")
+        for call in (files.exchange, files.rename):
+            refused(*missing, call, "/f", "/x/y")
+        error = refused(*missing, files.exchange, "/f", b"/x")
+        assert (error.filename, error.filename2) == ("/f", b"/x")
+        refused(*missing, files.truncate, "/x", 0)
+        refused(*missing, files.open, "/x", "r+b")
+        refused(*missing, files.open, "/x/y", "wb")
+        refused(OSError, errno.ENOTEMPTY, "NotEmpty", files.rmdir, "/d")
+        files.mkdir("/k")
+        refused(OSError, errno.ENOTEMPTY, "NotEmpty", files.rename, "/k", "/d")
+        for call, arguments in ((files.open, ("/d",)), (files.open, ("/d", "wb")), (files.unlink, ("/d",)), (files.link, ("/d", "/l")), (files.rename, ("/f", "/k"))):
+            refused(IsADirectoryError, errno.EISDIR, "IsDirectory", call, *arguments)
+        for call, arguments in ((files.rmdir, ("/f",)), (files.listdir, ("/f",)), (files.open, ("/f/x", "wb")), (files.rename, ("/d", "/f")), (files.fsync_directory, ("/f",))):
+            refused(NotADirectoryError, errno.ENOTDIR, "NotDirectory", call, *arguments)
+        refused(OSError, errno.EINVAL, "Loop", files.rename, "/d", "/d/e/h")
+        refused(OSError, errno.EINVAL, "Loop", files.rename, "/d", "/d/h")
+        refused(OSError, errno.EINVAL, "Loop", files.exchange, "/d", "/d/e")
+        refused(OSError, errno.EINVAL, "Loop", files.exchange, "/d/e", "/d")
+        assert files.listdir("/d") == ["e", "g"]
+
+
+def test_limits():
+    with Files(settings=[*KEEPS, "space 10 3"]) as files:
+        put(files, "/f", b"0123456789")
+        with files.open("/f", "ab") as file:
+            refused(OSError, errno.ENOSPC, "NoSpace", file.write, b"x")
+            refused(OSError, errno.ENOSPC, "NoSpace", file.truncate, 11)
+        files.truncate("/f", 1)
+        files.mkdir("/d")
+        put(files, "/g", b"123456789")
+        refused(OSError, errno.ENOSPC, "NoSpace", files.mkdir, "/e")
+        refused(OSError, errno.ENOSPC, "NoSpace", files.open, "/e", "xb")
+        files.configure("space 1000000 100")
+        files.mkdir("/e")
+
+
+def test_injected_faults():
+    with Files(words=[0] * 20, settings=["sync 1 2", "keep 1 1"]) as files:
+        with files.open("/f", "xb") as file:
+            file.write(b"F")
+            error = raises(Injected, files.fsync, file)
+            assert isinstance(error, OSError) and (error.errno, error.refusal) == (errno.EIO, "Injected")
+            error = raises(OSError, files.fdatasync, file)
+        raises(Injected, files.sync)
+        files.settle()
+        assert get(files, "/f") == b"F"
+        files.configure("clear")
+        files.sync()
+        files.configure("open 1 2")
+        raises(Injected, files.open, "/g", "xb")
+        assert files.listdir() == ["f"]
+        for setting, act in (("write 1 2 1 1 prefix", lambda: put(files, "/f", b"G", "r+b")), ("read 1 2", lambda: get(files, "/f")), ("resize 1 2 0 1", lambda: files.truncate("/f", 0))):
+            files.configure("clear")
+            files.configure(setting)
+            raises(Injected, act)
+
+
+def test_hostile_names():
+    with Files(settings=KEEPS) as files:
+        put(files, "/f", b"F")
+        files.mkdir("/d")
+        invalid = OSError, errno.EINVAL, "InvalidName"
+        too_long = OSError, errno.ENAMETOOLONG, "NameTooLong"
+        for bad, kind in (("..", invalid), (".", invalid), ("a\0b", invalid), (b"\0", invalid), ("x" * 256, too_long), ("é" * 128, too_long)):
+            above = (b"/" if isinstance(bad, bytes) else "/") + bad
+            below = above + (b"/f" if isinstance(bad, bytes) else "/f")
+            for path in (bad, above, below):
+                for call in (files.unlink, files.mkdir, files.rmdir, files.open, files.listdir, files.fsync_directory, files.stat, files.makedirs):
+                    refused(*kind, call, path)
+                for call in (files.link, files.rename):
+                    refused(*kind, call, "/f", path)
+                    refused(*kind, call, path, "/g")
+                refused(*kind, files.open, path, "xb")
+                refused(*kind, files.open, path, "wb")
+                assert not files.exists(path)
+        for root in ("", "/", "//"):
+            for call in (files.unlink, files.mkdir, files.rmdir, files.open):
+                refused(*invalid, call, root)
+            refused(*invalid, files.rename, root, "/g")
+            refused(*invalid, files.rename, "/d", root)
+            assert files.exists(root) and files.listdir(root) == ["d", "f"]
+            files.fsync_directory(root)
+        refused(*invalid, files.mkdir, "/d/../e")
+        for bad in (None, 1, 1.5, ["f"], object()):
+            for call in (files.open, files.mkdir, files.listdir, files.exists, files.stat, files.fsync_directory):
+                raises(TypeError, call, bad)
+            raises(TypeError, files.rename, "/f", bad)
+        assert files.listdir() == ["d", "f"] and get(files, "/f") == b"F"
+        deep = "/d" + "/e" * 300
+        files.makedirs(deep)
+        put(files, deep + "/f", b"deep")
+        assert get(files, deep + "/f") == b"deep"
+
+
+def test_hostile_modes_and_files():
+    with Files(settings=KEEPS) as files, Files(settings=KEEPS) as others:
+        put(files, "/f", b"F")
+        put(others, "/f", b"F")
+        for mode in ("", "b", "r", "w", "rw", "rwb", "rbb", "r++b", "rtb", "+b", "R", "rb ", "wxb"):
+            raises(ValueError, files.open, "/f", mode)
+        for mode in (None, 1, b"rb"):
+            raises(TypeError, files.open, "/f", mode)
+        file = files.open("/f", "br+")
+        for call in (files.fsync, files.fdatasync):
+            for bad in (None, 0, "/f", io.BytesIO(), others.open("/f")):
+                raises(TypeError, call, bad)
+        file.close()
+        for call in (lambda: files.fsync(file), file.read, lambda: file.write(b"x"), file.tell, file.size, lambda: file.seek(0), file.truncate):
+            raises(ValueError, call)
+        file = files.open("/f", "r+b")
+        for bad in (None, "text", 1, object()):
+            raises(TypeError, file.write, bad)
+        for bad in (-1, 2**64):
+            raises(ValueError, file.seek, bad)
+            raises(ValueError, file.truncate, bad)
+            raises(ValueError, files.truncate, "/f", bad)
+        raises(ValueError, file.seek, 0, 3)
+        raises(TypeError, file.truncate, 1.5)
+        raises(TypeError, files.truncate, "/f", "1")
+
+
+def test_hostile_offsets():
+    with Files(settings=KEEPS) as files:
+        file = files.open("/f", "w+b")
+        for at in (2**31, 2**63 - 1, 2**63, 2**64 - 1):
+            assert file.seek(at) == at and file.read(10) == b"" and file.read() == b""
+        for at in (2**63 - 1, 2**63, 2**64 - 2, 2**64 - 1):
+            file.seek(at)
+            error = raises(OSError, file.write, b"xy")
+            assert error.refusal in ("NoSpace", "OffsetOverflow", "Memory"), error
+            error = raises(OSError, file.truncate, at)
+            assert error.refusal in ("NoSpace", "OffsetOverflow", "Memory"), error
+        assert file.size() == 0 and files.stat("/f").size == 0
+
+
+def test_stale_and_closed():
+    files = Files(settings=KEEPS)
+    file = files.open("/f", "xb")
+    file.write(b"F")
+    other = files.open("/f")
+    files.crash()
+    for call in (other.read, lambda: file.write(b"x"), lambda: files.fsync(file), file.size, file.truncate):
+        refused(OSError, errno.ESTALE, "Stale", call)
+    file.close()
+    assert file.closed and get(files, "/f") == b"F"
+    reader = files.open("/f")
+    files.restart()
+    assert reader.closed and raises(ValueError, reader.read)
+    assert get(files, "/f") == b"F"
+    error = []
+    thread = threading.Thread(target=lambda: error.append(raises(WrongThread, files.mkdir, "/d")))
+    thread.start()
+    thread.join()
+    assert len(error) == 1
+    reader = files.open("/f")
+    files.close()
+    files.close()
+    for call in (lambda: files.mkdir("/d"), files.listdir, files.crash, files.sync, reader.read, lambda: files.crash_after(1), lambda: files.configure("clear")):
+        raises(ValueError, call)
+    reader.close()
+
+
+def test_arguments_and_settings():
+    for bad in ("ext3", "", "EXT4"):
+        raises(ValueError, Files, profile=bad)
+    raises(TypeError, Files, profile=None)
+    raises(TypeError, Files, settings="keep 1 1")
+    raises(ValueError, Files, 2**64)
+    raises(TypeError, Files, "1")
+    raises(ValueError, Files, words=[-1])
+    for bad in ("", "keep", "keep 1", "keep 1 0", "keep 2 1", "keep 1 2 3", "keep a b", "space 1", "space 1 x", "space -1 1", "nothing 1 2", "keep 1 2\nkeep 1 1", "write 0 1 1 2", "profile xfs"):
+        raises(BadLine, Files, 1, settings=[bad])
+        with Files(1) as files:
+            raises(BadLine, files.configure, bad)
+            files.mkdir("/d")
+    for setting in ("keep 1 2", "sync 1 2", "write 0 1 1 2 prefix"):
+        raises(NeedsSeed, Files, settings=[setting])
+        with Files() as files:
+            raises(NeedsSeed, files.configure, setting)
+    with Files() as files:
+        files.mkdir("/d")
+        raises(NeedsSeed, files.crash)
+        raises(NeedsSeed, files.restart)
+        files.configure("keep 1 1")
+        files.restart()
+        assert files.listdir() == ["d"]
+
+
+def test_the_lines_of_a_script():
+    with Files(7, profile="xfs", settings=["write 0 1 1 1 sectors 4", "keep 1 1"]) as files:
+        put(files, "/f", b"AB", "xb")
+        files.note("a note")
+        raises(OSError, files.mkdir, "/f")
+        files.rename("/f", "/a b")
+        files.exchange("/a b", b"/a b")
+        files.restart()
+        lines = files.script
+    assert lines[:4] == ["seed 7", "profile xfs", "config write 0 1 1 1 sectors 4", "keep 1 1"], lines
+    assert lines[4:12] == ["create /f is 0", "write 0 0 4142", "close 0", "# a note", "mkdir /f is Exists", "rename /f /a\\x20b", "rename /a\\x20b /a\\x20b exchange", "crash"], lines
+    assert "# of the unsettled edits it keeps 11" in lines[12:] and any(line.endswith("keeps bytes 0 to 1 of 2") for line in lines[12:]), lines
+
+
+def test_power_losses():
+    with Files(settings=KEEPS) as files:
+        files.crash_after(2)
+        file = files.open("/f", "xb")
+        assert files.exists("/f") and file.size() == 0
+        file.write(b"1")
+        assert raises(PowerLoss, file.write, b"2").is_first
+        for call in (lambda: files.mkdir("/d"), files.listdir, lambda: files.exists("/f"), files.settle, lambda: files.open("/f")):
+            assert not raises(PowerLoss, call).is_first
+        raises(ValueError, files.crash_after, 1)
+        files.configure("keep 1 1")
+        file.close()
+        files.restart()
+        assert get(files, "/f") == b"1" and files.script.count("# power loss") == 1
+
+        def recover(count):
+            files.mkdir(f"/d{len(files.listdir())}")
+            return count
+
+        files.crash_after(0)
+        assert files.recover(recover, 7) == 7 and files.listdir() == ["d1", "f"]
+        # A file that is closed while the power is off hides nothing.
+        files.crash_after(0)
+        error = raises(PowerLoss, put, files, "/f", b"2")
+        assert error.is_first
+        files.restart()
+        files.crash_after(1)
+        error = raises(PowerLoss, put, files, "/f", b"2", "r+b")
+        assert error.is_first and error.__context__ is None
+
+
+def torn(files):
+    """Overwrites a file, and crashes. Returns what is left."""
+    put(files, "/f", b"aaaabbbb")
+    files.settle()
+    put(files, "/f", b"ccccdddd", "r+b")
+    files.restart()
+    return get(files, "/f")
+
+
+def forgets(files):
+    """Fails if a name is lost."""
+    put(files, "/f", b"new")
+    if files.choose(2):
+        files.mkdir("/d")
+    files.restart()
+    assert files.exists("/f"), "the name is lost"
+
+
+def appended(files):
+    """What is left of an append."""
+    put(files, "/f", b"aaaa")
+    files.settle()
+    put(files, "/f", b"bbbbcccc", "ab")
+    files.restart()
+    return get(files, "/f")
+
+
+APPENDED = {b"aaaa", b"aaaabbbb", b"aaaabbbbcccc"}
+
+
+def test_each_outcome():
+    visited = explore(torn, files=True, settings=["keep 1 1", *HALF])
+    assert set(visited.outcomes) == {a + b for a in (b"aaaa", b"cccc") for b in (b"bbbb", b"dddd")} and visited.complete
+    assert str(visited).endswith("all of them")
+    for files in (True, "ext4"):
+        assert set(explore(appended, files=files, settings=HALF).outcomes) == APPENDED
+    for files in ("xfs", "btrfs", "posix"):
+        assert set(explore(appended, files=files, settings=HALF).outcomes) == APPENDED | {b"aaaa\0\0\0\0cccc"}
+    assert explore(lambda files: type(files).__name__, files="xfs").outcomes == {"ExploredFiles": 1}
+    assert explore(lambda store: type(store).__name__).outcomes == {"ExploredStore": 1} == explore(lambda store: type(store).__name__, files=False).outcomes
+
+
+def test_choices_and_paths():
+    failed = raises(Failed, explore, forgets, files="xfs")
+    assert failed.path == "0/2 max" and failed.reason == "AssertionError: the name is lost", (failed.path, failed.reason)
+    assert "its calls:" in str(failed) and "    create /f is 0" in str(failed), failed
+    assert failed.script[:2] == ["words max", "profile xfs"], failed.script
+    again = raises(Failed, explore, forgets, files="xfs", under=[failed.path])
+    assert again.script == failed.script and again.run == 1
+    copy = pickle.loads(pickle.dumps(failed))
+    assert (copy.path, copy.script, str(copy)) == (failed.path, failed.script, str(failed))
+    limited = explore(torn, files="xfs", settings=HALF, runs=1)
+    assert limited.runs == 1 and not limited.complete
+    rest = explore(torn, files="xfs", settings=HALF, under=limited.rest)
+    whole = explore(torn, files="xfs", settings=HALF)
+    assert rest.runs + 1 == whole.runs and rest.complete
+
+
+def two_names(files):
+    """Makes two names durable, at any loss of power. Returns those that are found."""
+    try:
+        for name in ("/a", "/b"):
+            files.mkdir(name)
+            files.fsync_directory("/")
+    except PowerLoss:
+        pass
+    return tuple(files.recover(files.listdir))
+
+
+def test_explored_power_losses():
+    visited = explore(two_names, files="posix", power_losses=1)
+    assert set(visited.outcomes) == {(), ("a",), ("a", "b")} and visited.complete, visited
+    failed = raises(Failed, explore, lambda files: files.mkdir("/d"), files="xfs", power_losses=1)
+    assert failed.path == "off" and "PowerLoss" in failed.reason and "# power loss" in failed.script
+
+
+def test_a_close_counts_as_a_change():
+    # It may make bytes durable, if an open has truncated a file.
+    with Files(profile="ext4", settings=["write 0 1 0 1 prefix", "keep 1 1"]) as files:
+        put(files, "/f", b"old")
+        files.settle()
+        files.crash_after(2)
+        assert raises(PowerLoss, put, files, "/f", b"new").is_first
+        files.restart()
+        assert get(files, "/f") == b"old"
+        files.crash_after(3)
+        put(files, "/f", b"new")
+        files.restart()
+        assert get(files, "/f") == b"new"
+
+
+_changing = []
+
+
+def differs(files):
+    _changing.append(0)
+    files.mkdir("/" + "d" * len(_changing))
+    files.restart()
+
+
+def endless(files):
+    while True:
+        files.exists("/f")
+
+
+def test_bodies_that_go_wrong():
+    error = raises(NotDeterministic, explore, differs, files="xfs")
+    assert "mkdir /d" in str(error), error
+    error = raises(TooLong, explore, endless, files="xfs", calls_per_run=50)
+    assert error.script == ["profile xfs"], error.script
+    visited = explore(endless, files="xfs", seconds=0.01, calls_per_run=10**9)
+    assert visited.runs == 0 and not visited.complete
+    kept = []
+    explore(kept.append, files=True)
+    assert "the store's run has ended" in str(raises(ValueError, kept[0].mkdir, "/d"))
+    for named in ({"files": "ext3"}, {"files": "xfs", "report": "x.html"}):
+        raises(ValueError, explore, torn, **named)
+        raises(ValueError, seeds, torn, 1, **named)
+    raises(TypeError, explore, torn, files=1)
+    raises(TypeError, explore, torn, files=True, images=[("p", b"b", b"")])
+    raises(TypeError, explore, torn, files=True, allow_stale=True)
+    raises(Unexplorable, explore, torn, files=True, settings=["resize 1 2 1 2"])
+    raises(BadLine, explore, torn, files=True, settings=["keep 2 1"])
+
+
+def test_seeds():
+    made = seeds(torn, 5, files="xfs", settings=HALF)
+    assert made == (5, ())
+    failed = raises(Failed, seeds, forgets, 100, files="xfs")
+    assert failed.path.startswith("seed ") and failed.script[1] == "profile xfs" and "its calls:" in str(failed)
+    raises(Failed, seeds, forgets, [int(failed.path.split()[1])], files="xfs")
+    late = seeds(endless, 3, files="xfs", seconds=0.05)
+    assert late == (0, (0, 1, 2))
+
+
+def test_shrinks():
+    def body(files):
+        for _ in range(files.choose(5) + 1):
+            put(files, "/f", b"new", "ab")
+        files.mkdir("/d")
+        files.restart()
+        assert files.exists("/f"), "lost"
+
+    failed = raises(Failed, seeds, body, 100, files="xfs")
+    smaller = shrink(body, failed, files="xfs")
+    assert smaller.reason == failed.reason and smaller.path == "0/5 max" or smaller.path.startswith("0/5"), smaller.path
+    assert len(smaller.script) <= len(failed.script)
+    raises(Failed, explore, body, files="xfs", under=[smaller.path])
+
+
+def test_a_process_pool():
+    with ProcessPoolExecutor(2) as executor:
+        visited = explore(appended, files="xfs", settings=HALF, executor=executor)
+        assert set(visited.outcomes) == APPENDED | {b"aaaa\0\0\0\0cccc"} and visited.complete
+        failed = raises(Failed, explore, forgets, files="xfs", executor=executor)
+        assert failed.script[1] == "profile xfs"
+        failed = raises(Failed, seeds, forgets, 50, files="xfs", executor=executor)
+        assert failed.path.startswith("seed ")
+        assert seeds(torn, 8, files="xfs", settings=HALF, executor=executor).runs == 8
+
+
+def test_errors_are_pickled():
+    with Files(settings=KEEPS) as files:
+        for error in (raises(OSError, files.rename, "/x", "/y"), raises(OSError, files.open, "/x")):
+            copy = pickle.loads(pickle.dumps(error))
+            assert type(copy) is FileNotFoundError and (copy.refusal, copy.filename, copy.filename2) == ("NotFound", error.filename, error.filename2)
+            assert str(copy) == str(error)
+
+
+HEADER = os.path.join(TOP, "bindings", "c", "blobcrash_files.h")
+NAMES = {
+    "mkdir": "MAKE_DIRECTORY",
+    "rmdir": "REMOVE_DIRECTORY",
+    "listdir": "LIST",
+    "fsync_directory": "SYNC_DIRECTORY",
+    "fsync": "SYNC",
+    "fdatasync": "SYNC_DATA",
+    "sync": "SYNC_ALL",
+}
+
+
+def test_the_numbers_of_the_header():
+    with open(HEADER, encoding="utf-8") as file:
+        text = file.read()
+    with open(os.path.join(TOP, "bindings", "c", "blobcrash.h"), encoding="utf-8") as file:
+        text += file.read()
+    numbers = {name: int(value) for name, value in re.findall(r"^ *BLOBCRASH_(\w+) = (\d+)", text, re.M)}
+    for word, number in foreign_files.KINDS.items():
+        assert numbers["F_" + NAMES.get(word, word.upper())] == number, word
+    for number, refusal in foreign_files.REFUSALS.items():
+        name = re.sub("(?!^)([A-Z])", r"_\1", refusal.name).upper()
+        assert numbers[("F_" if number >= 64 else "E_") + name] == number, name
+    assert {number for name, number in numbers.items() if name.startswith("F_") and number >= 64} == {number for number in foreign_files.REFUSALS if number >= 64}
+
+
+def test_the_structs_of_the_header():
+    structs = {
+        "blobcrash_files": foreign_files.FilesSession,
+        "blobcrash_file_call": foreign_files.AskedFile,
+        "blobcrash_file_reply": foreign_files.FileReply,
+        "blobcrash_kept_run": foreign_files.KeptRun,
+    }
+    lines, own = [], []
+    for name, struct in structs.items():
+        lines.append(f'printf("%zu\\n", sizeof(struct {name}));')
+        own.append(str(ctypes.sizeof(struct)))
+        for field, _ in struct._fields_:
+            lines.append(f'printf("%zu %zu\\n", offsetof(struct {name}, {field}), sizeof(((struct {name} *)0)->{field}));')
+            own.append(f"{getattr(struct, field).offset} {getattr(struct, field).size}")
+    text = f'#include "{HEADER}"\n#include <stdio.h>\nint main(void) {{\n' + "\n".join(lines) + "\nreturn 0; }\n"
+    with tempfile.TemporaryDirectory() as folder:
+        source, program = os.path.join(folder, "layouts.c"), os.path.join(folder, "layouts")
+        with open(source, "w", encoding="utf-8") as file:
+            file.write(text)
+        subprocess.run([os.environ.get("CC", "cc"), "-std=c11", "-o", program, source], check=True)
+        printed = subprocess.run([program], stdout=subprocess.PIPE, check=True).stdout.decode().split("\n")[:-1]
+    assert printed == own
+
+
+if __name__ == "__main__":
+    sys.exit(run_tests(globals(), sys.argv[1:]))
