@@ -1,0 +1,16 @@
+#!/bin/sh
+# Files of the package for Python: its calls, refusals and hostile arguments (tests/files.py), the table of docs/FILES.md with what real
+# file systems left (tests/files_litmus.py), and classic bugs (tests/files_bugs.py). The last line is `N passed, M failed`.
+top=$(CDPATH='' cd -- "$(dirname -- "$0")/.." && pwd -P)
+# shellcheck source=tests/counting.sh
+. "$top/tests/counting.sh"
+if ! has_python || ! has "${CC:-cc}"; then
+    skip 'files in Python: they need Python 3.8 or later, and a C compiler, which makes the library'
+    finish
+fi
+sh "$top/bindings/build.sh" || give_up "the library can't be built"
+export PYTHONDONTWRITEBYTECODE=1
+for part in files files_litmus files_bugs; do
+    add python3 "$top/tests/$part.py"
+done
+finish
