@@ -1,41 +1,24 @@
-"""`Files` of the package for Python: every public call, refusals, hostile arguments, power losses, `explore`, `seeds` and `shrink` of files,
-a process pool, pickling, and the numbers of the C header. The last line is `N passed, M failed`. With the name of a test only that one is
-run."""
+"""`Files` of the package for Python: every public call, refusals, hostile arguments and power losses. The last line is `N passed, M failed`.
+With the name of a test only that one is run."""
 
-import ctypes
 import errno
 import io
 import os
 import pickle
-import re
-import subprocess
 import sys
-import tempfile
 import threading
-from concurrent.futures import ProcessPoolExecutor
 
 TOP = os.path.dirname(os.path.dirname(os.path.abspath(__file__)))
 sys.path.insert(0, os.path.join(TOP, "bindings", "python"))
-sys.path.insert(0, os.path.join(TOP, "tests"))
 
-from passing import run_tests
+from passing import raises, run_tests
 
-from blobcrash import BadLine, Failed, Files, Injected, NeedsSeed, NotDeterministic, OpenFile, PowerLoss, TooLong, Unexplorable, WrongThread
-from blobcrash import explore, foreign_files, seeds, shrink
+from blobcrash import BadLine, Files, Injected, NeedsSeed, OpenFile, PowerLoss, WrongThread
 
 # Of unsynced bytes and unsettled edits a crash keeps all, or none.
 KEEPS, LOSES = ["write 0 1 1 1 prefix", "keep 1 1"], ["write 0 1 0 1 prefix", "keep 0 1"]
 HALF = ["write 0 1 1 2 sectors 4"]
 PROFILES = ("ext4", "xfs", "btrfs", "posix")
-
-
-def raises(error, call, *arguments, **named):
-    """The error that a call raises, which is one of this kind."""
-    try:
-        result = call(*arguments, **named)
-    except error as raised:
-        return raised
-    raise AssertionError(f"{error} isn't raised, and the result is {result!r}")
 
 
 def refused(kind, number, name, call, *arguments, **named):
@@ -125,7 +108,7 @@ def test_names():
         assert files.listdir("/a/b") == ["e"] and files.listdir("a") == ["b"]
         for name in ("é", "\udcff", " ", "\n", "\\", "a b", "x" * 255):
             put(files, "/" + name, b"n")
-        assert files.listdir() == sorted(["a", "é", "\udcff", " ", "\n", "\\", "a b", "x" * 255], key=lambda n: n.encode("utf-8", "surrogateescape"))
+        assert files.listdir() == ["\n", " ", "\\", "a", "a b", "x" * 255, "é", "\udcff"]
         assert not any("\n" in line for line in files.script)
 
 
@@ -213,10 +196,14 @@ def test_refusals():
         refused(OSError, errno.ENOTEMPTY, "NotEmpty", files.rmdir, "/d")
         files.mkdir("/k")
         refused(OSError, errno.ENOTEMPTY, "NotEmpty", files.rename, "/k", "/d")
-        for call, arguments in ((files.open, ("/d",)), (files.open, ("/d", "wb")), (files.unlink, ("/d",)), (files.link, ("/d", "/l")), (files.rename, ("/f", "/k"))):
-            refused(IsADirectoryError, errno.EISDIR, "IsDirectory", call, *arguments)
-        for call, arguments in ((files.rmdir, ("/f",)), (files.listdir, ("/f",)), (files.open, ("/f/x", "wb")), (files.rename, ("/d", "/f")), (files.fsync_directory, ("/f",))):
-            refused(NotADirectoryError, errno.ENOTDIR, "NotDirectory", call, *arguments)
+        is_directory = IsADirectoryError, errno.EISDIR, "IsDirectory"
+        for call, *arguments in ((files.open, "/d"), (files.open, "/d", "wb"), (files.unlink, "/d"), (files.link, "/d", "/l")):
+            refused(*is_directory, call, *arguments)
+        refused(*is_directory, files.rename, "/f", "/k")
+        not_directory = NotADirectoryError, errno.ENOTDIR, "NotDirectory"
+        for call, *arguments in ((files.rmdir, "/f"), (files.listdir, "/f"), (files.fsync_directory, "/f"), (files.open, "/f/x", "wb")):
+            refused(*not_directory, call, *arguments)
+        refused(*not_directory, files.rename, "/d", "/f")
         refused(OSError, errno.EINVAL, "Loop", files.rename, "/d", "/d/e/h")
         refused(OSError, errno.EINVAL, "Loop", files.rename, "/d", "/d/h")
         refused(OSError, errno.EINVAL, "Loop", files.exchange, "/d", "/d/e")
@@ -254,10 +241,14 @@ def test_injected_faults():
         files.configure("open 1 2")
         raises(Injected, files.open, "/g", "xb")
         assert files.listdir() == ["f"]
-        for setting, act in (("write 1 2 1 1 prefix", lambda: put(files, "/f", b"G", "r+b")), ("read 1 2", lambda: get(files, "/f")), ("resize 1 2 0 1", lambda: files.truncate("/f", 0))):
+        for setting, call, *arguments in (
+            ("write 1 2 1 1 prefix", put, files, "/f", b"G", "r+b"),
+            ("read 1 2", get, files, "/f"),
+            ("resize 1 2 0 1", files.truncate, "/f", 0),
+        ):
             files.configure("clear")
             files.configure(setting)
-            raises(Injected, act)
+            raises(Injected, call, *arguments)
 
 
 def test_hostile_names():
@@ -266,11 +257,13 @@ def test_hostile_names():
         files.mkdir("/d")
         invalid = OSError, errno.EINVAL, "InvalidName"
         too_long = OSError, errno.ENAMETOOLONG, "NameTooLong"
-        for bad, kind in (("..", invalid), (".", invalid), ("a\0b", invalid), (b"\0", invalid), ("x" * 256, too_long), ("é" * 128, too_long)):
+        all_invalid = [(bad, invalid) for bad in ("..", ".", "a\0b", b"\0")]
+        on_path = (files.unlink, files.mkdir, files.rmdir, files.open, files.listdir, files.fsync_directory, files.stat, files.makedirs)
+        for bad, kind in (*all_invalid, ("x" * 256, too_long), ("é" * 128, too_long)):
             above = (b"/" if isinstance(bad, bytes) else "/") + bad
             below = above + (b"/f" if isinstance(bad, bytes) else "/f")
             for path in (bad, above, below):
-                for call in (files.unlink, files.mkdir, files.rmdir, files.open, files.listdir, files.fsync_directory, files.stat, files.makedirs):
+                for call in on_path:
                     refused(*kind, call, path)
                 for call in (files.link, files.rename):
                     refused(*kind, call, "/f", path)
@@ -310,8 +303,8 @@ def test_hostile_modes_and_files():
             for bad in (None, 0, "/f", io.BytesIO(), others.open("/f")):
                 raises(TypeError, call, bad)
         file.close()
-        for call in (lambda: files.fsync(file), file.read, lambda: file.write(b"x"), file.tell, file.size, lambda: file.seek(0), file.truncate):
-            raises(ValueError, call)
+        for call, *arguments in ((files.fsync, file), (file.read,), (file.write, b"x"), (file.tell,), (file.size,), (file.seek, 0), (file.truncate,)):
+            raises(ValueError, call, *arguments)
         file = files.open("/f", "r+b")
         for bad in (None, "text", 1, object()):
             raises(TypeError, file.write, bad)
@@ -344,8 +337,8 @@ def test_stale_and_closed():
     file.write(b"F")
     other = files.open("/f")
     files.crash()
-    for call in (other.read, lambda: file.write(b"x"), lambda: files.fsync(file), file.size, file.truncate):
-        refused(OSError, errno.ESTALE, "Stale", call)
+    for call, *arguments in ((other.read,), (file.write, b"x"), (files.fsync, file), (file.size,), (file.truncate,)):
+        refused(OSError, errno.ESTALE, "Stale", call, *arguments)
     file.close()
     assert file.closed and get(files, "/f") == b"F"
     reader = files.open("/f")
@@ -360,8 +353,10 @@ def test_stale_and_closed():
     reader = files.open("/f")
     files.close()
     files.close()
-    for call in (lambda: files.mkdir("/d"), files.listdir, files.crash, files.sync, reader.read, lambda: files.crash_after(1), lambda: files.configure("clear")):
-        raises(ValueError, call)
+    for call, *arguments in ((files.mkdir, "/d"), (files.listdir,), (files.crash,), (files.sync,), (files.settle,), (reader.read,)):
+        raises(ValueError, call, *arguments)
+    for call, argument in ((files.crash_after, 1), (files.configure, "clear"), (files.exists, "/f"), (files.recover, files.listdir)):
+        raises(ValueError, call, argument)
     reader.close()
 
 
@@ -373,7 +368,8 @@ def test_arguments_and_settings():
     raises(ValueError, Files, 2**64)
     raises(TypeError, Files, "1")
     raises(ValueError, Files, words=[-1])
-    for bad in ("", "keep", "keep 1", "keep 1 0", "keep 2 1", "keep 1 2 3", "keep a b", "space 1", "space 1 x", "space -1 1", "nothing 1 2", "keep 1 2\nkeep 1 1", "write 0 1 1 2", "profile xfs"):
+    keeps = ("keep", "keep 1", "keep 1 0", "keep 2 1", "keep 1 2 3", "keep a b", "keep 1 2\nkeep 1 1")
+    for bad in ("", *keeps, "space 1", "space 1 x", "space -1 1", "nothing 1 2", "write 0 1 1 2", "profile xfs"):
         raises(BadLine, Files, 1, settings=[bad])
         with Files(1) as files:
             raises(BadLine, files.configure, bad)
@@ -401,8 +397,10 @@ def test_the_lines_of_a_script():
         files.restart()
         lines = files.script
     assert lines[:4] == ["seed 7", "profile xfs", "config write 0 1 1 1 sectors 4", "keep 1 1"], lines
-    assert lines[4:12] == ["create /f is 0", "write 0 0 4142", "close 0", "# a note", "mkdir /f is Exists", "rename /f /a\\x20b", "rename /a\\x20b /a\\x20b exchange", "crash"], lines
-    assert "# of the unsettled edits it keeps 11" in lines[12:] and any(line.endswith("keeps bytes 0 to 1 of 2") for line in lines[12:]), lines
+    assert lines[4:9] == ["create /f is 0", "write 0 0 4142", "close 0", "# a note", "mkdir /f is Exists"], lines
+    assert lines[9:12] == ["rename /f /a\\x20b", "rename /a\\x20b /a\\x20b exchange", "crash"], lines
+    assert "# of the unsettled edits it keeps 11" in lines[12:], lines
+    assert any(line.endswith("keeps bytes 0 to 1 of 2") for line in lines[12:]), lines
 
 
 def test_power_losses():
@@ -412,8 +410,8 @@ def test_power_losses():
         assert files.exists("/f") and file.size() == 0
         file.write(b"1")
         assert raises(PowerLoss, file.write, b"2").is_first
-        for call in (lambda: files.mkdir("/d"), files.listdir, lambda: files.exists("/f"), files.settle, lambda: files.open("/f")):
-            assert not raises(PowerLoss, call).is_first
+        for call, *arguments in ((files.mkdir, "/d"), (files.listdir,), (files.exists, "/f"), (files.settle,), (files.open, "/f")):
+            assert not raises(PowerLoss, call, *arguments).is_first
         raises(ValueError, files.crash_after, 1)
         files.configure("keep 1 1")
         file.close()
@@ -436,82 +434,6 @@ def test_power_losses():
         assert error.is_first and error.__context__ is None
 
 
-def torn(files):
-    """Overwrites a file, and crashes. Returns what is left."""
-    put(files, "/f", b"aaaabbbb")
-    files.settle()
-    put(files, "/f", b"ccccdddd", "r+b")
-    files.restart()
-    return get(files, "/f")
-
-
-def forgets(files):
-    """Fails if a name is lost."""
-    put(files, "/f", b"new")
-    if files.choose(2):
-        files.mkdir("/d")
-    files.restart()
-    assert files.exists("/f"), "the name is lost"
-
-
-def appended(files):
-    """What is left of an append."""
-    put(files, "/f", b"aaaa")
-    files.settle()
-    put(files, "/f", b"bbbbcccc", "ab")
-    files.restart()
-    return get(files, "/f")
-
-
-APPENDED = {b"aaaa", b"aaaabbbb", b"aaaabbbbcccc"}
-
-
-def test_each_outcome():
-    visited = explore(torn, files=True, settings=["keep 1 1", *HALF])
-    assert set(visited.outcomes) == {a + b for a in (b"aaaa", b"cccc") for b in (b"bbbb", b"dddd")} and visited.complete
-    assert str(visited).endswith("all of them")
-    for files in (True, "ext4"):
-        assert set(explore(appended, files=files, settings=HALF).outcomes) == APPENDED
-    for files in ("xfs", "btrfs", "posix"):
-        assert set(explore(appended, files=files, settings=HALF).outcomes) == APPENDED | {b"aaaa\0\0\0\0cccc"}
-    assert explore(lambda files: type(files).__name__, files="xfs").outcomes == {"ExploredFiles": 1}
-    assert explore(lambda store: type(store).__name__).outcomes == {"ExploredStore": 1} == explore(lambda store: type(store).__name__, files=False).outcomes
-
-
-def test_choices_and_paths():
-    failed = raises(Failed, explore, forgets, files="xfs")
-    assert failed.path == "0/2 max" and failed.reason == "AssertionError: the name is lost", (failed.path, failed.reason)
-    assert "its calls:" in str(failed) and "    create /f is 0" in str(failed), failed
-    assert failed.script[:2] == ["words max", "profile xfs"], failed.script
-    again = raises(Failed, explore, forgets, files="xfs", under=[failed.path])
-    assert again.script == failed.script and again.run == 1
-    copy = pickle.loads(pickle.dumps(failed))
-    assert (copy.path, copy.script, str(copy)) == (failed.path, failed.script, str(failed))
-    limited = explore(torn, files="xfs", settings=HALF, runs=1)
-    assert limited.runs == 1 and not limited.complete
-    rest = explore(torn, files="xfs", settings=HALF, under=limited.rest)
-    whole = explore(torn, files="xfs", settings=HALF)
-    assert rest.runs + 1 == whole.runs and rest.complete
-
-
-def two_names(files):
-    """Makes two names durable, at any loss of power. Returns those that are found."""
-    try:
-        for name in ("/a", "/b"):
-            files.mkdir(name)
-            files.fsync_directory("/")
-    except PowerLoss:
-        pass
-    return tuple(files.recover(files.listdir))
-
-
-def test_explored_power_losses():
-    visited = explore(two_names, files="posix", power_losses=1)
-    assert set(visited.outcomes) == {(), ("a",), ("a", "b")} and visited.complete, visited
-    failed = raises(Failed, explore, lambda files: files.mkdir("/d"), files="xfs", power_losses=1)
-    assert failed.path == "off" and "PowerLoss" in failed.reason and "# power loss" in failed.script
-
-
 def test_a_close_counts_as_a_change():
     # It may make bytes durable, if an open has truncated a file.
     with Files(profile="ext4", settings=["write 0 1 0 1 prefix", "keep 1 1"]) as files:
@@ -527,132 +449,13 @@ def test_a_close_counts_as_a_change():
         assert get(files, "/f") == b"new"
 
 
-_changing = []
-
-
-def differs(files):
-    _changing.append(0)
-    files.mkdir("/" + "d" * len(_changing))
-    files.restart()
-
-
-def endless(files):
-    while True:
-        files.exists("/f")
-
-
-def test_bodies_that_go_wrong():
-    error = raises(NotDeterministic, explore, differs, files="xfs")
-    assert "mkdir /d" in str(error), error
-    error = raises(TooLong, explore, endless, files="xfs", calls_per_run=50)
-    assert error.script == ["profile xfs"], error.script
-    visited = explore(endless, files="xfs", seconds=0.01, calls_per_run=10**9)
-    assert visited.runs == 0 and not visited.complete
-    kept = []
-    explore(kept.append, files=True)
-    assert "the store's run has ended" in str(raises(ValueError, kept[0].mkdir, "/d"))
-    for named in ({"files": "ext3"}, {"files": "xfs", "report": "x.html"}):
-        raises(ValueError, explore, torn, **named)
-        raises(ValueError, seeds, torn, 1, **named)
-    raises(TypeError, explore, torn, files=1)
-    raises(TypeError, explore, torn, files=True, images=[("p", b"b", b"")])
-    raises(TypeError, explore, torn, files=True, allow_stale=True)
-    raises(Unexplorable, explore, torn, files=True, settings=["resize 1 2 1 2"])
-    raises(BadLine, explore, torn, files=True, settings=["keep 2 1"])
-
-
-def test_seeds():
-    made = seeds(torn, 5, files="xfs", settings=HALF)
-    assert made == (5, ())
-    failed = raises(Failed, seeds, forgets, 100, files="xfs")
-    assert failed.path.startswith("seed ") and failed.script[1] == "profile xfs" and "its calls:" in str(failed)
-    raises(Failed, seeds, forgets, [int(failed.path.split()[1])], files="xfs")
-    late = seeds(endless, 3, files="xfs", seconds=0.05)
-    assert late == (0, (0, 1, 2))
-
-
-def test_shrinks():
-    def body(files):
-        for _ in range(files.choose(5) + 1):
-            put(files, "/f", b"new", "ab")
-        files.mkdir("/d")
-        files.restart()
-        assert files.exists("/f"), "lost"
-
-    failed = raises(Failed, seeds, body, 100, files="xfs")
-    smaller = shrink(body, failed, files="xfs")
-    assert smaller.reason == failed.reason and smaller.path == "0/5 max" or smaller.path.startswith("0/5"), smaller.path
-    assert len(smaller.script) <= len(failed.script)
-    raises(Failed, explore, body, files="xfs", under=[smaller.path])
-
-
-def test_a_process_pool():
-    with ProcessPoolExecutor(2) as executor:
-        visited = explore(appended, files="xfs", settings=HALF, executor=executor)
-        assert set(visited.outcomes) == APPENDED | {b"aaaa\0\0\0\0cccc"} and visited.complete
-        failed = raises(Failed, explore, forgets, files="xfs", executor=executor)
-        assert failed.script[1] == "profile xfs"
-        failed = raises(Failed, seeds, forgets, 50, files="xfs", executor=executor)
-        assert failed.path.startswith("seed ")
-        assert seeds(torn, 8, files="xfs", settings=HALF, executor=executor).runs == 8
-
-
 def test_errors_are_pickled():
     with Files(settings=KEEPS) as files:
         for error in (raises(OSError, files.rename, "/x", "/y"), raises(OSError, files.open, "/x")):
             copy = pickle.loads(pickle.dumps(error))
-            assert type(copy) is FileNotFoundError and (copy.refusal, copy.filename, copy.filename2) == ("NotFound", error.filename, error.filename2)
+            assert type(copy) is FileNotFoundError and copy.refusal == "NotFound"
+            assert (copy.filename, copy.filename2) == (error.filename, error.filename2)
             assert str(copy) == str(error)
-
-
-HEADER = os.path.join(TOP, "bindings", "c", "blobcrash_files.h")
-NAMES = {
-    "mkdir": "MAKE_DIRECTORY",
-    "rmdir": "REMOVE_DIRECTORY",
-    "listdir": "LIST",
-    "fsync_directory": "SYNC_DIRECTORY",
-    "fsync": "SYNC",
-    "fdatasync": "SYNC_DATA",
-    "sync": "SYNC_ALL",
-}
-
-
-def test_the_numbers_of_the_header():
-    with open(HEADER, encoding="utf-8") as file:
-        text = file.read()
-    with open(os.path.join(TOP, "bindings", "c", "blobcrash.h"), encoding="utf-8") as file:
-        text += file.read()
-    numbers = {name: int(value) for name, value in re.findall(r"^ *BLOBCRASH_(\w+) = (\d+)", text, re.M)}
-    for word, number in foreign_files.KINDS.items():
-        assert numbers["F_" + NAMES.get(word, word.upper())] == number, word
-    for number, refusal in foreign_files.REFUSALS.items():
-        name = re.sub("(?!^)([A-Z])", r"_\1", refusal.name).upper()
-        assert numbers[("F_" if number >= 64 else "E_") + name] == number, name
-    assert {number for name, number in numbers.items() if name.startswith("F_") and number >= 64} == {number for number in foreign_files.REFUSALS if number >= 64}
-
-
-def test_the_structs_of_the_header():
-    structs = {
-        "blobcrash_files": foreign_files.FilesSession,
-        "blobcrash_file_call": foreign_files.AskedFile,
-        "blobcrash_file_reply": foreign_files.FileReply,
-        "blobcrash_kept_run": foreign_files.KeptRun,
-    }
-    lines, own = [], []
-    for name, struct in structs.items():
-        lines.append(f'printf("%zu\\n", sizeof(struct {name}));')
-        own.append(str(ctypes.sizeof(struct)))
-        for field, _ in struct._fields_:
-            lines.append(f'printf("%zu %zu\\n", offsetof(struct {name}, {field}), sizeof(((struct {name} *)0)->{field}));')
-            own.append(f"{getattr(struct, field).offset} {getattr(struct, field).size}")
-    text = f'#include "{HEADER}"\n#include <stdio.h>\nint main(void) {{\n' + "\n".join(lines) + "\nreturn 0; }\n"
-    with tempfile.TemporaryDirectory() as folder:
-        source, program = os.path.join(folder, "layouts.c"), os.path.join(folder, "layouts")
-        with open(source, "w", encoding="utf-8") as file:
-            file.write(text)
-        subprocess.run([os.environ.get("CC", "cc"), "-std=c11", "-o", program, source], check=True)
-        printed = subprocess.run([program], stdout=subprocess.PIPE, check=True).stdout.decode().split("\n")[:-1]
-    assert printed == own
 
 
 if __name__ == "__main__":

@@ -1,6 +1,7 @@
 #!/bin/sh
-# Files of the package for Python: its calls, refusals and hostile arguments (tests/files.py), the table of docs/FILES.md with what real
-# file systems left (tests/files_litmus.py), and classic bugs (tests/files_bugs.py). The last line is `N passed, M failed`.
+# Files of the package for Python: its calls, refusals and hostile arguments (tests/files.py), the numbers of the C header
+# (tests/files_header.py), explorations (tests/files_explored.py), the table of docs/FILES.md with what real file systems left
+# (tests/files_litmus.py), and classic bugs (tests/files_bugs.py). The last line is `N passed, M failed`.
 top=$(CDPATH='' cd -- "$(dirname -- "$0")/.." && pwd -P)
 # shellcheck source=tests/counting.sh
 . "$top/tests/counting.sh"
@@ -10,7 +11,7 @@ if ! has_python || ! has "${CC:-cc}"; then
 fi
 sh "$top/bindings/build.sh" || give_up "the library can't be built"
 export PYTHONDONTWRITEBYTECODE=1
-for part in files files_litmus files_bugs; do
+for part in files files_header files_explored files_litmus files_bugs; do
     add python3 "$top/tests/$part.py"
 done
 finish

@@ -9,15 +9,14 @@ from .foreign_files import Refusal
 from .power import Supply
 
 # The calls that may change what a crash leaves.
-_CHANGES = frozenset(
-    ("create", "open_truncated", "link", "unlink", "rename", "mkdir", "rmdir", "fsync_directory", "truncate", "write", "fsync", "fdatasync", "sync")
-)
+_OF_NAMES = ("create", "open_truncated", "link", "unlink", "rename", "mkdir", "rmdir", "fsync_directory")
+_CHANGES = frozenset((*_OF_NAMES, "truncate", "write", "fsync", "fdatasync", "sync"))
 
 
 class FileSupply(Supply):
     """A layer of files with a power supply. While the power is off each call raises `PowerLoss`, except `configure` and `crash`.
 
-    After an open that truncated, a close may make bytes durable, so it counts as a change too. `settle` doesn't: it is no call of a program.
+    After an open that truncated, a close may make bytes durable, so it counts as a change too. `settle` doesn't: no program calls it.
     """
 
     # Whether an open has truncated since the last crash.

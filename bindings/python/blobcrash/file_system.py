@@ -222,7 +222,7 @@ class Files:
     def crash(self) -> Kept:
         """Loses what isn't durable, except what the draws keep, and recovers. Returns what was kept. All open files are stale."""
         if self._draws_edits and not self._has_draws:
-            raise NeedsSeed("a crash draws which edits it keeps: give the files a seed, `Files(seed=7)`, or words, or the setting `keep 1 1`")
+            raise NeedsSeed("a crash draws which edits it keeps: give the files a seed, `Files(seed=7)`, words, or the setting `keep 1 1`")
         kept = self._call(FileCall("crash"))
         self._lines += kept.lines()
         self._opened.clear()
