@@ -13,7 +13,7 @@ sys.path.insert(0, os.path.join(TOP, "bindings", "python"))
 
 from passing import raises, run_tests
 
-from blobcrash import BadLine, Files, Injected, NeedsSeed, OpenFile, PowerLoss, WrongThread
+from blobcrash import BadLine, Files, Injected, Library, NeedsSeed, OpenFile, PowerLoss, Program, WrongThread
 
 # Of unsynced bytes and unsettled edits a crash keeps all, or none.
 KEEPS, LOSES = ["write 0 1 1 1 prefix", "keep 1 1"], ["write 0 1 0 1 prefix", "keep 0 1"]
@@ -365,6 +365,8 @@ def test_arguments_and_settings():
         raises(ValueError, Files, profile=bad)
     raises(TypeError, Files, profile=None)
     raises(TypeError, Files, settings="keep 1 1")
+    raises(ValueError, Files, by=Program)
+    Files(by=Library).close()
     raises(ValueError, Files, 2**64)
     raises(TypeError, Files, "1")
     raises(ValueError, Files, words=[-1])

@@ -17,6 +17,8 @@ refuses raises the error that is named like its reply: `error BlobMissing p 62` 
 argument that isn't one raises `TypeError` or `ValueError`, and nothing is sent. `store.script` is a script that makes the same calls
 again. Its lines and replies are those of docs/FORMATS.md. A store belongs to one thread.
 
+`Files(seed=7, profile="ext4")` is a file system that crashes, with the calls of `os` and the library (docs/FILES.md).
+
 To use the package without installing it, copy this folder: it needs nothing but Python 3.8 or later.
 """
 

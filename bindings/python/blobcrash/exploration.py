@@ -26,7 +26,7 @@ from .bounds import CALLS_PER_RUN, FIRST_RUN, Bounds, RunEnded
 from .failures import Failed, TooLong, reason_of, reporter
 from .file_calls import FileCall
 from .file_follow import ExploredFiles
-from .file_library import FilesLibrary
+from .file_library import files_way
 from .file_settings import file_setting_tokens, files_of, refuse_of_stores
 from .follow import ExploredStore, MoreWords, NotDeterministic, Run, refuse_sizes
 from .grammar import MAX, image_line, number, setting_tokens
@@ -144,7 +144,7 @@ def explore(
     losses, most_calls = number(power_losses, "a number of power losses"), number(calls_per_run, "a number of calls")
     profile = files_of(files)
     if profile is not None:
-        by = FilesLibrary if by is Library else by
+        by = files_way(by)
         refuse_of_stores(images, allow_stale)
     tree = Tree(body, tuple(settings), tuple(images), by, seed, losses, bool(allow_stale), most_calls, profile)
     if seed is not None:

@@ -6,7 +6,7 @@ from typing import Any, Iterable
 
 from .bounds import BoundedFiles
 from .file_calls import FileCall
-from .file_library import FilesLibrary
+from .file_library import files_way
 from .file_power import FileSupply
 from .file_settings import file_setting_tokens
 from .follow import OnPath, Run, refuse_sizes
@@ -39,7 +39,7 @@ class ExploredFiles(OnPath, BoundedFiles):
         self._bounds = run.bounds
 
         def way(preamble: bytes) -> FileSupply:
-            return FileSupply(_FollowedFiles((by or FilesLibrary)(preamble), run), run.fails if run.losses else None)
+            return FileSupply(_FollowedFiles(files_way(by)(preamble), run), run.fails if run.losses else None)
 
         words = run.words if run.seed is None else ()
         super().__init__(run.seed, profile=profile, words=words, settings=settings, by=way)

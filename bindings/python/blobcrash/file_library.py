@@ -9,11 +9,21 @@ from .errors import BadLine, NotMade
 from .file_calls import FileCall, Found, Kept, refusal_of
 from .foreign import BAD_LINE, CLOSED, DONE, ENDLESS, NO_MEMORY, NO_ROOM
 from .foreign_files import KINDS, REFUSALS, AskedFile, FilesSession, Refusal, loaded_files
+from .layers import Library, Program
 
 # A name has at most this many bytes.
 _NAME_MAX = 255
 # A read of more bytes asks for the size first, so that no more are allocated than the file has.
 _MOST_BLIND = 65536
+
+
+def files_way(by: Any = None) -> Any:
+    """The way to files that `by` asks for. A pipe has no calls of files: raises `ValueError`."""
+    if by is None or by is Library:
+        return FilesLibrary
+    if by is Program:
+        raise ValueError("files are reached by the library alone, not by a pipe")
+    return by
 
 
 class FilesLibrary:

@@ -9,7 +9,7 @@ from typing import Any, Callable, Dict, Iterable, List, NamedTuple, Optional, Tu
 from .errors import BadLine, Interrupted, NeedsSeed, NotMade, WrongThread
 from .file_calls import FileCall, Kept, reply_text
 from .file_errors import error_of
-from .file_library import FilesLibrary
+from .file_library import files_way
 from .file_power import FileSupply
 from .file_settings import file_setting_line, profile_of
 from .foreign_files import EXCHANGES, IS_DIRECTORY, REFUSES, REPLACES, Refusal
@@ -74,7 +74,7 @@ class Files:
         self._busy = False
         self._closed = False
         self._cause: Optional[BaseException] = None
-        self._layer = (by or FilesLibrary)("\n".join([*self._words_line(), *lines, ""]).encode())
+        self._layer = files_way(by)("\n".join([*self._words_line(), *lines, ""]).encode())
 
     def __enter__(self) -> Files:
         return self

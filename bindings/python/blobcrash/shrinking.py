@@ -20,7 +20,6 @@ from .bounds import Bounds, RunEnded
 from .exploration import Body, seconds_of
 from .failures import Failed, reason_of
 from .file_follow import ExploredFiles
-from .file_library import FilesLibrary
 from .file_settings import files_of, refuse_of_stores
 from .file_system import Files
 from .follow import ExploredStore, MoreWords, Run
@@ -96,7 +95,7 @@ def shrink(
 
     def store(run: Run) -> Any:
         if profile is not None:
-            return _ReplayedFiles(run, settings, profile, FilesLibrary if by is Library else by)
+            return _ReplayedFiles(run, settings, profile, by)
         return _ReplayedStore(run, settings, images, by, allow_stale)
 
     until = time.monotonic() + seconds_of(seconds)
