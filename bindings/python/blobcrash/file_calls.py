@@ -10,6 +10,8 @@ from .grammar import hex_of
 
 # A text of a path in a line: printable ASCII but the space and the backslash.
 _PLAIN = re.compile(rb"[!-\[\]-~]+")
+# How many bytes an edit is in the journal.
+_EDIT = 1024
 _HOW = ("", " noreplace", " exchange")
 # The calls with one path, with two, with a number, and with none.
 _ON_PATH = frozenset(("create", "open", "open_truncated", "unlink", "mkdir", "rmdir", "listdir", "fsync_directory", "find"))
@@ -64,10 +66,13 @@ class Kept(NamedTuple):
     edits: List[bool]
 
     def lines(self) -> List[str]:
-        """Comments that say it."""
+        """Comments that say it. Writes that can only be edits are left out."""
         edits = "".join("1" if is_kept else "0" for is_kept in self.edits)
         lines = [f"# of the unsettled edits it keeps {edits}"] if edits else []
-        return lines + [f"# of write {write} it keeps {_runs(digits)}" for write, digits in self.writes]
+        writes = [row for row in self.writes if len(row[1]) != _EDIT]
+        if len(self.writes) - len(writes) != len(edits):
+            writes = self.writes
+        return lines + [f"# of write {write} it keeps {_runs(digits)}" for write, digits in writes]
 
 
 def _runs(digits: str) -> str:
