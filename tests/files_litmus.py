@@ -1,5 +1,5 @@
 """The litmus programs of docs/FILES.md: in each profile `explore` finds exactly the outcomes of the page's table, which are worked out by
-hand from its rules. What was seen on real file systems lies in their profiles' sets, but for what OUTSIDE says. The last line is
+hand from its rules. What was seen on real file systems lies in their profiles' sets, except what OUTSIDE says. The last line is
 `N passed, M failed`."""
 
 import os
@@ -44,7 +44,7 @@ truncate f to AA00, o = X, fsync o | f = AA | f | AA00 | AA00 | AA00
 write B to f, fsync f, append BB to f | f = AA | f | BA | BA | BA
 """
 
-# What was seen and no crash of the profile leaves: an append of which only the end had been written back, and a rewrite behind O_TRUNC
+# What was seen and no crash of the profile leaves: an append of which only the end had been written back, and a rewrite after O_TRUNC
 # whose close made nothing durable.
 OUTSIDE = """
 append BB to f, o = X, fsync o | f = AA | f | AA0B | |
@@ -58,7 +58,7 @@ def parted(text, by):
 
 
 def bytes_of(letters):
-    """The bytes that letters stand for: a sector each, `0` a sector of zeros."""
+    """The bytes of letters: a sector each, `0` a sector of zeros."""
     return b"".join((b"\0" if letter == "0" else letter.encode()) * SECTOR for letter in letters)
 
 

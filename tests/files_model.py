@@ -170,7 +170,7 @@ class Model(Names):
         self.resize(self.files[self.inode_of(asked)], asked.first)
 
     def resize(self, file, length):
-        """Resizes a file. Whether that survives is drawn at once."""
+        """Resizes a file. Whether that survives is drawn by the call."""
         file.is_changed, file.grown = True, self.next_edit
         if self.resizes is not None:
             if self.draw(self.resizes):

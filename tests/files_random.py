@@ -76,7 +76,7 @@ def tree(files, path="/"):
 
 
 class Program:
-    """A random program, of which the first steps are durable. It returns its refusals, what is there before the crash, and after it."""
+    """A random program, of which the first steps are durable. It returns its refusals, what is found before the crash, and after it."""
 
     def __init__(self, seed):
         chance = random.Random(seed)

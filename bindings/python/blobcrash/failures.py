@@ -60,7 +60,7 @@ def _named(path: str) -> List[str]:
 
 
 def _is_of_files(script: List[str]) -> bool:
-    """Whether lines are those of files, which begin with a profile, behind words or a seed."""
+    """Whether lines are those of files, which begin with a profile, after words or a seed."""
     return any(line.startswith("profile ") for line in script[:3])
 
 

@@ -96,5 +96,5 @@ def reply_text(asked: FileCall, reply: Any) -> str:
 
 
 def refusal_of(status: int) -> Refusal:
-    """The refusal that a status stands for."""
+    """The refusal of a status."""
     return REFUSALS.get(status) or Refusal(f"Refusal{status}", 5, "the layer refused the call")
