@@ -13,7 +13,8 @@ sys.path.insert(0, os.path.join(TOP, "bindings", "python"))
 
 from passing import raises, run_tests
 
-from blobcrash import BadLine, Files, Injected, Library, NeedsSeed, OpenFile, PowerLoss, Program, WrongThread
+from blobcrash import BadLine, Files, Injected, Interrupted, Library, NeedsSeed, NotMade, OpenFile, PowerLoss, Program, WrongThread
+from blobcrash.file_calls import Found, refusal_of
 
 # Of unsynced bytes and unsettled edits a crash keeps all, or none.
 KEEPS, LOSES = ["write 0 1 1 1 prefix", "keep 1 1"], ["write 0 1 0 1 prefix", "keep 0 1"]
@@ -358,6 +359,44 @@ def test_stale_and_closed():
     for call, argument in ((files.crash_after, 1), (files.configure, "clear"), (files.exists, "/f"), (files.recover, files.listdir)):
         raises(ValueError, call, argument)
     reader.close()
+
+
+class Replies:
+    """A layer that gives these replies to its calls, or raises them."""
+
+    def __init__(self, *replies):
+        self.replies = list(replies)
+
+    def __call__(self, preamble):
+        return self
+
+    def call(self, asked):
+        reply = self.replies.pop(0)
+        if isinstance(reply, BaseException):
+            raise reply
+        return reply
+
+    def close(self):
+        pass
+
+
+def test_calls_that_are_cut_short():
+    files = Files(by=Replies(KeyboardInterrupt("now")))
+    raises(KeyboardInterrupt, files.mkdir, "/d")
+    error = raises(Interrupted, files.mkdir, "/e")
+    assert isinstance(error.__cause__, KeyboardInterrupt) and files.script == ["profile ext4", "mkdir /d"], files.script
+    files.close()
+    # No call was made, and the next one is.
+    with Files(by=Replies(NotMade(), Found(0, 0, 0))) as files:
+        raises(MemoryError, files.mkdir, "/d")
+        files.mkdir("/d")
+        assert files.script == ["profile ext4", "mkdir /d"]
+    with Files(by=Replies(refusal_of(29), refusal_of(75), refusal_of(30), refusal_of(16), refusal_of(99))) as files:
+        refused(OSError, errno.ENOMEM, "Memory", files.mkdir, "/d")
+        refused(OSError, errno.EIO, "Crashed", files.mkdir, "/d")
+        refused(OSError, errno.ENOSPC, "GenerationsExhausted", files.mkdir, "/d")
+        refused(OSError, errno.EFBIG, "OffsetOverflow", files.mkdir, "/d")
+        refused(OSError, errno.EIO, "Refusal99", files.mkdir, "/d")
 
 
 def test_arguments_and_settings():

@@ -2,6 +2,7 @@
 
 from __future__ import annotations
 
+import errno
 import re
 from typing import Any, List, NamedTuple, Tuple
 
@@ -97,4 +98,4 @@ def reply_text(asked: FileCall, reply: Any) -> str:
 
 def refusal_of(status: int) -> Refusal:
     """The refusal of a status."""
-    return REFUSALS.get(status) or Refusal(f"Refusal{status}", 5, "the layer refused the call")
+    return REFUSALS.get(status) or Refusal(f"Refusal{status}", errno.EIO, "the layer refused the call")
