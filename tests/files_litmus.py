@@ -211,10 +211,37 @@ def compare_seen(count):
                     count.tell(seen <= found if is_inside else not seen & found, what)
 
 
+def cut_and_append(files):
+    """Truncates a file within a block, and appends to it there."""
+    put(files, "f", "xb", "A" * 8)
+    files.settle()
+    with files.open("f", "r+b") as file:
+        try:
+            file.truncate(100)
+        except Injected:
+            return None
+        file.seek(100)
+        file.write(b"C" * 100)
+    files.restart()
+    with files.open("f") as file:
+        return file.read()
+
+
+def compare_block(count):
+    """ext4 and XFS left the old length, with the new bytes and then zeros, after background writeback. No crash of a profile does."""
+    ends = b"A" * 100 + b"C" * 100
+    old = ends + b"A" * (8 * SECTOR - 200)
+    wanted = {ends, ends[:100], old, b"A" * (8 * SECTOR)}
+    for profile in PROFILES:
+        found = set(explore(cut_and_append, files=profile, settings=[*SETTINGS, "resize 1 2 0 1"]).outcomes)
+        count.tell(found == wanted, f"a truncation and an append in a block ({profile}): {[len(content) for content in found]}")
+
+
 def main():
     count = Count()
     compare_page(count)
     compare_seen(count)
+    compare_block(count)
     print(f"{count.passed} passed, {count.failed} failed")
     return int(count.failed > 0)
 
