@@ -11,7 +11,7 @@ sys.path.insert(0, os.path.join(TOP, "bindings", "python"))
 
 from passing import raises, run_tests
 
-from blobcrash import BadLine, Failed, NotDeterministic, PowerLoss, TooLong, Unexplorable, explore, seeds, shrink
+from blobcrash import BadLine, Failed, Files, NotDeterministic, PowerLoss, TooLong, Unexplorable, explore, seeds, shrink
 from files import get, put
 
 HALF = ["write 0 1 1 2 sectors 4"]
@@ -86,9 +86,21 @@ def two_names(files):
     return tuple(files.recover(files.listdir))
 
 
+def is_lost(seed):
+    """Whether a seed loses the only unsettled edit."""
+    with Files(seed) as files:
+        files.mkdir("/d")
+        return files.crash().edits == [False]
+
+
 def test_explored_power_losses():
     visited = explore(two_names, files="posix", power_losses=1)
     assert set(visited.outcomes) == {(), ("a",), ("a", "b")} and visited.complete, visited
+    # With a seed only the losses of power are chosen.
+    by_seed = explore(two_names, files="posix", power_losses=1, seed=3)
+    assert by_seed.runs == 5 and set(by_seed.outcomes) <= set(visited.outcomes), by_seed
+    failed = raises(Failed, explore, forgets, files="xfs", under="0/2", seed=next(seed for seed in range(9) if is_lost(seed)))
+    assert failed.script[0].startswith("seed ") and failed.script[1] == "profile xfs", failed.script
     failed = raises(Failed, explore, lambda files: files.mkdir("/d"), files="xfs", power_losses=1)
     assert failed.path == "off" and "PowerLoss" in failed.reason and "# power loss" in failed.script
 
