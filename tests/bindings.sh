@@ -18,6 +18,8 @@ tell() {
 }
 
 sh "$top/bindings/build.sh" || give_up "the library can't be built"
+need_program explain
+explain=${program}_explain
 
 # answers NAME COMMAND..: the client's replies, messages and exit statuses are the program's, script by script.
 answers() {
@@ -32,6 +34,20 @@ answers() {
         [ -f "$want.status" ] && wanted=$(cat "$want.status")
         cmp -s "$work/out" "$want.out" && [ "$(cat "$work/err")" = "$(cat "$errors")" ] && [ "$status" -eq "$wanted" ]
         tell $? "$name: $(basename "$script"): status $status, wanted $wanted"
+    done
+}
+
+# explains NAME COMMAND..: what the client writes of each worked script is what `blobcrash explain` prints, with its messages and statuses.
+explains() {
+    name=$1
+    shift
+    for script in "$top"/tests/scripts/*.script "$top"/tests/pictures/*.script; do
+        "$explain" <"$script" >"$work/want" 2>"$work/want.err"
+        wanted=$?
+        "$@" --explain <"$script" >"$work/out" 2>"$work/err"
+        status=$?
+        cmp -s "$work/out" "$work/want" && cmp -s "$work/err" "$work/want.err" && [ "$status" -eq "$wanted" ]
+        tell $? "$name, explained: $(basename "$script"): status $status, wanted $wanted"
     done
 }
 
@@ -70,6 +86,7 @@ if has "$compiler"; then
     tell $? 'C: hostile arguments'
     answers 'C, line by line' "$work/lines"
     answers 'C, at once' "$work/lines" --whole
+    explains C "$work/lines"
     lives C "$work/log"
     "$work/log" forget-sync "$work/lost.script" >"$work/out" 2>"$work/err"
     "$work/lines" <"$work/lost.script" >"$work/out" 2>"$work/err"
@@ -123,6 +140,7 @@ END
         tell $? 'C, sanitized: hostile arguments'
         answers 'C, sanitized' "$work/lines.sanitized"
         answers 'C, at once, sanitized' "$work/lines.sanitized" --whole
+        explains 'C, sanitized' "$work/lines.sanitized"
         lives 'C, sanitized' "$work/log.sanitized"
     else
         skip "the C client under the address sanitizer, which $compiler can't build or start"
@@ -139,8 +157,12 @@ if has cargo "$compiler"; then
     tell $? 'Rust: cargo check without features'
     run_cargo build --release --examples >"$work/out" 2>"$work/err"
     tell $? 'Rust: cargo build --examples'
+    # Of six bytes each is kept or lost, and only all six are the record.
+    [ "$("$top/out/rust/release/examples/first" 2>&1)" = '63 of 64 outcomes lose a part of it' ]
+    tell $? 'Rust: the first example'
     answers 'Rust, line by line' "$top/out/rust/release/examples/lines"
     answers 'Rust, at once' "$top/out/rust/release/examples/lines" --whole
+    explains Rust "$top/out/rust/release/examples/lines"
     if cargo clippy --version >/dev/null 2>&1; then
         run_cargo clippy --all-targets -- -D warnings >"$work/out" 2>"$work/err"
         tell $? 'Rust: cargo clippy'
@@ -159,15 +181,17 @@ if has_python && [ -f "$top/out/libblobcrash.so" ]; then
     run_python() { PYTHONDONTWRITEBYTECODE=1 "$python" "$@"; }
     answers 'Python, line by line' run_python "$top/bindings/python/lines.py"
     answers 'Python, at once' run_python "$top/bindings/python/lines.py" --whole
+    explains Python run_python "$top/bindings/python/lines.py"
+    run_python "$top/tests/pictures.py" "$top/out/blobcrash" "$explain" 100 library >"$work/out" 2>"$work/err"
+    tell $? 'Python: pictures of random scripts'
     lives Python run_python "$top/bindings/python/log.py"
     for test in hostile traps; do
         run_python "$top/tests/$test.py" library >"$work/out" 2>"$work/err"
         tell $? "Python: $test.py"
     done
-    run_python "$top/tests/numbers.py" >"$work/out" 2>"$work/err"
+    run_python "$top/tests/c_numbers.py" >"$work/out" 2>"$work/err"
     tell $? 'Python: the numbers of the header'
-    need_program
-    export BLOBCRASH="$program"
+    export BLOBCRASH="$top/out/blobcrash"
     answers 'Python, by a pipe' run_python "$top/bindings/python/lines.py" --pipe
     for test in hostile traps; do
         run_python "$top/tests/$test.py" pipe >"$work/out" 2>"$work/err"

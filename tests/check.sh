@@ -22,5 +22,11 @@ python3 -m blobcrash check "$work/bad" >"$work/out" 2>"$work/err"
 ok 'a bad line' [ "$? $(cat "$work/out") $(cat "$work/err")" = '2 line 1: bad call: `frob`: no such call line 1: bad call' ]
 python3 -m blobcrash check "$work/none" >"$work/out" 2>&1
 ok 'a script that is missing' [ $? -eq 1 ]
+# A module beside a test comes before those that the test imports.
+hiding='import os, sys
+names = {name[:-3] for folder in sys.argv[1:] for name in os.listdir(folder) if name.endswith(".py")}
+print(*sorted(names & set(getattr(sys, "stdlib_module_names", ()))))'
+ok 'no module of the tests hides one of the standard library' \
+    [ -z "$(python3 -c "$hiding" "$top/tests" "$top/bindings/python")" ]
 add python3 "$top/tests/check.py"
 finish

@@ -350,8 +350,8 @@ def test_dask():
     try:
         import dask
         from distributed import Client, LocalCluster
-    except ImportError:
-        raise Skipped("there is no Python package distributed") from None
+    except ImportError as error:
+        raise Skipped(f"there is no Python package distributed: {error}") from None
     # Two workers, each a process. On a loaded machine they take long to begin.
     dask.config.set({"distributed.comm.timeouts.connect": "600s", "distributed.comm.timeouts.tcp": "600s"})
     workers = LocalCluster(n_workers=2, threads_per_worker=1, processes=True, dashboard_address=None)

@@ -102,14 +102,20 @@ if [ -n "$python" ]; then
     tell $? 'pytest: the seed is in the name of the test'
     (cd "$work/far" && "$python" -m blobcrash "$script" | grep -q '^crashed') >"$work/out" 2>"$work/err"
     tell $? 'pytest: the script runs'
+    # There is no program: the library makes the picture. It is cut after 200 lines.
     need_program explain
-    BLOBCRASH=$program LOG_FORGETS_SYNC=1 run_pytest --blobcrash-seed "$seed" test_log_pytest.py
-    grep -q '1 failed' "$work/out" && grep -q '^#     before' "$work/out"
-    tell $? 'pytest: a picture of the crash'
+    LOG_FORGETS_SYNC=1 run_pytest --blobcrash-seed "$seed" --blobcrash-shrink 0 test_log_pytest.py
+    "${program}_explain" <"$script" | head -n 200 >"$work/picture"
+    grep -q '1 failed' "$work/out" && grep -q '^#     before' "$work/picture" &&
+        "$python" -c 'import sys; picture, out = (open(name).read() for name in sys.argv[1:]); sys.exit(picture not in out)' \
+            "$work/picture" "$work/out"
+    tell $? 'pytest: the picture of the crash that the program prints, without the program'
     LOG_FORGETS_SYNC=1 run_pytest --blobcrash-seed "$seed" --blobcrash-report pages test_log_pytest.py
     page=$(sed -n 's/^the page of this failure: //p' "$work/out")
     [ "${page%/*}" = "$work/far/pages" ] && grep -q "<title>.*\[seed=$seed\]: log.Broken" "$page" && grep -q "seed $seed" "$page"
     tell $? 'pytest: a page of the crash, without the program'
+    grep -q 'length [0-9]* before, [0-9]* after' "$page"
+    tell $? 'pytest: the page has the remarks of explain, without the program'
     BLOBCRASH=$program LOG_FORGETS_SYNC=1 run_pytest --blobcrash-report pages test_log_pytest.py
     [ "$(ls "$work/far/pages")" = "$(sed -n 's/^the page of this failure: .*\///p' "$work/out" | LC_ALL=C sort)" ] &&
         ! grep -l '<p class="problem">' "$work/far/pages"/*

@@ -1,19 +1,26 @@
 #!/usr/bin/env python3
 """Compares the pictures of `blobcrash explain` with the replies that they stand between, on random scripts.
 
-    python3 tests/pictures.py PROGRAM EXPLAIN COUNT
+    python3 tests/pictures.py PROGRAM EXPLAIN COUNT [library]
 
 Every other script ends with a line that belongs before the first call, which is a bad call. For each script, `explain` must print the
 replies of the plain run and end with its status. After a crash, each byte that a picture shows as kept or lost must be `1` or `0` in
-the reply's row of that write, and the counts of the picture must be those of the row.
+the reply's row of that write, and the counts of the picture must be those of the row. With `library` the library must explain each script
+as `explain` does.
 Prints the first script that differs, and ends with the status 1 then.
 """
+import os
 import random
 import re
 import subprocess
 import sys
 
 from random_scripts import random_script
+
+sys.path.insert(0, os.path.join(os.path.dirname(os.path.dirname(os.path.abspath(__file__))), "bindings", "python"))
+
+from blobcrash import BadLine
+from blobcrash.layers import explained
 
 LATE = ["seed 99", "words max", "words 0 1 2", "image p 7a -", "seed 1\nseed 2"]
 ITEM = re.compile(r"#   (write (\d+)|durable|resize)(?: to \d+| (\d+)\.\.(\d+))(.*)")
@@ -88,8 +95,17 @@ def check_crashes(lines):
     return checked, None
 
 
+def explained_by_library(script):
+    """What the library writes of a script, as `run`."""
+    try:
+        return explained(script.encode()).decode().splitlines(), "", 0
+    except BadLine as bad:
+        return bad.replies.decode().splitlines(), f"line {bad.line}: bad call\n", 2
+
+
 def main():
     program, explain, count = sys.argv[1], sys.argv[2], int(sys.argv[3])
+    has_library = sys.argv[4:] == ["library"]
     pictures = 0
     for seed in range(count):
         script = random_script(program, seed)
@@ -102,6 +118,8 @@ def main():
             wrong = "other replies than the plain run"
         elif (explain_errors, explain_status) != (errors, status):
             wrong = f"status {explain_status} and {explain_errors!r}, the plain run's are {status} and {errors!r}"
+        elif has_library and explained_by_library(script) != (lines, explain_errors, explain_status):
+            wrong = "the library explains it in another way"
         else:
             checked, wrong = check_crashes(lines)
             pictures += checked

@@ -13,8 +13,8 @@ from importlib.metadata import distributions
 from passing import run_tests
 
 import blobcrash
-from blobcrash.pictured import picture
 
+PICTURES = os.path.join(os.path.dirname(os.path.abspath(__file__)), "pictures")
 # Settings by which a crash loses half of the pending bytes, and by which it loses all.
 ALL = "by=Library"
 HALF = 'settings=["write 0 1 1 2 subset"], by=Library'
@@ -136,7 +136,7 @@ def test_loses(blobcrash, tmp_path):
     assert ran.counted("failed") > 1 and ran.short() == LOST, (ran.text, ran.scripts)
     assert ran.text.count("a smaller run that fails, of 6 calls: ") == 1 and "printed by the test" in ran.text, ran.text
     # By hand: the byte is pending at the crash, and is lost.
-    picture = ["crashed 0:0", "# p 62: length 0 before, length 0 after", "#   write 0 0..1: 0 kept, 1 lost", "#   at 0", "#     before"]
+    picture = ["crashed 0:0", "# p 62: length 0 before, 0 after", "#   write 0 0..1: 1 lost", "#   at 0", "#     before"]
     assert "\n".join([*picture, "#     write 0  --", "#     after"]) in ran.text, ran.text
 
 
@@ -229,51 +229,34 @@ def test_what_is_no_option():
 
 
 def test_pictures():
-    """Two writes of one blob, of which the first overlaps synced bytes, and one of a blob whose name is empty; by hand."""
-    script = """words max 0 max 0 0 max
-open p 62
-open q -
-writes 0 0 6161616161616161616161616161616161616161
-config write 0 1 1 2 subset
-write 0 18 62626262
-write 1 0 78
-write 0 3 7a
-# a note
-scan frob
-crash
-reopen
-open p 62""".split("\n")
-    assert picture(script) == """opened 0 0 0
-opened 1 0 0
-ok
-ok
-ok
-ok
-ok
-error PartitionMissing frob
-crashed 0:0101 1:1 2:0
-# p 62: length 20 before, length 22 after
-#   write 0 18..22: 2 kept, 2 lost
-#   write 2 3..4: 0 kept, 1 lost
-#   at 0
-#     before   61 61 61 61 61 61 61 61 61 61 61 61 61 61 61 61
-#     write 2           --
-#     after    61 61 61 61 61 61 61 61 61 61 61 61 61 61 61 61
-#   at 16
-#     before   61 61 61 61
-#     write 0        -- 62 -- 62
-#     after    61 61 61 62 00 62
-# q -: length 0 before, length 1 after
-#   write 1 0..1: 1 kept, 0 lost
-#   at 0
-#     before
-#     write 1  78
-#     after    78
-ok
-opened 2 22 0""".split("\n")
-    long = picture(["config write 0 1 1 1 subset", "open p 62", "write 0 5 " + 5000 * "61", "crash"])
-    assert long[-1] == "#   and 297 more rows, up to 5008" and len(long) < 90, long[-2:]
-    assert picture([]) == [] and picture(["# only a note"]) == []
+    """Without the program the report shows what `explain` prints for the scripts of tests/pictures: crashes, failed writes and syncs, and
+    resizes that survive."""
+    for script in sorted(glob.glob(os.path.join(PICTURES, "*.script"))):
+        with open(script, encoding="utf-8") as file, open(script[: -len("script")] + "out", encoding="utf-8") as out:
+            lines, shown = file.read().splitlines(), out.read()
+        # After the last of these words each is a zero, as in the script.
+        words = [word for line in lines if line.startswith("words ") for word in line.split()[1:]] + 64 * ["0"]
+        calls = [line for line in lines if not line.startswith(("words", "#"))]
+        ran = Ran(f"""
+@pytest.mark.blobcrash(seeds=1, words={[2**64 - 1 if word == "max" else int(word) for word in words]}, by=Library)
+def test_it(blobcrash):
+    for line in {calls}:
+        try:
+            blobcrash.call(line)
+        except OSError:
+            pass
+    assert False
+""")
+        assert ran.counted("failed") == 1 and shown in ran.text, (script, ran.text)
+
+
+def test_a_library_that_cannot_explain():
+    """One of an earlier version. There is no program either."""
+    lacks = "import blobcrash.foreign\n\nclass Lacks:\n    def __getattr__(self, name):\n        if name == 'blobcrash_explain':\n"
+    lacks += "            raise AttributeError(name)\n        return getattr(FUNCTIONS, name)\n\n"
+    lacks += "FUNCTIONS = blobcrash.foreign.loaded()\nblobcrash.foreign._functions = Lacks()\n"
+    ran = Ran(f"{lacks}\n@pytest.mark.blobcrash(seeds=1, {ALL})\ndef test_it(blobcrash):\n    assert not lose(blobcrash, 2)\n")
+    assert ran.counted("failed") == 1 and "no picture of the crashes: " in ran.text and "can't explain" in ran.text, ran.text
 
 
 if __name__ == "__main__":

@@ -71,6 +71,18 @@ def test_forgotten_sync():
     assert short == "open p 62\nwrite 0 40 6c\n# acknowledged p 62 40 6c\ncrash\nreopen\n", short
 
 
+def test_the_program_cannot_shrink():
+    """It can't tell how many words it has left. The body isn't called."""
+    called = []
+    for by in (Program, None):
+        try:
+            shrink(called.append, "0", by=by)
+        except ValueError as error:
+            assert "by=Library" in str(error) and not called, error
+        else:
+            raise AssertionError(by)
+
+
 def test_a_slot_that_is_used_again():
     """An acknowledgement isn't left without what releases it. Three lines that are tried together have the loss and the release."""
     script = ["open p 62", "open p 63", "writes 1 0 6f6c64", "# acknowledged p 63 0 6f6c64", "write 0 0 6c", "size 0", "size 0"]

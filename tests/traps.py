@@ -411,6 +411,14 @@ def test_words_are_pushed():
         store.open("p", b"b")[0].write(0, b"too many draws")
         store.crash()
         raises(ValueError, store.push_words, [0])
+    with Store(pushed=True, settings=["scan 1 2"], by=BY) as store:
+        for word in range(1, 1000):
+            store.push_words([word, 2**64 - 1])
+        raises(blobcrash.Injected, store.scan, "p")
+        raises(blobcrash.PartitionMissing, store.scan, "p")
+        store.push_words([5])
+        last = [f"{word} {2**64 - 1}" for word in range(998, 0, -1)]
+        assert store.script[0] == " ".join([f"words 999 {2**64 - 1} 5", *last, "1"])
 
 
 def test_numbers_of_the_library_do_not_wrap():

@@ -387,6 +387,14 @@ void blobcrash_close(struct blobcrash_session *session);
  */
 struct blobcrash_script_ran blobcrash_run(const uint8_t *script, size_t script_len, uint8_t *replies, size_t replies_room);
 
+/*
+ * Runs a whole script as blobcrash_run does, and writes to the start of `text` what `blobcrash explain` prints: each reply, and after
+ * it lines that begin with `# ` and show what the call did, if the reply doesn't (docs/FORMATS.md).
+ *
+ * The statuses of blobcrash_run. With BAD_LINE the text is that of the lines before the bad one.
+ */
+struct blobcrash_script_ran blobcrash_explain(const uint8_t *script, size_t script_len, uint8_t *text, size_t capacity);
+
 #ifdef __cplusplus
 }
 #endif

@@ -111,6 +111,36 @@ static void a_script_is_run_at_once(void) {
     CHECK(ran.len == 13);
 }
 
+/* The text is written by hand, as docs/FORMATS.md says. */
+static void a_script_is_explained_at_once(void) {
+    static const char explained[] = "opened 0 0 0\nok\nok\ncrashed 0:1\n"
+                                    "# p 62: length 0 before, 1 after\n"
+                                    "#   write 0 0..1: 1 kept\n"
+                                    "#   at 0\n"
+                                    "#     before\n"
+                                    "#     write 0  78\n"
+                                    "#     after    78\n";
+    static const char bad[] = "open p 62\nconfig write 0 1 1 2 subset\nwrite 0 0 78\ncrash\nfrob\n";
+    uint8_t text[256], unwritten[sizeof text];
+    const size_t len = sizeof explained - 1, script_len = strlen(bad) - strlen("frob\n");
+    memset(unwritten, '?', sizeof unwritten);
+    memset(text, '?', sizeof text);
+    struct blobcrash_script_ran ran = blobcrash_explain((const uint8_t *)bad, script_len, text, len - 1);
+    CHECK(ran.status == BLOBCRASH_NO_ROOM && ran.len == len && ran.line == 0);
+    CHECK(memcmp(text, unwritten, sizeof text) == 0);
+    ran = blobcrash_explain((const uint8_t *)bad, script_len, text, len);
+    CHECK(ran.status == BLOBCRASH_DONE && ran.line == 0 && is_told(text, ran.len, explained));
+    CHECK(memcmp(text + len, unwritten, sizeof text - len) == 0);
+    memset(text, '?', sizeof text);
+    ran = blobcrash_explain(TEXT(bad), text, 0);
+    CHECK(ran.status == BLOBCRASH_NO_ROOM && ran.len == len && ran.line == 5);
+    ran = blobcrash_explain(TEXT(bad), text, sizeof text);
+    CHECK(ran.status == BLOBCRASH_BAD_LINE && ran.line == 5 && is_told(text, ran.len, explained));
+    CHECK(memcmp(text + len, unwritten, sizeof text - len) == 0);
+    ran = blobcrash_explain(TEXT(""), text, 0);
+    CHECK(ran.status == BLOBCRASH_DONE && ran.len == 0);
+}
+
 /* Whether this many words of the session's generator are left. */
 static bool has_left(struct blobcrash_session *session, size_t words) {
     struct blobcrash_ran ran = blobcrash_words_left(session);
@@ -150,6 +180,7 @@ int main(void) {
     a_reply_without_room_is_kept();
     bad_lines_change_nothing();
     a_script_is_run_at_once();
+    a_script_is_explained_at_once();
     words_are_counted_and_pushed();
     return failed;
 }

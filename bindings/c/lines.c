@@ -1,6 +1,6 @@
 /*
  * Runs a script from standard input through a session, a line at a time, or with `--whole` as a whole. Its replies and its exit
- * status are the program's (docs/FORMATS.md).
+ * status are the program's (docs/FORMATS.md). With `--explain` it prints what `blobcrash explain` prints.
  */
 #include "blobcrash.h"
 
@@ -93,16 +93,19 @@ static int by_lines(struct blobcrash_session *session, const struct text *script
     return status;
 }
 
-static int whole(const struct text *script) {
-    struct text replies = {0};
-    want(&replies, 1);
-    struct blobcrash_script_ran ran = blobcrash_run(script->bytes, script->len, replies.bytes, replies.room);
+/* A function that runs a whole script. */
+typedef struct blobcrash_script_ran run_function(const uint8_t *script, size_t script_len, uint8_t *text, size_t capacity);
+
+static int whole(const struct text *script, run_function *run) {
+    struct text text = {0};
+    want(&text, 1);
+    struct blobcrash_script_ran ran = run(script->bytes, script->len, text.bytes, text.room);
     if (ran.status == BLOBCRASH_NO_ROOM) {
-        want(&replies, ran.len);
-        ran = blobcrash_run(script->bytes, script->len, replies.bytes, replies.room);
+        want(&text, ran.len);
+        ran = run(script->bytes, script->len, text.bytes, text.room);
     }
-    fwrite(replies.bytes, 1, ran.len, stdout);
-    free(replies.bytes);
+    fwrite(text.bytes, 1, ran.len, stdout);
+    free(text.bytes);
     return ran.status == BLOBCRASH_BAD_LINE ? bad_line(ran.line) : (int)ran.status;
 }
 
@@ -116,7 +119,9 @@ int main(int argc, char **argv) {
     }
     int status;
     if (argc > 1 && strcmp(argv[1], "--whole") == 0) {
-        status = whole(&script);
+        status = whole(&script, blobcrash_run);
+    } else if (argc > 1 && strcmp(argv[1], "--explain") == 0) {
+        status = whole(&script, blobcrash_explain);
     } else {
         struct blobcrash_session session = {0};
         status = by_lines(&session, &script);

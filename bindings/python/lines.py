@@ -1,9 +1,11 @@
 """Runs a script from standard input through the library, a line at a time, or with `--whole` as a whole, or with `--pipe` through
-the program. The replies and the exit status are the program's (docs/FORMATS.md)."""
+the program. The replies and the exit status are the program's (docs/FORMATS.md). With `--explain` it prints what `blobcrash explain`
+prints."""
 
 import sys
 
 from blobcrash import BadLine, Library, Program, run
+from blobcrash.layers import explained
 
 
 def is_preamble(line):
@@ -36,9 +38,9 @@ def by_lines(script, way):
     return layer.close() or 0
 
 
-def whole(script):
+def whole(script, way):
     try:
-        sys.stdout.buffer.write(run(script))
+        sys.stdout.buffer.write(way(script))
     except BadLine as bad:
         sys.stdout.buffer.write(bad.replies)
         return bad_line(bad.line)
@@ -48,5 +50,7 @@ def whole(script):
 if __name__ == "__main__":
     script = sys.stdin.buffer.read()
     if "--whole" in sys.argv:
-        sys.exit(whole(script))
+        sys.exit(whole(script, run))
+    if "--explain" in sys.argv:
+        sys.exit(whole(script, explained))
     sys.exit(by_lines(script, Program if "--pipe" in sys.argv else Library))

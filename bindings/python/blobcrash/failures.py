@@ -99,7 +99,7 @@ def page_writer(wanted_by: str) -> Callable[[str, List[str], str], None]:
 
     def write(path: str, lines: List[str], title: str) -> None:
         script = "".join(line + "\n" for line in lines)
-        # Without the program the page has no remarks.
+        # With a library of an earlier version, and without the program, the page has no remarks.
         explained = explain(script) or run(script.encode()).decode()
         replies = "".join(line + "\n" for line in explained.split("\n")[:-1] if not line.startswith("# "))
         with open(path, "w", encoding="utf-8") as file:

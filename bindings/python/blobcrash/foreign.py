@@ -14,10 +14,8 @@ TOP = os.path.dirname(os.path.dirname(os.path.dirname(_HERE)))
 # The shared library of an installed package.
 INSIDE = os.path.join(_HERE, "libblobcrash.so")
 
-# How a call ended. tests/numbers.py compares each of these numbers with the C header.
+# How a call ended. tests/c_numbers.py compares each of these numbers with the C header.
 DONE, ENDLESS, BAD_LINE, NO_MEMORY, NO_ROOM, CLOSED, OTHER_REPLY, UNPRINTED = range(8)
-# The refusal of a blob that doesn't exist.
-BLOB_MISSING = 20
 
 
 class Session(ctypes.Structure):
@@ -61,7 +59,10 @@ def loaded() -> ctypes.CDLL:
         functions.blobcrash_close.restype = None
         functions.blobcrash_reply.restype = Ran
         functions.blobcrash_reply.argtypes = [ctypes.POINTER(Session), ctypes.c_void_p, size]
-        functions.blobcrash_run.restype = ScriptRan
-        functions.blobcrash_run.argtypes = [ctypes.c_char_p, size, ctypes.c_void_p, size]
+        # A library of an earlier version has no `blobcrash_explain`.
+        for whole in (functions.blobcrash_run, getattr(functions, "blobcrash_explain", None)):
+            if whole is not None:
+                whole.restype = ScriptRan
+                whole.argtypes = [ctypes.c_char_p, size, ctypes.c_void_p, size]
         _functions = functions
     return _functions

@@ -17,7 +17,6 @@ from .checking import check
 from .errors import BadLine, Interrupted, LibraryMissing, NotMade, ProgramEnded
 from .foreign import (
     BAD_LINE,
-    BLOB_MISSING,
     CLOSED,
     DONE,
     ENDLESS,
@@ -268,20 +267,6 @@ class Library:
         array = (ctypes.c_uint64 * len(words))(*words)
         _check(self._added("push_words")(self._at, array, len(words)))
 
-    def durable(self, partition: bytes, name: bytes) -> Optional[bytes]:
-        """Returns the durable bytes of a blob without its header, or `None` if there is no such blob. Draws nothing."""
-        room, arguments = len(self._room), (partition, len(partition), name, len(name), False)
-        while True:
-            bytes_at = ctypes.create_string_buffer(room)
-            ran = self._added("durable_blob")(self._at, *arguments, bytes_at, room)
-            if ran.status == DONE:
-                return bytes_at[: ran.len]
-            if ran.status == BLOB_MISSING:
-                return None
-            if ran.status != NO_ROOM:
-                _check(ran.status)
-            room = ran.len
-
     def close(self) -> int:
         """Ends the session, and returns 0."""
         if self._is_open:
@@ -298,13 +283,10 @@ class Library:
         try:
             function = getattr(self._functions, "blobcrash_" + name)
         except AttributeError:
-            raise LibraryMissing(f"{library()} has no blobcrash_{name}: build it with `sh bindings/build.sh`") from None
+            raise _lacks(name) from None
         session = ctypes.POINTER(Session)
         if name == "words_left":
             function.restype, function.argtypes = Ran, [session]
-        elif name == "durable_blob":
-            text, size = ctypes.c_char_p, ctypes.c_size_t
-            function.restype, function.argtypes = Ran, [session, text, size, text, size, ctypes.c_bool, ctypes.c_void_p, size]
         else:
             function.restype, function.argtypes = ctypes.c_uint32, [session, ctypes.POINTER(ctypes.c_uint64), ctypes.c_size_t]
         return function
@@ -351,29 +333,59 @@ def _check(status: int, line: bytes = b"") -> None:
 
 
 def explain(script: str) -> Optional[str]:
-    """Returns the replies of a script with a picture after each crash, or `None` if the program isn't built."""
+    """Returns what `blobcrash explain` prints: the replies of a script, with a picture after each crash. Of a script with a bad line
+    it is what is printed before that line.
+
+    The library explains it. If there is none, or one of an earlier version that can't, the program does. `None` if that isn't built.
+    """
+    text = script.encode()
+    try:
+        return explained(text).decode()
+    except BadLine as bad:
+        return bad.replies.decode()
+    except LibraryMissing:
+        pass
     built = os.environ.get("BLOBCRASH", os.path.join(TOP, "out", "blobcrash"))
     # The program of `explain` is in the same folder as a built `blobcrash`.
     named = f"{built}_explain"
     command = [named] if os.path.exists(named) or "BLOBCRASH" not in os.environ else [built, "explain"]
     try:
-        run = subprocess.run(command, input=script.encode(), stdout=subprocess.PIPE, stderr=subprocess.DEVNULL)
+        run = subprocess.run(command, input=text, stdout=subprocess.PIPE, stderr=subprocess.DEVNULL)
     except OSError:
         return None
     return run.stdout.decode()
 
 
+def explained(script: bytes) -> bytes:
+    """Runs a whole script in this process, and returns what `blobcrash explain` prints. `BadLine` as `run`; `LibraryMissing` if the
+    library is of an earlier version that can't explain."""
+    function = getattr(loaded(), "blobcrash_explain", None)
+    if function is None:
+        raise _lacks("explain")
+    return _whole(function, script)
+
+
 def run(script: bytes) -> bytes:
     """Runs a whole script in this process, and returns what the program prints. `BadLine` has the line's number and, in `replies`,
     what is printed before it."""
-    functions, room = loaded(), ctypes.create_string_buffer(65536)
-    ran = functions.blobcrash_run(script, len(script), room, len(room))
+    return _whole(loaded().blobcrash_run, script)
+
+
+def _whole(function: Any, script: bytes) -> bytes:
+    """What a function of the library writes for a script."""
+    room = ctypes.create_string_buffer(65536)
+    ran = function(script, len(script), room, len(room))
     if ran.status == NO_ROOM:
         room = ctypes.create_string_buffer(ran.len)
-        ran = functions.blobcrash_run(script, len(script), room, len(room))
+        ran = function(script, len(script), room, len(room))
     if ran.status == BAD_LINE:
         error = _bad_at(script, ran.line, "bad call")
         error.replies = ctypes.string_at(room, ran.len)
         raise error
     _check(ran.status)
     return ctypes.string_at(room, ran.len)
+
+
+def _lacks(name: str) -> LibraryMissing:
+    """The error of a library of an earlier version, without this function."""
+    return LibraryMissing(f"{library()} has no blobcrash_{name}: build it with `sh bindings/build.sh`")

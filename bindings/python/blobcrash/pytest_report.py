@@ -15,8 +15,8 @@ from .bounds import RunEnded
 from .failures import Failed, page_writer, reason_of
 from .file_system import Files
 from .follow import MoreWords
+from .foreign import library
 from .layers import explain
-from .pictured import picture
 from .power import PowerLoss
 from .shrinking import shrink
 
@@ -83,12 +83,14 @@ def _page(item: Any, script: List[str], reason: str) -> str:
 
 
 def _picture(script: List[str]) -> List[str]:
-    """The lines of a picture of the crashes: by the program if it exists, else by the library."""
+    """The lines of a picture of the crashes."""
     try:
         shown = explain("".join(line + "\n" for line in script))
-        lines = shown.split("\n")[:-1] if shown else picture(script)
     except Exception as error:
         return [f"no picture of the crashes: {type(error).__name__}: {error}"]
+    if shown is None:
+        return [f"no picture of the crashes: {library()} can't explain a script: build it with `sh bindings/build.sh`"]
+    lines = shown.split("\n")[:-1]
     return lines if len(lines) <= MOST_LINES else [*lines[:MOST_LINES], ".."]
 
 

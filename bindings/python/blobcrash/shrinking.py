@@ -78,15 +78,16 @@ def shrink(
 ) -> Failed:
     """Runs `body` again with fewer and smaller choices, and returns the failure of the smallest run found.
 
-    `failed` is raised by `explore` without a seed, or by `seeds`, or it is its `path`. The other arguments are those of that call, `files`
-    too. A run is
-    smaller if it makes fewer calls; then if it has fewer power losses, smaller results of `store.choose`, fewer draws, and fewer of them
-    true. It has to raise an error of the same type. `runs` and `seconds` limit the search; if it stopped at one of them, `stopped` of the
-    result says so.
+    `failed` is raised by `explore` without a seed, or by `seeds`, or it is its `path`. The other arguments are those of that call, also
+    `files`. A run is smaller if it makes fewer calls; then if it has fewer power losses, smaller results of `store.choose`, fewer draws,
+    and fewer of them true. It has to raise an error of the same type. `runs` and `seconds` limit the search; if it stopped at one of them,
+    `stopped` of the result says so.
 
-    Raises `ValueError` if the run of `failed` doesn't fail again.
+    Raises `ValueError` if the run of `failed` doesn't fail again, and for `by=Program`, before any run.
     """
     check_body(body)
+    if not hasattr(by, "words_left"):
+        raise ValueError("`shrink` counts the draws of its runs, which only `by=Library` can")
     settings, images = tuple(settings), tuple(images)
     path = failed if isinstance(failed, str) else failed.path
     profile = files_of(files)

@@ -62,12 +62,12 @@ class Store:
         if pushed and (self._words or seed is not None):
             raise ValueError("a store with `pushed` has neither a seed nor words")
         self._pushed = bool(pushed)
-        if pushed:
-            self._words.append(_LAST_WORD)
+        # The words after those, the next one last: so a push costs the same however many words weren't taken.
+        self._ahead = [_LAST_WORD] if pushed else []
         lines = [image_line(*image) for image in images]
         if seed is not None:
             lines.append(f"seed {number(seed, 'a seed')}")
-        self._has_draws = bool(self._words) or seed is not None
+        self._has_draws = bool(self._words or self._ahead) or seed is not None
         for setting in settings:
             lines.append(self._setting_line(setting))
         preamble = "\n".join([*lines, ""]).encode()
@@ -114,7 +114,8 @@ class Store:
         return lines
 
     def _words_line(self) -> List[str]:
-        return ["words " + " ".join(map(str, self._words))] if self._words else []
+        words = [*self._words, *reversed(self._ahead)]
+        return ["words " + " ".join(map(str, words))] if words else []
 
     def note(self, text: str) -> None:
         """Adds a comment to the script, a line for each of the text's."""
@@ -134,8 +135,9 @@ class Store:
         if left == 0:
             raise ValueError("calls took more words than were pushed for them")
         self._layer.push_words(words)
-        taken = len(self._words) - left
-        self._words[taken:taken] = words
+        while len(self._ahead) > left:
+            self._words.append(self._ahead.pop())
+        self._ahead += reversed(words)
 
     def call(self, line: str) -> List[str]:
         """Makes the call of any line of a script, and returns the words of its reply.

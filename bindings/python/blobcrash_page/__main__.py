@@ -5,7 +5,7 @@
     crash_page --chart [--fails TEXT] < EXPLORED
 
 The program is the one that `BLOBCRASH` names, or else `blobcrash` at the top of the checkout. If that doesn't exist, as for an
-installed package, the library runs the script, and the page has no remarks. `--explored` adds a chart of what `blobcrash explore`
+installed package, the library runs the script. `--explored` adds a chart of what `blobcrash explore`
 printed, and `--chart` prints it for a terminal. A run fails if its last reply begins with the text of `--fails`.
 
 The status is that of the run, or 2 if there is no page: standard error has the reason.
@@ -34,16 +34,20 @@ def explained(program, script):
     except FileNotFoundError:
         if "BLOBCRASH" in os.environ:
             raise
-        return replies_by_library(script)
+        return by_library(script)
     return ran.stdout.decode(), ran.stderr.decode(), ran.returncode
 
 
-def replies_by_library(script):
-    """As `explained`, without pictures."""
-    from blobcrash import BadLine, run
+def by_library(script):
+    """As `explained`. With a library of an earlier version without pictures."""
+    from blobcrash import BadLine, LibraryMissing, run
+    from blobcrash.layers import explained as explained_by_library
 
     try:
-        return run(script).decode(), "", 0
+        try:
+            return explained_by_library(script).decode(), "", 0
+        except LibraryMissing:
+            return run(script).decode(), "", 0
     except BadLine as bad:
         return bad.replies.decode(), f"line {bad.line}: bad call\n", 2
 

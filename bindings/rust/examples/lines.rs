@@ -1,6 +1,6 @@
 //! Runs a script from standard input through a session, a line at a time, or with `--whole` as a whole: its replies are the
-//! program's (`docs/FORMATS.md`).
-use blobcrash::{Error, ScriptError, Store, run_script};
+//! program's (`docs/FORMATS.md`). With `--explain` it prints what `blobcrash explain` prints.
+use blobcrash::{Error, ScriptError, Store, explain_script, run_script};
 use std::io::{Read, Write};
 use std::process::ExitCode;
 
@@ -10,8 +10,14 @@ fn main() -> ExitCode {
     if std::io::stdin().read_to_end(&mut script).is_err() {
         return ExitCode::from(1);
     }
-    let (replies, bad) = if std::env::args().any(|word| word == "--whole") {
-        match run_script(&script) {
+    let word = std::env::args().nth(1).unwrap_or_default();
+    let (replies, bad) = if word == "--whole" || word == "--explain" {
+        let run = if word == "--whole" {
+            run_script
+        } else {
+            explain_script
+        };
+        match run(&script) {
             Ok(replies) => (replies, None),
             Err(ScriptError::BadCall { line, replies }) => (replies, Some(line)),
             Err(ScriptError::Refused) => return ExitCode::from(3),

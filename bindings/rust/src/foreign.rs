@@ -176,6 +176,12 @@ unsafe extern "C" {
         replies: *mut u8,
         room: usize,
     ) -> ScriptRan;
+    pub(crate) fn blobcrash_explain(
+        script: *const u8,
+        len: usize,
+        text: *mut u8,
+        capacity: usize,
+    ) -> ScriptRan;
 }
 
 /// The numbers are those of the C header. `bindings/c/numbers.c` tests what each of them does.

@@ -67,4 +67,4 @@ pub use explore::{Exploration, ExploreError, Explored, Run, explore};
 pub use opens::{Opened, Opens};
 pub use pending::{Generation, Pending, Receiver, Sender};
 pub use store::{Selections, Store};
-pub use whole_script::{ScriptError, run_script};
+pub use whole_script::{ScriptError, explain_script, run_script};

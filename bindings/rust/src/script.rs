@@ -115,8 +115,10 @@ fn word_of(kind: Kind) -> &'static str {
 /// The calls that were made, as lines of a script.
 #[derive(Clone, Debug, Default)]
 pub(crate) struct Script {
-    /// The words that were pushed, in the order in which draws take them.
-    words: Vec<u64>,
+    /// The words that calls had taken when words were pushed last.
+    taken: Vec<u64>,
+    /// The words after those, the next one last: so a push costs the same however many words weren't taken.
+    ahead: Vec<u64>,
     calls: Vec<Call>,
     /// The bytes of all writes, one after another.
     written: Vec<u8>,
@@ -147,15 +149,16 @@ impl Script {
     /// A script that begins with these words.
     pub(crate) fn with_words(words: &[u64]) -> Script {
         Script {
-            words: words.to_vec(),
+            ahead: words.iter().rev().copied().collect(),
             ..Script::default()
         }
     }
 
     /// Inserts words before the last `left` ones.
     pub(crate) fn push_words(&mut self, words: &[u64], left: usize) {
-        let taken = self.words.len() - left;
-        self.words.splice(taken..taken, words.iter().copied());
+        let taken = self.ahead.drain(left.min(self.ahead.len())..);
+        self.taken.extend(taken.rev());
+        self.ahead.extend(words.iter().rev());
     }
 
     pub(crate) fn push_line(&mut self, line: &str) {
@@ -208,8 +211,14 @@ impl Script {
     /// The text of all lines.
     pub(crate) fn text(&self) -> String {
         let mut text = String::new();
-        if !self.words.is_empty() {
-            text = words_line(&self.words) + "\n";
+        if !self.taken.is_empty() || !self.ahead.is_empty() {
+            let words: Vec<u64> = self
+                .taken
+                .iter()
+                .chain(self.ahead.iter().rev())
+                .copied()
+                .collect();
+            text = words_line(&words) + "\n";
         }
         let mut written = self.written.as_slice();
         for call in &self.calls {

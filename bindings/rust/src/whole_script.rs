@@ -1,5 +1,5 @@
 //! Whole scripts, without a session.
-use crate::foreign::{BAD_LINE, DONE, NO_ROOM};
+use crate::foreign::{BAD_LINE, DONE, NO_ROOM, ScriptRan};
 use crate::library;
 use std::fmt;
 
@@ -18,7 +18,7 @@ pub enum ScriptError {
     BadCall {
         /// The line's number, from 1.
         line: u64,
-        /// The replies of the lines before it.
+        /// The replies of the lines before it; of [`explain_script`] with their remarks.
         replies: Vec<u8>,
     },
     /// The library is out of memory, or the number of lines overflows.
@@ -46,19 +46,51 @@ impl std::error::Error for ScriptError {}
 /// assert_eq!(run_script(b"crash\nfrob\n"), Err(ScriptError::BadCall { line: 2, replies }));
 /// ```
 pub fn run_script(script: &[u8]) -> Result<Vec<u8>, ScriptError> {
-    let mut replies = vec![0; 4096];
+    whole(script, library::run)
+}
+
+/// Runs a whole script, and returns what `blobcrash explain` prints: the replies, with remarks between them, lines that begin with
+/// `# `. After a crash they show what it kept and lost of each file, and after other calls what the reply doesn't say
+/// (`docs/FORMATS.md`).
+///
+/// ```
+/// use blobcrash::{ScriptError, explain_script};
+///
+/// let explained = b"opened 0 0 0\nok\nok\ncrashed 0:1
+/// ## p 62: length 0 before, 1 after
+/// ##   write 0 0..1: 1 kept
+/// ##   at 0
+/// ##     before
+/// ##     write 0  78
+/// ##     after    78
+/// ".to_vec();
+/// let script = b"open p 62\nconfig write 0 1 1 2 subset\nwrite 0 0 78\ncrash\n".to_vec();
+/// assert_eq!(explain_script(&script).as_ref(), Ok(&explained));
+/// let error = ScriptError::BadCall { line: 5, replies: explained };
+/// assert_eq!(explain_script(&[script, b"frob\n".to_vec()].concat()), Err(error));
+/// ```
+pub fn explain_script(script: &[u8]) -> Result<Vec<u8>, ScriptError> {
+    whole(script, library::explain)
+}
+
+/// Returns what a function of the library writes for a script.
+fn whole(script: &[u8], run: fn(&[u8], &mut [u8]) -> ScriptRan) -> Result<Vec<u8>, ScriptError> {
+    let mut text = vec![0; 4096];
     loop {
-        let ran = library::run(script, &mut replies);
+        let ran = run(script, &mut text);
         match ran.status {
-            NO_ROOM => replies.resize(ran.len, 0),
+            NO_ROOM => text.resize(ran.len, 0),
             DONE => {
-                replies.truncate(ran.len);
-                return Ok(replies);
+                text.truncate(ran.len);
+                return Ok(text);
             }
             BAD_LINE => {
-                replies.truncate(ran.len);
+                text.truncate(ran.len);
                 let line = ran.line;
-                return Err(ScriptError::BadCall { line, replies });
+                return Err(ScriptError::BadCall {
+                    line,
+                    replies: text,
+                });
             }
             _ => return Err(ScriptError::Refused),
         }

@@ -42,6 +42,23 @@ fn pushed_words_come_before_the_others() {
 }
 
 #[test]
+fn many_words_are_pushed_before_the_others() {
+    let scans = Config::default().scan(half());
+    let store = Store::builder().config(scans).pushed().open().unwrap();
+    for word in 1..1000 {
+        store.push_words(&[word, FALSE]).unwrap();
+    }
+    assert!(scans_fail(&store) && !scans_fail(&store));
+    store.push_words(&[5]).unwrap();
+    let left: String = (1..999)
+        .rev()
+        .map(|word| format!("{word} {FALSE} "))
+        .collect();
+    let words = format!("words 999 {FALSE} 5 {left}1\n");
+    assert_eq!(store.script(), words + "config scan 1 2\nscan p\nscan p\n");
+}
+
+#[test]
 fn words_are_pushed_into_a_store_that_is_made_for_it() {
     for builder in [
         Store::builder(),

@@ -3,6 +3,7 @@
 //! What a session is and does is `blob_sessions`. The header `bindings/c/blobcrash.h` says what callers owe: no check reaches them.
 #![tactic(auto)]
 
+pub mod explain_calls;
 pub mod header_calls;
 
 ghost use Rattle.std.specs.Prelude.{◌≡◌, ◌⊎◌, ◌<◌, ◌≤◌, None, IsSome, IfSome, take, drop, length};

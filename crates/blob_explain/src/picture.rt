@@ -6,6 +6,9 @@ use crate::files::{File, Item, Write};
 use crate::rows::{Cell, STRIPE, push_row};
 use std::alloc::{AllocError, Global};
 
+/// How many bytes are compared at once where no entry writes: a whole number of stripes.
+const BLOCK: u64 = 256 * STRIPE;
+
 /// What became of a byte of a write.
 #[derive(Clone, Copy, PartialEq, Eq)]
 enum Fate {
@@ -215,13 +218,24 @@ fn next_laid(later: &[(u64, usize)], end: u64) -> u64 {
 /// entry writes in these stripes.
 fn alike_until(before: &[u8], after: &[u8], at: u64, limit: u64) -> u64 {
     let mut next = at.saturating_add(STRIPE);
-    while next < limit
-        && cut(before, next) == cut(before, at)
-        && cut(after, next) == cut(after, at)
-    {
-        next = next.saturating_add(STRIPE);
+    while next < limit {
+        let width = if next.saturating_add(BLOCK) <= limit && repeats(before, after, next, BLOCK) {
+            BLOCK
+        } else if repeats(before, after, next, STRIPE) {
+            STRIPE
+        } else {
+            break;
+        };
+        next = next.saturating_add(width);
     }
     next
+}
+
+/// Whether each stripe of the `width` bytes from an offset looks like the one before it. The offset is at least `STRIPE`.
+fn repeats(before: &[u8], after: &[u8], at: u64, width: u64) -> bool {
+    let last = at.saturating_sub(STRIPE);
+    part(before, last, width) == part(before, at, width)
+        && part(after, last, width) == part(after, at, width)
 }
 
 /// Returns the start and the end of the bytes that an entry writes.
@@ -238,8 +252,13 @@ fn range_of(item: &Item) -> (u64, u64) {
 
 /// The bytes of a stripe, as many as there are.
 fn cut(bytes: &[u8], at: u64) -> &[u8] {
+    part(bytes, at, STRIPE)
+}
+
+/// The `width` bytes from an offset, as many as there are.
+fn part(bytes: &[u8], at: u64, width: u64) -> &[u8] {
     let start = (at as usize).min(bytes.len());
-    let end = start.saturating_add(STRIPE as usize).min(bytes.len());
+    let end = start.saturating_add(width as usize).min(bytes.len());
     &bytes[start..end]
 }
 

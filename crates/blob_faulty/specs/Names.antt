@@ -15,8 +15,8 @@ use Rattle.blob_header.specs.Refusals.{Refusal, error_of}
 use Rattle.blob_header.specs.declared.error.Error.{Error}
 use Rattle.blob_header.specs.Versions.{lower, upper}
 use Rattle.blob_header.specs.declared.version.BlobVersion.{BlobVersion}
-use Rattle.blob_pending.specs.declared.lists.Distinct.{Distinct}
 use Rattle.blob_pending.specs.Lists.{RetiresRemoved}
+use Rattle.blob_pending.specs.Shown.{Shown}
 use Rattle.blob_faulty.specs.declared.storage.Storage.{Storage}
 use Rattle.blob_draws.specs.Answers.{Allowed, injected_or}
 use Rattle.blob_draws.specs.Faults.{draw}
@@ -32,8 +32,12 @@ abbrev pub retire_where : (Place → Bool) → (Place → List Pending) → Plac
 retire_where gone lists o = cond (gone o) [] (lists o)
 
 -- the lists of the incarnations that a removal of this name ends, or with None of this partition, are retired, and no others
-abbrev pub EndsLists : {S O : Type 0} → stores.Ghosts S O → S → List ℕ → Option (List ℕ) → Distinct O → Distinct O → Type 0
-EndsLists store s p n old new = RetiresRemoved store.place (store.directory s) p n old.lists.items new.lists.items
+abbrev pub EndsLists : {S O : Type 0} → stores.Ghosts S O → S → List ℕ → Option (List ℕ) → Shown O → Shown O → Type 0
+EndsLists store s p n old new = RetiresRemoved store.place (store.directory s) p n old.all.lists.items new.all.lists.items
+
+-- the same for the code's name
+abbrev pub EndsNamed : {S O : Type 0} → stores.Ghosts S O → S → List ℕ → Option (Bor (List ℕ)) → Shown O → Shown O → Type 0
+EndsNamed store s p name old new = EndsLists store s p (option_copied name) old new
 
 -- an open, by what it may leave of the inner store
 pub record OpenLeaves {S R O : Type 0} (place : O → Place) (stream : R → Stream) (asked : S → Type 0) (before after : Storage S R O) : Type 0 where

@@ -72,11 +72,11 @@ impl<R: Rng> Storage<blob_memory::Storage, R> {
         ensures keeps { (o : Place) (bytes : List ℕ) → Keeps self.old o bytes → Keeps self.new o bytes }
     {
         let alloc = self.alloc;
-        let draws = gather(alloc, &self.lists.all.lists)?;
+        let draws = gather(alloc, self.lists.as_slice())?;
         let rows = draw_rows(alloc, &draws, &mut self.rng)?;
-        let mut chosen = reserve_all(&mut self.inner, alloc, &self.lists.all.lists)?;
-        replay_all(&mut self.inner, &self.lists.all.lists, &rows, &mut chosen);
-        self.lists.all.lists.clear();
+        let mut chosen = reserve_all(&mut self.inner, alloc, self.lists.as_slice())?;
+        replay_all(&mut self.inner, self.lists.as_slice(), &rows, &mut chosen);
+        self.lists.clear();
         Ok(Selections::new(rows))
     }
 }

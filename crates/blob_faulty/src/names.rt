@@ -6,7 +6,7 @@ ghost use Rattle.blob_header.specs.Refusals.{error_of};
 ghost use Rattle.blob_draws.specs.Answers.{injected_or};
 ghost use Rattle.blob_draws.specs.Faults.{draw};
 ghost use Rattle.blob_pending.specs.Lists.{SameLists};
-ghost use Rattle.blob_faulty.specs.Names.{EndsLists, OpenLeaves, MayRemove, MayRemoveNamed, Removes, RemovesNamed, RemovesNames, RemovesBytes, RemovesFiles, ScanLeaves, FinishLeaves, SameStore, Steps};
+ghost use Rattle.blob_faulty.specs.Names.{EndsLists, EndsNamed, OpenLeaves, MayRemove, MayRemoveNamed, Removes, RemovesNamed, RemovesNames, RemovesBytes, RemovesFiles, ScanLeaves, FinishLeaves, SameStore, Steps};
 ghost use Rattle.blob_faulty.specs.Wrapper.{inner_of, rng_of, config_of, inside, size_of};
 
 use crate::blob::Blob;
@@ -18,7 +18,7 @@ use blob_pending::lists::Lists;
 use rand_core::Rng;
 use std::ops::RangeInclusive;
 
-/// Removes a partition from a store, and retires the lists of the incarnations that this ends. Looks at each list.
+/// Removes a partition from a store, and retires the lists of the incarnations that this ends.
 fn remove_partition<S: blob_base::Storage>(
     inner: &mut S,
     lists: &mut Lists<S>,
@@ -29,12 +29,12 @@ fn remove_partition<S: blob_base::Storage>(
     ensures directory { OnOk result (DropsNames S.Durable inner.old inner.new partition.now None) }
     ensures durable { OnOk result (DropsBytes S.Durable inner.old inner.new partition.now None) }
     ensures err { OnErr result (SameFiles S.Durable inner.old inner.new) }
-    ensures retired { OnOk result (EndsLists S.Durable inner.old partition.now None lists.old.all lists.new.all) }
+    ensures retired { OnOk result (EndsLists S.Durable inner.old partition.now None lists.old lists.new) }
     ensures kept { OnErr result (SameLists S.place lists.old.all.lists.items lists.new.all.lists.items) }
 {
-    lists.note_current(inner);
+    let ending = lists.find_partition(inner, partition);
     inner.remove(partition, None)?;
-    lists.retire_ended(inner);
+    lists.retire_partition(ending);
     Ok(())
 }
 
@@ -50,7 +50,7 @@ fn remove_listed<S: blob_base::Storage>(
     ensures directory { OnOk result (DropsNames S.Durable inner.old inner.new partition.now (option_copied name.entry)) }
     ensures durable { OnOk result (DropsBytes S.Durable inner.old inner.new partition.now (option_copied name.entry)) }
     ensures err { OnErr result (SameFiles S.Durable inner.old inner.new) }
-    ensures retired { OnOk result (EndsLists S.Durable inner.old partition.now (option_copied name.entry) lists.old.all lists.new.all) }
+    ensures retired { OnOk result (EndsNamed S.Durable inner.old partition.now name.entry lists.old lists.new) }
     ensures kept { OnErr result (SameLists S.place lists.old.all.lists.items lists.new.all.lists.items) }
 {
     let Some(name) = name else {

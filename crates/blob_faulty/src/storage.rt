@@ -79,12 +79,12 @@ impl<S: Durable, R> Storage<S, R> {
     pub fn pending(&self) -> &[Incarnation<S::Origin>]
         ensures { list_of S.place result.now ≡ pending_of S.place self.now }
     {
-        &self.lists.all.lists
+        self.lists.as_slice()
     }
 
     /// Returns the fault rates, which may be changed at any time. A pending entry keeps the mode and rate of its issue.
     pub fn config(&mut self) -> &mut Config
-        ensures* writes_back { sem 𝓛 (LendsConfig S.row R.row S.Origin.row self.entry result) }
+        ensures* writes_back { sem 𝓛 (LendsConfig S.row R.row S.Origin.row S.Durable S.Origin.PartialEq self.entry result) }
         ensures value { result.now ≡ config_of self.old }
     {
         &mut self.config

@@ -1,9 +1,9 @@
 -- The names of a file system, and what its calls leave of them.
 use Rattle.std.specs.Prelude.{◌≡◌, ℕ}
 use Rattle.blob_fs.specs.declared.file_system.FileSystem.{FileSystem}
-use Rattle.blob_fs.specs.declared.table.Table.{Table}
-use Rattle.blob_fs.specs.Names.{Edit, Names, Same, edited}
-use Rattle.blob_fs.specs.Tables.{bound}
+use Rattle.blob_directory.specs.declared.table.Table.{Table}
+use Rattle.blob_directory.specs.Names.{Edit, Names, Same, edited}
+use Rattle.blob_directory.specs.Tables.{bound}
 
 -- the table of the names that calls see
 abbrev pub table_of : {R : Type 0} → FileSystem R → Table

@@ -1,5 +1,5 @@
-pub mod Names
-pub mod Tables
-pub mod Profiles
-pub mod Sectors
 pub mod Files
+pub use Rattle.blob_directory.specs.Names
+pub use Rattle.blob_directory.specs.Profiles
+pub use Rattle.blob_directory.specs.Sectors
+pub use Rattle.blob_directory.specs.Tables

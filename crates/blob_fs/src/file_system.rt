@@ -1,17 +1,17 @@
 //! A file system over the fault wrapper.
 ghost use Rattle.std.specs.Prelude.{◌≡◌, None, Some, OnOk, OnErr, IfOk};
 ghost use Rattle.blob_fs.specs.Files.{KeepsNames, MakesEdit, SameNames, names_of};
-ghost use Rattle.blob_fs.specs.Names.{Same, edit_of, entry};
+ghost use Rattle.blob_directory.specs.Names.{Same, edit_of, entry};
 
-use crate::edit::{Binding, Edit, Kind, entry_of};
 use crate::error::FsError;
 use crate::journal::Journal;
 use crate::path::check_name;
-use crate::profile::Profile;
-use crate::table::Table;
-use crate::tree::Tree;
-use crate::unsettled::{About, Unsettled};
 use blob_base::Probability;
+use blob_directory::edit::{Binding, Edit, Kind, entry_of};
+use blob_directory::profile::Profile;
+use blob_directory::table::Table;
+use blob_directory::tree::Tree;
+use blob_directory::unsettled::{About, Unsettled};
 use blob_faulty::Config;
 use rand_core::Rng;
 use std::alloc::Global;
@@ -23,8 +23,7 @@ pub type Store<R> = blob_faulty::Storage<blob_memory::Storage, R>;
 /// The wrapper's handle of a blob.
 pub type Handle = blob_faulty::Blob<blob_memory::Blob>;
 
-/// The number of the root directory.
-pub const ROOT: u64 = 1;
+pub use blob_directory::tree::ROOT;
 
 /// The partition of files.
 pub(crate) const FILES: &str = "f";

@@ -1,10 +1,10 @@
 //! Open files: their bytes and sizes.
 ghost use Rattle.blob_fs.specs.Files.{KeepsNames};
 
-use crate::edit::Kind;
 use crate::error::FsError;
 use crate::file_system::{Descriptor, File, FileSystem, Handle};
 use blob_base::{Blob, WriteOptions};
+use blob_directory::edit::Kind;
 use blob_faulty::Config;
 use rand_core::Rng;
 

@@ -1,8 +1,8 @@
 //! The journal: a blob with one edit in each sector.
-use crate::edit::Edit;
 use crate::file_system::{Handle, Store};
-use crate::sector::{SECTOR, encode};
 use blob_base::{Blob, Error, Probability, SectorSize, Storage, WriteOptions};
+use blob_directory::edit::Edit;
+use blob_directory::sector::{SECTOR, encode};
 use blob_faulty::{Config, PartialWriteMode, WriteConfig};
 use rand_core::Rng;
 use std::alloc::Global;

@@ -1,13 +1,13 @@
 //! Names by directory: files are created, linked and unlinked, directories are made, removed and listed.
 ghost use Rattle.std.specs.Prelude.{◌≡◌, ◌∷◌, [], None, Some, OnOk, OnErr, IfOk};
 ghost use Rattle.blob_fs.specs.Files.{KeepsNames, MakesEdit, SameNames, fresh_inode, names_of};
-ghost use Rattle.blob_fs.specs.Names.{binds, directory_at, entry, file, frees};
+ghost use Rattle.blob_directory.specs.Names.{binds, directory_at, entry, file, frees};
 
-use crate::edit::{Binding, Edit, Kind};
 use crate::error::FsError;
 use crate::file_system::{Descriptor, FILES, File, FileSystem, Handle, LINKS_MAX};
-use crate::unsettled::About;
 use blob_base::Storage;
+use blob_directory::edit::{Binding, Edit, Kind};
+use blob_directory::unsettled::About;
 use rand_core::Rng;
 
 /// An edit about one inode in one directory.

@@ -1,9 +1,9 @@
 //! The calls by paths: names behind slashes, from the root on.
-use crate::edit::{Binding, Kind};
 use crate::error::FsError;
 use crate::file_system::{Descriptor, FileSystem, ROOT};
-use crate::path::{first_name, last_name};
 use crate::renames::Rename;
+use blob_directory::edit::{Binding, Kind};
+use blob_directory::path::{first_name, last_name};
 use rand_core::Rng;
 
 impl<R: Rng + Drop> FileSystem<R> {

@@ -2,14 +2,14 @@
 ghost use Rattle.std.specs.Prelude.{OnErr};
 ghost use Rattle.blob_fs.specs.Files.{KeepsNames};
 
-use crate::edit::{Binding, Edit, Kind, entry_of};
 use crate::error::FsError;
 use crate::file_system::{FILES, File, FileSystem, Handle, Store};
 use crate::journal::{JOURNALS, Journal};
-use crate::sector::encode;
-use crate::table::Table;
-use crate::tree::{Tree, kept_names, reached};
 use blob_base::{Blob, Error, Storage};
+use blob_directory::edit::{Binding, Edit, Kind, entry_of};
+use blob_directory::sector::encode;
+use blob_directory::table::Table;
+use blob_directory::tree::{Tree, kept_names, reached};
 use rand_core::Rng;
 use std::alloc::{AllocError, Global};
 use std::collections::BTreeMap;

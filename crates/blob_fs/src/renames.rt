@@ -1,12 +1,12 @@
 //! Renames, in one step.
 ghost use Rattle.std.specs.Prelude.{OnOk, OnErr};
 ghost use Rattle.blob_fs.specs.Files.{KeepsNames, MakesEdit, SameNames};
-ghost use Rattle.blob_fs.specs.Names.{exchanges, moves};
+ghost use Rattle.blob_directory.specs.Names.{exchanges, moves};
 
-use crate::edit::{Binding, Change, Edit, Kind};
 use crate::error::FsError;
 use crate::file_system::{FileSystem, ROOT};
-use crate::unsettled::About;
+use blob_directory::edit::{Binding, Change, Edit, Kind};
+use blob_directory::unsettled::About;
 use rand_core::Rng;
 
 /// What a rename does if the new name is taken.

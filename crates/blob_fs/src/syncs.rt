@@ -4,9 +4,9 @@ ghost use Rattle.blob_fs.specs.Files.{KeepsNames};
 use crate::error::FsError;
 use crate::file_system::{Descriptor, FileSystem, Store};
 use crate::journal::Journal;
-use crate::profile::Settles;
-use crate::unsettled::{Synced, Unsettled, want};
 use blob_base::{Blob, Error};
+use blob_directory::profile::Settles;
+use blob_directory::unsettled::{Synced, Unsettled, want};
 use rand_core::Rng;
 
 /// Makes the sectors of the edits that are marked durable. Those before an error stay.

@@ -1,6 +1,7 @@
 -- No two lists have one origin: that is, no two are of one incarnation.
-use Rattle.std.proofs.Common.{◌≡◌, ◌≢◌, ⊎_elim, ℕ, suc, ◌<◌, false, List, [], ◌∷◌, ◌++◌, length, get_or, sym, ◌∙◌, ap, arith, true≢false}
-use Rattle.std.proofs.lemmas.Bool.{cases_Bool}
+use Rattle.std.proofs.Common.{◌≡◌, ◌≢◌, ⊎_elim, ℕ, suc, ◌<◌, false, List, [], ◌∷◌, ◌++◌, length, get_or, set, sym, ◌∙◌, ap, arith, true≢false}
+use Rattle.std.proofs.lemmas.Bool.{cases_Bool, cases_eq}
+use Rattle.std.proofs.lemmas.List.{get_or_default, get_or-set_same, get_or-set_other, length-set}
 use Rattle.std.proofs.lemmas.List.Kept.{AllPairs-cons}
 use Rattle.std.proofs.lemmas.List.Quantifiers.{all_pairs_push}
 use Rattle.blob_model.specs.Order.{ListAt, has_list, ArePlacesApart}
@@ -36,3 +37,19 @@ pub distinct_push : {O : Type 0} (place : O → Place) (is : List (Incarnation O
 distinct_push {O} place is j o of none distinct = all_pairs_push (λ a b. a.origin ≢ b.origin) is j distinct
     (λ k d h same. true≢false (sym (same_self (place o)) ∙ ap (λ (p : O). same_place (place p) (place o)) (sym of ∙ sym same)
     ∙ sym (of_origin place is (place o) k (held_by place j) d h) ∙ is_not_of (lists_of place is) (place o) none k (held_by place j) (omega (arith, h, held_len place is))))
+
+-- the one at k made new, of the same incarnation
+pub same_origin : {O : Type 0} (is : List (Incarnation O)) (k : ℕ) (e j : Incarnation O) → e ≡ get_or is k e → j.origin ≡ e.origin → (d : Incarnation O) → k < length is → j.origin ≡ (get_or is k d).origin
+same_origin is k e j at same d h = same ∙ ap (λ x. x.origin) (at ∙ get_or_default is k e d h)
+
+origin_set : {O : Type 0} (is : List (Incarnation O)) (k : ℕ) (j : Incarnation O) → ((d : Incarnation O) → k < length is → j.origin ≡ (get_or is k d).origin) → (m : ℕ) (d : Incarnation O) → m < length is → (get_or (set is k j) m d).origin ≡ (get_or is m d).origin
+origin_set {O} is k j same m d h = ⊎_elim
+    (λ here. let l : k < length is = omega (arith, h, here) in
+    ap (λ (n : ℕ). (get_or (set is k j) n d).origin) here ∙ ap (λ (x : Incarnation O). x.origin) (get_or-set_same is k j d l) ∙ same d l ∙ ap (λ (n : ℕ). (get_or is n d).origin) (sym here))
+    (λ other. ap (λ (x : Incarnation O). x.origin) (get_or-set_other is k m j d other))
+    (cases_eq m k)
+
+pub distinct_set : {O : Type 0} (is : List (Incarnation O)) (k : ℕ) (j : Incarnation O) → ((d : Incarnation O) → k < length is → j.origin ≡ (get_or is k d).origin) → AreDistinct is → AreDistinct (set is k j)
+distinct_set is k j same distinct = λ m n d l h e.
+    let hn : n < length is = omega (arith, h, length-set is k j) in
+    distinct m n d l hn (sym (origin_set is k j same m d (omega (arith, l, hn))) ∙ e ∙ origin_set is k j same n d hn)

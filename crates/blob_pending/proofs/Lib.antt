@@ -4,12 +4,14 @@ pub mod CutSteps
 pub mod Digging
 pub mod Distinct
 pub mod Dropping
+pub mod Ending
 pub mod Finishing
 pub mod Gathering
 pub mod HoleRoom
 pub mod Left
 pub mod ListSteps
 pub mod Marking
+pub mod Numbering
 pub mod Queued
 pub mod Removing
 pub mod Taking

@@ -31,17 +31,17 @@ none_of place [] a none = refl
 none_of place (x ∷ is) a none = cond-false (same_place (place x.origin) a) _ _ (none 0 x (omega arith)) ∙ none_of place is a (λ k e h. none (suc k) e (omega arith))
 
 -- where a list of an incarnation is, or that none is
-abbrev Somewhere : {O : Type 0} → (O → Place) → List (Incarnation O) → Place → Type 0
+abbrev pub Somewhere : {O : Type 0} → (O → Place) → List (Incarnation O) → Place → Type 0
 Somewhere {O} place is a = (k : ℕ) × (k < length is) × ((e : Incarnation O) → same_place (place (get_or is k e).origin) a ≡ true)
 
-abbrev Nowhere : {O : Type 0} → (O → Place) → List (Incarnation O) → Place → Type 0
+abbrev pub Nowhere : {O : Type 0} → (O → Place) → List (Incarnation O) → Place → Type 0
 Nowhere {O} place is a = (k : ℕ) (e : Incarnation O) → k < length is → same_place (place (get_or is k e).origin) a ≡ false
 
 nowhere_more : {O : Type 0} (place : O → Place) (x : Incarnation O) (is : List (Incarnation O)) (a : Place) → same_place (place x.origin) a ≡ false → Nowhere place is a → Nowhere place (x ∷ is) a
 nowhere_more place x is a other rest zero e h = other
 nowhere_more place x is a other rest (suc k) e h = rest k e (omega arith)
 
-look : {O : Type 0} (place : O → Place) (is : List (Incarnation O)) (a : Place) → Somewhere place is a ⊎ Nowhere place is a
+pub look : {O : Type 0} (place : O → Place) (is : List (Incarnation O)) (a : Place) → Somewhere place is a ⊎ Nowhere place is a
 look place [] a = inr (λ k e h. absurd (omega arith))
 look {O} place (x ∷ is) a = ⊎_elim
     (λ his. inl (0, omega arith, λ e. his))
@@ -73,10 +73,10 @@ pub record IsTaken {O : Type 0} (is js : List (Incarnation O)) (i : ℕ) : Type 
   pub same : (k : ℕ) (d : Incarnation O) → k ≢ i → k + 1 < length is → get_or js k d ≡ get_or is k d
 
 -- as the code tells it
-pub taken_by : {O : Type 0} (place : O → Place) (is js : List (Incarnation O)) (i n : ℕ) (o : Place) → n ≡ length is → IsAt (lists_of place is) i o → length js + 1 ≡ n →
+pub taken_of : {O : Type 0} (is js : List (Incarnation O)) (i n : ℕ) → n ≡ length is → i < length is → length js + 1 ≡ n →
     ((d : Incarnation O) → i + 1 < n → get_or js i d ≡ get_or is (n - 1) d) × ((k : ℕ) (d : Incarnation O) → k ≢ i → k + 1 < n → get_or js k d ≡ get_or is k d) → IsTaken is js i
-taken_by {O} place is js i n o count at len by = record {
-  inside = omega (arith, at.inside, held_len place is);
+taken_of {O} is js i n count inside len by = record {
+  inside = inside;
   len = omega (arith, len, count);
   moved = λ d h. by.0 d (omega (arith, count, h)) ∙ ap (λ (m : ℕ). get_or is (m - 1) d) count;
   same = λ k d ne h. by.1 k d ne (omega (arith, count, h));
@@ -147,4 +147,4 @@ taken_list {O} place is js i e o a one distinct at taken = ⊎_elim
 
 pub takes : {O : Type 0} (place : O → Place) (is js : List (Incarnation O)) (i n : ℕ) (e : Incarnation O) → ((x y : O) → place x ≡ place y → x ≡ y) → AreDistinct is → n ≡ length is → length js + 1 ≡ n →
     ((d : Incarnation O) → i + 1 < n → get_or js i d ≡ get_or is (n - 1) d) × ((k : ℕ) (d : Incarnation O) → k ≢ i → k + 1 < n → get_or js k d ≡ get_or is k d) → TakesList place is js i
-takes place is js i n e one distinct count len by o at a = taken_list place is js i e o a one distinct at (taken_by place is js i n o count at len by)
+takes place is js i n e one distinct count len by o at a = taken_list place is js i e o a one distinct at (taken_of is js i n count (omega (arith, at.inside, held_len place is)) len by)

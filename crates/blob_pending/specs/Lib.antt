@@ -2,7 +2,10 @@ pub mod Blocks
 pub mod Draws
 pub mod Lists
 pub mod Marks
+pub mod Numbers
+pub mod Partition
 pub mod Ranges
 pub mod Replays
 pub mod Rooms
+pub mod Shown
 pub mod Views

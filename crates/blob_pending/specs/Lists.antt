@@ -51,7 +51,7 @@ HasRoom (room.Ranges start end count) i = (hs : Holes) → AreWithin start end c
 -- this is left in it, and it is of the same incarnation
 pub record Becomes {O : Type 0} (old new : Incarnation O) (q : List Pending) : Type 0 where
   pub origin : new.origin ≡ old.origin
-  pub noted : new.was_current ≡ old.was_current
+  pub noted : new.ends ≡ old.ends
   pub entries : left_in new.entries.items ≡ q
 
 -- the same of an incarnation's list
@@ -101,18 +101,6 @@ HasRangesAt {O} is i hs = (d : Incarnation O) → HasRoomsFor hs (get_or is i d)
 abbrev pub finished_in : ℕ → ListAt → ListAt
 finished_in marker h = (h.0, finish marker h.1)
 
--- of each list it is noted whether its incarnation was current
-abbrev pub AreNoted : {O : Type 0} → (O → Place) → Directory → List (Incarnation O) → Type 0
-AreNoted place d is = All (λ i. i.was_current ≡ is_current d (place i.origin)) is
-
--- whether an incarnation was current and isn't any more
-abbrev pub has_ended : Directory → Directory → Place → Bool
-has_ended before after o = is_current before o && not (is_current after o)
-
--- a list is kept if its incarnation wasn't noted as current, or still is
-abbrev pub is_kept : {O : Type 0} → (O → Place) → Directory → Incarnation O → Bool
-is_kept place now i = not i.was_current || is_current now (place i.origin)
-
 -- nothing is pending of this incarnation, and of the others the same
 abbrev pub RetiresList : {O : Type 0} → (O → Place) → List (Incarnation O) → List (Incarnation O) → Place → Type 0
 RetiresList place old new o = (a : Place) → list_of place new a ≡ with_at (list_of place old) o [] a
@@ -124,10 +112,6 @@ TakesList place old new i = (o : Place) → IsAt (lists_of place old) i o → Re
 -- the started sync with this marker is finished in each list
 abbrev pub FinishesLists : {O : Type 0} → (O → Place) → List (Incarnation O) → List (Incarnation O) → ℕ → Type 0
 FinishesLists place old new marker = (o : Place) → list_of place new o ≡ finish marker (list_of place old o)
-
--- of incarnations that were current when this was noted and aren't any more nothing is pending, of others the same
-abbrev pub RetiresEnded : {O : Type 0} → (O → Place) → Directory → List (Incarnation O) → List (Incarnation O) → Type 0
-RetiresEnded place now old new = (noted : Directory) → AreNoted place noted old → (a : Place) → list_of place new a ≡ cond (has_ended noted now a) [] (list_of place old a)
 
 -- nothing is pending of the incarnations that a removal of this name ends, or with None of this partition; of others the same
 abbrev pub RetiresRemoved : {O : Type 0} → (O → Place) → Directory → List ℕ → Option (List ℕ) → List (Incarnation O) → List (Incarnation O) → Type 0

@@ -17,8 +17,8 @@ use std::alloc::{AllocError, Global};
 #[derive(Drop)]
 pub struct Incarnation<O> {
     pub origin: O,
-    /// Whether it was its name's current incarnation when `note` was last called.
-    pub was_current: bool,
+    /// What was last noted: whether a removal ends its incarnation.
+    pub ends: bool,
     /// The pending entries, and those of which nothing is left, which are removed in bulk.
     pub entries: Vec<Entry>,
     /// An upper bound on the number of entries of which nothing is left.
@@ -55,7 +55,7 @@ impl<O> Incarnation<O> {
     {
         Incarnation {
             origin,
-            was_current: false,
+            ends: false,
             entries: Vec::new(alloc),
             covered: 0,
             front: 0,
@@ -69,13 +69,13 @@ impl<O> Incarnation<O> {
         }
     }
 
-    /// Notes whether it is its name's current incarnation.
-    pub fn note(&mut self, is_current: bool)
+    /// Notes whether a removal ends its incarnation.
+    pub fn note(&mut self, ends: bool)
         ensures origin { self.new.origin ≡ self.old.origin }
         ensures entries { self.new.entries.items ≡ self.old.entries.items }
-        ensures noted { self.new.was_current ≡ is_current }
+        ensures noted { self.new.ends ≡ ends }
     {
-        self.was_current = is_current;
+        self.ends = ends;
     }
 
     /// Reserves capacity. For one more entry it grows by an eighth, not to its double: pending writes are what a list's memory is

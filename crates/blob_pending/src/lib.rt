@@ -11,5 +11,6 @@ pub mod incarnation;
 pub mod lists;
 pub mod marks;
 pub mod naming;
+pub mod partition;
 pub mod room;
 pub mod write;

@@ -1,21 +1,22 @@
 //! The pending lists of all incarnations.
-ghost use Rattle.std.specs.Prelude.{◌≡◌, ◌<◌, ◌≤◌, ◌+◌, ◌^◌, ℕ, List, [], ◌∷◌, ◌++◌, length, filter, map, false, IfOk, IfSome, IfNone, cond, vec_len, true, OnErr};
-ghost use Rattle.blob_model.specs.Places.{Place, same_place};
-ghost use Rattle.blob_model.specs.Directory.{Directory};
+ghost use Rattle.std.specs.Prelude.{◌≡◌, ◌<◌, ◌≤◌, ◌+◌, ◌^◌, ℕ, List, [], ◌∷◌, ◌++◌, length, map, nat_eq, true, false, IfOk, IfSome, IfNone, vec_len, OnErr};
+ghost use Rattle.std.specs.List.{IsDistinct};
+ghost use Rattle.blob_model.specs.Places.{Place};
 ghost use Rattle.blob_model.specs.Holes.{Holes};
 ghost use Rattle.blob_model.specs.Order.{has_list};
 ghost use Rattle.blob_model.specs.Pending.{Marker};
 ghost use Rattle.blob_header.specs.Refusals.{IsMemory};
 ghost use Rattle.blob_pending.specs.Rooms.{CanCut, KeepsRest};
-ghost use Rattle.blob_pending.specs.Views.{left_in};
-ghost use Rattle.blob_pending.specs.Lists.{lists_of, IsAt, HasRoomIn, IsRoomAt, HasRangesAt, SameLists, AppendsAt, ChangesAt, IsCopyAt, LaysAt, AreDistinct, finished_in, AreNoted, StaysAt, RetiresEnded, RetiresList, FinishesLists, is_kept};
+ghost use Rattle.blob_pending.specs.Lists.{lists_of, IsAt, HasRoomIn, IsRoomAt, HasRangesAt, SameLists, AppendsAt, ChangesAt, IsCopyAt, LaysAt, AreDistinct, finished_in, StaysAt, RetiresList, TakesList, FinishesLists};
 
 use crate::entry::Entry;
 use crate::incarnation::Incarnation;
 use crate::room::Room;
 use crate::write::PendingWrite;
 use blob_base::{Blob, Durable, Error};
+use indexmap::IndexSet;
 use std::alloc::{AllocError, Global};
+use std::marker::Model;
 
 /// Pending lists with distinct origins. A type of its own, so that the check keeps this invariant through each call.
 #[derive(Drop)]
@@ -25,9 +26,32 @@ pub struct Distinct<O> {
 }
 
 /// The pending lists of all incarnations. An empty list stays until it is retired.
+///
+/// A list is found by the number of its incarnation, in an index. Incarnations of different stores may have the same number.
+/// Once two of them have lists, the index is not used, and the lists are searched one by one, until a crash.
 #[derive(Drop)]
 pub struct Lists<S: Durable> {
-    pub all: Distinct<S::Origin>,
+    pub(crate) all: Distinct<S::Origin>,
+    /// The numbers of the lists' incarnations, in the order of the lists.
+    pub(crate) numbers: IndexSet<u64>,
+    /// Whether the index is not used.
+    pub(crate) searched: bool,
+}
+
+impl<S: Durable> Model for Lists<S> {
+    ghost use Rattle.blob_pending.specs.Shown.{Shown};
+    ghost use Rattle.blob_pending.specs.Numbers.{AreIndexed};
+
+    ghost Value = { Shown S.Origin };
+
+    ghost use Rattle.std.specs.Coded.{codes};
+    ghost use Rattle.blob_pending.specs.contracts.write.PendingWrite as pending_write;
+
+    ghost coded = { Prim.hlevel (codes, pending_write.the_row.coded) };
+
+    ghost view = { λ s. record { all = s.all } };
+
+    ghost invariant = { λ s. AreIndexed S.place s.all.lists.items s.numbers.keys s.searched };
 }
 
 /// Completes a started sync in each list.
@@ -46,30 +70,25 @@ fn finish_all<O>(lists: &mut Vec<Incarnation<O>>, marker: u64)
     finish_each(lists.as_mut_slice(), marker);
 }
 
-/// Notes for each list whether its incarnation is current.
-fn note_each<S: Durable>(lists: &mut [Incarnation<S::Origin>], store: &S)
-    ensures held { lists_of S.place lists.new ≡ lists_of S.place lists.old }
-    ensures noted { AreNoted S.place (S.directory store.now) lists.new }
+/// Adds a number to an index and returns whether it was added. It is not if the index has it, or has no capacity for it.
+pub(crate) fn insert_new(numbers: &mut IndexSet<u64>, number: u64) -> bool
+    ensures added { result ≡ true → numbers.new.keys ≡ numbers.old.keys ++ number ∷ [] }
+    ensures distinct { IsDistinct nat_eq numbers.new.keys }
 {
-    for list in lists.iter_mut() {
-        let is_current = store.is_current(&list.origin);
-        list.note(is_current);
+    matches!(numbers.insert(number), Ok(true))
+}
+
+/// Returns the index of an incarnation's list, searched one by one.
+fn find_by_steps<S: Durable>(lists: &[Incarnation<S::Origin>], origin: &S::Origin) -> Option<usize>
+    ensures some { IfSome result (λ i. IsAt (lists_of S.place lists.now) i (S.place origin.now)) }
+    ensures none { IfNone result (has_list (lists_of S.place lists.now) (S.place origin.now) ≡ false) }
+{
+    for (i, list) in lists.iter().enumerate() {
+        if list.origin == *origin {
+            return Some(i);
+        }
     }
-}
-
-/// Does `note_each` for the lists of a vector.
-fn note_all<S: Durable>(lists: &mut Vec<Incarnation<S::Origin>>, store: &S)
-    ensures held { lists_of S.place lists.new.items ≡ lists_of S.place lists.old.items }
-    ensures noted { AreNoted S.place (S.directory store.now) lists.new.items }
-{
-    note_each(lists.as_mut_slice(), store);
-}
-
-/// Drops the lists that were noted as current and no longer are.
-fn drop_ended<S: Durable>(lists: &mut Vec<Incarnation<S::Origin>>, store: &S)
-    ensures { lists.new.items ≡ filter (is_kept S.place (S.directory store.now)) lists.old.items }
-{
-    lists.retain(|list| !list.was_current || store.is_current(&list.origin));
+    None
 }
 
 impl<S: Durable> Lists<S> {
@@ -81,7 +100,25 @@ impl<S: Durable> Lists<S> {
             all: Distinct {
                 lists: Vec::new(alloc),
             },
+            numbers: IndexSet::new(alloc),
+            searched: false,
         }
+    }
+
+    /// Returns the lists, in no order.
+    pub fn as_slice(&self) -> &[Incarnation<S::Origin>]
+        ensures { result.now ≡ self.now.all.lists.items }
+    {
+        &self.all.lists
+    }
+
+    /// Drops all lists.
+    pub fn clear(&mut self)
+        ensures { self.new.all.lists.items ≡ [] }
+    {
+        self.all.lists.clear();
+        self.numbers.clear();
+        self.searched = false;
     }
 
     /// Returns the index of an incarnation's list. Tries `hint` first.
@@ -92,12 +129,18 @@ impl<S: Durable> Lists<S> {
         if hint < self.all.lists.len() && self.all.lists[hint].origin == *origin {
             return Some(hint);
         }
-        for (i, list) in self.all.lists.iter().enumerate() {
-            if list.origin == *origin {
-                return Some(i);
-            }
+        if self.searched {
+            return find_by_steps::<S>(&self.all.lists, origin);
         }
-        None
+        let number = S::number_of(origin);
+        let Some(i) = self.numbers.get_index_of(&number) else {
+            return None;
+        };
+        if self.all.lists[i].origin == *origin {
+            Some(i)
+        } else {
+            None
+        }
     }
 
     /// Adds a list for an incarnation that has none and returns its index. After an error the lists are unchanged.
@@ -109,7 +152,11 @@ impl<S: Durable> Lists<S> {
     {
         let alloc = *self.all.lists.allocator();
         let i = self.all.lists.len();
+        let number = S::number_of(&origin);
+        self.numbers.reserve(1)?;
         self.all.lists.push(Incarnation::new(alloc, origin))?;
+        let added = insert_new(&mut self.numbers, number);
+        self.searched = self.searched || !added;
         Ok(i)
     }
 
@@ -186,12 +233,23 @@ impl<S: Durable> Lists<S> {
         self.all.lists[i].lay(offset, len, copy);
     }
 
+    /// Drops the list at `i`. The last list takes its index.
+    pub(crate) fn take(&mut self, i: usize)
+        requires { i < vec_len self.old.all.lists }
+        ensures { TakesList S.place self.old.all.lists.items self.new.all.lists.items i }
+    {
+        self.all.lists.swap_remove(i);
+        if !self.searched {
+            self.numbers.swap_remove_index(i);
+        }
+    }
+
     /// Drops the list of an incarnation. Tries `hint` first. The last list takes its index.
     pub fn retire(&mut self, origin: &S::Origin, hint: usize)
         ensures { RetiresList S.place self.old.all.lists.items self.new.all.lists.items (S.place origin.now) }
     {
         if let Some(i) = self.find(origin, hint) {
-            self.all.lists.swap_remove(i);
+            self.take(i);
         }
     }
 
@@ -200,20 +258,5 @@ impl<S: Durable> Lists<S> {
         ensures { FinishesLists S.place self.old.all.lists.items self.new.all.lists.items marker }
     {
         finish_all(&mut self.all.lists, marker);
-    }
-
-    /// Notes which incarnations are current. Call this before a removal.
-    pub fn note_current(&mut self, store: &S)
-        ensures same { SameLists S.place self.old.all.lists.items self.new.all.lists.items }
-        ensures noted { AreNoted S.place (S.directory store.now) self.new.all.lists.items }
-    {
-        note_all(&mut self.all.lists, store);
-    }
-
-    /// Drops the lists of incarnations that `note_current` found current and that no longer are.
-    pub fn retire_ended(&mut self, store: &S)
-        ensures { RetiresEnded S.place (S.directory store.now) self.old.all.lists.items self.new.all.lists.items }
-    {
-        drop_ended(&mut self.all.lists, store);
     }
 }

@@ -2,8 +2,10 @@
 ghost use Rattle.std.specs.Prelude.{◌≡◌, ◌<◌, Some, option_map, IfSome, vec_len};
 ghost use Rattle.blob_model.specs.Directory.{current};
 ghost use Rattle.blob_model.specs.Files.{is_removed_by};
-ghost use Rattle.blob_pending.specs.Lists.{IsListOf, RetiresRemoved, RetiresName};
+ghost use Rattle.blob_pending.specs.Lists.{IsListOf, RetiresName};
+ghost use Rattle.blob_pending.specs.Shown.{RetiresCurrent};
 
+use crate::incarnation::Incarnation;
 use crate::lists::Lists;
 use blob_base::Durable;
 
@@ -24,6 +26,25 @@ fn is_of_name<S: Durable>(
     store.is_removed(origin, partition, Some(name))
 }
 
+/// Returns the index of the list of a name's current incarnation, which has this number. Searches the lists one by one.
+fn find_name_by_steps<S: Durable>(
+    lists: &[Incarnation<S::Origin>],
+    store: &S,
+    number: u64,
+    partition: &str,
+    name: &[u8],
+) -> Option<usize>
+    requires { Some number ≡ option_map (λ o. o.number) (current (S.directory store.now) partition.now name.now) }
+    ensures { IsListOf S.place (S.directory store.now) partition.now name.now lists.now result }
+{
+    for (i, list) in lists.iter().enumerate() {
+        if is_of_name(store, &list.origin, number, partition, name) {
+            return Some(i);
+        }
+    }
+    None
+}
+
 impl<S: Durable> Lists<S> {
     /// Returns the index of the list of a name's current incarnation, if it has one. Call this before a removal.
     pub fn find_name(&self, store: &S, partition: &str, name: &[u8]) -> Option<usize>
@@ -32,12 +53,17 @@ impl<S: Durable> Lists<S> {
         let Some(number) = store.current_number(partition, name) else {
             return None;
         };
-        for (i, list) in self.all.lists.iter().enumerate() {
-            if is_of_name(store, &list.origin, number, partition, name) {
-                return Some(i);
-            }
+        if self.searched {
+            return find_name_by_steps(&self.all.lists, store, number, partition, name);
         }
-        None
+        let Some(i) = self.numbers.get_index_of(&number) else {
+            return None;
+        };
+        if store.is_removed(&self.all.lists[i].origin, partition, Some(name)) {
+            Some(i)
+        } else {
+            None
+        }
     }
 
     /// Drops the list that `find_name` found, if it found one. Call this after a removal.
@@ -46,13 +72,13 @@ impl<S: Durable> Lists<S> {
         ensures { RetiresName S.place self.old.all.lists.items self.new.all.lists.items list }
     {
         if let Some(i) = list {
-            self.all.lists.swap_remove(i);
+            self.take(i);
         }
     }
 
     /// Drops the list of a name's current incarnation, if it has one.
     pub fn retire_name(&mut self, store: &S, partition: &str, name: &[u8])
-        ensures { RetiresRemoved S.place (S.directory store.now) partition.now (Some name.now) self.old.all.lists.items self.new.all.lists.items }
+        ensures { RetiresCurrent S.place (S.directory store.now) partition.now name.now self.old.all self.new.all }
     {
         let list = self.find_name(store, partition, name);
         self.retire_found(list);

@@ -1,5 +1,7 @@
 -- What the run of a whole script prints.
 use Rattle.std.specs.Prelude.{◌≡◌, ◌⊎◌, ℕ, List, [], Some, length}
+use Rattle.blob_lab.specs.declared.ending.Ending.{Ending}
+use Rattle.blob_lab.specs.declared.ending.Ending.TheVariants.{BadCall, Done}
 use Rattle.blob_lab.specs.Scripts.{Prints, PrintsBeforeLine, lines_of, script_of}
 use Rattle.blob_sessions.specs.declared.ran.TheConstants.{BAD_LINE, DONE, ENDLESS, NO_MEMORY, NO_ROOM}
 
@@ -18,6 +20,10 @@ RunPrints script line printed = ((line ≡ 0) × PrintsScript script printed) �
 -- the run prints `len` bytes
 abbrev pub WantsRoom : List ℕ → ℕ → ℕ → Type 0
 WantsRoom script line len = (printed : List ℕ) × RunPrints script line printed × (length printed ≡ len)
+
+-- a run went to its end, with 0 for a line, or ended before the bad line of this number
+abbrev pub EndsAt : Ending → ℕ → Type 0
+EndsAt ending line = ((line ≡ 0) × (ending ≡ Done)) ⊎ (ending ≡ BadCall line)
 
 -- a run ends with one of these
 abbrev pub IsRunStatus : ℕ → Type 0

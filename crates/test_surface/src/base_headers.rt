@@ -1,9 +1,7 @@
-//! Headers, checksums and names.
+//! Headers and checksums.
 use blob_base::{
-    BlobVersion, Crc32, DEFAULT_BLOB_LAYOUT, DEFAULT_BLOB_VERSION, Error, Header, HeaderError,
-    Layout, resolve, validate_partition_name,
+    BlobVersion, Crc32, DEFAULT_BLOB_LAYOUT, DEFAULT_BLOB_VERSION, Header, HeaderError, Layout,
 };
-use std::alloc::Global;
 
 #[test]
 fn layouts(rt: HostRuntime) {
@@ -22,21 +20,6 @@ fn checksums(rt: HostRuntime) {
     parts.update(b"56789");
     assert!(rt; parts.finalize() == 0xe3069283);
     assert!(rt; Crc32::checksum(b"123456789") == 0xe3069283);
-}
-
-pub fn create(alloc: Global) -> Result<(Vec<u8>, BlobVersion), Error> {
-    let versions = BlobVersion::new(0)..=BlobVersion::new(7);
-    Header::create(alloc, &(Layout::V0..=Layout::V0), &versions)
-}
-
-type Parsed = (u64, BlobVersion, u64);
-
-pub fn parse(raw: &[u8]) -> Result<Parsed, HeaderError> {
-    if raw.len() < 8 {
-        return Err(HeaderError::InvalidChecksum);
-    }
-    let versions = BlobVersion::new(0)..=BlobVersion::new(7);
-    Header::parse(raw, raw.len() as u64, &(Layout::V0..=Layout::V1), &versions)
 }
 
 #[test]
@@ -96,18 +79,4 @@ pub fn number(error: &HeaderError) -> u64 {
             found: _,
         } => 6,
     }
-}
-
-pub fn into_error(alloc: Global, error: HeaderError) -> Error {
-    error.into_error(alloc, "p", b"b")
-}
-
-pub fn resolve_whole(alloc: Global, raw: &[u8]) -> Result<Option<Parsed>, Error> {
-    let versions = BlobVersion::new(0)..=BlobVersion::new(u16::MAX);
-    let len = raw.len() as u64;
-    resolve(alloc, raw, len, &Layout::all(), &versions, "image", b"blob")
-}
-
-pub fn validate(alloc: Global, partition: &str) -> Result<(), Error> {
-    validate_partition_name(alloc, partition)
 }

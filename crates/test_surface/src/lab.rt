@@ -1,36 +1,7 @@
-//! A laboratory with each call and reply, and whole scripts.
-use blob_base::Error;
-use blob_faulty::{Config, Storage as Wrapper};
-use blob_lab::{Call, Ending, Lab, Reply, ScriptedRng, run_resolve, run_script};
-use blob_memory::Storage as Memory;
+//! Each call and reply of a laboratory by its name, and how whole scripts end.
+use blob_lab::{Call, Ending, Reply, ScriptedRng, run_resolve, run_script};
 use rand_core::Rng;
 use std::test::Fail;
-
-type Images = Vec<(String, Vec<u8>, Vec<u8>)>;
-
-pub fn new(images: Images, words: Vec<u64>) -> Result<Lab, Error> {
-    Lab::new(images, words, Config::default())
-}
-
-pub fn seeded(images: Images, words: Vec<u64>) -> Result<Lab, Error> {
-    Lab::seeded(images, words, 7, Config::default())
-}
-
-pub fn apply(lab: &mut Lab, call: &Call) -> Reply {
-    lab.apply(call)
-}
-
-pub fn run(lab: &mut Lab, calls: &[Call]) -> Result<Vec<Reply>, Error> {
-    lab.run(calls)
-}
-
-pub fn wrapper(lab: &Lab) -> &Wrapper<Memory, ScriptedRng> {
-    lab.wrapper()
-}
-
-pub fn end(lab: Lab) {
-    lab.end()
-}
 
 /// Every call by its name and fields.
 pub fn number(call: &Call) -> u64 {
@@ -90,20 +61,6 @@ pub fn size(reply: &Reply) -> u64 {
     }
 }
 
-const SCRIPT: &[u8] =
-    b"config write 0 1 1 1 prefix\nopen p 62\nsync 0\nwrite 0 0 616263646566\nwrites 0 2 5859\ncrash\nreopen\nopen p 62\nread 1 0 6\n";
-
-const PRINTED: &[u8] =
-    b"ok\nopened 0 0 0\nok\nok\nok\ncrashed 0:111111\nok\nopened 1 6 0\nbytes 616258596566\n";
-
-#[test]
-fn a_script_runs(rt: HostRuntime) {
-    let alloc = rt.alloc();
-    let (ending, rest, printed) = run_script(alloc, SCRIPT, Vec::new(alloc));
-    assert!(rt; ending == Ending::Done && ending.status() == 0 && rest.is_empty());
-    assert!(rt; printed.as_slice() == PRINTED);
-}
-
 #[test]
 fn a_bad_line_ends_a_script(rt: HostRuntime) -> Result<(), Fail> {
     let alloc = rt.alloc();
@@ -112,14 +69,6 @@ fn a_bad_line_ends_a_script(rt: HostRuntime) -> Result<(), Fail> {
     let line = format!(in alloc; "{ending}")?;
     assert!(rt; line.as_str() == "line 2: bad call");
     Ok(())
-}
-
-#[test]
-fn a_blob_is_resolved(rt: HostRuntime) {
-    let alloc = rt.alloc();
-    let line = b"4357494300000005616263\n".as_slice();
-    let (ending, _, printed) = run_resolve(alloc, line, Vec::new(alloc));
-    assert!(rt; ending == Ending::Done && printed.as_slice() == b"valid 3 5 8\n".as_slice());
 }
 
 #[test]

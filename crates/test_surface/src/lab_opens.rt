@@ -1,40 +1,11 @@
 //! Exclusive opens and their handles.
-use blob_base::{
-    Blob, BlobVersion, DEFAULT_BLOB_VERSION, Error, Handle, IoBufs, IoBufsMut, ReadOptions,
-    WriteOptions,
-};
+use blob_base::{DEFAULT_BLOB_VERSION, Error};
 use blob_faulty::{Config, Storage as Wrapper};
 use blob_lab::{Opens, ScriptedRng, open};
-use blob_memory::{Origin, Storage as Memory};
-use std::alloc::Global;
+use blob_memory::Storage as Memory;
 use std::test::Fail;
 
 type Held = open::Blob<blob_memory::Blob>;
-
-pub fn new(alloc: Global) -> Opens {
-    Opens::new(alloc)
-}
-
-pub fn open(opens: &mut Opens, store: &mut Memory) -> Result<(Held, u64, BlobVersion), Error> {
-    opens.open(
-        store,
-        "a",
-        b"1",
-        DEFAULT_BLOB_VERSION..=DEFAULT_BLOB_VERSION,
-    )
-}
-
-pub fn remove(opens: &mut Opens, store: &mut Memory) -> Result<(), Error> {
-    opens.remove(store, "a", None)
-}
-
-pub fn replace(opens: &mut Opens) -> Result<u64, Error> {
-    opens.replace("a", Some(b"1"), || Ok(7))
-}
-
-pub fn close(opens: &mut Opens, blob: Held) {
-    opens.close(blob);
-}
 
 pub fn release(opens: &mut Opens, blob: Held) -> blob_memory::Blob {
     let (inner, registration) = blob.into_parts();
@@ -44,49 +15,6 @@ pub fn release(opens: &mut Opens, blob: Held) -> blob_memory::Blob {
 
 pub fn end_all(opens: &mut Opens) {
     opens.end_all();
-}
-
-pub fn read_at(store: &mut Memory, blob: &Held) -> Result<IoBufsMut, Error> {
-    blob.read_at(store, 0, 2, ReadOptions::default())
-}
-
-pub fn read_at_buf(store: &mut Memory, blob: &Held, buf: IoBufsMut) -> Result<IoBufsMut, Error> {
-    if buf.capacity() < 3 {
-        return Ok(buf);
-    }
-    blob.read_at_buf(store, 2, 3, buf, ReadOptions::default())
-}
-
-pub fn write_at(store: &mut Memory, blob: &mut Held, bytes: IoBufs) -> Result<(), Error> {
-    blob.write_at(store, 0, bytes, WriteOptions::default())
-}
-
-pub fn resize(store: &mut Memory, blob: &mut Held) -> Result<(), Error> {
-    blob.resize(store, 6)
-}
-
-pub fn reserve(store: &mut Memory, blob: &mut Held) -> Result<(), Error> {
-    blob.reserve(store, 6)
-}
-
-pub fn sync(store: &mut Memory, blob: &mut Held) -> Result<(), Error> {
-    blob.sync(store)
-}
-
-pub fn start_sync(store: &mut Memory, blob: &mut Held) -> Handle {
-    blob.start_sync(store)
-}
-
-pub fn origin(blob: &Held) -> Result<Origin, Error> {
-    blob.origin()
-}
-
-pub fn origin_ref(blob: &Held) -> &Origin {
-    blob.origin_ref()
-}
-
-pub fn inner(blob: &Held) -> &blob_memory::Blob {
-    blob.inner()
 }
 
 type Faulty = Wrapper<Memory, ScriptedRng>;

@@ -1,5 +1,5 @@
-//! Calls the ported items of `blob_base`, `blob_memory`, `blob_faulty` and `blob_lab` by their public paths. Most functions here make
-//! one call: that it compiles and is proved is the test. What the calls do is tested by rows of `test_rows` and by worked scripts.
+//! The public items of `blob_base`, `blob_memory`, `blob_faulty` and `blob_lab` that no row of `test_rows` and no worked script uses, by
+//! their paths. A function that makes one call tests that it compiles and is proved.
 #![tactic(auto)]
 
 #[cfg(test)]
@@ -12,7 +12,5 @@ mod faulty;
 mod lab;
 #[cfg(test)]
 mod lab_opens;
-#[cfg(test)]
-mod lab_pending;
 #[cfg(test)]
 mod memory;

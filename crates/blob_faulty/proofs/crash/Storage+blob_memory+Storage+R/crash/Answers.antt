@@ -27,36 +27,36 @@ use Rattle.blob_faulty.proofs.crash.Storage+blob_memory+Storage+R.crash.Goals as
 pub replay_all-requires-clause-numbered : goal.replay_all-requires-clause-numbered
 replay_all-requires-clause-numbered g c =
     let s : Stream = g.R.Rng.stream c.args.self.now.rng in
-    let told : (rows_in c.in_ok-rows.rows.items, g.R.Rng.stream c.draw_rows.new.rng) ≡ rows_drawn s (drawings_in c.in_ok-draws.draws.items) = c.in_ok-rows.ensures ∙ ap (λ (ds : List Draw). rows_drawn s (drawings_in ds)) c.deref-2.ensures.value in
-    subst (λ (rows : List (ℕ × Vec Bool Global)). AreNumbered rows) (sym c.deref-5.ensures.value) (rows_rise s (g.R.Rng.stream c.draw_rows.new.rng) c.in_ok-draws.draws.items c.in_ok-rows.rows.items told c.in_ok-draws.ensures.rising)
+    let told : (rows_in c.in_ok-rows.rows.items, g.R.Rng.stream c.draw_rows.new.rng) ≡ rows_drawn s (drawings_in c.in_ok-draws.draws.items) = c.in_ok-rows.ensures ∙ ap (λ (ds : List Draw). rows_drawn s (drawings_in ds)) c.deref.ensures.value in
+    subst (λ (rows : List (ℕ × Vec Bool Global)). AreNumbered rows) (sym c.deref-2.ensures.value) (rows_rise s (g.R.Rng.stream c.draw_rows.new.rng) c.in_ok-draws.draws.items c.in_ok-rows.rows.items told c.in_ok-draws.ensures.rising)
 
 pub replay_all-requires-clause-ready : goal.replay_all-requires-clause-ready
-replay_all-requires-clause-ready g c = subst (λ (is : List (Incarnation Place)). All (λ list. IsReady c.reserve_all.new.inner (held_by (λ (o : Place). o) list)) is) (c.deref-3.ensures.value ∙ sym c.deref-4.ensures.value) c.in_ok-chosen.ensures.ready
+replay_all-requires-clause-ready g c = subst (λ (is : List (Incarnation Place)). All (λ list. IsReady c.reserve_all.new.inner (held_by (λ (o : Place). o) list)) is) (c.as_slice-2.ensures ∙ sym c.as_slice-3.ensures) c.in_ok-chosen.ensures.ready
 
 pub returns-clause-rows : goal.returns-clause-rows
 returns-clause-rows g c files f =
     let s : Stream = g.R.Rng.stream c.args.self.now.rng in
     let rest : Stream = g.R.Rng.stream c.draw_rows.new.rng in
     let table : table_of c.new.result ≡ rows_in c.in_ok-rows.rows.items = ap rows_in c.new.ensures in
-    let told : (rows_in c.in_ok-rows.rows.items, rest) ≡ rows_drawn s (drawings_in c.in_ok-draws.draws.items) = c.in_ok-rows.ensures ∙ ap (λ (ds : List Draw). rows_drawn s (drawings_in ds)) c.deref-2.ensures.value in
+    let told : (rows_in c.in_ok-rows.rows.items, rest) ≡ rows_drawn s (drawings_in c.in_ok-draws.draws.items) = c.in_ok-rows.ensures ∙ ap (λ (ds : List Draw). rows_drawn s (drawings_in ds)) c.deref.ensures.value in
     ap (λ (t : List Row). (t, rest)) table
     ∙ crash_rows (λ (o : Place). o) (directory c.args.self.now.inner) (durable c.args.self.now.inner) c.args.self.now c.in_ok-draws.draws.items s (rows_in c.in_ok-rows.rows.items, rest) (λ a b same. same)
-    (subst (λ (is : List (Incarnation Place)). IsPermutation (drawings_of (waiting_of_all (lists_of (λ (o : Place). o) is))) (drawings_in c.in_ok-draws.draws.items)) c.deref.ensures.value (c.in_ok-draws.ensures.all (λ (o : Place). o)))
+    (subst (λ (is : List (Incarnation Place)). IsPermutation (drawings_of (waiting_of_all (lists_of (λ (o : Place). o) is))) (drawings_in c.in_ok-draws.draws.items)) c.as_slice.ensures (c.in_ok-draws.ensures.all (λ (o : Place). o)))
     c.in_ok-draws.ensures.rising told files f
 
 pub returns-clause-durable : goal.returns-clause-durable
 returns-clause-durable g c o =
     let now : Durable = durable c.reserve_all.new.inner in
     let t : Choices = chosen_by (table_of c.new.result) in
-    c.replay_all.ensures.durable (subst (λ (is : List (Incarnation Place)). ArePlacesApart (lists_of (λ (p : Place). p) is)) (sym c.deref-4.ensures.value) (apart_of (λ (p : Place). p) c.args.self.now.lists.all.lists.items (λ a b same. same) c.args.self.now.lists.all.distinct)) o
-    ∙ ap (λ (rows : List (ℕ × Vec Bool Global)). replayed_at (chosen_by (rows_in rows)) (list_of (λ (p : Place). p) c.deref-4.result.now o) (now o)) (c.deref-5.ensures.value ∙ sym c.new.ensures)
-    ∙ ap (λ (is : List (Incarnation Place)). replayed_at t (list_of (λ (p : Place). p) is o) (now o)) c.deref-4.ensures.value
+    c.replay_all.ensures.durable (subst (λ (is : List (Incarnation Place)). ArePlacesApart (lists_of (λ (p : Place). p) is)) (sym c.as_slice-3.ensures) (apart_of (λ (p : Place). p) c.args.self.now.lists.all.lists.items (λ a b same. same) c.args.self.now.lists.all.distinct)) o
+    ∙ ap (λ (rows : List (ℕ × Vec Bool Global)). replayed_at (chosen_by (rows_in rows)) (list_of (λ (p : Place). p) c.as_slice-3.result.now o) (now o)) (c.deref-2.ensures.value ∙ sym c.new.ensures)
+    ∙ ap (λ (is : List (Incarnation Place)). replayed_at t (list_of (λ (p : Place). p) is o) (now o)) c.as_slice-3.ensures
     ∙ ap (λ (f : Durable). replayed_at t (list_of (λ (p : Place). p) c.args.self.now.lists.all.lists.items o) (f o)) c.reserve_all.ensures.durable
 
 pub returns-clause-stands : goal.returns-clause-stands
 returns-clause-stands g c files f =
     crash_stands (λ (o : Place). o) (directory c.args.self.now.inner) (directory c.replay_all.new.inner) (durable c.args.self.now.inner) (durable c.replay_all.new.inner) c.args.self.now _ (chosen_by (table_of c.new.result))
-    (c.replay_all.ensures.directory ∙ c.reserve_all.ensures.directory) (λ a. ap (λ (is : List (Incarnation Place)). list_of (λ (o : Place). o) is a) c.clear.ensures.items) (returns-clause-durable g c) files f
+    (c.replay_all.ensures.directory ∙ c.reserve_all.ensures.directory) (λ a. ap (λ (is : List (Incarnation Place)). list_of (λ (o : Place). o) is a) c.clear.ensures) (returns-clause-durable g c) files f
 
 pub returns-in_err-chosen-clause-keeps : goal.returns-in_err-chosen-clause-keeps
 returns-in_err-chosen-clause-keeps g c o bytes k =

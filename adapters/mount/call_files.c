@@ -1,0 +1,158 @@
+/* Calls on open files. */
+#define _GNU_SOURCE
+#include "calls.h"
+#include "layer.h"
+#include "power.h"
+
+#include <errno.h>
+#include <fcntl.h>
+#include <limits.h>
+#include <stdlib.h>
+
+int call_truncate(struct node *node, uint64_t length) {
+    if (!is_file(node)) return EINVAL;
+    int error = node->size == length ? 0 : node_open(node);
+    if (!error && node->size != length) error = layer_truncate(node->descriptor, length);
+    if (error) {
+        node_measure(node);
+        return error;
+    }
+    node_resized(node, length);
+    node_written(node);
+    return 0;
+}
+
+/* Truncates a file as an open does: a profile may make the bytes durable that are written until the close. */
+static int open_truncated(struct node *node) {
+    char path[PATH_MAX];
+    uint64_t inode;
+    bool has_path = !node->is_truncated && node->name && layer_find(node->directory, node->name, &inode) == 0 &&
+                    inode == node->inode && node_path(node, path, sizeof path);
+    if (!has_path) {
+        int error = node_open(node);
+        return error ? error : call_truncate(node, 0);
+    }
+    int error = node_close(node);
+    if (!error) error = layer_open_truncated(path, &node->descriptor);
+    if (error) {
+        node_measure(node);
+        return error;
+    }
+    node->is_open = node->is_truncated = true;
+    node_resized(node, 0);
+    node_written(node);
+    return 0;
+}
+
+void call_opened(struct node *node, struct fuse_file_info *info) {
+    node->opens++;
+    info->fh = power.life;
+    info->keep_cache = 1;
+    info->noflush = 1; /* the kernel would wait for a flush at the end of a killed program too */
+}
+
+void call_open(fuse_req_t req, fuse_ino_t id, struct fuse_file_info *info) {
+    bool truncates = info->flags & O_TRUNC;
+    struct node *node = call_begin(req, id, truncates ? CALL_CHANGES : CALL_READS);
+    if (!node) return;
+    int error = truncates ? open_truncated(node) : node_open(node);
+    if (error) {
+        fuse_reply_err(req, error);
+        return;
+    }
+    call_opened(node, info);
+    if (fuse_reply_open(req, info)) {
+        node->opens--;
+        node_rest(node);
+    }
+}
+
+void call_release(fuse_req_t req, fuse_ino_t id, struct fuse_file_info *info) {
+    struct node *node = info->fh == power.life ? call_node(id) : NULL;
+    if (node) {
+        if (node->is_truncated && !power.is_ending) node_close(node);
+        node->opens--;
+        node_rest(node);
+    }
+    fuse_reply_err(req, 0);
+}
+
+void call_read(fuse_req_t req, fuse_ino_t id, size_t size, off_t offset, struct fuse_file_info *info) {
+    (void)info;
+    struct node *node = call_begin(req, id, CALL_READS);
+    if (!node) return;
+    char *bytes = malloc(size + 1);
+    size_t len = 0;
+    int error = bytes ? node_open(node) : ENOMEM;
+    if (!error) error = layer_read(node->descriptor, (uint64_t)offset, bytes, size, &len);
+    if (error)
+        fuse_reply_err(req, error);
+    else
+        fuse_reply_buf(req, bytes, len);
+    free(bytes);
+}
+
+/* Bounds the memory of unsynced bytes: writes them back if these are too many. */
+static int bound_unsynced(uint64_t len) {
+    if (node_counts.unsynced + len <= node_limits.bytes) return 0;
+    power.write_backs++;
+    nodes_write_back();
+    return node_counts.unsynced + len <= node_limits.bytes ? 0 : ENOSPC;
+}
+
+/* Writes bytes, unsynced. */
+static int write_at(struct node *node, uint64_t offset, const void *bytes, size_t len) {
+    int error = node_open(node);
+    if (!error) error = bound_unsynced(len);
+    if (!error) error = layer_write(node->descriptor, offset, bytes, len);
+    if (error) {
+        node_measure(node);
+        return error;
+    }
+    if (len > 0 && offset + len > node->size) node_resized(node, offset + len);
+    node->unsynced += len;
+    node_counts.unsynced += len;
+    node_written(node);
+    return 0;
+}
+
+void call_write(fuse_req_t req, fuse_ino_t id, const char *bytes, size_t size, off_t offset, struct fuse_file_info *info) {
+    (void)info;
+    struct node *node = call_begin(req, id, CALL_CHANGES);
+    if (!node) return;
+    int error = write_at(node, (uint64_t)offset, bytes, size);
+    if (error)
+        fuse_reply_err(req, error);
+    else
+        fuse_reply_write(req, size);
+}
+
+void call_fsync(fuse_req_t req, fuse_ino_t id, int only_data, struct fuse_file_info *info) {
+    (void)info;
+    struct node *node = call_begin(req, id, CALL_CHANGES);
+    if (node) fuse_reply_err(req, node_sync(node, only_data));
+}
+
+/* Writes zeros, up to the end of the file. */
+static int write_zeros(struct node *node, uint64_t offset, uint64_t end) {
+    static const char zeros[1 << 16];
+    int error = 0;
+    if (end > node->size) end = node->size;
+    for (uint64_t at = offset; at < end && !error; at += sizeof zeros) {
+        uint64_t len = end - at;
+        error = write_at(node, at, zeros, len < sizeof zeros ? (size_t)len : sizeof zeros);
+    }
+    return error;
+}
+
+void call_fallocate(fuse_req_t req, fuse_ino_t id, int mode, off_t offset, off_t len, struct fuse_file_info *info) {
+    (void)info;
+    struct node *node = call_begin(req, id, CALL_CHANGES);
+    if (!node) return;
+    uint64_t from = (uint64_t)offset, end = from + (uint64_t)len;
+    int error = 0;
+    if (mode & ~(FALLOC_FL_KEEP_SIZE | FALLOC_FL_PUNCH_HOLE | FALLOC_FL_ZERO_RANGE)) error = EOPNOTSUPP;
+    if (!error && mode & (FALLOC_FL_PUNCH_HOLE | FALLOC_FL_ZERO_RANGE)) error = write_zeros(node, from, end);
+    if (!error && !(mode & FALLOC_FL_KEEP_SIZE) && end > node->size) error = call_truncate(node, end);
+    fuse_reply_err(req, error);
+}

@@ -1,0 +1,176 @@
+#include "layer.h"
+
+#include "blobcrash_files.h"
+
+#include <errno.h>
+#include <stdlib.h>
+#include <string.h>
+
+static struct blobcrash_files files;
+/* Bytes that no call uses. */
+static const uint8_t nothing[1];
+
+static int error_of(uint32_t status) {
+    switch (status) {
+    case BLOBCRASH_DONE: return 0;
+    case BLOBCRASH_F_EXISTS: return EEXIST;
+    case BLOBCRASH_F_NOT_FOUND: return ENOENT;
+    case BLOBCRASH_F_NOT_EMPTY: return ENOTEMPTY;
+    case BLOBCRASH_F_IS_DIRECTORY: return EISDIR;
+    case BLOBCRASH_F_NOT_DIRECTORY: return ENOTDIR;
+    case BLOBCRASH_F_NAME_TOO_LONG: return ENAMETOOLONG;
+    case BLOBCRASH_F_INVALID_NAME: return EINVAL;
+    case BLOBCRASH_F_TOO_MANY_LINKS: return EMLINK;
+    case BLOBCRASH_F_NO_SPACE: return ENOSPC;
+    case BLOBCRASH_F_LOOP: return EINVAL;
+    case BLOBCRASH_NO_MEMORY:
+    case BLOBCRASH_E_MEMORY: return ENOMEM;
+    case BLOBCRASH_E_OFFSET_OVERFLOW: return EFBIG;
+    default: return EIO;
+    }
+}
+
+static const uint8_t *bytes_of(const char *text) { return text ? (const uint8_t *)text : nothing; }
+static size_t length_of(const char *text) { return text ? strlen(text) : 0; }
+
+static struct blobcrash_file_reply apply_two(struct blobcrash_file_call call, const char *path, const char *to) {
+    return blobcrash_files_apply(&files, &call, bytes_of(path), length_of(path), bytes_of(to), length_of(to));
+}
+
+static struct blobcrash_file_reply apply(uint32_t kind, uint64_t number, uint64_t first, const char *path) {
+    return apply_two((struct blobcrash_file_call){.kind = kind, .number = number, .first = first}, path, NULL);
+}
+
+static int run(uint32_t kind, uint64_t number, uint64_t first, const char *path) {
+    return error_of(apply(kind, number, first, path).status);
+}
+
+int layer_begin(const char *preamble, uint64_t *line) {
+    struct blobcrash_script_ran ran = blobcrash_files_open(&files, bytes_of(preamble), length_of(preamble));
+    *line = ran.line;
+    return ran.status == BLOBCRASH_BAD_LINE ? EINVAL : error_of(ran.status);
+}
+
+void layer_end(void) { blobcrash_files_close(&files); }
+
+int layer_set(const char *setting) {
+    uint32_t status = blobcrash_files_configure(&files, bytes_of(setting), length_of(setting));
+    return status == BLOBCRASH_BAD_LINE ? EINVAL : error_of(status);
+}
+
+int layer_find(uint64_t directory, const char *name, uint64_t *inode) {
+    struct blobcrash_file_reply reply = apply(BLOBCRASH_F_FIND_AT, directory, 0, name);
+    *inode = reply.number;
+    return error_of(reply.status);
+}
+
+int layer_list(uint64_t directory, struct layer_name **names, size_t *count) {
+    struct blobcrash_file_reply reply = apply(BLOBCRASH_F_LIST_AT, directory, 0, NULL);
+    if (reply.status != BLOBCRASH_DONE) return error_of(reply.status);
+    size_t all = (size_t)reply.size;
+    struct layer_name *list = calloc(all + 1, sizeof *list);
+    if (!list) return ENOMEM;
+    for (size_t at = 0; at < all; at++) {
+        reply = blobcrash_files_name(&files, at, (uint8_t *)list[at].name, NAME_MOST);
+        if (reply.status != BLOBCRASH_DONE) {
+            free(list);
+            return error_of(reply.status);
+        }
+        list[at].inode = reply.number;
+        list[at].is_directory = reply.kind == 1;
+    }
+    *names = list;
+    *count = all;
+    return 0;
+}
+
+int layer_create(uint64_t directory, const char *name, uint64_t *inode, uint64_t *descriptor) {
+    struct blobcrash_file_reply reply = apply(BLOBCRASH_F_CREATE_AT, directory, 0, name);
+    if (reply.status != BLOBCRASH_DONE) return error_of(reply.status);
+    *descriptor = reply.number;
+    reply = apply(BLOBCRASH_F_INODE_OF, *descriptor, 0, NULL);
+    *inode = reply.number;
+    return error_of(reply.status);
+}
+
+int layer_make_directory(uint64_t directory, const char *name, uint64_t *inode) {
+    struct blobcrash_file_reply reply = apply(BLOBCRASH_F_MAKE_DIRECTORY_AT, directory, 0, name);
+    *inode = reply.number;
+    return error_of(reply.status);
+}
+
+int layer_link(uint64_t inode, uint64_t directory, const char *name) { return run(BLOBCRASH_F_LINK_AT, directory, inode, name); }
+
+int layer_unlink(uint64_t directory, const char *name) { return run(BLOBCRASH_F_UNLINK_AT, directory, 0, name); }
+
+int layer_remove_directory(uint64_t directory, const char *name) {
+    return run(BLOBCRASH_F_REMOVE_DIRECTORY_AT, directory, 0, name);
+}
+
+int layer_rename(uint64_t directory, const char *name, uint64_t to_directory, const char *to_name, enum layer_rename how) {
+    struct blobcrash_file_call call = {
+        .kind = BLOBCRASH_F_RENAME_AT, .number = directory, .first = to_directory, .last = (uint64_t)how};
+    return error_of(apply_two(call, name, to_name).status);
+}
+
+int layer_sync_directory(uint64_t directory) { return run(BLOBCRASH_F_SYNC_DIRECTORY_AT, directory, 0, NULL); }
+
+int layer_open(uint64_t inode, uint64_t *descriptor) {
+    struct blobcrash_file_reply reply = apply(BLOBCRASH_F_OPEN_INODE, inode, 0, NULL);
+    *descriptor = reply.number;
+    return error_of(reply.status);
+}
+
+int layer_open_truncated(const char *path, uint64_t *descriptor) {
+    struct blobcrash_file_reply reply = apply(BLOBCRASH_F_OPEN_TRUNCATED, 0, 0, path);
+    *descriptor = reply.number;
+    return error_of(reply.status);
+}
+
+int layer_close(uint64_t descriptor) { return run(BLOBCRASH_F_CLOSE, descriptor, 0, NULL); }
+
+int layer_size(uint64_t descriptor, uint64_t *size) {
+    struct blobcrash_file_reply reply = apply(BLOBCRASH_F_SIZE, descriptor, 0, NULL);
+    *size = reply.size;
+    return error_of(reply.status);
+}
+
+int layer_truncate(uint64_t descriptor, uint64_t length) { return run(BLOBCRASH_F_TRUNCATE, descriptor, length, NULL); }
+
+int layer_sync(uint64_t descriptor, bool only_data) {
+    return run(only_data ? BLOBCRASH_F_SYNC_DATA : BLOBCRASH_F_SYNC, descriptor, 0, NULL);
+}
+
+int layer_write(uint64_t descriptor, uint64_t offset, const void *bytes, size_t len) {
+    return error_of(blobcrash_files_write(&files, descriptor, offset, bytes, len));
+}
+
+int layer_read(uint64_t descriptor, uint64_t offset, void *into, size_t capacity, size_t *len) {
+    struct blobcrash_ran ran = blobcrash_files_read(&files, descriptor, offset, into, capacity);
+    *len = ran.len;
+    return error_of(ran.status);
+}
+
+int layer_settle(void) { return run(BLOBCRASH_F_SETTLE, 0, 0, NULL); }
+
+/* Adds what a crash kept of one write. */
+static void count_row(struct layer_crash *crash, size_t row) {
+    struct blobcrash_kept_run kept = blobcrash_files_kept_run(&files, row, 0);
+    size_t bytes = kept.bytes, count = 0;
+    while (kept.len > 0) {
+        count += kept.len;
+        kept = blobcrash_files_kept_run(&files, row, kept.start + kept.len);
+    }
+    crash->kept_bytes += count;
+    crash->lost_bytes += bytes - count;
+}
+
+int layer_crash(struct layer_crash *crash) {
+    struct blobcrash_file_reply reply = apply(BLOBCRASH_F_CRASH, 0, 0, NULL);
+    if (reply.status != BLOBCRASH_DONE) return error_of(reply.status);
+    *crash = (struct layer_crash){.writes = reply.size, .edits = reply.number};
+    for (size_t row = 0; row < reply.size; row++) count_row(crash, row);
+    for (size_t edit = 0; edit < reply.number; edit++)
+        crash->kept_edits += blobcrash_files_kept_edit(&files, edit).len == 1;
+    return 0;
+}

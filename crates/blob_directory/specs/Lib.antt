@@ -1,0 +1,4 @@
+pub mod Names
+pub mod Tables
+pub mod Profiles
+pub mod Sectors

@@ -1,0 +1,72 @@
+-- Names of files and directories, and edits of them.
+use Rattle.std.specs.Prelude.{◌≡◌, ℕ, List, [], ◌∷◌, ◌++◌, Option, Some, None, if◌then◌else◌}
+use Rattle.std.specs.Int.{w64, to_be_bytes}
+use Rattle.std.specs.Str.{bytes_eq}
+use Rattle.blob_directory.specs.declared.edit.Binding.{Binding}
+use Rattle.blob_directory.specs.declared.edit.Change as rust_change
+use Rattle.blob_directory.specs.declared.edit.Edit as rust_edit
+use Rattle.blob_directory.specs.declared.edit.Kind.TheVariants.{File, Directory}
+
+-- a name in a directory, as one list of bytes: the directory's number in eight bytes, the high one first, and the name
+abbrev pub entry : ℕ → List ℕ → List ℕ
+entry directory name = to_be_bytes w64 directory ++ name
+
+-- what each entry is bound to
+abbrev pub Names : Type 0
+Names = List ℕ → Option Binding
+
+-- an entry, and what it is bound to from then on
+abbrev pub Change : Type 0
+Change = List ℕ × Option Binding
+
+-- the changes of one entry, or of two in one step
+abbrev pub Edit : Type 0
+Edit = List Change
+
+abbrev pub changed : Names → Change → Names
+changed names c e = if bytes_eq c.0 e then c.1 else names e
+
+-- an edit applied
+abbrev pub edited : Names → Edit → Names
+edited names [] = names
+edited names (c ∷ edit) = edited (changed names c) edit
+
+-- edits applied, in order
+abbrev pub all_edited : Names → List Edit → Names
+all_edited names [] = names
+all_edited names (edit ∷ edits) = all_edited (edited names edit) edits
+
+-- both bind the same
+abbrev pub Same : Names → Names → Type 0
+Same a b = (e : List ℕ) → a e ≡ b e
+
+abbrev pub binds : ℕ → List ℕ → Binding → Edit
+binds directory name to = (entry directory name, Some to) ∷ []
+
+abbrev pub frees : ℕ → List ℕ → Edit
+frees directory name = (entry directory name, None) ∷ []
+
+-- a move frees one entry and binds the other
+abbrev pub moves : List ℕ → List ℕ → Binding → Edit
+moves from to moved = (from, None) ∷ (to, Some moved) ∷ []
+
+-- an exchange binds both
+abbrev pub exchanges : List ℕ → List ℕ → Binding → Binding → Edit
+exchanges from to moved was = (from, Some was) ∷ (to, Some moved) ∷ []
+
+abbrev pub file : ℕ → Binding
+file inode = record { inode = inode; kind = File }
+
+abbrev pub directory_at : ℕ → Binding
+directory_at inode = record { inode = inode; kind = Directory }
+
+-- a change and an edit of the code, as data
+abbrev pub change_of : rust_change.Change → Change
+change_of c = (c.entry.items, c.to)
+
+abbrev pub more_of : Option rust_change.Change → Edit
+more_of None = []
+more_of (Some c) = change_of c ∷ []
+
+abbrev pub edit_of : rust_edit.Edit → Edit
+edit_of e = change_of e.first ∷ more_of e.second

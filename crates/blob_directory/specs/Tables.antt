@@ -1,0 +1,33 @@
+-- A table of names as a function.
+use Rattle.std.specs.Prelude.{◌≡◌, ℕ, true, List, [], ◌∷◌, Option, Some, None, is_some}
+use Rattle.std.specs.BTreeMap.{get_by}
+use Rattle.std.specs.Cmp.Lexicographic.{slice_cmp}
+use Rattle.std.specs.Ordering.{nat_cmp}
+use Rattle.blob_directory.specs.declared.edit.Binding.{Binding}
+use Rattle.blob_directory.specs.declared.table.Table.{Table}
+use Rattle.blob_directory.specs.Names.{Edit, Names}
+
+abbrev pub flat : {T : Type 0} → Option (Option T) → Option T
+flat None = None
+flat (Some x) = x
+
+-- what the table has at an entry
+abbrev pub cell : Table → List ℕ → Option (Option Binding)
+cell table e = get_by (λ k. slice_cmp nat_cmp e k.items) table.entries
+
+-- what each entry is bound to
+abbrev pub bound : Table → Names
+bound table e = flat (cell table e)
+
+-- there is room for a binding of this entry
+abbrev pub HasRoom : Table → List ℕ → Type 0
+HasRoom table e = is_some (cell table e) ≡ true
+
+-- there is room for an edit
+abbrev pub HasRoomFor : Table → Edit → Type 0
+HasRoomFor table [] = Unit {0}
+HasRoomFor table (c ∷ edit) = HasRoom table c.0 × HasRoomFor table edit
+
+-- room isn't lost
+abbrev pub KeepsRoom : Table → Table → Type 0
+KeepsRoom table table' = (e : List ℕ) → HasRoom table e → HasRoom table' e

@@ -1,0 +1,66 @@
+//! Edits of names.
+ghost use Rattle.std.specs.Prelude.{◌≡◌, [], ◌∷◌, IfOk};
+ghost use Rattle.blob_directory.specs.Names.{change_of, edit_of, entry};
+
+use std::alloc::{AllocError, Global};
+
+/// What a number is that a name is bound to.
+#[derive(Clone, Copy, Debug, PartialEq, Eq)]
+pub enum Kind {
+    File,
+    Directory,
+}
+
+/// What a name is bound to: the number of an inode, and what it is.
+#[derive(Clone, Copy, Debug, PartialEq, Eq)]
+pub struct Binding {
+    pub inode: u64,
+    pub kind: Kind,
+}
+
+/// A new binding of one name, or none: the name is freed.
+///
+/// An entry is a name in a directory: the directory's number in eight bytes, the high one first, and the name.
+#[derive(Debug, Drop)]
+pub struct Change {
+    pub entry: Vec<u8>,
+    pub to: Option<Binding>,
+}
+
+/// A change of one name, or of two in one step.
+#[derive(Debug, Drop)]
+pub struct Edit {
+    pub first: Change,
+    pub second: Option<Change>,
+}
+
+impl Edit {
+    /// Returns the edit that changes one name.
+    pub fn one(entry: Vec<u8>, to: Option<Binding>) -> Edit
+        ensures { edit_of result ≡ (entry.items, to) ∷ [] }
+    {
+        Edit {
+            first: Change { entry, to },
+            second: None,
+        }
+    }
+
+    /// Returns the edit that changes two names in one step.
+    pub fn two(first: Change, second: Change) -> Edit
+        ensures { edit_of result ≡ change_of first ∷ change_of second ∷ [] }
+    {
+        Edit {
+            first,
+            second: Some(second),
+        }
+    }
+}
+
+/// Returns the entry of a name in a directory. Fails only if memory runs out.
+pub fn entry_of(alloc: Global, directory: u64, name: &[u8]) -> Result<Vec<u8>, AllocError>
+    ensures { IfOk result (λ e. e.items ≡ entry directory name.now) }
+{
+    let mut entry = Vec::from_slice(alloc, &directory.to_be_bytes())?;
+    entry.extend_from_slice(name)?;
+    Ok(entry)
+}

@@ -1,0 +1,13 @@
+//! Names, edits of names, and their journal's sectors: what a file system decides without a store.
+#![tactic(auto)]
+
+pub mod edit;
+pub mod path;
+pub mod profile;
+pub mod sector;
+pub mod table;
+pub mod tree;
+pub mod unsettled;
+
+pub use edit::{Binding, Change, Edit, Kind};
+pub use profile::{Keeps, Profile, Settles};

@@ -1,0 +1,125 @@
+//! The names of all directories, as a table of entries.
+ghost use Rattle.std.specs.Prelude.{◌≡◌, None, OnOk, IsTrue};
+ghost use Rattle.blob_directory.specs.Names.{Same, changed, edit_of, edited};
+ghost use Rattle.blob_directory.specs.Tables.{HasRoom, HasRoomFor, KeepsRoom, bound};
+
+use crate::edit::{Binding, Edit};
+use std::alloc::{AllocError, Global};
+use std::collections::BTreeMap;
+
+/// What each entry is bound to.
+#[derive(Drop)]
+pub struct Table {
+    alloc: Global,
+    // a key with no binding is room that a refused call made
+    entries: BTreeMap<Vec<u8>, Option<Binding>>,
+}
+
+impl Table {
+    /// Returns an empty table. Doesn't allocate.
+    pub fn new(alloc: Global) -> Table
+        ensures { Same (bound result) (λ _. None) }
+    {
+        Table {
+            alloc,
+            entries: BTreeMap::new(alloc),
+        }
+    }
+
+    /// Returns what an entry is bound to.
+    pub fn get(&self, entry: &[u8]) -> Option<Binding>
+        ensures { result ≡ bound self.now entry.now }
+    {
+        match self.entries.get(entry) {
+            None => None,
+            Some(binding) => *binding,
+        }
+    }
+
+    /// Makes room for a binding of an entry, and changes none. Fails only if memory runs out.
+    fn prepare_entry(&mut self, entry: &[u8]) -> Result<(), AllocError>
+        ensures same { Same (bound self.old) (bound self.new) }
+        ensures keeps { KeepsRoom self.old self.new }
+        ensures room { OnOk result (HasRoom self.new entry.now) }
+    {
+        if self.entries.contains_key(entry) {
+            return Ok(());
+        }
+        let key = Vec::from_slice(self.alloc, entry)?;
+        self.entries.insert(key, None)?;
+        Ok(())
+    }
+
+    /// Binds or frees an entry for which room was made.
+    fn set(&mut self, entry: &[u8], to: Option<Binding>)
+        ensures set { HasRoom self.old entry.now → Same (bound self.new) (changed (bound self.old) (entry.now, to)) }
+        ensures keeps { KeepsRoom self.old self.new }
+    {
+        let Some(binding) = self.entries.get_mut(entry) else {
+            return;
+        };
+        *binding = to;
+    }
+
+    /// Gives back the room of an entry that is bound to nothing.
+    fn tidy(&mut self, entry: &[u8])
+        ensures { Same (bound self.old) (bound self.new) }
+    {
+        if self.get(entry).is_none() {
+            self.entries.remove(entry);
+        }
+    }
+
+    /// Makes room for an edit, and changes no binding. Fails only if memory runs out.
+    pub fn prepare(&mut self, edit: &Edit) -> Result<(), AllocError>
+        ensures same { Same (bound self.old) (bound self.new) }
+        ensures room { OnOk result (HasRoomFor self.new (edit_of edit.now)) }
+    {
+        self.prepare_entry(&edit.first.entry)?;
+        match &edit.second {
+            None => Ok(()),
+            Some(second) => self.prepare_entry(&second.entry),
+        }
+    }
+
+    /// Applies an edit for which room was made.
+    pub fn apply(&mut self, edit: &Edit)
+        ensures { HasRoomFor self.old (edit_of edit.now) → Same (bound self.new) (edited (bound self.old) (edit_of edit.now)) }
+    {
+        self.set(&edit.first.entry, edit.first.to);
+        if let Some(second) = &edit.second {
+            self.set(&second.entry, second.to);
+            self.tidy(&second.entry);
+        }
+        self.tidy(&edit.first.entry);
+    }
+
+    /// Returns the names in a directory with their bindings, in the order of their bytes. Fails only if memory runs out.
+    pub fn names_in(&self, directory: u64) -> Result<Vec<(Vec<u8>, Binding)>, AllocError> {
+        let start = directory.to_be_bytes();
+        let mut names = Vec::new(self.alloc);
+        for (entry, binding) in self.entries.range(Vec::from_slice(self.alloc, &start)?..) {
+            let Some(name) = entry.strip_prefix(&start) else {
+                break;
+            };
+            if let Some(binding) = binding {
+                names.push((Vec::from_slice(self.alloc, name)?, *binding))?;
+            }
+        }
+        Ok(names)
+    }
+
+    /// Returns whether a directory has no name. Fails only if memory runs out.
+    pub fn is_empty(&self, directory: u64) -> Result<bool, AllocError> {
+        let start = directory.to_be_bytes();
+        for (entry, binding) in self.entries.range(Vec::from_slice(self.alloc, &start)?..) {
+            if !entry.starts_with(&start) {
+                break;
+            }
+            if binding.is_some() {
+                return Ok(false);
+            }
+        }
+        Ok(true)
+    }
+}

@@ -1,0 +1,72 @@
+"""The numbers and structs of the package for Python are those of the C header: bindings/c/numbers.c has what each number does. The last
+line is `N passed, M failed`."""
+
+import ctypes
+import os
+import re
+import subprocess
+import sys
+import tempfile
+
+TOP = os.path.dirname(os.path.dirname(os.path.abspath(__file__)))
+sys.path.insert(0, os.path.join(TOP, "bindings", "python"))
+
+from blobcrash import foreign
+
+HEADERS = os.path.join(TOP, "bindings", "c")
+STRUCTS = {"blobcrash_session": foreign.Session, "blobcrash_ran": foreign.Ran, "blobcrash_script_ran": foreign.ScriptRan}
+
+
+def numbers_of(header):
+    """The enumerators of the header by their names without `BLOBCRASH_`, and without the `E_` of a refusal."""
+    with open(os.path.join(HEADERS, header), encoding="utf-8") as file:
+        found = re.findall(r"^ *BLOBCRASH_(\w+) = (\d+)", file.read(), re.M)
+    return {name[2:] if name.startswith("E_") and name != "E_CLOSED" else name: int(number) for name, number in found}
+
+
+def named():
+    """The upper-case whole numbers of the module."""
+    return {name: value for name, value in vars(foreign).items() if name.isupper() and type(value) is int}
+
+
+def layouts():
+    """The size of each struct, and the offset and the size of each field, as the C compiler has them."""
+    lines = []
+    for name, struct in STRUCTS.items():
+        lines.append(f'printf("%zu\\n", sizeof(struct {name}));')
+        for field, _ in struct._fields_:
+            lines.append(f'printf("%zu %zu\\n", offsetof(struct {name}, {field}), sizeof(((struct {name} *)0)->{field}));')
+    text = '#include "blobcrash.h"\n#include <stdio.h>\nint main(void) {\n' + "\n".join(lines) + "\nreturn 0; }\n"
+    with tempfile.TemporaryDirectory() as folder:
+        source, program = os.path.join(folder, "layouts.c"), os.path.join(folder, "layouts")
+        with open(source, "w", encoding="utf-8") as file:
+            file.write(text)
+        subprocess.run([os.environ.get("CC", "cc"), "-std=c11", "-I", HEADERS, "-o", program, source], check=True)
+        return subprocess.run([program], stdout=subprocess.PIPE, check=True).stdout.decode().split("\n")[:-1]
+
+
+def own_layouts():
+    """The same, as `ctypes` has it."""
+    lines = []
+    for struct in STRUCTS.values():
+        lines.append(str(ctypes.sizeof(struct)))
+        for field, _ in struct._fields_:
+            at = getattr(struct, field)
+            lines.append(f"{at.offset} {at.size}")
+    return lines
+
+
+def main():
+    checks = [(f"{name} is {value}", numbers_of("blobcrash.h").get(name) == value) for name, value in named().items()]
+    checks.append(("eight numbers are compared", len(checks) == 8))
+    checks.append(("the structs", own_layouts() == layouts()))
+    for what, holds in checks:
+        if not holds:
+            print(f"c_numbers.py: FAILED: {what}")
+    failed = sum(not holds for _, holds in checks)
+    print(f"{len(checks) - failed} passed, {failed} failed")
+    return int(failed > 0)
+
+
+if __name__ == "__main__":
+    sys.exit(main())

@@ -1,0 +1,156 @@
+#!/bin/sh
+# Tests of the mount (adapters/mount, tools/mount, tools/mountctl) and of crash runs (tools/crash_run): tests/mount.py, once with the
+# daemon under the sanitizers, and the commands. Skipped where FUSE or the right to mount is missing, with CI=true too, since no package
+# brings them. BLOBCRASH_ARCHIVE names a library that is built already. The last line is `N passed, M failed`.
+top=$(CDPATH='' cd -- "$(dirname -- "$0")/.." && pwd -P)
+# shellcheck source=tests/counting.sh
+. "$top/tests/counting.sh"
+# shellcheck source=tests/running.sh
+. "$top/tests/running.sh"
+export PYTHONDONTWRITEBYTECODE=1
+
+at="$work/a mount"
+mkdir "$at"
+unmount() { [ ! -d "$at" ] || "$top/tools/mountctl" "$at" umount >/dev/null 2>&1; }
+trap 'unmount; rm -rf "$work"' EXIT
+
+if ! has "${CC:-cc}" pkg-config || ! pkg-config --exists fuse3; then
+    skip 'there is no C compiler with libfuse 3 (Debian: gcc, pkg-config, libfuse3-dev)'
+    finish
+fi
+if ! has_python; then
+    skip 'there is no Python 3.8 or later'
+    finish
+fi
+if [ ! -f "$top/bindings/c/blobcrash_files.h" ] && [ -z "${BLOBCRASH_ARCHIVE:-}" ]; then
+    leave_out 'the library has no calls on files yet'
+    finish
+fi
+
+# What is said without FUSE, and without the right.
+run "$top/tools/mount" "$work/none"
+expect 'no folder' 1 '' "mount: $work/none: no such folder"
+run "$top/tools/mount"
+ok 'no words' [ "$status" -eq 2 ]
+for tool in mount mountctl crash_run; do
+    run "$top/tools/$tool" --help
+    ok "$tool --help" [ "$status" -eq 0 -a -s "$work/out" -a ! -s "$work/err" ]
+done
+run "$top/tools/mount" "$at" --frob
+ok 'no such option' [ "$status" -eq 2 ]
+
+if ! program=$(sh "$top/adapters/mount/build.sh" 2>"$work/err"); then
+    cat "$work/err"
+    give_up "the daemon can't be built"
+fi
+run "$top/tools/mount" "$at"
+if [ "$status" -eq 3 ]; then
+    leave_out "$(tail -n 1 "$work/err")"
+    finish
+fi
+expect 'a mount' 0 '' ''
+run "$top/tools/mount" "$at"
+ok 'a second one' [ "$status" -eq 1 ]
+printf 'durable' >"$at/a file"
+run "$top/tools/mountctl" "$at" settle
+expect settle 0 '' ''
+run "$top/tools/mountctl" "$at" keep 0 1
+expect keep 0 '' ''
+run "$top/tools/mountctl" "$at" config write 0 1 0 1 prefix
+expect config 0 '' ''
+printf 'lost' >"$at/lost"
+run "$top/tools/mountctl" "$at" crash
+ok 'a crash' grep -q '^life 2 writes [0-9]* kept-bytes 0 lost-bytes [0-9]* edits 1 kept-edits 0$' "$work/out"
+run ls "$at"
+expect 'the tree is what was durable' 0 "a file$line" ''
+run "$top/tools/mountctl" "$at" export "$work/copy"
+expect export 0 "$work/copy$line" ''
+ok 'the copy' [ "$(cat "$work/copy/a file")" = durable ]
+run "$top/tools/mountctl" "$at" off
+run "$top/tools/mountctl" "$at" export "$work/copy2"
+expect 'no export while the power is off' 1 '' 'mountctl: the power is off: crash first, or switch it on'
+run "$top/tools/mountctl" "$at" on
+run "$top/tools/mountctl" "$at" frob
+ok 'no such command' [ "$status" -eq 2 ]
+run "$top/tools/mountctl" "$at" crash-after x
+expect 'a bad number' 1 '' 'mountctl: Invalid argument'
+socket=$("$top/tools/mountctl" "$at" socket)
+ok 'the socket is its owner'"'"'s alone' [ "$(stat -c %a "$socket") $(stat -c %a "${socket%/*}")" = '600 700' ]
+run "$top/tools/mountctl" "$at" umount
+expect umount 0 '' ''
+ok 'nothing is left' [ "$(ls -A "$at") $(ls "$socket" 2>/dev/null)" = ' ' ]
+run "$top/tools/mountctl" "$at" status
+ok 'no daemon' [ "$status" -eq 1 ]
+
+run "$top/tools/mount" "$at" --from "$work/copy" --seed 7 --profile posix --tear prefix --keep 1/3 --size 64M --control "$work/socket"
+expect 'a mount with options' 0 '' ''
+run "$top/tools/mountctl" "$work/socket" crash
+ok 'what was copied in is durable' [ "$(cat "$at/a file")" = durable ]
+run umount "$at"
+ok 'the daemon ends with the mount' timeout 5 sh -c 'while [ -e "$1" ]; do sleep 0.05; done' sh "$work/socket"
+"$top/tools/mount" "$at" --foreground &
+daemon=$!
+timeout 10 sh -c 'until "$1/tools/mountctl" "$2" status >/dev/null 2>&1; do sleep 0.05; done' sh "$top" "$at"
+kill -9 "$daemon"
+wait "$daemon" 2>/dev/null
+run "$top/tools/mountctl" "$at" umount
+expect 'umount after the daemon was killed' 0 '' ''
+ok 'the folder' ls "$at"
+for bad in '--seed x' '--profile zfs' '--tear sectors' '--keep 3/2' '--keep 1' '--size 1X'; do
+    # shellcheck disable=SC2086
+    run "$top/tools/mount" "$at" $bad
+    ok "bad: $bad" [ "$status" -eq 2 ]
+done
+
+# Crash runs of a log: what it forgets is found, in the profiles in which a crash may show it, and a seed repeats.
+cd "$top" || exit 1
+log=examples/mount_log.py
+crash_run() {
+    options=$1
+    shift
+    # shellcheck disable=SC2086
+    run tools/crash_run $options --out "$work/failed" --work "$log append $*" --check "$log check"
+}
+crash_run '--seeds 4 --profile posix'
+ok 'a log that loses nothing' [ "$status" -eq 0 ]
+crash_run '--seeds 4 --profile ext4' --forget-directory
+ok 'ext4 makes a name durable with its file' [ "$status" -eq 0 ]
+crash_run '--seeds 4 --profile posix --keep 1/8' --forget-directory
+ok 'POSIX need not' grep -q '^seed .*: lost$' "$work/out"
+crash_run '--seeds 3 --jobs 2' --forget-sync
+ok 'a forgotten sync' [ "$status" -eq 1 ]
+ok 'the durable tree and the acknowledgements' [ -d "$work/failed/seed-3/tree" -a -s "$work/failed/seed-3/acknowledged" ]
+again=$(sed -n 's/^  again: //p' "$work/out" | tail -n 1)
+cp -R "$work/failed/seed-3/tree" "$work/tree"
+ok 'the command that repeats a seed' [ -n "$again" ]
+(eval "$again") >"$work/again" 2>&1
+ok 'fails again' grep -q '^seed 3: lost$' "$work/again"
+ok 'with the same tree' diff -r "$work/tree" "$work/failed/seed-3/tree"
+run tools/crash_run --seeds 1 --work true --check false
+ok 'a check that fails without a crash' [ "$status" -eq 2 ]
+
+# SQLite deletes its journal after a commit, and syncs the folder only at EXTRA.
+crash_sqlite() {
+    run tools/crash_run --seeds "$2" --profile posix --out "$work/failed" --prepare "sh examples/mount_sqlite.sh prepare" \
+        --work "sh examples/mount_sqlite.sh work $1" --check "sh examples/mount_sqlite.sh check"
+}
+if has sqlite3; then
+    crash_sqlite EXTRA 6
+    ok 'SQLite at EXTRA loses nothing' [ "$status" -eq 0 ]
+    crash_sqlite FULL 12
+    ok 'at FULL it loses a commit' grep -q '^seed .*: lost$' "$work/out"
+else
+    skip 'SQLite: there is no sqlite3'
+fi
+run sh examples/mount.sh
+ok 'examples/mount.sh' grep -q '^ *4 .*/synced$' "$work/out"
+
+sanitized=
+if OUT="$work/sanitized" CFLAGS="${CFLAGS:-} -fsanitize=address,undefined -fno-sanitize-recover=all" \
+    sh "$top/adapters/mount/build.sh" >"$work/path" 2>"$work/err"; then
+    sanitized=$(cat "$work/path")
+else
+    skip 'the daemon under the address sanitizer'
+fi
+add python3 "$top/tests/mount.py" "$program" ${sanitized:+"$sanitized"}
+finish
